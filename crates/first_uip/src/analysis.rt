@@ -8,7 +8,7 @@ ghost use Rattle.depth_first.specs.TrailEntries.{literals, reasons};
 ghost use Rattle.depth_first.specs.TrailEntries.{EachForced};
 ghost use Rattle.first_uip.specs.Conflict.{DecidedAt, IsAnalysis, IsAsserting, IsJump, IsLastLevel, IsOther, NoneDecided, NoneSeen, Resolves, SeenAt, is_kept, kept_entries, resolved_entries, role_of};
 
-use crate::minimisation::{mark_implied, settle_earlier};
+use crate::minimisation::settle_earlier;
 use crate::roles::{Role, resolve, see};
 use clauses::{Clause, Cnf, Lit, Step};
 use depth_first::{Trail, numbered};
@@ -198,17 +198,19 @@ fn no_parts(alloc: Global, count: u32) -> Result<Vec<Role>, AllocError>
 }
 
 /// Gives each variable its part in the conflict at a clause, where the last decision stands at `start`, and tells
-/// the place of the first unique implication point. What is implied is marked anew.
+/// the place of the first unique implication point.
 fn give_parts(
     cnf: &Cnf,
     log: &[Step],
     trail: &Trail,
+    places: &[usize],
     conflict: u32,
     start: usize,
-    implied: &mut [bool],
+    implied: &mut [Option<bool>],
     roles: &mut [Role],
 ) -> usize
     requires variables { length trail.now.values.items ≡ cnf.now.count + 1 }
+    requires places { length places.now ≡ cnf.now.count + 1 }
     requires implied { length implied.old ≡ cnf.now.count + 1 }
     requires size { length roles.old ≡ cnf.now.count + 1 }
     requires unseen { (n : ℕ) → role_of roles.old n ≡ Role.Unseen }
@@ -222,8 +224,8 @@ fn give_parts(
     see(numbered(cnf, log, conflict), roles);
     let point = resolve_level(cnf, log, trail, start, roles);
     roles[trail.entries[point].literal.variable() as usize] = Role::Kept;
-    mark_implied(cnf, log, trail, start, roles, implied);
-    settle_earlier(cnf, log, trail, start, implied, roles);
+    let root = first_decision(trail).unwrap_or(start);
+    settle_earlier(cnf, log, trail, places, root, start, implied, roles);
     point
 }
 
@@ -268,16 +270,18 @@ fn learned_of(
 }
 
 /// What the conflict at a clause shows, where the last decision stands at `start`, and the parts of the variables
-/// in it.
+/// in it. It may be told where in the trail each variable stands.
 pub(crate) fn analyse(
     alloc: Global,
     cnf: &Cnf,
     log: &[Step],
     trail: &Trail,
+    places: &[usize],
     conflict: u32,
     start: usize,
 ) -> Result<(Learned, Vec<Role>), AllocError>
     requires variables { length trail.now.values.items ≡ cnf.now.count + 1 }
+    requires places { length places.now ≡ cnf.now.count + 1 }
     requires follows { LogFollows cnf.now log.now }
     requires forced { EachForced (clauses_with cnf.now log.now) trail.now.entries.items }
     requires falsified { NamesFalse (clauses_with cnf.now log.now) (literals trail.now.entries.items) conflict }
@@ -291,8 +295,17 @@ pub(crate) fn analyse(
     ensures roles { IfOk result (λ both. length both.1.items ≡ cnf.now.count + 1) }
 {
     let mut roles = no_parts(alloc, cnf.count)?;
-    let mut implied = vec![in alloc; false; cnf.count as usize + 1]?;
-    let point = give_parts(cnf, log, trail, conflict, start, &mut implied, &mut roles);
+    let mut implied = vec![in alloc; None; cnf.count as usize + 1]?;
+    let point = give_parts(
+        cnf,
+        log,
+        trail,
+        places,
+        conflict,
+        start,
+        &mut implied,
+        &mut roles,
+    );
     let learned = learned_of(alloc, cnf, log, trail, &roles, conflict, start, point)?;
     Ok((learned, roles))
 }

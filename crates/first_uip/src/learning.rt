@@ -108,9 +108,18 @@ pub fn search_counted(
         return Ok(Found::Unsat(refutation(alloc, cnf, &trail, log, conflict)?));
     }
     let mut policy = Policy::new(alloc, cnf)?;
+    let mut places = vec![in alloc; 0; cnf.count as usize + 1]?;
     let mut head = 0;
     loop {
-        let Some(conflict) = propagate(cnf, &log, &mut watches, &mut trail, head, propagations)?
+        let Some(conflict) = propagate(
+            cnf,
+            &log,
+            &mut watches,
+            &mut trail,
+            &mut places,
+            head,
+            propagations,
+        )?
         else {
             let Some(literal) = policy.decision(cnf, &trail) else {
                 return Ok(Found::Sat(trail.assignment(alloc)?));
@@ -128,7 +137,7 @@ pub fn search_counted(
         if log.len() >= limit as usize {
             return Ok(Found::Limit(List::from_vec(log)));
         }
-        let (learned, roles) = analyse(alloc, cnf, &log, &trail, conflict, start)?;
+        let (learned, roles) = analyse(alloc, cnf, &log, &trail, &places, conflict, start)?;
         head = if policy.count_conflict(&trail, &roles) {
             first_decision(&trail).unwrap_or(learned.jump)
         } else {

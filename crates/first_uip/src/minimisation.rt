@@ -1,6 +1,6 @@
 //! Which earlier entries a learned clause needs (recursive minimisation, Sörensson and Biere).
 
-ghost use Rattle.std.specs.Prelude.{◌≡◌, ◌+◌, ◌<◌, ◌≤◌, length, IsTrue, All};
+ghost use Rattle.std.specs.Prelude.{◌≡◌, ◌+◌, ◌<◌, ◌≤◌, length, IfSome, IsTrue, All};
 ghost use Rattle.clauses.specs.ClauseSet.{LogFollows, clauses_with};
 ghost use Rattle.depth_first.specs.TrailEntries.{EachForced};
 ghost use Rattle.first_uip.specs.Conflict.{NoneDecided, Resolves, SameKeptFrom};
@@ -9,22 +9,84 @@ use crate::roles::{Role, resolve};
 use clauses::{Cnf, Lit, Step};
 use depth_first::{Trail, numbered};
 
-/// Whether all variables of the clause but this one are implied.
-fn all_implied(clause: &[Lit], implied: &[bool], but: u32) -> bool
-    requires { All (λ l. l.variable < length implied.now) clause.now }
+/// How many reasons deep an entry is looked into, so that the recursion stays within the stack.
+const DEPTH: u32 = 1000;
+
+/// The place of a variable's entry, if it stands where it was propagated last.
+fn place_of(trail: &Trail, places: &[usize], variable: u32) -> Option<usize>
+    requires { variable < length places.now }
+    ensures { IfSome result (λ place. place < length trail.now.entries.items) }
+{
+    let place = places[variable as usize];
+    if place < trail.entries.len() && trail.entries[place].literal.variable() == variable {
+        Some(place)
+    } else {
+        None
+    }
+}
+
+/// Whether all variables of the clause but this one are implied: the conflict rests on them, or their entries are
+/// redundant. What is found out about a variable is noted, so that each is looked into once.
+#[cycle(redundancy)]
+fn all_implied(
+    cnf: &Cnf,
+    log: &[Step],
+    trail: &Trail,
+    places: &[usize],
+    root: usize,
+    roles: &[Role],
+    implied: &mut [Option<bool>],
+    clause: &[Lit],
+    but: u32,
+    depth: u32,
+) -> bool
+    requires variables { length trail.now.values.items ≡ cnf.now.count + 1 }
+    requires places { length places.now ≡ cnf.now.count + 1 }
+    requires roles { length roles.now ≡ cnf.now.count + 1 }
+    requires size { length implied.old ≡ cnf.now.count + 1 }
+    requires follows { LogFollows cnf.now log.now }
+    requires forced { EachForced (clauses_with cnf.now log.now) trail.now.entries.items }
+    requires within { All (λ l. l.variable < length implied.old) clause.now }
 {
     for literal in clause {
-        if literal.variable() != but && !implied[literal.variable() as usize] {
+        let variable = literal.variable();
+        if variable == but || roles[variable as usize] != Role::Unseen {
+            continue;
+        }
+        let known = match implied[variable as usize] {
+            Some(known) => known,
+            None => match place_of(trail, places, variable) {
+                Some(place) => {
+                    is_redundant(cnf, log, trail, places, root, roles, implied, place, depth)
+                }
+                None => false,
+            },
+        };
+        implied[variable as usize] = Some(known);
+        if !known {
             return false;
         }
     }
     true
 }
 
-/// Whether the entry at a place has a reason, and the others of its literals are implied.
-fn is_redundant(cnf: &Cnf, log: &[Step], trail: &Trail, place: usize, implied: &[bool]) -> bool
+/// Whether the entry at a place has a reason, and stands before `root` or the others of its literals are implied.
+#[cycle(redundancy)]
+fn is_redundant(
+    cnf: &Cnf,
+    log: &[Step],
+    trail: &Trail,
+    places: &[usize],
+    root: usize,
+    roles: &[Role],
+    implied: &mut [Option<bool>],
+    place: usize,
+    depth: u32,
+) -> bool
     requires variables { length trail.now.values.items ≡ cnf.now.count + 1 }
-    requires size { length implied.now ≡ cnf.now.count + 1 }
+    requires places { length places.now ≡ cnf.now.count + 1 }
+    requires roles { length roles.now ≡ cnf.now.count + 1 }
+    requires size { length implied.old ≡ cnf.now.count + 1 }
     requires follows { LogFollows cnf.now log.now }
     requires forced { EachForced (clauses_with cnf.now log.now) trail.now.entries.items }
     requires within { place < length trail.now.entries.items }
@@ -33,58 +95,24 @@ fn is_redundant(cnf: &Cnf, log: &[Step], trail: &Trail, place: usize, implied: &
     let entry = trail.entries[place];
     match entry.cause.reason() {
         None => false,
-        Some(number) => all_implied(
-            numbered(cnf, log, number),
-            implied,
-            entry.literal.variable(),
-        ),
-    }
-}
-
-/// Whether the conflict rests on an entry of the level that begins at a place, before `start`.
-fn level_is_seen(trail: &Trail, place: usize, start: usize, roles: &[Role]) -> bool
-    requires roles { length roles.now ≡ length trail.now.values.items }
-    requires within { start ≤ length trail.now.entries.items }
-{
-    for later in place..start {
-        let entry = trail.entries[later];
-        if later > place && entry.cause.reason().is_none() {
-            return false;
+        Some(number) => {
+            let clause = numbered(cnf, log, number);
+            let but = entry.literal.variable();
+            place < root
+                || (depth > 0
+                    && all_implied(
+                        cnf,
+                        log,
+                        trail,
+                        places,
+                        root,
+                        roles,
+                        implied,
+                        clause,
+                        but,
+                        depth - 1,
+                    ))
         }
-        if roles[entry.literal.variable() as usize] != Role::Unseen {
-            return true;
-        }
-    }
-    false
-}
-
-/// Tells of each variable of an entry before `start` whether it is implied: the conflict rests on it, or the entry is
-/// redundant. It takes them in the order of the trail, in which reasons come before what they force. On a level of
-/// decisions on which the conflict doesn't rest no entry is redundant, since its decision is not.
-pub(crate) fn mark_implied(
-    cnf: &Cnf,
-    log: &[Step],
-    trail: &Trail,
-    start: usize,
-    roles: &[Role],
-    implied: &mut [bool],
-)
-    requires variables { length trail.now.values.items ≡ cnf.now.count + 1 }
-    requires roles { length roles.now ≡ cnf.now.count + 1 }
-    requires size { length implied.old ≡ cnf.now.count + 1 }
-    requires follows { LogFollows cnf.now log.now }
-    requires forced { EachForced (clauses_with cnf.now log.now) trail.now.entries.items }
-    requires within { start ≤ length trail.now.entries.items }
-{
-    let mut is_seen = true;
-    for place in 0..start {
-        let entry = trail.entries[place];
-        if entry.cause.reason().is_none() {
-            is_seen = level_is_seen(trail, place, start, roles);
-        }
-        let variable = entry.literal.variable() as usize;
-        implied[variable] = is_seen
-            && (roles[variable] != Role::Unseen || is_redundant(cnf, log, trail, place, implied));
     }
 }
 
@@ -93,12 +121,15 @@ pub(crate) fn settle_earlier(
     cnf: &Cnf,
     log: &[Step],
     trail: &Trail,
+    places: &[usize],
+    root: usize,
     start: usize,
-    implied: &[bool],
+    implied: &mut [Option<bool>],
     roles: &mut [Role],
 )
     requires variables { length trail.now.values.items ≡ cnf.now.count + 1 }
-    requires implied { length implied.now ≡ cnf.now.count + 1 }
+    requires places { length places.now ≡ cnf.now.count + 1 }
+    requires implied { length implied.old ≡ cnf.now.count + 1 }
     requires size { length roles.old ≡ cnf.now.count + 1 }
     requires follows { LogFollows cnf.now log.now }
     requires forced { EachForced (clauses_with cnf.now log.now) trail.now.entries.items }
@@ -113,7 +144,7 @@ pub(crate) fn settle_earlier(
         if roles[variable] == Role::Unseen {
             continue;
         }
-        if is_redundant(cnf, log, trail, place, implied) {
+        if is_redundant(cnf, log, trail, places, root, roles, implied, place, DEPTH) {
             resolve(cnf, log, trail, place, roles);
         } else {
             roles[variable] = Role::Kept;

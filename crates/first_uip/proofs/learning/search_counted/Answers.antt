@@ -1,6 +1,6 @@
 use Rattle.std.proofs.Common.{◌≡◌, List, ◌+◌, ◌≤◌, [], ◌∷◌, ◌++◌, Some, length, take, refl, sym, ◌∙◌, subst, arith}
 use Rattle.std.specs.Prelude.{unwrap_or}
-use Rattle.clauses.specs.ClauseSet.{StepFollows, all_clauses, clauses_with}
+use Rattle.clauses.specs.ClauseSet.{IsNew, LogFollows, StepFollows, all_clauses, clauses_with}
 use Rattle.clauses.specs.declared.step.Step.{Step}
 use Rattle.clauses.proofs.Closed.{IsClosed}
 use Rattle.depth_first.specs.declared.trail.Entry.{Entry}
@@ -34,13 +34,13 @@ returns-in_default-decision c =
     let seen : IsWatchingUpTo (clauses_with set c.deref.result.now) watches entries (length entries) =
     IfNone_is c.in_ok-conflict-2.field-0 (IsWatchingUpTo (clauses_with set c.deref.result.now) watches entries (length entries)) c.in_default-2.is c.in_ok-conflict-2.ensures.seen in
     subst (IsModel set) (sym c.in_ok-assignment.ensures)
-    (model_found set c.deref.result.now watches trail.values.items entries trail.table (c.propagate.ensures.same_variables ∙ c.loop-policy.invariant.variables) seen c.in_default-decision.ensures.none)
+    (model_found set c.deref.result.now watches trail.values.items entries trail.table (c.propagate.ensures.same_variables ∙ c.loop-places.invariant.variables) seen c.in_default-decision.ensures.none)
 
-pub loop-policy-preserved-in_default-2 : goal.loop-policy-preserved-in_default-2
-loop-policy-preserved-in_default-2 c =
+pub loop-places-preserved-in_default-2 : goal.loop-places-preserved-in_default-2
+loop-places-preserved-in_default-2 c =
     let set = c.args.cnf.now in
-    let inv = c.loop-policy.invariant in
-    let log = c.loop-policy.log.items in
+    let inv = c.loop-places.invariant in
+    let log = c.loop-places.log.items in
     let trail = c.propagate.new.trail in
     let entries = trail.entries.items in
     let watches = c.propagate.new.watches in
@@ -48,29 +48,30 @@ loop-policy-preserved-in_default-2 c =
     IfNone_is c.in_ok-conflict-2.field-0 (IsWatchingUpTo (clauses_with set c.deref.result.now) watches entries (length entries)) c.in_default-2.is c.in_ok-conflict-2.ensures.seen in
     let seen_log : IsWatchingUpTo (clauses_with set log) watches entries (length entries) =
     subst (λ (steps : List Step). IsWatchingUpTo (clauses_with set steps) watches entries (length entries)) c.deref.ensures.value seen in
-    let grows : Grows (clauses_with set log) c.loop-policy.trail.entries.items entries =
-    subst (λ (steps : List Step). Grows (clauses_with set steps) c.loop-policy.trail.entries.items entries) c.deref.ensures.value c.propagate.ensures.grows in
+    let grows : Grows (clauses_with set log) c.loop-places.trail.entries.items entries =
+    subst (λ (steps : List Step). Grows (clauses_with set steps) c.loop-places.trail.entries.items entries) c.deref.ensures.value c.propagate.ensures.grows in
     let e : Entry = record { literal = c.in-Some-decision.literal; cause = InputDecision } in
     let head : c.len-head.result ≡ length entries = c.len-head.ensures ∙ trail.entries.ok.0 in
     record {
       variables = c.in_ok-push.ensures.variables ∙ c.propagate.ensures.same_variables ∙ inv.variables;
       covers = c.propagate.ensures.covers;
+      places = inv.places;
       sizes = c.decision.ensures.sizes ∙ inv.sizes;
       within = inv.within;
       state =
           subst (λ es. IsSearching set log watches es c.len-head.result) (sym c.in_ok-push.ensures.ok)
           (subst (IsSearching set log watches (entries ++ e ∷ [])) (sym head)
-          (IsSearching-decided set log watches c.loop-policy.trail.entries.items entries e refl grows inv.state.learned inv.state.forced seen_log));
+          (IsSearching-decided set log watches c.loop-places.trail.entries.items entries e refl grows inv.state.learned inv.state.forced seen_log));
     }
 
 pub refutation-requires-in_default-last_decision-clause-caused : goal.refutation-requires-in_default-last_decision-clause-caused
 refutation-requires-in_default-last_decision-clause-caused c =
     let set = c.args.cnf.now in
-    let log = c.loop-policy.log.items in
+    let log = c.loop-places.log.items in
     let entries = c.propagate.new.trail.entries.items in
-    let grows : Grows (clauses_with set log) c.loop-policy.trail.entries.items entries =
-    subst (λ (steps : List Step). Grows (clauses_with set steps) c.loop-policy.trail.entries.items entries) c.deref.ensures.value c.propagate.ensures.grows in
-    EachCaused-from_forced set log entries (EachForced-grown (clauses_with set log) c.loop-policy.trail.entries.items entries grows c.loop-policy.invariant.state.forced) c.in_default-last_decision.ensures.none
+    let grows : Grows (clauses_with set log) c.loop-places.trail.entries.items entries =
+    subst (λ (steps : List Step). Grows (clauses_with set steps) c.loop-places.trail.entries.items entries) c.deref.ensures.value c.propagate.ensures.grows in
+    EachCaused-from_forced set log entries (EachForced-grown (clauses_with set log) c.loop-places.trail.entries.items entries grows c.loop-places.invariant.state.forced) c.in_default-last_decision.ensures.none
 
 pub refutation-requires-in_default-last_decision-clause-no_decisions : goal.refutation-requires-in_default-last_decision-clause-no_decisions
 refutation-requires-in_default-last_decision-clause-no_decisions c =
@@ -79,8 +80,8 @@ refutation-requires-in_default-last_decision-clause-no_decisions c =
 pub returns-then-len-limit : goal.returns-then-len-limit
 returns-then-len-limit c =
     let set = c.args.cnf.now in
-    let inv = c.loop-policy.invariant in
-    let log = c.loop-policy.log.items in
+    let inv = c.loop-places.invariant in
+    let log = c.loop-places.log.items in
     let trail = c.propagate.new.trail in
     let entries = trail.entries.items in
     let start = c.in-Some-last_decision.start in
@@ -88,27 +89,31 @@ returns-then-len-limit c =
     subst (λ (steps : List Step). IsWatching (clauses_with set steps) c.propagate.new.watches entries) c.deref.ensures.value c.in_ok-conflict-2.ensures.watching in
     let closed : IsClosed (clauses_with set log) (literals (take start entries)) =
     closed_before (clauses_with set log) c.propagate.new.watches trail.values.items entries start trail.table c.in-Some-last_decision.ensures.last.decided watching in
-    let exact : length log ≡ c.args.limit = omega (arith, inv.within, c.if-len-limit.true, c.len.ensures, c.loop-policy.log.ok.0) in
+    let exact : length log ≡ c.args.limit = omega (arith, inv.within, c.if-len-limit.true, c.len.ensures, c.loop-places.log.ok.0) in
     subst (IsHonestLimit set c.args.limit) (sym c.from_vec.ensures)
     (limit_found set log c.args.limit (literals (take start entries)) exact inv.state.learned closed c.requires.many)
+
+pub analyse-requires-clause-follows : goal.analyse-requires-clause-follows
+analyse-requires-clause-follows c =
+    subst (LogFollows c.args.cnf.now) (sym c.deref-in-loop-places.ensures.value) c.loop-places.invariant.state.learned.follows
 
 pub analyse-requires-clause-forced : goal.analyse-requires-clause-forced
 analyse-requires-clause-forced c =
     let set = c.args.cnf.now in
-    let log = c.loop-policy.log.items in
+    let log = c.loop-places.log.items in
     let entries = c.propagate.new.trail.entries.items in
-    let grows : Grows (clauses_with set log) c.loop-policy.trail.entries.items entries =
-    subst (λ (steps : List Step). Grows (clauses_with set steps) c.loop-policy.trail.entries.items entries) c.deref.ensures.value c.propagate.ensures.grows in
-    subst (λ (steps : List Step). EachForced (clauses_with set steps) entries) (sym c.deref-in-loop-policy.ensures.value)
-    (EachForced-grown (clauses_with set log) c.loop-policy.trail.entries.items entries grows c.loop-policy.invariant.state.forced)
+    let grows : Grows (clauses_with set log) c.loop-places.trail.entries.items entries =
+    subst (λ (steps : List Step). Grows (clauses_with set steps) c.loop-places.trail.entries.items entries) c.deref.ensures.value c.propagate.ensures.grows in
+    subst (λ (steps : List Step). EachForced (clauses_with set steps) entries) (sym c.deref-in-loop-places.ensures.value)
+    (EachForced-grown (clauses_with set log) c.loop-places.trail.entries.items entries grows c.loop-places.invariant.state.forced)
 
 pub analyse-requires-clause-closed : goal.analyse-requires-clause-closed
 analyse-requires-clause-closed c =
     let set = c.args.cnf.now in
     let trail = c.propagate.new.trail in
     let entries = trail.entries.items in
-    let steps = c.deref-in-loop-policy.result.now in
-    let same : c.deref.result.now ≡ steps = c.deref.ensures.value ∙ sym c.deref-in-loop-policy.ensures.value in
+    let steps = c.deref-in-loop-places.result.now in
+    let same : c.deref.result.now ≡ steps = c.deref.ensures.value ∙ sym c.deref-in-loop-places.ensures.value in
     let watching : IsWatching (clauses_with set steps) c.propagate.new.watches entries =
     subst (λ (ss : List Step). IsWatching (clauses_with set ss) c.propagate.new.watches entries) same c.in_ok-conflict-2.ensures.watching in
     closed_before (clauses_with set steps) c.propagate.new.watches trail.values.items entries c.in-Some-last_decision.start trail.table c.in-Some-last_decision.ensures.last.decided watching
@@ -116,15 +121,19 @@ analyse-requires-clause-closed c =
 pub learn-requires-clause-forced : goal.learn-requires-clause-forced
 learn-requires-clause-forced c =
     let set = c.args.cnf.now in
-    let log = c.loop-policy.log.items in
+    let log = c.loop-places.log.items in
     let entries = c.propagate.new.trail.entries.items in
-    let grows : Grows (clauses_with set log) c.loop-policy.trail.entries.items entries =
-    subst (λ (steps : List Step). Grows (clauses_with set steps) c.loop-policy.trail.entries.items entries) c.deref.ensures.value c.propagate.ensures.grows in
-    EachForced-grown (clauses_with set log) c.loop-policy.trail.entries.items entries grows c.loop-policy.invariant.state.forced
+    let grows : Grows (clauses_with set log) c.loop-places.trail.entries.items entries =
+    subst (λ (steps : List Step). Grows (clauses_with set steps) c.loop-places.trail.entries.items entries) c.deref.ensures.value c.propagate.ensures.grows in
+    EachForced-grown (clauses_with set log) c.loop-places.trail.entries.items entries grows c.loop-places.invariant.state.forced
 
 pub learn-requires-clause-follows : goal.learn-requires-clause-follows
 learn-requires-clause-follows c =
-    subst (λ (steps : List Step). StepFollows c.args.cnf.now (clauses_with c.args.cnf.now steps) c.in_ok-learned.learned.step) c.deref-in-loop-policy.ensures.value c.in_ok-learned.ensures.follows
+    subst (λ (steps : List Step). StepFollows c.args.cnf.now (clauses_with c.args.cnf.now steps) c.in_ok-learned.learned.step) c.deref-in-loop-places.ensures.value c.in_ok-learned.ensures.follows
+
+pub learn-requires-clause-new : goal.learn-requires-clause-new
+learn-requires-clause-new c =
+    subst (λ (steps : List Step). IsNew (clauses_with c.args.cnf.now steps) c.in_ok-learned.learned.step.clause) c.deref-in-loop-places.ensures.value c.in_ok-learned.ensures.new
 
 pub learn-requires-clause-decided : goal.learn-requires-clause-decided
 learn-requires-clause-decided c =
@@ -150,7 +159,7 @@ learn-requires-clause-within c =
       | else-count_conflict w ↦ omega (arith, w.head-is)
     ]
 
-pub loop-policy-smaller : goal.loop-policy-smaller
-loop-policy-smaller c =
-    less_after_conflict c.args.limit (length c.loop-policy.log.items) (length c.learn.new.log.items) (c.args.cnf.now.count + 1) (length c.loop-policy.trail.entries.items) (length c.learn.new.trail.entries.items)
-    c.in_ok-learn.ensures.longer (omega (arith, c.if-len-limit.false, c.len.ensures, c.loop-policy.log.ok.0))
+pub loop-places-smaller : goal.loop-places-smaller
+loop-places-smaller c =
+    less_after_conflict c.args.limit (length c.loop-places.log.items) (length c.learn.new.log.items) (c.args.cnf.now.count + 1) (length c.loop-places.trail.entries.items) (length c.learn.new.trail.entries.items)
+    c.in_ok-learn.ensures.longer (omega (arith, c.if-len-limit.false, c.len.ensures, c.loop-places.log.ok.0))

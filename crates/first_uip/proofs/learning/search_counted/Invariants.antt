@@ -4,15 +4,16 @@ use Rattle.first_uip.specs.Searching.{IsSearching}
 use Rattle.first_uip.proofs.Measure.{work_left}
 use Rattle.first_uip.proofs.learning.search_counted.Given as goal
 
-abbrev pub invariant-loop-policy : goal.invariant-loop-policy
-invariant-loop-policy l =
+abbrev pub invariant-loop-places : goal.invariant-loop-places
+invariant-loop-places l =
     record {
       variables : length l.trail.values.items ≡ l.cnf.count + 1;
       covers : CoversBelow (l.cnf.count + 1) l.watches;
+      places : l.places.len ≡ l.cnf.count + 1;
       sizes : length l.policy.negated.items ≡ l.cnf.count + 1;
       within : length l.log.items ≤ l.limit;
       state : IsSearching l.cnf l.log.items l.watches l.trail.entries.items l.head;
     }
 
-abbrev pub decreases-loop-policy : goal.decreases-loop-policy
-decreases-loop-policy l = work_left l.limit (length l.log.items) (l.cnf.count + 1) (length l.trail.entries.items)
+abbrev pub decreases-loop-places : goal.decreases-loop-places
+decreases-loop-places l = work_left l.limit (length l.log.items) (l.cnf.count + 1) (length l.trail.entries.items)
