@@ -1,0 +1,93 @@
+-- What drafts are, and of which functions: the instructions of each block in their order, each register at its place.
+use Rattle.std.specs.Prelude.{◌≡◌, ℕ, zero, suc, ◌+◌, ◌<◌, length, ◌⊎◌, if◌then◌else◌, Bool, false, List, [], ◌∷◌, ◌++◌, map, option_to_list, Contains, slice_get, slice_index_or}
+use Rattle.ir_core.specs.Blocks.{IsBlock}
+use Rattle.ir_core.specs.Checks.{IsInst}
+use Rattle.ir_core.specs.Reads.{Read, IsRead}
+use Rattle.ir_core.specs.declared.function.Block.{Block}
+use Rattle.ir_core.specs.declared.function.Function.{Function}
+use Rattle.ir_core.specs.declared.instruction.Inst.{Inst}
+use Rattle.ir_core.specs.declared.operand.Operand.TheVariants as operands
+use Rattle.ir_core.specs.declared.operand.Register.TheVariants as registers
+use Rattle.substitution.specs.Substitution.{Substitution, substituted_inst, substituted_end}
+use Rattle.use_counts.specs.Uses.{IsUsedOnce}
+use Rattle.bindings.specs.declared.binding.Binding.{Binding}
+use Rattle.moved_matches.specs.Moved.{moved_binding}
+use Rattle.draft.specs.declared.draft.Place.{Place}
+use Rattle.draft.specs.Orders.{place_in, none}
+use Rattle.draft.specs.Sets.{Rows, Has}
+
+-- A draft as it is seen: the instructions of each block by their numbers, which are named by what reads them; and of each block the
+-- numbers of those that stand there, in order.
+pub record Drafted : Type 0 where
+  pub arena : Function
+  pub numbers : List (List ℕ)
+
+-- instruction n of block b stands in the function
+abbrev pub Stands : Drafted → ℕ → ℕ → Type 0
+Stands d b n = Contains (slice_index_or d.numbers b []) n
+
+-- it stands before instruction m of block c
+abbrev pub StandsBefore : Drafted → ℕ → ℕ → ℕ → ℕ → Type 0
+StandsBefore d b n c m = (b < c) ⊎ ((b ≡ c) × (place_in (slice_index_or d.numbers b []) n < place_in (slice_index_or d.numbers b []) m))
+
+-- what stands for a register that is named by its number: that at its place
+abbrev pub placed : List (List ℕ) → Substitution
+placed numbers (registers.Parameter p) = operands.Register (registers.Parameter p)
+placed numbers (registers.Result b n) = operands.Register (registers.Result b (place_in (slice_index_or numbers b []) n))
+
+-- the instructions of these numbers, with what stands for each register
+abbrev pub insts_of : Substitution → List Inst → List ℕ → List Inst
+insts_of to insts [] = []
+insts_of to insts (n ∷ numbers) = map (substituted_inst to) (option_to_list (slice_get insts n)) ++ insts_of to insts numbers
+
+abbrev pub block_of : Substitution → List ℕ → Block → Block
+block_of to numbers block = record { name = block.name; insts = insts_of to block.insts numbers; end = substituted_end to block.end }
+
+abbrev pub blocks_of : Substitution → List (List ℕ) → List Block → List Block
+blocks_of to [] blocks = []
+blocks_of to (row ∷ rows) [] = []
+blocks_of to (row ∷ rows) (block ∷ blocks) = block_of to row block ∷ blocks_of to rows blocks
+
+-- the function of a draft
+abbrev pub function_of : Drafted → Function
+function_of d = record { name = d.arena.name; before = d.arena.before; width = d.arena.width; parameters = d.arena.parameters; after = d.arena.after; blocks = blocks_of (placed d.numbers) d.numbers d.arena.blocks }
+
+-- those of some numbers that stand
+abbrev pub standing_in : List Bool → List ℕ → List ℕ
+standing_in stand [] = []
+standing_in stand (n ∷ numbers) = (if slice_index_or stand n false then n ∷ [] else []) ++ standing_in stand numbers
+
+abbrev pub standing : List (List Bool) → List (List ℕ) → List (List ℕ)
+standing stand [] = []
+standing [] (numbers ∷ rows) = [] ∷ standing [] rows
+standing (row ∷ stand) (numbers ∷ rows) = standing_in row numbers ∷ standing stand rows
+
+-- The instruction is in both drafts the same, and is read by one operand alone now only where it was before.
+pub record IsUntouched (old new : Drafted) (b n : ℕ) : Type 0 where
+  pub inst : Inst
+  pub was : IsInst old.arena b n inst
+  pub is : IsInst new.arena b n inst
+  pub stood : Stands old b n
+  pub once : IsUsedOnce new.arena (registers.Result b n) → IsUsedOnce old.arena (registers.Result b n)
+
+-- all that is touched, and stands in the new draft, is among these places
+abbrev pub AreTouched : Drafted → Drafted → List Place → Type 0
+AreTouched old new places = (b n : ℕ) → Stands new b n → ¬ Contains places (record { block = b; number = n }) → IsUntouched old new b n
+
+-- a match that names numbers, by places: its root stands at the place of its number
+abbrev pub placed_binding : Drafted → Binding → Binding
+placed_binding d m = moved_binding (placed d.numbers) (place_in (slice_index_or d.numbers m.block []) m.place) m
+
+-- the block has numbers left for what a rule puts
+abbrev pub HasRoom : Drafted → ℕ → Type 0
+HasRoom d b = (block : Block) → IsBlock d.arena b block → length block.insts + 32 < none
+
+-- a place of the set before which no other one of it stands
+pub record IsFirst (d : Drafted) (rows : Rows) (p : Place) : Type 0 where
+  pub there : Has rows p.block p.number
+  pub none_before : (b n : ℕ) → Has rows b n → ¬ StandsBefore d b n p.block p.number
+
+-- instruction n of block b reaches instruction m there through at most so many operands of instructions of the block
+abbrev pub Reaches : Drafted → ℕ → ℕ → ℕ → ℕ → Type 0
+Reaches d zero b n m = n ≡ m
+Reaches d (suc depth) b n m = (n ≡ m) ⊎ ((k : ℕ) × (i : ℕ) × (r : Read) × Stands d b n × IsRead d.arena b n i r × (r.operand ≡ operands.Register (registers.Result b k)) × Reaches d depth b k m)

@@ -1,0 +1,22 @@
+//! Drafts: functions whose instructions keep their numbers while others are put before them or taken out.
+//!
+//! A draft is seen as the function that it stands for: the instructions of each block in their order, each register at its place. What
+//! changes costs what it changes, and nothing behind it moves.
+#![tactic(auto)]
+
+mod cleaning;
+mod draft;
+mod loops;
+mod marks;
+mod operands;
+mod order;
+mod placing;
+mod queue;
+mod rewriting;
+mod stepping;
+mod uses;
+
+pub use draft::{Draft, Place};
+pub use loops::Loops;
+pub use queue::Queue;
+pub use stepping::step;

@@ -1,0 +1,73 @@
+//! Sets of places.
+
+ghost use Rattle.std.specs.Prelude.{◌≡◌, ◌<◌, ◌↔◌, ℕ, length, IsTrue, IfOk, OnOk};
+ghost use Rattle.draft.specs.Sets.{Has, IsAdded, IsRemoved};
+
+use crate::draft::Place;
+use std::alloc::{AllocError, Global};
+use std::marker::Model;
+
+/// A set of places.
+#[derive(Drop)]
+pub(crate) struct Marks {
+    /// For each block a row; numbers behind its end are not in the set.
+    rows: Vec<Vec<bool>>,
+}
+
+impl Model for Marks {
+    ghost use Rattle.draft.specs.Sets.{Rows};
+
+    ghost Value = { Rows };
+
+    ghost view = { λ m. m.rows.items };
+}
+
+impl Marks {
+    /// No place of so many blocks.
+    pub(crate) fn none(alloc: Global, blocks: u32) -> Result<Marks, AllocError>
+        ensures blocks { IfOk result (λ marks. length marks ≡ blocks) }
+        ensures none { IfOk result (λ marks. (b n : ℕ) → ¬ Has marks b n) }
+    {
+        let mut rows = Vec::new(alloc);
+        for _block in 0..blocks {
+            rows.push(Vec::new(alloc))?;
+        }
+        Ok(Marks { rows })
+    }
+
+    /// Whether a place is in the set.
+    pub(crate) fn has(&self, place: Place) -> bool
+        requires { place.block < length self.now }
+        ensures { IsTrue result ↔ Has self.now place.block place.number }
+    {
+        match self.rows[place.block as usize].get(place.number as usize) {
+            Some(there) => *there,
+            None => false,
+        }
+    }
+
+    /// Puts a place into the set.
+    pub(crate) fn insert(&mut self, place: Place) -> Result<(), AllocError>
+        requires { place.block < length self.old }
+        ensures blocks { length self.new ≡ length self.old }
+        ensures added { OnOk result (IsAdded self.old self.new place) }
+    {
+        let row = &mut self.rows[place.block as usize];
+        while row.len() <= place.number as usize {
+            row.push(false)?;
+        }
+        row[place.number as usize] = true;
+        Ok(())
+    }
+
+    /// Takes a place out of the set.
+    pub(crate) fn remove(&mut self, place: Place)
+        requires { place.block < length self.old }
+        ensures blocks { length self.new ≡ length self.old }
+        ensures removed { IsRemoved self.old self.new place }
+    {
+        if self.has(place) {
+            self.rows[place.block as usize][place.number as usize] = false;
+        }
+    }
+}
