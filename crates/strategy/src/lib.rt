@@ -6,6 +6,7 @@
 //! what was there. `Searches` and `Entries` serve the private functions.
 #![tactic(auto)]
 
+mod frontier;
 mod laws;
 mod module;
 mod steps;

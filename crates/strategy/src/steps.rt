@@ -125,7 +125,7 @@ fn apply_match(
 }
 
 /// Cleans a function that meets its checks, as the cleaned one does.
-fn clean_checked(alloc: Global, f: &mut Function) -> Result<(), AllocError>
+pub(crate) fn clean_checked(alloc: Global, f: &mut Function) -> Result<(), AllocError>
     requires checks { MeetsChecks f.old }
     requires numbers { NumbersFit f.old }
     requires countable { IsCountable 0 f.old }
