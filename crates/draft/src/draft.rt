@@ -10,6 +10,7 @@ use crate::order::Order;
 use crate::uses::{Readers, rows};
 use bindings::FunctionFacts;
 use ir_core::{Function, Inst, Op, Operand, Register};
+use lists::List;
 use std::alloc::{AllocError, Global};
 use std::marker::Model;
 
@@ -32,7 +33,7 @@ pub struct Draft {
     pub(crate) facts: FunctionFacts,
     pub(crate) orders: Vec<Order>,
     /// Which instructions stand in the function.
-    pub(crate) stand: Vec<Vec<bool>>,
+    pub(crate) stand: Vec<List<bool>>,
     pub(crate) readers: Readers,
     /// Registers that were read at a place that reads them no more, and those of instructions that came.
     pub(crate) fallen: Vec<Register>,
@@ -78,7 +79,8 @@ impl Draft {
         for block in self.arena.blocks.as_slice() {
             let count = block.insts.len();
             self.orders.push(Order::new(alloc, count as u32)?)?;
-            self.stand.push(vec![in alloc; true; count]?)?;
+            self.stand
+                .push(List::from_vec(vec![in alloc; true; count]?))?;
             self.readers.results.push(rows(alloc, count)?)?;
         }
         Ok(())
@@ -123,7 +125,7 @@ impl Draft {
         requires { HasInst self.now.arena place.block place.number }
         ensures { IsTrue result ↔ Stands self.now place.block place.number }
     {
-        self.stand[place.block as usize][place.number as usize]
+        self.stand[place.block as usize].as_slice()[place.number as usize]
     }
 
     /// Whether the first stands before the second.
@@ -175,7 +177,7 @@ impl Draft {
         let inst = self.inst_mut(at);
         inst.name = None;
         inst.op = Op::Freeze(Operand::Poison);
-        self.stand[at.block as usize][at.number as usize] = false;
+        *self.stand[at.block as usize].get_mut(at.number as usize) = false;
         Ok(())
     }
 

@@ -4,6 +4,7 @@ ghost use Rattle.std.specs.Prelude.{◌≡◌, ◌<◌, ◌↔◌, ℕ, length, 
 ghost use Rattle.draft.specs.Sets.{Has, IsAdded, IsRemoved};
 
 use crate::draft::Place;
+use lists::List;
 use std::alloc::{AllocError, Global};
 use std::marker::Model;
 
@@ -11,7 +12,7 @@ use std::marker::Model;
 #[derive(Drop)]
 pub(crate) struct Marks {
     /// For each block a row; numbers behind its end are not in the set.
-    rows: Vec<Vec<bool>>,
+    rows: Vec<List<bool>>,
 }
 
 impl Model for Marks {
@@ -30,7 +31,7 @@ impl Marks {
     {
         let mut rows = Vec::new(alloc);
         for _block in 0..blocks {
-            rows.push(Vec::new(alloc))?;
+            rows.push(List::new(alloc))?;
         }
         Ok(Marks { rows })
     }
@@ -40,7 +41,10 @@ impl Marks {
         requires { place.block < length self.now }
         ensures { IsTrue result ↔ Has self.now place.block place.number }
     {
-        match self.rows[place.block as usize].get(place.number as usize) {
+        match self.rows[place.block as usize]
+            .as_slice()
+            .get(place.number as usize)
+        {
             Some(there) => *there,
             None => false,
         }
@@ -56,7 +60,7 @@ impl Marks {
         while row.len() <= place.number as usize {
             row.push(false)?;
         }
-        row[place.number as usize] = true;
+        *row.get_mut(place.number as usize) = true;
         Ok(())
     }
 
@@ -67,7 +71,7 @@ impl Marks {
         ensures removed { IsRemoved self.old self.new place }
     {
         if self.has(place) {
-            self.rows[place.block as usize][place.number as usize] = false;
+            *self.rows[place.block as usize].get_mut(place.number as usize) = false;
         }
     }
 }

@@ -2,7 +2,7 @@
 
 ghost use Rattle.std.specs.Prelude.{◌≡◌, ◌+◌, ◌<◌, ◌↔◌, suc, length, Contains, IsTrue, IfOk, IfSome, slice_get};
 ghost use Rattle.std.specs.List.{range_with_len};
-ghost use Rattle.draft.specs.Orders.{Listing, none, place_in};
+ghost use Rattle.draft.specs.Orders.{Listing, none, place_in, walked};
 ghost use Rattle.draft.specs.Orders as numbers;
 
 use std::alloc::{AllocError, Global};
@@ -19,15 +19,16 @@ pub(crate) struct Order {
     before: Vec<u32>,
     after: Vec<u32>,
     first: u32,
-    ghost listing: { Listing first after.items before.items labels.items },
+    ghost listing: { Listing (walked after.items (length labels.items) first) first after.items before.items labels.items },
 }
 
 impl Model for Order {
-    ghost use Rattle.std.specs.Prelude.{ℕ, List as Seq};
+    ghost use Rattle.std.specs.Prelude.{ℕ, List as Seq, length};
+    ghost use Rattle.draft.specs.Orders.{walked};
 
     ghost Value = { Seq ℕ };
 
-    ghost view = { λ o. o.listing.numbers };
+    ghost view = { λ o. walked o.after.items (length o.labels.items) o.first };
 }
 
 impl Order {

@@ -27,7 +27,13 @@ impl Draft {
         let places = places_of(alloc, &orders, &stand)?;
         let blocks = mem::replace(&mut arena.blocks, List::new(alloc));
         for (index, block) in blocks.into_vec().into_iter().enumerate() {
-            let placed = placed_block(alloc, &orders[index], &stand[index], &places, block)?;
+            let placed = placed_block(
+                alloc,
+                &orders[index],
+                stand[index].as_slice(),
+                &places,
+                block,
+            )?;
             arena.blocks.push(placed)?;
         }
         Ok(arena)
@@ -35,10 +41,10 @@ impl Draft {
 }
 
 /// For each instruction that stands in the function its place.
-fn places_of(alloc: Global, orders: &[Order], stand: &[Vec<bool>]) -> Result<Places, AllocError> {
+fn places_of(alloc: Global, orders: &[Order], stand: &[List<bool>]) -> Result<Places, AllocError> {
     let mut rows = Vec::new(alloc);
     for (order, stand) in orders.iter().zip(stand.iter()) {
-        rows.push(places_in(alloc, order, stand)?)?;
+        rows.push(places_in(alloc, order, stand.as_slice())?)?;
     }
     Ok(rows)
 }
