@@ -12,23 +12,35 @@ use Rattle.substitution.specs.Substitution.{Substitution, substituted_inst, subs
 use Rattle.use_counts.specs.Uses.{IsUsedOnce}
 use Rattle.bindings.specs.declared.binding.Binding.{Binding}
 use Rattle.moved_matches.specs.Moved.{moved_binding}
+use Rattle.draft.specs.declared.draft.Draft.{Draft}
 use Rattle.draft.specs.declared.draft.Place.{Place}
 use Rattle.draft.specs.Orders.{place_in, none}
 use Rattle.draft.specs.Sets.{Rows, Has}
 
--- A draft as it is seen: the instructions of each block by their numbers, which are named by what reads them; and of each block the
--- numbers of those that stand there, in order.
-pub record Drafted : Type 0 where
-  pub arena : Function
-  pub numbers : List (List ℕ)
+-- those of some numbers that stand
+abbrev pub standing_in : List Bool → List ℕ → List ℕ
+standing_in stand [] = []
+standing_in stand (n ∷ numbers) = (if slice_index_or stand n false then n ∷ [] else []) ++ standing_in stand numbers
+
+abbrev pub standing : List (List Bool) → List (List ℕ) → List (List ℕ)
+standing stand [] = []
+standing [] (numbers ∷ rows) = [] ∷ standing [] rows
+standing (row ∷ stand) (numbers ∷ rows) = standing_in row numbers ∷ standing stand rows
+
+-- of each block the numbers of the instructions that stand there, in order
+abbrev pub numbers_of : Draft → List (List ℕ)
+numbers_of d = standing d.stand.items d.orders.items
+
+abbrev pub numbers_in : Draft → ℕ → List ℕ
+numbers_in d b = slice_index_or (numbers_of d) b []
 
 -- instruction n of block b stands in the function
-abbrev pub Stands : Drafted → ℕ → ℕ → Type 0
-Stands d b n = Contains (slice_index_or d.numbers b []) n
+abbrev pub Stands : Draft → ℕ → ℕ → Type 0
+Stands d b n = Contains (numbers_in d b) n
 
 -- it stands before instruction m of block c
-abbrev pub StandsBefore : Drafted → ℕ → ℕ → ℕ → ℕ → Type 0
-StandsBefore d b n c m = (b < c) ⊎ ((b ≡ c) × (place_in (slice_index_or d.numbers b []) n < place_in (slice_index_or d.numbers b []) m))
+abbrev pub StandsBefore : Draft → ℕ → ℕ → ℕ → ℕ → Type 0
+StandsBefore d b n c m = (b < c) ⊎ ((b ≡ c) × (place_in (numbers_in d b) n < place_in (numbers_in d b) m))
 
 -- what stands for a register that is named by its number: that at its place
 abbrev pub placed : List (List ℕ) → Substitution
@@ -49,21 +61,11 @@ blocks_of to (row ∷ rows) [] = []
 blocks_of to (row ∷ rows) (block ∷ blocks) = block_of to row block ∷ blocks_of to rows blocks
 
 -- the function of a draft
-abbrev pub function_of : Drafted → Function
-function_of d = record { name = d.arena.name; before = d.arena.before; width = d.arena.width; parameters = d.arena.parameters; after = d.arena.after; blocks = blocks_of (placed d.numbers) d.numbers d.arena.blocks }
-
--- those of some numbers that stand
-abbrev pub standing_in : List Bool → List ℕ → List ℕ
-standing_in stand [] = []
-standing_in stand (n ∷ numbers) = (if slice_index_or stand n false then n ∷ [] else []) ++ standing_in stand numbers
-
-abbrev pub standing : List (List Bool) → List (List ℕ) → List (List ℕ)
-standing stand [] = []
-standing [] (numbers ∷ rows) = [] ∷ standing [] rows
-standing (row ∷ stand) (numbers ∷ rows) = standing_in row numbers ∷ standing stand rows
+abbrev pub function_of : Draft → Function
+function_of d = record { name = d.arena.name; before = d.arena.before; width = d.arena.width; parameters = d.arena.parameters; after = d.arena.after; blocks = blocks_of (placed (numbers_of d)) (numbers_of d) d.arena.blocks }
 
 -- The instruction is in both drafts the same, and is read by one operand alone now only where it was before.
-pub record IsUntouched (old new : Drafted) (b n : ℕ) : Type 0 where
+pub record IsUntouched (old new : Draft) (b n : ℕ) : Type 0 where
   pub inst : Inst
   pub was : IsInst old.arena b n inst
   pub is : IsInst new.arena b n inst
@@ -71,23 +73,23 @@ pub record IsUntouched (old new : Drafted) (b n : ℕ) : Type 0 where
   pub once : IsUsedOnce new.arena (registers.Result b n) → IsUsedOnce old.arena (registers.Result b n)
 
 -- all that is touched, and stands in the new draft, is among these places
-abbrev pub AreTouched : Drafted → Drafted → List Place → Type 0
+abbrev pub AreTouched : Draft → Draft → List Place → Type 0
 AreTouched old new places = (b n : ℕ) → Stands new b n → ¬ Contains places (record { block = b; number = n }) → IsUntouched old new b n
 
 -- a match that names numbers, by places: its root stands at the place of its number
-abbrev pub placed_binding : Drafted → Binding → Binding
-placed_binding d m = moved_binding (placed d.numbers) (place_in (slice_index_or d.numbers m.block []) m.place) m
+abbrev pub placed_binding : Draft → Binding → Binding
+placed_binding d m = moved_binding (placed (numbers_of d)) (place_in (numbers_in d m.block) m.place) m
 
 -- the block has numbers left for what a rule puts
-abbrev pub HasRoom : Drafted → ℕ → Type 0
+abbrev pub HasRoom : Draft → ℕ → Type 0
 HasRoom d b = (block : Block) → IsBlock d.arena b block → length block.insts + 32 < none
 
 -- a place of the set before which no other one of it stands
-pub record IsFirst (d : Drafted) (rows : Rows) (p : Place) : Type 0 where
+pub record IsFirst (d : Draft) (rows : Rows) (p : Place) : Type 0 where
   pub there : Has rows p.block p.number
   pub none_before : (b n : ℕ) → Has rows b n → ¬ StandsBefore d b n p.block p.number
 
 -- instruction n of block b reaches instruction m there through at most so many operands of instructions of the block
-abbrev pub Reaches : Drafted → ℕ → ℕ → ℕ → ℕ → Type 0
+abbrev pub Reaches : Draft → ℕ → ℕ → ℕ → ℕ → Type 0
 Reaches d zero b n m = n ≡ m
 Reaches d (suc depth) b n m = (n ≡ m) ⊎ ((k : ℕ) × (i : ℕ) × (r : Read) × Stands d b n × IsRead d.arena b n i r × (r.operand ≡ operands.Register (registers.Result b k)) × Reaches d depth b k m)

@@ -4,3 +4,8 @@ pub use Rattle.needed.specs.Cleaned
 pub mod Orders
 pub mod Sets
 pub mod Drafts
+pub mod Changes
+pub mod Readers
+pub mod Counts
+pub mod Placing
+pub mod Whole

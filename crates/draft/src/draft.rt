@@ -1,18 +1,26 @@
 //! A function whose instructions have numbers.
 
-ghost use Rattle.std.specs.Prelude.{◌≡◌, ◌<◌, ◌↔◌, ◌^◌, length, All, IsTrue, IfOk};
-ghost use Rattle.ir_core.specs.Blocks.{HasInst};
-ghost use Rattle.ir_core.specs.Checks.{MeetsChecks};
-ghost use Rattle.draft.specs.Drafts.{Stands, StandsBefore, function_of};
+ghost use Rattle.std.specs.Prelude.{◌≡◌, ◌+◌, ◌<◌, ◌^◌, ◌++◌, ◌∷◌, [], ◌↔◌, ℕ, length, map, replicate, true, All, Contains, IsTrue, IfOk, OnOk};
+ghost use Rattle.std.specs.List.{filter_map, range_with_len};
+ghost use Rattle.ir_core.specs.Blocks.{HasInst, IsBlock};
+ghost use Rattle.ir_core.specs.Checks.{MeetsChecks, IsKnown};
+ghost use Rattle.ir_core.specs.Reads.{end_of};
+ghost use Rattle.ir_core.specs.declared.function.Block.{Block};
+ghost use Rattle.bindings.specs.Facts.{AreFactsOf};
+ghost use Rattle.needed.specs.Operands.{operands_of};
+ghost use Rattle.draft.specs.Changes.{changed_at, put_in, exchanged, taken_out, without};
+ghost use Rattle.draft.specs.Counts.{operands_at, register_of};
+ghost use Rattle.draft.specs.Drafts.{Stands, StandsBefore, function_of, numbers_of};
 ghost use Rattle.draft.specs.Orders.{none};
+ghost use Rattle.draft.specs.Orders as orders;
+ghost use Rattle.draft.specs.Whole.{IsWhole, IsSettled};
 
 use crate::order::Order;
-use crate::uses::{Readers, rows};
+use crate::uses::{Readers, count_reads, forget_reads, list_reads, push_reads, rows};
 use bindings::FunctionFacts;
 use ir_core::{Function, Inst, Op, Operand, Register};
 use lists::List;
 use std::alloc::{AllocError, Global};
-use std::marker::Model;
 
 /// The number of a block's terminator.
 pub(crate) const END: u32 = u32::MAX;
@@ -39,61 +47,29 @@ pub struct Draft {
     pub(crate) fallen: Vec<Register>,
 }
 
-impl Model for Draft {
-    ghost use Rattle.draft.specs.Drafts.{Drafted, standing};
-
-    ghost Value = { Drafted };
-
-    ghost view = { λ d. record { arena = d.arena; numbers = standing d.stand.items d.orders.items } };
-}
-
 impl Draft {
-    ghost use Rattle.bindings.specs.Facts.{AreFactsOf};
-
     /// The draft of a function. It takes as many steps as the function is long.
     pub fn of(alloc: Global, f: Function) -> Result<Draft, AllocError>
         requires checks { MeetsChecks f }
         requires blocks { length f.blocks < 2 ^ 32 }
         requires insts { All (λ b. length b.insts < none) f.blocks }
+        ensures settled { IfOk result IsSettled }
         ensures arena { IfOk result (λ draft. draft.arena ≡ f) }
         ensures function { IfOk result (λ draft. function_of draft ≡ f) }
+        ensures stand { IfOk result (λ draft. (b n : ℕ) → HasInst f b n → Stands draft b n) }
     {
         let facts = FunctionFacts::of(alloc, &f)?;
-        let mut draft = Draft {
-            readers: Readers {
-                parameters: rows(alloc, f.parameters.len())?,
-                results: Vec::new(alloc),
-            },
-            orders: Vec::new(alloc),
-            stand: Vec::new(alloc),
-            fallen: Vec::new(alloc),
+        let orders = orders_of(alloc, &f)?;
+        let stand = all_of(alloc, &f)?;
+        let readers = Readers::of(alloc, &f)?;
+        Ok(Draft {
             arena: f,
             facts,
-        };
-        draft.add_blocks(alloc)?;
-        draft.add_readers()?;
-        Ok(draft)
-    }
-
-    fn add_blocks(&mut self, alloc: Global) -> Result<(), AllocError> {
-        for block in self.arena.blocks.as_slice() {
-            let count = block.insts.len();
-            self.orders.push(Order::new(alloc, count as u32)?)?;
-            self.stand
-                .push(List::from_vec(vec![in alloc; true; count]?))?;
-            self.readers.results.push(rows(alloc, count)?)?;
-        }
-        Ok(())
-    }
-
-    fn add_readers(&mut self) -> Result<(), AllocError> {
-        for block in 0..self.arena.blocks.len() as u32 {
-            for number in 0..self.count_in(block) {
-                self.list_reads(Place { block, number })?;
-            }
-            self.list_reads(Place { block, number: END })?;
-        }
-        Ok(())
+            orders,
+            stand,
+            readers,
+            fallen: Vec::new(alloc),
+        })
     }
 
     /// The instructions of each block by their numbers.
@@ -105,24 +81,33 @@ impl Draft {
 
     /// Which blocks are reached, and how often each register is used.
     pub fn facts(&self) -> &FunctionFacts
+        requires { IsWhole self.now }
         ensures { AreFactsOf self.now.arena result.now }
     {
         &self.facts
     }
 
     /// How many blocks there are.
-    pub(crate) fn blocks(&self) -> u32 {
+    pub(crate) fn blocks(&self) -> u32
+        requires { IsWhole self.now }
+        ensures { result ≡ length self.now.arena.blocks }
+    {
         self.arena.blocks.len() as u32
     }
 
     /// How many numbers the instructions of a block have.
-    pub(crate) fn count_in(&self, block: u32) -> u32 {
+    pub(crate) fn count_in(&self, block: u32) -> u32
+        requires whole { IsWhole self.now }
+        requires block { block < length self.now.arena.blocks }
+        ensures { result ≡ end_of self.now.arena block }
+    {
         self.arena.blocks.as_slice()[block as usize].insts.len() as u32
     }
 
     /// Whether an instruction stands in the function.
     pub fn stands(&self, place: Place) -> bool
-        requires { HasInst self.now.arena place.block place.number }
+        requires whole { IsWhole self.now }
+        requires inst { HasInst self.now.arena place.block place.number }
         ensures { IsTrue result ↔ Stands self.now place.block place.number }
     {
         self.stand[place.block as usize].as_slice()[place.number as usize]
@@ -130,6 +115,7 @@ impl Draft {
 
     /// Whether the first stands before the second.
     pub fn is_before(&self, one: Place, other: Place) -> bool
+        requires whole { IsWhole self.now }
         requires one { Stands self.now one.block one.number }
         requires other { Stands self.now other.block other.number }
         ensures { IsTrue result ↔ StandsBefore self.now one.block one.number other.block other.number }
@@ -146,34 +132,64 @@ impl Draft {
         alloc: Global,
         at: Place,
         inst: Inst,
-    ) -> Result<Place, AllocError> {
+    ) -> Result<Place, AllocError>
+        requires whole { IsWhole self.old }
+        requires at { Stands self.old at.block at.number }
+        requires room { (block : Block) → IsBlock self.old.arena at.block block → length block.insts + 1 < none }
+        requires known { All (IsKnown self.old.arena) (operands_of inst.op) }
+        ensures whole { OnOk result (IsWhole self.new) }
+        ensures arena { OnOk result (self.new.arena ≡ put_in self.old.arena at.block inst) }
+        ensures place { IfOk result (λ place. (place.block ≡ at.block) × (place.number ≡ end_of self.old.arena at.block)) }
+        ensures numbers { OnOk result (numbers_of self.new
+            ≡ changed_at at.block (λ row. orders.put_before row at.number (end_of self.old.arena at.block)) (numbers_of self.old)) }
+        ensures fallen { OnOk result (self.new.fallen.items
+            ≡ self.old.fallen.items ++ Register.Result at.block (end_of self.old.arena at.block) ∷ []) }
+    {
         let number = self.orders[at.block as usize].put_before(at.number)?;
-        self.arena
-            .blocks
-            .get_mut(at.block as usize)
-            .insts
-            .push(inst)?;
-        self.stand[at.block as usize].push(true)?;
-        self.add_row(alloc, at.block)?;
         let place = Place {
             block: at.block,
             number,
         };
-        self.add_reads(place)?;
+        self.arena.blocks.get_mut(at.block as usize).insts.push(inst)?;
+        self.stand[at.block as usize].push(true)?;
+        self.facts.uses.results[at.block as usize].push(0)?;
+        self.readers.add_row(alloc, at.block)?;
+        count_reads(&self.arena, &mut self.facts.uses, place)?;
+        list_reads(&self.arena, &mut self.readers, place)?;
         self.fallen.push(Register::Result(at.block, number))?;
         Ok(place)
     }
 
     /// Puts another instruction in the place of one, whose register it takes.
-    pub(crate) fn exchange(&mut self, at: Place, inst: Inst) -> Result<(), AllocError> {
-        self.drop_reads(at)?;
+    pub(crate) fn exchange(&mut self, at: Place, inst: Inst) -> Result<(), AllocError>
+        requires whole { IsWhole self.old }
+        requires at { Stands self.old at.block at.number }
+        requires known { All (IsKnown self.old.arena) (operands_of inst.op) }
+        ensures whole { OnOk result (IsWhole self.new) }
+        ensures arena { OnOk result (self.new.arena ≡ exchanged self.old.arena at.block at.number inst) }
+        ensures numbers { OnOk result (numbers_of self.new ≡ numbers_of self.old) }
+        ensures fallen { OnOk result (self.new.fallen.items
+            ≡ self.old.fallen.items ++ filter_map register_of (operands_at self.old.arena at)) }
+    {
+        push_reads(&self.arena, &mut self.fallen, at)?;
+        forget_reads(&self.arena, &mut self.facts.uses, at);
         *self.inst_mut(at) = inst;
-        self.add_reads(at)
+        count_reads(&self.arena, &mut self.facts.uses, at)?;
+        list_reads(&self.arena, &mut self.readers, at)
     }
 
-    /// Takes an instruction out that nothing reads.
-    pub(crate) fn take_out(&mut self, at: Place) -> Result<(), AllocError> {
-        self.drop_reads(at)?;
+    /// Takes an instruction out.
+    pub(crate) fn take_out(&mut self, at: Place) -> Result<(), AllocError>
+        requires whole { IsWhole self.old }
+        requires at { HasInst self.old.arena at.block at.number }
+        ensures whole { OnOk result (IsWhole self.new) }
+        ensures arena { OnOk result (self.new.arena ≡ taken_out self.old.arena at.block at.number) }
+        ensures numbers { OnOk result (numbers_of self.new ≡ changed_at at.block (without at.number) (numbers_of self.old)) }
+        ensures fallen { OnOk result (self.new.fallen.items
+            ≡ self.old.fallen.items ++ filter_map register_of (operands_at self.old.arena at)) }
+    {
+        push_reads(&self.arena, &mut self.fallen, at)?;
+        forget_reads(&self.arena, &mut self.facts.uses, at);
         let inst = self.inst_mut(at);
         inst.name = None;
         inst.op = Op::Freeze(Operand::Poison);
@@ -188,4 +204,27 @@ impl Draft {
             .insts
             .get_mut(at.number as usize)
     }
+}
+
+/// Of each block the numbers of its instructions, in order.
+fn orders_of(alloc: Global, f: &Function) -> Result<Vec<Order>, AllocError>
+    requires { All (λ b. length b.insts < none) f.now.blocks }
+    ensures { IfOk result (λ rows. rows.items ≡ map (λ b. range_with_len 0 (length b.insts)) f.now.blocks) }
+{
+    let mut rows = Vec::new(alloc);
+    for block in f.blocks.as_slice() {
+        rows.push(Order::new(alloc, block.insts.len() as u32)?)?;
+    }
+    Ok(rows)
+}
+
+/// That each instruction stands in the function.
+fn all_of(alloc: Global, f: &Function) -> Result<Vec<List<bool>>, AllocError>
+    ensures { IfOk result (λ rows. rows.items ≡ map (λ b. replicate (length b.insts) true) f.now.blocks) }
+{
+    let mut rows = Vec::new(alloc);
+    for block in f.blocks.as_slice() {
+        rows.push(List::from_vec(vec![in alloc; true; block.insts.len()]?))?;
+    }
+    Ok(rows)
 }

@@ -14,6 +14,7 @@ mod placing;
 mod queue;
 mod rewriting;
 mod stepping;
+mod substituting;
 mod uses;
 
 pub use draft::{Draft, Place};

@@ -1,149 +1,399 @@
 //! Which instructions read a register, and how often it is used.
 
+ghost use Rattle.std.specs.Prelude.{◌≡◌, ◌≤◌, ◌<◌, ◌^◌, ◌++◌, ◌↔◌, ◌⊎◌, ℕ, List as Seq, [], ◌∷◌, All, Contains, IsTrue, IfOk, OnOk, length, replicate, slice_index_or, slice_set};
+ghost use Rattle.std.specs.List.{filter_map};
+ghost use Rattle.ir_core.specs.Checks.{IsKnown};
+ghost use Rattle.ir_core.specs.Reads.{Read, IsRead};
+ghost use Rattle.ir_core.specs.declared.operand.Register.{Register as Named};
+ghost use Rattle.use_counts.specs.Tables.{HasNumber, count_of};
+ghost use Rattle.draft.specs.Drafts.{numbers_of};
+ghost use Rattle.draft.specs.Orders.{none};
+ghost use Rattle.draft.specs.Readers.{arena_place, IsReader, IsPlaceIn, HasList, HaveLists, IsListed, IsListedAmong, AreListed, listed_for, AreReadersOf};
+ghost use Rattle.draft.specs.Counts.{AreCounted, HasNumbers, IsSetTo, operands_at, register_of, times};
+ghost use Rattle.draft.specs.Whole.{IsWhole};
+ghost use Rattle.draft.specs.declared.draft.Place.{Place as Spot};
+
 use crate::draft::{Draft, END, Place};
-use ir_core::{Operand, Register, end_of, read_at, read_count};
+use ir_core::{Function, Operand, Register, end_of, read_at, read_count};
+use lists::List;
 use std::alloc::{AllocError, Global};
 use std::mem;
-use use_counts::Uses;
+use use_counts::{Uses, uses_of};
 
 /// For each register what may read it: all that does, and perhaps what did.
 #[derive(Drop)]
 pub(crate) struct Readers {
-    pub(crate) parameters: Vec<Vec<Place>>,
-    pub(crate) results: Vec<Vec<Vec<Place>>>,
+    pub(crate) parameters: List<List<Place>>,
+    pub(crate) results: Vec<List<List<Place>>>,
 }
 
 impl Readers {
-    pub(crate) fn of(&mut self, register: Register) -> &mut Vec<Place> {
-        match register {
-            Register::Parameter(k) => &mut self.parameters[k as usize],
-            Register::Result(block, number) => {
-                &mut self.results[block as usize][number as usize]
-            }
+    /// What reads the registers of a function.
+    pub(crate) fn of(alloc: Global, f: &Function) -> Result<Readers, AllocError>
+        requires blocks { length f.now.blocks < 2 ^ 32 }
+        requires insts { All (λ b. length b.insts < none) f.now.blocks }
+        requires known { (b k i : ℕ) (r : Read) → IsRead f.now b k i r → IsKnown f.now r.operand }
+        ensures { IfOk result (AreReadersOf f.now) }
+    {
+        let mut readers = Readers::none(alloc, f)?;
+        for block in 0..f.blocks.len() as u32 {
+            readers.list_block(f, block)?;
         }
+        Ok(readers)
+    }
+
+    /// Lists without places for all registers of a function.
+    fn none(alloc: Global, f: &Function) -> Result<Readers, AllocError>
+        ensures there { IfOk result (λ readers. (r : Named) → IsKnown f.now (Operand.Register r) → HasList readers r) }
+        ensures none { IfOk result (λ readers. (r : Named) → listed_for readers r ≡ []) }
+    {
+        let parameters = rows(alloc, f.parameters.len())?;
+        let mut results = Vec::new(alloc);
+        for block in f.blocks.as_slice() {
+            results.push(rows(alloc, block.insts.len())?)?;
+        }
+        Ok(Readers {
+            parameters,
+            results,
+        })
+    }
+
+    /// Lists what is read in a block.
+    fn list_block(&mut self, f: &Function, block: u32) -> Result<(), AllocError>
+        requires block { block < length f.now.blocks }
+        requires insts { All (λ b. length b.insts < none) f.now.blocks }
+        requires known { (b k i : ℕ) (r : Read) → IsRead f.now b k i r → IsKnown f.now r.operand }
+        requires there { (r : Named) → IsKnown f.now (Operand.Register r) → HasList self.old r }
+        ensures there { OnOk result ((r : Named) → HasList self.old r → HasList self.new r) }
+        ensures listed { OnOk result ((r : Named) (p : Spot) → Contains (listed_for self.new r) p
+            ↔ (Contains (listed_for self.old r) p ⊎ ((p.block ≡ block) × IsPlaceIn f.now p × IsReader f.now r p))) }
+    {
+        for number in 0..end_of(f, block) {
+            list_reads(f, self, Place { block, number })?;
+        }
+        list_reads(f, self, Place { block, number: END })
+    }
+
+    /// A list for one more instruction of a block.
+    pub(crate) fn add_row(&mut self, alloc: Global, block: u32) -> Result<(), AllocError>
+        requires { block < length self.old.results.items }
+        ensures parameters { OnOk result (self.new.parameters ≡ self.old.parameters) }
+        ensures results { OnOk result (self.new.results.items
+            ≡ slice_set self.old.results.items block (slice_index_or self.old.results.items block [] ++ [] ∷ [])) }
+    {
+        self.results[block as usize].push(List::new(alloc))
     }
 
     /// Lists a place, where it isn't what was listed last: what reads a register twice is listed once.
-    pub(crate) fn list(&mut self, register: Register, place: Place) -> Result<(), AllocError> {
-        let places = self.of(register);
-        if places.last() == Some(&place) {
-            return Ok(());
+    pub(crate) fn list(&mut self, register: Register, place: Place) -> Result<(), AllocError>
+        requires { HasList self.old register }
+        ensures { OnOk result (IsListed register place self.old self.new) }
+    {
+        match register {
+            Register::Parameter(k) => list_in(&mut self.parameters, k, place),
+            Register::Result(block, number) => list_at(&mut self.results, block, number, place),
         }
-        places.push(place)?;
-        Ok(())
+    }
+
+    /// Puts other places for a register, and gives those that were listed.
+    pub(crate) fn exchange(&mut self, register: Register, places: List<Place>) -> List<Place>
+        requires { HasList self.old register }
+        ensures was { result ≡ listed_for self.old register }
+        ensures lists { (other : Named) → HasList self.old other → HasList self.new other }
+        ensures is { listed_for self.new register ≡ places }
+        ensures others { (other : Named) → ¬ (other ≡ register) → listed_for self.new other ≡ listed_for self.old other }
+    {
+        match register {
+            Register::Parameter(k) => exchange_in(&mut self.parameters, k, places),
+            Register::Result(block, number) => {
+                exchange_in(&mut self.results[block as usize], number, places)
+            }
+        }
     }
 }
 
-pub(crate) fn count_mut(uses: &mut Uses, register: Register) -> &mut usize {
-    match register {
-        Register::Parameter(k) => uses.parameters.get_mut(k as usize),
-        Register::Result(block, number) => { uses.results[block as usize].get_mut(number as usize) }
+/// Lists a place for the result of an instruction.
+fn list_at(
+    rows: &mut Vec<List<List<Place>>>,
+    block: u32,
+    number: u32,
+    place: Place,
+) -> Result<(), AllocError>
+    requires block { block < length rows.old.items }
+    requires number { number < length (slice_index_or rows.old.items block []) }
+    ensures { OnOk result ((places : Seq Spot)
+        × IsListedAmong place (slice_index_or (slice_index_or rows.old.items block []) number []) places
+        × (rows.new.items ≡ slice_set rows.old.items block (slice_set (slice_index_or rows.old.items block []) number places))) }
+{
+    list_in(&mut rows[block as usize], number, place)
+}
+
+/// Lists a place in a row of lists.
+fn list_in(rows: &mut List<List<Place>>, index: u32, place: Place) -> Result<(), AllocError>
+    requires { index < length rows.old }
+    ensures { OnOk result ((places : Seq Spot) × IsListedAmong place (slice_index_or rows.old index []) places
+        × (rows.new ≡ slice_set rows.old index places)) }
+{
+    list_last(rows.get_mut(index as usize), place)
+}
+
+/// Puts a place behind others, where it isn't the last of them.
+fn list_last(places: &mut List<Place>, place: Place) -> Result<(), AllocError>
+    ensures { OnOk result (IsListedAmong place places.old places.new) }
+{
+    let is_last = match places.as_slice().last() {
+        Some(last) => *last == place,
+        None => false,
+    };
+    if is_last {
+        return Ok(());
     }
+    places.push(place)
+}
+
+/// Puts other places in a row of lists, and gives those that were there.
+fn exchange_in(rows: &mut List<List<Place>>, index: u32, places: List<Place>) -> List<Place>
+    requires { index < length rows.old }
+    ensures was { result ≡ slice_index_or rows.old index [] }
+    ensures is { rows.new ≡ slice_set rows.old index places }
+{
+    mem::replace(rows.get_mut(index as usize), places)
+}
+
+/// Writes how often a register is used.
+fn set_count(uses: &mut Uses, register: Register, count: usize)
+    requires { HasNumber uses.old register }
+    ensures { IsSetTo register count uses.old uses.new }
+{
+    match register {
+        Register::Parameter(k) => *uses.parameters.get_mut(k as usize) = count,
+        Register::Result(block, number) => {
+            *uses.results[block as usize].get_mut(number as usize) = count;
+        }
+    }
+}
+
+/// Where the function that keeps the instructions has what stands at a place.
+fn arena_place(arena: &Function, place: Place) -> u32
+    requires { All (λ b. length b.insts < 2 ^ 32) arena.now.blocks }
+    ensures { result ≡ arena_place arena.now place }
+{
+    if place.number == END {
+        end_of(arena, place.block)
+    } else {
+        place.number
+    }
+}
+
+/// How many operands are read at a place.
+fn count_at(arena: &Function, place: Place) -> usize
+    requires { All (λ b. length b.insts < 2 ^ 32) arena.now.blocks }
+    ensures { result ≡ length (operands_at arena.now place) }
+{
+    read_count(arena, place.block, arena_place(arena, place))
+}
+
+/// What is read at a place as this operand, and `poison` where there is none.
+fn operand_at(arena: &Function, place: Place, index: usize) -> Operand
+    requires { All (λ b. length b.insts < 2 ^ 32) arena.now.blocks }
+    ensures { result ≡ slice_index_or (operands_at arena.now place) index Operand.Poison }
+{
+    match read_at(arena, place.block, arena_place(arena, place), index) {
+        Some(read) => read.operand,
+        None => Operand::Poison,
+    }
+}
+
+/// Counts an operand.
+fn count_operand(uses: &mut Uses, operand: Operand) -> Result<(), AllocError>
+    requires { HasNumbers uses.old (operand ∷ []) }
+    ensures { OnOk result (AreCounted (operand ∷ []) uses.old uses.new) }
+{
+    let Operand::Register(register) = operand else {
+        return Ok(());
+    };
+    let count = uses_of(uses, register)
+        .checked_add(1)
+        .ok_or(AllocError)?;
+    set_count(uses, register, count);
+    Ok(())
+}
+
+/// Counts an operand no more.
+fn forget_operand(uses: &mut Uses, operand: Operand)
+    requires there { HasNumbers uses.old (operand ∷ []) }
+    requires counted { (r : Named) → times r (operand ∷ []) ≤ count_of uses.old r }
+    ensures { AreCounted (operand ∷ []) uses.new uses.old }
+{
+    let Operand::Register(register) = operand else {
+        return;
+    };
+    let count = uses_of(uses, register) - 1;
+    set_count(uses, register, count);
+}
+
+/// Counts what is read at a place.
+pub(crate) fn count_reads(
+    arena: &Function,
+    uses: &mut Uses,
+    place: Place,
+) -> Result<(), AllocError>
+    requires insts { All (λ b. length b.insts < 2 ^ 32) arena.now.blocks }
+    requires there { HasNumbers uses.old (operands_at arena.now place) }
+    ensures { OnOk result (AreCounted (operands_at arena.now place) uses.old uses.new) }
+{
+    for index in 0..count_at(arena, place) {
+        count_operand(uses, operand_at(arena, place, index))?;
+    }
+    Ok(())
+}
+
+/// Counts what is read at a place no more.
+pub(crate) fn forget_reads(arena: &Function, uses: &mut Uses, place: Place)
+    requires insts { All (λ b. length b.insts < 2 ^ 32) arena.now.blocks }
+    requires there { HasNumbers uses.old (operands_at arena.now place) }
+    requires counted { (r : Named) → times r (operands_at arena.now place) ≤ count_of uses.old r }
+    ensures { AreCounted (operands_at arena.now place) uses.new uses.old }
+{
+    for index in 0..count_at(arena, place) {
+        forget_operand(uses, operand_at(arena, place, index));
+    }
+}
+
+/// Lists a place as a reader of what is read there.
+pub(crate) fn list_reads(
+    arena: &Function,
+    readers: &mut Readers,
+    place: Place,
+) -> Result<(), AllocError>
+    requires insts { All (λ b. length b.insts < 2 ^ 32) arena.now.blocks }
+    requires there { HaveLists readers.old (operands_at arena.now place) }
+    ensures { OnOk result (AreListed place (operands_at arena.now place) readers.old readers.new) }
+{
+    for index in 0..count_at(arena, place) {
+        if let Operand::Register(register) = operand_at(arena, place, index) {
+            readers.list(register, place)?;
+        }
+    }
+    Ok(())
+}
+
+/// The registers that are read at a place, behind others.
+pub(crate) fn push_reads(
+    arena: &Function,
+    fallen: &mut Vec<Register>,
+    place: Place,
+) -> Result<(), AllocError>
+    requires { All (λ b. length b.insts < 2 ^ 32) arena.now.blocks }
+    ensures { OnOk result (fallen.new.items ≡ fallen.old.items ++ filter_map register_of (operands_at arena.now place)) }
+{
+    for index in 0..count_at(arena, place) {
+        if let Operand::Register(register) = operand_at(arena, place, index) {
+            fallen.push(register)?;
+        }
+    }
+    Ok(())
+}
+
+/// Whether what stands at a place reads the register.
+fn reads(arena: &Function, place: Place, register: Register) -> bool
+    requires { All (λ b. length b.insts < 2 ^ 32) arena.now.blocks }
+    ensures { IsTrue result ↔ Contains (operands_at arena.now place) (Operand.Register register) }
+{
+    for index in 0..count_at(arena, place) {
+        if operand_at(arena, place, index) == Operand::Register(register) {
+            return true;
+        }
+    }
+    false
+}
+
+/// Of some places those at which the register is read.
+fn readers_among(arena: &Function, places: List<Place>, register: Register) -> List<Place>
+    requires { All (λ b. length b.insts < 2 ^ 32) arena.now.blocks }
+    ensures { (p : Spot) → Contains result p ↔ (Contains places p × Contains (operands_at arena.now p) (Operand.Register register)) }
+{
+    let mut places = places.into_vec();
+    let mut kept = 0;
+    for index in 0..places.len() {
+        let place = places[index];
+        if reads(arena, place, register) {
+            places[kept] = place;
+            kept += 1;
+        }
+    }
+    places.truncate(kept);
+    List::from_vec(places)
 }
 
 impl Draft {
-    /// Where the function that keeps the instructions has what stands at a place.
-    fn number_of(&self, place: Place) -> u32 {
-        if place.number == END {
-            end_of(&self.arena, place.block)
-        } else {
-            place.number
-        }
-    }
-
     /// How many operands are read at a place.
-    pub(crate) fn read_count(&self, place: Place) -> usize {
-        read_count(&self.arena, place.block, self.number_of(place))
+    pub(crate) fn read_count(&self, place: Place) -> usize
+        requires { IsWhole self.now }
+        ensures { result ≡ length (operands_at self.now.arena place) }
+    {
+        count_at(&self.arena, place)
     }
 
     /// The register that is read at a place as this operand, if it is one.
-    pub(crate) fn register_at(&self, place: Place, index: usize) -> Option<Register> {
-        let read = read_at(&self.arena, place.block, self.number_of(place), index)?;
-        match read.operand {
+    pub(crate) fn register_at(&self, place: Place, index: usize) -> Option<Register>
+        requires { IsWhole self.now }
+        ensures { result ≡ register_of (slice_index_or (operands_at self.now.arena place) index Operand.Poison) }
+    {
+        match operand_at(&self.arena, place, index) {
             Operand::Register(register) => Some(register),
             _ => None,
         }
     }
 
     /// Whether what stands at a place reads the register.
-    pub(crate) fn reads(&self, place: Place, register: Register) -> bool {
-        for index in 0..self.read_count(place) {
-            if self.register_at(place, index) == Some(register) {
-                return true;
-            }
-        }
-        false
+    pub(crate) fn reads(&self, place: Place, register: Register) -> bool
+        requires { IsWhole self.now }
+        ensures { IsTrue result ↔ IsReader self.now.arena register place }
+    {
+        reads(&self.arena, place, register)
     }
 
-    /// Lists a place as a reader of what is read there.
-    pub(crate) fn list_reads(&mut self, place: Place) -> Result<(), AllocError> {
-        for index in 0..self.read_count(place) {
-            if let Some(register) = self.register_at(place, index) {
-                self.readers.list(register, place)?;
-            }
-        }
-        Ok(())
+    /// Forgets what reads a register no more: then the places that are listed are those that read it.
+    pub(crate) fn trim_readers(&mut self, alloc: Global, register: Register)
+        requires whole { IsWhole self.old }
+        requires known { IsKnown self.old.arena (Operand.Register register) }
+        ensures whole { IsWhole self.new }
+        ensures arena { self.new.arena ≡ self.old.arena }
+        ensures numbers { numbers_of self.new ≡ numbers_of self.old }
+        ensures fallen { self.new.fallen.items ≡ self.old.fallen.items }
+        ensures exact { (p : Spot) → Contains (listed_for self.new.readers register) p
+            ↔ (IsPlaceIn self.new.arena p × IsReader self.new.arena register p) }
+    {
+        let listed = self.readers.exchange(register, List::new(alloc));
+        let listed = readers_among(&self.arena, listed, register);
+        let _ = self.readers.exchange(register, listed);
     }
 
-    /// Counts what is read at a place, and lists it.
-    pub(crate) fn add_reads(&mut self, place: Place) -> Result<(), AllocError> {
-        for index in 0..self.read_count(place) {
-            if let Some(register) = self.register_at(place, index) {
-                *count_mut(&mut self.facts.uses, register) += 1;
-                self.readers.list(register, place)?;
-            }
-        }
-        Ok(())
-    }
-
-    /// Counts what is read at a place no more.
-    pub(crate) fn drop_reads(&mut self, place: Place) -> Result<(), AllocError> {
-        for index in 0..self.read_count(place) {
-            if let Some(register) = self.register_at(place, index) {
-                *count_mut(&mut self.facts.uses, register) -= 1;
-                self.fallen.push(register)?;
-            }
-        }
-        Ok(())
-    }
-
-    /// A row for one more instruction of a block.
-    pub(crate) fn add_row(&mut self, alloc: Global, block: u32) -> Result<(), AllocError> {
-        self.facts.uses.results[block as usize].push(0)?;
-        self.readers.results[block as usize].push(Vec::new(alloc))?;
-        Ok(())
-    }
-
-    /// Forgets what reads a register no more.
-    pub(crate) fn trim_readers(&mut self, alloc: Global, register: Register) {
-        let mut listed = mem::replace(self.readers.of(register), Vec::new(alloc));
-        let mut kept = 0;
-        for index in 0..listed.len() {
-            if self.reads(listed[index], register) {
-                listed[kept] = listed[index];
-                kept += 1;
-            }
-        }
-        listed.truncate(kept);
-        *self.readers.of(register) = listed;
-    }
-
-    /// Where a register is read, once its readers are trimmed.
-    pub(crate) fn readers_of(&self, register: Register) -> &[Place] {
+    /// The places that are listed for a register: all that read it, and none else once its readers are trimmed.
+    pub(crate) fn readers_of(&self, register: Register) -> &[Place]
+        requires whole { IsWhole self.now }
+        requires known { IsKnown self.now.arena (Operand.Register register) }
+        ensures listed { result.now ≡ listed_for self.now.readers register }
+        ensures readers { (p : Spot) → IsPlaceIn self.now.arena p → IsReader self.now.arena register p → Contains result.now p }
+        ensures places { (p : Spot) → Contains result.now p → IsPlaceIn self.now.arena p }
+    {
         match register {
-            Register::Parameter(k) => &self.readers.parameters[k as usize],
+            Register::Parameter(k) => self.readers.parameters.as_slice()[k as usize].as_slice(),
             Register::Result(block, number) => {
-                &self.readers.results[block as usize][number as usize]
+                self.readers.results[block as usize].as_slice()[number as usize].as_slice()
             }
         }
     }
 }
 
 /// Lists without elements, so many.
-pub(crate) fn rows(alloc: Global, count: usize) -> Result<Vec<Vec<Place>>, AllocError> {
-    let mut rows = Vec::new(alloc);
+pub(crate) fn rows(alloc: Global, count: usize) -> Result<List<List<Place>>, AllocError>
+    ensures { IfOk result (λ rows. rows ≡ replicate count []) }
+{
+    let mut rows = List::new(alloc);
     for _k in 0..count {
-        rows.push(Vec::new(alloc))?;
+        rows.push(List::new(alloc))?;
     }
     Ok(rows)
 }
