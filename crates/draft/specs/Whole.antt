@@ -23,7 +23,7 @@ pub record AreRowsOf (block : Block) (order : List ℕ) (stand : List Bool) : Ty
   pub marked : length stand ≡ length block.insts
   pub all : (n : ℕ) → n < length block.insts → Contains order n
   pub ordering : IsOrdering (length block.insts) order
-  pub gone : (n : ℕ) (inst : Inst) → slice_get block.insts n ≡ Some inst → slice_get stand n ≡ Some false → inst.op ≡ Freeze operands.Poison
+  pub gone : (n : ℕ) (inst : Inst) → slice_get block.insts n ≡ Some inst → slice_index_or stand n false ≡ false → inst.op ≡ Freeze operands.Poison
 
 -- The tables say what the arena is. What is read in it may have been taken out.
 pub record IsWhole (d : Draft) : Type 0 where

@@ -13,7 +13,6 @@ use crate::draft::{Draft, END, Place};
 use crate::substituting::{Substitute, substitute_end, substitute_inst};
 use crate::uses::{count_reads, forget_reads};
 use ir_core::{Function, Operand, Register};
-use lists::List;
 use std::alloc::{AllocError, Global};
 
 /// An operand that is put for a register.
@@ -49,7 +48,7 @@ impl Draft {
             ↔ (IsPlaceIn self.old.arena p × IsReader self.old.arena swap.now.from p)) }
     {
         self.trim_readers(alloc, swap.from);
-        let places = self.readers.exchange(swap.from, List::new(alloc)).into_vec();
+        let places = Vec::from_slice(alloc, self.readers_of(swap.from))?;
         for place in &places {
             self.replace_at(*place, swap)?;
         }
@@ -57,7 +56,15 @@ impl Draft {
     }
 
     /// Puts it at a place.
-    fn replace_at(&mut self, place: Place, swap: &Swap) -> Result<(), AllocError> {
+    fn replace_at(&mut self, place: Place, swap: &Swap) -> Result<(), AllocError>
+        requires whole { IsWhole self.old }
+        requires place { IsPlaceIn self.old.arena place }
+        requires to { IsKnown self.old.arena swap.now.to }
+        ensures whole { OnOk result (IsWhole self.new) }
+        ensures arena { OnOk result (self.new.arena ≡ replaced_at self.old.arena place swap.now.from swap.now.to) }
+        ensures numbers { OnOk result (numbers_of self.new ≡ numbers_of self.old) }
+        ensures fallen { OnOk result (self.new.fallen.items ≡ self.old.fallen.items) }
+    {
         forget_reads(&self.arena, &mut self.facts.uses, place);
         swap_at(&mut self.arena, place, swap);
         count_reads(&self.arena, &mut self.facts.uses, place)?;

@@ -17,6 +17,7 @@ use std::alloc::{AllocError, Global};
 use std::mem;
 
 /// For each number of each block the place of its instruction.
+#[derive(Drop)]
 struct Places {
     rows: Vec<List<u32>>,
 }

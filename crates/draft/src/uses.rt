@@ -141,14 +141,27 @@ fn list_in(rows: &mut List<List<Place>>, index: u32, place: Place) -> Result<(),
 fn list_last(places: &mut List<Place>, place: Place) -> Result<(), AllocError>
     ensures { OnOk result (IsListedAmong place places.old places.new) }
 {
-    let is_last = match places.as_slice().last() {
-        Some(last) => *last == place,
-        None => false,
-    };
-    if is_last {
+    if ends_in(places.as_slice(), place) {
         return Ok(());
     }
     places.push(place)
+}
+
+/// Whether the last of some places is this one.
+fn ends_in(places: &[Place], place: Place) -> bool
+    ensures { IsTrue result → Contains places.now place }
+{
+    let count = places.len();
+    if count == 0 {
+        return false;
+    }
+    are_same(places[count - 1], place)
+}
+
+fn are_same(one: Place, other: Place) -> bool
+    ensures { IsTrue result ↔ (one ≡ other) }
+{
+    one == other
 }
 
 /// Puts other places in a row of lists, and gives those that were there.
@@ -301,11 +314,18 @@ fn reads(arena: &Function, place: Place, register: Register) -> bool
     ensures { IsTrue result ↔ Contains (operands_at arena.now place) (Operand.Register register) }
 {
     for index in 0..count_at(arena, place) {
-        if operand_at(arena, place, index) == Operand::Register(register) {
+        if is(operand_at(arena, place, index), register) {
             return true;
         }
     }
     false
+}
+
+/// Whether an operand is the register.
+fn is(operand: Operand, register: Register) -> bool
+    ensures { IsTrue result ↔ (operand ≡ Operand.Register register) }
+{
+    operand == Operand::Register(register)
 }
 
 /// Of some places those at which the register is read.

@@ -1,0 +1,102 @@
+-- What a function is where one of its blocks is another.
+use Rattle.std.proofs.Common.{◌≡◌, ◌⊎◌, ◌↔◌, inl, inr, ℕ, zero, suc, ◌+◌, ◌<◌, ◌≤◌, List, [], ◌∷◌, length, get_or, slice_set, Option, None, Some, map, refl, sym, ap, subst, ◌∙◌, arith}
+use Rattle.std.specs.Prelude.{Contains, IsSome, option_and_then, option_map, slice_get, sum_by}
+use Rattle.std.proofs.lemmas.Bool.{cases_eq}
+use Rattle.std.proofs.lemmas.List.Sums.{sum_by-set}
+use Rattle.std.proofs.lemmas.Option.{get_or_from_slice_get, same_Some, slice_get-get_or, slice_get-map, slice_get_cases, slice_get_within}
+use Rattle.ir_core.specs.Blocks.{HasInst, IsBlock, targets_of}
+use Rattle.ir_core.specs.Checks.{IsKnown}
+use Rattle.ir_core.specs.Names.{width_of}
+use Rattle.ir_core.specs.Reads.{Read, IsRead, end_of}
+use Rattle.ir_core.specs.declared.function.Block.{Block}
+use Rattle.ir_core.specs.declared.function.Function.{Function}
+use Rattle.ir_core.specs.declared.function.Parameter.{Parameter}
+use Rattle.ir_core.specs.declared.instruction.Inst.{Inst}
+use Rattle.ir_core.specs.declared.operand.Operand.{Operand}
+use Rattle.ir_core.specs.declared.operand.Operand.TheVariants as operands
+use Rattle.ir_core.specs.declared.operand.Register.{Register}
+use Rattle.ir_core.specs.declared.operand.Register.TheVariants as registers
+use Rattle.draft.specs.Changes.{changed_at}
+
+-- ---- a list with a change at one place
+
+pub changed_length : {A : Type 0} (k : ℕ) (change : A → A) (xs : List A) → length (changed_at k change xs) ≡ length xs
+changed_length k change [] = refl
+changed_length zero change (x ∷ xs) = refl
+changed_length (suc k) change (x ∷ xs) = ap suc (changed_length k change xs)
+
+pub changed_here : {A : Type 0} (k : ℕ) (change : A → A) (xs : List A) (x : A) → slice_get xs k ≡ Some x → slice_get (changed_at k change xs) k ≡ Some (change x)
+changed_here k change [] x at = absurd cc
+changed_here zero change (y ∷ xs) x at = ap (λ (z : A). Some (change z)) (same_Some y x at)
+changed_here (suc k) change (y ∷ xs) x at = changed_here k change xs x at
+
+pub changed_other : {A : Type 0} (k : ℕ) (change : A → A) (xs : List A) (j : ℕ) → (j ≡ k → ⊥) → slice_get (changed_at k change xs) j ≡ slice_get xs j
+changed_other k change [] j apart = refl
+changed_other zero change (y ∷ xs) zero apart = absurd (apart refl)
+changed_other zero change (y ∷ xs) (suc j) apart = refl
+changed_other (suc k) change (y ∷ xs) zero apart = refl
+changed_other (suc k) change (y ∷ xs) (suc j) apart = changed_other k change xs j (λ e. apart (ap suc e))
+
+pub changed_is_set : {A : Type 0} (k : ℕ) (change : A → A) (xs : List A) (x : A) → slice_get xs k ≡ Some x → slice_set xs k (change x) ≡ changed_at k change xs
+changed_is_set k change [] x at = refl
+changed_is_set zero change (y ∷ xs) x at = ap (λ (z : A). change z ∷ xs) (sym (same_Some y x at))
+changed_is_set (suc k) change (y ∷ xs) x at = ap (λ (l : List A). y ∷ l) (changed_is_set k change xs x at)
+
+pub changed_past : {A : Type 0} (k : ℕ) (change : A → A) (xs : List A) → length xs ≤ k → changed_at k change xs ≡ xs
+changed_past k change [] past = refl
+changed_past zero change (y ∷ xs) past = absurd (omega arith)
+changed_past (suc k) change (y ∷ xs) past = ap (λ (l : List A). y ∷ l) (changed_past k change xs (omega arith))
+
+pub changed_sum : {A : Type 0} (h : A → ℕ) (k : ℕ) (change : A → A) (xs : List A) (x : A) → slice_get xs k ≡ Some x → sum_by h (changed_at k change xs) + h x ≡ sum_by h xs + h (change x)
+changed_sum h k change xs x at =
+    let sums = sum_by-set h xs k (change x) x (slice_get_within xs k x at) in
+    let was : h (get_or xs k x) ≡ h x = ap h (get_or_from_slice_get xs k x x at) in
+    let same : sum_by h (slice_set xs k (change x)) ≡ sum_by h (changed_at k change xs) = ap (sum_by h) (changed_is_set k change xs x at) in
+    omega arith
+
+-- what stands in the changed list: a change of what stood there, or what stood there
+pub changed_cases : {A : Type 0} (k : ℕ) (change : A → A) (xs : List A) (j : ℕ) (y : A) → slice_get (changed_at k change xs) j ≡ Some y
+    → ((j ≡ k) × ((x : A) × (slice_get xs k ≡ Some x) × (y ≡ change x))) ⊎ (¬ (j ≡ k) × (slice_get xs j ≡ Some y))
+changed_cases k change xs j y at = elim (cases_eq j k) [
+  | inl same ↦
+      let there : slice_get (changed_at k change xs) k ≡ Some y = subst (λ (n : ℕ). slice_get (changed_at k change xs) n ≡ Some y) same at in
+      let within : k < length xs = omega (arith, slice_get_within (changed_at k change xs) k y there, changed_length k change xs) in
+      let old : slice_get xs k ≡ Some (get_or xs k y) = slice_get-get_or xs k y within in
+      inl (same, (get_or xs k y, old, same_Some y (change (get_or xs k y)) (sym there ∙ changed_here k change xs (get_or xs k y) old)))
+  | inr apart ↦ inr (apart, sym (changed_other k change xs j apart) ∙ at)
+]
+
+-- ---- which registers a function has
+
+known_result : (f : Function) (d j : ℕ) (o : Option Block) → slice_get f.blocks d ≡ o → IsSome (option_and_then (λ (block : Block). option_map (λ (i : Inst). i.width) (slice_get block.insts j)) o) → HasInst f d j
+known_result f d j None e h = absurd cc
+known_result f d j (Some block) e h = (block, e, inside block.insts j h)
+  where
+    inside : (insts : List Inst) (j : ℕ) → IsSome (option_map (λ (i : Inst). i.width) (slice_get insts j)) → j < length insts
+    inside [] j h = absurd cc
+    inside (i ∷ insts) zero h = omega arith
+    inside (i ∷ insts) (suc j) h = let lt : j < length insts = inside insts j h in omega arith
+
+pub known_has : (f : Function) (d j : ℕ) → IsKnown f (operands.Register (registers.Result d j)) → HasInst f d j
+known_has f d j h = known_result f d j (slice_get f.blocks d) refl h
+
+pub has_known : (f : Function) (d j : ℕ) → HasInst f d j → IsKnown f (operands.Register (registers.Result d j))
+has_known f d j (block, at, within) = elim (slice_get_cases block.insts j).1 [
+  | inl (inst, less, here, is) ↦
+      let width : width_of f (registers.Result d j) ≡ Some inst.width =
+      ap (option_and_then (λ (b : Block). option_map (λ (i : Inst). i.width) (slice_get b.insts j))) at ∙ ap (option_map (λ (i : Inst). i.width)) here in
+      subst (λ (o : Option ℕ). IsSome o) (sym width) refl
+  | inr (past, absent) ↦ absurd (omega arith)
+]
+
+-- the function has what the other has
+pub record HasAll (f f' : Function) : Type 0 where
+  pub parameters : f'.parameters ≡ f.parameters
+  pub insts : (d j : ℕ) → HasInst f d j → HasInst f' d j
+
+pub known_kept : (f f' : Function) → HasAll f f' → (a : Operand) → IsKnown f a → IsKnown f' a
+known_kept f f' all (operands.Register (registers.Parameter p)) h = subst (λ (l : List Parameter). IsSome (option_map (λ (x : Parameter). x.width) (slice_get l p))) (sym all.parameters) h
+known_kept f f' all (operands.Register (registers.Result d j)) h = has_known f' d j (all.insts d j (known_has f d j h))
+known_kept f f' all (operands.Number n) h = tt
+known_kept f f' all operands.Undef h = tt
+known_kept f f' all operands.Poison h = tt

@@ -1,0 +1,16 @@
+pub mod Naming
+pub mod Tables
+pub mod Counting
+pub mod Listing
+pub mod Reading
+pub mod Totals
+pub mod Changing
+pub mod Places
+pub mod Rows
+pub mod Exchanging
+pub mod Wholeness
+pub mod Substituted
+pub mod Replacing
+pub mod Placed
+pub mod Putting
+pub mod Standing
