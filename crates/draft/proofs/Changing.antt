@@ -27,7 +27,7 @@ changed_length (suc k) change (x ∷ xs) = ap suc (changed_length k change xs)
 
 pub changed_here : {A : Type 0} (k : ℕ) (change : A → A) (xs : List A) (x : A) → slice_get xs k ≡ Some x → slice_get (changed_at k change xs) k ≡ Some (change x)
 changed_here k change [] x at = absurd cc
-changed_here zero change (y ∷ xs) x at = ap (λ (z : A). Some (change z)) (same_Some y x at)
+changed_here {A = A} zero change (y ∷ xs) x at = ap (λ (z : A). Some (change z)) (same_Some y x at)
 changed_here (suc k) change (y ∷ xs) x at = changed_here k change xs x at
 
 pub changed_other : {A : Type 0} (k : ℕ) (change : A → A) (xs : List A) (j : ℕ) → (j ≡ k → ⊥) → slice_get (changed_at k change xs) j ≡ slice_get xs j
@@ -39,13 +39,13 @@ changed_other (suc k) change (y ∷ xs) (suc j) apart = changed_other k change x
 
 pub changed_is_set : {A : Type 0} (k : ℕ) (change : A → A) (xs : List A) (x : A) → slice_get xs k ≡ Some x → slice_set xs k (change x) ≡ changed_at k change xs
 changed_is_set k change [] x at = refl
-changed_is_set zero change (y ∷ xs) x at = ap (λ (z : A). change z ∷ xs) (sym (same_Some y x at))
-changed_is_set (suc k) change (y ∷ xs) x at = ap (λ (l : List A). y ∷ l) (changed_is_set k change xs x at)
+changed_is_set {A = A} zero change (y ∷ xs) x at = ap (λ (z : A). change z ∷ xs) (sym (same_Some y x at))
+changed_is_set {A = A} (suc k) change (y ∷ xs) x at = ap (λ (l : List A). y ∷ l) (changed_is_set k change xs x at)
 
 pub changed_past : {A : Type 0} (k : ℕ) (change : A → A) (xs : List A) → length xs ≤ k → changed_at k change xs ≡ xs
 changed_past k change [] past = refl
 changed_past zero change (y ∷ xs) past = absurd (omega arith)
-changed_past (suc k) change (y ∷ xs) past = ap (λ (l : List A). y ∷ l) (changed_past k change xs (omega arith))
+changed_past {A = A} (suc k) change (y ∷ xs) past = ap (λ (l : List A). y ∷ l) (changed_past k change xs (omega arith))
 
 pub changed_sum : {A : Type 0} (h : A → ℕ) (k : ℕ) (change : A → A) (xs : List A) (x : A) → slice_get xs k ≡ Some x → sum_by h (changed_at k change xs) + h x ≡ sum_by h xs + h (change x)
 changed_sum h k change xs x at =

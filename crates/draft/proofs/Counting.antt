@@ -71,7 +71,7 @@ counted_more xs i a old mid new within here before one = record {
     let step = times_more r xs i operands.Poison within in
     let same : times r (a ∷ []) ≡ times r (get_or xs i operands.Poison ∷ []) = ap (λ (x : Operand). times r (x ∷ [])) here in
     let first = before.more r in
-    let then = one.more r in
+    let after = one.more r in
     omega arith;
 }
 
@@ -83,7 +83,7 @@ forgotten_more xs i a old mid new within here before one = record {
     let step = times_more r xs i operands.Poison within in
     let same : times r (a ∷ []) ≡ times r (get_or xs i operands.Poison ∷ []) = ap (λ (x : Operand). times r (x ∷ [])) here in
     let first = before.more r in
-    let then = one.more r in
+    let after = one.more r in
     omega arith;
 }
 
@@ -104,3 +104,24 @@ next_counted xs i a old mid r within here counted before =
     let left = times_left r xs i operands.Poison within in
     let first = before.more r in
     omega arith
+
+pub contains_operand : (a : Operand) (r : Register) → a ≡ operands.Register r → Contains (a ∷ []) (operands.Register r)
+contains_operand a r is = (0, omega arith, is)
+
+-- a register that is counted no more
+pub forgotten_register : (old new : Uses) (register : Register) (a : Operand) (n : ℕ) → a ≡ operands.Register register → n + 1 ≡ count_of old register → IsSetTo register n old new → AreCounted (a ∷ []) new old
+forgotten_register old new register a n is one set = record {
+  there = λ r. ((set.there r).1, (set.there r).0);
+  more = λ r. elim (is_same_register r register) [
+    | inl same ↦
+        let this : a ≡ operands.Register r = cc in
+        let times_is = times_named r a this in
+        let now : count_of new r ≡ n = ap (count_of new) same ∙ set.is in
+        let was : count_of old r ≡ count_of old register = ap (count_of old) same in
+        omega arith
+    | inr apart ↦
+        let times_is = times_other r a (named_apart r register a is apart) in
+        let now = set.others r apart in
+        omega arith
+  ];
+}

@@ -12,7 +12,7 @@ use Rattle.ir_core.specs.declared.operand.Operand.{Operand}
 use Rattle.ir_core.specs.declared.operand.Register.{Register}
 use Rattle.ir_core.specs.declared.terminator.Terminator.{Terminator}
 use Rattle.needed.specs.Operands.{operands_of, operands_at_end}
-use Rattle.draft.specs.Changes.{changed_at, with_end, with_insts}
+use Rattle.draft.specs.Changes.{changed_at, end_changed, inst_changed, with_block}
 use Rattle.draft.specs.Counts.{operands_at, times, times_in, times_in_function}
 use Rattle.draft.specs.Orders.{none}
 use Rattle.draft.specs.Readers.{IsPlaceIn}
@@ -23,12 +23,8 @@ use Rattle.draft.proofs.Reading.{operands_at_inst, operands_at_terminator}
 
 pub map_changed : {A B : Type 0} (g : A → B) (k : ℕ) (change : A → A) (xs : List A) → ((x : A) → g (change x) ≡ g x) → map g (changed_at k change xs) ≡ map g xs
 map_changed g k change [] same = refl
-map_changed g zero change (x ∷ xs) same = ap (λ (y : B). y ∷ map g xs) (same x)
-map_changed g (suc k) change (x ∷ xs) same = ap (λ (l : List B). g x ∷ l) (map_changed g k change xs same)
-
--- the function with another block b
-abbrev pub with_block : Function → ℕ → (Block → Block) → Function
-with_block f b change = record { name = f.name; before = f.before; width = f.width; parameters = f.parameters; after = f.after; blocks = changed_at b change f.blocks }
+map_changed {B = B} g zero change (x ∷ xs) same = ap (λ (y : B). y ∷ map g xs) (same x)
+map_changed {B = B} g (suc k) change (x ∷ xs) same = ap (λ (l : List B). g x ∷ l) (map_changed g k change xs same)
 
 module _ (f : Function) (b : ℕ) (change : Block → Block) (block : Block) (at : IsBlock f b block) where
   pub block_now : IsBlock (with_block f b change) b (change block)
@@ -121,10 +117,10 @@ module _ (f : Function) (b : ℕ) (change : Block → Block) (block : Block) (at
 
 module _ (f : Function) (few : AreFew f) (b n : ℕ) (change : Inst → Inst) (block : Block) (inst : Inst) (at : IsBlock f b block) (here : slice_get block.insts n ≡ Some inst) where
   abbrev pub inst_block : Block → Block
-  inst_block x = record { name = x.name; insts = changed_at n change x.insts; end = x.end }
+  inst_block = inst_changed n change
 
   abbrev inst_function : Function
-  inst_function = with_insts f b (changed_at n change)
+  inst_function = with_block f b (inst_changed n change)
 
   abbrev inst_place : Place
   inst_place = record { block = b; number = n }
@@ -178,10 +174,10 @@ module _ (f : Function) (few : AreFew f) (b n : ℕ) (change : Inst → Inst) (b
 
 module _ (f : Function) (few : AreFew f) (b : ℕ) (change : Terminator → Terminator) (block : Block) (at : IsBlock f b block) (same_targets : (t : Terminator) → targets_of (change t) ≡ targets_of t) where
   abbrev pub end_block : Block → Block
-  end_block x = record { name = x.name; insts = x.insts; end = change x.end }
+  end_block = end_changed change
 
   abbrev end_function : Function
-  end_function = with_end f b change
+  end_function = with_block f b (end_changed change)
 
   abbrev end_place : Place
   end_place = record { block = b; number = none }

@@ -14,3 +14,6 @@ pub mod Replacing
 pub mod Placed
 pub mod Putting
 pub mod Standing
+pub mod Changed
+pub mod Put
+pub mod Swapped

@@ -2,7 +2,7 @@
 use Rattle.std.proofs.Common.{◌≡◌, ◌⊎◌, ◌↔◌, inl, inr, ℕ, ◌+◌, ◌<◌, ◌≤◌, List, [], ◌∷◌, ◌++◌, length, get_or, set, take, drop, refl, sym, ap, subst, ◌∙◌, arith}
 use Rattle.std.specs.Prelude.{Contains, None, Some}
 use Rattle.std.specs.List.{filter_map}
-use Rattle.std.proofs.lemmas.List.{append-nil, drop-set-lt, drop_more, length-set, take_more, take_more_set}
+use Rattle.std.proofs.lemmas.List.{append-nil, get_or_default, drop-set-lt, drop_more, length-set, take_more, take_more_set}
 use Rattle.std.proofs.lemmas.List.Elements.{Contains-append_left, Contains-push, Contains-push_cases, filter_map-append}
 use Rattle.ir_core.specs.declared.operand.Operand.{Operand}
 use Rattle.ir_core.specs.declared.operand.Operand.TheVariants as operands
@@ -207,3 +207,11 @@ module _ {A : Type 0} (P : A → Type 0) (all : List A) (i kept : ℕ) (items : 
           ],
         );
       }
+
+-- ---- what is found in a list
+
+pub found_at : {A : Type 0} (xs : List A) (k : ℕ) (x d : A) → k < length xs → get_or xs k d ≡ x → Contains xs x
+found_at xs k x d within is = (k, within, get_or_default xs k x d within ∙ is)
+
+pub not_found : {A : Type 0} (xs : List A) (i : ℕ) (x d : A) → length xs ≤ i → ((k : ℕ) → k < i → get_or xs k d ≡ x → ⊥) → Contains xs x → ⊥
+not_found xs i x d past none (k, within, is) = none k (omega arith) (get_or_default xs k d x within ∙ is)

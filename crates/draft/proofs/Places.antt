@@ -1,8 +1,9 @@
 -- What is read at each place of an arena, and of one in which what is read at one place is changed.
 use Rattle.std.proofs.Common.{◌≡◌, ◌⊎◌, ◌↔◌, inl, inr, ℕ, zero, suc, ◌+◌, ◌<◌, ◌≤◌, ◌^◌, List, [], ◌∷◌, length, get_or, Option, None, Some, All, map, refl, sym, ap, subst, ◌∙◌, arith}
-use Rattle.std.specs.Prelude.{Contains, option_map, slice_get}
+use Rattle.std.specs.Prelude.{Contains, option_map, slice_get, sum_by}
 use Rattle.std.proofs.lemmas.Bool.{cases_eq}
-use Rattle.std.proofs.lemmas.Option.{slice_get-map, slice_get_within}
+use Rattle.std.proofs.lemmas.List.Sums.{get_or-le-sum_by}
+use Rattle.std.proofs.lemmas.Option.{get_or_from_slice_get, slice_get-get_or, slice_get-map, slice_get_cases, slice_get_within}
 use Rattle.assigned_flow.specs.Successors.{successors_of}
 use Rattle.bindings.specs.Facts.{AreFactsOf}
 use Rattle.bindings.specs.declared.facts.FunctionFacts.{FunctionFacts}
@@ -15,18 +16,19 @@ use Rattle.ir_core.specs.declared.instruction.Inst.{Inst}
 use Rattle.ir_core.specs.declared.operand.Operand.{Operand}
 use Rattle.ir_core.specs.declared.operand.Operand.TheVariants as operands
 use Rattle.ir_core.specs.declared.operand.Register.{Register}
+use Rattle.needed.specs.Operands.{operands_of}
 use Rattle.needed.proofs.Counting.{contained_at, contains_at}
 use Rattle.needed.proofs.Reading.{end_of-is}
 use Rattle.use_counts.specs.Tables.{HasNumber, count_of}
 use Rattle.use_counts.specs.declared.uses.Uses.{Uses}
-use Rattle.draft.specs.Counts.{AreCounted, HasNumbers, operands_at, times, times_in_function}
+use Rattle.draft.specs.Counts.{AreCounted, HasNumbers, operands_at, times, times_in, times_in_function}
 use Rattle.draft.specs.Orders.{none}
 use Rattle.draft.specs.Readers.{AreListed, AreReadersOf, HasList, HaveLists, IsListed, IsPlaceIn, arena_place, listed_for}
 use Rattle.draft.specs.declared.draft.Place.{Place}
 use Rattle.draft.specs.declared.uses.Readers.{Readers}
 use Rattle.draft.proofs.Changing.{HasAll, known_kept}
 use Rattle.draft.proofs.Naming.{is_same_register}
-use Rattle.draft.proofs.Reading.{arena_place_end, arena_place_inst, read_at_written, read_in_block, read_in_inst, reads_written, written, written_reads}
+use Rattle.draft.proofs.Reading.{arena_place_end, arena_place_inst, operands_at_inst, operands_at_terminator, read_at_written, read_in_block, read_in_inst, reads_written, written, written_reads}
 use Rattle.draft.proofs.Totals.{counts_are_times, times_are_counts}
 
 -- instructions of each block have numbers
@@ -185,3 +187,42 @@ numbers_for f facts p are known inside r there = are.uses.there r (known p (oper
 
 pub lists_for : (f : Function) (readers : Readers) (reads : List Operand) → AreReadersOf f readers → ((a : Operand) → Contains reads a → IsKnown f a) → HaveLists readers reads
 lists_for f readers reads are known r there = are.there r (known (operands.Register r) there)
+
+-- ---- what is read at a place is among all that is read
+
+pub few_counted : (f : Function) → AreFew f → All (λ (b : Block). length b.insts < 2 ^ 32) f.blocks
+few_counted f few k d within =
+    let less = few k (get_or f.blocks k d) (slice_get-get_or f.blocks k d within) in
+    omega arith
+
+-- the operands of one list are among those of all
+one_of_all : {A : Type 0} (h : A → ℕ) (xs : List A) (k : ℕ) (x : A) → slice_get xs k ≡ Some x → h x ≤ sum_by h xs
+one_of_all h xs k x at =
+    let within = slice_get_within xs k x at in
+    let less = get_or-le-sum_by h xs k x within in
+    let is : h (get_or xs k x) ≡ h x = ap h (get_or_from_slice_get xs k x x at) in
+    omega arith
+
+pub times_within : (f : Function) → AreFew f → (p : Place) → IsPlaceIn f p → (r : Register) → times r (operands_at f p) ≤ times_in_function r f
+times_within f few p (block, at, inside) r =
+    let whole = one_of_all (times_in r) f.blocks p.block block at in
+    let less = few p.block block at in
+    elim inside [
+      | inl within ↦ elim (slice_get_cases block.insts p.number).1 [
+        | inl (inst, in_list, here, is) ↦
+            let read = ap (times r) (operands_at_inst f p block inst at here (omega arith)) in
+            let part = one_of_all (λ (i : Inst). times r (operands_of i.op)) block.insts p.number inst here in
+            omega arith
+        | inr (past, absent) ↦ absurd (omega arith)
+      ]
+      | inr end ↦
+          let read = ap (times r) (operands_at_terminator f p block at end) in
+          omega arith
+    ]
+
+-- so a table that is exact has counted it
+pub times_counted : (f : Function) (facts : FunctionFacts) → AreFactsOf f facts → AreFew f → (p : Place) → IsPlaceIn f p → (r : Register) → times r (operands_at f p) ≤ count_of facts.uses r
+times_counted f facts are few p inside r =
+    let all = counts_are_times f facts.uses are.uses r in
+    let part = times_within f few p inside r in
+    omega arith

@@ -20,7 +20,7 @@ use Rattle.ir_core.specs.declared.operand.Register.TheVariants as registers
 use Rattle.needed.specs.Operands.{operands_of}
 use Rattle.use_counts.specs.Tables.{HasNumber, count_of}
 use Rattle.use_counts.specs.declared.uses.Uses.{Uses}
-use Rattle.draft.specs.Changes.{put_in}
+use Rattle.draft.specs.Changes.{inst_put, put_in}
 use Rattle.draft.specs.Counts.{AreCounted, HasNumbers, operands_at, times, times_in, times_in_function}
 use Rattle.draft.specs.Orders.{none}
 use Rattle.draft.specs.Readers.{AreListed, AreReadersOf, HasList, HaveLists, IsPlaceIn, arena_place, listed_for}
@@ -43,7 +43,7 @@ slice_get_last (x ∷ xs) y = slice_get_last xs y
 
 module _ (f : Function) (few : AreFew f) (b : ℕ) (block : Block) (at : IsBlock f b block) (inst : Inst) (room : length block.insts + 1 < none) where
   abbrev more : Block → Block
-  more x = record { name = x.name; insts = x.insts ++ inst ∷ []; end = x.end }
+  more = inst_put inst
 
   abbrev new : Function
   new = put_in f b inst

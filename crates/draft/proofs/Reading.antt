@@ -1,8 +1,8 @@
 -- What is read at places of an arena.
-use Rattle.std.proofs.Common.{◌≡◌, ◌⊎◌, inl, inr, ℕ, suc, ◌+◌, ◌<◌, eqb, cond, true, false, List, [], length, Option, None, Some, map, refl, sym, ap, subst, ◌∙◌, arith}
-use Rattle.std.specs.Prelude.{Contains, slice_get, option_map}
+use Rattle.std.proofs.Common.{◌≡◌, ◌⊎◌, inl, inr, ℕ, suc, ◌+◌, ◌<◌, eqb, cond, List, [], length, get_or, Option, None, Some, map, refl, sym, ap, subst, ◌∙◌, arith}
+use Rattle.std.specs.Prelude.{Contains, slice_get, option_map, unwrap_or}
 use Rattle.std.proofs.lemmas.Bool.{cases_eq, cond-true, cond-false, eq-eqb, ne_eqb}
-use Rattle.std.proofs.lemmas.Option.{same_Some, slice_get-map, slice_get_cases, slice_get_past, slice_get_within}
+use Rattle.std.proofs.lemmas.Option.{slice_get-map, slice_get_cases, unwrap_or-slice_get}
 use Rattle.ir_core.specs.Blocks.{IsBlock}
 use Rattle.ir_core.specs.Reads.{Read, IsRead, end_of, reads_at, reads_at_end, reads_by, reads_in}
 use Rattle.ir_core.specs.declared.function.Block.{Block}
@@ -76,3 +76,11 @@ read_in_inst f b k i r block at_b at = elim (slice_get_cases block.insts k).1 [
         absurd (nothing_read i r (ap (λ (l : List Read). slice_get l i) (sym empty) ∙ at))
   ]
 ]
+
+-- where nothing is read as this operand
+pub no_operand : (f : Function) (p : Place) (k i : ℕ) → k ≡ arena_place f p → None ≡ slice_get (reads_at f p.block k) i → operands.Poison ≡ get_or (operands_at f p) i operands.Poison
+no_operand f p k i place absent =
+    let here : None ≡ slice_get (reads_at f p.block (arena_place f p)) i = absent ∙ ap (λ (n : ℕ). slice_get (reads_at f p.block n) i) place in
+    let none_there : slice_get (operands_at f p) i ≡ None =
+    slice_get-map (λ (r : Read). r.operand) (reads_at f p.block (arena_place f p)) i ∙ ap (option_map (λ (r : Read). r.operand)) (sym here) in
+    sym (ap (λ (o : Option Operand). unwrap_or o operands.Poison) none_there) ∙ unwrap_or-slice_get (operands_at f p) i operands.Poison

@@ -14,7 +14,7 @@ use Rattle.ir_core.specs.declared.terminator.Terminator.{Terminator}
 use Rattle.needed.specs.Operands.{operands_of, operands_at_end}
 use Rattle.needed.proofs.Counting.{contained_at, mapped}
 use Rattle.substitution.specs.Substitution.{substituted_block, substituted_end, substituted_inst, substituted_op, substituted_operand}
-use Rattle.draft.specs.Changes.{changed_at, instead, replaced, replaced_at, same_register, with_end, with_insts}
+use Rattle.draft.specs.Changes.{end_changed, inst_changed, instead, replaced, replaced_at, same_register, with_block}
 use Rattle.draft.specs.Counts.{operands_at}
 use Rattle.draft.specs.Orders.{none}
 use Rattle.draft.specs.Readers.{IsPlaceIn}
@@ -115,10 +115,10 @@ module _ (from : Register) (to : Operand) where
       end_stays (substituted_end (instead from to) end) (stay_twice (operands_at_end (substituted_end (instead from to) end)) (operands_at_end end) (substituted_end_reads (instead from to) end))
 
   abbrev at_end : Function → ℕ → Function
-  at_end f b = with_end f b (substituted_end (instead from to))
+  at_end f b = with_block f b (end_changed (substituted_end (instead from to)))
 
   abbrev at_inst : Function → ℕ → ℕ → Function
-  at_inst f b n = with_insts f b (changed_at n (substituted_inst (instead from to)))
+  at_inst f b n = with_block f b (inst_changed n (substituted_inst (instead from to)))
 
   pub replaced_at_end : (f : Function) (p : Place) → p.number ≡ none → replaced_at f p from to ≡ at_end f p.block
   replaced_at_end f p is = cond-true (eqb p.number none) (at_end f p.block) (at_inst f p.block p.number) (eq-eqb p.number none is)
@@ -135,12 +135,12 @@ module _ (from : Register) (to : Operand) where
     | inl is ↦
         ap (λ (g : Function). replaced g from to) (replaced_at_end f p is)
         ∙ ap (with_blocks f) (map_changed (substituted_block (instead from to)) p.block
-          (λ (x : Block). record { name = x.name; insts = x.insts; end = substituted_end (instead from to) x.end }) f.blocks
+          (end_changed (substituted_end (instead from to))) f.blocks
           (λ x. ap (λ (t : Terminator). let y : Block = record { name = x.name; insts = map (substituted_inst (instead from to)) x.insts; end = t } in y) (end_twice x.end)))
     | inr other ↦
         ap (λ (g : Function). replaced g from to) (replaced_at_inst f p other)
         ∙ ap (with_blocks f) (map_changed (substituted_block (instead from to)) p.block
-          (λ (x : Block). record { name = x.name; insts = changed_at p.number (substituted_inst (instead from to)) x.insts; end = x.end }) f.blocks
+          (inst_changed p.number (substituted_inst (instead from to))) f.blocks
           (λ x. ap (λ (l : List Inst). let y : Block = record { name = x.name; insts = l; end = substituted_end (instead from to) x.end } in y)
             (map_changed (substituted_inst (instead from to)) p.number (substituted_inst (instead from to)) x.insts inst_twice)))
   ]

@@ -1,9 +1,9 @@
 -- The numbers of a block that stand, and the numbers with one more or one less.
-use Rattle.std.proofs.Common.{◌≡◌, ◌⊎◌, ◌↔◌, inl, inr, ℕ, zero, suc, ◌+◌, ◌<◌, ◌≤◌, Bool, true, false, cond, eqb, List, [], ◌∷◌, ◌++◌, length, get_or, slice_set, Option, None, Some, refl, sym, ap, subst, ◌∙◌, arith, get_or-set_other, get_or-set_same}
+use Rattle.std.proofs.Common.{◌≡◌, ◌⊎◌, ◌↔◌, inl, inr, ℕ, zero, suc, ◌+◌, ◌-◌, ◌<◌, ◌≤◌, Bool, true, false, cond, eqb, List, [], ◌∷◌, ◌++◌, length, get_or, slice_set, take, Option, None, Some, refl, sym, ap, subst, ◌∙◌, arith, get_or-set_other, get_or-set_same}
 use Rattle.std.specs.Prelude.{Contains, slice_get}
 use Rattle.std.proofs.lemmas.Bool.{cases_Bool, cases_eq, cases_lt, cond-false, cond-true, eq-eqb, ne_eqb}
-use Rattle.std.proofs.lemmas.List.{get_or_append_left, get_or_past, get_or_push, length-set}
-use Rattle.std.proofs.lemmas.Option.{same_Some, slice_get_within}
+use Rattle.std.proofs.lemmas.List.{append_assoc, get_or_append_left, get_or_past, get_or_push, length-set, take_all, take_more}
+use Rattle.std.proofs.lemmas.Option.{get_or_from_slice_get, none-some, same_Some, slice_get_cases, slice_get_within}
 use Rattle.needed.proofs.Counting.{contained_at, contains_at, contains_first, contains_later}
 use Rattle.draft.specs.Changes.{changed_at, without}
 use Rattle.draft.specs.Drafts.{standing, standing_in}
@@ -24,32 +24,32 @@ first_or_later x xs y (suc k, within, is) = inr (k, omega arith, is)
 
 -- the numbers that stand among a first one and others, where it does and where it doesn't
 pub first_stands : (stand : List Bool) (n : ℕ) (numbers : List ℕ) → marked stand n ≡ true → standing_in stand (n ∷ numbers) ≡ n ∷ standing_in stand numbers
-first_stands stand n numbers yes = ap (λ (t : Bool). cond t (n ∷ []) [] ++ standing_in stand numbers) yes
+first_stands stand n numbers marked_so = ap (λ (t : Bool). cond t (n ∷ []) [] ++ standing_in stand numbers) marked_so
 
 pub first_gone : (stand : List Bool) (n : ℕ) (numbers : List ℕ) → marked stand n ≡ false → standing_in stand (n ∷ numbers) ≡ standing_in stand numbers
-first_gone stand n numbers no = ap (λ (t : Bool). cond t (n ∷ []) [] ++ standing_in stand numbers) no
+first_gone stand n numbers unmarked = ap (λ (t : Bool). cond t (n ∷ []) [] ++ standing_in stand numbers) unmarked
 
 pub stands_is : (stand : List Bool) (numbers : List ℕ) (n : ℕ) → Contains (standing_in stand numbers) n → Contains numbers n × (marked stand n ≡ true)
 stands_is stand [] n h = absurd (nothing_in n h)
 stands_is stand (m ∷ numbers) n h = elim (cases_Bool (marked stand m)) [
-  | inl yes ↦ elim (first_or_later m (standing_in stand numbers) n (subst (λ (l : List ℕ). Contains l n) (first_stands stand m numbers yes) h)) [
-    | inl same ↦ (subst (λ (k : ℕ). Contains (m ∷ numbers) k) (sym same) (contains_first m numbers), ap (marked stand) same ∙ yes)
+  | inl marked_so ↦ elim (first_or_later m (standing_in stand numbers) n (subst (λ (l : List ℕ). Contains l n) (first_stands stand m numbers marked_so) h)) [
+    | inl same ↦ (subst (λ (k : ℕ). Contains (m ∷ numbers) k) (sym same) (contains_first m numbers), ap (marked stand) same ∙ marked_so)
     | inr later ↦ let (there, is) = stands_is stand numbers n later in (contains_later m numbers n there, is)
   ]
-  | inr no ↦ let (there, is) = stands_is stand numbers n (subst (λ (l : List ℕ). Contains l n) (first_gone stand m numbers no) h) in (contains_later m numbers n there, is)
+  | inr unmarked ↦ let (there, is) = stands_is stand numbers n (subst (λ (l : List ℕ). Contains l n) (first_gone stand m numbers unmarked) h) in (contains_later m numbers n there, is)
 ]
 
 pub is_standing : (stand : List Bool) (numbers : List ℕ) (n : ℕ) → Contains numbers n → marked stand n ≡ true → Contains (standing_in stand numbers) n
-is_standing stand [] n h yes = absurd (nothing_in n h)
-is_standing stand (m ∷ numbers) n h yes = elim (first_or_later m numbers n h) [
+is_standing stand [] n h marked_so = absurd (nothing_in n h)
+is_standing stand (m ∷ numbers) n h marked_so = elim (first_or_later m numbers n h) [
   | inl same ↦
-      let first : marked stand m ≡ true = ap (marked stand) (sym same) ∙ yes in
+      let first : marked stand m ≡ true = ap (marked stand) (sym same) ∙ marked_so in
       subst (λ (l : List ℕ). Contains l n) (sym (first_stands stand m numbers first)) (subst (λ (k : ℕ). Contains (m ∷ standing_in stand numbers) k) (sym same) (contains_first m (standing_in stand numbers)))
   | inr later ↦
-      let rest : Contains (standing_in stand numbers) n = is_standing stand numbers n later yes in
+      let rest : Contains (standing_in stand numbers) n = is_standing stand numbers n later marked_so in
       elim (cases_Bool (marked stand m)) [
         | inl first ↦ subst (λ (l : List ℕ). Contains l n) (sym (first_stands stand m numbers first)) (contains_later m (standing_in stand numbers) n rest)
-        | inr no ↦ subst (λ (l : List ℕ). Contains l n) (sym (first_gone stand m numbers no)) rest
+        | inr unmarked ↦ subst (λ (l : List ℕ). Contains l n) (sym (first_gone stand m numbers unmarked)) rest
       ]
 ]
 
@@ -95,13 +95,13 @@ same_order stand (x ∷ numbers) n m yes_n yes_m =
                 let m_here = place_later x m numbers not_m in
                 let (there, back) = same_order stand numbers n m yes_n yes_m in
                 elim (cases_Bool (marked stand x)) [
-                  | inl yes ↦
-                      let here = first_stands stand x numbers yes in
+                  | inl marked_so ↦
+                      let here = first_stands stand x numbers marked_so in
                       let n_there : place_in all n ≡ suc (place_in rest n) = ap (λ (l : List ℕ). place_in l n) here ∙ place_later x n rest not_n in
                       let m_there : place_in all m ≡ suc (place_in rest m) = ap (λ (l : List ℕ). place_in l m) here ∙ place_later x m rest not_m in
                       (λ h. let less = there (omega arith) in omega arith, λ h. let less = back (omega arith) in omega arith)
-                  | inr no ↦
-                      let here = first_gone stand x numbers no in
+                  | inr unmarked ↦
+                      let here = first_gone stand x numbers unmarked in
                       let n_there : place_in all n ≡ place_in rest n = ap (λ (l : List ℕ). place_in l n) here in
                       let m_there : place_in all m ≡ place_in rest m = ap (λ (l : List ℕ). place_in l m) here in
                       (λ h. let less = there (omega arith) in omega arith, λ h. let less = back (omega arith) in omega arith)
@@ -138,31 +138,31 @@ module _ (stand : List Bool) where
 
   pub put_standing : (numbers : List ℕ) (at n : ℕ) → n ≡ length stand → AreBelow (length stand) numbers → marked stand at ≡ true
       → standing_in one_more (put_before numbers at n) ≡ put_before (standing_in stand numbers) at n
-  put_standing [] at n is below yes = refl
-  put_standing (m ∷ numbers) at n is below yes =
+  put_standing [] at n is below marked_so = refl
+  put_standing (m ∷ numbers) at n is below marked_so =
       let rest = standing_in stand numbers in
       let same_mark = still_marked m (below 0 m refl) in
       elim (cases_eq m at) [
         | inl same ↦
-            let first : marked stand m ≡ true = ap (marked stand) same ∙ yes in
+            let first : marked stand m ≡ true = ap (marked stand) same ∙ marked_so in
             let new : marked one_more n ≡ true = get_or_push stand true false n (sym is) in
             ap (standing_in one_more) (put_first m at n numbers same)
             ∙ first_stands one_more n (m ∷ numbers) new
             ∙ ap (λ (l : List ℕ). n ∷ l) (first_stands one_more m numbers (same_mark ∙ first) ∙ ap (λ (l : List ℕ). m ∷ l) (still_standing numbers (below_rest (length stand) m numbers below)))
             ∙ sym (ap (λ (l : List ℕ). put_before l at n) (first_stands stand m numbers first) ∙ put_first m at n rest same)
         | inr apart ↦
-            let later = put_standing numbers at n is (below_rest (length stand) m numbers below) yes in
+            let later = put_standing numbers at n is (below_rest (length stand) m numbers below) marked_so in
             elim (cases_Bool (marked stand m)) [
               | inl first ↦
                   ap (standing_in one_more) (put_later m at n numbers apart)
                   ∙ first_stands one_more m (put_before numbers at n) (same_mark ∙ first)
                   ∙ ap (λ (l : List ℕ). m ∷ l) later
                   ∙ sym (ap (λ (l : List ℕ). put_before l at n) (first_stands stand m numbers first) ∙ put_later m at n rest apart)
-              | inr no ↦
+              | inr unmarked ↦
                   ap (standing_in one_more) (put_later m at n numbers apart)
-                  ∙ first_gone one_more m (put_before numbers at n) (same_mark ∙ no)
+                  ∙ first_gone one_more m (put_before numbers at n) (same_mark ∙ unmarked)
                   ∙ later
-                  ∙ sym (ap (λ (l : List ℕ). put_before l at n) (first_gone stand m numbers no))
+                  ∙ sym (ap (λ (l : List ℕ). put_before l at n) (first_gone stand m numbers unmarked))
             ]
       ]
 
@@ -292,13 +292,13 @@ module _ (stand : List Bool) (n : ℕ) where
         | inl same ↦
             let now = first_gone one_less m numbers (ap (marked one_less) same ∙ not_marked) in
             elim (cases_Bool (marked stand m)) [
-              | inl yes ↦ now ∙ later ∙ sym (ap (without n) (first_stands stand m numbers yes) ∙ without_first m rest same)
-              | inr no ↦ now ∙ later ∙ sym (ap (without n) (first_gone stand m numbers no))
+              | inl marked_so ↦ now ∙ later ∙ sym (ap (without n) (first_stands stand m numbers marked_so) ∙ without_first m rest same)
+              | inr unmarked ↦ now ∙ later ∙ sym (ap (without n) (first_gone stand m numbers unmarked))
             ]
         | inr apart ↦ elim (cases_Bool (marked stand m)) [
-          | inl yes ↦ first_stands one_less m numbers (marked_other m apart ∙ yes) ∙ ap (λ (l : List ℕ). m ∷ l) later
-              ∙ sym (ap (without n) (first_stands stand m numbers yes) ∙ without_later m rest apart)
-          | inr no ↦ first_gone one_less m numbers (marked_other m apart ∙ no) ∙ later ∙ sym (ap (without n) (first_gone stand m numbers no))
+          | inl marked_so ↦ first_stands one_less m numbers (marked_other m apart ∙ marked_so) ∙ ap (λ (l : List ℕ). m ∷ l) later
+              ∙ sym (ap (without n) (first_stands stand m numbers marked_so) ∙ without_later m rest apart)
+          | inr unmarked ↦ first_gone one_less m numbers (marked_other m apart ∙ unmarked) ∙ later ∙ sym (ap (without n) (first_gone stand m numbers unmarked))
         ]
       ]
 
@@ -338,3 +338,67 @@ standing_marked (r ∷ stand) (o ∷ orders) zero row row' order change at there
     ap (λ (l : List ℕ). l ∷ standing stand orders) (ap (λ (x : List ℕ). standing_in row' x) same_order ∙ is ∙ ap (λ (x : List Bool). change (standing_in x order)) (sym same_row) ∙ ap (λ (x : List ℕ). change (standing_in r x)) (sym same_order))
 standing_marked (r ∷ stand) (o ∷ orders) (suc b) row row' order change at there is =
     ap (λ (l : List (List ℕ)). standing_in r o ∷ l) (standing_marked stand orders b row row' order change at there is)
+
+-- ---- a walk along an order
+
+pub standing_append : (stand : List Bool) (xs ys : List ℕ) → standing_in stand (xs ++ ys) ≡ standing_in stand xs ++ standing_in stand ys
+standing_append stand [] ys = refl
+standing_append stand (x ∷ xs) ys =
+    ap (λ (l : List ℕ). cond (marked stand x) (x ∷ []) [] ++ l) (standing_append stand xs ys)
+    ∙ sym (append_assoc (cond (marked stand x) (x ∷ []) []) (standing_in stand xs) (standing_in stand ys))
+
+-- the numbers before the k-th were looked at, and this one comes next
+pub record Walked (stand : List Bool) (order : List ℕ) (at : Option ℕ) (numbers : List ℕ) : Type 0 where
+  pub count : ℕ
+  pub next : at ≡ slice_get order count
+  pub done : numbers ≡ standing_in stand (take count order)
+
+pub walked_none : (stand : List Bool) (order : List ℕ) (at : Option ℕ) → at ≡ slice_get order 0 → Walked stand order at []
+walked_none stand order at is = record { count = 0; next = is; done = refl }
+
+-- how many are left
+abbrev pub left : List ℕ → Option ℕ → ℕ
+left order None = 0
+left order (Some n) = length order - place_in order n
+
+module _ (stand : List Bool) (order : List ℕ) (count n : ℕ) (numbers : List ℕ) (ordering : IsOrdering count order) (walked : Walked stand order (Some n) numbers) where
+  here : slice_get order walked.count ≡ Some n
+  here = sym walked.next
+
+  within : walked.count < length order
+  within = slice_get_within order walked.count n here
+
+  pub walked_contains : Contains order n
+  walked_contains = contains_at order n walked.count here
+
+  pub walked_below : n < count
+  walked_below = ordering.below walked.count n here
+
+  place_is : place_in order n ≡ walked.count
+  place_is = ordering.once walked.count n here
+
+  pub walked_next : (next : Option ℕ) (more : List ℕ) → next ≡ slice_get order (suc (place_in order n)) → more ≡ numbers ++ standing_in stand (n ∷ []) → Walked stand order next more
+  walked_next next more is grown =
+      let at : get_or order walked.count n ≡ n = get_or_from_slice_get order walked.count n n here in
+      let taken : take (walked.count + 1) order ≡ take walked.count order ++ n ∷ [] = take_more order walked.count n within ∙ ap (λ (m : ℕ). take walked.count order ++ m ∷ []) at in
+      let one : suc (place_in order n) ≡ walked.count + 1 = let e = place_is in omega arith in
+      record {
+        count = walked.count + 1;
+        next = is ∙ ap (slice_get order) one;
+        done = grown ∙ ap (λ (l : List ℕ). l ++ standing_in stand (n ∷ [])) walked.done ∙ sym (standing_append stand (take walked.count order) (n ∷ [])) ∙ ap (standing_in stand) (sym taken);
+      }
+
+  pub walked_less : (next : Option ℕ) → next ≡ slice_get order (suc (place_in order n)) → left order next < left order (Some n)
+  walked_less None is = let e = place_is in let inside = within in omega arith
+  walked_less (Some m) is =
+      let e = place_is in
+      let later : slice_get order (suc (place_in order n)) ≡ Some m = sym is in
+      let m_place : place_in order m ≡ suc (place_in order n) = ordering.once (suc (place_in order n)) m later in
+      let m_within = slice_get_within order (suc (place_in order n)) m later in
+      omega arith
+
+pub walked_end : (stand : List Bool) (order numbers : List ℕ) → Walked stand order None numbers → numbers ≡ standing_in stand order
+walked_end stand order numbers walked = walked.done ∙ ap (standing_in stand) (take_all walked.count order (elim (slice_get_cases order walked.count).1 [
+  | inl (n, inside, at, is) ↦ absurd (none-some n (walked.next ∙ at))
+  | inr (past, absent) ↦ past
+]))

@@ -30,8 +30,8 @@ use Rattle.draft.proofs.Substituted.{Agree, end_agrees, inst_agrees}
 standing_distinct : (stand : List Bool) (numbers : List ℕ) → Distinct numbers → Distinct (standing_in stand numbers)
 standing_distinct stand [] distinct = tt
 standing_distinct stand (n ∷ numbers) distinct = elim (cases_Bool (marked stand n)) [
-  | inl yes ↦ subst Distinct (sym (first_stands stand n numbers yes)) (λ there. distinct.0 (stands_is stand numbers n there).0, standing_distinct stand numbers distinct.1)
-  | inr no ↦ subst Distinct (sym (first_gone stand n numbers no)) (standing_distinct stand numbers distinct.1)
+  | inl marked_so ↦ subst Distinct (sym (first_stands stand n numbers marked_so)) (λ there. distinct.0 (stands_is stand numbers n there).0, standing_distinct stand numbers distinct.1)
+  | inr unmarked ↦ subst Distinct (sym (first_gone stand n numbers unmarked)) (standing_distinct stand numbers distinct.1)
 ]
 
 pub standing_ordering : (stand : List Bool) (numbers : List ℕ) (count : ℕ) → IsOrdering count numbers → IsOrdering count (standing_in stand numbers)

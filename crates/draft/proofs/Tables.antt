@@ -9,7 +9,7 @@ use Rattle.ir_core.specs.declared.operand.Register.TheVariants as registers
 use Rattle.use_counts.specs.Tables.{HasNumber, count_of}
 use Rattle.use_counts.specs.declared.uses.Uses.{Uses}
 use Rattle.draft.specs.Counts.{IsSetTo}
-use Rattle.draft.specs.Readers.{HasList, IsListed, IsListedAmong, listed_for}
+use Rattle.draft.specs.Readers.{HasList, IsListSetTo, IsListed, IsListedAmong, listed_for}
 use Rattle.draft.specs.declared.draft.Place.{Place}
 use Rattle.draft.specs.declared.uses.Readers.{Readers}
 
@@ -116,12 +116,6 @@ list_there : (readers : Readers) (r : Register) → HasList readers r ↔ Has {A
 list_there readers (registers.Parameter p) = (λ h. h, λ h. h)
 list_there readers (registers.Result b n) = (λ h. h, λ h. h)
 
--- the list for one register is another, and all others stay
-pub record IsListSetTo (register : Register) (places : List Place) (old new : Readers) : Type 0 where
-  pub there : (r : Register) → HasList old r ↔ HasList new r
-  pub is : listed_for new register ≡ places
-  pub others : (r : Register) → ¬ (r ≡ register) → listed_for new r ≡ listed_for old r
-
 pub list_set_to : (register : Register) (places : List Place) (old new : Readers) → Writes {A = List Place} [] register places old.parameters old.results.items new.parameters new.results.items → IsListSetTo register places old new
 list_set_to register places old new writes = record {
   there = λ r. (
@@ -138,3 +132,31 @@ listed_in register place places old new among set = record {
   is = subst (λ (l : List Place). IsListedAmong place (listed_for old register) l) (sym set.is) among;
   others = set.others;
 }
+
+-- ---- by the rows that are written
+
+module _ (n : ℕ) (old new : Uses) where
+  pub parameter_set : (k : ℕ) → HasNumber old (registers.Parameter k) → new.parameters ≡ slice_set old.parameters k n → new.results.items ≡ old.results.items → IsSetTo (registers.Parameter k) n old new
+  parameter_set k has parameters results = set_to (registers.Parameter k) n old new
+      (subst (λ (l : List (List ℕ)). Writes 0 (registers.Parameter k) n old.parameters old.results.items new.parameters l) (sym results)
+      (subst (λ (l : List ℕ). Writes 0 (registers.Parameter k) n old.parameters old.results.items l old.results.items) (sym parameters)
+      (writes_parameter 0 k n old.parameters old.results.items has)))
+
+  pub result_set : (b k : ℕ) → HasNumber old (registers.Result b k) → new.results.items ≡ slice_set old.results.items b (slice_set (get_or old.results.items b []) k n) → new.parameters ≡ old.parameters → IsSetTo (registers.Result b k) n old new
+  result_set b k has results parameters = set_to (registers.Result b k) n old new
+      (subst (λ (l : List ℕ). Writes 0 (registers.Result b k) n old.parameters old.results.items l new.results.items) (sym parameters)
+      (subst (λ (l : List (List ℕ)). Writes 0 (registers.Result b k) n old.parameters old.results.items old.parameters l) (sym results)
+      (writes_result 0 b k n old.parameters old.results.items has)))
+
+module _ (places : List Place) (old new : Readers) where
+  pub parameter_list_set : (k : ℕ) → HasList old (registers.Parameter k) → new.parameters ≡ slice_set old.parameters k places → new.results.items ≡ old.results.items → IsListSetTo (registers.Parameter k) places old new
+  parameter_list_set k has parameters results = list_set_to (registers.Parameter k) places old new
+      (subst (λ (l : List (List (List Place))). Writes {A = List Place} [] (registers.Parameter k) places old.parameters old.results.items new.parameters l) (sym results)
+      (subst (λ (l : List (List Place)). Writes {A = List Place} [] (registers.Parameter k) places old.parameters old.results.items l old.results.items) (sym parameters)
+      (writes_parameter {A = List Place} [] k places old.parameters old.results.items has)))
+
+  pub result_list_set : (b k : ℕ) → HasList old (registers.Result b k) → new.results.items ≡ slice_set old.results.items b (slice_set (get_or old.results.items b []) k places) → new.parameters ≡ old.parameters → IsListSetTo (registers.Result b k) places old new
+  result_list_set b k has results parameters = list_set_to (registers.Result b k) places old new
+      (subst (λ (l : List (List Place)). Writes {A = List Place} [] (registers.Result b k) places old.parameters old.results.items l new.results.items) (sym parameters)
+      (subst (λ (l : List (List (List Place))). Writes {A = List Place} [] (registers.Result b k) places old.parameters old.results.items old.parameters l) (sym results)
+      (writes_result {A = List Place} [] b k places old.parameters old.results.items has)))

@@ -12,7 +12,7 @@ use Rattle.ir_core.specs.declared.function.Block.{Block}
 use Rattle.ir_core.specs.declared.function.Function.{Function}
 use Rattle.ir_core.specs.declared.instruction.Inst.{Inst}
 use Rattle.ir_core.specs.declared.operand.Operand.{Operand}
-use Rattle.ir_core.specs.declared.operand.Operand.TheVariants as operands
+use Rattle.ir_core.specs.declared.operand.Operand.TheVariants reads operands
 use Rattle.ir_core.specs.declared.operand.Register.{Register}
 use Rattle.needed.specs.Operands.{operands_of, operands_at_end}
 use Rattle.needed.proofs.Counting.{contained_at, contains_at, contains_first, contains_later}
@@ -28,6 +28,9 @@ use Rattle.draft.proofs.Naming.{names_is, names_self}
 use Rattle.draft.proofs.Reading.{read_at_written, read_in_block, read_in_inst, written}
 
 -- ---- places in order
+
+abbrev use_at : ℕ → ℕ → ℕ → UsePlace
+use_at b k i = (b, k, i)
 
 abbrev InOrder : List UsePlace → Type 0
 InOrder [] = Unit {0}
@@ -59,76 +62,76 @@ module _ (r : Register) where
 
   named_from : ℕ → ℕ → ℕ → List Operand → List UsePlace
   named_from b k i [] = []
-  named_from b k i (a ∷ as) = cond (names r a) ((b, k, i) ∷ named_from b k (suc i) as) (named_from b k (suc i) as)
+  named_from b k i (a ∷ reads) = cond (names r a) ((b, k, i) ∷ named_from b k (suc i) reads) (named_from b k (suc i) reads)
 
   -- operand j of them names the register
   abbrev IsNamed : ℕ → ℕ → ℕ → List Operand → UsePlace → Type 0
-  IsNamed b k i as z = (j : ℕ) × (z ≡ (b, k, i + j)) × (slice_get as j ≡ Some (operands.Register r))
+  IsNamed b k i reads z = (j : ℕ) × (z ≡ (b, k, i + j)) × (slice_get reads j ≡ Some (operands.Register r))
 
-  named_later : (b k i : ℕ) (a : Operand) (as : List Operand) (z : UsePlace) → IsNamed b k (suc i) as z → IsNamed b k i (a ∷ as) z
-  named_later b k i a as z (j, is, at) = (suc j, is ∙ ap (λ (n : ℕ). (b, k, n)) (let e : suc i + j ≡ i + suc j = omega arith in e), at)
+  named_later : (b k i : ℕ) (a : Operand) (reads : List Operand) (z : UsePlace) → IsNamed b k (suc i) reads z → IsNamed b k i (a ∷ reads) z
+  named_later b k i a reads z (j, is, at) = (suc j, is ∙ ap (λ (n : ℕ). use_at b k n) (let e : suc i + j ≡ i + suc j = omega arith in e), at)
 
-  named_first : (b k i : ℕ) (a : Operand) (as : List Operand) (z : UsePlace) → names r a ≡ true → z ≡ (b, k, i) → IsNamed b k i (a ∷ as) z
-  named_first b k i a as z named is =
-      (0, is ∙ ap (λ (n : ℕ). (b, k, n)) (let e : i ≡ i + 0 = omega arith in e), ap (λ (x : Operand). Some x) (names_is r a named))
+  named_first : (b k i : ℕ) (a : Operand) (reads : List Operand) (z : UsePlace) → names r a ≡ true → z ≡ (b, k, i) → IsNamed b k i (a ∷ reads) z
+  named_first b k i a reads z named is =
+      (0, is ∙ ap (λ (n : ℕ). use_at b k n) (let e : i ≡ i + 0 = omega arith in e), ap (λ (x : Operand). Some x) (names_is r a named))
 
-  is_named : (b k i : ℕ) (as : List Operand) (z : UsePlace) → Contains (named_from b k i as) z → IsNamed b k i as z
+  is_named : (b k i : ℕ) (reads : List Operand) (z : UsePlace) → Contains (named_from b k i reads) z → IsNamed b k i reads z
   unfolding named_from
   is_named b k i [] z h = absurd (nothing_in z h)
-  is_named b k i (a ∷ as) z h = elim (cases_Bool (names r a)) [
+  is_named b k i (a ∷ reads) z h = elim (cases_Bool (names r a)) [
     | inl named ↦
-        let here : Contains ((b, k, i) ∷ named_from b k (suc i) as) z = subst (λ (t : Bool). Contains (cond t ((b, k, i) ∷ named_from b k (suc i) as) (named_from b k (suc i) as)) z) named h in
-        elim (first_or_later (b, k, i) (named_from b k (suc i) as) z here) [
-          | inl is ↦ named_first b k i a as z named is
-          | inr later ↦ named_later b k i a as z (is_named b k (suc i) as z later)
+        let here : Contains ((b, k, i) ∷ named_from b k (suc i) reads) z = subst (λ (t : Bool). Contains (cond t ((b, k, i) ∷ named_from b k (suc i) reads) (named_from b k (suc i) reads)) z) named h in
+        elim (first_or_later (b, k, i) (named_from b k (suc i) reads) z here) [
+          | inl is ↦ named_first b k i a reads z named is
+          | inr later ↦ named_later b k i a reads z (is_named b k (suc i) reads z later)
         ]
     | inr other ↦
-        let later : Contains (named_from b k (suc i) as) z = subst (λ (t : Bool). Contains (cond t ((b, k, i) ∷ named_from b k (suc i) as) (named_from b k (suc i) as)) z) other h in
-        named_later b k i a as z (is_named b k (suc i) as z later)
+        let later : Contains (named_from b k (suc i) reads) z = subst (λ (t : Bool). Contains (cond t ((b, k, i) ∷ named_from b k (suc i) reads) (named_from b k (suc i) reads)) z) other h in
+        named_later b k i a reads z (is_named b k (suc i) reads z later)
   ]
 
-  named_is_listed : (b k i : ℕ) (as : List Operand) (j : ℕ) → slice_get as j ≡ Some (operands.Register r) → Contains (named_from b k i as) (b, k, i + j)
+  named_is_listed : (b k i : ℕ) (reads : List Operand) (j : ℕ) → slice_get reads j ≡ Some (operands.Register r) → Contains (named_from b k i reads) (b, k, i + j)
   unfolding named_from
   named_is_listed b k i [] j at = absurd cc
-  named_is_listed b k i (a ∷ as) zero at =
+  named_is_listed b k i (a ∷ reads) zero at =
       let named : names r a ≡ true = names_self r a (same_Some a (operands.Register r) at) in
       let e : i ≡ i + 0 = omega arith in
-      subst (λ (t : Bool). Contains (cond t ((b, k, i) ∷ named_from b k (suc i) as) (named_from b k (suc i) as)) (b, k, i + 0)) (sym named)
-      (subst (λ (n : ℕ). Contains ((b, k, i) ∷ named_from b k (suc i) as) (b, k, n)) e (contains_first (b, k, i) (named_from b k (suc i) as)))
-  named_is_listed b k i (a ∷ as) (suc j) at =
+      subst (λ (t : Bool). Contains (cond t ((b, k, i) ∷ named_from b k (suc i) reads) (named_from b k (suc i) reads)) (b, k, i + 0)) (sym named)
+      (subst (λ (n : ℕ). Contains ((b, k, i) ∷ named_from b k (suc i) reads) (b, k, n)) e (contains_first (b, k, i) (named_from b k (suc i) reads)))
+  named_is_listed b k i (a ∷ reads) (suc j) at =
       let e : suc i + j ≡ i + suc j = omega arith in
-      let later : Contains (named_from b k (suc i) as) (b, k, i + suc j) = subst (λ (n : ℕ). Contains (named_from b k (suc i) as) (b, k, n)) e (named_is_listed b k (suc i) as j at) in
+      let later : Contains (named_from b k (suc i) reads) (b, k, i + suc j) = subst (λ (n : ℕ). Contains (named_from b k (suc i) reads) (b, k, n)) e (named_is_listed b k (suc i) reads j at) in
       elim (cases_Bool (names r a)) [
-        | inl named ↦ subst (λ (t : Bool). Contains (cond t ((b, k, i) ∷ named_from b k (suc i) as) (named_from b k (suc i) as)) (b, k, i + suc j)) (sym named)
-            (contains_later (b, k, i) (named_from b k (suc i) as) (b, k, i + suc j) later)
-        | inr other ↦ subst (λ (t : Bool). Contains (cond t ((b, k, i) ∷ named_from b k (suc i) as) (named_from b k (suc i) as)) (b, k, i + suc j)) (sym other) later
+        | inl named ↦ subst (λ (t : Bool). Contains (cond t ((b, k, i) ∷ named_from b k (suc i) reads) (named_from b k (suc i) reads)) (b, k, i + suc j)) (sym named)
+            (contains_later (b, k, i) (named_from b k (suc i) reads) (b, k, i + suc j) later)
+        | inr other ↦ subst (λ (t : Bool). Contains (cond t ((b, k, i) ∷ named_from b k (suc i) reads) (named_from b k (suc i) reads)) (b, k, i + suc j)) (sym other) later
       ]
 
-  named_in_order : (b k i : ℕ) (as : List Operand) → InOrder (named_from b k i as)
+  named_in_order : (b k i : ℕ) (reads : List Operand) → InOrder (named_from b k i reads)
   unfolding named_from
   named_in_order b k i [] = tt
-  named_in_order b k i (a ∷ as) =
-      let rest : InOrder (named_from b k (suc i) as) = named_in_order b k (suc i) as in
-      let first : (y : UsePlace) → Contains (named_from b k (suc i) as) y → StandsBefore (b, k, i) y =
-      λ y h. let (j, is, at) = is_named b k (suc i) as y h in subst (λ (z : UsePlace). StandsBefore (b, k, i) z) (sym is) (inr (refl, inr (refl, omega arith))) in
+  named_in_order b k i (a ∷ reads) =
+      let rest : InOrder (named_from b k (suc i) reads) = named_in_order b k (suc i) reads in
+      let first : (y : UsePlace) → Contains (named_from b k (suc i) reads) y → StandsBefore (b, k, i) y =
+      λ y h. let (j, is, at) = is_named b k (suc i) reads y h in subst (λ (z : UsePlace). StandsBefore (b, k, i) z) (sym is) (inr (refl, inr (refl, omega arith))) in
       elim (cases_Bool (names r a)) [
-        | inl named ↦ subst (λ (t : Bool). InOrder (cond t ((b, k, i) ∷ named_from b k (suc i) as) (named_from b k (suc i) as))) (sym named) (first, rest)
-        | inr other ↦ subst (λ (t : Bool). InOrder (cond t ((b, k, i) ∷ named_from b k (suc i) as) (named_from b k (suc i) as))) (sym other) rest
+        | inl named ↦ subst (λ (t : Bool). InOrder (cond t ((b, k, i) ∷ named_from b k (suc i) reads) (named_from b k (suc i) reads))) (sym named) (first, rest)
+        | inr other ↦ subst (λ (t : Bool). InOrder (cond t ((b, k, i) ∷ named_from b k (suc i) reads) (named_from b k (suc i) reads))) (sym other) rest
       ]
 
-  named_count : (b k i : ℕ) (as : List Operand) → length (named_from b k i as) ≡ times r as
+  named_count : (b k i : ℕ) (reads : List Operand) → length (named_from b k i reads) ≡ times r reads
   unfolding named_from
   named_count b k i [] = refl
-  named_count b k i (a ∷ as) =
-      let rest = named_count b k (suc i) as in
-      let step = sum_by-cons (one_if r) a as in
+  named_count b k i (a ∷ reads) =
+      let rest = named_count b k (suc i) reads in
+      let step = sum_by-cons (one_if r) a reads in
       elim (cases_Bool (names r a)) [
         | inl named ↦
-            let now : length (named_from b k i (a ∷ as)) ≡ suc (length (named_from b k (suc i) as)) = ap (λ (t : Bool). length (cond t ((b, k, i) ∷ named_from b k (suc i) as) (named_from b k (suc i) as))) named in
+            let now : length (named_from b k i (a ∷ reads)) ≡ suc (length (named_from b k (suc i) reads)) = ap (λ (t : Bool). length (cond t ((b, k, i) ∷ named_from b k (suc i) reads) (named_from b k (suc i) reads))) named in
             let one : one_if r a ≡ 1 = ap (λ (t : Bool). cond t 1 0) named in
             omega arith
         | inr other ↦
-            let now : length (named_from b k i (a ∷ as)) ≡ length (named_from b k (suc i) as) = ap (λ (t : Bool). length (cond t ((b, k, i) ∷ named_from b k (suc i) as) (named_from b k (suc i) as))) other in
+            let now : length (named_from b k i (a ∷ reads)) ≡ length (named_from b k (suc i) reads) = ap (λ (t : Bool). length (cond t ((b, k, i) ∷ named_from b k (suc i) reads) (named_from b k (suc i) reads))) other in
             let none : one_if r a ≡ 0 = ap (λ (t : Bool). cond t 1 0) other in
             omega arith
       ]
@@ -155,11 +158,11 @@ module _ (r : Register) where
     | inl first ↦
         let (j, is, at) = is_named b k 0 (operands_of inst.op) z first in
         let e : k ≡ k + 0 = omega arith in
-        record { place = 0; operand = j; inst = inst; is = is ∙ ap (λ (n : ℕ). (b, k, n)) (zero-add j) ∙ ap (λ (n : ℕ). (b, n, j)) e; at = refl; reads = at }
+        record { place = 0; operand = j; inst = inst; is = is ∙ ap (λ (n : ℕ). use_at b k n) (zero-add j) ∙ ap (λ (n : ℕ). use_at b n j) e; at = refl; reads = at }
     | inr later ↦
         let found = in_inst b (suc k) insts z later in
         let e : suc k + found.place ≡ k + suc found.place = omega arith in
-        record { place = suc found.place; operand = found.operand; inst = found.inst; is = found.is ∙ ap (λ (n : ℕ). (b, n, found.operand)) e; at = found.at; reads = found.reads }
+        record { place = suc found.place; operand = found.operand; inst = found.inst; is = found.is ∙ ap (λ (n : ℕ). use_at b n found.operand) e; at = found.at; reads = found.reads }
   ]
 
   inst_is_listed : (b k : ℕ) (insts : List Inst) (m j : ℕ) (inst : Inst) → slice_get insts m ≡ Some inst → slice_get (operands_of inst.op) j ≡ Some (operands.Register r) → Contains (insts_from b k insts) (b, k + m, j)
@@ -210,10 +213,10 @@ module _ (r : Register) where
   in_block b block z h = elim (Contains-append_cases (insts_from b 0 block.insts) (named_from b (length block.insts) 0 (operands_at_end block.end)) z h) [
     | inl first ↦
         let found = in_inst b 0 block.insts z first in
-        by_inst found.place found.operand found.inst (found.is ∙ ap (λ (n : ℕ). (b, n, found.operand)) (zero-add found.place)) found.at found.reads
+        by_inst found.place found.operand found.inst (found.is ∙ ap (λ (n : ℕ). use_at b n found.operand) (zero-add found.place)) found.at found.reads
     | inr last ↦
         let (j, is, at) = is_named b (length block.insts) 0 (operands_at_end block.end) z last in
-        by_end j (is ∙ ap (λ (n : ℕ). (b, length block.insts, n)) (zero-add j)) at
+        by_end j (is ∙ ap (λ (n : ℕ). use_at b (length block.insts) n) (zero-add j)) at
   ]
 
   block_inst_listed : (b : ℕ) (block : Block) (k j : ℕ) (inst : Inst) → slice_get block.insts k ≡ Some inst → slice_get (operands_of inst.op) j ≡ Some (operands.Register r) → Contains (block_uses b block) (b, k, j)
@@ -324,8 +327,8 @@ module _ (r : Register) where
         subst (λ (y : UsePlace). IsNamedAt f r y.0 y.1 y.2) (sym is) found
 
     -- a read that names it, as one of the operands that are written there
-    named_operand : (c k j : ℕ) (as : List Operand) → written f c k ≡ as → IsNamedAt f r c k j → slice_get as j ≡ Some (operands.Register r)
-    named_operand c k j as is (read, at, names) =
+    named_operand : (c k j : ℕ) (reads : List Operand) → written f c k ≡ reads → IsNamedAt f r c k j → slice_get reads j ≡ Some (operands.Register r)
+    named_operand c k j reads is (read, at, names) =
         ap (λ (l : List Operand). slice_get l j) (sym is) ∙ slice_get-map (λ (x : Read). x.operand) (reads_at f c k) j ∙ ap (option_map (λ (x : Read). x.operand)) at ∙ ap (λ (a : Operand). Some a) names
 
     named_in_block : (c k j : ℕ) (block : Block) → IsBlock f c block → IsNamedAt f r c k j → Contains (block_uses c block) (c, k, j)

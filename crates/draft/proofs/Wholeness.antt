@@ -9,7 +9,7 @@ use Rattle.ir_core.specs.declared.function.Block.{Block}
 use Rattle.ir_core.specs.declared.instruction.Inst.{Inst}
 use Rattle.ir_core.specs.declared.instruction.Op.TheVariants.{Freeze}
 use Rattle.ir_core.specs.declared.operand.Operand.TheVariants as operands
-use Rattle.draft.specs.Changes.{changed_at, gone}
+use Rattle.draft.specs.Changes.{changed_at, gone, inst_changed, inst_put}
 use Rattle.draft.specs.Drafts.{Stands, numbers_in, numbers_of}
 use Rattle.draft.specs.Orders.{none}
 use Rattle.draft.specs.Whole.{AreRowsOf, IsWhole}
@@ -59,14 +59,14 @@ module _ (d : Draft) (whole : IsWhole d) where
     stands_marked n stands = stands_is (get_or d.stand.items b []) (get_or d.orders.items b []) n (subst (λ (l : List ℕ). Contains l n) numbers_are stands)
 
     pub marked_stands : (n : ℕ) → n < length block.insts → marked (get_or d.stand.items b []) n ≡ true → Stands d b n
-    marked_stands n within yes = subst (λ (l : List ℕ). Contains l n) (sym numbers_are)
-        (is_standing (get_or d.stand.items b []) (get_or d.orders.items b []) n ((whole.rows b block at).all n within) yes)
+    marked_stands n within marked_so = subst (λ (l : List ℕ). Contains l n) (sym numbers_are)
+        (is_standing (get_or d.stand.items b []) (get_or d.orders.items b []) n ((whole.rows b block at).all n within) marked_so)
 
   -- what stands is an instruction of the arena
   pub stands_there : (b n : ℕ) → Stands d b n → HasInst d.arena b n
   stands_there b n stands = elim (slice_get_cases d.arena.blocks b).1 [
     | inl (block, within, at, is) ↦
-        let (there, yes) = stands_marked b block at n stands in
+        let (there, marked_so) = stands_marked b block at n stands in
         let (k, here) = contained_at (get_or d.orders.items b []) n there in
         (block, at, (whole.rows b block at).ordering.below k n here)
     | inr (past, absent) ↦
@@ -93,43 +93,43 @@ rows_kept block block' order stand rows same gone_reads = record {
 
 -- another instruction in the place of one that stands
 pub rows_exchanged : (block : Block) (order : List ℕ) (stand : List Bool) (n : ℕ) (change : Inst → Inst) → AreRowsOf block order stand → marked stand n ≡ true
-    → AreRowsOf (record { name = block.name; insts = changed_at n change block.insts; end = block.end }) order stand
-rows_exchanged block order stand n change rows yes =
-    rows_kept block (record { name = block.name; insts = changed_at n change block.insts; end = block.end }) order stand rows (changed_length n change block.insts)
-    (λ m inst there no. elim (changed_cases n change block.insts m inst there) [
-      | inl (same, was) ↦ let both : true ≡ false = sym yes ∙ ap (marked stand) (sym same) ∙ no in cc
-      | inr (apart, old) ↦ rows.gone m inst old no
+    → AreRowsOf (inst_changed n change block) order stand
+rows_exchanged block order stand n change rows marked_so =
+    rows_kept block (inst_changed n change block) order stand rows (changed_length n change block.insts)
+    (λ m inst there unmarked. elim (changed_cases n change block.insts m inst there) [
+      | inl (same, was) ↦ let both : true ≡ false = sym marked_so ∙ ap (marked stand) (sym same) ∙ unmarked in cc
+      | inr (apart, old) ↦ rows.gone m inst old unmarked
     ])
 
 -- one that is changed without a read of its own
 pub rows_swapped : (block : Block) (order : List ℕ) (stand : List Bool) (n : ℕ) (change : Inst → Inst) → AreRowsOf block order stand
     → ((inst : Inst) → inst.op ≡ Freeze operands.Poison → (change inst).op ≡ Freeze operands.Poison)
-    → AreRowsOf (record { name = block.name; insts = changed_at n change block.insts; end = block.end }) order stand
+    → AreRowsOf (inst_changed n change block) order stand
 rows_swapped block order stand n change rows none_came =
-    rows_kept block (record { name = block.name; insts = changed_at n change block.insts; end = block.end }) order stand rows (changed_length n change block.insts)
-    (λ m inst there no. elim (changed_cases n change block.insts m inst there) [
-      | inl (same, (was, at, is)) ↦ subst (λ (i : Inst). i.op ≡ Freeze operands.Poison) (sym is) (none_came was (rows.gone m was (ap (slice_get block.insts) same ∙ at) no))
-      | inr (apart, old) ↦ rows.gone m inst old no
+    rows_kept block (inst_changed n change block) order stand rows (changed_length n change block.insts)
+    (λ m inst there unmarked. elim (changed_cases n change block.insts m inst there) [
+      | inl (same, (was, at, is)) ↦ subst (λ (i : Inst). i.op ≡ Freeze operands.Poison) (sym is) (none_came was (rows.gone m was (ap (slice_get block.insts) same ∙ at) unmarked))
+      | inr (apart, old) ↦ rows.gone m inst old unmarked
     ])
 
 -- one that is taken out
 pub rows_less : (block : Block) (order : List ℕ) (stand : List Bool) (n : ℕ) → AreRowsOf block order stand
-    → AreRowsOf (record { name = block.name; insts = changed_at n gone block.insts; end = block.end }) order (slice_set stand n false)
+    → AreRowsOf (inst_changed n gone block) order (slice_set stand n false)
 rows_less block order stand n rows = record {
   few = let few = rows.few in let same = changed_length n gone block.insts in omega arith;
   ordered = rows.ordered ∙ sym (changed_length n gone block.insts);
   marked = length-set stand n false ∙ rows.marked ∙ sym (changed_length n gone block.insts);
   all = λ m within. rows.all m (let same = changed_length n gone block.insts in omega arith);
   ordering = subst (λ (count : ℕ). IsOrdering count order) (sym (changed_length n gone block.insts)) rows.ordering;
-  gone = λ m inst there no. elim (changed_cases n gone block.insts m inst there) [
+  gone = λ m inst there unmarked. elim (changed_cases n gone block.insts m inst there) [
     | inl (same, (was, at, is)) ↦ ap (λ (i : Inst). i.op) is
-    | inr (apart, old) ↦ rows.gone m inst old (sym (marked_other stand n m apart) ∙ no)
+    | inr (apart, old) ↦ rows.gone m inst old (sym (marked_other stand n m apart) ∙ unmarked)
   ];
 }
 
 -- one that is put before another
 pub rows_more : (block : Block) (order : List ℕ) (stand : List Bool) (at : ℕ) (inst : Inst) → AreRowsOf block order stand → Contains order at → length block.insts + 1 < none
-    → AreRowsOf (record { name = block.name; insts = block.insts ++ inst ∷ []; end = block.end }) (put_before order at (length block.insts)) (stand ++ true ∷ [])
+    → AreRowsOf (inst_put inst block) (put_before order at (length block.insts)) (stand ++ true ∷ [])
 rows_more block order stand at inst rows there room =
     let count = length_push block.insts inst in
     let put = put_there order at (length block.insts) there in
@@ -146,10 +146,10 @@ rows_more block order stand at inst rows there room =
         | inr old ↦ put_keeps order at (length block.insts) n (rows.all n (omega arith))
       ];
       ordering = subst (λ (n : ℕ). IsOrdering n (put_before order at (length block.insts))) (let e : suc (length block.insts) ≡ length (block.insts ++ inst ∷ []) = omega arith in e) (put_ordering order at (length block.insts) rows.ordering);
-      gone = λ n i here no. elim (cases_lt n (length block.insts)) [
+      gone = λ n i here unmarked. elim (cases_lt n (length block.insts)) [
         | inl within ↦
             let less : n < length stand = omega arith in
-            rows.gone n i (sym (slice_get_left block.insts (inst ∷ []) n within) ∙ here) (sym (get_or_append_left stand (true ∷ []) false n less) ∙ no)
+            rows.gone n i (sym (slice_get_left block.insts (inst ∷ []) n within) ∙ here) (sym (get_or_append_left stand (true ∷ []) false n less) ∙ unmarked)
         | inr past ↦
             let inside = slice_get_within (block.insts ++ inst ∷ []) n i here in
             let last : marked (stand ++ true ∷ []) n ≡ true = get_or_push stand true false n (omega arith) in

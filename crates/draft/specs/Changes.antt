@@ -19,29 +19,39 @@ changed_at k change [] = []
 changed_at zero change (x ∷ xs) = change x ∷ xs
 changed_at (suc k) change (x ∷ xs) = x ∷ changed_at k change xs
 
--- the function with other instructions in block b
-abbrev pub with_insts : Function → ℕ → (List Inst → List Inst) → Function
-with_insts f b change = record { name = f.name; before = f.before; width = f.width; parameters = f.parameters; after = f.after; blocks = changed_at b (λ (block : Block). record { name = block.name; insts = change block.insts; end = block.end }) f.blocks }
+-- the function with a change of block b
+abbrev pub with_block : Function → ℕ → (Block → Block) → Function
+with_block f b change = record { name = f.name; before = f.before; width = f.width; parameters = f.parameters; after = f.after; blocks = changed_at b change f.blocks }
 
--- the function with another terminator of block b
-abbrev pub with_end : Function → ℕ → (Terminator → Terminator) → Function
-with_end f b change = record { name = f.name; before = f.before; width = f.width; parameters = f.parameters; after = f.after; blocks = changed_at b (λ (block : Block). record { name = block.name; insts = block.insts; end = change block.end }) f.blocks }
+-- a block with one more instruction, which gets the next number; with a change of instruction n; and of its terminator
+abbrev pub inst_put : Inst → Block → Block
+inst_put inst block = record { name = block.name; insts = block.insts ++ inst ∷ []; end = block.end }
 
--- with one more instruction in block b, which gets the next number
+abbrev pub inst_changed : ℕ → (Inst → Inst) → Block → Block
+inst_changed n change block = record { name = block.name; insts = changed_at n change block.insts; end = block.end }
+
+abbrev pub end_changed : (Terminator → Terminator) → Block → Block
+end_changed change block = record { name = block.name; insts = block.insts; end = change block.end }
+
+-- the function with one more instruction in block b
 abbrev pub put_in : Function → ℕ → Inst → Function
-put_in f b inst = with_insts f b (λ insts. insts ++ inst ∷ [])
+put_in f b inst = with_block f b (inst_put inst)
 
--- with another instruction n in block b
+-- with another instruction n there
 abbrev pub exchanged : Function → ℕ → ℕ → Inst → Function
-exchanged f b n inst = with_insts f b (changed_at n (λ old. inst))
+exchanged f b n inst = with_block f b (inst_changed n (λ old. inst))
 
 -- what is left where an instruction was taken out: it reads nothing
 abbrev pub gone : Inst → Inst
 gone inst = record { name = None; width = inst.width; op = Freeze operands.Poison }
 
+-- the instruction without the name of its result
+abbrev pub unnamed : Inst → Inst
+unnamed inst = record { name = None; width = inst.width; op = inst.op }
+
 -- without instruction n of block b
 abbrev pub taken_out : Function → ℕ → ℕ → Function
-taken_out f b n = with_insts f b (changed_at n gone)
+taken_out f b n = with_block f b (inst_changed n gone)
 
 abbrev pub same_register : Register → Register → Bool
 same_register (registers.Parameter p) (registers.Parameter q) = p == q
@@ -59,7 +69,7 @@ replaced f from to = record { name = f.name; before = f.before; width = f.width;
 
 -- with an operand wherever the register is read at one place
 abbrev pub replaced_at : Function → Place → Register → Operand → Function
-replaced_at f p from to = if p.number == none then with_end f p.block (substituted_end (instead from to)) else with_insts f p.block (changed_at p.number (substituted_inst (instead from to)))
+replaced_at f p from to = if p.number == none then with_block f p.block (end_changed (substituted_end (instead from to))) else with_block f p.block (inst_changed p.number (substituted_inst (instead from to)))
 
 -- the numbers of a block without one of them
 abbrev pub without : ℕ → List ℕ → List ℕ

@@ -51,6 +51,12 @@ pub record IsListed (register : Register) (place : Place) (old new : Readers) : 
   pub is : IsListedAmong place (listed_for old register) (listed_for new register)
   pub others : (r : Register) → ¬ (r ≡ register) → listed_for new r ≡ listed_for old r
 
+-- the list for one register is another, and all others stay
+pub record IsListSetTo (register : Register) (places : List Place) (old new : Readers) : Type 0 where
+  pub there : (r : Register) → HasList old r ↔ HasList new r
+  pub is : listed_for new register ≡ places
+  pub others : (r : Register) → ¬ (r ≡ register) → listed_for new r ≡ listed_for old r
+
 -- there is a list for each register that is read
 abbrev pub HaveLists : Readers → List Operand → Type 0
 HaveLists readers reads = (r : Register) → Contains reads (operands.Register r) → HasList readers r

@@ -1,26 +1,29 @@
 //! A function whose instructions have numbers.
 
-ghost use Rattle.std.specs.Prelude.{◌≡◌, ◌+◌, ◌<◌, ◌^◌, ◌++◌, ◌∷◌, [], ◌↔◌, ℕ, length, map, replicate, true, All, Contains, IsTrue, IfOk, OnOk};
+ghost use Rattle.std.specs.Prelude.{◌≡◌, ◌+◌, ◌<◌, ◌^◌, ◌++◌, ◌∷◌, [], ◌↔◌, ℕ, length, map, replicate, true, false, All, Contains, IsTrue, IfOk, OnOk, Some, slice_get, slice_index_or, slice_set};
 ghost use Rattle.std.specs.List.{filter_map, range_with_len};
 ghost use Rattle.ir_core.specs.Blocks.{HasInst, IsBlock};
-ghost use Rattle.ir_core.specs.Checks.{MeetsChecks, IsKnown};
+ghost use Rattle.ir_core.specs.Checks.{MeetsChecks, IsInst, IsKnown};
 ghost use Rattle.ir_core.specs.Reads.{end_of};
-ghost use Rattle.ir_core.specs.declared.function.Block.{Block};
+ghost use Rattle.ir_core.specs.declared.function.Block.{Block as Written};
+ghost use Rattle.ir_core.specs.declared.instruction.Inst.{Inst as There};
 ghost use Rattle.bindings.specs.Facts.{AreFactsOf};
 ghost use Rattle.needed.specs.Operands.{operands_of};
-ghost use Rattle.draft.specs.Changes.{changed_at, put_in, exchanged, taken_out, without};
+ghost use Rattle.draft.specs.Changes.{changed_at, exchanged, gone, inst_changed, inst_put, put_in, taken_out, unnamed, with_block, without};
 ghost use Rattle.draft.specs.Counts.{operands_at, register_of};
 ghost use Rattle.draft.specs.Drafts.{Stands, StandsBefore, function_of, numbers_of};
 ghost use Rattle.draft.specs.Orders.{none};
-ghost use Rattle.draft.specs.Orders as orders;
+ghost use Rattle.draft.specs.Orders as numbers;
 ghost use Rattle.draft.specs.Whole.{IsWhole, IsSettled};
 
 use crate::order::Order;
-use crate::uses::{Readers, count_reads, forget_reads, list_reads, push_reads, rows};
+use crate::uses::{Readers, count_reads, forget_reads, list_reads, push_reads};
 use bindings::FunctionFacts;
-use ir_core::{Function, Inst, Op, Operand, Register};
-use lists::List;
+use ir_core::{Block, Function, Inst, Op, Operand, Register};
+use lists::{List, Text};
 use std::alloc::{AllocError, Global};
+use std::mem;
+use use_counts::Uses;
 
 /// The number of a block's terminator.
 pub(crate) const END: u32 = u32::MAX;
@@ -135,25 +138,25 @@ impl Draft {
     ) -> Result<Place, AllocError>
         requires whole { IsWhole self.old }
         requires at { Stands self.old at.block at.number }
-        requires room { (block : Block) → IsBlock self.old.arena at.block block → length block.insts + 1 < none }
+        requires room { (block : Written) → IsBlock self.old.arena at.block block → length block.insts + 1 < none }
         requires known { All (IsKnown self.old.arena) (operands_of inst.op) }
         ensures whole { OnOk result (IsWhole self.new) }
         ensures arena { OnOk result (self.new.arena ≡ put_in self.old.arena at.block inst) }
         ensures place { IfOk result (λ place. (place.block ≡ at.block) × (place.number ≡ end_of self.old.arena at.block)) }
         ensures numbers { OnOk result (numbers_of self.new
-            ≡ changed_at at.block (λ row. orders.put_before row at.number (end_of self.old.arena at.block)) (numbers_of self.old)) }
+            ≡ changed_at at.block (λ row. numbers.put_before row at.number (end_of self.old.arena at.block)) (numbers_of self.old)) }
         ensures fallen { OnOk result (self.new.fallen.items
             ≡ self.old.fallen.items ++ Register.Result at.block (end_of self.old.arena at.block) ∷ []) }
     {
-        let number = self.orders[at.block as usize].put_before(at.number)?;
+        let number = put_in_order(&mut self.orders, at)?;
         let place = Place {
             block: at.block,
             number,
         };
-        self.arena.blocks.get_mut(at.block as usize).insts.push(inst)?;
-        self.stand[at.block as usize].push(true)?;
-        self.facts.uses.results[at.block as usize].push(0)?;
-        self.readers.add_row(alloc, at.block)?;
+        push_inst(&mut self.arena.blocks, at.block, inst)?;
+        push_mark(&mut self.stand, at.block)?;
+        push_count(&mut self.facts.uses, at.block)?;
+        self.readers.push_list(alloc, at.block)?;
         count_reads(&self.arena, &mut self.facts.uses, place)?;
         list_reads(&self.arena, &mut self.readers, place)?;
         self.fallen.push(Register::Result(at.block, number))?;
@@ -173,7 +176,7 @@ impl Draft {
     {
         push_reads(&self.arena, &mut self.fallen, at)?;
         forget_reads(&self.arena, &mut self.facts.uses, at);
-        *self.inst_mut(at) = inst;
+        set_inst(&mut self.arena.blocks, at, inst);
         count_reads(&self.arena, &mut self.facts.uses, at)?;
         list_reads(&self.arena, &mut self.readers, at)
     }
@@ -190,11 +193,22 @@ impl Draft {
     {
         push_reads(&self.arena, &mut self.fallen, at)?;
         forget_reads(&self.arena, &mut self.facts.uses, at);
-        let inst = self.inst_mut(at);
-        inst.name = None;
-        inst.op = Op::Freeze(Operand::Poison);
-        *self.stand[at.block as usize].get_mut(at.number as usize) = false;
+        empty_inst(&mut self.arena.blocks, at);
+        clear_mark(&mut self.stand, at);
         Ok(())
+    }
+
+    /// Takes the name of an instruction's result.
+    pub(crate) fn take_name(&mut self, at: Place) -> Option<Text>
+        requires whole { IsWhole self.old }
+        requires at { HasInst self.old.arena at.block at.number }
+        ensures whole { IsWhole self.new }
+        ensures name { (inst : There) → IsInst self.old.arena at.block at.number inst → result ≡ inst.name }
+        ensures arena { self.new.arena ≡ with_block self.old.arena at.block (inst_changed at.number unnamed) }
+        ensures numbers { numbers_of self.new ≡ numbers_of self.old }
+        ensures fallen { self.new.fallen.items ≡ self.old.fallen.items }
+    {
+        take_name(&mut self.arena.blocks, at)
     }
 
     pub(crate) fn inst_mut(&mut self, at: Place) -> &mut Inst {
@@ -204,6 +218,81 @@ impl Draft {
             .insts
             .get_mut(at.number as usize)
     }
+}
+
+/// Puts a number before another in the order of its block.
+fn put_in_order(orders: &mut Vec<Order>, at: Place) -> Result<u32, AllocError>
+    requires block { at.block < length orders.old.items }
+    requires at { Contains (slice_index_or orders.old.items at.block []) at.number }
+    requires few { length (slice_index_or orders.old.items at.block []) + 1 < none }
+    ensures number { IfOk result (λ number. number ≡ length (slice_index_or orders.old.items at.block [])) }
+    ensures orders { IfOk result (λ number. orders.new.items ≡ slice_set orders.old.items at.block
+        (numbers.put_before (slice_index_or orders.old.items at.block []) at.number number)) }
+{
+    orders[at.block as usize].put_before(at.number)
+}
+
+/// Puts an instruction behind those of its block.
+fn push_inst(blocks: &mut List<Block>, block: u32, inst: Inst) -> Result<(), AllocError>
+    requires { block < length blocks.old }
+    ensures { OnOk result (blocks.new ≡ changed_at block (inst_put inst) blocks.old) }
+{
+    blocks.get_mut(block as usize).insts.push(inst)
+}
+
+/// Puts another instruction in the place of one.
+fn set_inst(blocks: &mut List<Block>, at: Place, inst: Inst)
+    requires { (block : Written) × (slice_get blocks.old at.block ≡ Some block) × (at.number < length block.insts) }
+    ensures { blocks.new ≡ changed_at at.block (inst_changed at.number (λ old. inst)) blocks.old }
+{
+    *blocks.get_mut(at.block as usize).insts.get_mut(at.number as usize) = inst;
+}
+
+/// Leaves an instruction that reads nothing in the place of one.
+fn empty_inst(blocks: &mut List<Block>, at: Place)
+    requires { (block : Written) × (slice_get blocks.old at.block ≡ Some block) × (at.number < length block.insts) }
+    ensures { blocks.new ≡ changed_at at.block (inst_changed at.number gone) blocks.old }
+{
+    let inst = blocks.get_mut(at.block as usize).insts.get_mut(at.number as usize);
+    inst.name = None;
+    inst.op = Op::Freeze(Operand::Poison);
+}
+
+/// Takes the name of an instruction's result.
+fn take_name(blocks: &mut List<Block>, at: Place) -> Option<Text>
+    requires { (block : Written) × (slice_get blocks.old at.block ≡ Some block) × (at.number < length block.insts) }
+    ensures name { (block : Written) (inst : There) → slice_get blocks.old at.block ≡ Some block → slice_get block.insts at.number ≡ Some inst → result ≡ inst.name }
+    ensures blocks { blocks.new ≡ changed_at at.block (inst_changed at.number unnamed) blocks.old }
+{
+    let inst = blocks.get_mut(at.block as usize).insts.get_mut(at.number as usize);
+    mem::replace(&mut inst.name, None)
+}
+
+/// One more instruction of a block stands.
+fn push_mark(stand: &mut Vec<List<bool>>, block: u32) -> Result<(), AllocError>
+    requires { block < length stand.old.items }
+    ensures { OnOk result (stand.new.items ≡ slice_set stand.old.items block (slice_index_or stand.old.items block [] ++ true ∷ [])) }
+{
+    stand[block as usize].push(true)
+}
+
+/// An instruction stands no more.
+fn clear_mark(stand: &mut Vec<List<bool>>, at: Place)
+    requires block { at.block < length stand.old.items }
+    requires number { at.number < length (slice_index_or stand.old.items at.block []) }
+    ensures { stand.new.items ≡ slice_set stand.old.items at.block (slice_set (slice_index_or stand.old.items at.block []) at.number false) }
+{
+    *stand[at.block as usize].get_mut(at.number as usize) = false;
+}
+
+/// One more instruction of a block is not used.
+fn push_count(uses: &mut Uses, block: u32) -> Result<(), AllocError>
+    requires { block < length uses.old.results.items }
+    ensures parameters { OnOk result (uses.new.parameters ≡ uses.old.parameters) }
+    ensures results { OnOk result (uses.new.results.items
+        ≡ slice_set uses.old.results.items block (slice_index_or uses.old.results.items block [] ++ 0 ∷ [])) }
+{
+    uses.results[block as usize].push(0)
 }
 
 /// Of each block the numbers of its instructions, in order.

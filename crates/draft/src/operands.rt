@@ -1,10 +1,12 @@
 //! Operands put for a register.
 
-ghost use Rattle.std.specs.Prelude.{◌≡◌, ◌↔◌, Contains, OnOk, IfOk};
+ghost use Rattle.std.specs.Prelude.{◌≡◌, ◌↔◌, ◌⊎◌, ◌<◌, length, slice_get, Some, Contains, OnOk, IfOk};
+ghost use Rattle.ir_core.specs.declared.function.Block.{Block as Written};
 ghost use Rattle.ir_core.specs.Checks.{IsKnown};
-ghost use Rattle.draft.specs.Changes.{instead, replaced, replaced_at};
-ghost use Rattle.draft.specs.Counts.{operands_at};
+ghost use Rattle.substitution.specs.Substitution.{substituted_end, substituted_inst};
+ghost use Rattle.draft.specs.Changes.{changed_at, end_changed, inst_changed, instead, replaced, replaced_at};
 ghost use Rattle.draft.specs.Drafts.{numbers_of};
+ghost use Rattle.draft.specs.Orders.{none};
 ghost use Rattle.draft.specs.Readers.{IsPlaceIn, IsReader};
 ghost use Rattle.draft.specs.Whole.{IsWhole};
 ghost use Rattle.draft.specs.declared.draft.Place.{Place as Spot};
@@ -12,7 +14,8 @@ ghost use Rattle.draft.specs.declared.draft.Place.{Place as Spot};
 use crate::draft::{Draft, END, Place};
 use crate::substituting::{Substitute, substitute_end, substitute_inst};
 use crate::uses::{count_reads, forget_reads};
-use ir_core::{Function, Operand, Register};
+use ir_core::{Block, Operand, Register};
+use lists::List;
 use std::alloc::{AllocError, Global};
 
 /// An operand that is put for a register.
@@ -66,7 +69,7 @@ impl Draft {
         ensures fallen { OnOk result (self.new.fallen.items ≡ self.old.fallen.items) }
     {
         forget_reads(&self.arena, &mut self.facts.uses, place);
-        swap_at(&mut self.arena, place, swap);
+        swap_at(&mut self.arena.blocks, place, swap);
         count_reads(&self.arena, &mut self.facts.uses, place)?;
         match swap.to {
             Operand::Register(read) => self.readers.list(read, place),
@@ -76,11 +79,14 @@ impl Draft {
 }
 
 /// Puts an operand wherever a register is read at a place.
-fn swap_at(arena: &mut Function, place: Place, swap: &Swap)
-    requires { IsPlaceIn arena.old place }
-    ensures { arena.new ≡ replaced_at arena.old place swap.now.from swap.now.to }
+fn swap_at(blocks: &mut List<Block>, place: Place, swap: &Swap)
+    requires block { place.block < length blocks.old }
+    requires inst { (block : Written) → slice_get blocks.old place.block ≡ Some block → (place.number < length block.insts) ⊎ (place.number ≡ none) }
+    ensures end { place.number ≡ none → blocks.new ≡ changed_at place.block (end_changed (substituted_end (instead swap.now.from swap.now.to))) blocks.old }
+    ensures inst { ¬ (place.number ≡ none) → blocks.new
+        ≡ changed_at place.block (inst_changed place.number (substituted_inst (instead swap.now.from swap.now.to))) blocks.old }
 {
-    let block = arena.blocks.get_mut(place.block as usize);
+    let block = blocks.get_mut(place.block as usize);
     if place.number == END {
         substitute_end(swap, &mut block.end);
     } else {

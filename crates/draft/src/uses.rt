@@ -8,7 +8,7 @@ ghost use Rattle.ir_core.specs.declared.operand.Register.{Register as Named};
 ghost use Rattle.use_counts.specs.Tables.{HasNumber, count_of};
 ghost use Rattle.draft.specs.Drafts.{numbers_of};
 ghost use Rattle.draft.specs.Orders.{none};
-ghost use Rattle.draft.specs.Readers.{arena_place, IsReader, IsPlaceIn, HasList, HaveLists, IsListed, IsListedAmong, AreListed, listed_for, AreReadersOf};
+ghost use Rattle.draft.specs.Readers.{arena_place, IsReader, IsPlaceIn, HasList, HaveLists, IsListed, IsListedAmong, IsListSetTo, AreListed, listed_for, AreReadersOf};
 ghost use Rattle.draft.specs.Counts.{AreCounted, HasNumbers, IsSetTo, operands_at, register_of, times};
 ghost use Rattle.draft.specs.Whole.{IsWhole};
 ghost use Rattle.draft.specs.declared.draft.Place.{Place as Spot};
@@ -75,7 +75,7 @@ impl Readers {
     }
 
     /// A list for one more instruction of a block.
-    pub(crate) fn add_row(&mut self, alloc: Global, block: u32) -> Result<(), AllocError>
+    pub(crate) fn push_list(&mut self, alloc: Global, block: u32) -> Result<(), AllocError>
         requires { block < length self.old.results.items }
         ensures parameters { OnOk result (self.new.parameters ≡ self.old.parameters) }
         ensures results { OnOk result (self.new.results.items
@@ -99,14 +99,12 @@ impl Readers {
     pub(crate) fn exchange(&mut self, register: Register, places: List<Place>) -> List<Place>
         requires { HasList self.old register }
         ensures was { result ≡ listed_for self.old register }
-        ensures lists { (other : Named) → HasList self.old other → HasList self.new other }
-        ensures is { listed_for self.new register ≡ places }
-        ensures others { (other : Named) → ¬ (other ≡ register) → listed_for self.new other ≡ listed_for self.old other }
+        ensures is { IsListSetTo register places self.old self.new }
     {
         match register {
             Register::Parameter(k) => exchange_in(&mut self.parameters, k, places),
             Register::Result(block, number) => {
-                exchange_in(&mut self.results[block as usize], number, places)
+                exchange_at(&mut self.results, block, number, places)
             }
         }
     }
@@ -164,6 +162,21 @@ fn are_same(one: Place, other: Place) -> bool
     one == other
 }
 
+/// Puts other places for the result of an instruction, and gives those that were there.
+fn exchange_at(
+    rows: &mut Vec<List<List<Place>>>,
+    block: u32,
+    number: u32,
+    places: List<Place>,
+) -> List<Place>
+    requires block { block < length rows.old.items }
+    requires number { number < length (slice_index_or rows.old.items block []) }
+    ensures was { result ≡ slice_index_or (slice_index_or rows.old.items block []) number [] }
+    ensures is { rows.new.items ≡ slice_set rows.old.items block (slice_set (slice_index_or rows.old.items block []) number places) }
+{
+    exchange_in(&mut rows[block as usize], number, places)
+}
+
 /// Puts other places in a row of lists, and gives those that were there.
 fn exchange_in(rows: &mut List<List<Place>>, index: u32, places: List<Place>) -> List<Place>
     requires { index < length rows.old }
@@ -179,11 +192,26 @@ fn set_count(uses: &mut Uses, register: Register, count: usize)
     ensures { IsSetTo register count uses.old uses.new }
 {
     match register {
-        Register::Parameter(k) => *uses.parameters.get_mut(k as usize) = count,
-        Register::Result(block, number) => {
-            *uses.results[block as usize].get_mut(number as usize) = count;
-        }
+        Register::Parameter(k) => set_in(&mut uses.parameters, k, count),
+        Register::Result(block, number) => set_at(&mut uses.results, block, number, count),
     }
+}
+
+/// Writes how often the result of an instruction is used.
+fn set_at(rows: &mut Vec<List<usize>>, block: u32, number: u32, count: usize)
+    requires block { block < length rows.old.items }
+    requires number { number < length (slice_index_or rows.old.items block []) }
+    ensures { rows.new.items ≡ slice_set rows.old.items block (slice_set (slice_index_or rows.old.items block []) number count) }
+{
+    set_in(&mut rows[block as usize], number, count)
+}
+
+/// Writes a count in a row.
+fn set_in(row: &mut List<usize>, index: u32, count: usize)
+    requires { index < length row.old }
+    ensures { row.new ≡ slice_set row.old index count }
+{
+    *row.get_mut(index as usize) = count;
 }
 
 /// Where the function that keeps the instructions has what stands at a place.

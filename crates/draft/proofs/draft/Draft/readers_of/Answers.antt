@@ -1,0 +1,7 @@
+use Rattle.draft.proofs.draft.Draft.readers_of.Goals as goal
+
+pub returns-in-Parameter-clause-readers : goal.returns-in-Parameter-clause-readers
+returns-in-Parameter-clause-readers c = ?
+
+pub returns-in-Parameter-clause-places : goal.returns-in-Parameter-clause-places
+returns-in-Parameter-clause-places c = ?

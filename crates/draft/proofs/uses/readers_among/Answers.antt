@@ -1,0 +1,4 @@
+use Rattle.draft.proofs.uses.readers_among.Goals as goal
+
+pub loop-index-preserved : goal.loop-index-preserved
+loop-index-preserved c = ?
