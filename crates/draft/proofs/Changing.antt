@@ -100,3 +100,10 @@ known_kept f f' all (operands.Register (registers.Result d j)) h = has_known f' 
 known_kept f f' all (operands.Number n) h = tt
 known_kept f f' all operands.Undef h = tt
 known_kept f f' all operands.Poison h = tt
+
+-- the instruction that the function has there
+pub inst_there : (f : Function) (d j : ℕ) → HasInst f d j → (block : Block) × (inst : Inst) × IsBlock f d block × (slice_get block.insts j ≡ Some inst)
+inst_there f d j (block, at, within) = elim (slice_get_cases block.insts j).1 [
+  | inl (inst, inside, here, is) ↦ (block, inst, at, here)
+  | inr (past, absent) ↦ absurd (omega arith)
+]

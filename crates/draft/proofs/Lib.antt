@@ -17,3 +17,5 @@ pub mod Standing
 pub mod Changed
 pub mod Put
 pub mod Swapped
+pub mod Listed
+pub mod Exchange

@@ -3,14 +3,14 @@ use Rattle.std.proofs.Common.{◌≡◌, ◌⊎◌, inl, inr, ℕ, zero, suc, �
 use Rattle.std.specs.Prelude.{option_to_list, slice_get}
 use Rattle.std.proofs.Math.ListN.{length-set}
 use Rattle.std.proofs.lemmas.Bool.{cases_eq, cases_lt}
-use Rattle.std.proofs.lemmas.List.{append_assoc, drop-set-lt, drop_more, get_or_append_left, get_or_past, get_or_push, length-take, length_push, take_all, take_more, take_more_set}
+use Rattle.std.proofs.lemmas.List.{append_assoc, drop-set-lt, drop_more, get_or_append_left, get_or_default, get_or_past, get_or_push, length-take, length_push, take_all, take_more, take_more_set}
 use Rattle.std.proofs.lemmas.Option.{same_Some, slice_get-get_or}
 use Rattle.ir_core.specs.declared.function.Block.{Block}
 use Rattle.ir_core.specs.declared.instruction.Inst.{Inst}
 use Rattle.substitution.specs.Substitution.{Substitution, substituted_inst}
 use Rattle.draft.specs.Drafts.{block_of, blocks_of, insts_of}
 use Rattle.draft.specs.Orders.{place_in}
-use Rattle.draft.specs.Placing.{IsOrdering}
+use Rattle.draft.specs.Placing.{AreOrdered, IsOrdering}
 
 -- ---- the instructions of a block
 
@@ -173,3 +173,14 @@ tables_full numbers i rows so_far past b k n at = elim (cases_lt b (length numbe
       let none : slice_get {X = ℕ} [] k ≡ Some n = ap (λ (l : List ℕ). slice_get l k) (sym empty) ∙ at in
       cc
 ]
+
+-- the numbers of the next block are its
+pub next_ordering : (to : Substitution) (rows : List (List ℕ)) (all : List Block) (i : ℕ) (items : List Block) → BlocksPlaced to rows all i items → length rows ≡ length all → i < length items → (block : Block) → block ≡ get_or items i block
+    → AreOrdered all rows → (row : List ℕ) → row ≡ get_or rows i row → IsOrdering (length block.insts) row
+next_ordering to rows all i items so_far same within block here ordered row row_is =
+    let size = so_far.size in
+    let inside : i < length all = omega arith in
+    let was = block_was to rows all i items so_far same within block here in
+    let at : slice_get all i ≡ Some block = slice_get-get_or all i block inside ∙ ap (λ (x : Block). Some x) (sym was) in
+    let is : row ≡ get_or rows i [] = row_is ∙ get_or_default rows i row [] (omega arith) in
+    subst (IsOrdering (length block.insts)) (sym is) (ordered i block at)

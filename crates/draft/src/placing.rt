@@ -107,6 +107,7 @@ fn places_of(
     requires blocks { length numbers.now ≡ length arena.now.blocks }
     requires insts { All (λ b. length b.insts < 2 ^ 32) arena.now.blocks }
     requires ordered { AreOrdered arena.now.blocks numbers.now }
+    requires few { (b : ℕ) → length (slice_index_or numbers.now b []) < 2 ^ 32 }
     ensures { IfOk result (λ places. (b k n : ℕ) → slice_get (slice_index_or numbers.now b []) k ≡ Some n
         → slice_index_or (slice_index_or places.rows.items b []) n 0 ≡ k) }
 {
@@ -122,6 +123,7 @@ fn places_of(
 fn places_in(alloc: Global, numbers: &[u32], count: usize) -> Result<List<u32>, AllocError>
     requires count { count < 2 ^ 32 }
     requires ordered { IsOrdering count numbers.now }
+    requires few { length numbers.now < 2 ^ 32 }
     ensures { IfOk result (λ row. (k n : ℕ) → slice_get numbers.now k ≡ Some n → slice_index_or row n 0 ≡ k) }
 {
     let mut places = vec![in alloc; 0; count]?;

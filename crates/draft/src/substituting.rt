@@ -79,14 +79,27 @@ pub(crate) fn substitute_inst<S: Substitute>(by: &S, inst: &mut Inst)
     inst.op = substituted_op(by, op);
 }
 
+/// The terminator with what stands for its operand.
+fn substituted_end<S: Substitute>(by: &S, end: Terminator) -> Terminator
+    ensures { result ≡ written.substituted_end (S.to by.now) end }
+{
+    match end {
+        Terminator::Return(x) => Terminator::Return(substituted_operand(by, x)),
+        Terminator::Branch(x, to, other) => {
+            Terminator::Branch(substituted_operand(by, x), to, other)
+        }
+        Terminator::Switch(x, width, other, cases) => {
+            Terminator::Switch(substituted_operand(by, x), width, other, cases)
+        }
+        Terminator::Jump(to) => Terminator::Jump(to),
+        Terminator::Unreachable => Terminator::Unreachable,
+    }
+}
+
 /// Writes what stands for a terminator's operand.
 pub(crate) fn substitute_end<S: Substitute>(by: &S, end: &mut Terminator)
     ensures { end.new ≡ written.substituted_end (S.to by.now) end.old }
 {
-    match end {
-        Terminator::Return(x) | Terminator::Branch(x, _, _) | Terminator::Switch(x, _, _, _) => {
-            *x = substituted_operand(by, *x);
-        }
-        Terminator::Jump(_) | Terminator::Unreachable => {}
-    }
+    let old = mem::replace(end, Terminator::Unreachable);
+    *end = substituted_end(by, old);
 }

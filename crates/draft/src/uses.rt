@@ -1,6 +1,6 @@
 //! Which instructions read a register, and how often it is used.
 
-ghost use Rattle.std.specs.Prelude.{◌≡◌, ◌≤◌, ◌<◌, ◌^◌, ◌++◌, ◌↔◌, ◌⊎◌, ℕ, List as Seq, [], ◌∷◌, All, Contains, IsTrue, IfOk, OnOk, length, replicate, slice_index_or, slice_set};
+ghost use Rattle.std.specs.Prelude.{◌≡◌, ◌+◌, ◌≤◌, ◌<◌, ◌^◌, ◌++◌, ◌↔◌, ◌⊎◌, ℕ, List as Seq, [], ◌∷◌, All, Contains, IsTrue, IfOk, OnOk, length, replicate, slice_index_or, slice_set};
 ghost use Rattle.std.specs.List.{filter_map};
 ghost use Rattle.ir_core.specs.Checks.{IsKnown};
 ghost use Rattle.ir_core.specs.Reads.{Read, IsRead};
@@ -253,11 +253,17 @@ fn count_operand(uses: &mut Uses, operand: Operand) -> Result<(), AllocError>
     let Operand::Register(register) = operand else {
         return Ok(());
     };
-    let count = uses_of(uses, register)
-        .checked_add(1)
-        .ok_or(AllocError)?;
+    let used = uses_of(uses, register);
+    let count = one_more(used)?;
     set_count(uses, register, count);
     Ok(())
+}
+
+/// The next count, if a `usize` holds it.
+fn one_more(count: usize) -> Result<usize, AllocError>
+    ensures { IfOk result (λ more. more ≡ count + 1) }
+{
+    count.checked_add(1).ok_or(AllocError)
 }
 
 /// Counts an operand no more.

@@ -8,6 +8,8 @@ set_count-requires c = c.requires c.in-Register.register (contains_operand c.arg
 
 pub returns : goal.returns
 returns c =
+    let used = c.uses_of-used.ensures.number in
+    let more = c.in_ok-count.ensures in
     let one : c.in_ok-count.count ≡ count_of c.args.uses.now c.in-Register.register + 1 = omega arith in
     counted_register c.args.uses.now c.set_count.new.uses c.in-Register.register c.args.operand c.in_ok-count.count c.in-Register.is one c.set_count.ensures
 

@@ -15,7 +15,7 @@ pub returns : goal.returns
 returns c =
     let one = times_named c.in-Register.register c.args.operand c.in-Register.is in
     let counted = c.requires.counted c.in-Register.register in
-    forgotten_register c.args.uses.now c.set_count.new.uses c.in-Register.register c.args.operand (c.uses_of.result - 1) c.in-Register.is (omega arith) c.set_count.ensures
+    forgotten_register c.args.uses.now c.set_count.new.uses c.in-Register.register c.args.operand (c.uses_of-count.result - 1) c.in-Register.is (omega arith) c.set_count.ensures
 
 pub returns-in_default : goal.returns-in_default
 returns-in_default c = counted_other c.args.uses.now c.args.operand c.in_default.not-Register

@@ -15,3 +15,5 @@ use Rattle.draft.proofs.Placed.{block_placed}
 use Rattle.draft.proofs.Putting.{readers_put}
 use Rattle.draft.proofs.Standing.{placed_blocks_are}
 use Rattle.draft.proofs.Changed.{whole_taken_out}
+use Rattle.draft.proofs.Put.{whole_put}
+use Rattle.draft.proofs.Swapped.{whole_swapped}

@@ -1,4 +1,14 @@
+use Rattle.std.proofs.Common.{◌≡◌, ◌∙◌, [], List, ap, map, length, replicate, take, arith, rules}
+use Rattle.std.proofs.lemmas.List.{take_all}
+use Rattle.ir_core.specs.declared.function.Block.{Block}
+use Rattle.draft.specs.declared.draft.Place.{Place}
+use Rattle.draft.proofs.Listed.{none_listed, none_there}
 use Rattle.draft.proofs.uses.Readers.none.Goals as goal
 
 pub returns-clause-there : goal.returns-clause-there
-returns-clause-there c = ?
+returns-clause-there c = none_there c.args.f.now (record { parameters = c.in_ok-parameters.parameters; results = c.loop-block.results }) (search rules)
+    (c.loop-block.invariant ∙ ap (λ (l : List Block). map (λ (b : Block). replicate {A = List Place} (length b.insts) []) l) (take_all c.loop-block.block-index c.args.f.now.blocks ?))
+
+pub returns-clause-none : goal.returns-clause-none
+returns-clause-none c = none_listed c.args.f.now (record { parameters = c.in_ok-parameters.parameters; results = c.loop-block.results }) (search rules)
+    (c.loop-block.invariant ∙ ap (λ (l : List Block). map (λ (b : Block). replicate {A = List Place} (length b.insts) []) l) (take_all c.loop-block.block-index c.args.f.now.blocks ?))
