@@ -1,5 +1,5 @@
 -- What a function is where one of its blocks is another.
-use Rattle.std.proofs.Common.{◌≡◌, ◌⊎◌, ◌↔◌, inl, inr, ℕ, zero, suc, ◌+◌, ◌<◌, ◌≤◌, List, [], ◌∷◌, length, get_or, slice_set, Option, None, Some, map, refl, sym, ap, subst, ◌∙◌, arith}
+use Rattle.std.proofs.Common.{◌≡◌, ◌⊎◌, ◌↔◌, inl, inr, ℕ, zero, suc, ◌+◌, ◌<◌, ◌≤◌, List, [], ◌∷◌, ◌++◌, length, get_or, slice_set, Option, None, Some, map, refl, sym, ap, subst, ◌∙◌, arith}
 use Rattle.std.specs.Prelude.{Contains, IsSome, option_and_then, option_map, slice_get, sum_by}
 use Rattle.std.proofs.lemmas.Bool.{cases_eq}
 use Rattle.std.proofs.lemmas.List.Sums.{sum_by-set}
@@ -16,7 +16,7 @@ use Rattle.ir_core.specs.declared.operand.Operand.{Operand}
 use Rattle.ir_core.specs.declared.operand.Operand.TheVariants as operands
 use Rattle.ir_core.specs.declared.operand.Register.{Register}
 use Rattle.ir_core.specs.declared.operand.Register.TheVariants as registers
-use Rattle.draft.specs.Changes.{changed_at}
+use Rattle.draft.specs.Changes.{changed_at, inst_changed, inst_put}
 
 -- ---- a list with a change at one place
 
@@ -107,3 +107,23 @@ inst_there f d j (block, at, within) = elim (slice_get_cases block.insts j).1 [
   | inl (inst, inside, here, is) ↦ (block, inst, at, here)
   | inr (past, absent) ↦ absurd (omega arith)
 ]
+
+-- ---- a block that is written
+
+pub block_set : (blocks : List Block) (b n : ℕ) (inst : Inst) (now : Block) → (block : Block) × (slice_get blocks b ≡ Some block) × (n < length block.insts) → now ≡ get_or blocks b now
+    → slice_set blocks b (record { name = now.name; insts = slice_set now.insts n inst; end = now.end }) ≡ changed_at b (inst_changed n (λ old. inst)) blocks
+block_set blocks b n inst now (block, at, within) is =
+    let there : slice_get blocks b ≡ Some now = slice_get-get_or blocks b now (slice_get_within blocks b block at) ∙ ap (λ (x : Block). Some x) (sym is) in
+    let same : block ≡ now = same_Some block now (sym at ∙ there) in
+    let size = ap (λ (x : Block). length x.insts) same in
+    let old : Inst = get_or now.insts n inst in
+    let insts : slice_set now.insts n inst ≡ changed_at n (λ i. inst) now.insts = changed_is_set n (λ i. inst) now.insts old (slice_get-get_or now.insts n inst (omega arith)) in
+    ap (λ (l : List Inst). slice_set blocks b (let x : Block = record { name = now.name; insts = l; end = now.end } in x)) insts
+    ∙ changed_is_set b (inst_changed n (λ i. inst)) blocks now there
+
+pub block_pushed : (blocks : List Block) (b : ℕ) (inst : Inst) (now : Block) (insts : List Inst) → b < length blocks → now ≡ get_or blocks b now → insts ≡ now.insts ++ inst ∷ []
+    → slice_set blocks b (record { name = now.name; insts = insts; end = now.end }) ≡ changed_at b (inst_put inst) blocks
+block_pushed blocks b inst now insts within is grown =
+    let there : slice_get blocks b ≡ Some now = slice_get-get_or blocks b now within ∙ ap (λ (x : Block). Some x) (sym is) in
+    ap (λ (l : List Inst). slice_set blocks b (let x : Block = record { name = now.name; insts = l; end = now.end } in x)) grown
+    ∙ changed_is_set b (inst_put inst) blocks now there

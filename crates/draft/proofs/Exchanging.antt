@@ -19,7 +19,7 @@ use Rattle.draft.specs.Readers.{IsPlaceIn}
 use Rattle.draft.specs.declared.draft.Place.{Place}
 use Rattle.draft.proofs.Changing.{HasAll, changed_cases, changed_here, changed_length, changed_other, changed_sum}
 use Rattle.draft.proofs.Places.{AreFew, DiffersAt}
-use Rattle.draft.proofs.Reading.{operands_at_inst, operands_at_terminator}
+use Rattle.draft.proofs.Reading.{operands_at_inst, operands_at_terminator, same_place}
 
 pub map_changed : {A B : Type 0} (g : A → B) (k : ℕ) (change : A → A) (xs : List A) → ((x : A) → g (change x) ≡ g x) → map g (changed_at k change xs) ≡ map g xs
 map_changed g k change [] same = refl
@@ -154,7 +154,7 @@ module _ (f : Function) (few : AreFew f) (b n : ℕ) (change : Inst → Inst) (b
       elim inside [
         | inl within ↦ elim (slice_get_cases x.insts q.number).1 [
           | inl (i, in_list, i_here, i_same) ↦
-              let other : q.number ≡ n → ⊥ = λ e. apart cc in
+              let other : q.number ≡ n → ⊥ = λ e. apart (same_place q inst_place same e) in
               operands_at_inst inst_function q (inst_block x) i there (changed_other n change x.insts q.number other ∙ i_here) (omega arith)
               ∙ sym (operands_at_inst f q x i is i_here (omega arith))
           | inr (past, absent) ↦ absurd (omega arith)
@@ -204,7 +204,7 @@ module _ (f : Function) (few : AreFew f) (b : ℕ) (change : Terminator → Term
           | inl (i, in_list, i_here, i_same) ↦ operands_at_inst end_function q (end_block x) i there i_here (omega arith) ∙ sym (operands_at_inst f q x i is i_here (omega arith))
           | inr (past, absent) ↦ absurd (omega arith)
         ]
-        | inr end ↦ absurd (apart cc)
+        | inr end ↦ absurd (apart (same_place q end_place same end))
       ]
 
   pub end_differs : DiffersAt f end_function end_place

@@ -19,14 +19,14 @@ use Rattle.draft.specs.Readers.{AreListed, AreReadersOf, HasList, IsPlaceIn, IsR
 use Rattle.draft.specs.declared.draft.Place.{Place}
 use Rattle.draft.specs.declared.uses.Readers.{Readers}
 use Rattle.draft.proofs.Changing.{known_has}
-use Rattle.draft.proofs.Reading.{reads_written, written_reads}
+use Rattle.draft.proofs.Reading.{reads_written, same_place, written_reads}
 
 -- ---- lists without places
 
 empty_at : {A : Type 0} (n p : ℕ) → get_or {A = List A} (replicate n []) p [] ≡ []
-empty_at n p = elim (cases_lt p n) [
-  | inl less ↦ get_or-replicate n p [] [] less
-  | inr past ↦ get_or_past (replicate n []) p [] (omega (arith, length-replicate n []))
+empty_at {A = A} n p = elim (cases_lt p n) [
+  | inl less ↦ get_or-replicate {A = List A} n p [] [] less
+  | inr past ↦ get_or_past {X = List A} (replicate n []) p [] (omega (arith, length-replicate {A = List A} n []))
 ]
 
 known_parameter : (xs : List Parameter) (p : ℕ) → IsSome (option_map (λ (x : Parameter). x.width) (slice_get xs p)) → p < length xs
@@ -96,7 +96,7 @@ one_below f block n old mid new below one =
           | inl oldest ↦ (one.listed r p).1 (inl ((below.listed r p).1 (inl oldest)))
           | inr (b, less, reads) ↦ elim (cases_eq p.number n) [
             | inl number ↦
-                let same : p ≡ q = cc in
+                let same : p ≡ q = same_place p q b number in
                 (one.listed r p).1 (inr (subst (λ (x : Place). Contains (operands_at f x) (operands.Register r)) same reads, same))
             | inr apart ↦ (one.listed r p).1 (inl ((below.listed r p).1 (inr (b, omega arith, reads))))
           ]
@@ -129,7 +129,7 @@ block_listed f b end block old mid new at count below one r p =
             elim inside [
               | inl within ↦ (one.listed r p).1 (inl ((below.listed r p).1 (inr (here, omega arith, reads))))
               | inr number ↦
-                  let same : p ≡ q = cc in
+                  let same : p ≡ q = same_place p q here number in
                   (one.listed r p).1 (inr (subst (λ (y : Place). Contains (operands_at f y) (operands.Register r)) same reads, same))
             ]
       ],

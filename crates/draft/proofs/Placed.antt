@@ -184,3 +184,12 @@ next_ordering to rows all i items so_far same within block here ordered row row_
     let at : slice_get all i ≡ Some block = slice_get-get_or all i block inside ∙ ap (λ (x : Block). Some x) (sym was) in
     let is : row ≡ get_or rows i [] = row_is ∙ get_or_default rows i row [] (omega arith) in
     subst (IsOrdering (length block.insts)) (sym is) (ordered i block at)
+
+-- the numbers of a block, as they are read
+pub ordering_at : (blocks : List Block) (rows : List (List ℕ)) (b count : ℕ) (read : List Block) (block : Block) (row found : List ℕ) → AreOrdered blocks rows → length rows ≡ length blocks → b < length rows → read ≡ blocks → count ≡ length (get_or read b block).insts
+    → row ≡ found → found ≡ get_or rows b found → IsOrdering count row
+ordering_at blocks rows b count read block row found ordered same within is size row_is found_is =
+    let at : slice_get blocks b ≡ Some (get_or blocks b block) = slice_get-get_or blocks b block (omega arith) in
+    let length_is : length (get_or blocks b block).insts ≡ count = ap (λ (l : List Block). length (get_or l b block).insts) (sym is) ∙ sym size in
+    let this_row : row ≡ get_or rows b [] = row_is ∙ found_is ∙ get_or_default rows b found [] within in
+    subst (λ (n : ℕ). IsOrdering n row) length_is (subst (IsOrdering (length (get_or blocks b block).insts)) (sym this_row) (ordered b (get_or blocks b block) at))

@@ -28,7 +28,7 @@ use Rattle.draft.specs.declared.draft.Place.{Place}
 use Rattle.draft.specs.declared.uses.Readers.{Readers}
 use Rattle.draft.proofs.Changing.{HasAll, known_kept}
 use Rattle.draft.proofs.Naming.{is_same_register}
-use Rattle.draft.proofs.Reading.{arena_place_end, arena_place_inst, operands_at_inst, operands_at_terminator, read_at_written, read_in_block, read_in_inst, reads_written, written, written_reads}
+use Rattle.draft.proofs.Reading.{arena_place_end, arena_place_inst, operands_at_inst, operands_at_terminator, read_at_written, read_in_block, read_in_inst, reads_written, same_place, written, written_reads}
 use Rattle.draft.proofs.Totals.{counts_are_times, times_are_counts}
 
 -- instructions of each block have numbers
@@ -131,7 +131,7 @@ pub record DiffersAt (f f' : Function) (p : Place) : Type 0 where
 pub is_same_place : (p q : Place) → (p ≡ q) ⊎ ¬ (p ≡ q)
 is_same_place p q = elim (cases_eq p.block q.block) [
   | inl block ↦ elim (cases_eq p.number q.number) [
-    | inl number ↦ inl cc
+    | inl number ↦ inl (same_place p q block number)
     | inr apart ↦ inr (λ e. apart (ap (λ (x : Place). x.number) e))
   ]
   | inr apart ↦ inr (λ e. apart (ap (λ (x : Place). x.block) e))

@@ -29,7 +29,7 @@ use Rattle.draft.specs.declared.uses.Readers.{Readers}
 use Rattle.draft.proofs.Changing.{HasAll, changed_sum, has_known, known_has, known_kept}
 use Rattle.draft.proofs.Exchanging.{block_cases, block_is, block_now, block_other, map_changed, read_in_other}
 use Rattle.draft.proofs.Places.{AreFew, AreKnown}
-use Rattle.draft.proofs.Reading.{operands_at_inst, operands_at_terminator, reads_written, written_reads}
+use Rattle.draft.proofs.Reading.{operands_at_inst, operands_at_terminator, reads_written, same_place, written_reads}
 use Rattle.draft.proofs.Totals.{counts_are_times, times_are_counts}
 
 slice_get_left : {A : Type 0} (xs ys : List A) (n : ℕ) → n < length xs → slice_get (xs ++ ys) n ≡ slice_get xs n
@@ -102,7 +102,7 @@ module _ (f : Function) (few : AreFew f) (b : ℕ) (block : Block) (at : IsBlock
         elim inside [
           | inl within ↦ elim (cases_lt q.number number) [
             | inl less ↦ inl (block, old, inl less)
-            | inr past ↦ let last : q.number ≡ number = omega arith in inr cc
+            | inr past ↦ let last : q.number ≡ number = omega arith in inr (same_place q place same last)
           ]
           | inr end ↦ inl (block, old, inr end)
         ]

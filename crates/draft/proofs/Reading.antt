@@ -84,3 +84,7 @@ no_operand f p k i place absent =
     let none_there : slice_get (operands_at f p) i ≡ None =
     slice_get-map (λ (r : Read). r.operand) (reads_at f p.block (arena_place f p)) i ∙ ap (option_map (λ (r : Read). r.operand)) (sym here) in
     sym (ap (λ (o : Option Operand). unwrap_or o operands.Poison) none_there) ∙ unwrap_or-slice_get (operands_at f p) i operands.Poison
+
+pub same_place : (p q : Place) → p.block ≡ q.block → p.number ≡ q.number → p ≡ q
+same_place p q blocks numbers =
+    ap (λ (b : ℕ). let x : Place = record { block = b; number = p.number } in x) blocks ∙ ap (λ (n : ℕ). let x : Place = record { block = q.block; number = n } in x) numbers

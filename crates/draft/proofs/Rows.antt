@@ -402,3 +402,7 @@ walked_end stand order numbers walked = walked.done ∙ ap (standing_in stand) (
   | inl (n, inside, at, is) ↦ absurd (none-some n (walked.next ∙ at))
   | inr (past, absent) ↦ past
 ]))
+
+pub none_left : (o : Option ℕ) → ((n : ℕ) → o ≡ Some n → ⊥) → o ≡ None
+none_left None not_some = refl
+none_left (Some n) not_some = absurd (not_some n refl)

@@ -1,4 +1,4 @@
-use Rattle.std.proofs.Common.{◌≡◌, ◌<◌, ◌∙◌, ℕ, Some, ap, get_or, length, arith}
+use Rattle.std.proofs.Common.{◌≡◌, ◌<◌, ◌∙◌, ℕ, List, Some, ap, get_or, length, arith}
 use Rattle.std.specs.Prelude.{slice_get}
 use Rattle.std.proofs.lemmas.List.{get_or_default}
 use Rattle.std.proofs.lemmas.Option.{slice_get-get_or, slice_get_within}
@@ -23,4 +23,4 @@ pub returns : goal.returns
 returns c = λ k n at.
     let within = slice_get_within c.args.numbers.now k n at in
     let past = c.loop-place-test.false in
-    c.loop-place.invariant.done k n (omega arith) at
+    ap (λ (l : List ℕ). get_or l n 0) c.from_vec.ensures ∙ c.loop-place.invariant.done k n (omega arith) at

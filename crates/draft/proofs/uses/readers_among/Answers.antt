@@ -2,3 +2,6 @@ use Rattle.draft.proofs.uses.readers_among.Goals as goal
 
 pub loop-index-preserved : goal.loop-index-preserved
 loop-index-preserved c = ?
+
+pub returns : goal.returns
+returns c = ?

@@ -1,4 +1,5 @@
-use Rattle.draft.proofs.Listed.{block_listed, none_below, one_below}
+use Rattle.std.proofs.lemmas.Result.{on_ok_weaker}
+use Rattle.draft.proofs.Listed.{none_below, one_below}
 use Rattle.draft.proofs.uses.Readers.list_block.Goals as goal
 
 pub loop-number-init : goal.loop-number-init
@@ -14,7 +15,7 @@ pub list_reads-requires-2-clause-there : goal.list_reads-requires-2-clause-there
 list_reads-requires-2-clause-there c = ?
 
 pub returns-clause-there : goal.returns-clause-there
-returns-clause-there c = ?
+returns-clause-there c = on_ok_weaker c.list_reads-2.result (λ one. λ r has. one.there r (c.loop-number.invariant.there r has)) c.list_reads-2.ensures
 
 pub returns-clause-listed : goal.returns-clause-listed
 returns-clause-listed c = ?

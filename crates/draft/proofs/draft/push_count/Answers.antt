@@ -17,3 +17,5 @@ use Rattle.draft.proofs.Standing.{placed_blocks_are}
 use Rattle.draft.proofs.Changed.{whole_taken_out}
 use Rattle.draft.proofs.Put.{whole_put}
 use Rattle.draft.proofs.Swapped.{whole_swapped}
+use Rattle.draft.proofs.Listed.{all_before}
+use Rattle.draft.proofs.Exchange.{now_lists}
