@@ -16,7 +16,8 @@ use Rattle.ir_core.specs.declared.operand.Operand.{Operand}
 use Rattle.ir_core.specs.declared.operand.Operand.TheVariants as operands
 use Rattle.ir_core.specs.declared.operand.Register.{Register}
 use Rattle.ir_core.specs.declared.operand.Register.TheVariants as registers
-use Rattle.draft.specs.Changes.{changed_at, inst_changed, inst_put}
+use Rattle.ir_core.specs.declared.terminator.Terminator.{Terminator}
+use Rattle.draft.specs.Changes.{changed_at, end_changed, inst_changed, inst_put}
 
 -- ---- a list with a change at one place
 
@@ -127,3 +128,21 @@ block_pushed blocks b inst now insts within is grown =
     let there : slice_get blocks b ≡ Some now = slice_get-get_or blocks b now within ∙ ap (λ (x : Block). Some x) (sym is) in
     ap (λ (l : List Inst). slice_set blocks b (let x : Block = record { name = now.name; insts = l; end = now.end } in x)) grown
     ∙ changed_is_set b (inst_put inst) blocks now there
+
+pub block_with : (blocks : List Block) (b n : ℕ) (change : Inst → Inst) (now : Block) (old new : Inst) → (block : Block) × (slice_get blocks b ≡ Some block) × (n < length block.insts) → now ≡ get_or blocks b now → old ≡ get_or now.insts n old → new ≡ change old
+    → slice_set blocks b (record { name = now.name; insts = slice_set now.insts n new; end = now.end }) ≡ changed_at b (inst_changed n change) blocks
+block_with blocks b n change now old new (block, at, within) is old_is new_is =
+    let there : slice_get blocks b ≡ Some now = slice_get-get_or blocks b now (slice_get_within blocks b block at) ∙ ap (λ (x : Block). Some x) (sym is) in
+    let same : block ≡ now = same_Some block now (sym at ∙ there) in
+    let size = ap (λ (x : Block). length x.insts) same in
+    let inst_at : slice_get now.insts n ≡ Some old = slice_get-get_or now.insts n old (omega arith) ∙ ap (λ (i : Inst). Some i) (sym old_is) in
+    let insts : slice_set now.insts n new ≡ changed_at n change now.insts = ap (slice_set now.insts n) new_is ∙ changed_is_set n change now.insts old inst_at in
+    ap (λ (l : List Inst). slice_set blocks b (let x : Block = record { name = now.name; insts = l; end = now.end } in x)) insts
+    ∙ changed_is_set b (inst_changed n change) blocks now there
+
+pub block_ended : (blocks : List Block) (b : ℕ) (change : Terminator → Terminator) (now : Block) (end : Terminator) → b < length blocks → now ≡ get_or blocks b now → end ≡ change now.end
+    → slice_set blocks b (record { name = now.name; insts = now.insts; end = end }) ≡ changed_at b (end_changed change) blocks
+block_ended blocks b change now end within is end_is =
+    let there : slice_get blocks b ≡ Some now = slice_get-get_or blocks b now within ∙ ap (λ (x : Block). Some x) (sym is) in
+    ap (λ (t : Terminator). slice_set blocks b (let x : Block = record { name = now.name; insts = now.insts; end = t } in x)) end_is
+    ∙ changed_is_set b (end_changed change) blocks now there

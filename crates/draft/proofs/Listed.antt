@@ -6,6 +6,7 @@ use Rattle.std.proofs.lemmas.List.{get_or-replicate, get_or_past, length-map, le
 use Rattle.std.proofs.lemmas.Option.{get_or_from_slice_get, same_Some, slice_get-map, slice_get_cases, slice_get_within}
 use Rattle.ir_core.specs.Blocks.{IsBlock}
 use Rattle.ir_core.specs.Checks.{IsKnown}
+use Rattle.ir_core.specs.Reads.{Read, IsRead, end_of}
 use Rattle.ir_core.specs.declared.function.Block.{Block}
 use Rattle.ir_core.specs.declared.function.Function.{Function}
 use Rattle.ir_core.specs.declared.function.Parameter.{Parameter}
@@ -18,7 +19,9 @@ use Rattle.draft.specs.Orders.{none}
 use Rattle.draft.specs.Readers.{AreListed, AreReadersOf, HasList, IsPlaceIn, IsReader, arena_place, listed_for}
 use Rattle.draft.specs.declared.draft.Place.{Place}
 use Rattle.draft.specs.declared.uses.Readers.{Readers}
+use Rattle.needed.proofs.Reading.{end_of-is}
 use Rattle.draft.proofs.Changing.{known_has}
+use Rattle.draft.proofs.Places.{known_reads}
 use Rattle.draft.proofs.Reading.{reads_written, same_place, written_reads}
 
 -- ---- lists without places
@@ -134,6 +137,24 @@ block_listed f b end block old mid new at count below one r p =
             ]
       ],
     )
+
+pub block_lists : (f : Function) (b end : ℕ) (old mid new : Readers) → b < length f.blocks → end ≡ end_of f b → AreListedBelow f b end old mid
+    → AreListed (record { block = b; number = none }) (operands_at f (record { block = b; number = none })) mid new
+    → (r : Register) (p : Place) → Contains (listed_for new r) p ↔ (Contains (listed_for old r) p ⊎ ((p.block ≡ b) × IsPlaceIn f p × IsReader f r p))
+block_lists f b end old mid new within is below one = elim (slice_get_cases f.blocks b).1 [
+  | inl (block, inside, at, same) ↦ block_listed f b end block old mid new at (is ∙ end_of-is f b block at) below one
+  | inr (past, absent) ↦ absurd (omega arith)
+]
+
+-- what is read at a place of the block has a list
+pub place_known : (f : Function) (b n : ℕ) → ((c k i : ℕ) (r : Read) → IsRead f c k i r → IsKnown f r.operand) → b < length f.blocks → (n < end_of f b) ⊎ (n ≡ none)
+    → (r : Register) → Contains (operands_at f (record { block = b; number = n })) (operands.Register r) → IsKnown f (operands.Register r)
+place_known f b n known within is r there = elim (slice_get_cases f.blocks b).1 [
+  | inl (block, inside, at, same) ↦
+      let size = end_of-is f b block at in
+      known_reads f known (record { block = b; number = n }) (operands.Register r) (block, at, elim is [ inl less ↦ inl (omega arith) | inr end ↦ inr end ]) there
+  | inr (past, absent) ↦ absurd (omega arith)
+]
 
 -- ---- of all blocks
 
