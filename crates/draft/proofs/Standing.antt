@@ -133,3 +133,31 @@ module _ (d : Draft) (settled : IsSettled d) (places : List (List ℕ)) (table :
 
   pub placed_blocks_are : blocks_of (at_places places) (numbers_of d) d.arena.blocks ≡ (function_of d).blocks
   placed_blocks_are = blocks_agree (at_places places) (placed (numbers_of d)) (numbers_of d) d.arena.blocks placed_agree
+
+-- ---- as many as the arena has, and few
+
+standing_shorter : (stand : List Bool) (numbers : List ℕ) → length (standing_in stand numbers) ≤ length numbers
+standing_shorter stand [] = omega arith
+standing_shorter stand (n ∷ numbers) =
+    let rest = standing_shorter stand numbers in
+    elim (cases_Bool (marked stand n)) [
+      | inl stands ↦ let size = ap length (first_stands stand n numbers stands) in omega arith
+      | inr went ↦ let size = ap length (first_gone stand n numbers went) in omega arith
+    ]
+
+pub numbers_few : (d : Draft) → IsWhole d → (b : ℕ) → length (get_or (numbers_of d) b []) < none
+numbers_few d whole b = elim (slice_get_cases d.arena.blocks b).1 [
+  | inl (block, within, at, is) ↦
+      let rows = whole.rows b block at in
+      let few = rows.few in
+      let count = rows.ordered in
+      let marks = whole.marked in
+      let row = ap length (standing_at d.stand.items d.orders.items b (omega arith)) in
+      let shorter = standing_shorter (get_or d.stand.items b []) (get_or d.orders.items b []) in
+      omega arith
+  | inr (past, absent) ↦
+      let ordered = whole.ordered in
+      let count : length (numbers_of d) ≡ length d.orders.items = standing_length d.stand.items d.orders.items in
+      let empty = ap length (get_or_past (numbers_of d) b [] (omega arith)) in
+      omega arith
+]

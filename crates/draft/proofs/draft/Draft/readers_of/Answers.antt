@@ -1,5 +1,29 @@
-use Rattle.std.proofs.Common.{List, sym, subst, Contains, ◌∙◌}
+use Rattle.std.proofs.Common.{◌≡◌, ◌∙◌, [], List, ap, get_or, sym, subst, Contains}
+use Rattle.std.proofs.lemmas.List.{get_or_default}
+use Rattle.ir_core.specs.declared.operand.Register.{Register}
+use Rattle.draft.specs.Readers.{HasList, listed_for}
+use Rattle.draft.specs.declared.draft.Place.{Place}
 use Rattle.draft.proofs.draft.Draft.readers_of.Goals as goal
 
 pub returns-in-Parameter-clause-readers : goal.returns-in-Parameter-clause-readers
-returns-in-Parameter-clause-readers c = ?
+returns-in-Parameter-clause-readers c = λ p inside reads.
+    let readers = c.args.self.now.readers in
+    let k = c.in-Parameter.k in
+    let has = subst (λ (r : Register). HasList readers r) c.in-Parameter.is (c.requires.whole.readers.there c.args.register c.requires.known) in
+    let same : c.as_slice-in-Parameter.result.now ≡ listed_for readers c.args.register =
+    c.as_slice-in-Parameter.ensures ∙ c.index-as_slice-k.is ∙ ap (λ (l : List (List Place)). get_or l k c.index-as_slice-k.result) c.as_slice.ensures
+    ∙ get_or_default readers.parameters k c.index-as_slice-k.result [] has ∙ ap (listed_for readers) (sym c.in-Parameter.is) in
+    subst (λ (l : List Place). Contains l p) (sym same) (c.requires.whole.readers.complete c.args.register p inside reads)
+
+pub returns-in-Parameter-clause-places : goal.returns-in-Parameter-clause-places
+returns-in-Parameter-clause-places c = λ p there.
+    let readers = c.args.self.now.readers in
+    let k = c.in-Parameter.k in
+    let has = subst (λ (r : Register). HasList readers r) c.in-Parameter.is (c.requires.whole.readers.there c.args.register c.requires.known) in
+    let same : c.as_slice-in-Parameter.result.now ≡ listed_for readers c.args.register =
+    c.as_slice-in-Parameter.ensures ∙ c.index-as_slice-k.is ∙ ap (λ (l : List (List Place)). get_or l k c.index-as_slice-k.result) c.as_slice.ensures
+    ∙ get_or_default readers.parameters k c.index-as_slice-k.result [] has ∙ ap (listed_for readers) (sym c.in-Parameter.is) in
+    c.requires.whole.readers.places c.args.register p (subst (λ (l : List Place). Contains l p) same there)
+
+pub returns-in-Result-clause-readers : goal.returns-in-Result-clause-readers
+returns-in-Result-clause-readers c = ?

@@ -1,0 +1,63 @@
+use Rattle.std.proofs.Common.{◌≡◌, ◌∙◌, ℕ, Bool, List, [], Some, ap, get_or, length, sym, subst, arith}
+use Rattle.std.specs.Prelude.{slice_get}
+use Rattle.ir_core.specs.declared.function.Block.{Block}
+use Rattle.ir_core.specs.declared.function.Function.{Function}
+use Rattle.draft.specs.Drafts.{blocks_of, numbers_of, standing}
+use Rattle.draft.specs.Placing.{IsOrdering, at_places}
+use Rattle.draft.proofs.Rows.{standing_length}
+use Rattle.draft.proofs.Standing.{numbers_few, numbers_ordered, placed_blocks_are, stand_ordering}
+use Rattle.draft.proofs.Wholeness.{counted_insts}
+use Rattle.draft.proofs.draft.Draft.function.Goals as goal
+
+pub standing_numbers-requires-clause-ordered : goal.standing_numbers-requires-clause-ordered
+standing_numbers-requires-clause-ordered c = λ b within.
+    let d = c.args.self in
+    let size = ap length c.deref.ensures.value in
+    subst (λ (rows : List (List Bool)). IsOrdering (length (get_or rows b [])) (get_or c.deref.result.now b [])) (sym c.deref-2.ensures.value)
+    (subst (λ (rows : List (List ℕ)). IsOrdering (length (get_or d.stand.items b [])) (get_or rows b [])) (sym c.deref.ensures.value) (stand_ordering d c.requires.whole b (omega arith)))
+
+pub places_of-requires-clause-blocks : goal.places_of-requires-clause-blocks
+places_of-requires-clause-blocks c =
+    let d = c.args.self in
+    let rows : c.deref-3.result.now ≡ numbers_of d = c.deref-3.ensures.value ∙ c.in_ok-numbers.ensures ∙ ap (λ (s : List (List Bool)). standing s c.deref.result.now) c.deref-2.ensures.value ∙ ap (standing d.stand.items) c.deref.ensures.value in
+    ap length rows ∙ standing_length d.stand.items d.orders.items ∙ c.requires.whole.ordered
+
+pub places_of-requires-clause-insts : goal.places_of-requires-clause-insts
+places_of-requires-clause-insts c = counted_insts c.args.self c.requires.whole
+
+pub places_of-requires-clause-ordered : goal.places_of-requires-clause-ordered
+places_of-requires-clause-ordered c = λ b block at.
+    let d = c.args.self in
+    let rows : c.deref-3.result.now ≡ numbers_of d = c.deref-3.ensures.value ∙ c.in_ok-numbers.ensures ∙ ap (λ (s : List (List Bool)). standing s c.deref.result.now) c.deref-2.ensures.value ∙ ap (standing d.stand.items) c.deref.ensures.value in
+    subst (λ (r : List (List ℕ)). IsOrdering (length block.insts) (get_or r b [])) (sym rows) (numbers_ordered d c.requires.whole b block at)
+
+pub places_of-requires-clause-few : goal.places_of-requires-clause-few
+places_of-requires-clause-few c = λ b.
+    let d = c.args.self in
+    let rows : c.deref-3.result.now ≡ numbers_of d = c.deref-3.ensures.value ∙ c.in_ok-numbers.ensures ∙ ap (λ (s : List (List Bool)). standing s c.deref.result.now) c.deref-2.ensures.value ∙ ap (standing d.stand.items) c.deref.ensures.value in
+    let few = numbers_few d c.requires.whole b in
+    let size = ap (λ (r : List (List ℕ)). length (get_or r b [])) rows in
+    omega arith
+
+pub placed_blocks-requires-clause-blocks : goal.placed_blocks-requires-clause-blocks
+placed_blocks-requires-clause-blocks c =
+    let d = c.args.self in
+    let rows : c.deref-4.result.now ≡ numbers_of d = c.deref-4.ensures.value ∙ c.in_ok-numbers.ensures ∙ ap (λ (s : List (List Bool)). standing s c.deref.result.now) c.deref-2.ensures.value ∙ ap (standing d.stand.items) c.deref.ensures.value in
+    ap length rows ∙ standing_length d.stand.items d.orders.items ∙ c.requires.whole.ordered ∙ sym (ap length c.replace-blocks.ensures.value)
+
+pub placed_blocks-requires-clause-ordered : goal.placed_blocks-requires-clause-ordered
+placed_blocks-requires-clause-ordered c = λ b block at.
+    let d = c.args.self in
+    let rows : c.deref-4.result.now ≡ numbers_of d = c.deref-4.ensures.value ∙ c.in_ok-numbers.ensures ∙ ap (λ (s : List (List Bool)). standing s c.deref.result.now) c.deref-2.ensures.value ∙ ap (standing d.stand.items) c.deref.ensures.value in
+    subst (λ (r : List (List ℕ)). IsOrdering (length block.insts) (get_or r b [])) (sym rows)
+    (numbers_ordered d c.requires.whole b block (ap (λ (l : List Block). slice_get l b) (sym c.replace-blocks.ensures.value) ∙ at))
+
+pub returns : goal.returns
+returns c =
+    let d = c.args.self in
+    let rows3 : c.deref-3.result.now ≡ numbers_of d = c.deref-3.ensures.value ∙ c.in_ok-numbers.ensures ∙ ap (λ (s : List (List Bool)). standing s c.deref.result.now) c.deref-2.ensures.value ∙ ap (standing d.stand.items) c.deref.ensures.value in
+    let rows4 : c.deref-4.result.now ≡ numbers_of d = c.deref-4.ensures.value ∙ c.in_ok-numbers.ensures ∙ ap (λ (s : List (List Bool)). standing s c.deref.result.now) c.deref-2.ensures.value ∙ ap (standing d.stand.items) c.deref.ensures.value in
+    let places = c.in_ok-places.places.rows.items in
+    ap (λ (l : List Block). let f : Function = record { name = d.arena.name; before = d.arena.before; width = d.arena.width; parameters = d.arena.parameters; after = d.arena.after; blocks = l } in f)
+    (c.in_ok-arena.ensures ∙ ap (λ (r : List (List ℕ)). blocks_of (at_places places) r c.replace-blocks.result) rows4 ∙ ap (blocks_of (at_places places) (numbers_of d)) c.replace-blocks.ensures.value
+    ∙ placed_blocks_are d c.requires places (λ b k n at. c.in_ok-places.ensures b k n (ap (λ (r : List (List ℕ)). slice_get (get_or r b []) k) rows3 ∙ at)))
