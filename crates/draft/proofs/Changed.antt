@@ -86,14 +86,14 @@ whole_exchanged old new b n block was inst whole at here stands known arena orde
     whole_changed old new (record { block = b; number = n }) whole (differs old new b n change whole block was at here arena) recounted (few old new b n change whole block was at here arena)
     (blocks_count old new b n change whole block was at here arena) (ap length orders) (ap length stand)
     (λ c x is. subst (λ (rows : List (List ℕ)). AreRowsOf x (get_or rows c []) (get_or new.stand.items c [])) (sym orders)
-      (subst (λ (rows : List (List Bool)). AreRowsOf x (get_or old.orders.items c []) (get_or rows c [])) (sym stand)
-      (elim (block_of_new old new b n change whole block was at here arena c x is) [
-        | inl (same, x_is) ↦
-            subst (λ (z : Block). AreRowsOf z (get_or old.orders.items c []) (get_or old.stand.items c [])) (sym x_is)
-            (subst (λ (d : ℕ). AreRowsOf (inst_changed n change block) (get_or old.orders.items d []) (get_or old.stand.items d [])) (sym same)
-            (rows_exchanged block (get_or old.orders.items b []) (get_or old.stand.items b []) n change (whole.rows b block at) stands))
-        | inr (apart, before) ↦ whole.rows c x before
-      ])))
+    (subst (λ (rows : List (List Bool)). AreRowsOf x (get_or old.orders.items c []) (get_or rows c [])) (sym stand)
+    (elim (block_of_new old new b n change whole block was at here arena c x is) [
+      | inl (same, x_is) ↦
+          subst (λ (z : Block). AreRowsOf z (get_or old.orders.items c []) (get_or old.stand.items c [])) (sym x_is)
+          (subst (λ (d : ℕ). AreRowsOf (inst_changed n change block) (get_or old.orders.items d []) (get_or old.stand.items d [])) (sym same)
+          (rows_exchanged block (get_or old.orders.items b []) (get_or old.stand.items b []) n change (whole.rows b block at) stands))
+      | inr (apart, before) ↦ whole.rows c x before
+    ])))
     (reads_are_known old new b n change whole block was at here arena (λ a there. All-contains (IsKnown old.arena) (operands_of inst.op) a known there))
 
 -- one that is taken out
@@ -106,15 +106,15 @@ whole_taken_out old new b n block was whole at here arena orders stand recounted
     whole_changed old new (record { block = b; number = n }) whole (differs old new b n gone whole block was at here arena) recounted (few old new b n gone whole block was at here arena)
     (blocks_count old new b n gone whole block was at here arena) (ap length orders) (ap length stand ∙ length-set old.stand.items b row)
     (λ c x is. subst (λ (rows : List (List ℕ)). AreRowsOf x (get_or rows c []) (get_or new.stand.items c [])) (sym orders)
-      (subst (λ (rows : List (List Bool)). AreRowsOf x (get_or old.orders.items c []) (get_or rows c [])) (sym stand)
-      (elim (block_of_new old new b n gone whole block was at here arena c x is) [
-        | inl (same, x_is) ↦
-            subst (λ (z : Block). AreRowsOf z (get_or old.orders.items c []) (get_or (slice_set old.stand.items b row) c [])) (sym x_is)
-            (subst (λ (d : ℕ). AreRowsOf (inst_changed n gone block) (get_or old.orders.items d []) (get_or (slice_set old.stand.items b row) d [])) (sym same)
-            (subst (λ (marks : List Bool). AreRowsOf (inst_changed n gone block) (get_or old.orders.items b []) marks) (sym (get_or-set_same old.stand.items b row [] within))
-            (rows_less block (get_or old.orders.items b []) (get_or old.stand.items b []) n (whole.rows b block at))))
-        | inr (apart, before) ↦ subst (λ (marks : List Bool). AreRowsOf x (get_or old.orders.items c []) marks) (sym (get_or-set_other old.stand.items b c row [] apart)) (whole.rows c x before)
-      ])))
+    (subst (λ (rows : List (List Bool)). AreRowsOf x (get_or old.orders.items c []) (get_or rows c [])) (sym stand)
+    (elim (block_of_new old new b n gone whole block was at here arena c x is) [
+      | inl (same, x_is) ↦
+          subst (λ (z : Block). AreRowsOf z (get_or old.orders.items c []) (get_or (slice_set old.stand.items b row) c [])) (sym x_is)
+          (subst (λ (d : ℕ). AreRowsOf (inst_changed n gone block) (get_or old.orders.items d []) (get_or (slice_set old.stand.items b row) d [])) (sym same)
+          (subst (λ (marks : List Bool). AreRowsOf (inst_changed n gone block) (get_or old.orders.items b []) marks) (sym (get_or-set_same old.stand.items b row [] within))
+          (rows_less block (get_or old.orders.items b []) (get_or old.stand.items b []) n (whole.rows b block at))))
+      | inr (apart, before) ↦ subst (λ (marks : List Bool). AreRowsOf x (get_or old.orders.items c []) marks) (sym (get_or-set_other old.stand.items b c row [] apart)) (whole.rows c x before)
+    ])))
     (reads_are_known old new b n gone whole block was at here arena (λ a there. poison_known old.arena a there))
   where
     poison_known : (f : Function) (a : Operand) → Contains (operands.Poison ∷ []) a → IsKnown f a

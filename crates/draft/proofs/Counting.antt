@@ -68,11 +68,11 @@ pub counted_more : (xs : List Operand) (i : ℕ) (a : Operand) (old mid new : Us
 counted_more xs i a old mid new within here before one = record {
   there = λ r. (λ h. (one.there r).0 ((before.there r).0 h), λ h. (before.there r).1 ((one.there r).1 h));
   more = λ r.
-    let step = times_more r xs i operands.Poison within in
-    let same : times r (a ∷ []) ≡ times r (get_or xs i operands.Poison ∷ []) = ap (λ (x : Operand). times r (x ∷ [])) here in
-    let first = before.more r in
-    let after = one.more r in
-    omega arith;
+      let step = times_more r xs i operands.Poison within in
+      let same : times r (a ∷ []) ≡ times r (get_or xs i operands.Poison ∷ []) = ap (λ (x : Operand). times r (x ∷ [])) here in
+      let first = before.more r in
+      let after = one.more r in
+      omega arith;
 }
 
 -- the same backwards, where the operands are counted no more
@@ -80,11 +80,11 @@ pub forgotten_more : (xs : List Operand) (i : ℕ) (a : Operand) (old mid new : 
 forgotten_more xs i a old mid new within here before one = record {
   there = λ r. (λ h. (before.there r).0 ((one.there r).0 h), λ h. (one.there r).1 ((before.there r).1 h));
   more = λ r.
-    let step = times_more r xs i operands.Poison within in
-    let same : times r (a ∷ []) ≡ times r (get_or xs i operands.Poison ∷ []) = ap (λ (x : Operand). times r (x ∷ [])) here in
-    let first = before.more r in
-    let after = one.more r in
-    omega arith;
+      let step = times_more r xs i operands.Poison within in
+      let same : times r (a ∷ []) ≡ times r (get_or xs i operands.Poison ∷ []) = ap (λ (x : Operand). times r (x ∷ [])) here in
+      let first = before.more r in
+      let after = one.more r in
+      omega arith;
 }
 
 pub only_one : (a b : Operand) → Contains (a ∷ []) b → a ≡ b

@@ -108,9 +108,9 @@ module _ (f : Function) (b : ℕ) (change : Block → Block) (block : Block) (at
         | inr other ↦ read_in_other f b change block at few q other there
       ];
       times_differ = λ r.
-        let blocks = changed_sum (times_in r) b change f.blocks block at in
-        let here = counted r in
-        omega arith;
+          let blocks = changed_sum (times_in r) b change f.blocks block at in
+          let here = counted r in
+          omega arith;
     }
 
 -- ---- an instruction is another
@@ -165,10 +165,10 @@ module _ (f : Function) (few : AreFew f) (b n : ℕ) (change : Inst → Inst) (b
   pub inst_differs : DiffersAt f inst_function inst_place
   inst_differs = differs_at f b inst_block block at inst_count few inst_place inst_inside (λ x. refl) inst_others
       (λ r.
-        let insts = changed_sum (λ (i : Inst). times r (operands_of i.op)) n change block.insts inst here in
-        let was = ap (times r) read_was in
-        let now = ap (times r) read_now in
-        omega arith)
+      let insts = changed_sum (λ (i : Inst). times r (operands_of i.op)) n change block.insts inst here in
+      let was = ap (times r) read_was in
+      let now = ap (times r) read_now in
+      omega arith)
 
 -- ---- a terminator is another
 
@@ -210,6 +210,6 @@ module _ (f : Function) (few : AreFew f) (b : ℕ) (change : Terminator → Term
   pub end_differs : DiffersAt f end_function end_place
   end_differs = differs_at f b end_block block at (λ x. refl) few end_place end_inside (λ x. same_targets x.end) end_others
       (λ r.
-        let was = ap (times r) end_read_was in
-        let now = ap (times r) end_read_now in
-        omega arith)
+      let was = ap (times r) end_read_was in
+      let now = ap (times r) end_read_now in
+      omega arith)

@@ -54,12 +54,12 @@ module _ (to : Substitution) (all : List Inst) (numbers : List ℕ) (i : ℕ) (i
             ∙ ap (λ (m : ℕ). insts_of to all (take i numbers ++ m ∷ [])) here
             ∙ ap (insts_of to all) (sym (take_more numbers i n within));
         rest = λ k m later at.
-          let other : m ≡ n → ⊥ = λ e.
-          let once_m = ordering.once k m at in
-          let once_n = ordering.once i n number_at in
-          let same = ap (place_in numbers) e in
-          absurd (omega arith) in
-          slice_get-set_other insts n m left other ∙ so_far.rest k m (omega arith) at;
+            let other : m ≡ n → ⊥ = λ e.
+            let once_m = ordering.once k m at in
+            let once_n = ordering.once i n number_at in
+            let same = ap (place_in numbers) e in
+            absurd (omega arith) in
+            slice_get-set_other insts n m left other ∙ so_far.rest k m (omega arith) at;
       }
 
 pub all_placed : (to : Substitution) (all : List Inst) (numbers : List ℕ) (i : ℕ) (insts placed : List Inst) → InstsPlaced to all numbers i insts placed → length numbers ≤ i → placed ≡ insts_of to all numbers

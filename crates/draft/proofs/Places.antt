@@ -151,8 +151,8 @@ module _ (f f' : Function) (p : Place) (differs : DiffersAt f f' p) where
   still_facts old new mid facts flow forgotten counted = record {
     flow = flow ∙ facts.flow ∙ sym differs.flow;
     uses = times_are_counts f' new.uses
-      (λ r known. (counted.there r).0 ((forgotten.there r).1 (facts.uses.there r (known_kept f' f differs.back (operands.Register r) known))))
-      (λ r.
+        (λ r known. (counted.there r).0 ((forgotten.there r).1 (facts.uses.there r (known_kept f' f differs.back (operands.Register r) known))))
+        (λ r.
         let was = counts_are_times f old.uses facts.uses r in
         let less = forgotten.more r in
         let more = counted.more r in
@@ -165,15 +165,15 @@ module _ (f f' : Function) (p : Place) (differs : DiffersAt f f' p) where
   still_readers old new are listed = record {
     there = λ r known. listed.there r (are.there r (known_kept f' f differs.back (operands.Register r) known));
     complete = λ r q inside reads.
-      let reads_now = reads_written f' q.block (arena_place f' q) r reads in
-      elim (is_same_place q p) [
-        | inl same ↦ subst (λ (x : Place). Contains (listed_for new r) x) (sym same)
-            (listed.listed r (subst (λ (x : Place). Contains (operands_at f' x) (operands.Register r)) same reads_now))
-        | inr apart ↦
-            let was = (differs.places q).0 inside in
-            let read_before : Contains (operands_at f q) (operands.Register r) = subst (λ (l : List Operand). Contains l (operands.Register r)) (differs.elsewhere q was apart) reads_now in
-            listed.kept r q (are.complete r q was (written_reads f q.block (arena_place f q) r read_before))
-      ];
+        let reads_now = reads_written f' q.block (arena_place f' q) r reads in
+        elim (is_same_place q p) [
+          | inl same ↦ subst (λ (x : Place). Contains (listed_for new r) x) (sym same)
+              (listed.listed r (subst (λ (x : Place). Contains (operands_at f' x) (operands.Register r)) same reads_now))
+          | inr apart ↦
+              let was = (differs.places q).0 inside in
+              let read_before : Contains (operands_at f q) (operands.Register r) = subst (λ (l : List Operand). Contains l (operands.Register r)) (differs.elsewhere q was apart) reads_now in
+              listed.kept r q (are.complete r q was (written_reads f q.block (arena_place f q) r read_before))
+        ];
     places = λ r q there. elim (listed.came r q there) [
       | inl older ↦ (differs.places q).1 (are.places r q older)
       | inr same ↦ (differs.places q).1 (subst (IsPlaceIn f) (sym same) differs.inside)

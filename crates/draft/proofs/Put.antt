@@ -83,28 +83,28 @@ whole_put old new b at block inst whole is_block there inside room known put =
       ordered = ap length put.orders ∙ length-set old.orders.items b order ∙ whole.ordered ∙ sym blocks;
       marked = ap length put.stand ∙ length-set old.stand.items b marks ∙ whole.marked ∙ sym blocks;
       rows = λ c x is. subst (λ (rows : List (List ℕ)). AreRowsOf x (get_or rows c []) (get_or new.stand.items c [])) (sym put.orders)
-        (subst (λ (rows : List (List Bool)). AreRowsOf x (get_or (slice_set old.orders.items b order) c []) (get_or rows c [])) (sym put.stand)
-        (elim (block_cases old.arena b (inst_put inst) block is_block c x (ap (λ (f : Function). slice_get f.blocks c) (sym put.arena) ∙ is)) [
-          | inl (same, x_is) ↦
-              subst (λ (z : Block). AreRowsOf z (get_or (slice_set old.orders.items b order) c []) (get_or (slice_set old.stand.items b marks) c [])) (sym x_is)
-              (subst (λ (d : ℕ). AreRowsOf (inst_put inst block) (get_or (slice_set old.orders.items b order) d []) (get_or (slice_set old.stand.items b marks) d [])) (sym same)
-              (subst (λ (l : List ℕ). AreRowsOf (inst_put inst block) l (get_or (slice_set old.stand.items b marks) b [])) (sym (get_or-set_same old.orders.items b order [] order_within))
-              (subst (λ (l : List Bool). AreRowsOf (inst_put inst block) order l) (sym (get_or-set_same old.stand.items b marks [] stand_within))
-              (rows_more block (get_or old.orders.items b []) (get_or old.stand.items b []) at inst (whole.rows b block is_block) there room))))
-          | inr (apart, before) ↦
-              subst (λ (l : List ℕ). AreRowsOf x l (get_or (slice_set old.stand.items b marks) c [])) (sym (get_or-set_other old.orders.items b c order [] apart))
-              (subst (λ (l : List Bool). AreRowsOf x (get_or old.orders.items c []) l) (sym (get_or-set_other old.stand.items b c marks [] apart))
-              (whole.rows c x before))
-        ]));
+          (subst (λ (rows : List (List Bool)). AreRowsOf x (get_or (slice_set old.orders.items b order) c []) (get_or rows c [])) (sym put.stand)
+          (elim (block_cases old.arena b (inst_put inst) block is_block c x (ap (λ (f : Function). slice_get f.blocks c) (sym put.arena) ∙ is)) [
+            | inl (same, x_is) ↦
+                subst (λ (z : Block). AreRowsOf z (get_or (slice_set old.orders.items b order) c []) (get_or (slice_set old.stand.items b marks) c [])) (sym x_is)
+                (subst (λ (d : ℕ). AreRowsOf (inst_put inst block) (get_or (slice_set old.orders.items b order) d []) (get_or (slice_set old.stand.items b marks) d [])) (sym same)
+                (subst (λ (l : List ℕ). AreRowsOf (inst_put inst block) l (get_or (slice_set old.stand.items b marks) b [])) (sym (get_or-set_same old.orders.items b order [] order_within))
+                (subst (λ (l : List Bool). AreRowsOf (inst_put inst block) order l) (sym (get_or-set_same old.stand.items b marks [] stand_within))
+                (rows_more block (get_or old.orders.items b []) (get_or old.stand.items b []) at inst (whole.rows b block is_block) there room))))
+            | inr (apart, before) ↦
+                subst (λ (l : List ℕ). AreRowsOf x l (get_or (slice_set old.stand.items b marks) c [])) (sym (get_or-set_other old.orders.items b c order [] apart))
+                (subst (λ (l : List Bool). AreRowsOf x (get_or old.orders.items c []) l) (sym (get_or-set_other old.stand.items b c marks [] apart))
+                (whole.rows c x before))
+          ]));
       known = subst (λ (f : Function). (c k i : ℕ) (r : Read) → IsRead f c k i r → IsKnown f r.operand) (sym put.arena)
-        (reads_known f' few' (known_put old.arena few b block is_block inst room (all_known old whole) reads_are_known));
+          (reads_known f' few' (known_put old.arena few b block is_block inst room (all_known old whole) reads_are_known));
       facts = subst (λ (f : Function). AreFactsOf f new.facts) (sym put.arena)
-        (facts_put old.arena few b block is_block inst room old.facts new.facts put.uses whole.facts put.flow
+          (facts_put old.arena few b block is_block inst room old.facts new.facts put.uses whole.facts put.flow
           (number_there old.facts.uses put.uses b n use_within use_low put.use_parameters put.use_results)
           (count_kept old.facts.uses put.uses b n use_within use_low put.use_parameters put.use_results)
           (subst (λ (f : Function). AreCounted (operands_at f p) put.uses new.facts.uses) put.arena put.counted));
       readers = subst (λ (f : Function). AreReadersOf f new.readers) (sym put.arena)
-        (readers_put old.arena few b block is_block inst room old.readers put.readers new.readers whole.readers
+          (readers_put old.arena few b block is_block inst room old.readers put.readers new.readers whole.readers
           (list_there old.readers put.readers b n list_within list_low put.reader_parameters put.reader_results)
           (list_kept old.readers put.readers b n list_within list_low put.reader_parameters put.reader_results)
           (subst (λ (f : Function). AreListed p (operands_at f p) put.readers new.readers) put.arena put.listed));

@@ -172,8 +172,8 @@ module _ (f : Function) (few : AreFew f) (b : ℕ) (block : Block) (at : IsBlock
   facts_put old new_facts mid facts flow there same counted = record {
     flow = flow ∙ facts.flow ∙ sym flow_put;
     uses = times_are_counts new new_facts.uses
-      (λ r known. (counted.there r).0 (there r (elim (known_back r known) [ inl older ↦ inl (facts.uses.there r older) | inr this ↦ inr this ])))
-      (λ r.
+        (λ r known. (counted.there r).0 (there r (elim (known_back r known) [ inl older ↦ inl (facts.uses.there r older) | inr this ↦ inr this ])))
+        (λ r.
         let was = counts_are_times f old.uses facts.uses r in
         let kept = same r in
         let more = counted.more r in
@@ -188,13 +188,13 @@ module _ (f : Function) (few : AreFew f) (b : ℕ) (block : Block) (at : IsBlock
   readers_put old mid new_readers are there same listed = record {
     there = λ r known. listed.there r (there r (elim (known_back r known) [ inl older ↦ inl (are.there r older) | inr this ↦ inr this ]));
     complete = λ r q inside reads.
-      let reads_now = reads_written new q.block (arena_place new q) r reads in
-      elim (places_put q inside) [
-        | inl older ↦
-            let read_before : Contains (operands_at f q) (operands.Register r) = subst (λ (l : List Operand). Contains l (operands.Register r)) (read_elsewhere q older) reads_now in
-            (listed.listed r q).1 (inl (subst (λ (l : List Place). Contains l q) (sym (same r)) (are.complete r q older (written_reads f q.block (arena_place f q) r read_before))))
-        | inr this ↦ (listed.listed r q).1 (inr (subst (λ (x : Place). Contains (operands_at new x) (operands.Register r)) this reads_now, this))
-      ];
+        let reads_now = reads_written new q.block (arena_place new q) r reads in
+        elim (places_put q inside) [
+          | inl older ↦
+              let read_before : Contains (operands_at f q) (operands.Register r) = subst (λ (l : List Operand). Contains l (operands.Register r)) (read_elsewhere q older) reads_now in
+              (listed.listed r q).1 (inl (subst (λ (l : List Place). Contains l q) (sym (same r)) (are.complete r q older (written_reads f q.block (arena_place f q) r read_before))))
+          | inr this ↦ (listed.listed r q).1 (inr (subst (λ (x : Place). Contains (operands_at new x) (operands.Register r)) this reads_now, this))
+        ];
     places = λ r q h. elim ((listed.listed r q).0 h) [
       | inl older ↦ places_kept q (are.places r q (subst (λ (l : List Place). Contains l q) (same r) older))
       | inr (reads, this) ↦ subst (IsPlaceIn new) (sym this) place_put

@@ -83,17 +83,17 @@ module _ (from : Register) (to : Operand) where
   all_stay f few stay =
       let blocks_stay : (b : ℕ) (block : Block) → slice_get f.blocks b ≡ Some block → substituted_block (instead from to) block ≡ block =
       λ b block at.
-        let less = few b block at in
-        let insts_stay : map (substituted_inst (instead from to)) block.insts ≡ block.insts =
-        map_same (substituted_inst (instead from to)) block.insts (λ n inst here.
-          let p : Place = record { block = b; number = n } in
-          let within = slice_get_within block.insts n inst here in
-          let reads = operands_at_inst f p block inst at here (omega arith) in
-          inst_stays inst (subst Stay reads (stay p (block, at, inl within)))) in
-        let p : Place = record { block = b; number = none } in
-        let end_is : substituted_end (instead from to) block.end ≡ block.end = end_stays block.end (subst Stay (operands_at_terminator f p block at refl) (stay p (block, at, inr refl))) in
-        ap (λ (l : List Inst). let x : Block = record { name = block.name; insts = l; end = substituted_end (instead from to) block.end } in x) insts_stay
-        ∙ ap (λ (t : Terminator). let x : Block = record { name = block.name; insts = block.insts; end = t } in x) end_is in
+      let less = few b block at in
+      let insts_stay : map (substituted_inst (instead from to)) block.insts ≡ block.insts =
+      map_same (substituted_inst (instead from to)) block.insts (λ n inst here.
+      let p : Place = record { block = b; number = n } in
+      let within = slice_get_within block.insts n inst here in
+      let reads = operands_at_inst f p block inst at here (omega arith) in
+      inst_stays inst (subst Stay reads (stay p (block, at, inl within)))) in
+      let p : Place = record { block = b; number = none } in
+      let end_is : substituted_end (instead from to) block.end ≡ block.end = end_stays block.end (subst Stay (operands_at_terminator f p block at refl) (stay p (block, at, inr refl))) in
+      ap (λ (l : List Inst). let x : Block = record { name = block.name; insts = l; end = substituted_end (instead from to) block.end } in x) insts_stay
+      ∙ ap (λ (t : Terminator). let x : Block = record { name = block.name; insts = block.insts; end = t } in x) end_is in
       ap (λ (l : List Block). let g : Function = record { name = f.name; before = f.before; width = f.width; parameters = f.parameters; after = f.after; blocks = l } in g)
       (map_same (substituted_block (instead from to)) f.blocks blocks_stay)
 
@@ -135,12 +135,12 @@ module _ (from : Register) (to : Operand) where
     | inl is ↦
         ap (λ (g : Function). replaced g from to) (replaced_at_end f p is)
         ∙ ap (with_blocks f) (map_changed (substituted_block (instead from to)) p.block
-          (end_changed (substituted_end (instead from to))) f.blocks
-          (λ x. ap (λ (t : Terminator). let y : Block = record { name = x.name; insts = map (substituted_inst (instead from to)) x.insts; end = t } in y) (end_twice x.end)))
+        (end_changed (substituted_end (instead from to))) f.blocks
+        (λ x. ap (λ (t : Terminator). let y : Block = record { name = x.name; insts = map (substituted_inst (instead from to)) x.insts; end = t } in y) (end_twice x.end)))
     | inr other ↦
         ap (λ (g : Function). replaced g from to) (replaced_at_inst f p other)
         ∙ ap (with_blocks f) (map_changed (substituted_block (instead from to)) p.block
-          (inst_changed p.number (substituted_inst (instead from to))) f.blocks
-          (λ x. ap (λ (l : List Inst). let y : Block = record { name = x.name; insts = l; end = substituted_end (instead from to) x.end } in y)
-            (map_changed (substituted_inst (instead from to)) p.number (substituted_inst (instead from to)) x.insts inst_twice)))
+        (inst_changed p.number (substituted_inst (instead from to))) f.blocks
+        (λ x. ap (λ (l : List Inst). let y : Block = record { name = x.name; insts = l; end = substituted_end (instead from to) x.end } in y)
+        (map_changed (substituted_inst (instead from to)) p.number (substituted_inst (instead from to)) x.insts inst_twice)))
   ]

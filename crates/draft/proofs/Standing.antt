@@ -37,9 +37,9 @@ standing_distinct stand (n ∷ numbers) distinct = elim (cases_Bool (marked stan
 pub standing_ordering : (stand : List Bool) (numbers : List ℕ) (count : ℕ) → IsOrdering count numbers → IsOrdering count (standing_in stand numbers)
 standing_ordering stand numbers count ordering = record {
   below = λ k n at.
-    let there = (stands_is stand numbers n (contains_at (standing_in stand numbers) n k at)).0 in
-    let (j, here) = contained_at numbers n there in
-    ordering.below j n here;
+      let there = (stands_is stand numbers n (contains_at (standing_in stand numbers) n k at)).0 in
+      let (j, here) = contained_at numbers n there in
+      ordering.below j n here;
   once = once_distinct (standing_in stand numbers) (standing_distinct stand numbers (distinct_once numbers ordering.once));
 }
 
@@ -122,13 +122,13 @@ module _ (d : Draft) (settled : IsSettled d) (places : List (List ℕ)) (table :
   pub placed_agree : BlocksAgree (at_places places) (placed (numbers_of d)) (numbers_of d) d.arena.blocks
   placed_agree = record {
     insts = λ b n block inst at there here a read.
-      let p : Place = record { block = b; number = n } in
-      let less = (settled.whole.rows b block at).few in
-      let within = slice_get_within block.insts n inst here in
-      read_agrees p a (block, at, inl within) (subst (λ (l : List Operand). Contains l a) (sym (operands_at_inst d.arena p block inst at here (omega arith))) read);
+        let p : Place = record { block = b; number = n } in
+        let less = (settled.whole.rows b block at).few in
+        let within = slice_get_within block.insts n inst here in
+        read_agrees p a (block, at, inl within) (subst (λ (l : List Operand). Contains l a) (sym (operands_at_inst d.arena p block inst at here (omega arith))) read);
     ends = λ b block at a read.
-      let p : Place = record { block = b; number = none } in
-      read_agrees p a (block, at, inr refl) (subst (λ (l : List Operand). Contains l a) (sym (operands_at_terminator d.arena p block at refl)) read);
+        let p : Place = record { block = b; number = none } in
+        read_agrees p a (block, at, inr refl) (subst (λ (l : List Operand). Contains l a) (sym (operands_at_terminator d.arena p block at refl)) read);
   }
 
   pub placed_blocks_are : blocks_of (at_places places) (numbers_of d) d.arena.blocks ≡ (function_of d).blocks

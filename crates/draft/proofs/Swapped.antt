@@ -111,14 +111,14 @@ module _ (old new : Draft) (from : Register) (to : Operand) (b n : ℕ) (whole :
       whole_changed old new place whole (differs old new b n change whole block inst at here arena) recounted (few old new b n change whole block inst at here arena)
       (blocks_count old new b n change whole block inst at here arena) (ap length orders) (ap length stand)
       (λ c x is. subst (λ (rows : List (List ℕ)). AreRowsOf x (get_or rows c []) (get_or new.stand.items c [])) (sym orders)
-        (subst (λ (rows : List (List Bool)). AreRowsOf x (get_or old.orders.items c []) (get_or rows c [])) (sym stand)
-        (elim (block_of_new old new b n change whole block inst at here arena c x is) [
-          | inl (same, x_is) ↦
-              subst (λ (z : Block). AreRowsOf z (get_or old.orders.items c []) (get_or old.stand.items c [])) (sym x_is)
-              (subst (λ (d : ℕ). AreRowsOf (inst_changed n change block) (get_or old.orders.items d []) (get_or old.stand.items d [])) (sym same)
-              (rows_swapped block (get_or old.orders.items b []) (get_or old.stand.items b []) n change (whole.rows b block at) none_came))
-          | inr (apart, before) ↦ whole.rows c x before
-        ])))
+      (subst (λ (rows : List (List Bool)). AreRowsOf x (get_or old.orders.items c []) (get_or rows c [])) (sym stand)
+      (elim (block_of_new old new b n change whole block inst at here arena c x is) [
+        | inl (same, x_is) ↦
+            subst (λ (z : Block). AreRowsOf z (get_or old.orders.items c []) (get_or old.stand.items c [])) (sym x_is)
+            (subst (λ (d : ℕ). AreRowsOf (inst_changed n change block) (get_or old.orders.items d []) (get_or old.stand.items d [])) (sym same)
+            (rows_swapped block (get_or old.orders.items b []) (get_or old.stand.items b []) n change (whole.rows b block at) none_came))
+        | inr (apart, before) ↦ whole.rows c x before
+      ])))
       (swapped_known old.arena from to place (operands_at new.arena place) inst_reads_now known (all_known old whole) inside)
 
 -- ---- at a terminator
@@ -149,14 +149,14 @@ module _ (old new : Draft) (from : Register) (to : Operand) (b : ℕ) (whole : I
       (subst AreFew (sym arena) (still_few old.arena b (end_changed swap_end) block at same_count (few_insts old whole)))
       (ap (λ (f : Function). length f.blocks) arena ∙ changed_length b (end_changed swap_end) old.arena.blocks) (ap length orders) (ap length stand)
       (λ c x is. subst (λ (rows : List (List ℕ)). AreRowsOf x (get_or rows c []) (get_or new.stand.items c [])) (sym orders)
-        (subst (λ (rows : List (List Bool)). AreRowsOf x (get_or old.orders.items c []) (get_or rows c [])) (sym stand)
-        (elim (block_cases old.arena b (end_changed swap_end) block at c x (ap (λ (f : Function). slice_get f.blocks c) (sym arena) ∙ is)) [
-          | inl (same, x_is) ↦
-              subst (λ (z : Block). AreRowsOf z (get_or old.orders.items c []) (get_or old.stand.items c [])) (sym x_is)
-              (subst (λ (d : ℕ). AreRowsOf (end_changed swap_end block) (get_or old.orders.items d []) (get_or old.stand.items d [])) (sym same)
-              (end_rows block (get_or old.orders.items b []) (get_or old.stand.items b []) (whole.rows b block at)))
-          | inr (apart, before) ↦ whole.rows c x before
-        ])))
+      (subst (λ (rows : List (List Bool)). AreRowsOf x (get_or old.orders.items c []) (get_or rows c [])) (sym stand)
+      (elim (block_cases old.arena b (end_changed swap_end) block at c x (ap (λ (f : Function). slice_get f.blocks c) (sym arena) ∙ is)) [
+        | inl (same, x_is) ↦
+            subst (λ (z : Block). AreRowsOf z (get_or old.orders.items c []) (get_or old.stand.items c [])) (sym x_is)
+            (subst (λ (d : ℕ). AreRowsOf (end_changed swap_end block) (get_or old.orders.items d []) (get_or old.stand.items d [])) (sym same)
+            (end_rows block (get_or old.orders.items b []) (get_or old.stand.items b []) (whole.rows b block at)))
+        | inr (apart, before) ↦ whole.rows c x before
+      ])))
       (swapped_known old.arena from to end_place (operands_at new.arena end_place) end_reads_now known (all_known old whole) inside)
     where
       end_rows : (x : Block) (order : List ℕ) (marks : List Bool) → AreRowsOf x order marks → AreRowsOf (end_changed swap_end x) order marks

@@ -184,9 +184,9 @@ module _ (r : Register) where
   insts_in_order b k [] = tt
   insts_in_order b k (inst ∷ insts) = in_order_append (named_from b k 0 (operands_of inst.op)) (insts_from b (suc k) insts) (named_in_order b k 0 (operands_of inst.op)) (insts_in_order b (suc k) insts)
       (λ x y here there.
-        let (j, is, at) = is_named b k 0 (operands_of inst.op) x here in
-        let found = in_inst b (suc k) insts y there in
-        subst (λ (z : UsePlace). StandsBefore z y) (sym is) (subst (λ (z : UsePlace). StandsBefore (b, k, 0 + j) z) (sym found.is) (inr (refl, inl (omega arith)))))
+      let (j, is, at) = is_named b k 0 (operands_of inst.op) x here in
+      let found = in_inst b (suc k) insts y there in
+      subst (λ (z : UsePlace). StandsBefore z y) (sym is) (subst (λ (z : UsePlace). StandsBefore (b, k, 0 + j) z) (sym found.is) (inr (refl, inl (omega arith)))))
 
   insts_count : (b k : ℕ) (insts : List Inst) → length (insts_from b k insts) ≡ sum_by (λ (inst : Inst). times r (operands_of inst.op)) insts
   unfolding insts_from
@@ -237,10 +237,10 @@ module _ (r : Register) where
   block_in_order b block = in_order_append (insts_from b 0 block.insts) (named_from b (length block.insts) 0 (operands_at_end block.end))
       (insts_in_order b 0 block.insts) (named_in_order b (length block.insts) 0 (operands_at_end block.end))
       (λ x y here there.
-        let found = in_inst b 0 block.insts x here in
-        let (j, is, at) = is_named b (length block.insts) 0 (operands_at_end block.end) y there in
-        let within = slice_get_within block.insts found.place found.inst found.at in
-        subst (λ (z : UsePlace). StandsBefore z y) (sym found.is) (subst (λ (z : UsePlace). StandsBefore (b, 0 + found.place, found.operand) z) (sym is) (inr (refl, inl (omega arith)))))
+      let found = in_inst b 0 block.insts x here in
+      let (j, is, at) = is_named b (length block.insts) 0 (operands_at_end block.end) y there in
+      let within = slice_get_within block.insts found.place found.inst found.at in
+      subst (λ (z : UsePlace). StandsBefore z y) (sym found.is) (subst (λ (z : UsePlace). StandsBefore (b, 0 + found.place, found.operand) z) (sym is) (inr (refl, inl (omega arith)))))
 
   block_count : (b : ℕ) (block : Block) → length (block_uses b block) ≡ times_in r block
   unfolding block_uses
@@ -300,8 +300,8 @@ module _ (r : Register) where
   uses_in_order b [] = tt
   uses_in_order b (block ∷ blocks) = in_order_append (block_uses b block) (uses_from (suc b) blocks) (block_in_order b block) (uses_in_order (suc b) blocks)
       (λ x y here there.
-        let found = in_blocks (suc b) blocks y there in
-        stands_before b (suc b + found.index) block found.block x y (omega arith) (in_block b block x here) found.inside)
+      let found = in_blocks (suc b) blocks y there in
+      stands_before b (suc b + found.index) block found.block x y (omega arith) (in_block b block x here) found.inside)
 
   uses_count : (b : ℕ) (blocks : List Block) → length (uses_from b blocks) ≡ sum_by (times_in r) blocks
   unfolding uses_from

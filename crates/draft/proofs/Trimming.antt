@@ -1,5 +1,5 @@
 -- Lists of readers that are trimmed.
-use Rattle.std.proofs.Common.{◌≡◌, ◌↔◌, inl, inr, List, [], sym, ap, subst, ◌∙◌}
+use Rattle.std.proofs.Common.{◌≡◌, ◌↔◌, inl, inr, List, sym, ap, subst, ◌∙◌}
 use Rattle.std.specs.Prelude.{Contains}
 use Rattle.ir_core.specs.declared.function.Function.{Function}
 use Rattle.ir_core.specs.declared.operand.Operand.TheVariants as operands
@@ -11,7 +11,7 @@ use Rattle.draft.specs.declared.uses.Readers.{Readers}
 use Rattle.draft.proofs.Naming.{is_same_register}
 use Rattle.draft.proofs.Reading.{reads_written, written_reads}
 
-module _ (f : Function) (register : Register) (kept : List Place) (old mid new : Readers) (are : AreReadersOf f old) (taken : IsListSetTo register [] old mid) (put : IsListSetTo register kept mid new)
+module _ (f : Function) (register : Register) (empty kept : List Place) (old mid new : Readers) (are : AreReadersOf f old) (taken : IsListSetTo register empty old mid) (put : IsListSetTo register kept mid new)
     (chosen : (p : Place) → Contains kept p ↔ (Contains (listed_for old register) p × Contains (operands_at f p) (operands.Register register))) where
   others : (r : Register) → ¬ (r ≡ register) → listed_for new r ≡ listed_for old r
   others r apart = put.others r apart ∙ taken.others r apart
@@ -19,10 +19,10 @@ module _ (f : Function) (register : Register) (kept : List Place) (old mid new :
   pub trimmed_exact : (p : Place) → Contains (listed_for new register) p ↔ (IsPlaceIn f p × IsReader f register p)
   trimmed_exact p = (
     λ h.
-      let (there, reads) = (chosen p).0 (subst (λ (l : List Place). Contains l p) put.is h) in
-      (are.places register p there, written_reads f p.block (arena_place f p) register reads),
+        let (there, reads) = (chosen p).0 (subst (λ (l : List Place). Contains l p) put.is h) in
+        (are.places register p there, written_reads f p.block (arena_place f p) register reads),
     λ (inside, reader). subst (λ (l : List Place). Contains l p) (sym put.is)
-      ((chosen p).1 (are.complete register p inside reader, reads_written f p.block (arena_place f p) register reader)),
+        ((chosen p).1 (are.complete register p inside reader, reads_written f p.block (arena_place f p) register reader)),
   )
 
   pub trimmed_readers : AreReadersOf f new

@@ -245,7 +245,10 @@ fn set_inst(blocks: &mut List<Block>, at: Place, inst: Inst)
     requires { (block : Written) × (slice_get blocks.old at.block ≡ Some block) × (at.number < length block.insts) }
     ensures { blocks.new ≡ changed_at at.block (inst_changed at.number (λ old. inst)) blocks.old }
 {
-    *blocks.get_mut(at.block as usize).insts.get_mut(at.number as usize) = inst;
+    *blocks
+        .get_mut(at.block as usize)
+        .insts
+        .get_mut(at.number as usize) = inst;
 }
 
 /// Leaves an instruction that reads nothing in the place of one.
@@ -253,7 +256,10 @@ fn empty_inst(blocks: &mut List<Block>, at: Place)
     requires { (block : Written) × (slice_get blocks.old at.block ≡ Some block) × (at.number < length block.insts) }
     ensures { blocks.new ≡ changed_at at.block (inst_changed at.number gone) blocks.old }
 {
-    let inst = blocks.get_mut(at.block as usize).insts.get_mut(at.number as usize);
+    let inst = blocks
+        .get_mut(at.block as usize)
+        .insts
+        .get_mut(at.number as usize);
     inst.name = None;
     inst.op = Op::Freeze(Operand::Poison);
 }
@@ -264,7 +270,10 @@ fn take_name(blocks: &mut List<Block>, at: Place) -> Option<Text>
     ensures name { (block : Written) (inst : There) → slice_get blocks.old at.block ≡ Some block → slice_get block.insts at.number ≡ Some inst → result ≡ inst.name }
     ensures blocks { blocks.new ≡ changed_at at.block (inst_changed at.number unnamed) blocks.old }
 {
-    let inst = blocks.get_mut(at.block as usize).insts.get_mut(at.number as usize);
+    let inst = blocks
+        .get_mut(at.block as usize)
+        .insts
+        .get_mut(at.number as usize);
     mem::replace(&mut inst.name, None)
 }
 

@@ -99,11 +99,7 @@ fn standing_in(alloc: Global, order: &Order, stand: &[bool]) -> Result<List<u32>
 }
 
 /// For each number of each block its place among those that stand there.
-fn places_of(
-    alloc: Global,
-    arena: &Function,
-    numbers: &[List<u32>],
-) -> Result<Places, AllocError>
+fn places_of(alloc: Global, arena: &Function, numbers: &[List<u32>]) -> Result<Places, AllocError>
     requires blocks { length numbers.now ≡ length arena.now.blocks }
     requires insts { All (λ b. length b.insts < 2 ^ 32) arena.now.blocks }
     requires ordered { AreOrdered arena.now.blocks numbers.now }

@@ -28,10 +28,7 @@ fn substituted_operand<S: Substitute>(by: &S, operand: Operand) -> Operand
 }
 
 /// The entries of a phi, with what stands for their operands. It takes no memory.
-fn substituted_entries<S: Substitute>(
-    by: &S,
-    entries: List<(Operand, u32)>,
-) -> List<(Operand, u32)>
+fn substituted_entries<S: Substitute>(by: &S, entries: List<(Operand, u32)>) -> List<(Operand, u32)>
     ensures { result ≡ written.substituted_entries (S.to by.now) entries }
 {
     let mut entries = entries.into_vec();

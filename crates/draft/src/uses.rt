@@ -280,11 +280,7 @@ fn forget_operand(uses: &mut Uses, operand: Operand)
 }
 
 /// Counts what is read at a place.
-pub(crate) fn count_reads(
-    arena: &Function,
-    uses: &mut Uses,
-    place: Place,
-) -> Result<(), AllocError>
+pub(crate) fn count_reads(arena: &Function, uses: &mut Uses, place: Place) -> Result<(), AllocError>
     requires insts { All (λ b. length b.insts < 2 ^ 32) arena.now.blocks }
     requires there { HasNumbers uses.old (operands_at arena.now place) }
     ensures { OnOk result (AreCounted (operands_at arena.now place) uses.old uses.new) }

@@ -13,7 +13,7 @@ loop-number-preserved c =
     let n = get_or numbers l.number-index 0 in
     subst (λ (placed : List Inst). InstsPlaced to c.args.insts numbers (l.number-index + 1) (set l.insts.items n c.placed_inst.new.inst) placed) (sym c.in_ok-push.ensures.ok)
     (inst_placed to c.args.insts numbers l.number-index l.insts.items l.placed l.invariant c.requires c.loop-number-test.true n (get_or_default numbers l.number-index 0 n c.loop-number-test.true)
-      c.index_mut.result.now c.placed_inst.new.inst c.placed_inst.result c.index_mut.ensures.value c.placed_inst.ensures)
+    c.index_mut.result.now c.placed_inst.new.inst c.placed_inst.result c.index_mut.ensures.value c.placed_inst.ensures)
 
 pub returns : goal.returns
 returns c =

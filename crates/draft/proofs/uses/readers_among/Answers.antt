@@ -41,8 +41,7 @@ returns c = λ p.
     let end = c.len-index-end.ensures in
     let past = c.loop-index-test.false in
     let items : c.from_vec.result ≡ take l.kept l.places.items = c.from_vec.ensures ∙ c.truncate.ensures.items in
-    let all : take l.index c.args.places ≡ c.args.places = take_all l.index c.args.places (omega arith) in
-    (
+    let all : take l.index c.args.places ≡ c.args.places = take_all l.index c.args.places (omega arith) in (
       λ h. let (there, reads) = (l.invariant.chosen p).0 (subst (λ (xs : List Place). Contains xs p) items h) in (subst (λ (xs : List Place). Contains xs p) all there, reads),
       λ (there, reads). subst (λ (xs : List Place). Contains xs p) (sym items) ((l.invariant.chosen p).1 (subst (λ (xs : List Place). Contains xs p) (sym all) there, reads)),
     )

@@ -52,5 +52,5 @@ returns-clause-whole c =
     let (block, was, is_block, here) = inst_there old.arena at.block at.number has in
     let new : Draft = record { arena = (with_blocks old c.set_inst.new.blocks).arena; facts = record { flow = old.facts.flow; uses = c.count_reads.new.uses }; orders = old.orders; stand = old.stand; readers = c.list_reads.new.readers; fallen = c.push_reads.new.fallen } in
     on_ok_weaker c.list_reads.result (λ listed. whole_exchanged old new at.block at.number block was c.args.inst c.requires.whole is_block here
-      (stands_marked old c.requires.whole at.block block is_block at.number c.requires.at).1 c.requires.known (ap (λ (l : List Block). (with_blocks old l).arena) c.set_inst.ensures) refl refl
-      (record { mid = c.forget_reads.new.uses; flow = refl; forgotten = c.forget_reads.ensures; counted = c.in_ok-count_reads.ensures; listed = listed_too at _ old.readers new.readers listed })) c.list_reads.ensures
+    (stands_marked old c.requires.whole at.block block is_block at.number c.requires.at).1 c.requires.known (ap (λ (l : List Block). (with_blocks old l).arena) c.set_inst.ensures) refl refl
+    (record { mid = c.forget_reads.new.uses; flow = refl; forgotten = c.forget_reads.ensures; counted = c.in_ok-count_reads.ensures; listed = listed_too at _ old.readers new.readers listed })) c.list_reads.ensures

@@ -22,7 +22,7 @@ returns-in-Parameter c =
     let new : Readers = record { parameters = c.list_in.new.rows; results = old.results } in
     let has = subst (λ (r : Register). HasList old r) c.in-Parameter.is c.requires in
     on_ok_weaker c.list_in.result (λ found. subst (λ (r : Register). IsListed r c.args.place old new) (sym c.in-Parameter.is)
-      (listed_in (registers.Parameter c.in-Parameter.k) c.args.place found.0 old new found.1 (parameter_list_set found.0 old new c.in-Parameter.k has found.2 refl))) c.list_in.ensures
+    (listed_in (registers.Parameter c.in-Parameter.k) c.args.place found.0 old new found.1 (parameter_list_set found.0 old new c.in-Parameter.k has found.2 refl))) c.list_in.ensures
 
 pub returns-in-Result : goal.returns-in-Result
 returns-in-Result c =
@@ -30,4 +30,4 @@ returns-in-Result c =
     let new : Readers = record { parameters = old.parameters; results = c.list_at.new.rows } in
     let has = subst (λ (r : Register). HasList old r) c.in-Result.is c.requires in
     on_ok_weaker c.list_at.result (λ found. subst (λ (r : Register). IsListed r c.args.place old new) (sym c.in-Result.is)
-      (listed_in (registers.Result c.in-Result.block c.in-Result.number) c.args.place found.0 old new found.1 (result_list_set found.0 old new c.in-Result.block c.in-Result.number has found.2 refl))) c.list_at.ensures
+    (listed_in (registers.Result c.in-Result.block c.in-Result.number) c.args.place found.0 old new found.1 (result_list_set found.0 old new c.in-Result.block c.in-Result.number has found.2 refl))) c.list_at.ensures
