@@ -8,7 +8,7 @@ use Rattle.std.proofs.lemmas.List.{length-append}
 use Rattle.std.proofs.lemmas.List.Sums.{sum_by-cons}
 use Rattle.std.proofs.lemmas.Option.{same_Some, slice_get-map, slice_get_within, get_or_from_slice_get, unwrap_or-slice_get}
 use Rattle.ir_core.specs.Blocks.{IsBlock}
-use Rattle.ir_core.specs.Checks.{IsInst, MeetsChecks}
+use Rattle.ir_core.specs.Checks.{IsInst, IsKnown, IsPhi, MeetsChecks}
 use Rattle.ir_core.specs.Names.{Name}
 use Rattle.ir_core.specs.Reads.{Read, IsRead, end_of, reads_of}
 use Rattle.ir_core.specs.Walks.{IsReached}
@@ -19,8 +19,9 @@ use Rattle.ir_core.specs.declared.operand.Operand.{Operand}
 use Rattle.ir_core.specs.declared.operand.Operand.TheVariants as operands
 use Rattle.ir_core.specs.declared.operand.Register.{Register}
 use Rattle.ir_core.specs.declared.operand.Register.TheVariants as registers
-use Rattle.ir_meaning.proofs.Pieces.{contains_at, place_in as place_among, some_at}
+use Rattle.ir_meaning.proofs.Pieces.{first_in, later_in, contains_at, place_in as place_among, some_at}
 use Rattle.needed.specs.Needed.{ReadsRegister}
+use Rattle.needed.specs.Operands.{operands_of as read_by}
 use Rattle.rule_core.specs.Checks.{IsRule}
 use Rattle.rule_core.specs.Positions.{operands_of}
 use Rattle.rule_core.specs.declared.rule.Argument.{Argument}
@@ -38,7 +39,7 @@ use Rattle.bindings.specs.declared.binding.Binding.{Binding}
 use Rattle.bindings.proofs.Reading.{reads_at_inst}
 use Rattle.moved_matches.specs.Laws.{ReadsStandBefore}
 use Rattle.moved_matches.specs.Moved.{moved_binding, register_or}
-use Rattle.moved_matches.proofs.Temporaries.{count_same, no_phi}
+use Rattle.rewriter.proofs.Matched.{arity_same, computed_no_phi, same_is_computed}
 use Rattle.rewriter.specs.Applied.{IsRewritten}
 use Rattle.rewriter.specs.Put as target
 use Rattle.rewriter.specs.Put.{class_width, count_put, insts_of_op, insts_put, insts_with, is_copy}
@@ -48,15 +49,27 @@ use Rattle.substitution.specs.Rewritten.{rewritten_function}
 use Rattle.draft.specs.Changes.{instead}
 use Rattle.draft.specs.Drafts.{insts_of, placed}
 use Rattle.draft.specs.Orders.{place_in}
-use Rattle.draft.specs.Rewriting.{numbered, put_for, put_numbers, rows_put_for}
+use Rattle.draft.specs.Rewriting.{MayRead, numbered, put_for, put_numbers, rows_put_for}
+use Rattle.draft.proofs.Changing.{has_known, known_has}
 use Rattle.draft.proofs.Instead.{instead_other}
 use Rattle.draft.proofs.Leaving.{function_at}
 use Rattle.draft.proofs.Mapping.{changed_inst}
 use Rattle.draft.proofs.Needing.{AreRows, at_its_place, block_back, read_back, row_is}
 use Rattle.draft.proofs.Numbering.{Agrees, last_same, put_same_insts}
 use Rattle.draft.proofs.InstsOf.{inst_from}
+use Rattle.draft.proofs.PutReads.{Closed, last_holds, put_reads}
+use Rattle.draft.proofs.Starting.{StandsThen, comes, no_root, stays}
 use Rattle.draft.proofs.PutFor.{low_place, lower, new_place, other_row, put_for_is}
 use Rattle.draft.proofs.RowPlaces.{at_place, contained, is_in}
+
+lengths_same : {A B : Type 0} (h : A → B) (xs : List A) → length (map h xs) ≡ length xs
+lengths_same h [] = refl
+lengths_same h (x ∷ xs) = ap suc (lengths_same h xs)
+
+range_has : (a l i : ℕ) → i < l → Contains (range_with_len a l) (a + i)
+range_has a zero i lt = absurd (omega arith)
+range_has a (suc l) zero lt = let here : a ≡ a + 0 = omega arith in subst (Contains (a ∷ range_with_len (a + 1) l)) here (first_in a (range_with_len (a + 1) l))
+range_has a (suc l) (suc i) lt = let next : a + 1 + i ≡ a + suc i = omega arith in later_in a (range_with_len (a + 1) l) (a + suc i) (subst (Contains (range_with_len (a + 1) l)) next (range_has (a + 1) l i (omega arith)))
 
 -- ---- as many instructions are put as are counted
 
@@ -120,27 +133,58 @@ module _ (stands_before : ReadsStandBefore) (rule : Rule) (f : Function) (rows :
               omega arith
         ]
 
-    input_low : (i : ℕ) (a : Operand) → i < length rule.inputs → slice_get m.inputs i ≡ Some a → IsLow a
-    input_low i a lt at c q same =
+    -- an input is read by an instruction that is no phi and doesn't stand behind the root
+    record IsInputRead (a : Operand) : Type 0 where
+      pub place : ℕ
+      pub inst : Inst
+      pub is_inst : IsInst F m.block place inst
+      pub computed : ¬ IsPhi inst.op
+      pub low : place ≤ P
+      pub index : ℕ
+      pub read : Read
+      pub is_read : IsRead F m.block place index read
+      pub operand : read.operand ≡ substituted_operand to a
+
+    input_read : (i : ℕ) (a : Operand) → i < length rule.inputs → slice_get m.inputs i ≡ Some a → IsInputRead a
+    input_read i a lt at =
         let (x, (o, at_x, names_it)) = is_rule.inputs_read i lt in
         let (j, s, is_statement, among) = flat_map-from (λ (s : Statement). operands_of s.op) rule.source o (contains_at (flat_map (λ (s : Statement). operands_of s.op) rule.source) x o at_x) in
         let h = is.statements j s is_statement in
         let (n, there) = place_among (operands_of s.op) o among in
         let within : n < length (operands_of s.op) = slice_get_within (operands_of s.op) n o there in
-        let (r, is_there) = some_at (reads_of F m.block h.place h.inst.width h.inst.op) n (omega (arith, within, count_same F m.block h.place h.inst.width s.op h.inst.op h.matches.operation)) in
+        let (r, is_there) = some_at (reads_of F m.block h.place h.inst.width h.inst.op) n (omega (arith, within, arity_same F m.block h.place h.inst.width s.op h.inst.op h.matches.operation)) in
         let is_read : IsRead F m.block h.place n r = ap (λ (l : List Read). slice_get l n) (reads_at_inst F m.block h.place h.inst h.is_inst) ∙ is_there in
         let matched = h.matches.operands n o r there is_read in
         let bound : StandsFor pm r.width (arguments.Register (names.Input i)) r.operand = subst (λ (a : Argument). StandsFor pm r.width a r.operand) names_it matched.value in
         let put : slice_get (map (substituted_operand to) m.inputs) i ≡ Some (substituted_operand to a) = slice_get-map (substituted_operand to) m.inputs i ∙ ap (option_map (substituted_operand to)) at in
-        let operand : r.operand ≡ operands.Register (registers.Result c (place_in (slice_index_or rows c []) q)) = same_Some r.operand (substituted_operand to a) (sym bound ∙ put) ∙ ap (substituted_operand to) same in
-        let reads : ReadsRegister F m.block h.place (registers.Result c (place_in (slice_index_or rows c []) q)) = record { operand = n; read = r; is_read = is_read; reads = operand } in
-        (stands_read m.block h.place c q reads, λ here.
-        let at_root : r.operand ≡ operands.Register (registers.Result m.block (place_in row q)) = operand ∙ ap (λ d. operands.Register (registers.Result d (place_in (slice_index_or rows d []) q))) here in
-        let early : place_in row q < h.place = stands_before F m.block h.place (place_in row q) n h.inst r checks is.reached h.is_inst (no_phi s.op h.inst.op h.matches.operation) is_read at_root in
-        let le : h.place ≤ P = source_low j s is_statement h in
+        record {
+          place = h.place;
+          inst = h.inst;
+          is_inst = h.is_inst;
+          computed = computed_no_phi h.inst.op (same_is_computed s.op h.inst.op h.matches.operation);
+          low = source_low j s is_statement h;
+          index = n;
+          read = r;
+          is_read = is_read;
+          operand = same_Some r.operand (substituted_operand to a) (sym bound ∙ put);
+        }
+
+    pub input_low : (i : ℕ) (a : Operand) → i < length rule.inputs → slice_get m.inputs i ≡ Some a → IsLow a
+    input_low i a lt at c q same =
+        let x = input_read i a lt at in
+        let operand : x.read.operand ≡ operands.Register (registers.Result c (place_in (slice_index_or rows c []) q)) = x.operand ∙ ap (substituted_operand to) same in
+        let reads : ReadsRegister F m.block x.place (registers.Result c (place_in (slice_index_or rows c []) q)) = record { operand = x.index; read = x.read; is_read = x.is_read; reads = operand } in
+        (stands_read m.block x.place c q reads, λ here.
+        let at_root : x.read.operand ≡ operands.Register (registers.Result m.block (place_in row q)) = operand ∙ ap (λ d. operands.Register (registers.Result d (place_in (slice_index_or rows d []) q))) here in
+        let early : place_in row q < x.place = stands_before F m.block x.place (place_in row q) x.index x.inst x.read checks is.reached x.is_inst x.computed x.is_read at_root in
+        let le : x.place ≤ P = x.low in
         omega (arith, early, le))
 
-    source_of : (j : ℕ) (r : Register) → suc j < length rule.source → slice_get m.statements j ≡ Some r → (q : ℕ) × (r ≡ registers.Result m.block q) × (place_in row q < P)
+    -- and it is known
+    pub input_known : (i : ℕ) (a : Operand) → i < length rule.inputs → slice_get m.inputs i ≡ Some a → IsKnown F (substituted_operand to a)
+    input_known i a lt at = let x = input_read i a lt at in subst (IsKnown F) x.operand (checks.formed.registers m.block x.place x.index x.read x.is_read)
+
+    pub source_of : (j : ℕ) (r : Register) → suc j < length rule.source → slice_get m.statements j ≡ Some r → (q : ℕ) × (r ≡ registers.Result m.block q) × (place_in row q < P)
     source_of j r early at =
         let (s, is_statement) = some_at rule.source j (omega (arith, early)) in
         let h = is.statements j s is_statement in
@@ -281,6 +325,112 @@ module _ (stands_before : ReadsStandBefore) (rule : Rule) (f : Function) (rows :
               ap (substituted_operand (placed rows')) (instead_other (registers.Result m.block m.place) w.result (registers.Result m.block q) (not_root m.block q (λ same. low)))
               ∙ ap (λ k. operands.Register (registers.Result m.block k)) (low_place f rows good m.block m.place (length w.put) root.block root.is_block root.stands q low)
 
+      -- ---- what is read of it stands
+
+      abbrev Stands : Operand → Type 0
+      Stands = StandsThen f rows good m.block m.place w.put w.result root.block root.is_block root.stands
+
+      low_stands : (a : Operand) → IsLow a → Stands a
+      low_stands a low = λ c q same.
+          let (has, before) = low c q same in
+          let other : ¬ (registers.Result c q ≡ registers.Result m.block m.place) = not_root c q before in
+          (stays f rows good m.block m.place w.put w.result root.block root.is_block root.stands c q has other, other)
+
+      input_at : (i : ℕ) → i < length rule.inputs → (a : Operand) × (slice_get m.inputs i ≡ Some a)
+      input_at i lt =
+          let same : length (map (substituted_operand to) m.inputs) ≡ length rule.inputs = is.input_count in
+          let also : length (map (substituted_operand to) m.inputs) ≡ length m.inputs = lengths_same (substituted_operand to) m.inputs in
+          some_at m.inputs i (omega (arith, lt, same, also))
+
+      source_at : (j : ℕ) → suc j < length rule.source → (r : Register) × (slice_get m.statements j ≡ Some r)
+      source_at j early =
+          let same : length (map (λ r. register_or r (to r)) m.statements) ≡ length rule.source = is.statement_count in
+          let also : length (map (λ r. register_or r (to r)) m.statements) ≡ length m.statements = lengths_same (λ r. register_or r (to r)) m.statements in
+          some_at m.statements j (omega (arith, early, same, also))
+
+      source_is : (j : ℕ) (P' : Operand → Type 0) (r : Register) → slice_get m.statements j ≡ Some r → P' (operands.Register r) → P' (option_map_or operands.Register (slice_get m.statements j) operands.Poison)
+      source_is j P' r at h = subst (λ (o : Option Register). P' (option_map_or operands.Register o operands.Poison)) (sym at) h
+
+      input_is : (i : ℕ) (P' : Operand → Type 0) (a : Operand) → slice_get m.inputs i ≡ Some a → P' a → P' (slice_index_or m.inputs i operands.Poison)
+      input_is i P' a at h = subst P' (sym (get_or_from_slice_get m.inputs i a operands.Poison at)) h
+
+      -- a temporary of the source
+      temporary_low : (j : ℕ) (r : Register) → suc j < length rule.source → slice_get m.statements j ≡ Some r → IsLow (operands.Register r)
+      temporary_low j r early at c q same =
+          let (k, is_result, low) = source_of j r early at in
+          let register : registers.Result m.block k ≡ registers.Result c q = sym is_result ∙ (let e : operands.Register r ≡ operands.Register (registers.Result c q) = same in cc) in
+          let block : m.block ≡ c = cc in
+          let number : k ≡ q = cc in
+          let here : place_in row q < P = subst (λ (x : ℕ). place_in row x < P) number low in
+          let below : place_in row m.place < length row = is_in row m.place root.stands in
+          (subst (λ (d : ℕ). Contains (slice_index_or rows d []) q) block (contained row q (omega (arith, here, below))), λ e. here)
+
+      closed_stand : Closed rule m (end_of f m.block) (λ k a. k ≤ length w.put → Stands a)
+      closed_stand = record {
+        more = λ j k a le h fits. h (omega (arith, le, fits));
+        number = λ k n fits c q e. absurd cc;
+        undefined = λ k fits c q e. absurd cc;
+        poison = λ k fits c q e. absurd cc;
+        input = λ k i lt fits. let (a, at) = input_at i lt in input_is i Stands a at (low_stands a (input_low i a lt at));
+        source = λ k j early fits. let (r, at) = source_at j early in source_is j Stands r at (low_stands (operands.Register r) (temporary_low j r early at));
+        result = λ k i lt fits c q e.
+            let block : m.block ≡ c = cc in
+            let number : end_of f m.block + i ≡ q = cc in
+            let has : Contains (range_with_len (end_of f m.block) (length w.put)) (end_of f m.block + i) = range_has (end_of f m.block) (length w.put) i (omega (arith, lt, fits)) in
+            let there : Contains (slice_index_or rows' m.block []) (end_of f m.block + i) = comes f rows good m.block m.place w.put w.result root.block root.is_block root.stands (end_of f m.block + i) has in
+            let lower_root : m.place < end_of f m.block = lower f rows good m.block m.place (length w.put) root.block root.is_block root.stands m.place root.stands in
+            (subst (λ (d : ℕ). Contains (slice_index_or rows' d []) q) block (subst (Contains (slice_index_or rows' m.block [])) number there),
+            λ it. let number_is : q ≡ m.place = cc in clash (end_of f m.block) i q m.place number number_is lower_root);
+      }
+        where
+          clash : (e i q n : ℕ) → e + i ≡ q → q ≡ n → n < e → ⊥
+          clash e i q n a c lt = omega arith
+
+      pub put_stand : (j : ℕ) (i : Inst) → slice_get w.put j ≡ Some i → (a : Operand) → Contains (read_by i.op) a → Stands a
+      put_stand j i at a reads = put_reads rule m (end_of f m.block) (λ k a. k ≤ length w.put → Stands a) is_rule closed_stand name j i at a reads (let lt : j < length w.put = slice_get_within w.put j i at in omega (arith, lt))
+
+      pub result_stands : Stands w.result
+      result_stands = last_holds rule m (end_of f m.block) (λ k a. k ≤ length w.put → Stands a) is_rule closed_stand (let same : length w.put ≡ count_put rule.target = count in omega (arith, same))
+
+      pub not_own : w.result ≢ operands.Register (registers.Result m.block m.place)
+      not_own = no_root f rows good m.block m.place w.put w.result root.block root.is_block root.stands put_stand result_stands
+
+      -- ---- and is known
+
+      low_known : (a : Operand) → IsLow a → IsKnown F (substituted_operand to a) → IsKnown f a
+      low_known (operands.Register (registers.Result c q)) low known =
+          let (new, is_new, lt) = known_has F c (place_in (slice_index_or rows c []) q) known in
+          let p = block_back f rows good c new is_new in
+          let has : Contains p.row q = subst (λ (l : List ℕ). Contains l q) (row_is rows c p.row p.at) (low c q refl).0 in
+          has_known f c q (p.block, p.is_block, good.numbers c p.block p.row p.is_block p.at q has)
+      low_known (operands.Register (registers.Parameter p)) low known = known
+      low_known (operands.Number n) low known = tt
+      low_known operands.Undef low known = tt
+      low_known operands.Poison low known = tt
+
+      closed_known : Closed rule m (end_of f m.block) (MayRead f m.block)
+      closed_known = record {
+        more = λ j k a le h. elim h [ inl known ↦ inl known | inr (i, lt, e) ↦ inr (i, omega (arith, le, lt), e) ];
+        number = λ k n. inl tt;
+        undefined = λ k. inl tt;
+        poison = λ k. inl tt;
+        input = λ k i lt. let (a, at) = input_at i lt in input_is i (MayRead f m.block k) a at (inl (low_known a (input_low i a lt at) (input_known i a lt at)));
+        source = λ k j early.
+            let (r, at) = source_at j early in
+            let (q, is_result, low) = source_of j r early at in
+            let has : Contains row q = (temporary_low j r early at m.block q (ap (λ x. operands.Register x) is_result)).0 in
+            let (numbers, at_row) = good.row m.block root.block root.is_block in
+            let lt : q < length root.block.insts = good.numbers m.block root.block numbers root.is_block at_row q (subst (λ (l : List ℕ). Contains l q) (row_is rows m.block numbers at_row) has) in
+            source_is j (MayRead f m.block k) r at (inl (subst (λ (x : Register). IsKnown f (operands.Register x)) (sym is_result) (has_known f m.block q (root.block, root.is_block, lt))));
+        result = λ k i lt. inr (i, lt, refl);
+      }
+
+      pub put_known : (j : ℕ) (i : Inst) → slice_get w.put j ≡ Some i → (a : Operand) → Contains (read_by i.op) a → MayRead f m.block j a
+      put_known j i at a reads = put_reads rule m (end_of f m.block) (MayRead f m.block) is_rule closed_known name j i at a reads
+
+      pub result_known : MayRead f m.block (length w.put) w.result
+      result_known = subst (λ (k : ℕ). MayRead f m.block k w.result) (sym count) (last_holds rule m (end_of f m.block) (MayRead f m.block) is_rule closed_known)
+
       -- The result isn't the root's own register.
       module _ (other : w.result ≢ operands.Register (registers.Result m.block m.place)) where
         result_same : substituted_operand (placed rows') w.result ≡ (target.rewrite_of rule pm name).result
@@ -298,6 +448,5 @@ module _ (stands_before : ReadsStandBefore) (rule : Rule) (f : Function) (rows :
             root.block root.is_block root.inst root.is_inst root.stands refl (put_same_insts rule m (end_of f m.block) P to g is_rule agrees name) result_same
 
     -- and so the rule is applied
-    pub rule_applied : (root : IsRootIn) → (target.rewrite_of rule (numbered f m) root.inst.name).result ≢ operands.Register (registers.Result m.block m.place)
-        → IsRewritten F pm rule (function_at (put_for f (target.rewrite_of rule (numbered f m) root.inst.name) m.place) (rows_put_for f rows (target.rewrite_of rule (numbered f m) root.inst.name) m.place))
-    rule_applied root other = record { root = substituted_inst to root.inst; is_root = root.placed_inst; is = applied root.inst.name root other }
+    pub rule_applied : (root : IsRootIn) → IsRewritten F pm rule (function_at (put_for f (target.rewrite_of rule (numbered f m) root.inst.name) m.place) (rows_put_for f rows (target.rewrite_of rule (numbered f m) root.inst.name) m.place))
+    rule_applied root = record { root = substituted_inst to root.inst; is_root = root.placed_inst; is = applied root.inst.name root (not_own root.inst.name root) }

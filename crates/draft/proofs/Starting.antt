@@ -214,7 +214,7 @@ module _ (f : Function) (rows : List (List ℕ)) (good : AreRows f rows) (b n : 
               stands_for_old a (λ e m same. good.read c (end_of f c) e m (end_reads_it f c old.0 (registers.Result e m) old.1 (subst (Contains (operands_at_end old.0.end)) same has_old))) d q stands_is
         ]
 
-    no_root : result ≢ operands.Register root
+    pub no_root : result ≢ operands.Register root
     no_root e = (result_stands b n e).1 refl
 
     -- what is read with what stands for the root's register stands

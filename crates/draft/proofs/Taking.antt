@@ -1,8 +1,9 @@
 -- Cleaning a draft, step by step.
-use Rattle.std.proofs.Common.{◌≡◌, ℕ, zero, suc, ◌+◌, ◌<◌, ◌≤◌, ◌⊎◌, inl, inr, Bool, true, false, List, [], ◌∷◌, ◌++◌, length, get_or, Some, refl, sym, ap, subst, ◌∙◌, arith}
+use Rattle.std.proofs.Common.{◌≡◌, ℕ, zero, suc, ◌+◌, ◌<◌, ◌≤◌, ◌⊎◌, inl, inr, Bool, true, false, ◌↔◌, List, [], ◌∷◌, ◌++◌, length, get_or, Some, refl, sym, ap, subst, ◌∙◌, arith}
 use Rattle.std.specs.Prelude.{Contains, slice_get}
-use Rattle.std.proofs.lemmas.Bool.{cases_Bool}
-use Rattle.std.proofs.lemmas.Option.{slice_get_within}
+use Rattle.std.proofs.lemmas.Bool.{cases_Bool, cases_lt}
+use Rattle.std.proofs.lemmas.List.{get_or_past}
+use Rattle.std.proofs.lemmas.Option.{slice_get_cases, slice_get_within}
 use Rattle.ir_core.specs.Blocks.{HasInst, IsBlock}
 use Rattle.ir_core.specs.Reads.{end_of}
 use Rattle.ir_core.specs.declared.function.Function.{Function}
@@ -22,7 +23,7 @@ use Rattle.draft.specs.declared.draft.Draft.{Draft}
 use Rattle.draft.proofs.Rows.{marked}
 use Rattle.draft.proofs.RowPlaces.{contained, in_or_out, is_in}
 use Rattle.draft.proofs.WhoReads.{EndReads, InstReads, end_of-is, end_reads_it, who}
-use Rattle.draft.proofs.Wholeness.{marked_stands, stands_there}
+use Rattle.draft.proofs.Wholeness.{marked_stands, stands_marked, stands_there}
 
 -- the register is of no instruction that stands
 abbrev pub IsGone : Draft → Register → Type 0
@@ -38,6 +39,22 @@ module _ (d : Draft) (whole : IsWhole d) where
     where
       apart : (p l : ℕ) → p ≡ l → p < l → ⊥
       apart p l same lt = omega arith
+
+  -- an instruction stands where it is marked
+  pub stands_marks : (b n : ℕ) → (get_or (get_or d.stand.items b []) n false ≡ true) ↔ Stands d b n
+  stands_marks b n = (
+    λ there. elim (slice_get_cases d.arena.blocks b).1 [
+      | inl (block, within, is, at) ↦ elim (cases_lt n (length (get_or d.stand.items b []))) [
+        | inl lt ↦ let same : length (get_or d.stand.items b []) ≡ length block.insts = (whole.rows b block is).marked in marked_stands d whole b block is n (omega (arith, lt, same)) there
+        | inr past ↦ absurd (let clash : true ≡ false = sym there ∙ get_or_past (get_or d.stand.items b []) n false past in cc)
+      ]
+      | inr (past, absent) ↦
+          let same : length d.stand.items ≡ length d.arena.blocks = whole.marked in
+          let none : get_or d.stand.items b [] ≡ [] = get_or_past d.stand.items b [] (omega (arith, past, same)) in
+          absurd (let clash : true ≡ false = sym there ∙ ap (λ (row : List Bool). get_or row n false) none in cc)
+    ],
+    λ stands. let (block, is, lt) = stands_there d whole b n stands in (stands_marked d whole b block is n stands).1,
+  )
 
   -- what doesn't stand reads nothing
   gone_reads_nothing : (b n : ℕ) (r : Register) → ¬ Stands d b n → InstReads d.arena b n r → ⊥

@@ -1,6 +1,6 @@
 //! Cleaning drafts.
 
-ghost use Rattle.std.specs.Prelude.{◌≡◌, ◌++◌, ◌∷◌, [], ◌↔◌, ◌⊎◌, ◌<◌, ℕ, List as Seq, length, Contains, IsTrue, IfSome, IfNone, OnOk};
+ghost use Rattle.std.specs.Prelude.{◌≡◌, ◌++◌, ◌∷◌, [], ◌↔◌, ◌⊎◌, ◌<◌, ℕ, List as Seq, length, Contains, IsTrue, IsFalse, false, slice_index_or, IfSome, IfNone, OnOk};
 ghost use Rattle.ir_core.specs.declared.function.Function.{Function};
 ghost use Rattle.ir_core.specs.declared.operand.Register.{Register as Named};
 ghost use Rattle.needed.specs.Needed.{IsNeeded};
@@ -64,18 +64,32 @@ fn take_unused(draft: &mut Draft, used: &mut Vec<Register>) -> Result<(), AllocE
     ensures cleaning { OnOk result ((f : Function) (rows : Seq (Seq ℕ))
         → IsCleaning f rows draft.old.arena (numbers_of draft.old) (draft.old.fallen.items ++ used.old.items)
         → IsCleaning f rows draft.new.arena (numbers_of draft.new) used.new.items) }
-    ensures unread { OnOk result (AreRead draft.old (draft.old.fallen.items) → AreRead draft.new []) }
-    ensures reads { OnOk result ((was : Draft) → KeepsUses was draft.old (draft.old.fallen.items ++ used.old.items) → KeepsUses was draft.new used.new.items) }
 {
     while let Some(register) = next_fallen(draft) {
-        if let Register::Result(block, number) = register {
-            let place = Place { block, number };
-            if draft.stands(place) {
-                if uses_of(&draft.facts.uses, register) > 0 {
-                    used.push(register)?;
-                } else {
-                    draft.take_out(place)?;
-                }
+        take_or_list(draft, used, register)?;
+    }
+    Ok(())
+}
+
+/// Takes out the instruction of a register that fell, where nothing reads it, and else lists the register.
+fn take_or_list(
+    draft: &mut Draft,
+    used: &mut Vec<Register>,
+    register: Register,
+) -> Result<(), AllocError>
+    requires { IsWhole draft.old }
+    ensures whole { OnOk result (IsWhole draft.new) }
+    ensures cleaning { OnOk result ((f : Function) (rows : Seq (Seq ℕ)) (roots : Seq Named)
+        → ((r : Named) → Contains roots r → Contains (draft.old.fallen.items ++ used.old.items) r ⊎ (r ≡ register))
+        → IsCleaning f rows draft.old.arena (numbers_of draft.old) roots
+        → IsCleaning f rows draft.new.arena (numbers_of draft.new) (draft.new.fallen.items ++ used.new.items)) }
+{
+    if let Register::Result(block, number) = register {
+        if is_standing(draft, register) {
+            if uses_of(&draft.facts.uses, register) > 0 {
+                used.push(register)?;
+            } else {
+                draft.take_out(Place { block, number })?;
             }
         }
     }
@@ -120,11 +134,25 @@ fn is_seen_needed(draft: &Draft, rewritten: &Rewritten, register: Register) -> b
 /// Whether the register is one of an instruction that stands.
 fn is_standing(draft: &Draft, register: Register) -> bool
     requires { IsWhole draft.now }
-    ensures { (b n : ℕ) → register ≡ Register.Result b n → Stands draft.now b n → IsTrue result }
+    ensures result { (b n : ℕ) → register ≡ Register.Result b n → IsTrue result ↔ Stands draft.now b n }
+    ensures parameter { (p : ℕ) → register ≡ Register.Parameter p → IsFalse result }
 {
     match register {
-        Register::Result(block, number) => draft.stands(Place { block, number }),
+        Register::Result(block, number) => match draft.stand.get(block as usize) {
+            Some(row) => is_marked(row.as_slice(), number),
+            None => false,
+        },
         Register::Parameter(_) => false,
+    }
+}
+
+/// Whether a number is marked in a row.
+fn is_marked(row: &[bool], number: u32) -> bool
+    ensures { result ≡ slice_index_or row.now number false }
+{
+    match row.get(number as usize) {
+        Some(mark) => *mark,
+        None => false,
     }
 }
 
@@ -139,9 +167,8 @@ fn take_unneeded(alloc: Global, draft: &mut Draft) -> Result<(), AllocError>
         → KeepsUses was draft.new (draft.new.fallen.items ++ fell)) }
 {
     for (block, number) in unneeded_insts(alloc, draft.arena())? {
-        let place = Place { block, number };
-        if draft.stands(place) {
-            draft.take_out(place)?;
+        if is_standing(draft, Register::Result(block, number)) {
+            draft.take_out(Place { block, number })?;
         }
     }
     Ok(())

@@ -1,19 +1,23 @@
 //! Rules applied to drafts.
 
-ghost use Rattle.std.specs.Prelude.{◌≡◌, ◌+◌, ◌<◌, ◌++◌, length, map, IfOk, OnOk};
-ghost use Rattle.std.specs.List.{range_with_len};
+ghost use Rattle.std.specs.Prelude.{◌≡◌, ◌+◌, ◌<◌, ◌++◌, ◌↔◌, length, map, Contains, IfOk, OnOk};
+ghost use Rattle.std.specs.List.{filter_map, range_with_len};
 ghost use Rattle.ir_core.specs.Blocks.{HasInst, IsBlock};
-ghost use Rattle.ir_core.specs.Checks.{IsInst};
+ghost use Rattle.ir_core.specs.Checks.{IsInst, IsKnown};
 ghost use Rattle.ir_core.specs.Reads.{end_of};
 ghost use Rattle.ir_core.specs.declared.function.Block.{Block};
 ghost use Rattle.ir_core.specs.declared.instruction.Inst.{Inst as Instruction};
 ghost use Rattle.rule_core.specs.Checks.{IsRule};
 ghost use Rattle.rewriter.specs.Put as target;
 ghost use Rattle.rewriter.specs.Ready.{IsBound};
+ghost use Rattle.draft.specs.Changes.{changed_at, replaced, taken_out, without};
+ghost use Rattle.draft.specs.Counts.{operands_at, register_of};
 ghost use Rattle.draft.specs.Drafts.{Stands, numbers_of, HasRoom};
 ghost use Rattle.draft.specs.Orders.{none};
+ghost use Rattle.draft.specs.Readers.{IsPlaceIn, IsReader};
 ghost use Rattle.draft.specs.Rewriting.{IsPutFor, MayPut, MayRead, numbered, rows_with, with_put};
 ghost use Rattle.draft.specs.Whole.{IsWhole};
+ghost use Rattle.draft.specs.declared.draft.Place.{Place as Spot};
 
 use crate::draft::{Draft, Place};
 use crate::operands::Swap;
@@ -65,17 +69,40 @@ pub(crate) fn rewrite_draft(
     let numbered = at_number(alloc, binding, draft.count_in(root.block))?;
     let Rewrite { put, result, .. } = rewrite_of(alloc, rule, &numbered, name)?;
     let put = put_all(alloc, draft, root, put.into_vec())?;
-    let swap = Swap {
-        from: Register::Result(root.block, root.number),
-        to: result,
-    };
-    let replaced = draft.replace(alloc, &swap)?;
-    draft.take_out(root)?;
+    let replaced = replace_root(alloc, draft, root, result)?;
     Ok(Rewritten {
         put,
         replaced,
         result,
     })
+}
+
+/// Puts an operand for the register of an instruction, which goes, and gives the places where it was read.
+fn replace_root(
+    alloc: Global,
+    draft: &mut Draft,
+    root: Place,
+    operand: Operand,
+) -> Result<Vec<Place>, AllocError>
+    requires whole { IsWhole draft.old }
+    requires root { HasInst draft.old.arena root.block root.number }
+    requires operand { IsKnown draft.old.arena operand }
+    ensures whole { OnOk result (IsWhole draft.new) }
+    ensures arena { OnOk result (draft.new.arena
+        ≡ taken_out (replaced draft.old.arena (Register.Result root.block root.number) operand) root.block root.number) }
+    ensures numbers { OnOk result (numbers_of draft.new ≡ changed_at root.block (without root.number) (numbers_of draft.old)) }
+    ensures fell { OnOk result (draft.new.fallen.items ≡ draft.old.fallen.items
+        ++ filter_map register_of (operands_at (replaced draft.old.arena (Register.Result root.block root.number) operand) root)) }
+    ensures places { IfOk result (λ places. (p : Spot) → Contains places.items p
+        ↔ (IsPlaceIn draft.old.arena p × IsReader draft.old.arena (Register.Result root.block root.number) p)) }
+{
+    let swap = Swap {
+        from: Register::Result(root.block, root.number),
+        to: operand,
+    };
+    let replaced = draft.replace(alloc, &swap)?;
+    draft.take_out(root)?;
+    Ok(replaced)
 }
 
 /// A copy of the name of an instruction.
