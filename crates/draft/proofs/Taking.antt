@@ -1,8 +1,10 @@
 -- Cleaning a draft, step by step.
 use Rattle.std.proofs.Common.{◌≡◌, ℕ, zero, suc, ◌+◌, ◌<◌, ◌≤◌, ◌⊎◌, inl, inr, Bool, true, false, ◌↔◌, List, [], ◌∷◌, ◌++◌, length, get_or, Some, refl, sym, ap, subst, ◌∙◌, arith}
 use Rattle.std.specs.Prelude.{Contains, slice_get}
+use Rattle.std.specs.List.{filter_map}
 use Rattle.std.proofs.lemmas.Bool.{cases_Bool, cases_lt}
 use Rattle.std.proofs.lemmas.List.{get_or_past}
+use Rattle.std.proofs.lemmas.List.Elements.{Contains-append_cases, Contains-append_left, Contains-append_right}
 use Rattle.std.proofs.lemmas.Option.{slice_get_cases, slice_get_within}
 use Rattle.ir_core.specs.Blocks.{HasInst, IsBlock}
 use Rattle.ir_core.specs.Reads.{end_of}
@@ -12,15 +14,23 @@ use Rattle.ir_core.specs.declared.operand.Operand.TheVariants as operands
 use Rattle.ir_core.specs.declared.operand.Register.{Register}
 use Rattle.ir_core.specs.declared.operand.Register.TheVariants as registers
 use Rattle.ir_core.specs.declared.instruction.Op.{Op}
-use Rattle.ir_meaning.proofs.Pieces.{cases_in, not_in_empty}
+use Rattle.ir_meaning.proofs.Pieces.{cases_in, first_in, later_in, not_in_empty}
 use Rattle.needed.specs.Needed.{IsNeeded, by_end, by_inst, ReadsRegister}
 use Rattle.needed.specs.Operands.{operands_of}
+use Rattle.use_counts.specs.Uses.{IsNamedAt, IsUseCount}
+use Rattle.draft.specs.Changes.{changed_at, taken_out, without}
 use Rattle.draft.specs.Cleaning.{AreRead, IsCleaning, IsNeededWith, ReadsGoUp, ends, reads, is_one}
+use Rattle.draft.specs.Counts.{operands_at, register_of}
 use Rattle.draft.specs.Drafts.{Stands, numbers_in, numbers_of}
-use Rattle.draft.specs.Orders.{place_in}
+use Rattle.draft.specs.Orders.{none, place_in}
+use Rattle.draft.specs.Readers.{arena_place}
 use Rattle.draft.specs.Whole.{IsWhole}
 use Rattle.draft.specs.declared.draft.Draft.{Draft}
+use Rattle.draft.specs.declared.draft.Place.{Place}
+use Rattle.draft.proofs.Needing.{reader_of}
+use Rattle.draft.proofs.Reading.{arena_place_inst, reads_written}
 use Rattle.draft.proofs.Rows.{marked}
+use Rattle.draft.proofs.Silencing.{cleaning_less}
 use Rattle.draft.proofs.RowPlaces.{contained, in_or_out, is_in}
 use Rattle.draft.proofs.WhoReads.{EndReads, InstReads, end_of-is, end_reads_it, who}
 use Rattle.draft.proofs.Wholeness.{marked_stands, stands_marked, stands_there}
@@ -157,3 +167,57 @@ module _ (d : Draft) (whole : IsWhole d) where
       where
         by : (p l : ℕ) → l ≤ p + l
         by p l = omega arith
+
+-- ---- what nothing reads is taken out
+
+-- registers among operands
+registers_among : (xs : List Operand) (r : Register) → Contains xs (operands.Register r) → Contains (filter_map register_of xs) r
+registers_among [] r has = absurd (not_in_empty (operands.Register r) has)
+registers_among (operands.Register s ∷ xs) r has =
+    elim (cases_in (operands.Register s) xs (operands.Register r) has) [
+      | inl same ↦ let register : s ≡ r = cc in subst (Contains (s ∷ filter_map register_of xs)) register (first_in s (filter_map register_of xs))
+      | inr later ↦ later_in s (filter_map register_of xs) r (registers_among xs r later)
+    ]
+registers_among (operands.Number n ∷ xs) r has = registers_among xs r (elim (cases_in (operands.Number n) xs (operands.Register r) has) [ inl same ↦ absurd cc | inr later ↦ later ])
+registers_among (operands.Undef ∷ xs) r has = registers_among xs r (elim (cases_in operands.Undef xs (operands.Register r) has) [ inl same ↦ absurd cc | inr later ↦ later ])
+registers_among (operands.Poison ∷ xs) r has = registers_among xs r (elim (cases_in operands.Poison xs (operands.Register r) has) [ inl same ↦ absurd cc | inr later ↦ later ])
+
+-- what an instruction reads is among the registers that fall
+reads_fall : (f : Function) (p : Place) (r : Register) → p.number < none → ReadsRegister f p.block p.number r → Contains (filter_map register_of (operands_at f p)) r
+reads_fall f p r less h =
+    let here : p.number ≡ arena_place f p = sym (arena_place_inst f p less) in
+    registers_among (operands_at f p) r (reads_written f p.block (arena_place f p) r (subst (λ (k : ℕ). ReadsRegister f p.block k r) here h))
+
+-- what is used nowhere isn't needed
+pub unused : (f : Function) (r : Register) → IsUseCount f r 0 → ¬ IsNeeded f r
+unused f r (places, are, none_of) need =
+    let (b, k, h) = reader_of f r need in
+    let named : IsNamedAt f r b k h.operand = (h.read, h.is_read, h.reads) in
+    let there : Contains places (b, k, h.operand) = (are.each b k h.operand).1 named in
+    let lt : there.0 < length places = there.1 in
+    omega (arith, lt, none_of)
+
+module _ (d d' : Draft) (whole : IsWhole d) (b n : ℕ) (stands : Stands d b n) (un : ¬ IsNeeded d.arena (registers.Result b n))
+  (arena : d'.arena ≡ taken_out d.arena b n) (numbers : numbers_of d' ≡ changed_at b (without n) (numbers_of d))
+  (fell : d'.fallen.items ≡ d.fallen.items ++ filter_map register_of (operands_at d.arena (record { block = b; number = n }))) where
+  abbrev read : List Register
+  read = filter_map register_of (operands_at d.arena (record { block = b; number = n }))
+
+  pub take_step : (f : Function) (rows : List (List ℕ)) (roots used : List Register) → ((r : Register) → Contains roots r → Contains (d.fallen.items ++ used) r ⊎ (r ≡ registers.Result b n))
+      → IsCleaning f rows d.arena (numbers_of d) roots → IsCleaning f rows d'.arena (numbers_of d') (d'.fallen.items ++ used)
+  take_step f rows roots used all is =
+      let (block, is_block, lt) = stands_there d whole b n stands in
+      let few : length block.insts < none = (whole.rows b block is_block).few in
+      let then : IsCleaning f rows (taken_out d.arena b n) (changed_at b (without n) (numbers_of d)) (d'.fallen.items ++ used) =
+      cleaning_less f rows d.arena (numbers_of d) b n roots (d'.fallen.items ++ used) is (block, is_block, lt) un
+      (λ r has. elim (all r has) [ inl old ↦ inl (kept r old) | inr it ↦ inr it ])
+      (λ r h. subst (λ (l : List Register). Contains (l ++ used) r) (sym fell) (Contains-append_left (d.fallen.items ++ read) used r (Contains-append_right d.fallen.items read r (reads_fall d.arena (record { block = b; number = n }) r (omega (arith, lt, few)) h)))) in
+      subst (λ (g : Function). IsCleaning f rows g (numbers_of d') (d'.fallen.items ++ used)) (sym arena)
+      (subst (λ (l : List (List ℕ)). IsCleaning f rows (taken_out d.arena b n) l (d'.fallen.items ++ used)) (sym numbers) then)
+    where
+      kept : (r : Register) → Contains (d.fallen.items ++ used) r → Contains (d'.fallen.items ++ used) r
+      kept r has =
+          elim (Contains-append_cases d.fallen.items used r has) [
+            | inl early ↦ subst (λ (l : List Register). Contains (l ++ used) r) (sym fell) (Contains-append_left (d.fallen.items ++ read) used r (Contains-append_left d.fallen.items read r early))
+            | inr late ↦ Contains-append_right d'.fallen.items used r late
+          ]
