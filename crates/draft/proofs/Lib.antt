@@ -39,3 +39,4 @@ pub mod Numbered
 pub mod PutReads
 pub mod WholeRows
 pub mod Starting
+pub mod Settled

@@ -67,7 +67,7 @@ module _ (d : Draft) (whole : IsWhole d) where
   )
 
   -- what doesn't stand reads nothing
-  gone_reads_nothing : (b n : ℕ) (r : Register) → ¬ Stands d b n → InstReads d.arena b n r → ⊥
+  pub gone_reads_nothing : (b n : ℕ) (r : Register) → ¬ Stands d b n → InstReads d.arena b n r → ⊥
   gone_reads_nothing b n r out i =
       elim (cases_Bool (marked (get_or d.stand.items b []) n)) [
         | inl there ↦ out (marked_stands d whole b i.block i.is_block n (slice_get_within i.block.insts n i.inst i.is_inst) there)
@@ -76,7 +76,7 @@ module _ (d : Draft) (whole : IsWhole d) where
             elim (cases_in operands.Poison [] (operands.Register r) has) [ inl same ↦ cc | inr later ↦ not_in_empty (operands.Register r) later ]
       ]
 
-  end_reads_there : (b k : ℕ) (r : Register) → EndReads d.arena b k r → ReadsRegister d.arena b (end_of d.arena b) r
+  pub end_reads_there : (b k : ℕ) (r : Register) → EndReads d.arena b k r → ReadsRegister d.arena b (end_of d.arena b) r
   end_reads_there b k r e = end_reads_it d.arena b e.block r e.is_block e.has
 
   -- roots that are gone, or needed, may be left out
