@@ -14,7 +14,7 @@ use Rattle.draft.proofs.cleaning.take_or_list.Goals as goal
 
 pub take_out-requires-clause-at : goal.take_out-requires-clause-at
 take_out-requires-clause-at c =
-    let stands : Stands c.args.draft.now c.in-Result.block c.in-Result.number = (c.if-is_standing.ensures.result c.in-Result.block c.in-Result.number c.in-Result.is).0 refl in
+    let stands : Stands c.args.draft.now c.in-Result.block c.in-Result.number = (c.if-is_standing.ensures.result c.in-Result.block c.in-Result.number refl).0 refl in
     stands_there c.args.draft.now c.requires c.in-Result.block c.in-Result.number stands
 
 -- one more behind others
@@ -28,19 +28,20 @@ more fallen used x r (inr it) = Contains-append_right fallen (used ++ x ∷ []) 
 
 pub returns-in_ok-push-clause-cleaning : goal.returns-in_ok-push-clause-cleaning
 returns-in_ok-push-clause-cleaning c = λ f rows roots all is.
-    let items : c.push.new.self.items ≡ c.args.used.now.items ++ c.args.register ∷ [] = c.in_ok-push.ensures.items in
+    let x : Register = registers.Result c.in-Result.block c.in-Result.number in
+    let items : c.push.new.self.items ≡ c.args.used.now.items ++ registers.Result c.in-Result.block c.in-Result.number ∷ [] = c.in_ok-push.ensures.items in
     subst (λ (l : List Register). IsCleaning f rows c.args.draft.now.arena (numbers_of c.args.draft.now) (c.args.draft.now.fallen.items ++ l)) (sym items)
-    (cleaning_dropping c.args.draft.now c.requires f rows roots (c.args.draft.now.fallen.items ++ (c.args.used.now.items ++ c.args.register ∷ [])) (λ r has. inl (more c.args.draft.now.fallen.items c.args.used.now.items c.args.register r (all r has))) is)
+    (cleaning_dropping c.args.draft.now c.requires f rows roots (c.args.draft.now.fallen.items ++ (c.args.used.now.items ++ registers.Result c.in-Result.block c.in-Result.number ∷ [])) (λ r has. inl (more c.args.draft.now.fallen.items c.args.used.now.items (registers.Result c.in-Result.block c.in-Result.number) r (elim (all r has) [ inl old ↦ inl old | inr it ↦ inr (it ∙ c.in-Result.is) ]))) is)
 
 pub returns-in_ok-take_out-clause-cleaning : goal.returns-in_ok-take_out-clause-cleaning
 returns-in_ok-take_out-clause-cleaning c = λ f rows roots all is.
     let b : ℕ = c.in-Result.block in
     let n : ℕ = c.in-Result.number in
-    let stands : Stands c.args.draft.now c.in-Result.block c.in-Result.number = (c.if-is_standing.ensures.result c.in-Result.block c.in-Result.number c.in-Result.is).0 refl in
+    let stands : Stands c.args.draft.now c.in-Result.block c.in-Result.number = (c.if-is_standing.ensures.result c.in-Result.block c.in-Result.number refl).0 refl in
     let none : c.uses_of.result ≡ 0 = omega arith in
-    let count : IsUseCount c.args.draft.now.arena c.args.register c.uses_of.result = c.uses_of.ensures.count c.args.draft.now.arena c.requires.facts.uses in
+    let count : IsUseCount c.args.draft.now.arena (registers.Result c.in-Result.block c.in-Result.number) c.uses_of.result = c.uses_of.ensures.count c.args.draft.now.arena c.requires.facts.uses in
     let un : ¬ IsNeeded c.args.draft.now.arena (registers.Result c.in-Result.block c.in-Result.number) =
-    subst (λ (r : Register). ¬ IsNeeded c.args.draft.now.arena r) c.in-Result.is (unused c.args.draft.now.arena c.args.register (subst (IsUseCount c.args.draft.now.arena c.args.register) none count)) in
+    unused c.args.draft.now.arena (registers.Result c.in-Result.block c.in-Result.number) (subst (IsUseCount c.args.draft.now.arena (registers.Result c.in-Result.block c.in-Result.number)) none count) in
     take_step c.args.draft.now c.take_out.new.self c.requires c.in-Result.block c.in-Result.number stands un c.in_ok-take_out.ensures.arena c.in_ok-take_out.ensures.numbers c.in_ok-take_out.ensures.fallen f rows roots c.args.used.now.items
     (λ r has. elim (all r has) [ inl old ↦ inl old | inr it ↦ inr (it ∙ c.in-Result.is) ]) is
 
@@ -48,8 +49,12 @@ pub returns-else-is_standing-clause-cleaning : goal.returns-else-is_standing-cla
 returns-else-is_standing-clause-cleaning c = λ f rows roots all is.
     cleaning_dropping c.args.draft.now c.requires f rows roots (c.args.draft.now.fallen.items ++ c.args.used.now.items) (λ r has. elim (all r has) [
       | inl old ↦ inl old
-      | inr it ↦ inr (inr (λ b n e stands. let clash = (c.if-is_standing.ensures.result b n (sym it ∙ e)).1 stands in cc))
+      | inr it ↦ inr (inr (λ b n e stands. let clash = (c.if-is_standing.ensures.result b n (sym c.in-Result.is ∙ (sym it ∙ e))).1 stands in cc))
     ]) is
 
 pub returns-in_default-clause-cleaning : goal.returns-in_default-clause-cleaning
-returns-in_default-clause-cleaning c = let h = c.in_default in ?
+returns-in_default-clause-cleaning c = λ f rows roots all is.
+    cleaning_dropping c.args.draft.now c.requires f rows roots (c.args.draft.now.fallen.items ++ c.args.used.now.items) (λ r has. elim (all r has) [
+      | inl old ↦ inl old
+      | inr it ↦ inr (inr (λ b n e stands. c.in_default.not-Result b n (sym it ∙ e)))
+    ]) is
