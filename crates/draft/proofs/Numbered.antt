@@ -173,12 +173,14 @@ module _ (stands_before : ReadsStandBefore) (rule : Rule) (f : Function) (rows :
     input_low i a lt at c q same =
         let x = input_read i a lt at in
         let operand : x.read.operand ≡ operands.Register (registers.Result c (place_in (slice_index_or rows c []) q)) = x.operand ∙ ap (substituted_operand to) same in
-        let reads : ReadsRegister F m.block x.place (registers.Result c (place_in (slice_index_or rows c []) q)) = record { operand = x.index; read = x.read; is_read = x.is_read; reads = operand } in
-        (stands_read m.block x.place c q reads, λ here.
-        let at_root : x.read.operand ≡ operands.Register (registers.Result m.block (place_in row q)) = operand ∙ ap (λ d. operands.Register (registers.Result d (place_in (slice_index_or rows d []) q))) here in
-        let early : place_in row q < x.place = stands_before F m.block x.place (place_in row q) x.index x.inst x.read checks is.reached x.is_inst x.computed x.is_read at_root in
-        let le : x.place ≤ P = x.low in
-        omega (arith, early, le))
+        let reads : ReadsRegister F m.block x.place (registers.Result c (place_in (slice_index_or rows c []) q)) = record { operand = x.index; read = x.read; is_read = x.is_read; reads = operand } in (
+          stands_read m.block x.place c q reads,
+          λ here.
+              let at_root : x.read.operand ≡ operands.Register (registers.Result m.block (place_in row q)) = operand ∙ ap (λ d. operands.Register (registers.Result d (place_in (slice_index_or rows d []) q))) here in
+              let early : place_in row q < x.place = stands_before F m.block x.place (place_in row q) x.index x.inst x.read checks is.reached x.is_inst x.computed x.is_read at_root in
+              let le : x.place ≤ P = x.low in
+              omega (arith, early, le),
+        )
 
     -- and it is known
     pub input_known : (i : ℕ) (a : Operand) → i < length rule.inputs → slice_get m.inputs i ≡ Some a → IsKnown F (substituted_operand to a)
@@ -378,9 +380,10 @@ module _ (stands_before : ReadsStandBefore) (rule : Rule) (f : Function) (rows :
             let number : end_of f m.block + i ≡ q = cc in
             let has : Contains (range_with_len (end_of f m.block) (length w.put)) (end_of f m.block + i) = range_has (end_of f m.block) (length w.put) i (omega (arith, lt, fits)) in
             let there : Contains (slice_index_or rows' m.block []) (end_of f m.block + i) = comes f rows good m.block m.place w.put w.result root.block root.is_block root.stands (end_of f m.block + i) has in
-            let lower_root : m.place < end_of f m.block = lower f rows good m.block m.place (length w.put) root.block root.is_block root.stands m.place root.stands in
-            (subst (λ (d : ℕ). Contains (slice_index_or rows' d []) q) block (subst (Contains (slice_index_or rows' m.block [])) number there),
-            λ it. let number_is : q ≡ m.place = cc in clash (end_of f m.block) i q m.place number number_is lower_root);
+            let lower_root : m.place < end_of f m.block = lower f rows good m.block m.place (length w.put) root.block root.is_block root.stands m.place root.stands in (
+              subst (λ (d : ℕ). Contains (slice_index_or rows' d []) q) block (subst (Contains (slice_index_or rows' m.block [])) number there),
+              λ it. let number_is : q ≡ m.place = cc in clash (end_of f m.block) i q m.place number number_is lower_root,
+            );
       }
         where
           clash : (e i q n : ℕ) → e + i ≡ q → q ≡ n → n < e → ⊥

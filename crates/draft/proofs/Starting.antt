@@ -133,8 +133,10 @@ module _ (f : Function) (rows : List (List ℕ)) (good : AreRows f rows) (b n : 
               | inl early ↦ inl (old c q same (subst (λ (l : List ℕ). Contains l q) (sym split.is) (Contains-append_left split.before (n ∷ split.after) q early)), not_it c q (λ e. no_out split.before (subst (Contains split.before) e early) split.first))
               | inr late ↦ elim (Contains-append_cases news split.after q late) [
                 | inl new ↦ inr (same, new)
-                | inr behind ↦ inl (old c q same (subst (λ (l : List ℕ). Contains l q) (sym split.is) (Contains-append_right split.before (n ∷ split.after) q (later_in n split.after q behind))),
-                    not_it c q (λ e. no_out split.after (subst (Contains split.after) e behind) (last f rows good b n (length put) block is_block stands)))
+                | inr behind ↦ inl (
+                  old c q same (subst (λ (l : List ℕ). Contains l q) (sym split.is) (Contains-append_right split.before (n ∷ split.after) q (later_in n split.after q behind))),
+                  not_it c q (λ e. no_out split.after (subst (Contains split.after) e behind) (last f rows good b n (length put) block is_block stands)),
+                )
               ]
             ]
       ]
@@ -246,7 +248,7 @@ module _ (f : Function) (rows : List (List ℕ)) (good : AreRows f rows) (b n : 
 
       -- where all was needed, and these are the registers of what came and of what the root read
       module _ (clean : (c m : ℕ) → Contains (slice_index_or rows c []) m → IsNeeded f (registers.Result c m)) (fell : List Register)
-        (came : (m : ℕ) → Contains news m → Contains fell (registers.Result b m)) (read : (r : Register) → ReadsRegister g b n r → Contains fell r) where
+          (came : (m : ℕ) → Contains news m → Contains fell (registers.Result b m)) (read : (r : Register) → ReadsRegister g b n r → Contains fell r) where
         pub begins : IsCleaning (taken_out g b n) left (taken_out g b n) left fell
         begins = cleaning_begins (taken_out g b n) left fell (λ c m has. elim (stood_or_came c m has) [
           | inr (same, new) ↦ subst (λ (d : ℕ). IsNeededWith (taken_out g b n) fell (registers.Result d m)) (sym same) (is_one_of (came m new))

@@ -198,8 +198,8 @@ unused f r (places, are, none_of) need =
     omega (arith, lt, none_of)
 
 module _ (d d' : Draft) (whole : IsWhole d) (b n : ℕ) (stands : Stands d b n) (un : ¬ IsNeeded d.arena (registers.Result b n))
-  (arena : d'.arena ≡ taken_out d.arena b n) (numbers : numbers_of d' ≡ changed_at b (without n) (numbers_of d))
-  (fell : d'.fallen.items ≡ d.fallen.items ++ filter_map register_of (operands_at d.arena (record { block = b; number = n }))) where
+    (arena : d'.arena ≡ taken_out d.arena b n) (numbers : numbers_of d' ≡ changed_at b (without n) (numbers_of d))
+    (fell : d'.fallen.items ≡ d.fallen.items ++ filter_map register_of (operands_at d.arena (record { block = b; number = n }))) where
   abbrev read : List Register
   read = filter_map register_of (operands_at d.arena (record { block = b; number = n }))
 
