@@ -1,84 +1,175 @@
 //! Cleaning drafts.
 
+ghost use Rattle.std.specs.Prelude.{◌≡◌, ◌++◌, ◌∷◌, [], ◌↔◌, ◌⊎◌, ◌<◌, ℕ, List as Seq, length, Contains, IsTrue, IsFalse, false, slice_index_or, IfSome, IfNone, OnOk};
+ghost use Rattle.ir_core.specs.declared.function.Function.{Function};
+ghost use Rattle.ir_core.specs.declared.operand.Register.{Register as Named};
+ghost use Rattle.needed.specs.Needed.{IsNeeded};
+ghost use Rattle.draft.specs.Cleaning.{AreRead, IsCleaning, IsNeededWith, KeepsUses, ReadsGoUp};
+ghost use Rattle.draft.specs.Drafts.{Stands, numbers_of};
+ghost use Rattle.draft.specs.Whole.{IsWhole};
+
 use crate::draft::{Draft, Place};
-use crate::loops::Loops;
 use crate::rewriting::Rewritten;
 use ir_core::{Operand, Register};
+use needed::unneeded_insts;
 use std::alloc::{AllocError, Global};
 use use_counts::uses_of;
 
 /// Takes out what is needed no more since a rewrite, and gives the registers of which a use went and which are still used.
 ///
-/// What nothing reads goes, and with it what it alone read. Where what is left of a loop may read itself alone, a walk over readers finds
-/// whether a terminator does.
+/// What nothing reads goes, and with it what it alone read. In a function of one block all else is needed, since what reads an
+/// instruction stands behind it. In others what is left of a loop may read itself alone: there a walk from the terminators finds what is
+/// needed, but where what was put leads from each register that lost a use to what stands for the root's.
 pub(crate) fn clean_draft(
     alloc: Global,
     draft: &mut Draft,
-    loops: &mut Loops,
     rewritten: &Rewritten,
-) -> Result<Vec<Register>, AllocError> {
+) -> Result<Vec<Register>, AllocError>
+    requires whole { IsWhole draft.old }
+    requires waits { (b n : ℕ) → Stands draft.old b n → IsNeededWith draft.old.arena draft.old.fallen.items (Register.Result b n) }
+    requires result { (r : Named) → rewritten.now.result ≡ Operand.Register r → IsNeeded draft.old.arena r }
+    requires read { AreRead draft.old draft.old.fallen.items }
+    requires ordered { length draft.old.arena.blocks < 2 → ReadsGoUp draft.old }
+    ensures whole { OnOk result (IsWhole draft.new) }
+    ensures none_fell { OnOk result (draft.new.fallen.items ≡ []) }
+    ensures cleaned { OnOk result (IsCleaning draft.old.arena (numbers_of draft.old) draft.new.arena (numbers_of draft.new) []) }
+    ensures reads { IfOk result (λ used. KeepsUses draft.old draft.new used.items) }
+{
     let mut used = Vec::new(alloc);
-    loops.add(rewritten)?;
     take_unused(draft, &mut used)?;
-    let mut next = 0;
-    while next < used.len() {
-        let register = used[next];
-        next += 1;
-        if !is_read_by_put(draft, rewritten, register) {
-            take_if_unneeded(alloc, draft, loops, register)?;
-            take_unused(draft, &mut used)?;
-        }
+    if draft.blocks() > 1 && !are_needed(draft, rewritten, used.as_slice()) {
+        take_unneeded(alloc, draft)?;
+        take_unused(draft, &mut used)?;
     }
     Ok(used)
 }
 
+/// The register that fell last, if one is left.
+fn next_fallen(draft: &mut Draft) -> Option<Register>
+    requires { IsWhole draft.old }
+    ensures whole { IsWhole draft.new }
+    ensures arena { draft.new.arena ≡ draft.old.arena }
+    ensures numbers { numbers_of draft.new ≡ numbers_of draft.old }
+    ensures some { IfSome result (λ register. draft.old.fallen.items ≡ draft.new.fallen.items ++ register ∷ []) }
+    ensures none { IfNone result ((draft.old.fallen.items ≡ []) × (draft.new.fallen.items ≡ [])) }
+{
+    draft.fallen.pop()
+}
+
 /// Takes out what nothing reads, of what fell, and lists the rest.
-fn take_unused(draft: &mut Draft, used: &mut Vec<Register>) -> Result<(), AllocError> {
-    while let Some(register) = draft.fallen.pop() {
-        if let Register::Result(block, number) = register {
-            let place = Place { block, number };
-            if !draft.stands(place) {
-                continue;
-            }
+fn take_unused(draft: &mut Draft, used: &mut Vec<Register>) -> Result<(), AllocError>
+    requires { IsWhole draft.old }
+    ensures whole { OnOk result (IsWhole draft.new) }
+    ensures none_fell { OnOk result (draft.new.fallen.items ≡ []) }
+    ensures cleaning { OnOk result ((f : Function) (rows : Seq (Seq ℕ))
+        → IsCleaning f rows draft.old.arena (numbers_of draft.old) (draft.old.fallen.items ++ used.old.items)
+        → IsCleaning f rows draft.new.arena (numbers_of draft.new) used.new.items) }
+{
+    while let Some(register) = next_fallen(draft) {
+        take_or_list(draft, used, register)?;
+    }
+    Ok(())
+}
+
+/// Takes out the instruction of a register that fell, where nothing reads it, and else lists the register.
+fn take_or_list(
+    draft: &mut Draft,
+    used: &mut Vec<Register>,
+    register: Register,
+) -> Result<(), AllocError>
+    requires { IsWhole draft.old }
+    ensures whole { OnOk result (IsWhole draft.new) }
+    ensures cleaning { OnOk result ((f : Function) (rows : Seq (Seq ℕ)) (roots : Seq Named)
+        → ((r : Named) → Contains roots r → Contains (draft.old.fallen.items ++ used.old.items) r ⊎ (r ≡ register))
+        → IsCleaning f rows draft.old.arena (numbers_of draft.old) roots
+        → IsCleaning f rows draft.new.arena (numbers_of draft.new) (draft.new.fallen.items ++ used.new.items)) }
+{
+    if let Register::Result(block, number) = register {
+        if is_standing(draft, register) {
             if uses_of(&draft.facts.uses, register) > 0 {
                 used.push(register)?;
             } else {
-                draft.take_out(place)?;
+                draft.take_out(Place { block, number })?;
             }
         }
     }
     Ok(())
 }
 
-/// Whether what was put reads the register, or it stands for the root's: then it is needed, since the root was.
-fn is_read_by_put(draft: &Draft, rewritten: &Rewritten, register: Register) -> bool {
-    if rewritten.result == Operand::Register(register) {
-        return true;
-    }
-    for place in &rewritten.put {
-        if draft.reads(*place, register) {
-            return true;
+/// Whether each register, where its instruction stands, is seen to be needed.
+fn are_needed(draft: &Draft, rewritten: &Rewritten, used: &[Register]) -> bool
+    requires whole { IsWhole draft.now }
+    requires result { (r : Named) → rewritten.now.result ≡ Operand.Register r → IsNeeded draft.now.arena r }
+    ensures { IsTrue result → (b n : ℕ) → Contains used.now (Register.Result b n) → Stands draft.now b n → IsNeeded draft.now.arena (Register.Result b n) }
+{
+    for register in used {
+        if !is_seen_needed(draft, rewritten, *register) {
+            return false;
         }
     }
-    false
+    true
 }
 
-/// Takes out an instruction of a loop, and all that reads it, where that is no terminator and nothing outside of loops.
-fn take_if_unneeded(
-    alloc: Global,
-    draft: &mut Draft,
-    loops: &mut Loops,
-    register: Register,
-) -> Result<(), AllocError> {
-    let Register::Result(block, number) = register else {
-        return Ok(());
-    };
-    let place = Place { block, number };
-    if !draft.stands(place) {
-        return Ok(());
+/// Whether what was put leads from a register to what stands for the root's; or it has no instruction that stands.
+fn is_seen_needed(draft: &Draft, rewritten: &Rewritten, register: Register) -> bool
+    requires whole { IsWhole draft.now }
+    requires result { (r : Named) → rewritten.now.result ≡ Operand.Register r → IsNeeded draft.now.arena r }
+    ensures { IsTrue result → (b n : ℕ) → register ≡ Register.Result b n → Stands draft.now b n → IsNeeded draft.now.arena register }
+{
+    if !is_standing(draft, register) {
+        return true;
     }
-    for unneeded in loops.unneeded_from(alloc, draft, place)? {
-        draft.take_out(unneeded)?;
+    let mut here = register;
+    for place in &rewritten.put {
+        if rewritten.result == Operand::Register(here) {
+            return true;
+        }
+        if draft.reads(*place, here) {
+            here = Register::Result(place.block, place.number);
+        }
+    }
+    rewritten.result == Operand::Register(here)
+}
+
+/// Whether the register is one of an instruction that stands.
+fn is_standing(draft: &Draft, register: Register) -> bool
+    requires { IsWhole draft.now }
+    ensures result { (b n : ℕ) → register ≡ Register.Result b n → IsTrue result ↔ Stands draft.now b n }
+    ensures parameter { (p : ℕ) → register ≡ Register.Parameter p → IsFalse result }
+{
+    match register {
+        Register::Result(block, number) => match draft.stand.get(block as usize) {
+            Some(row) => is_marked(row.as_slice(), number),
+            None => false,
+        },
+        Register::Parameter(_) => false,
+    }
+}
+
+/// Whether a number is marked in a row.
+fn is_marked(row: &[bool], number: u32) -> bool
+    ensures { result ≡ slice_index_or row.now number false }
+{
+    match row.get(number as usize) {
+        Some(mark) => *mark,
+        None => false,
+    }
+}
+
+/// Takes out all that isn't needed.
+fn take_unneeded(alloc: Global, draft: &mut Draft) -> Result<(), AllocError>
+    requires { IsWhole draft.old }
+    ensures whole { OnOk result (IsWhole draft.new) }
+    ensures cleaning { OnOk result ((f : Function) (rows : Seq (Seq ℕ)) (waits : Seq Named)
+        → IsCleaning f rows draft.old.arena (numbers_of draft.old) waits
+        → IsCleaning f rows draft.new.arena (numbers_of draft.new) []) }
+    ensures reads { OnOk result ((was : Draft) (fell : Seq Named) → KeepsUses was draft.old (draft.old.fallen.items ++ fell)
+        → KeepsUses was draft.new (draft.new.fallen.items ++ fell)) }
+{
+    for (block, number) in unneeded_insts(alloc, draft.arena())? {
+        if is_standing(draft, Register::Result(block, number)) {
+            draft.take_out(Place { block, number })?;
+        }
     }
     Ok(())
 }

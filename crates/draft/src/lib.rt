@@ -6,7 +6,6 @@
 
 mod cleaning;
 mod draft;
-mod loops;
 mod marks;
 mod operands;
 mod order;
@@ -18,6 +17,5 @@ mod substituting;
 mod uses;
 
 pub use draft::{Draft, Place};
-pub use loops::Loops;
 pub use queue::Queue;
 pub use stepping::step;

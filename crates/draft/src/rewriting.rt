@@ -1,90 +1,153 @@
 //! Rules applied to drafts.
 
+ghost use Rattle.std.specs.Prelude.{◌≡◌, ◌+◌, ◌<◌, ◌++◌, ◌↔◌, length, map, Contains, IfOk, OnOk};
+ghost use Rattle.std.specs.List.{filter_map, range_with_len};
+ghost use Rattle.ir_core.specs.Blocks.{HasInst, IsBlock};
+ghost use Rattle.ir_core.specs.Checks.{IsInst, IsKnown};
+ghost use Rattle.ir_core.specs.Reads.{end_of};
+ghost use Rattle.ir_core.specs.declared.function.Block.{Block};
+ghost use Rattle.ir_core.specs.declared.instruction.Inst.{Inst as Instruction};
+ghost use Rattle.rule_core.specs.Checks.{IsRule};
+ghost use Rattle.rewriter.specs.Put as target;
+ghost use Rattle.rewriter.specs.Ready.{IsBound};
+ghost use Rattle.draft.specs.Changes.{changed_at, replaced, taken_out, without};
+ghost use Rattle.draft.specs.Counts.{operands_at, register_of};
+ghost use Rattle.draft.specs.Drafts.{Stands, numbers_of, HasRoom};
+ghost use Rattle.draft.specs.Orders.{none};
+ghost use Rattle.draft.specs.Readers.{IsPlaceIn, IsReader};
+ghost use Rattle.draft.specs.Rewriting.{IsPutFor, MayPut, MayRead, numbered, rows_with, with_put};
+ghost use Rattle.draft.specs.Whole.{IsWhole};
+ghost use Rattle.draft.specs.declared.draft.Place.{Place as Spot};
+
 use crate::draft::{Draft, Place};
 use crate::operands::Swap;
 use bindings::Binding;
-use ir_core::{Operand, Register};
-use lists::List;
+use ir_core::{Inst, Operand, Register};
+use lists::{List, Text};
 use rewriter::rewrite_of;
-use rule_core::{Op as RuleOp, Rule};
+use rule_core::Rule;
 use std::alloc::{AllocError, Global};
-use std::mem;
 use substitution::Rewrite;
 
-/// What a rule changed.
+/// What a rule put.
 #[derive(Debug, Drop)]
 pub(crate) struct Rewritten {
-    pub(crate) root: Place,
-    /// The instructions of its target; that of the target's root stands where the source's did.
+    /// The instructions of its target.
     pub(crate) put: Vec<Place>,
-    /// Where an operand was put for the root's register.
+    /// Where what stands for the root's register was put for it.
     pub(crate) replaced: Vec<Place>,
-    /// What stands for the root's register.
+    /// What stands for it.
     pub(crate) result: Operand,
 }
 
-/// Applies a rule where it matches with this binding, which names numbers.
+/// Applies a rule where it matches with this binding, which names numbers: what it puts gets the next numbers and stands before the root,
+/// what stands for the root's register is put for it, and the root goes.
 pub(crate) fn rewrite_draft(
     alloc: Global,
     draft: &mut Draft,
     binding: &Binding,
     rule: &Rule,
-) -> Result<Rewritten, AllocError> {
+) -> Result<Rewritten, AllocError>
+    requires whole { IsWhole draft.old }
+    requires rule { IsRule rule.now }
+    requires bound { IsBound rule.now binding.now }
+    requires root { Stands draft.old binding.now.block binding.now.place }
+    requires readable { (root : Instruction) → IsInst draft.old.arena binding.now.block binding.now.place root
+        → MayPut draft.old.arena binding.now.block (target.rewrite_of rule.now (numbered draft.old.arena binding.now) root.name).put }
+    requires result { (root : Instruction) → IsInst draft.old.arena binding.now.block binding.now.place root
+        → MayRead draft.old.arena binding.now.block 32 (target.rewrite_of rule.now (numbered draft.old.arena binding.now) root.name).result }
+    requires room { HasRoom draft.old binding.now.block }
+    ensures whole { OnOk result (IsWhole draft.new) }
+    ensures rewritten { IfOk result (λ rewritten. (root : Instruction) → IsInst draft.old.arena binding.now.block binding.now.place root
+        → IsPutFor draft.old draft.new (target.rewrite_of rule.now (numbered draft.old.arena binding.now) root.name) binding.now.place rewritten) }
+{
     let root = Place {
         block: binding.block,
         number: binding.place,
     };
-    let name = mem::replace(&mut draft.inst_mut(root).name, None);
+    let name = name_at(alloc, draft, root)?;
     let numbered = at_number(alloc, binding, draft.count_in(root.block))?;
     let Rewrite { put, result, .. } = rewrite_of(alloc, rule, &numbered, name)?;
-    let mut insts = put.into_vec();
-    let last = if ends_in_copy(rule) {
-        None
-    } else {
-        insts.pop()
-    };
-    let mut put = Vec::new(alloc);
-    for inst in insts {
-        put.push(draft.put_before(alloc, root, inst)?)?;
-    }
-    let register = Register::Result(root.block, root.number);
-    let Some(inst) = last else {
-        let swap = Swap {
-            from: register,
-            to: result,
-        };
-        let replaced = draft.replace(alloc, &swap)?;
-        draft.take_out(root)?;
-        return Ok(Rewritten {
-            root,
-            put,
-            replaced,
-            result,
-        });
-    };
-    draft.exchange(root, inst)?;
-    put.push(root)?;
+    let put = put_all(alloc, draft, root, put.into_vec())?;
+    let replaced = replace_root(alloc, draft, root, result)?;
     Ok(Rewritten {
-        root,
         put,
-        replaced: Vec::new(alloc),
-        result: Operand::Register(register),
+        replaced,
+        result,
     })
 }
 
-/// Whether the target's last statement is a copy.
-fn ends_in_copy(rule: &Rule) -> bool {
-    match rule.target.as_slice().last() {
-        Some(statement) => match statement.op {
-            RuleOp::Copy(_) => true,
-            _ => false,
-        },
-        None => false,
+/// Puts an operand for the register of an instruction, which goes, and gives the places where it was read.
+fn replace_root(
+    alloc: Global,
+    draft: &mut Draft,
+    root: Place,
+    operand: Operand,
+) -> Result<Vec<Place>, AllocError>
+    requires whole { IsWhole draft.old }
+    requires root { HasInst draft.old.arena root.block root.number }
+    requires operand { IsKnown draft.old.arena operand }
+    ensures whole { OnOk result (IsWhole draft.new) }
+    ensures arena { OnOk result (draft.new.arena
+        ≡ taken_out (replaced draft.old.arena (Register.Result root.block root.number) operand) root.block root.number) }
+    ensures numbers { OnOk result (numbers_of draft.new ≡ changed_at root.block (without root.number) (numbers_of draft.old)) }
+    ensures fell { OnOk result (draft.new.fallen.items ≡ draft.old.fallen.items
+        ++ filter_map register_of (operands_at (replaced draft.old.arena (Register.Result root.block root.number) operand) root)) }
+    ensures places { IfOk result (λ places. (p : Spot) → Contains places.items p
+        ↔ (IsPlaceIn draft.old.arena p × IsReader draft.old.arena (Register.Result root.block root.number) p)) }
+{
+    let swap = Swap {
+        from: Register::Result(root.block, root.number),
+        to: operand,
+    };
+    let replaced = draft.replace(alloc, &swap)?;
+    draft.take_out(root)?;
+    Ok(replaced)
+}
+
+/// A copy of the name of an instruction.
+fn name_at(alloc: Global, draft: &Draft, at: Place) -> Result<Option<Text>, AllocError>
+    requires { HasInst draft.now.arena at.block at.number }
+    ensures { IfOk result (λ name. (inst : Instruction) → IsInst draft.now.arena at.block at.number inst → name ≡ inst.name) }
+{
+    let block = &draft.arena.blocks.as_slice()[at.block as usize];
+    match &block.insts.as_slice()[at.number as usize].name {
+        Some(text) => Ok(Some(List::from_vec(Vec::from_slice(alloc, text.as_slice())?))),
+        None => Ok(None),
     }
 }
 
+/// Puts instructions before another, and gives their places.
+fn put_all(
+    alloc: Global,
+    draft: &mut Draft,
+    at: Place,
+    insts: Vec<Inst>,
+) -> Result<Vec<Place>, AllocError>
+    requires whole { IsWhole draft.old }
+    requires at { Stands draft.old at.block at.number }
+    requires room { (block : Block) → IsBlock draft.old.arena at.block block → length block.insts + length insts.items < none }
+    requires readable { MayPut draft.old.arena at.block insts.items }
+    ensures whole { OnOk result (IsWhole draft.new) }
+    ensures put { IfOk result (λ put. put.items ≡ map (λ number. record { block = at.block; number = number })
+        (range_with_len (end_of draft.old.arena at.block) (length insts.items))) }
+    ensures fell { OnOk result (draft.new.fallen.items ≡ draft.old.fallen.items ++ map (λ number. Register.Result at.block number)
+        (range_with_len (end_of draft.old.arena at.block) (length insts.items))) }
+    ensures arena { OnOk result (draft.new.arena ≡ with_put draft.old.arena at.block insts.items) }
+    ensures numbers { OnOk result (numbers_of draft.new ≡ rows_with (numbers_of draft.old) at.block at.number
+        (range_with_len (end_of draft.old.arena at.block) (length insts.items))) }
+{
+    let mut put = Vec::new(alloc);
+    for inst in insts {
+        put.push(draft.put_before(alloc, at, inst)?)?;
+    }
+    Ok(put)
+}
+
 /// The same binding, where what is put gets numbers from this one on.
-fn at_number(alloc: Global, binding: &Binding, number: u32) -> Result<Binding, AllocError> {
+fn at_number(alloc: Global, binding: &Binding, number: u32) -> Result<Binding, AllocError>
+    ensures { IfOk result (λ numbered. numbered ≡ record binding.now { place = number }) }
+{
     Ok(Binding {
         block: binding.block,
         place: number,

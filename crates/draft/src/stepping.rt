@@ -8,11 +8,13 @@ ghost use Rattle.rule_typing.specs.Faults.{HasNoFault};
 ghost use Rattle.bindings.specs.Match.{IsMatch};
 ghost use Rattle.rewriter.specs.Applied.{IsRewritten};
 ghost use Rattle.needed.specs.Cleaned.{IsCleaned};
+ghost use Rattle.run_history.specs.Laws.{NumbersFit};
+ghost use Rattle.draft.specs.Cleaning.{IsClean};
 ghost use Rattle.draft.specs.Drafts.{AreTouched, function_of, placed_binding, HasRoom};
+ghost use Rattle.draft.specs.Whole.{IsSettled};
 
 use crate::cleaning::clean_draft;
 use crate::draft::{Draft, Place};
-use crate::loops::Loops;
 use crate::rewriting::rewrite_draft;
 use bindings::Binding;
 use ir_core::Register;
@@ -23,26 +25,30 @@ use use_counts::uses_of;
 /// Applies a rule where it matches with this binding, which names numbers, and cleans the draft. It gives the places that were touched:
 /// those of what came, of what reads something else, and of what is read by one operand alone since then. Some of them were taken out.
 ///
-/// It takes as many steps as the rule is long, places read the root where an operand is put for it, and instructions go; and where a loop
-/// of reads may have been cut off, as many as there are instructions in loops.
+/// It takes as many steps as the rule is long, places read the root, and instructions go; and where what lost a use may be read by a loop
+/// alone, as many as the arena is long.
 pub fn step(
     alloc: Global,
     draft: &mut Draft,
-    loops: &mut Loops,
     binding: &Binding,
     rule: &Rule,
 ) -> Result<Vec<Place>, AllocError>
+    requires settled { IsSettled draft.old }
+    requires clean { IsClean draft.old }
     requires checks { MeetsChecks (function_of draft.old) }
+    requires numbers { NumbersFit (function_of draft.old) }
     requires rule { IsRule rule.now }
     requires typed { HasNoFault rule.now }
     requires matches { let m = placed_binding draft.old binding.now in IsMatch (function_of draft.old) m.block m.place rule.now m }
     requires room { HasRoom draft.old binding.now.block }
+    ensures settled { OnOk result (IsSettled draft.new) }
+    ensures clean { OnOk result (IsClean draft.new) }
     ensures steps { OnOk result ((f : Function) × IsRewritten (function_of draft.old) (placed_binding draft.old binding.now) rule.now f
         × IsCleaned f (function_of draft.new)) }
     ensures touched { IfOk result (λ places. AreTouched draft.old draft.new places.items) }
 {
     let rewritten = rewrite_draft(alloc, draft, binding, rule)?;
-    let used = clean_draft(alloc, draft, loops, &rewritten)?;
+    let used = clean_draft(alloc, draft, &rewritten)?;
     let mut touched = rewritten.put;
     for place in rewritten.replaced {
         touched.push(place)?;

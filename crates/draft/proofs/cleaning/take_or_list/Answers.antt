@@ -1,0 +1,60 @@
+use Rattle.std.proofs.Common.{◌≡◌, ℕ, ◌⊎◌, inl, inr, List, [], ◌∷◌, ◌++◌, refl, sym, subst, ◌∙◌, arith}
+use Rattle.std.specs.Prelude.{Contains}
+use Rattle.std.proofs.lemmas.List.Elements.{Contains-append_cases, Contains-append_left, Contains-append_right}
+use Rattle.ir_core.specs.declared.operand.Register.{Register}
+use Rattle.ir_core.specs.declared.operand.Register.TheVariants as registers
+use Rattle.ir_meaning.proofs.Pieces.{first_in}
+use Rattle.needed.specs.Needed.{IsNeeded}
+use Rattle.use_counts.specs.Uses.{IsUseCount}
+use Rattle.draft.specs.Cleaning.{IsCleaning}
+use Rattle.draft.specs.Drafts.{Stands, numbers_of}
+use Rattle.draft.proofs.Taking.{IsGone, cleaning_dropping, take_step, unused}
+use Rattle.draft.proofs.Wholeness.{stands_there}
+use Rattle.draft.proofs.cleaning.take_or_list.Goals as goal
+
+pub take_out-requires-clause-at : goal.take_out-requires-clause-at
+take_out-requires-clause-at c =
+    let stands : Stands c.args.draft.now c.in-Result.block c.in-Result.number = (c.if-is_standing.ensures.result c.in-Result.block c.in-Result.number refl).0 refl in
+    stands_there c.args.draft.now c.requires c.in-Result.block c.in-Result.number stands
+
+-- one more behind others
+more : (fallen used : List Register) (x r : Register) → Contains (fallen ++ used) r ⊎ (r ≡ x) → Contains (fallen ++ (used ++ x ∷ [])) r
+more fallen used x r (inl old) =
+    elim (Contains-append_cases fallen used r old) [
+      | inl early ↦ Contains-append_left fallen (used ++ x ∷ []) r early
+      | inr late ↦ Contains-append_right fallen (used ++ x ∷ []) r (Contains-append_left used (x ∷ []) r late)
+    ]
+more fallen used x r (inr it) = Contains-append_right fallen (used ++ x ∷ []) r (Contains-append_right used (x ∷ []) r (subst (Contains (x ∷ [])) (sym it) (first_in x [])))
+
+pub returns-in_ok-push-clause-cleaning : goal.returns-in_ok-push-clause-cleaning
+returns-in_ok-push-clause-cleaning c = λ f rows roots all is.
+    let x : Register = registers.Result c.in-Result.block c.in-Result.number in
+    let items : c.push.new.self.items ≡ c.args.used.now.items ++ registers.Result c.in-Result.block c.in-Result.number ∷ [] = c.in_ok-push.ensures.items in
+    subst (λ (l : List Register). IsCleaning f rows c.args.draft.now.arena (numbers_of c.args.draft.now) (c.args.draft.now.fallen.items ++ l)) (sym items)
+    (cleaning_dropping c.args.draft.now c.requires f rows roots (c.args.draft.now.fallen.items ++ (c.args.used.now.items ++ registers.Result c.in-Result.block c.in-Result.number ∷ [])) (λ r has. inl (more c.args.draft.now.fallen.items c.args.used.now.items (registers.Result c.in-Result.block c.in-Result.number) r (elim (all r has) [ inl old ↦ inl old | inr it ↦ inr (it ∙ c.in-Result.is) ]))) is)
+
+pub returns-in_ok-take_out-clause-cleaning : goal.returns-in_ok-take_out-clause-cleaning
+returns-in_ok-take_out-clause-cleaning c = λ f rows roots all is.
+    let b : ℕ = c.in-Result.block in
+    let n : ℕ = c.in-Result.number in
+    let stands : Stands c.args.draft.now c.in-Result.block c.in-Result.number = (c.if-is_standing.ensures.result c.in-Result.block c.in-Result.number refl).0 refl in
+    let none : c.uses_of.result ≡ 0 = omega arith in
+    let count : IsUseCount c.args.draft.now.arena (registers.Result c.in-Result.block c.in-Result.number) c.uses_of.result = c.uses_of.ensures.count c.args.draft.now.arena c.requires.facts.uses in
+    let un : ¬ IsNeeded c.args.draft.now.arena (registers.Result c.in-Result.block c.in-Result.number) =
+    unused c.args.draft.now.arena (registers.Result c.in-Result.block c.in-Result.number) (subst (IsUseCount c.args.draft.now.arena (registers.Result c.in-Result.block c.in-Result.number)) none count) in
+    take_step c.args.draft.now c.take_out.new.self c.requires c.in-Result.block c.in-Result.number stands un c.in_ok-take_out.ensures.arena c.in_ok-take_out.ensures.numbers c.in_ok-take_out.ensures.fallen f rows roots c.args.used.now.items
+    (λ r has. elim (all r has) [ inl old ↦ inl old | inr it ↦ inr (it ∙ c.in-Result.is) ]) is
+
+pub returns-else-is_standing-clause-cleaning : goal.returns-else-is_standing-clause-cleaning
+returns-else-is_standing-clause-cleaning c = λ f rows roots all is.
+    cleaning_dropping c.args.draft.now c.requires f rows roots (c.args.draft.now.fallen.items ++ c.args.used.now.items) (λ r has. elim (all r has) [
+      | inl old ↦ inl old
+      | inr it ↦ inr (inr (λ b n e stands. let clash = (c.if-is_standing.ensures.result b n (sym c.in-Result.is ∙ (sym it ∙ e))).1 stands in cc))
+    ]) is
+
+pub returns-in_default-clause-cleaning : goal.returns-in_default-clause-cleaning
+returns-in_default-clause-cleaning c = λ f rows roots all is.
+    cleaning_dropping c.args.draft.now c.requires f rows roots (c.args.draft.now.fallen.items ++ c.args.used.now.items) (λ r has. elim (all r has) [
+      | inl old ↦ inl old
+      | inr it ↦ inr (inr (λ b n e stands. c.in_default.not-Result b n (sym it ∙ e)))
+    ]) is
