@@ -19,3 +19,12 @@ pub mod Put
 pub mod Swapped
 pub mod Listed
 pub mod Exchange
+pub mod Members
+pub mod Linking
+pub mod LinkedIn
+pub mod Labelling
+pub mod NodeWrites
+pub mod MarkLemmas
+pub mod Ranks
+pub mod Tallies
+pub mod Keeping

@@ -6,6 +6,9 @@
 
 mod cleaning;
 mod draft;
+mod heap;
+mod laws;
+mod links;
 mod loops;
 mod marks;
 mod operands;
@@ -16,8 +19,10 @@ mod rewriting;
 mod stepping;
 mod substituting;
 mod uses;
+mod waiting;
 
 pub use draft::{Draft, Place};
+pub use laws::orders_are_kept;
 pub use loops::Loops;
 pub use queue::Queue;
 pub use stepping::step;
