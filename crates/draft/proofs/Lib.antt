@@ -28,3 +28,6 @@ pub mod MarkLemmas
 pub mod Ranks
 pub mod Tallies
 pub mod Keeping
+pub mod QueueSteps
+pub mod Walking
+pub mod QueueLaws

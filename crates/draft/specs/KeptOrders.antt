@@ -1,7 +1,7 @@
 -- Orders that keep what they order while numbers are put between others.
 use Rattle.std.specs.Prelude.{◌≡◌, ℕ, ◌<◌, List, [], length, Contains, slice_index_or, slice_set}
 use Rattle.draft.specs.declared.draft.Place.{Place}
-use Rattle.draft.specs.Heaps.{IsNumbered, ComesBefore, IsHeap}
+use Rattle.draft.specs.Heaps.{IsNumbered, ComesBefore}
 use Rattle.draft.specs.Orders.{put_before}
 
 -- Each place that has a number in the old orders has it in the new ones, and what comes before it came before it.
@@ -9,10 +9,6 @@ pub record KeepsOrders (old new : List (List ℕ)) : Type 0 where
   pub blocks : length new ≡ length old
   pub numbered : (p : Place) → IsNumbered old p → IsNumbered new p
   pub order : (p q : Place) → IsNumbered old p → IsNumbered old q → ComesBefore new p q → ComesBefore old p q
-
--- a heap by the old orders is one by the new
-abbrev pub HeapsStay : Type 0
-HeapsStay = (old new : List (List ℕ)) (heap : List Place) → KeepsOrders old new → IsHeap old heap → IsHeap new heap
 
 -- where a number is put before another of its block
 abbrev pub PutsKeepOrders : Type 0

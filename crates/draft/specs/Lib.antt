@@ -14,3 +14,5 @@ pub mod Readers
 pub mod Counts
 pub mod Placing
 pub mod Whole
+pub mod Walks
+pub mod Queues

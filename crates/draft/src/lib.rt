@@ -20,6 +20,7 @@ mod stepping;
 mod substituting;
 mod uses;
 mod waiting;
+mod walk;
 
 pub use draft::{Draft, Place};
 pub use laws::orders_are_kept;

@@ -1,4 +1,5 @@
-use Rattle.draft.proofs.Keeping.{heap-stays, put-keeps, keeps-twice}
+use Rattle.draft.proofs.Keeping.{put-keeps, keeps-twice}
+use Rattle.draft.proofs.QueueLaws.{queue-stays}
 use Rattle.draft.proofs.laws.orders_are_kept.Goals as goal
 
 pub returns-clause-put : goal.returns-clause-put
@@ -7,5 +8,5 @@ returns-clause-put c = put-keeps
 pub returns-clause-twice : goal.returns-clause-twice
 returns-clause-twice c = keeps-twice
 
-pub returns-clause-heaps : goal.returns-clause-heaps
-returns-clause-heaps c = heap-stays
+pub returns-clause-queues : goal.returns-clause-queues
+returns-clause-queues c = queue-stays
