@@ -29,5 +29,6 @@ pub mod Ranks
 pub mod Tallies
 pub mod Keeping
 pub mod QueueSteps
+pub mod WalkSteps
 pub mod Walking
 pub mod QueueLaws
