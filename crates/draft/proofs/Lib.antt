@@ -41,3 +41,16 @@ pub mod PutReads
 pub mod WholeRows
 pub mod Starting
 pub mod Settled
+pub mod Members
+pub mod Linking
+pub mod LinkedIn
+pub mod Labelling
+pub mod NodeWrites
+pub mod MarkLemmas
+pub mod Ranks
+pub mod Tallies
+pub mod Keeping
+pub mod QueueSteps
+pub mod WalkSteps
+pub mod Walking
+pub mod QueueLaws

@@ -15,7 +15,6 @@ use Rattle.moved_matches.specs.Moved.{moved_binding}
 use Rattle.draft.specs.declared.draft.Draft.{Draft}
 use Rattle.draft.specs.declared.draft.Place.{Place}
 use Rattle.draft.specs.Orders.{place_in, none}
-use Rattle.draft.specs.Sets.{Rows, Has}
 
 -- those of some numbers that stand
 abbrev pub standing_in : List Bool → List ℕ → List ℕ
@@ -83,11 +82,6 @@ placed_binding d m = moved_binding (placed (numbers_of d)) (place_in (numbers_in
 -- the block has numbers left for what a rule puts
 abbrev pub HasRoom : Draft → ℕ → Type 0
 HasRoom d b = (block : Block) → IsBlock d.arena b block → length block.insts + 32 < none
-
--- a place of the set before which no other one of it stands
-pub record IsFirst (d : Draft) (rows : Rows) (p : Place) : Type 0 where
-  pub there : Has rows p.block p.number
-  pub none_before : (b n : ℕ) → Has rows b n → ¬ StandsBefore d b n p.block p.number
 
 -- instruction n of block b reaches instruction m there through at most so many operands of instructions of the block
 abbrev pub Reaches : Draft → ℕ → ℕ → ℕ → ℕ → Type 0

@@ -2,7 +2,12 @@ pub use Rattle.bindings.specs.Match
 pub use Rattle.rewriter.specs.Applied
 pub use Rattle.needed.specs.Cleaned
 pub mod Orders
+pub mod Links
+pub mod Numbers
 pub mod Sets
+pub mod Heaps
+pub mod KeptOrders
+pub mod Waiting
 pub mod Drafts
 pub mod Changes
 pub mod Readers
@@ -11,3 +16,5 @@ pub mod Placing
 pub mod Whole
 pub mod Cleaning
 pub mod Rewriting
+pub mod Walks
+pub mod Queues

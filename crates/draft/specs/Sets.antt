@@ -20,3 +20,7 @@ IsAdded old new p = (b n : ℕ) → Has new b n ↔ (IsPlace p b n ⊎ Has old b
 -- one place is not, and all else is as it was
 abbrev pub IsRemoved : Rows → Rows → Place → Type 0
 IsRemoved old new p = (b n : ℕ) → Has new b n ↔ (¬ IsPlace p b n × Has old b n)
+
+-- of the numbers of a row one is in the set, and all else is as it was
+abbrev pub IsMarkedIn : List Bool → List Bool → ℕ → Type 0
+IsMarkedIn old new i = (n : ℕ) → (slice_get new n ≡ Some true) ↔ ((i ≡ n) ⊎ (slice_get old n ≡ Some true))

@@ -6,6 +6,9 @@
 
 mod cleaning;
 mod draft;
+mod heap;
+mod laws;
+mod links;
 mod marks;
 mod operands;
 mod order;
@@ -15,7 +18,10 @@ mod rewriting;
 mod stepping;
 mod substituting;
 mod uses;
+mod waiting;
+mod walk;
 
 pub use draft::{Draft, Place};
+pub use laws::orders_are_kept;
 pub use queue::Queue;
 pub use stepping::step;

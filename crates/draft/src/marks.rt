@@ -1,7 +1,7 @@
 //! Sets of places.
 
 ghost use Rattle.std.specs.Prelude.{◌≡◌, ◌<◌, ◌↔◌, ℕ, length, IsTrue, IfOk, OnOk};
-ghost use Rattle.draft.specs.Sets.{Has, IsAdded, IsRemoved};
+ghost use Rattle.draft.specs.Sets.{Has, IsAdded, IsRemoved, IsMarkedIn};
 
 use crate::draft::Place;
 use lists::List;
@@ -31,7 +31,8 @@ impl Marks {
     {
         let mut rows = Vec::new(alloc);
         for _block in 0..blocks {
-            rows.push(List::new(alloc))?;
+            let row = List::new(alloc);
+            rows.push(row)?;
         }
         Ok(Marks { rows })
     }
@@ -56,12 +57,7 @@ impl Marks {
         ensures blocks { length self.new ≡ length self.old }
         ensures added { OnOk result (IsAdded self.old self.new place) }
     {
-        let row = &mut self.rows[place.block as usize];
-        while row.len() <= place.number as usize {
-            row.push(false)?;
-        }
-        *row.get_mut(place.number as usize) = true;
-        Ok(())
+        mark_in(&mut self.rows[place.block as usize], place.number)
     }
 
     /// Takes a place out of the set.
@@ -74,4 +70,15 @@ impl Marks {
             *self.rows[place.block as usize].get_mut(place.number as usize) = false;
         }
     }
+}
+
+/// Marks a number in a row.
+fn mark_in(row: &mut List<bool>, number: u32) -> Result<(), AllocError>
+    ensures { OnOk result (IsMarkedIn row.old row.new number) }
+{
+    while row.len() <= number as usize {
+        row.push(false)?;
+    }
+    *row.get_mut(number as usize) = true;
+    Ok(())
 }

@@ -1,108 +1,89 @@
 //! The places at which a match may have come or gone, in order of place.
 
-ghost use Rattle.std.specs.Prelude.{◌≡◌, ◌↔◌, ℕ, Contains, IfOk, OnOk, IfSome, IfNone};
+ghost use Rattle.std.specs.Prelude.{◌≡◌, ◌↔◌, ◌<◌, ◌⊎◌, ℕ, length, All, Contains, IfOk, OnOk, IfSome, IfNone};
 ghost use Rattle.ir_core.specs.Walks.{IsReached};
-ghost use Rattle.draft.specs.Drafts.{Stands, IsFirst, Reaches};
+ghost use Rattle.draft.specs.Drafts.{Stands, Reaches};
+ghost use Rattle.draft.specs.Heaps.{IsNumbered};
+ghost use Rattle.draft.specs.Queues.{Waits, waiting_in, IsQueueBy};
 ghost use Rattle.draft.specs.Sets.{Has, IsAdded, IsRemoved};
+ghost use Rattle.draft.specs.Waiting.{IsArranged, IsFirst};
+ghost use Rattle.draft.specs.Readers.{IsPlaceIn};
+ghost use Rattle.draft.specs.Walks.{IsSameDraft};
+ghost use Rattle.draft.specs.Whole.{IsWhole, IsSettled};
+ghost use Rattle.draft.specs.declared.draft.Place.{Place as Spot};
 
-use crate::draft::{Draft, END, Place};
-use crate::marks::Marks;
-use ir_core::Register;
+use crate::draft::{Draft, Place};
+use crate::order::Order;
+use crate::waiting::Waiting;
+use crate::walk::Walk;
 use std::alloc::{AllocError, Global};
-use std::marker::Model;
 
 /// Places, each once, of which the first in order is taken first.
 #[derive(Drop)]
 pub struct Queue {
-    /// A heap: each stands before the two at twice its index and one or two more.
-    heap: Vec<Place>,
-    waits: Marks,
-    /// What a walk came to; empty between walks.
-    reached: Marks,
-}
-
-impl Model for Queue {
-    ghost use Rattle.draft.specs.Sets.{Rows};
-
-    ghost Value = { Rows };
-
-    ghost view = { λ q. q.waits };
+    waiting: Waiting,
+    walk: Walk,
 }
 
 impl Queue {
     /// All places of a draft's reached blocks.
     pub fn all(alloc: Global, draft: &Draft) -> Result<Queue, AllocError>
-        ensures { IfOk result (λ queue. (b n : ℕ) → Has queue b n ↔ (IsReached draft.now.arena b × Stands draft.now b n)) }
+        requires { IsWhole draft.now }
+        ensures queue { IfOk result (IsQueueBy draft.now.orders.items) }
+        ensures all { IfOk result (λ queue. (b n : ℕ) → Waits queue b n ↔ (IsReached draft.now.arena b × Stands draft.now b n)) }
     {
         let mut queue = Queue {
-            heap: Vec::new(alloc),
-            waits: Marks::none(alloc, draft.blocks())?,
-            reached: Marks::none(alloc, draft.blocks())?,
+            waiting: Waiting::none(alloc, draft.blocks())?,
+            walk: Walk::none(alloc, draft.blocks())?,
         };
         for block in 0..draft.blocks() {
             if draft.facts.flow.reached(block) {
-                for number in 0..draft.count_in(block) {
-                    queue.insert(draft, Place { block, number })?;
-                }
+                queue.insert_block(draft, block)?;
             }
         }
         Ok(queue)
     }
 
+    /// Puts all places of a block into the queue.
+    fn insert_block(&mut self, draft: &Draft, block: u32) -> Result<(), AllocError>
+        requires whole { IsWhole draft.now }
+        requires block { block < length draft.now.arena.blocks }
+        requires queue { IsQueueBy draft.now.orders.items self.old }
+        ensures queue { OnOk result (IsQueueBy draft.now.orders.items self.new) }
+        ensures added { OnOk result ((b n : ℕ) → Waits self.new b n ↔ (Waits self.old b n ⊎ ((b ≡ block) × Stands draft.now b n))) }
+    {
+        for number in 0..draft.count_in(block) {
+            let place = Place { block, number };
+            if draft.stands(place) {
+                self.insert(draft, place)?;
+            }
+        }
+        Ok(())
+    }
+
     /// Puts a place into the queue, where it isn't there.
     pub fn insert(&mut self, draft: &Draft, place: Place) -> Result<(), AllocError>
-        requires { Stands draft.now place.block place.number }
-        ensures { OnOk result (IsAdded self.old self.new place) }
+        requires queue { IsQueueBy draft.now.orders.items self.old }
+        requires place { IsNumbered draft.now.orders.items place }
+        ensures queue { OnOk result (IsQueueBy draft.now.orders.items self.new) }
+        ensures added { OnOk result (IsAdded (waiting_in self.old) (waiting_in self.new) place) }
     {
-        if self.waits.has(place) {
-            return Ok(());
-        }
-        self.waits.insert(place)?;
-        self.heap.push(place)?;
-        let mut at = self.heap.len() - 1;
-        while at > 0 && draft.is_before(self.heap[at], self.heap[(at - 1) / 2]) {
-            self.heap.swap(at, (at - 1) / 2);
-            at = (at - 1) / 2;
-        }
+        self.waiting.insert(draft.orders.as_slice(), place)?;
         Ok(())
     }
 
     /// Takes the first place out.
     pub fn take_first(&mut self, draft: &Draft) -> Option<Place>
-        ensures first { IfSome result (IsFirst draft.now self.old) }
-        ensures removed { IfSome result (IsRemoved self.old self.new) }
-        ensures none { IfNone result ((b n : ℕ) → ¬ Has self.old b n) }
+        requires { IsQueueBy draft.now.orders.items self.old }
+        ensures queue { IsQueueBy draft.now.orders.items self.new }
+        ensures first { IfSome result (IsFirst draft.now.orders.items (waiting_in self.old)) }
+        ensures removed { IfSome result (IsRemoved (waiting_in self.old) (waiting_in self.new)) }
+        ensures none { IfNone result ((b n : ℕ) → ¬ Waits self.old b n) }
     {
-        if self.heap.is_empty() {
-            return None;
-        }
-        let first = self.heap.swap_remove(0);
-        self.waits.remove(first);
-        let mut at = 0;
-        while let Some(child) = self.child(draft, at) {
-            if !draft.is_before(self.heap[child], self.heap[at]) {
-                return Some(first);
-            }
-            self.heap.swap(at, child);
-            at = child;
-        }
-        Some(first)
+        self.waiting.take_first(draft.orders.as_slice())
     }
 
-    fn child(&self, draft: &Draft, at: usize) -> Option<usize> {
-        let left = 2 * at + 1;
-        if left >= self.heap.len() {
-            return None;
-        }
-        let right = left + 1;
-        if right < self.heap.len() && draft.is_before(self.heap[right], self.heap[left]) {
-            Some(right)
-        } else {
-            Some(left)
-        }
-    }
-
-    /// Puts places into the queue, and those that reach them through so many operands of their block.
+    /// Puts places into the queue that stand, and those that reach them through so many operands of their block.
     pub fn insert_reaching(
         &mut self,
         alloc: Global,
@@ -110,60 +91,36 @@ impl Queue {
         places: &[Place],
         depth: usize,
     ) -> Result<(), AllocError>
-        ensures draft { draft.new ≡ draft.old }
-        ensures stay { OnOk result ((b n : ℕ) → Has self.old b n → Has self.new b n) }
-        ensures reaching { OnOk result ((b n m : ℕ) → Contains places.now (record { block = b; number = m }) → Reaches draft.old depth b n m
-            → Has self.new b n) }
+        requires settled { IsSettled draft.old }
+        requires queue { IsQueueBy draft.old.orders.items self.old }
+        requires places { All (IsPlaceIn draft.old.arena) places.now }
+        ensures draft { OnOk result (IsSameDraft draft.old draft.new) }
+        ensures queue { OnOk result (IsQueueBy draft.new.orders.items self.new) }
+        ensures stay { OnOk result ((b n : ℕ) → Waits self.old b n → Waits self.new b n) }
+        ensures reaching { OnOk result ((p : Spot) (n : ℕ) → Contains places.now p → Stands draft.old p.block n
+            → Reaches draft.old depth p.block n p.number → Waits self.new p.block n) }
     {
-        let mut found = Vec::new(alloc);
-        for place in places {
-            self.reach(draft, *place, &mut found)?;
-        }
-        let mut next = 0;
-        for _level in 0..depth {
-            let end = found.len();
-            while next < end {
-                let here: Place = found[next];
-                next += 1;
-                self.reach_readers(alloc, draft, here, &mut found)?;
-            }
-        }
-        for place in &found {
-            self.reached.remove(*place);
-            self.insert(draft, *place)?;
-        }
+        self.walk.reach(alloc, draft, places, depth)?;
+        insert_all(
+            &mut self.waiting,
+            draft.orders.as_slice(),
+            self.walk.found.as_slice(),
+        )?;
+        self.walk.clear();
         Ok(())
     }
+}
 
-    /// Comes to a place, where it stands and the walk didn't come there before.
-    fn reach(
-        &mut self,
-        draft: &Draft,
-        place: Place,
-        found: &mut Vec<Place>,
-    ) -> Result<(), AllocError> {
-        if place.number != END && draft.stands(place) && !self.reached.has(place) {
-            self.reached.insert(place)?;
-            found.push(place)?;
-        }
-        Ok(())
+/// Puts places in.
+fn insert_all(waiting: &mut Waiting, orders: &[Order], places: &[Place]) -> Result<(), AllocError>
+    requires arranged { IsArranged orders.now waiting.old }
+    requires places { All (IsNumbered orders.now) places.now }
+    ensures arranged { OnOk result (IsArranged orders.now waiting.new) }
+    ensures stay { OnOk result ((b n : ℕ) → Has waiting.old.marks b n → Has waiting.new.marks b n) }
+    ensures places { OnOk result (All (λ p. Has waiting.new.marks p.block p.number) places.now) }
+{
+    for place in places {
+        waiting.insert(orders, *place)?;
     }
-
-    /// Comes to what reads an instruction in its block.
-    fn reach_readers(
-        &mut self,
-        alloc: Global,
-        draft: &mut Draft,
-        place: Place,
-        found: &mut Vec<Place>,
-    ) -> Result<(), AllocError> {
-        let register = Register::Result(place.block, place.number);
-        draft.trim_readers(alloc, register);
-        for reader in draft.readers_of(register) {
-            if reader.block == place.block {
-                self.reach(draft, *reader, found)?;
-            }
-        }
-        Ok(())
-    }
+    Ok(())
 }
