@@ -9,3 +9,5 @@ pub mod Readers
 pub mod Counts
 pub mod Placing
 pub mod Whole
+pub mod Queues
+pub mod Loops

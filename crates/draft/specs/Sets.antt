@@ -1,5 +1,5 @@
 -- Sets of places.
-use Rattle.std.specs.Prelude.{◌≡◌, ℕ, ◌↔◌, ◌⊎◌, Bool, true, List, [], Some, slice_get, slice_index_or}
+use Rattle.std.specs.Prelude.{◌≡◌, ℕ, ◌↔◌, ◌⊎◌, Bool, true, List, [], Some, count_by, sum_by, slice_get, slice_index_or}
 use Rattle.draft.specs.declared.draft.Place.{Place}
 
 -- for each block a row that says of each number whether it is in the set; a number behind its end is not
@@ -20,3 +20,7 @@ IsAdded old new p = (b n : ℕ) → Has new b n ↔ (IsPlace p b n ⊎ Has old b
 -- one place is not, and all else is as it was
 abbrev pub IsRemoved : Rows → Rows → Place → Type 0
 IsRemoved old new p = (b n : ℕ) → Has new b n ↔ (¬ IsPlace p b n × Has old b n)
+
+-- how many places are in it
+abbrev pub size_of : Rows → ℕ
+size_of rows = sum_by (count_by (λ there. there)) rows

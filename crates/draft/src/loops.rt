@@ -1,5 +1,9 @@
 //! Which instructions may read themselves through others.
 
+ghost use Rattle.std.specs.Prelude.{IfOk};
+ghost use Rattle.draft.specs.Loops.{AreLoopsOf};
+ghost use Rattle.draft.specs.Whole.{IsWhole};
+
 use crate::draft::{Draft, END, Place};
 use crate::marks::Marks;
 use crate::rewriting::Rewritten;
@@ -23,7 +27,10 @@ type Left = Vec<Vec<usize>>;
 
 impl Loops {
     /// Those of a draft, which are not found yet.
-    pub fn of(alloc: Global, draft: &Draft) -> Result<Loops, AllocError> {
+    pub fn of(alloc: Global, draft: &Draft) -> Result<Loops, AllocError>
+        requires { IsWhole draft.now }
+        ensures { IfOk result (AreLoopsOf draft.now) }
+    {
         Ok(Loops {
             is_found: false,
             among: Marks::none(alloc, draft.blocks())?,

@@ -1,9 +1,14 @@
 //! The places at which a match may have come or gone, in order of place.
 
-ghost use Rattle.std.specs.Prelude.{◌≡◌, ◌↔◌, ℕ, Contains, IfOk, OnOk, IfSome, IfNone};
+ghost use Rattle.std.specs.Prelude.{◌≡◌, ◌<◌, ◌↔◌, ℕ, Contains, IfOk, OnOk, IfSome, IfNone};
 ghost use Rattle.ir_core.specs.Walks.{IsReached};
-ghost use Rattle.draft.specs.Drafts.{Stands, IsFirst, Reaches};
-ghost use Rattle.draft.specs.Sets.{Has, IsAdded, IsRemoved};
+ghost use Rattle.ir_core.specs.Blocks.{HasInst};
+ghost use Rattle.draft.specs.declared.loops.Loops.{Loops as ReadLoops};
+ghost use Rattle.draft.specs.Drafts.{Stands, IsFirst, Reaches, numbers_of};
+ghost use Rattle.draft.specs.Loops.{AreLoopsOf};
+ghost use Rattle.draft.specs.Queues.{IsQueueOf};
+ghost use Rattle.draft.specs.Sets.{Has, IsAdded, IsRemoved, size_of};
+ghost use Rattle.draft.specs.Whole.{IsWhole, IsSettled};
 
 use crate::draft::{Draft, END, Place};
 use crate::marks::Marks;
@@ -32,7 +37,9 @@ impl Model for Queue {
 impl Queue {
     /// All places of a draft's reached blocks.
     pub fn all(alloc: Global, draft: &Draft) -> Result<Queue, AllocError>
-        ensures { IfOk result (λ queue. (b n : ℕ) → Has queue b n ↔ (IsReached draft.now.arena b × Stands draft.now b n)) }
+        requires { IsWhole draft.now }
+        ensures queue { IfOk result (IsQueueOf draft.now) }
+        ensures places { IfOk result (λ queue. (b n : ℕ) → Has queue b n ↔ (IsReached draft.now.arena b × Stands draft.now b n)) }
     {
         let mut queue = Queue {
             heap: Vec::new(alloc),
@@ -51,8 +58,11 @@ impl Queue {
 
     /// Puts a place into the queue, where it isn't there.
     pub fn insert(&mut self, draft: &Draft, place: Place) -> Result<(), AllocError>
-        requires { Stands draft.now place.block place.number }
-        ensures { OnOk result (IsAdded self.old self.new place) }
+        requires whole { IsWhole draft.now }
+        requires queue { IsQueueOf draft.now self.old }
+        requires place { Stands draft.now place.block place.number }
+        ensures queue { OnOk result (IsQueueOf draft.now self.new) }
+        ensures added { OnOk result (IsAdded self.old self.new place) }
     {
         if self.waits.has(place) {
             return Ok(());
@@ -69,8 +79,15 @@ impl Queue {
 
     /// Takes the first place out.
     pub fn take_first(&mut self, draft: &Draft) -> Option<Place>
-        ensures first { IfSome result (IsFirst draft.now self.old) }
+        requires whole { IsWhole draft.now }
+        requires queue { IsQueueOf draft.now self.old }
+        ensures queue { IsQueueOf draft.now self.new }
+        ensures inst { IfSome result (λ place. HasInst draft.now.arena place.block place.number) }
+
+        // What was taken out has no place among what stands.
+        ensures first { IfSome result (λ place. Stands draft.now place.block place.number → IsFirst draft.now self.old place) }
         ensures removed { IfSome result (IsRemoved self.old self.new) }
+        ensures fewer { IfSome result (λ place. size_of self.new < size_of self.old) }
         ensures none { IfNone result ((b n : ℕ) → ¬ Has self.old b n) }
     {
         if self.heap.is_empty() {
@@ -110,7 +127,13 @@ impl Queue {
         places: &[Place],
         depth: usize,
     ) -> Result<(), AllocError>
-        ensures draft { draft.new ≡ draft.old }
+        requires settled { IsSettled draft.old }
+        requires queue { IsQueueOf draft.old self.old }
+        ensures settled { OnOk result (IsSettled draft.new) }
+        ensures arena { OnOk result (draft.new.arena ≡ draft.old.arena) }
+        ensures numbers { OnOk result (numbers_of draft.new ≡ numbers_of draft.old) }
+        ensures loops { OnOk result ((loops : ReadLoops) → AreLoopsOf draft.old loops → AreLoopsOf draft.new loops) }
+        ensures queue { OnOk result (IsQueueOf draft.new self.new) }
         ensures stay { OnOk result ((b n : ℕ) → Has self.old b n → Has self.new b n) }
         ensures reaching { OnOk result ((b n m : ℕ) → Contains places.now (record { block = b; number = m }) → Reaches draft.old depth b n m
             → Has self.new b n) }
