@@ -19,3 +19,4 @@ pub mod Put
 pub mod Swapped
 pub mod Listed
 pub mod Exchange
+pub mod Arranged

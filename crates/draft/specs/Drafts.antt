@@ -26,6 +26,10 @@ standing stand [] = []
 standing [] (numbers ∷ rows) = [] ∷ standing [] rows
 standing (row ∷ stand) (numbers ∷ rows) = standing_in row numbers ∷ standing stand rows
 
+-- the instructions of each block by their numbers, which are named by what reads them
+abbrev pub arena_of : Draft → Function
+arena_of d = d.arena
+
 -- of each block the numbers of the instructions that stand there, in order
 abbrev pub numbers_of : Draft → List (List ℕ)
 numbers_of d = standing d.stand.items d.orders.items

@@ -9,5 +9,6 @@ pub mod Readers
 pub mod Counts
 pub mod Placing
 pub mod Whole
+pub mod Arranged
 pub mod Queues
 pub mod Loops
