@@ -36,7 +36,7 @@ use Rattle.asked_verdicts.specs.Parts.{AsksToPlace}
 use Rattle.asked_verdicts.proofs.Growing.{all_turned_down_stay}
 use Rattle.asked_verdicts.proofs.Parts.{IsPast, asks_again, asks_first, asks_these, nothing_past, past_first, past_place}
 use Rattle.asked_verdicts.proofs.Sequence.{row_stays}
-use Rattle.strategy.specs.Frontiers.{AreTurnedDownAt, AreTurnedDownBut, AsksAt, Nowhere, PlaceOf, SearchesTo}
+use Rattle.strategy.specs.Frontiers.{AreTurnedDownAt, AreTurnedDownBut, AsksAt, LooksAt, Nowhere, PlaceOf, SearchesTo}
 use Rattle.strategy.proofs.Advancing.{IsPlaceBefore, come_through, come_to}
 
 -- what is turned down stays so as the table grows
@@ -261,8 +261,24 @@ module _ (of_the_arena : MatchesOfTheArena) (rules : List Rule) (conflicts : ℕ
         pub stopped : (w : Verdicts) (chosen : Match) → AsksAt rules conflicts (arena_of d) p.block p.number v w (Some chosen) → SearchesTo rules conflicts d left u w (Some chosen)
         stopped w chosen asked = stopped_by w asked.0 asked.2 chosen asked.1 asked.3 asked.4
 
+      -- what is looked at
+      module _ (first : Stands d p.block p.number → IsFirst d waiting p) where
+        pub looked_past : (w : Verdicts) → LooksAt rules conflicts d p v w None → Gone rules conflicts d u w left × AreTurnedDownBut rules w.table Nowhere d left
+        looked_past w looked = elim looked [
+          | inl (stands, asked) ↦ passed stands (first stands) w asked
+          | inr (fell, none, same) ↦ subst (λ (x : Verdicts). Gone rules conflicts d u x left × AreTurnedDownBut rules x.table Nowhere d left) (sym same) (skipped fell)
+        ]
+
+        pub looked_found : (w : Verdicts) (chosen : Match) → LooksAt rules conflicts d p v w (Some chosen) → SearchesTo rules conflicts d left u w (Some chosen)
+        looked_found w chosen looked = elim looked [
+          | inl (stands, asked) ↦ stopped stands (first stands) w chosen asked
+          | inr (fell, none, same) ↦ absurd (none-some chosen (sym none))
+        ]
+
     -- nothing waits
-    pub searched : (v : Verdicts) (waiting : Rows) → Gone rules conflicts d u v waiting → AreTurnedDownBut rules v.table Nowhere d waiting → ((b n : ℕ) → ¬ Has waiting b n)
-        → SearchesTo rules conflicts d waiting u v None
-    searched v waiting gone others empty =
-        (come_through rules conflicts F ready u v gone.b gone.k (λ c j less. down_again v waiting c j others less (λ n at. empty c n)) gone.asked, others)
+    pub searched : (v : Verdicts) (waiting left : Rows) → Gone rules conflicts d u v waiting → AreTurnedDownBut rules v.table Nowhere d waiting → ((b n : ℕ) → ¬ Has waiting b n)
+        → SearchesTo rules conflicts d left u v None
+    searched v waiting left gone others empty = (
+      come_through rules conflicts F ready u v gone.b gone.k (λ c j less. down_again v waiting c j others less (λ n at. empty c n)) gone.asked,
+      λ b n stands away none. others b n stands (empty b n) none,
+    )

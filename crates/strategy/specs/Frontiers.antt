@@ -1,5 +1,5 @@
 -- What is known of the matches of a draft while it is rewritten, and what a search asks in it.
-use Rattle.std.specs.Prelude.{◌≡◌, ℕ, false, List, All, Option, None, Some, slice_get, option_and_then}
+use Rattle.std.specs.Prelude.{◌≡◌, ◌⊎◌, ℕ, false, List, All, Option, None, Some, slice_get, option_and_then}
 use Rattle.ir_core.specs.declared.function.Function.{Function}
 use Rattle.rule_core.specs.declared.rule.Rule.{Rule}
 use Rattle.needed.specs.Cleaned.{IsCleaned}
@@ -8,6 +8,7 @@ use Rattle.verdict.specs.declared.verdict.Row.{Row}
 use Rattle.rule_matches.specs.declared.matches.Match.{Match}
 use Rattle.rule_matches.specs.Matches.{AreMatchesInAnyOrder, IsAt}
 use Rattle.draft.specs.declared.draft.Draft.{Draft}
+use Rattle.draft.specs.declared.draft.Place.{Place}
 use Rattle.draft.specs.Drafts.{Stands, function_of, arena_of}
 use Rattle.draft.specs.Loops.{AreLoopsOf}
 use Rattle.draft.specs.Queues.{IsQueueOf}
@@ -49,6 +50,11 @@ pub record IsFrontier (rules : List Rule) (table : List Row) (frontier : Frontie
 abbrev pub AsksAt : List Rule → ℕ → Function → ℕ → ℕ → Verdicts → Verdicts → Option Match → Type 0
 AsksAt rules conflicts arena b n old new found = (matches : List Match) × (place : Option ℕ) × AreMatchesInAnyOrder rules arena (IsAt b n) matches
     × AsksToPlace rules conflicts matches old new place × (found ≡ option_and_then (slice_get matches) place)
+
+-- so it is where the instruction stands, and nothing is asked where it was taken out
+abbrev pub LooksAt : List Rule → ℕ → Draft → Place → Verdicts → Verdicts → Option Match → Type 0
+LooksAt rules conflicts d p old new found = (Stands d p.block p.number × AsksAt rules conflicts (arena_of d) p.block p.number old new found)
+    ⊎ (¬ Stands d p.block p.number × (found ≡ None) × (new ≡ old))
 
 -- A search through the draft's function asks up to the first match that is admitted, which names numbers of the draft, or all if none is.
 -- After it all is turned down but for what waits, and that match.

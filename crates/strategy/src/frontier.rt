@@ -18,7 +18,7 @@ ghost use Rattle.draft.specs.Whole.{IsSettled};
 ghost use Rattle.draft_matches.specs.Laws.{AreSourcesWithin, placed_match};
 ghost use Rattle.asked_verdicts.specs.Asks.{AreVerdicts, AsksAll, IsAnywhere};
 ghost use Rattle.strategy.specs.Countable.{IsCountable};
-ghost use Rattle.strategy.specs.Frontiers.{AreTurnedDownBut, AsksAt, IsFrontier, IsSteppedAt, Nowhere, PlaceOf, SearchesTo};
+ghost use Rattle.strategy.specs.Frontiers.{AreTurnedDownBut, AsksAt, IsFrontier, IsSteppedAt, LooksAt, Nowhere, PlaceOf, SearchesTo};
 ghost use Rattle.strategy.specs.Searches.{OptimisesCleaned, OptimisesFunction, StepsOrEnds};
 
 use crate::steps::{Bounds, Turns, clean_checked};
@@ -253,14 +253,36 @@ fn next_admitted(
 {
     matches_of_the_arena();
     while let Some(place) = queue.take_first(draft) {
-        if draft.stands(place) {
-            let found = admitted_at(alloc, draft, rules, place, verdicts, conflicts)?;
-            if let Some(chosen) = found {
-                return Ok(Some(chosen));
-            }
+        let found = look_at(alloc, draft, rules, place, verdicts, conflicts)?;
+        if let Some(chosen) = found {
+            return Ok(Some(chosen));
         }
     }
     Ok(None)
+}
+
+/// The first match at an instruction of a draft that is admitted, where it was not taken out.
+fn look_at(
+    alloc: Global,
+    draft: &Draft,
+    rules: &Rules<'_>,
+    place: Place,
+    verdicts: &mut Verdicts,
+    conflicts: u32,
+) -> Result<Option<Match>, AllocError>
+    requires settled { IsSettled draft.now }
+    requires place { HasInst (arena_of draft.now) place.block place.number }
+    requires ready { AreReady rules.now.all.now }
+    requires by_root { AreByRoot rules.now.all.now rules.now.by_root.now }
+    requires conflicts { conflicts ≤ most_conflicts }
+    requires verdicts { AreVerdicts rules.now.all.now conflicts verdicts.old }
+    ensures { IfOk result (LooksAt rules.now.all.now conflicts draft.now place verdicts.old verdicts.new) }
+{
+    if !draft.stands(place) {
+        return Ok(None);
+    }
+    let found = admitted_at(alloc, draft, rules, place, verdicts, conflicts)?;
+    Ok(found)
 }
 
 /// The first match at an instruction of a draft that is admitted. The verdicts of all matches there up to it are asked for, and of all if
@@ -281,8 +303,14 @@ fn admitted_at(
     requires verdicts { AreVerdicts rules.now.all.now conflicts verdicts.old }
     ensures { IfOk result (AsksAt rules.now.all.now conflicts (arena_of draft.now) place.block place.number verdicts.old verdicts.new) }
 {
-    let (arena, facts) = (draft.arena(), draft.facts());
-    let found = matches_in_any_order(alloc, arena, facts, rules, place.block, place.number)?;
+    let found = matches_in_any_order(
+        alloc,
+        draft.arena(),
+        draft.facts(),
+        rules,
+        place.block,
+        place.number,
+    )?;
     let matches = found.as_slice();
     let admitted = first_admitted(alloc, rules.all, matches, verdicts, conflicts)?;
     if let Some(first) = admitted {

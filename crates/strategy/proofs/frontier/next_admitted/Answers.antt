@@ -1,9 +1,9 @@
 use Rattle.std.proofs.Common.{None, Some, map, subst}
-use Rattle.draft.specs.Queues.{IsQueueOf}
 use Rattle.draft.specs.Sets.{IsRemoved}
-use Rattle.rule_typing.proofs.Among.{fails, holds}
-use Rattle.strategy.specs.Frontiers.{AsksAt}
-use Rattle.strategy.proofs.Searching.{not_gone, passed, searched, skipped, stopped}
+use Rattle.asked_verdicts.specs.Asked.{pair_of}
+use Rattle.asked_verdicts.proofs.Sequence.{still_verdicts}
+use Rattle.strategy.specs.Frontiers.{LooksAt}
+use Rattle.strategy.proofs.Searching.{looked_found, looked_past, not_gone, searched}
 use Rattle.strategy.proofs.frontier.next_admitted.Goals as goal
 
 pub loop-place-init : goal.loop-place-init
@@ -13,7 +13,38 @@ loop-place-init c = record {
   gone = not_gone c.matches_of_the_arena.ensures c.args.rules.now.all.now c.args.conflicts c.requires.ready c.args.draft.now c.requires.settled c.requires.checks c.args.verdicts.now c.args.queue.now;
 }
 
-pub returns : goal.returns
-returns c =
+pub look_at-requires-clause-place : goal.look_at-requires-clause-place
+look_at-requires-clause-place c = rw c.in-Some.is at c.take_first.ensures.inst
+
+pub look_at-requires-clause-verdicts : goal.look_at-requires-clause-verdicts
+look_at-requires-clause-verdicts c =
+    still_verdicts c.args.rules.now.all.now c.args.conflicts (map pair_of c.loop-place.invariant.gone.asked.matches) c.args.verdicts.now c.loop-place.verdicts c.requires.verdicts c.loop-place.invariant.gone.asked.asks
+
+pub returns-in-Some-2-clause-found : goal.returns-in-Some-2-clause-found
+returns-in-Some-2-clause-found c =
+    let rules = c.args.rules.now.all.now in
+    let p = c.in-Some.place in
+    let removed : IsRemoved c.loop-place.queue c.take_first.new.self p = rw c.in-Some.is at c.take_first.ensures.removed in
+    let first = rw c.in-Some.is at c.take_first.ensures.first in
+    looked_found c.matches_of_the_arena.ensures rules c.args.conflicts c.requires.ready c.args.draft.now c.requires.settled c.requires.checks c.args.verdicts.now
+    c.loop-place.verdicts c.loop-place.queue c.take_first.new.self p c.loop-place.invariant.gone c.loop-place.invariant.others removed first c.look_at.new.verdicts c.in-Some-2.chosen
+    (subst (LooksAt rules c.args.conflicts c.args.draft.now p c.loop-place.verdicts c.look_at.new.verdicts) c.in-Some-2.is c.in_ok-found.ensures)
+
+pub loop-place-preserved : goal.loop-place-preserved
+loop-place-preserved c =
+    let rules = c.args.rules.now.all.now in
+    let p = c.in-Some.place in
+    let removed : IsRemoved c.loop-place.queue c.take_first.new.self p = rw c.in-Some.is at c.take_first.ensures.removed in
+    let first = rw c.in-Some.is at c.take_first.ensures.first in
+    let on = looked_past c.matches_of_the_arena.ensures rules c.args.conflicts c.requires.ready c.args.draft.now c.requires.settled c.requires.checks c.args.verdicts.now
+    c.loop-place.verdicts c.loop-place.queue c.take_first.new.self p c.loop-place.invariant.gone c.loop-place.invariant.others removed first c.look_at.new.verdicts
+    (subst (LooksAt rules c.args.conflicts c.args.draft.now p c.loop-place.verdicts c.look_at.new.verdicts) c.in_default.is c.in_ok-found.ensures) in
+    record { queue = c.take_first.ensures.queue; others = on.1; gone = on.0 }
+
+pub loop-place-smaller : goal.loop-place-smaller
+loop-place-smaller c = rw c.in-Some.is at c.take_first.ensures.fewer
+
+pub returns-clause-found : goal.returns-clause-found
+returns-clause-found c =
     searched c.matches_of_the_arena.ensures c.args.rules.now.all.now c.args.conflicts c.requires.ready c.args.draft.now c.requires.settled c.requires.checks c.args.verdicts.now
-    c.loop-place.verdicts c.take_first.new.self c.loop-place.invariant.gone c.loop-place.invariant.others c.take_first.ensures.none
+    c.loop-place.verdicts c.loop-place.queue c.take_first.new.self c.loop-place.invariant.gone c.loop-place.invariant.others (rw c.in_default.is at c.take_first.ensures.none)
