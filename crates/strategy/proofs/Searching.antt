@@ -20,7 +20,7 @@ use Rattle.rule_matches.proofs.Joining.{none_where}
 use Rattle.rule_matches.proofs.Rooting.{before_end}
 use Rattle.draft.specs.declared.draft.Draft.{Draft}
 use Rattle.draft.specs.declared.draft.Place.{Place}
-use Rattle.draft.specs.Drafts.{IsFirst, Stands, StandsBefore, function_of, numbers_in, numbers_of, arena_of}
+use Rattle.draft.specs.Drafts.{Stands, StandsBefore, function_of, numbers_in, numbers_of, arena_of}
 use Rattle.draft.specs.Orders.{place_in}
 use Rattle.draft.specs.Sets.{Has, IsPlace, IsRemoved, Rows}
 use Rattle.draft.specs.Whole.{IsSettled}
@@ -36,7 +36,7 @@ use Rattle.asked_verdicts.specs.Parts.{AsksToPlace}
 use Rattle.asked_verdicts.proofs.Growing.{all_turned_down_stay}
 use Rattle.asked_verdicts.proofs.Parts.{IsPast, asks_again, asks_first, asks_these, nothing_past, past_first, past_place}
 use Rattle.asked_verdicts.proofs.Sequence.{row_stays}
-use Rattle.strategy.specs.Frontiers.{AreTurnedDownAt, AreTurnedDownBut, AsksAt, LooksAt, Nowhere, PlaceOf, SearchesTo}
+use Rattle.strategy.specs.Frontiers.{AreTurnedDownAt, AreTurnedDownBut, AsksAt, IsNext, LooksAt, Nowhere, PlaceOf, SearchesTo}
 use Rattle.strategy.proofs.Advancing.{IsPlaceBefore, come_through, come_to}
 
 -- what is turned down stays so as the table grows
@@ -148,7 +148,7 @@ module _ (of_the_arena : MatchesOfTheArena) (rules : List Rule) (conflicts : ℕ
         ],
       )
 
-      module _ (stands : Stands d p.block p.number) (first : IsFirst d waiting p) where
+      module _ (stands : Stands d p.block p.number) (first : IsNext d waiting p) where
         abbrev here : ℕ
         here = place p.block p.number
 
@@ -172,7 +172,7 @@ module _ (of_the_arena : MatchesOfTheArena) (rules : List Rule) (conflicts : ℕ
         ]
 
         down : (c j : ℕ) → IsPlaceBefore c j p.block here → j < end_of F c → AsksAll rules conflicts F (IsAt c j) v v false
-        down c j before less = down_again v waiting c j others less (λ n at has. first.none_before c n has (earlier c j n at before))
+        down c j before less = down_again v waiting c j others less (λ n at has. first.none_before c n has (contains_at (numbers_in d c) j n at) (earlier c j n at before))
 
         -- all before it are turned down
         come : AsksAll rules conflicts F (IsPast p.block here) u v false
@@ -183,7 +183,7 @@ module _ (of_the_arena : MatchesOfTheArena) (rules : List Rule) (conflicts : ℕ
         behind_here c n same has stands_n =
             let place_p : place c p.number ≡ here = ap (λ (b : ℕ). place b p.number) same in
             elim (cases_lt (place c n) here) [
-              | inl before ↦ absurd (first.none_before c n (still_waits c n has) (inr (same, omega (arith, before, place_p))))
+              | inl before ↦ absurd (first.none_before c n (still_waits c n has) stands_n (inr (same, omega (arith, before, place_p))))
               | inr late ↦ elim (cases_eq (place c n) here) [
                 | inr other ↦ omega (arith, late, other)
                 | inl equal ↦
@@ -198,7 +198,7 @@ module _ (of_the_arena : MatchesOfTheArena) (rules : List Rule) (conflicts : ℕ
         after c n has stands_n = elim (cases_lt p.block c) [
           | inl later ↦ inl later
           | inr not_later ↦ elim (cases_eq c p.block) [
-            | inr other ↦ absurd (first.none_before c n (still_waits c n has) (inl (omega (arith, not_later, other))))
+            | inr other ↦ absurd (first.none_before c n (still_waits c n has) stands_n (inl (omega (arith, not_later, other))))
             | inl same ↦ inr (sym same, behind_here c n same has stands_n)
           ]
         ]
@@ -262,7 +262,7 @@ module _ (of_the_arena : MatchesOfTheArena) (rules : List Rule) (conflicts : ℕ
         stopped w chosen asked = stopped_by w asked.0 asked.2 chosen asked.1 asked.3 asked.4
 
       -- what is looked at
-      module _ (first : Stands d p.block p.number → IsFirst d waiting p) where
+      module _ (first : Stands d p.block p.number → IsNext d waiting p) where
         pub looked_past : (w : Verdicts) → LooksAt rules conflicts d p v w None → Gone rules conflicts d u w left × AreTurnedDownBut rules w.table Nowhere d left
         looked_past w looked = elim looked [
           | inl (stands, asked) ↦ passed stands (first stands) w asked

@@ -9,7 +9,7 @@ use Rattle.rule_matches.specs.declared.matches.Match.{Match}
 use Rattle.rule_matches.specs.Matches.{AreMatchesInAnyOrder, IsAt}
 use Rattle.draft.specs.declared.draft.Draft.{Draft}
 use Rattle.draft.specs.declared.draft.Place.{Place}
-use Rattle.draft.specs.Drafts.{Stands, function_of, arena_of}
+use Rattle.draft.specs.Drafts.{Stands, StandsBefore, function_of, arena_of}
 use Rattle.draft.specs.Loops.{AreLoopsOf}
 use Rattle.draft.specs.Queues.{IsQueueOf}
 use Rattle.draft.specs.Sets.{Rows, Has}
@@ -45,6 +45,11 @@ pub record IsFrontier (rules : List Rule) (table : List Row) (frontier : Frontie
   pub queue : IsQueueOf frontier.draft frontier.queue
   pub depth : AreSourcesWithin frontier.depth rules
   pub turned_down : AreTurnedDownBut rules table Nowhere frontier.draft frontier.queue
+
+-- the place waits, and nothing that stands before it does
+pub record IsNext (d : Draft) (waiting : Rows) (p : Place) : Type 0 where
+  pub there : Has waiting p.block p.number
+  pub none_before : (b n : ℕ) → Has waiting b n → Stands d b n → ¬ StandsBefore d b n p.block p.number
 
 -- of the matches at an instruction of an arena those up to the first that is admitted are asked, or all if none is
 abbrev pub AsksAt : List Rule → ℕ → Function → ℕ → ℕ → Verdicts → Verdicts → Option Match → Type 0
