@@ -30,11 +30,11 @@ module _ {X : Type 0} (P : X → Type 0) (R : X → X → Type 0) where
   }
 
   without_first : (x : X) (xs : List X) → ¬ P x → Filtered P R xs → Filtered P R (x ∷ xs)
-  without_first x xs no rest = record {
+  without_first x xs other rest = record {
     kept = rest.kept;
     each = λ y has. let h = rest.each y has in (later_in x xs y h.0, h.1);
     all = λ y has q. elim (cases_in x xs y has) [
-      | inl is ↦ absurd (no (subst P (sym is) q))
+      | inl is ↦ absurd (other (subst P (sym is) q))
       | inr later ↦ rest.all y later q
     ];
     in_order = λ pairs. rest.in_order (pairs_later R x xs pairs);
@@ -49,4 +49,4 @@ module _ {X : Type 0} (P : X → Type 0) (R : X → X → Type 0) where
   }
   filtered (x ∷ xs) decide =
       let rest : Filtered P R xs = filtered xs (λ y has. decide y (later_in x xs y has)) in
-      elim (decide x (first_in x xs)) [ inl p ↦ with_first x xs p rest | inr no ↦ without_first x xs no rest ]
+      elim (decide x (first_in x xs)) [ inl p ↦ with_first x xs p rest | inr other ↦ without_first x xs other rest ]

@@ -113,7 +113,7 @@ module _ (rules : List Rule) (ready : AreReady rules) (old new : Function) (b n 
         | inr (past, none) ↦ inl (λ i r same_j at. absurd (nothing i r same_j at none))
         | inl (r, within, at, got) ↦ elim (register_or_not j r at) [
           | inl once ↦ inl (λ i s same_j at_s. subst (IsUsedOnce new) (same_register i s r same_j at_s at) once)
-          | inr no ↦ inr (λ all. no (all j r refl at))
+          | inr other ↦ inr (λ all. other (all j r refl at))
         ]
       ]
         where
@@ -133,9 +133,9 @@ module _ (rules : List Rule) (ready : AreReady rules) (old new : Function) (b n 
       formulas_or_not : (asked : List Formula) → AreUsedOnce asked ⊎ ¬ AreUsedOnce asked
       formulas_or_not [] = inl (λ j r has at. absurd (not_in_empty (formulas.HasOneUse j) has))
       formulas_or_not (formula ∷ asked) = elim (formula_or_not formula) [
-        | inr no ↦ inr (λ all. no (λ j r is_that at. all j r (subst (Contains (formula ∷ asked)) is_that (first_in formula asked)) at))
+        | inr other ↦ inr (λ all. other (λ j r is_that at. all j r (subst (Contains (formula ∷ asked)) is_that (first_in formula asked)) at))
         | inl one ↦ elim (formulas_or_not asked) [
-          | inr no ↦ inr (λ all. no (λ j r has at. all j r (later_in formula asked (formulas.HasOneUse j) has) at))
+          | inr other ↦ inr (λ all. other (λ j r has at. all j r (later_in formula asked (formulas.HasOneUse j) has) at))
           | inl others ↦ inl (λ j r has at. elim (cases_in formula asked (formulas.HasOneUse j) has) [
             | inl is_that ↦ one j r is_that at
             | inr later ↦ others j r later at
@@ -155,7 +155,7 @@ module _ (rules : List Rule) (ready : AreReady rules) (old new : Function) (b n 
       pub there_or_not : MatchesInAnyOrder new x.block x.place rule x ⊎ ¬ MatchesInAnyOrder new x.block x.place rule x
       there_or_not = elim (formulas_or_not rule.precondition) [
         | inl uses ↦ inl (is_there uses)
-        | inr no ↦ inr (λ now. no now.one_use)
+        | inr other ↦ inr (λ now. other now.one_use)
       ]
 
   -- ---- the matches at the instruction
@@ -166,7 +166,7 @@ module _ (rules : List Rule) (ready : AreReady rules) (old new : Function) (b n 
   match_or_not : (m : Match) → IsAt b n m → IsMatchInAnyOrder rules old m → IsMatchInAnyOrder rules new m ⊎ ¬ IsMatchInAnyOrder rules new m
   match_or_not m of is = elim (there_or_not m of is.rule is.is_rule is.matches) [
     | inl now ↦ inl (record { rule = is.rule; is_rule = is.is_rule; matches = now })
-    | inr no ↦ inr (λ now. no (subst (λ (r : Rule). MatchesInAnyOrder new m.binding.block m.binding.place r m.binding) (same_Some now.rule is.rule (sym now.is_rule ∙ is.is_rule)) now.matches))
+    | inr other ↦ inr (λ now. other (subst (λ (r : Rule). MatchesInAnyOrder new m.binding.block m.binding.place r m.binding) (same_Some now.rule is.rule (sym now.is_rule ∙ is.is_rule)) now.matches))
   ]
 
   pub record StillThere (ms : List Match) : Type 0 where
