@@ -1,5 +1,5 @@
 -- A draft between steps is arranged, and tells what is used once.
-use Rattle.std.proofs.Common.{◌≡◌, ◌⊎◌, inl, inr, ◌<◌, ℕ, zero, suc, true, false, List, [], ◌∷◌, length, get_or, Some, refl, sym, ap, subst, ◌∙◌, arith}
+use Rattle.std.proofs.Common.{◌≡◌, ◌⊎◌, inl, inr, ◌<◌, ℕ, zero, suc, List, [], ◌∷◌, length, get_or, Some, refl, sym, ap, subst, ◌∙◌, arith}
 use Rattle.std.specs.Prelude.{Contains, slice_get}
 use Rattle.std.proofs.lemmas.Bool.{cases_Bool, cases_eq}
 use Rattle.std.proofs.lemmas.Option.{same_Some, slice_get_within}
@@ -21,7 +21,7 @@ use Rattle.bindings.proofs.Reading.{reads_at_inst}
 use Rattle.draft.specs.Arranged.{AreArranged, row_of}
 use Rattle.draft.specs.Drafts.{numbers_of}
 use Rattle.draft.specs.Orders.{none}
-use Rattle.draft.specs.Whole.{AreRowsOf, IsSettled}
+use Rattle.draft.specs.Whole.{IsSettled}
 use Rattle.draft.specs.declared.draft.Draft.{Draft}
 use Rattle.draft.specs.declared.draft.Place.{Place}
 use Rattle.draft.proofs.Reading.{arena_place_end, arena_place_inst, read_in_block, read_in_inst}
@@ -49,9 +49,9 @@ module _ (d : Draft) (settled : IsSettled d) where
   readers b n i inst r register is is_read reads =
       let within : n < length is.block.insts = slice_get_within is.block.insts n inst is.is_inst in
       elim (cases_Bool (marked (get_or d.stand.items b []) n)) [
-        | inl yes ↦ marked_stands d settled.whole b is.block is.is_block n within yes
-        | inr no ↦
-            let gone = (settled.whole.rows b is.block is.is_block).gone n inst is.is_inst no in
+        | inl on ↦ marked_stands d settled.whole b is.block is.is_block n within on
+        | inr off ↦
+            let gone = (settled.whole.rows b is.block is.is_block).gone n inst is.is_inst off in
             absurd (gone_reads d.arena b n inst.width i inst.op r register gone (ap (λ (l : List Read). slice_get l i) (sym (reads_at_inst d.arena b n inst is)) ∙ is_read) reads)
       ]
 
