@@ -54,3 +54,4 @@ pub mod QueueSteps
 pub mod WalkSteps
 pub mod Walking
 pub mod QueueLaws
+pub mod Arranged

@@ -1,6 +1,5 @@
 -- What drafts are, and of which functions: the instructions of each block in their order, each register at its place.
-use Rattle.std.specs.Prelude.{◌≡◌, ℕ, zero, suc, ◌+◌, ◌<◌, length, ◌⊎◌, if◌then◌else◌, Bool, false, List, [], ◌∷◌, ◌++◌, map, option_to_list, Contains, slice_get, slice_index_or}
-use Rattle.ir_core.specs.Blocks.{IsBlock}
+use Rattle.std.specs.Prelude.{◌≡◌, ℕ, zero, suc, ◌+◌, ◌*◌, ◌<◌, length, All, ◌⊎◌, if◌then◌else◌, Bool, false, List, [], ◌∷◌, ◌++◌, map, option_to_list, Contains, slice_get, slice_index_or}
 use Rattle.ir_core.specs.Checks.{IsInst}
 use Rattle.ir_core.specs.Reads.{Read, IsRead}
 use Rattle.ir_core.specs.declared.function.Block.{Block}
@@ -25,6 +24,10 @@ abbrev pub standing : List (List Bool) → List (List ℕ) → List (List ℕ)
 standing stand [] = []
 standing [] (numbers ∷ rows) = [] ∷ standing [] rows
 standing (row ∷ stand) (numbers ∷ rows) = standing_in row numbers ∷ standing stand rows
+
+-- the instructions of each block by their numbers, which are named by what reads them
+abbrev pub arena_of : Draft → Function
+arena_of d = d.arena
 
 -- of each block the numbers of the instructions that stand there, in order
 abbrev pub numbers_of : Draft → List (List ℕ)
@@ -79,9 +82,9 @@ AreTouched old new places = (b n : ℕ) → Stands new b n → ¬ Contains place
 abbrev pub placed_binding : Draft → Binding → Binding
 placed_binding d m = moved_binding (placed (numbers_of d)) (place_in (numbers_in d m.block) m.place) m
 
--- the block has numbers left for what a rule puts
-abbrev pub HasRoom : Draft → ℕ → Type 0
-HasRoom d b = (block : Block) → IsBlock d.arena b block → length block.insts + 32 < none
+-- each block has numbers left for what so many rules put, which is less than 32 instructions each
+abbrev pub HasRoomFor : ℕ → Draft → Type 0
+HasRoomFor steps d = All (λ block. length block.insts + 31 * steps < none) d.arena.blocks
 
 -- instruction n of block b reaches instruction m there through at most so many operands of instructions of the block
 abbrev pub Reaches : Draft → ℕ → ℕ → ℕ → ℕ → Type 0

@@ -18,3 +18,4 @@ pub mod Cleaning
 pub mod Rewriting
 pub mod Walks
 pub mod Queues
+pub mod Arranged

@@ -17,7 +17,7 @@ ghost use Rattle.strategy.specs.PlainStrategy.{IsPlainStrategy};
 ghost use Rattle.rule_matches.specs.Roots.{AreByRoot};
 ghost use Rattle.asked_verdicts.specs.Asks.{AreVerdicts};
 
-use crate::frontier::optimise_by_frontier;
+use crate::frontier::optimise_function;
 use crate::laws::{every_match_left_is_decided, every_optimised_module_refines_the_old};
 use crate::steps::{Bounds, Turns};
 use asked_verdicts::{StoredLogs, Verdicts};
@@ -211,7 +211,7 @@ fn optimise_copy(
     ensures { IfOk result (λ made. OptimisesEntry rules.now.all.now bounds.conflicts bounds.steps (Entry.Function original.now) (Entry.Function made) verdicts.old verdicts.new all.old all.new) }
 {
     let f = copy_function(alloc, original)?;
-    let (f, turns) = optimise_by_frontier(alloc, f, rules, verdicts, bounds)?;
-    all.push(turns)?;
-    Ok(f)
+    let made = optimise_function(alloc, f, rules, verdicts, bounds)?;
+    all.push(made.1)?;
+    Ok(made.0)
 }

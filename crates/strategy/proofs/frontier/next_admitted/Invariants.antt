@@ -1,0 +1,16 @@
+-- what doesn't wait is turned down, and all before what waits is asked
+use Rattle.draft.specs.Queues.{IsQueueOf}
+use Rattle.draft.specs.Sets.{size_of}
+use Rattle.strategy.specs.Frontiers.{AreTurnedDownBut, Nowhere}
+use Rattle.strategy.proofs.Searching.{Gone}
+use Rattle.strategy.proofs.frontier.next_admitted.Given as goal
+
+abbrev pub decreases-loop-place : goal.decreases-loop-place
+decreases-loop-place l = size_of l.queue
+
+abbrev pub invariant-loop-place : goal.invariant-loop-place
+invariant-loop-place l = record {
+  queue : IsQueueOf l.draft l.queue;
+  others : AreTurnedDownBut l.rules.all.now l.verdicts.table Nowhere l.draft l.queue;
+  gone : Gone l.rules.all.now l.conflicts l.draft l.fn.verdicts l.verdicts l.queue;
+}

@@ -1,0 +1,59 @@
+use Rattle.std.proofs.Common.{◌≡◌, ℕ, suc, List, length, ◌+◌, ◌*◌, ◌<◌, sym, ap, subst, ◌∙◌}
+use Rattle.std.specs.Prelude.{All, Contains}
+use Rattle.ir_core.specs.Checks.{MeetsChecks}
+use Rattle.ir_core.specs.declared.function.Block.{Block}
+use Rattle.ir_core.specs.declared.function.Function.{Function}
+use Rattle.run_history.specs.Laws.{NumbersFit}
+use Rattle.needed.specs.Cleaned.{IsCleaned}
+use Rattle.draft.specs.declared.draft.Place.{Place}
+use Rattle.draft.specs.Drafts.{arena_of, function_of, numbers_of}
+use Rattle.draft.specs.Orders.{none}
+use Rattle.draft_matches.specs.Laws.{placed_match}
+use Rattle.strategy.specs.Frontiers.{PlaceOf}
+use Rattle.strategy.proofs.Reaching.{reached_as_before}
+use Rattle.strategy.proofs.Requeueing.{same_function, still_down}
+use Rattle.strategy.proofs.frontier.rewrite_at.Goals as goal
+
+pub returns-clause-stepped : goal.returns-clause-stepped
+returns-clause-stepped c =
+    let stepped = c.in_ok-touched.ensures.stepped in
+    let same : function_of c.insert_reaching.new.draft ≡ function_of c.rewrite_draft.new.draft =
+    same_function c.rewrite_draft.new.draft c.insert_reaching.new.draft c.in_ok-insert_reaching.ensures.arena c.in_ok-insert_reaching.ensures.numbers in
+    (stepped.0, subst (IsCleaned stepped.0) (sym same) stepped.1, stepped.2)
+
+pub returns-clause-frontier : goal.returns-clause-frontier
+returns-clause-frontier c table others =
+    let rules = c.args.rules.now in
+    let old = c.args.frontier.now.draft in
+    let new = c.rewrite_draft.new.draft in
+    let last = c.insert_reaching.new.draft in
+    let touched : List Place = c.in_ok-touched.touched.items in
+    let stepped = c.in_ok-touched.ensures.stepped in
+    let is = c.requires.matches in
+    let chosen = c.args.chosen.now in
+    record {
+      draft = c.in_ok-insert_reaching.ensures.settled;
+      loops = c.in_ok-insert_reaching.ensures.loops c.rewrite_draft.new.loops c.in_ok-touched.ensures.loops;
+      queue = c.in_ok-insert_reaching.ensures.queue;
+      depth = c.requires.depth;
+      turned_down = still_down c.matches_of_the_untouched.ensures rules c.requires.ready old new last touched c.args.frontier.now.depth c.requires.depth c.in_ok-touched.ensures.settled
+          c.in_ok-touched.ensures.touched
+          (reached_as_before old new stepped.0 is.rule (placed_match old chosen).binding c.requires.settled c.in_ok-touched.ensures.settled (stepped.2 is.rule is.is_rule) stepped.1)
+          c.in_ok-insert_reaching.ensures.arena c.in_ok-insert_reaching.ensures.numbers c.args.frontier.now.queue c.insert_reaching.new.self c.in_ok-insert_reaching.ensures.stay
+          (λ b n m has. c.in_ok-insert_reaching.ensures.reaching b n m (subst (λ (l : List Place). Contains l (record { block = b; number = m })) (sym c.as_slice.ensures) has))
+          (PlaceOf chosen)
+          (λ b n of. subst (λ (x : ℕ). Contains touched (record { block = b; number = x })) of.1 (subst (λ (x : ℕ). Contains touched (record { block = x; number = chosen.binding.place })) of.0 c.in_ok-touched.ensures.root))
+          table others;
+    }
+
+pub returns-clause-checks : goal.returns-clause-checks
+returns-clause-checks c =
+    subst MeetsChecks (sym (same_function c.rewrite_draft.new.draft c.insert_reaching.new.draft c.in_ok-insert_reaching.ensures.arena c.in_ok-insert_reaching.ensures.numbers)) c.in_ok-touched.ensures.checks
+
+pub returns-clause-numbers : goal.returns-clause-numbers
+returns-clause-numbers c =
+    subst NumbersFit (sym (same_function c.rewrite_draft.new.draft c.insert_reaching.new.draft c.in_ok-insert_reaching.ensures.arena c.in_ok-insert_reaching.ensures.numbers)) c.in_ok-touched.ensures.numbers
+
+pub returns-clause-room : goal.returns-clause-room
+returns-clause-room c steps room =
+    subst (λ (a : Function). All (λ (b : Block). length b.insts + 31 * steps < none) a.blocks) (sym c.in_ok-insert_reaching.ensures.arena) (c.in_ok-touched.ensures.room steps room)
