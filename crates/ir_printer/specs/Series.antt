@@ -1,7 +1,10 @@
 -- The identifiers of a function in text order, and where those of each block begin.
 use Rattle.std.specs.Prelude.{◌≡◌, ℕ, suc, ◌+◌, ◌<◌, [], ◌∷◌, List, ◌++◌, length, map, take, slice_index, None, Some}
 use Rattle.std.specs.List.{flat_map}
-use Rattle.ir_core.specs.Names.{Name, Identifier, Named, Numbered, identifiers_from, block_names}
+use Rattle.ir_core.specs.Names.{Name, block_names}
+use Rattle.ir_tokens.specs.declared.called.Identifier.{Identifier}
+use Rattle.ir_tokens.specs.declared.called.Identifier.TheVariants.{Named, Numbered}
+use Rattle.ir_resolve.specs.Identifiers.{identifiers_from}
 use Rattle.ir_core.specs.declared.function.Block.{Block}
 use Rattle.ir_printer.specs.declared.identifier.Identifier.{Identifier as Stored}
 use Rattle.ir_printer.specs.declared.identifier.Identifier.TheVariants as stored

@@ -2,7 +2,8 @@
 
 ghost use Rattle.std.specs.Prelude.{◌≡◌, ◌≤◌, ◌∷◌, [], ◌++◌, length, map, slice_get, option_map, IfOk, OnOk};
 ghost use Rattle.std.specs.List.{flat_map};
-ghost use Rattle.ir_core.specs.Names.{identifiers_from, identifiers_of, identifier_of, block_names};
+ghost use Rattle.ir_core.specs.Names.{block_names};
+ghost use Rattle.ir_resolve.specs.Identifiers.{identifiers_from, identifiers_of, identifier_of};
 ghost use Rattle.ir_text.specs.PrintedText.{block_identifier};
 ghost use Rattle.ir_printer.specs.Series.{seen, Adds, AreBlockStarts};
 

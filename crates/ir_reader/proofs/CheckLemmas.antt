@@ -13,7 +13,7 @@ use Rattle.ir_core.specs.declared.operand.Operand.{Operand}
 use Rattle.ir_core.specs.Assigned.{ReadsAreAssigned}
 use Rattle.ir_core.specs.Blocks.{Names}
 use Rattle.ir_core.specs.Checks.{IsInst, IsPhi, EntriesFit, MeetsChecks, ModuleMeetsChecks}
-use Rattle.ir_tokens.specs.declared.called.Identifier.{Identifier as Called}
+use Rattle.ir_tokens.specs.declared.called.Identifier.{Identifier}
 use Rattle.ir_tokens.specs.Tokens.{Placed}
 use Rattle.ir_tokens.specs.declared.raw.RawModule.{RawModule}
 use Rattle.ir_tokens.specs.declared.raw.RawEntry.{RawEntry}
@@ -103,12 +103,12 @@ phi_first f b k (core.Phi es) phi fits = fits.only_phis
 phi_first f b k op phi fits = absurd phi
 
 -- no call means a phi
-call_no_phi : (CallsThing : Called → Thing → Type 0) (w : RawArguments) (es : List (Operand × ℕ)) → ArgumentsMean CallsThing w (core.Phi es) → ⊥
+call_no_phi : (CallsThing : Identifier → Thing → Type 0) (w : RawArguments) (es : List (Operand × ℕ)) → ArgumentsMean CallsThing w (core.Phi es) → ⊥
 call_no_phi CallsThing (arguments.Binary op a b) es means = means
 call_no_phi CallsThing (arguments.Unary op a truth) es means = means
 
 -- a phi as the grammar has it has an entry, and so has the phi that is meant
-some_entry : (CallsThing : Called → Thing → Type 0) (w : RawOp) (es : List (Operand × ℕ)) → OpMeans CallsThing w (core.Phi es) → IsWellWrittenOp w → 0 < length es
+some_entry : (CallsThing : Identifier → Thing → Type 0) (w : RawOp) (es : List (Operand × ℕ)) → OpMeans CallsThing w (core.Phi es) → IsWellWrittenOp w → 0 < length es
 some_entry CallsThing (ops.Phi width incoming) es means some = let long = zip_length (IncomingMeans CallsThing) incoming es means in omega arith
 some_entry CallsThing (ops.Call call) es means some = absurd (call_no_phi CallsThing call.arguments es means)
 some_entry CallsThing w es means some = absurd means

@@ -17,7 +17,7 @@ use Rattle.ir_core.specs.declared.terminator.Terminator.TheVariants as ends
 use Rattle.ir_core.specs.Assigned.{IsFirstUnassigned}
 use Rattle.ir_core.specs.Blocks.{targets_of, IsBlock, Names}
 use Rattle.ir_core.specs.Reads.{Read, read, end_of, reads_of, reads_at_end, reads_by, reads_at}
-use Rattle.ir_tokens.specs.declared.called.Identifier.{Identifier as Called}
+use Rattle.ir_tokens.specs.declared.called.Identifier.{Identifier}
 use Rattle.ir_tokens.specs.declared.raw.RawFunction.{RawFunction}
 use Rattle.ir_tokens.specs.declared.raw.RawBlock.{RawBlock}
 use Rattle.ir_tokens.specs.declared.raw.RawArguments.{RawArguments}
@@ -44,10 +44,10 @@ use Rattle.ir_reader.specs.FlowFaults.{IsUnassignedFault}
 use Rattle.ir_reader.specs.Operands.{written_by, written_at}
 use Rattle.ir_reader.proofs.Places.{same_at, there, somewhere, zip_left, zip_right, zip_length}
 
-module _ (CallsThing : Called → Thing → Type 0) where
+module _ (CallsThing : Identifier → Thing → Type 0) where
   -- ---- blocks that are named
 
-  case_named : (ws : List RawCase) (cases : List (Number × ℕ)) (k c : ℕ) → AllZip (CaseMeans CallsThing) ws cases → slice_get (map (λ e. e.1) cases) k ≡ Some c → (x : Called) × BlockMeans CallsThing x c
+  case_named : (ws : List RawCase) (cases : List (Number × ℕ)) (k c : ℕ) → AllZip (CaseMeans CallsThing) ws cases → slice_get (map (λ e. e.1) cases) k ≡ Some c → (x : Identifier) × BlockMeans CallsThing x c
   case_named [] [] k c all at = cc
   case_named [] (e ∷ cases) k c all at = absurd all
   case_named (w ∷ ws) [] k c all at = absurd all
@@ -55,7 +55,7 @@ module _ (CallsThing : Called → Thing → Type 0) where
   case_named (w ∷ ws) (e ∷ cases) (suc k) c all at = case_named ws cases k c all.1 at
 
   -- a block that a terminator names is called by a name
-  named : (w : RawTerminator) (t : Terminator) (k c : ℕ) → EndMeans CallsThing w t → slice_get (targets_of t) k ≡ Some c → (x : Called) × BlockMeans CallsThing x c
+  named : (w : RawTerminator) (t : Terminator) (k c : ℕ) → EndMeans CallsThing w t → slice_get (targets_of t) k ≡ Some c → (x : Identifier) × BlockMeans CallsThing x c
   named (terminators.Return width a) (ends.Return x) k c means at = cc
   named terminators.Unreachable ends.Unreachable k c means at = cc
   named (terminators.Jump to) (ends.Jump b) zero c means at = let same : b ≡ c = cc in (to.identifier, subst (BlockMeans CallsThing to.identifier) same means)
@@ -102,7 +102,7 @@ module _ (CallsThing : Called → Thing → Type 0) where
   end_reads f b k (terminators.Switch width a other ws) (ends.Switch x w c cases) means = (means.1, tt)
   end_reads f b k w t means = absurd means
 
-abbrev fault_at : ℕ → Called → ℕ → Fault IrFaultKind
+abbrev fault_at : ℕ → Identifier → ℕ → Fault IrFaultKind
 fault_at line name b = record { line = line; kind = kinds.Unassigned name b }
 
 -- ---- the function
@@ -163,10 +163,10 @@ module _ (raw : RawFunction) (f : Function) (means : Means raw f) where
   pub record WrittenRead (b k i : ℕ) : Type 0 where
     pub operand : Typed
     pub at : slice_get (written_at raw b k) i ≡ Some operand
-    pub name : Called
+    pub name : Identifier
     pub named : operand.operand.value ≡ values.Register name
 
-  register_named : (v : RawValue) (o : Operand) (r : Register) → o ≡ operands.Register r → ValueMeans (Calls raw) v o → (x : Called) × (v ≡ values.Register x)
+  register_named : (v : RawValue) (o : Operand) (r : Register) → o ≡ operands.Register r → ValueMeans (Calls raw) v o → (x : Identifier) × (v ≡ values.Register x)
   register_named (values.Register x) o r is means = (x, refl)
   register_named (values.Number n) (operands.Register r) s is means = absurd means
   register_named values.True (operands.Register r) s is means = absurd means
@@ -191,7 +191,7 @@ module _ (raw : RawFunction) (f : Function) (means : Means raw f) where
   not_found b k i r found = let is = found ∙ ap (option_map (λ (t : Typed). t.operand)) r.at in cc
 
   pub unassigned_fault : (e : Refusal (Fault IrFaultKind)) (register : Register) (b k i : ℕ) → IsFirstUnassigned f register b k i → (o : RawOperand) → Some o ≡ option_map (λ t. t.operand) (slice_get (written_at raw b k) i)
-      → IfRefused e (λ fault. (name : Called) × (o.value ≡ values.Register name) × (fault ≡ record { line = o.line; kind = kinds.Unassigned name b })) → IfRefused e (IsUnassignedFault raw f)
+      → IfRefused e (λ fault. (name : Identifier) × (o.value ≡ values.Register name) × (fault ≡ record { line = o.line; kind = kinds.Unassigned name b })) → IfRefused e (IsUnassignedFault raw f)
   unassigned_fault (errors.Refused fault) register b k i first o found (name, named, is) =
       let r = written_read register b k i first in
       let same = found_operand b k i r o found in

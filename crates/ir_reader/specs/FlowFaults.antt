@@ -3,7 +3,7 @@
 use Rattle.std.specs.Prelude.{◌≡◌, ℕ, Some, slice_get}
 use Rattle.ir_core.specs.Assigned.{IsFirstUnassigned}
 use Rattle.ir_core.specs.declared.operand.Register.{Register}
-use Rattle.ir_tokens.specs.declared.called.Identifier.{Identifier as Called}
+use Rattle.ir_tokens.specs.declared.called.Identifier.{Identifier}
 use Rattle.ir_tokens.specs.declared.raw.RawValue.TheVariants as values
 use Rattle.ir_resolve.specs.TypedReads.{Typed}
 use Rattle.refusal.specs.declared.fault.Fault.{Fault}
@@ -46,6 +46,6 @@ pub record IsUnassignedFault (raw : RawFunction) (f : Function) (fault : Fault I
   pub first : IsFirstUnassigned f register b k i
   pub operand : Typed
   pub is_written : slice_get (written_at raw b k) i ≡ Some operand
-  pub name : Called
+  pub name : Identifier
   pub is_named : operand.operand.value ≡ values.Register name
   pub is_fault : fault ≡ record { line = operand.operand.line; kind = kinds.Unassigned name b }

@@ -3,7 +3,7 @@ use Rattle.std.proofs.Common.{◌≡◌, ◌⊎◌, inl, inr, ℕ, zero, suc, Li
 use Rattle.std.specs.Prelude.{Contains}
 use Rattle.std.specs.List.{flat_map, AllByRecursion}
 use Rattle.std.proofs.lemmas.List.Elements.{recursion_from_All, Contains-get_or, Contains-append_left, Contains-append_right}
-use Rattle.ir_tokens.specs.declared.called.Identifier.{Identifier as Called}
+use Rattle.ir_tokens.specs.declared.called.Identifier.{Identifier}
 use Rattle.ir_core.specs.declared.operand.Register.{Register}
 use Rattle.ir_tokens.specs.declared.raw.RawFunction.{RawFunction}
 use Rattle.ir_tokens.specs.declared.raw.RawBlock.{RawBlock}
@@ -27,11 +27,11 @@ some_weaker P Q xs f line (x, there, p) = (x, there, f x line p)
 
 -- ---- fewer names known, more unknown
 
-module _ (F G : Called → Thing → Type 0) (to : (x : Called) (thing : Thing) → G x thing → F x thing) where
+module _ (F G : Identifier → Thing → Type 0) (to : (x : Identifier) (thing : Thing) → G x thing → F x thing) where
   unknown_value : (v : RawValue) → IsUnknownValue F v → IsUnknownValue G v
   unknown_value v (x, is, none) = (x, is, λ r call. none r (to x (Value r) call))
 
-  unknown_block : (x : Called) → IsUnknownBlock F x → IsUnknownBlock G x
+  unknown_block : (x : Identifier) → IsUnknownBlock F x → IsUnknownBlock G x
   unknown_block x none b call = none b (to x (Block b) call)
 
   unknown_in : (reads : List Typed) (targets : List RawIdentifier) (line : ℕ) → UnknownIn F reads targets line → UnknownIn G reads targets line
@@ -41,7 +41,7 @@ module _ (F G : Called → Thing → Type 0) (to : (x : Called) (thing : Thing) 
         | inr b ↦ inr (some_weaker (λ w at. IsUnknownBlock F w.identifier × (w.line ≡ at)) (λ w at. IsUnknownBlock G w.identifier × (w.line ≡ at)) targets (λ w at (u, on). (unknown_block w.identifier u, on)) line b)
       ]
 
-module _ (F G : Called → Register → ℕ → Type 0) (to : (x : Called) (r : Register) (width : ℕ) → F x r width → G x r width) where
+module _ (F G : Identifier → Register → ℕ → Type 0) (to : (x : Identifier) (r : Register) (width : ℕ) → F x r width → G x r width) where
   value_clash : (width : ℕ) (v : RawValue) → ValueClashes F width v → ValueClashes G width v
   value_clash width v h = elim h [ inl literal ↦ inl literal | inr (x, r, other, is, call, apart) ↦ inr (x, r, other, is, to x r other call, apart) ]
 

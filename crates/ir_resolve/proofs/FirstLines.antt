@@ -8,10 +8,9 @@ use Rattle.ops.specs.Number.{Number}
 use Rattle.ops.specs.declared.conversion.Cast.{Cast}
 use Rattle.ops.specs.declared.conversion.Cast.TheVariants.{Trunc, ZExt, SExt}
 use Rattle.ops.specs.Conversion.{CastFits}
-use Rattle.ir_core.specs.Names.{Identifier, Named, Numbered}
+use Rattle.ir_tokens.specs.declared.called.Identifier.{Identifier}
+use Rattle.ir_tokens.specs.declared.called.Identifier.TheVariants.{Named, Numbered}
 use Rattle.ir_core.specs.declared.operand.Register.{Register}
-use Rattle.ir_tokens.specs.declared.called.Identifier.{Identifier as Called}
-use Rattle.ir_tokens.specs.declared.called.Identifier.TheVariants as called
 use Rattle.ir_tokens.specs.declared.raw.RawFunction.{RawFunction}
 use Rattle.ir_tokens.specs.declared.raw.RawBlock.{RawBlock}
 use Rattle.ir_tokens.specs.declared.raw.RawIdentifier.{RawIdentifier}
@@ -48,10 +47,10 @@ dec_identifier (Numbered m) (Numbered n) = map_dec (λ e. ap Numbered e) (λ e. 
 dec_identifier (Named a) (Numbered n) = no (λ e. cc)
 dec_identifier (Numbered m) (Named b) = no (λ e. cc)
 
-misnumbered_by : (line : ℕ) (x : Called) (identifier : Identifier) → FirstOf (λ at. (n : ℕ) × (x ≡ called.Numbered n) × (identifier ≢ Numbered n) × (line ≡ at))
-misnumbered_by line (called.Named text) identifier = (None, λ at (n, is, other, on). cc)
-misnumbered_by line (called.Numbered m) identifier =
-    first_moved (λ at. (identifier ≢ Numbered m) × (line ≡ at)) (λ at. (n : ℕ) × (called.Numbered m ≡ called.Numbered n) × (identifier ≢ Numbered n) × (line ≡ at))
+misnumbered_by : (line : ℕ) (x : Identifier) (identifier : Identifier) → FirstOf (λ at. (n : ℕ) × (x ≡ Numbered n) × (identifier ≢ Numbered n) × (line ≡ at))
+misnumbered_by line (Named text) identifier = (None, λ at (n, is, other, on). cc)
+misnumbered_by line (Numbered m) identifier =
+    first_moved (λ at. (identifier ≢ Numbered m) × (line ≡ at)) (λ at. (n : ℕ) × (Numbered m ≡ Numbered n) × (identifier ≢ Numbered n) × (line ≡ at))
     (λ at (other, on). (m, refl, other, on))
     (λ at (n, is, other, on). let same : m ≡ n = cc in (λ e. other (e ∙ ap Numbered same), on))
     (first_on line (dec_not (dec_identifier identifier (Numbered m))))
@@ -59,7 +58,7 @@ misnumbered_by line (called.Numbered m) identifier =
 first_misnumbered : (identifier : Identifier) (written : Option RawIdentifier) → FirstOf (IsMisnumbered written identifier)
 first_misnumbered identifier None = (None, λ at (w, n, is, number, other, on). cc)
 first_misnumbered identifier (Some w) =
-    first_moved (λ at. (n : ℕ) × (w.identifier ≡ called.Numbered n) × (identifier ≢ Numbered n) × (w.line ≡ at)) (IsMisnumbered (Some w) identifier)
+    first_moved (λ at. (n : ℕ) × (w.identifier ≡ Numbered n) × (identifier ≢ Numbered n) × (w.line ≡ at)) (IsMisnumbered (Some w) identifier)
     (λ at (n, number, other, on). (w, n, refl, number, other, on))
     (λ at (v, n, is, number, other, on). let same : w ≡ v = same_Some w v is in (n, ap (λ (x : RawIdentifier). x.identifier) same ∙ number, other, ap (λ (x : RawIdentifier). x.line) same ∙ on))
     (misnumbered_by w.line w.identifier identifier)
@@ -80,13 +79,13 @@ one_name : (written : Option RawIdentifier) → HasOne HasName IsWrittenOn writt
 one_name None = inr (λ name (w, is, named). cc)
 one_name (Some w) = by w.identifier refl
   where
-    by : (x : Called) → w.identifier ≡ x → HasOne HasName IsWrittenOn (Some w) ⊎ ((name : List ℕ) → ¬ HasName (Some w) name)
-    by (called.Numbered n) is = inr (λ name (v, same, named). let number : called.Numbered n ≡ called.Named name = sym is ∙ ap (λ (r : RawIdentifier). r.identifier) (same_Some w v same) ∙ named in cc)
-    by (called.Named text) is = inl (
+    by : (x : Identifier) → w.identifier ≡ x → HasOne HasName IsWrittenOn (Some w) ⊎ ((name : List ℕ) → ¬ HasName (Some w) name)
+    by (Numbered n) is = inr (λ name (v, same, named). let number : Numbered n ≡ Named name = sym is ∙ ap (λ (r : RawIdentifier). r.identifier) (same_Some w v same) ∙ named in cc)
+    by (Named text) is = inl (
       text,
       w.line,
       (w, refl, is),
-      λ name (v, same, named). let one : called.Named name ≡ called.Named text = sym named ∙ sym (ap (λ (r : RawIdentifier). r.identifier) (same_Some w v same)) ∙ is in cc,
+      λ name (v, same, named). let one : Named name ≡ Named text = sym named ∙ sym (ap (λ (r : RawIdentifier). r.identifier) (same_Some w v same)) ∙ is in cc,
       (w, refl, refl),
       λ at (v, same, on). ap (λ (r : RawIdentifier). r.line) (same_Some w v same) ∙ on,
     )
@@ -143,7 +142,7 @@ module _ (known : List Known) where
   dec_unknown_value values.Undef = no (λ (x, is, none). cc)
   dec_unknown_value values.Poison = no (λ (x, is, none). cc)
 
-  dec_unknown_block : (x : Called) → Dec (IsUnknownBlock (CallsIn known) x)
+  dec_unknown_block : (x : Identifier) → Dec (IsUnknownBlock (CallsIn known) x)
   dec_unknown_block x = by (is_some (block_of (entity_in known x))) refl
     where
       by : (found : Bool) → is_some (block_of (entity_in known x)) ≡ found → Dec (IsUnknownBlock (CallsIn known) x)
@@ -166,7 +165,7 @@ module _ (known : List Known) where
   dec_entity_clash width (Some (entities.Register r m)) =
       map_dec (λ apart. (r, m, refl, apart)) (λ (s, other, is, apart). let same : other ≡ m = cc in subst (λ n. n ≢ width) same apart) (dec_not (dec_number m width))
 
-  dec_register_clash : (width : ℕ) (v : RawValue) → Dec ((x : Called) × (r : Register) × (other : ℕ) × (v ≡ values.Register x) × CallsRegisterIn known x r other × (other ≢ width))
+  dec_register_clash : (width : ℕ) (v : RawValue) → Dec ((x : Identifier) × (r : Register) × (other : ℕ) × (v ≡ values.Register x) × CallsRegisterIn known x r other × (other ≢ width))
   dec_register_clash width (values.Register x) =
       map_dec (λ (r, other, is, apart). (x, r, other, refl, is, apart))
       (λ (y, r, other, is, calls, apart). let same : y ≡ x = cc in (r, other, subst (λ z. CallsRegisterIn known z r other) same calls, apart))

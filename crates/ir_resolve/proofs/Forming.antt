@@ -10,7 +10,7 @@ use Rattle.ops.specs.Truths.{TruthFits, has_truth}
 use Rattle.ops.specs.Number.{Number}
 use Rattle.ops.specs.declared.conversion.Cast.{Cast}
 use Rattle.ops.specs.declared.conversion.Cast.TheVariants.{Trunc, ZExt, SExt}
-use Rattle.ir_tokens.specs.declared.called.Identifier.{Identifier as Called}
+use Rattle.ir_tokens.specs.declared.called.Identifier.{Identifier}
 use Rattle.ir_core.specs.Names.{Name, block_names}
 use Rattle.ir_core.specs.Checks.{CasesDiffer, IsTyped, CasesFit}
 use Rattle.ops.specs.Conversion.{CastFits}
@@ -73,7 +73,7 @@ parameter_names [] (p ∷ ps) all = absurd all
 parameter_names (w ∷ ws) [] all = absurd all
 parameter_names (w ∷ ws) (p ∷ ps) all = ap (λ (n : Name). n ∷ map (λ p. p.name) ps) all.0.2 ∙ ap (λ ns. given w.name ∷ ns) (parameter_names ws ps all.1)
 
-module _ (C : Called → Thing → Type 0) where
+module _ (C : Identifier → Thing → Type 0) where
   inst_names : (ws : List RawInst) (is : List Inst) → AllZip (InstMeans C) ws is → map (λ i. i.name) is ≡ map given (map (λ i. Some i.result) ws)
   inst_names [] [] all = refl
   inst_names [] (i ∷ is) all = absurd all
@@ -101,10 +101,10 @@ module _ (C : Called → Thing → Type 0) where
 -- ---- what is read, written and by places
 
 -- what is written is what is read, at the same width
-abbrev pub ReadMeans : (Called → Thing → Type 0) → Typed → Read → Type 0
+abbrev pub ReadMeans : (Identifier → Thing → Type 0) → Typed → Read → Type 0
 ReadMeans C t r = ValueMeans C t.operand.value r.operand × (t.width ≡ r.width)
 
-module _ (C : Called → Thing → Type 0) (f : Function) (b k : ℕ) where
+module _ (C : Identifier → Thing → Type 0) (f : Function) (b k : ℕ) where
   call_meant : (w : RawArguments) (n width : ℕ) (o : Op) → ArgumentsMean C w o → width ≡ n → ¬ ¬ ArgumentsFit n w → AllZip (ReadMeans C) (read_by_call w) (reads_of f b k width o)
   call_meant (arguments.Binary op a c) n width (core.Binary op' flags x y) h wide fits =
       let left : a.width ≡ n = same_unless a.width n (λ apart. fits (λ fit. apart fit.0)) in
@@ -137,7 +137,7 @@ module _ (C : Called → Thing → Type 0) (f : Function) (b k : ℕ) where
   reads_meant_at_end returned (terminators.Switch n a other cases) (ends.Switch x m c entries) same h typed = ((h.1, sym h.0), tt)
   reads_meant_at_end returned w t same h typed = absurd h
 
-pub targets_meant : (C : Called → Thing → Type 0) (w : RawTerminator) (t : Terminator) → EndMeans C w t → AllZip (λ x c. BlockMeans C x.identifier c) (named_at_end w) (targets_of t)
+pub targets_meant : (C : Identifier → Thing → Type 0) (w : RawTerminator) (t : Terminator) → EndMeans C w t → AllZip (λ x c. BlockMeans C x.identifier c) (named_at_end w) (targets_of t)
 targets_meant C (terminators.Return n a) (ends.Return x) h = tt
 targets_meant C terminators.Unreachable ends.Unreachable h = tt
 targets_meant C (terminators.Jump to) (ends.Jump c) h = (h, tt)
@@ -156,12 +156,12 @@ truth_fits op (Some t) own = rw (sym own) (kept (truth_of (Some t)))
     kept true = refl
     kept false = refl
 
-call_typed : (C : Called → Thing → Type 0) (w : RawArguments) (width : ℕ) (o : Op) → ArgumentsMean C w o → IsWellWrittenCall w → IsTyped width o
+call_typed : (C : Identifier → Thing → Type 0) (w : RawArguments) (width : ℕ) (o : Op) → ArgumentsMean C w o → IsWellWrittenCall w → IsTyped width o
 call_typed C (arguments.Binary op a c) width (core.Binary op' flags x y) h own = rw h.1 refl
 call_typed C (arguments.Unary op a truth) width (core.Unary op' t x) h own = rw (h.0, h.1) (truth_fits op truth own)
 call_typed C w width o h own = absurd h
 
-pub op_typed : (C : Called → Thing → Type 0) (w : RawOp) (width : ℕ) (o : Op) → OpMeans C w o → width ≡ result_width w → ((line : ℕ) → ¬ OpClashesAt w line) → IsWellWrittenOp w → IsTyped width o
+pub op_typed : (C : Identifier → Thing → Type 0) (w : RawOp) (width : ℕ) (o : Op) → OpMeans C w o → width ≡ result_width w → ((line : ℕ) → ¬ OpClashesAt w line) → IsWellWrittenOp w → IsTyped width o
 op_typed C (ops.Binary op flags n a c) width (core.Binary op' flags' x y) h wide typed own = rw (h.0, h.1) own
 op_typed C (ops.Compare pred samesign n a c) width (core.Compare pred' samesign' m x y) h wide typed own = wide
 op_typed C (ops.Call w) width o h wide typed own = call_typed C w.arguments width o h own
@@ -171,7 +171,7 @@ op_typed C (ops.Freeze n a) width (core.Freeze x) h wide typed own = tt
 op_typed C (ops.Phi n incoming) width (core.Phi entries) h wide typed own = tt
 op_typed C w width o h wide typed own = absurd h
 
-module _ (C : Called → Thing → Type 0) (cases : List RawCase) (entries : List (Number × ℕ)) (all : AllZip (CaseMeans C) cases entries) where
+module _ (C : Identifier → Thing → Type 0) (cases : List RawCase) (entries : List (Number × ℕ)) (all : AllZip (CaseMeans C) cases entries) where
   -- no two have one value, where no case has that of an earlier one
   differ_before : ((line : ℕ) → ¬ Repeats HasNumber IsCaseOn cases line) → (i j : ℕ) (c d : Number × ℕ) → i < j → slice_get entries i ≡ Some c → slice_get entries j ≡ Some d → ¬ (c.0.number ≡ d.0.number)
   differ_before once i j c d lt c_at d_at same =
@@ -195,7 +195,7 @@ module _ (C : Called → Thing → Type 0) (cases : List RawCase) (entries : Lis
       let own : e.0.width ≡ w.width = same_unless e.0.width w.width (λ apart. typed w.value.line (w, there, (inr (inr (e.0, w_means.0, apart)), refl))) in
       own ∙ written ∙ sym is
 
-pub cases_fit : (C : Called → Thing → Type 0) (returned : ℕ) (w : RawTerminator) (t : Terminator) → EndMeans C w t → ((line : ℕ) → ¬ EndClashesAt returned w line) → ((line : ℕ) → ¬ Repeats HasNumber IsCaseOn (cases_of w) line) → CasesFit t
+pub cases_fit : (C : Identifier → Thing → Type 0) (returned : ℕ) (w : RawTerminator) (t : Terminator) → EndMeans C w t → ((line : ℕ) → ¬ EndClashesAt returned w line) → ((line : ℕ) → ¬ Repeats HasNumber IsCaseOn (cases_of w) line) → CasesFit t
 cases_fit C returned (terminators.Return n a) (ends.Return x) h typed once = tt
 cases_fit C returned terminators.Unreachable ends.Unreachable h typed once = tt
 cases_fit C returned (terminators.Jump to) (ends.Jump c) h typed once = tt

@@ -3,7 +3,8 @@ use Rattle.std.proofs.Common.{◌≡◌, ℕ, suc, ◌<◌, List, [], ◌∷◌,
 use Rattle.std.specs.Prelude.{slice_get, option_map}
 use Rattle.std.proofs.lemmas.List.{length-map}
 use Rattle.std.proofs.lemmas.Option.{slice_get-map, slice_get-get_or}
-use Rattle.ir_core.specs.Names.{Name, identifiers_from}
+use Rattle.ir_core.specs.Names.{Name}
+use Rattle.ir_resolve.specs.Identifiers.{identifiers_from}
 use Rattle.ir_tokens.specs.declared.raw.RawIdentifier.{RawIdentifier}
 use Rattle.ir_resolve.specs.declared.names.key.Key.{Key}
 use Rattle.ir_resolve.specs.declared.names.definition.Definition.{Definition}

@@ -6,13 +6,12 @@ use Rattle.std.proofs.lemmas.Bool.{eqb-true, eq-eqb}
 use Rattle.std.proofs.lemmas.List.{map_push}
 use Rattle.indexmap.specs.IndexMap.{IndexMap, get, insert_entry}
 use Rattle.indexmap.proofs.CallerLemmas.{insert_entry-new}
-use Rattle.ir_tokens.specs.declared.called.Identifier.{Identifier as Called}
-use Rattle.ir_core.specs.Names.{Identifier, Named, Numbered}
+use Rattle.ir_tokens.specs.declared.called.Identifier.{Identifier}
+use Rattle.ir_tokens.specs.declared.called.Identifier.TheVariants.{Named, Numbered}
 use Rattle.ir_resolve.specs.declared.names.key.Key.{Key}
 use Rattle.ir_resolve.specs.declared.names.key.Key.TheVariants as keys
 use Rattle.ir_resolve.specs.declared.names.definition.Entity.{Entity}
 use Rattle.ir_resolve.specs.contracts.names.key.KeyPartialEq.TheImpl as derived
-use Rattle.ir_resolve.specs.Written.{identifier}
 use Rattle.ir_resolve.specs.Views.{seen, seen_entries, known_by, same, knows, Is, entity_in}
 
 abbrev pub eq : Key → Key → Bool
@@ -40,7 +39,7 @@ lookup_seen (e ∷ entries) k =
     ap (λ b. cond b (Some e.1) (lookup (eq k) entries)) (same_seen k e.0)
     ∙ ap (λ o. cond (same (seen k) (seen e.0)) (Some e.1) o) (lookup_seen entries k)
 
-pub entity_found : (entries : List (Key × Entity)) (k : Key) (x : Called) → seen k ≡ identifier x → lookup (eq k) entries ≡ entity_in (seen_entries entries) x
+pub entity_found : (entries : List (Key × Entity)) (k : Key) (x : Identifier) → seen k ≡ x → lookup (eq k) entries ≡ entity_in (seen_entries entries) x
 entity_found entries k x is = lookup_seen entries k ∙ ap (λ i. lookup (same i) (seen_entries entries)) is
 
 -- ---- what is known behind an insertion

@@ -2,7 +2,7 @@
 use Rattle.std.proofs.Common.{ℕ, List, [], ◌∷◌}
 use Rattle.std.specs.List.{AllZip}
 use Rattle.ops.specs.Number.{Number}
-use Rattle.ir_tokens.specs.declared.called.Identifier.{Identifier as Called}
+use Rattle.ir_tokens.specs.declared.called.Identifier.{Identifier}
 use Rattle.ir_core.specs.declared.function.Function.{Function}
 use Rattle.ir_core.specs.declared.function.Block.{Block as CoreBlock}
 use Rattle.ir_core.specs.declared.instruction.Inst.{Inst}
@@ -36,7 +36,7 @@ zip_weaker R S f [] (y ∷ ys) all = all
 zip_weaker R S f (x ∷ xs) [] all = all
 zip_weaker R S f (x ∷ xs) (y ∷ ys) all = (f x y all.0, zip_weaker R S f xs ys all.1)
 
-module _ (F G : Called → Thing → Type 0) (to : (x : Called) (thing : Thing) → F x thing → G x thing) where
+module _ (F G : Identifier → Thing → Type 0) (to : (x : Identifier) (thing : Thing) → F x thing → G x thing) where
   value : (v : RawValue) (a : Operand) → ValueMeans F v a → ValueMeans G v a
   value (values.Register x) (operands.Register r) h = to x (Value r) h
   value v a h = h

@@ -3,7 +3,7 @@ use Rattle.std.proofs.Common.{◌≡◌, ℕ, List, [], ◌∷◌, map, Option, 
 use Rattle.std.specs.List.{AllZip, AllByRecursion}
 use Rattle.ops.specs.Flags.{no_flags}
 use Rattle.ops.specs.Number.{Number}
-use Rattle.ir_tokens.specs.declared.called.Identifier.{Identifier as Called}
+use Rattle.ir_tokens.specs.declared.called.Identifier.{Identifier}
 use Rattle.ir_core.specs.declared.function.Function.{Function}
 use Rattle.ir_core.specs.declared.function.Parameter.{Parameter}
 use Rattle.ir_core.specs.declared.function.Block.{Block as CoreBlock}
@@ -48,7 +48,7 @@ some_zip_of P R f (x ∷ xs) all = let (y, r) = f x all.0 in let (ys, rest) = so
 
 module _ (known : List Known) where
   -- the thing of a name, as the table has it
-  register_found : (x : Called) (found : Option Entity) → entity_in known x ≡ found → ¬ IsUnknownValue (CallsIn known) (values.Register x) → (a : Operand) × ValueMeans (CallsIn known) (values.Register x) a
+  register_found : (x : Identifier) (found : Option Entity) → entity_in known x ≡ found → ¬ IsUnknownValue (CallsIn known) (values.Register x) → (a : Operand) × ValueMeans (CallsIn known) (values.Register x) a
   register_found x (Some (entities.Register r width)) is there = (operands.Register r, (width, is))
   register_found x (Some (entities.Block b)) is there = absurd (there (x, refl, λ r (width, calls). let same : Some (entities.Block b) ≡ Some (entities.Register r width) = sym is ∙ calls in cc))
   register_found x None is there = absurd (there (x, refl, λ r (width, calls). let none : None ≡ Some (entities.Register r width) = sym is ∙ calls in cc))
@@ -61,12 +61,12 @@ module _ (known : List Known) where
   some_value values.Undef there = (operands.Undef, tt)
   some_value values.Poison there = (operands.Poison, tt)
 
-  block_found : (x : Called) (found : Option Entity) → entity_in known x ≡ found → ¬ IsUnknownBlock (CallsIn known) x → (b : ℕ) × BlockMeans (CallsIn known) x b
+  block_found : (x : Identifier) (found : Option Entity) → entity_in known x ≡ found → ¬ IsUnknownBlock (CallsIn known) x → (b : ℕ) × BlockMeans (CallsIn known) x b
   block_found x (Some (entities.Block b)) is there = (b, is)
   block_found x (Some (entities.Register r width)) is there = absurd (there (λ b calls. let same : Some (entities.Register r width) ≡ Some (entities.Block b) = sym is ∙ calls in cc))
   block_found x None is there = absurd (there (λ b calls. let none : None ≡ Some (entities.Block b) = sym is ∙ calls in cc))
 
-  some_block : (x : Called) → ¬ IsUnknownBlock (CallsIn known) x → (b : ℕ) × BlockMeans (CallsIn known) x b
+  some_block : (x : Identifier) → ¬ IsUnknownBlock (CallsIn known) x → (b : ℕ) × BlockMeans (CallsIn known) x b
   some_block x there = block_found x (entity_in known x) refl there
 
   some_entries : (width : ℕ) (ws : List RawIncoming) → ReadsAreKnown known (map (λ i. typed width i.value) ws) → TargetsAreKnown known (map (λ i. i.block) ws)

@@ -8,7 +8,7 @@ use Rattle.ops.specs.declared.opcode.Unary.{Unary}
 use Rattle.ops.specs.declared.opcode.Flags.{Flags}
 use Rattle.ops.specs.declared.comparison.Pred.{Pred}
 use Rattle.ops.specs.declared.conversion.Cast.{Cast}
-use Rattle.ir_tokens.specs.declared.called.Identifier.{Identifier as Called}
+use Rattle.ir_tokens.specs.declared.called.Identifier.{Identifier}
 use Rattle.ir_core.specs.declared.function.Function.{Function}
 use Rattle.ir_core.specs.declared.function.Parameter.{Parameter}
 use Rattle.ir_core.specs.declared.function.Block.{Block as CoreBlock}
@@ -70,8 +70,8 @@ parameter w p q h k =
     ap (λ n. record p { width = n }) width ∙ ap (λ n. record p { width = q.width; items = n }) items ∙ ap (λ n. record q { name = n }) name
 
 -- where a name calls one register and one block at most
-module _ (C : Called → Thing → Type 0) (one_register : (x : Called) (r s : Register) → C x (Value r) → C x (Value s) → r ≡ s) (one_block : (x : Called) (b c : ℕ) → C x (Block b) → C x (Block c) → b ≡ c) where
-  of_register : (x : Called) (r : Register) (b : Operand) → C x (Value r) → ValueMeans C (values.Register x) b → operands.Register r ≡ b
+module _ (C : Identifier → Thing → Type 0) (one_register : (x : Identifier) (r s : Register) → C x (Value r) → C x (Value s) → r ≡ s) (one_block : (x : Identifier) (b c : ℕ) → C x (Block b) → C x (Block c) → b ≡ c) where
+  of_register : (x : Identifier) (r : Register) (b : Operand) → C x (Value r) → ValueMeans C (values.Register x) b → operands.Register r ≡ b
   of_register x r (operands.Register s) h k = ap operands.Register (one_register x r s h k)
   of_register x r (operands.Number n) h k = cc
   of_register x r b h k = absurd k
@@ -232,13 +232,13 @@ module _ (raw : RawFunction) (no_repeat : (line : ℕ) → ¬ Repeats HasName Is
   pub table : Tabulates raw known
   table = tabulates raw known no_repeat refl
 
-  one_register_of : (x : Called) (r s : Register) → Calls raw x (Value r) → Calls raw x (Value s) → r ≡ s
+  one_register_of : (x : Identifier) (r s : Register) → Calls raw x (Value r) → Calls raw x (Value s) → r ≡ s
   one_register_of x r s p q =
       let (m, r_found) = (table.things x (Value r)).1 p in
       let (n, s_found) = (table.things x (Value s)).1 q in
       cc
 
-  one_block_of : (x : Called) (b c : ℕ) → Calls raw x (Block b) → Calls raw x (Block c) → b ≡ c
+  one_block_of : (x : Identifier) (b c : ℕ) → Calls raw x (Block b) → Calls raw x (Block c) → b ≡ c
   one_block_of x b c p q =
       let b_found = (table.things x (Block b)).1 p in
       let c_found = (table.things x (Block c)).1 q in

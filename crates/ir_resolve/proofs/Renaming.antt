@@ -3,9 +3,8 @@ use Rattle.std.proofs.Common.{◌≡◌, ◌↔◌, ℕ, ◌<◌, Bool, true, fa
 use Rattle.std.specs.Prelude.{Contains, slice_get, option_map}
 use Rattle.std.proofs.lemmas.Bool.{false≢true}
 use Rattle.std.proofs.lemmas.Option.{slice_get-map}
-use Rattle.ir_tokens.specs.declared.called.Identifier.{Identifier as Called}
-use Rattle.ir_tokens.specs.declared.called.Identifier.TheVariants as called
-use Rattle.ir_core.specs.Names.{Identifier, Named, Numbered}
+use Rattle.ir_tokens.specs.declared.called.Identifier.{Identifier}
+use Rattle.ir_tokens.specs.declared.called.Identifier.TheVariants.{Named, Numbered}
 use Rattle.ir_tokens.specs.declared.raw.RawIdentifier.{RawIdentifier}
 use Rattle.ir_resolve.specs.FirstLines.{IsFirst}
 use Rattle.ir_resolve.specs.Written.{name_in, given, called_in}
@@ -17,9 +16,9 @@ use Rattle.ir_resolve.proofs.Series.{named_from, named_back, numbered_lt}
 given_name : (w : Option RawIdentifier) (name : List ℕ) → HasName w name → given w ≡ Some name
 given_name w name (r, is, named) = ap given is ∙ ap name_in named
 
-name_of : (y : Called) (name : List ℕ) → name_in y ≡ Some name → y ≡ called.Named name
-name_of (called.Named text) name h = cc
-name_of (called.Numbered n) name h = cc
+name_of : (y : Identifier) (name : List ℕ) → name_in y ≡ Some name → y ≡ Named name
+name_of (Named text) name h = cc
+name_of (Numbered n) name h = cc
 
 from_given : (w : Option RawIdentifier) (name : List ℕ) → given w ≡ Some name → HasName w name
 from_given None name h = cc

@@ -6,8 +6,9 @@ use Rattle.std.proofs.lemmas.Bool.{cases_lt}
 use Rattle.std.proofs.lemmas.List.{map-append}
 use Rattle.std.proofs.lemmas.List.Elements.{Contains-append_left, Contains-append_right}
 use Rattle.ops.specs.Number.{Number}
-use Rattle.ir_tokens.specs.declared.called.Identifier.{Identifier as Called}
-use Rattle.ir_core.specs.Names.{Named, block_names, names_of, width_of}
+use Rattle.ir_tokens.specs.declared.called.Identifier.{Identifier}
+use Rattle.ir_tokens.specs.declared.called.Identifier.TheVariants.{Named}
+use Rattle.ir_core.specs.Names.{block_names, names_of, width_of}
 use Rattle.ir_core.specs.Checks.{NamesDiffer, IsKnown, OperandHasWidth, IsInst, IsTyped, CasesFit}
 use Rattle.ir_core.specs.Blocks.{IsBlock, Names, targets_of}
 use Rattle.ir_core.specs.Reads.{Read, IsRead, reads_of, reads_at_end, reads_by, reads_in}
@@ -68,7 +69,7 @@ module _ (raw : RawFunction) (f : Function) (m : Means raw f) where
   -- a value that fits the width that is written for it is known, and has the width
 
   value_fits : (v : RawValue) (a : Operand) (width : ℕ) → ValueMeans (Calls raw) v a → ((n : Number) → literal_of v ≡ Some n → n.width ≡ width)
-      → ((x : Called) (r : Register) (other : ℕ) → v ≡ values.Register x → CallsRegister raw x r other → other ≡ width) → IsKnown f a × OperandHasWidth f width a
+      → ((x : Identifier) (r : Register) (other : ℕ) → v ≡ values.Register x → CallsRegister raw x r other → other ≡ width) → IsKnown f a × OperandHasWidth f width a
   value_fits v (operands.Number n) width means literal register = (tt, literal n (literal_meant (Calls raw) v n means))
   value_fits v operands.Undef width means literal register = (tt, tt)
   value_fits v operands.Poison width means literal register = (tt, tt)

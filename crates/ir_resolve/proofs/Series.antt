@@ -7,7 +7,9 @@ use Rattle.ir_resolve.specs.declared.names.key.Key.TheVariants as keys
 use Rattle.ir_resolve.specs.declared.names.definition.Definition.{Definition}
 use Rattle.ir_resolve.specs.Written.{given}
 use Rattle.ir_resolve.specs.Views.{seen, seen_written}
-use Rattle.ir_core.specs.Names.{Name, Named, Numbered, identifiers_from}
+use Rattle.ir_core.specs.Names.{Name}
+use Rattle.ir_tokens.specs.declared.called.Identifier.TheVariants.{Named, Numbered}
+use Rattle.ir_resolve.specs.Identifiers.{identifiers_from}
 
 -- the next number behind things with these names
 abbrev pub number_after : ℕ → List Name → ℕ

@@ -7,15 +7,15 @@ use Rattle.std.proofs.lemmas.Map.Entries.{place_from_lookup}
 use Rattle.std.proofs.lemmas.List.{length-map}
 use Rattle.std.proofs.lemmas.List.FromFn.{length-enumerate_from}
 use Rattle.std.proofs.lemmas.Option.{slice_get-map, slice_get_within}
-use Rattle.ir_tokens.specs.declared.called.Identifier.{Identifier as Called}
-use Rattle.ir_core.specs.Names.{Identifier, Named, Numbered}
+use Rattle.ir_tokens.specs.declared.called.Identifier.{Identifier}
+use Rattle.ir_tokens.specs.declared.called.Identifier.TheVariants.{Named, Numbered}
 use Rattle.ir_core.specs.declared.operand.Register.{Register}
 use Rattle.ir_core.specs.declared.operand.Register.TheVariants as registers
 use Rattle.ir_tokens.specs.declared.raw.RawFunction.{RawFunction}
 use Rattle.ir_tokens.specs.declared.raw.RawIdentifier.{RawIdentifier}
 use Rattle.ir_resolve.specs.declared.names.definition.Entity.{Entity}
 use Rattle.ir_resolve.specs.declared.names.definition.Entity.TheVariants as entities
-use Rattle.ir_resolve.specs.Written.{Thing, Value, Block, written_names, called_in, given, identifiers_of, HasThing, place_of, identifier, Calls}
+use Rattle.ir_resolve.specs.Written.{Thing, Value, Block, written_names, called_in, given, identifiers_of, HasThing, place_of, Calls}
 use Rattle.ir_resolve.specs.FaultKinds.{result_width, Repeats, HasName, IsWrittenOn, RegisterHasWidth, CallsRegister}
 use Rattle.ir_resolve.specs.Views.{Known, same, entity_in, CallsIn, CallsRegisterIn}
 use Rattle.ir_resolve.specs.Definitions.{Defined, parameter_defined, definitions_of, parameters_defined, blocks_defined}
@@ -139,35 +139,35 @@ once written no_repeat p q (Named name) lt q_at p_at =
 module _ (raw : RawFunction) (known : List Known) (no_repeat : (line : ℕ) → ¬ Repeats HasName IsWrittenOn (written_names raw) line)
     (is : known ≡ zip (identifiers_of raw) (map (λ (d : Defined). d.1) (definitions_of raw))) where
   -- an entity is found exactly where it stands with this identifier
-  entity_found_at : (x : Called) (e : Entity) → entity_in known x ≡ Some e → (p : ℕ) × (slice_get (identifiers_of raw) p ≡ Some (identifier x)) × IsEntityAt raw p e
+  entity_found_at : (x : Identifier) (e : Entity) → entity_in known x ≡ Some e → (p : ℕ) × (slice_get (identifiers_of raw) p ≡ Some x) × IsEntityAt raw p e
   entity_found_at x e found =
-      let (p, id_at, e_at) = found_at (identifiers_of raw) (map (λ (d : Defined). d.1) (definitions_of raw)) (identifier x) e (subst (λ k. lookup (same (identifier x)) k ≡ Some e) is found) in
+      let (p, id_at, e_at) = found_at (identifiers_of raw) (map (λ (d : Defined). d.1) (definitions_of raw)) x e (subst (λ k. lookup (same x) k ≡ Some e) is found) in
       let (d, d_at, d_is) = mapped (λ (d : Defined). d.1) (slice_get (definitions_of raw) p) e (sym (slice_get-map (λ (d : Defined). d.1) (definitions_of raw) p) ∙ e_at) in
       (p, id_at, subst (IsEntityAt raw p) d_is (entity_at raw p d d_at))
 
-  entity_is_found : (x : Called) (p : ℕ) (w : Option RawIdentifier) (e : Entity) → slice_get (identifiers_of raw) p ≡ Some (identifier x) → slice_get (definitions_of raw) p ≡ Some (w, e) → entity_in known x ≡ Some e
+  entity_is_found : (x : Identifier) (p : ℕ) (w : Option RawIdentifier) (e : Entity) → slice_get (identifiers_of raw) p ≡ Some x → slice_get (definitions_of raw) p ≡ Some (w, e) → entity_in known x ≡ Some e
   entity_is_found x p w e id_at at =
-      ap (lookup (same (identifier x))) is
-      ∙ find_at (identifiers_of raw) (map (λ (d : Defined). d.1) (definitions_of raw)) p (identifier x) e (λ q lt q_at. once (written_names raw) no_repeat p q (identifier x) lt q_at id_at) id_at
+      ap (lookup (same x)) is
+      ∙ find_at (identifiers_of raw) (map (λ (d : Defined). d.1) (definitions_of raw)) p x e (λ q lt q_at. once (written_names raw) no_repeat p q x lt q_at id_at) id_at
       (slice_get-map (λ (d : Defined). d.1) (definitions_of raw) p ∙ ap (option_map (λ (d : Defined). d.1)) at)
 
-  register_from : (x : Called) (r : Register) (width : ℕ) → CallsRegisterIn known x r width → CallsRegister raw x r width
+  register_from : (x : Identifier) (r : Register) (width : ℕ) → CallsRegisterIn known x r width → CallsRegister raw x r width
   register_from x r width found =
       let (p, id_at, (has, place, wide)) = entity_found_at x (entities.Register r width) found in
       ((has, ap (slice_get (identifiers_of raw)) place ∙ id_at), wide)
 
-  register_to : (x : Called) (r : Register) (width : ℕ) → CallsRegister raw x r width → CallsRegisterIn known x r width
+  register_to : (x : Identifier) (r : Register) (width : ℕ) → CallsRegister raw x r width → CallsRegisterIn known x r width
   register_to x r width ((has, id_at), wide) =
       let (w, at) = register_stands raw r width wide in
       entity_is_found x (place_of raw (Value r)) w (entities.Register r width) id_at at
 
-  thing_from : (x : Called) (thing : Thing) → CallsIn known x thing → Calls raw x thing
+  thing_from : (x : Identifier) (thing : Thing) → CallsIn known x thing → Calls raw x thing
   thing_from x (Value r) (width, found) = (register_from x r width found).0
   thing_from x (Block b) found =
       let (p, id_at, (has, place)) = entity_found_at x (entities.Block b) found in
       (has, ap (slice_get (identifiers_of raw)) place ∙ id_at)
 
-  thing_to : (x : Called) (thing : Thing) → Calls raw x thing → CallsIn known x thing
+  thing_to : (x : Identifier) (thing : Thing) → Calls raw x thing → CallsIn known x thing
   thing_to x (Value r) (has, id_at) = let (width, wide) = width_of_register raw r has in (width, register_to x r width ((has, id_at), wide))
   thing_to x (Block b) (has, id_at) =
       let (w, at) = block_stands_at raw b has in

@@ -1,6 +1,6 @@
 -- What is read or named and not there.
 use Rattle.std.proofs.Common.{◌≡◌, ◌↔◌, ℕ, Bool, true, false, not, IsTrue, List, Option, None, Some, is_some, refl, sym, ap, subst, ◌∙◌}
-use Rattle.ir_tokens.specs.declared.called.Identifier.{Identifier as Called}
+use Rattle.ir_tokens.specs.declared.called.Identifier.{Identifier}
 use Rattle.ir_core.specs.declared.operand.Register.{Register}
 use Rattle.ir_tokens.specs.declared.raw.RawIdentifier.{RawIdentifier}
 use Rattle.ir_tokens.specs.declared.raw.RawValue.{RawValue}
@@ -36,10 +36,10 @@ no_block (Some (entities.Block n)) true e = cc
 no_block (Some (entities.Block n)) false e = (λ t. cc, λ h. absurd (h n refl))
 
 module _ (known : List Known) where
-  pub value_unknown : (value : RawValue) (x : Called) (o : Option (Register × ℕ)) (b : Bool) → value ≡ values.Register x → o ≡ register_of (entity_in known x) → is_some o ≡ not b → IsTrue b ↔ IsUnknownValue (CallsIn known) value
+  pub value_unknown : (value : RawValue) (x : Identifier) (o : Option (Register × ℕ)) (b : Bool) → value ≡ values.Register x → o ≡ register_of (entity_in known x) → is_some o ≡ not b → IsTrue b ↔ IsUnknownValue (CallsIn known) value
   value_unknown value x o b is found e =
       let iff = no_register (entity_in known x) b (ap is_some (sym found) ∙ e) in
       (λ t. (x, is, iff.0 t), λ (y, is', none). iff.1 (subst (λ z. (r : Register) → ¬ ((width : ℕ) × CallsRegisterIn known z r width)) (cc) none))
 
-  pub block_unknown : (x : Called) (o : Option ℕ) (b : Bool) → o ≡ block_of (entity_in known x) → is_some o ≡ not b → IsTrue b ↔ IsUnknownBlock (CallsIn known) x
+  pub block_unknown : (x : Identifier) (o : Option ℕ) (b : Bool) → o ≡ block_of (entity_in known x) → is_some o ≡ not b → IsTrue b ↔ IsUnknownBlock (CallsIn known) x
   block_unknown x o b found e = no_block (entity_in known x) b (ap is_some (sym found) ∙ e)

@@ -2,10 +2,10 @@
 use Rattle.std.specs.Prelude.{◌≡◌, ◌≢◌, ◌⊎◌, ℕ, ◌==◌, Bool, false, List, take, Option, Some, None, Contains, slice_get}
 use Rattle.ops.specs.Number.{Number}
 use Rattle.ops.specs.Conversion.{CastFits}
-use Rattle.ir_core.specs.Names.{Identifier, Numbered}
+use Rattle.ir_tokens.specs.declared.called.Identifier.{Identifier}
+use Rattle.ir_tokens.specs.declared.called.Identifier.TheVariants.{Named, Numbered}
 use Rattle.ir_core.specs.declared.operand.Register.{Register}
 use Rattle.ir_core.specs.declared.operand.Register.TheVariants as registers
-use Rattle.ir_tokens.specs.declared.called.Identifier.TheVariants as called
 use Rattle.ir_tokens.specs.declared.raw.RawFunction.{RawFunction}
 use Rattle.ir_tokens.specs.declared.raw.RawParameter.{RawParameter}
 use Rattle.ir_tokens.specs.declared.raw.RawBlock.{RawBlock}
@@ -22,7 +22,6 @@ use Rattle.ir_tokens.specs.declared.raw.RawValue.{RawValue}
 use Rattle.ir_tokens.specs.declared.raw.RawValue.TheVariants as values
 use Rattle.ir_tokens.specs.declared.raw.RawIdentifier.{RawIdentifier}
 use Rattle.ir_tokens.specs.declared.raw.RawCase.{RawCase}
-use Rattle.ir_tokens.specs.declared.called.Identifier.{Identifier as Called}
 use Rattle.ir_resolve.specs.FirstLines.{SomeAt}
 use Rattle.ir_resolve.specs.Written.{Thing, Value, Block, written_names, called_in, IsWrittenInst, Calls}
 use Rattle.ir_resolve.specs.TypedReads.{Typed, reads_of, targets_of, cases_of}
@@ -32,7 +31,7 @@ use Rattle.ir_resolve.specs.TypedReads.{Typed, reads_of, targets_of, cases_of}
 -- For this thing a number is written on the line, and it is called otherwise.
 abbrev pub IsMisnumbered : Option RawIdentifier → Identifier → ℕ → Type 0
 IsMisnumbered written identifier line = (w : RawIdentifier) × (n : ℕ)
-    × (written ≡ Some w) × (w.identifier ≡ called.Numbered n) × (identifier ≢ Numbered n) × (w.line ≡ line)
+    × (written ≡ Some w) × (w.identifier ≡ Numbered n) × (identifier ≢ Numbered n) × (w.line ≡ line)
 
 -- for thing p of those for which this is written
 abbrev pub MisnumbersHere : List (Option RawIdentifier) → ℕ → ℕ → Type 0
@@ -57,7 +56,7 @@ Repeats Has StandsOn xs line = (j : ℕ) × RepeatsHere Has StandsOn xs j line
 
 -- the name is written, and on the line
 abbrev pub HasName : Option RawIdentifier → List ℕ → Type 0
-HasName written name = (w : RawIdentifier) × (written ≡ Some w) × (w.identifier ≡ called.Named name)
+HasName written name = (w : RawIdentifier) × (written ≡ Some w) × (w.identifier ≡ Named name)
 
 abbrev pub IsWrittenOn : Option RawIdentifier → ℕ → Type 0
 IsWrittenOn written line = (w : RawIdentifier) × (written ≡ Some w) × (w.line ≡ line)
@@ -102,15 +101,15 @@ DuplicateAt earlier raw line =
 -- ---- Unknown
 
 -- Where these names call these registers and blocks: a value names a register, and there is none of that name
-abbrev pub IsUnknownValue : (Called → Thing → Type 0) → RawValue → Type 0
-IsUnknownValue CallsThing value = (x : Called) × (value ≡ values.Register x) × ((r : Register) → ¬ CallsThing x (Value r))
+abbrev pub IsUnknownValue : (Identifier → Thing → Type 0) → RawValue → Type 0
+IsUnknownValue CallsThing value = (x : Identifier) × (value ≡ values.Register x) × ((r : Register) → ¬ CallsThing x (Value r))
 
 -- there is no block of the name
-abbrev pub IsUnknownBlock : (Called → Thing → Type 0) → Called → Type 0
+abbrev pub IsUnknownBlock : (Identifier → Thing → Type 0) → Identifier → Type 0
 IsUnknownBlock CallsThing x = (b : ℕ) → ¬ CallsThing x (Block b)
 
 -- one of these operands reads a register that is none, or one of these names is that of no block
-abbrev pub UnknownIn : (Called → Thing → Type 0) → List Typed → List RawIdentifier → ℕ → Type 0
+abbrev pub UnknownIn : (Identifier → Thing → Type 0) → List Typed → List RawIdentifier → ℕ → Type 0
 UnknownIn CallsThing reads targets line =
     SomeAt reads (λ t at. IsUnknownValue CallsThing t.operand.value × (t.operand.line ≡ at)) line
     ⊎ SomeAt targets (λ w at. IsUnknownBlock CallsThing w.identifier × (w.line ≡ at)) line
@@ -136,7 +135,7 @@ RegisterHasWidth raw (registers.Parameter k) width = (p : RawParameter) × (slic
 RegisterHasWidth raw (registers.Result d j) width = (inst : RawInst) × IsWrittenInst raw d j inst × (result_width inst.op ≡ width)
 
 -- a name calls the register, which has the width
-abbrev pub CallsRegister : RawFunction → Called → Register → ℕ → Type 0
+abbrev pub CallsRegister : RawFunction → Identifier → Register → ℕ → Type 0
 CallsRegister raw x r width = Calls raw x (Value r) × RegisterHasWidth raw r width
 
 -- a literal has another width
@@ -145,13 +144,13 @@ LiteralClashes width value = (n : Number) × (literal_of value ≡ Some n) × (n
 
 -- Where these names call these registers of these widths: a value doesn't fit the width that is written for it, since it is a
 -- literal or a register of another width
-abbrev pub ValueClashes : (Called → Register → ℕ → Type 0) → ℕ → RawValue → Type 0
+abbrev pub ValueClashes : (Identifier → Register → ℕ → Type 0) → ℕ → RawValue → Type 0
 ValueClashes CallsThis width value =
     LiteralClashes width value
-    ⊎ ((x : Called) × (r : Register) × (other : ℕ) × (value ≡ values.Register x) × CallsThis x r other × (other ≢ width))
+    ⊎ ((x : Identifier) × (r : Register) × (other : ℕ) × (value ≡ values.Register x) × CallsThis x r other × (other ≢ width))
 
 -- one of these operands does not fit
-abbrev pub ReadClashesIn : (Called → Register → ℕ → Type 0) → List Typed → ℕ → Type 0
+abbrev pub ReadClashesIn : (Identifier → Register → ℕ → Type 0) → List Typed → ℕ → Type 0
 ReadClashesIn CallsThis reads = SomeAt reads (λ t at. ValueClashes CallsThis t.width t.operand.value × (t.operand.line ≡ at))
 
 -- the truth value of a call, if it has one, is a number of i1

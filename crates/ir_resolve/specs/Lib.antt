@@ -1,4 +1,5 @@
 pub mod FirstLines
+pub mod Identifiers
 pub mod Written
 pub mod TypedReads
 pub mod FaultKinds

@@ -3,7 +3,7 @@ use Rattle.std.specs.Prelude.{◌≡◌, ℕ, Some}
 use Rattle.std.specs.List.{AllZip}
 use Rattle.ops.specs.Flags.{no_flags}
 use Rattle.ops.specs.Number.{Number}
-use Rattle.ir_tokens.specs.declared.called.Identifier.{Identifier as Called}
+use Rattle.ir_tokens.specs.declared.called.Identifier.{Identifier}
 use Rattle.ir_core.specs.declared.function.Function.{Function}
 use Rattle.ir_core.specs.declared.function.Parameter.{Parameter}
 use Rattle.ir_core.specs.declared.function.Block.{Block as CoreBlock}
@@ -32,7 +32,7 @@ use Rattle.ir_resolve.specs.Written.{Thing, Value, Block, Calls, given}
 use Rattle.ir_resolve.specs.FaultKinds.{literal_of, result_width, truth_of}
 
 -- Where these names call these things:
-module _ (CallsThing : Called → Thing → Type 0) where
+module _ (CallsThing : Identifier → Thing → Type 0) where
   -- a name calls a register, and a literal is its number
   abbrev pub ValueMeans : RawValue → Operand → Type 0
   ValueMeans (values.Register x) (operands.Register r) = CallsThing x (Value r)
@@ -43,7 +43,7 @@ module _ (CallsThing : Called → Thing → Type 0) where
   ValueMeans value operand = ⊥
 
   -- a name calls a block
-  abbrev pub BlockMeans : Called → ℕ → Type 0
+  abbrev pub BlockMeans : Identifier → ℕ → Type 0
   BlockMeans x b = CallsThing x (Block b)
 
   abbrev pub IncomingMeans : RawIncoming → Operand × ℕ → Type 0
@@ -91,7 +91,7 @@ abbrev pub ParameterMeans : RawParameter → Parameter → Type 0
 ParameterMeans written p = (p.width ≡ written.width) × (p.items ≡ written.items) × (p.name ≡ given written.name)
 
 -- where these names call these things, a function as written means the function
-pub record MeansBy (CallsThing : Called → Thing → Type 0) (raw : RawFunction) (f : Function) : Type 0 where
+pub record MeansBy (CallsThing : Identifier → Thing → Type 0) (raw : RawFunction) (f : Function) : Type 0 where
   pub name : f.name ≡ raw.name
   pub before : f.before ≡ raw.before
   pub width : f.width ≡ raw.width

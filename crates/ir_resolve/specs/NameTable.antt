@@ -1,6 +1,6 @@
 -- A table of names that has exactly what a function has.
 use Rattle.std.specs.Prelude.{◌≡◌, ◌↔◌, ℕ, List}
-use Rattle.ir_tokens.specs.declared.called.Identifier.{Identifier as Called}
+use Rattle.ir_tokens.specs.declared.called.Identifier.{Identifier}
 use Rattle.ir_core.specs.declared.operand.Register.{Register}
 use Rattle.ir_tokens.specs.declared.raw.RawFunction.{RawFunction}
 use Rattle.refusal.specs.declared.fault.Fault.{Fault}
@@ -13,8 +13,8 @@ use Rattle.ir_resolve.specs.Views.{Known, CallsIn, CallsRegisterIn}
 
 -- a name or number calls the same things and registers in the table and in the function
 pub record Tabulates (raw : RawFunction) (known : List Known) : Type 0 where
-  pub things : (x : Called) (thing : Thing) → CallsIn known x thing ↔ Calls raw x thing
-  pub registers : (x : Called) (r : Register) (width : ℕ) → CallsRegisterIn known x r width ↔ CallsRegister raw x r width
+  pub things : (x : Identifier) (thing : Thing) → CallsIn known x thing ↔ Calls raw x thing
+  pub registers : (x : Identifier) (r : Register) (width : ℕ) → CallsRegisterIn known x r width ↔ CallsRegister raw x r width
 
 -- the first fault of what is read and named: first what is unknown, and then types
 pub data IsFaultOfUses (raw : RawFunction) (fault : Fault IrFaultKind) : Type 0 where

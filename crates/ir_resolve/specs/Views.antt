@@ -4,8 +4,8 @@ use Rattle.std.specs.Option.{option_copied, is_some}
 use Rattle.std.specs.Map.{lookup}
 use Rattle.std.specs.Cmp.Lexicographic.{pointwise}
 use Rattle.indexmap.specs.IndexMap.{IndexMap}
-use Rattle.ir_tokens.specs.declared.called.Identifier.{Identifier as Called}
-use Rattle.ir_core.specs.Names.{Identifier, Named, Numbered}
+use Rattle.ir_tokens.specs.declared.called.Identifier.{Identifier}
+use Rattle.ir_tokens.specs.declared.called.Identifier.TheVariants.{Named, Numbered}
 use Rattle.ir_core.specs.declared.operand.Register.{Register}
 use Rattle.ir_tokens.specs.declared.raw.RawIdentifier.{RawIdentifier}
 use Rattle.ir_resolve.specs.declared.names.key.Key.{Key}
@@ -13,7 +13,7 @@ use Rattle.ir_resolve.specs.declared.names.key.Key.TheVariants as keys
 use Rattle.ir_resolve.specs.declared.names.definition.Entity.{Entity}
 use Rattle.ir_resolve.specs.declared.names.definition.Entity.TheVariants as entities
 use Rattle.ir_resolve.specs.declared.names.definition.Definition.{Definition}
-use Rattle.ir_resolve.specs.Written.{Thing, Value, Block, identifier, called_in}
+use Rattle.ir_resolve.specs.Written.{Thing, Value, Block, called_in}
 
 -- the identifier that a key is, without where its text lies
 abbrev pub seen : Key → Identifier
@@ -56,8 +56,8 @@ known_by names = seen_entries names.entries
 abbrev pub knows : List Known → Identifier → Bool
 knows known x = is_some (lookup (same x) known)
 
-abbrev pub entity_in : List Known → Called → Option Entity
-entity_in known x = lookup (same (identifier x)) known
+abbrev pub entity_in : List Known → Identifier → Option Entity
+entity_in known x = lookup (same x) known
 
 -- the register of an identifier with its width, and the block
 abbrev pub register_of : Option Entity → Option (Register × ℕ)
@@ -71,9 +71,9 @@ block_of (Some (entities.Register register width)) = None
 block_of (Some (entities.Block b)) = Some b
 
 -- an identifier calls the register of the width, and the thing
-abbrev pub CallsRegisterIn : List Known → Called → Register → ℕ → Type 0
+abbrev pub CallsRegisterIn : List Known → Identifier → Register → ℕ → Type 0
 CallsRegisterIn known x r width = entity_in known x ≡ Some (entities.Register r width)
 
-abbrev pub CallsIn : List Known → Called → Thing → Type 0
+abbrev pub CallsIn : List Known → Identifier → Thing → Type 0
 CallsIn known x (Value r) = (width : ℕ) × CallsRegisterIn known x r width
 CallsIn known x (Block b) = entity_in known x ≡ Some (entities.Block b)

@@ -2,9 +2,10 @@
 -- order, that of the text: the parameters, and then block by block the block and its results.
 use Rattle.std.specs.Prelude.{◌≡◌, ℕ, ◌+◌, ◌<◌, List, ◌∷◌, ◌++◌, length, map, take, Option, None, Some, slice_get}
 use Rattle.std.specs.List.{flat_map}
-use Rattle.ir_tokens.specs.declared.called.Identifier.{Identifier as Called}
-use Rattle.ir_tokens.specs.declared.called.Identifier.TheVariants as called
-use Rattle.ir_core.specs.Names.{Name, Identifier, Named, Numbered, identifiers_from}
+use Rattle.ir_tokens.specs.declared.called.Identifier.{Identifier}
+use Rattle.ir_tokens.specs.declared.called.Identifier.TheVariants.{Named, Numbered}
+use Rattle.ir_core.specs.Names.{Name}
+use Rattle.ir_resolve.specs.Identifiers.{identifiers_from}
 use Rattle.ir_core.specs.declared.operand.Register.{Register}
 use Rattle.ir_core.specs.declared.operand.Register.TheVariants as registers
 use Rattle.ir_tokens.specs.declared.raw.RawFunction.{RawFunction}
@@ -26,9 +27,9 @@ abbrev pub written_names : RawFunction → List (Option RawIdentifier)
 written_names raw = map (λ p. p.name) raw.parameters ++ flat_map written_in raw.blocks
 
 -- the name that is given so; a number gives none
-abbrev pub name_in : Called → Name
-name_in (called.Named text) = Some text
-name_in (called.Numbered n) = None
+abbrev pub name_in : Identifier → Name
+name_in (Named text) = Some text
+name_in (Numbered n) = None
 
 abbrev pub given : Option RawIdentifier → Name
 given None = None
@@ -61,11 +62,6 @@ place_of raw (Value (registers.Parameter k)) = k
 place_of raw (Value (registers.Result d j)) = block_place raw d + 1 + j
 place_of raw (Block b) = block_place raw b
 
--- the identifier as the definitions of modules know it
-abbrev pub identifier : Called → Identifier
-identifier (called.Named text) = Named text
-identifier (called.Numbered n) = Numbered n
-
 -- a written name or number calls the thing
-abbrev pub Calls : RawFunction → Called → Thing → Type 0
-Calls raw x thing = HasThing raw thing × (slice_get (identifiers_of raw) (place_of raw thing) ≡ Some (identifier x))
+abbrev pub Calls : RawFunction → Identifier → Thing → Type 0
+Calls raw x thing = HasThing raw thing × (slice_get (identifiers_of raw) (place_of raw thing) ≡ Some x)

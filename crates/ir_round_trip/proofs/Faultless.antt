@@ -3,8 +3,8 @@ use Rattle.std.proofs.Common.{◌≡◌, inl, inr, ℕ, List, length, Some, sym,
 use Rattle.std.specs.Prelude.{Contains, slice_get, option_map, option_and_then}
 use Rattle.std.proofs.lemmas.List.Elements.{All-contains}
 use Rattle.std.proofs.lemmas.Option.{slice_get-map}
-use Rattle.ir_tokens.specs.declared.called.Identifier.{Identifier as Called}
-use Rattle.ir_tokens.specs.declared.called.Identifier.TheVariants as called
+use Rattle.ir_tokens.specs.declared.called.Identifier.{Identifier}
+use Rattle.ir_tokens.specs.declared.called.Identifier.TheVariants.{Named, Numbered}
 use Rattle.ir_core.specs.declared.function.Function.{Function}
 use Rattle.ir_core.specs.declared.function.Parameter.{Parameter}
 use Rattle.ir_core.specs.declared.function.Block.{Block as CoreBlock}
@@ -12,7 +12,7 @@ use Rattle.ir_core.specs.declared.instruction.Inst.{Inst}
 use Rattle.ir_core.specs.declared.operand.Register.{Register}
 use Rattle.ir_core.specs.declared.operand.Register.TheVariants as registers
 use Rattle.ir_core.specs.Checks.{OperandHasWidth, IsFormed}
-use Rattle.ir_core.specs.Names.{Name, Numbered, names_of, width_of}
+use Rattle.ir_core.specs.Names.{Name, names_of, width_of}
 use Rattle.ir_core.specs.Blocks.{targets_of}
 use Rattle.ir_core.specs.Reads.{Read, IsRead, reads_of, reads_at_end}
 use Rattle.ir_tokens.specs.declared.raw.RawFunction.{RawFunction}
@@ -51,7 +51,7 @@ module _ (raw : RawFunction) (f : Function) (writes : WritesFunction raw f) (for
       other (some_same same)
 
   -- a name that is written is that of the thing
-  name_at : (p : ℕ) (w : RawIdentifier) (name : List ℕ) → slice_get (written_names raw) p ≡ Some (Some w) → w.identifier ≡ called.Named name → slice_get (names_of f) p ≡ Some (Some name)
+  name_at : (p : ℕ) (w : RawIdentifier) (name : List ℕ) → slice_get (written_names raw) p ≡ Some (Some w) → w.identifier ≡ Named name → slice_get (names_of f) p ≡ Some (Some name)
   name_at p w name at is =
       ap (λ (names : List Name). slice_get names p) (names_are raw f writes.means) ∙ slice_get-map given (written_names raw) p ∙ ap (option_map given) at ∙ ap (λ x. Some (name_in x)) is
 
@@ -144,13 +144,13 @@ module _ (raw : RawFunction) (f : Function) (writes : WritesFunction raw f) (for
       ap (option_and_then (λ (x : CoreBlock). option_map (λ (i : Inst). i.width) (slice_get x.insts k))) is_block ∙ ap (option_map (λ (i : Inst). i.width)) inst_at ∙ ap Some (v_means.1 ∙ is)
 
   -- a name calls one register
-  one_register : (x : Called) (r s : Register) → Calls raw x (Value r) → Calls raw x (Value s) → r ≡ s
+  one_register : (x : Identifier) (r s : Register) → Calls raw x (Value r) → Calls raw x (Value s) → r ≡ s
   one_register x r s p q =
       let (n, r_found) = ((table raw no_repeat).things x (Value r)).1 p in
       let (k, s_found) = ((table raw no_repeat).things x (Value s)).1 q in
       cc
 
-  register_fits : (x : Called) (r s : Register) (width other : ℕ) → Calls raw x (Value s) → width_of f s ≡ Some width → CallsRegister raw x r other → other ≡ width
+  register_fits : (x : Identifier) (r s : Register) (width other : ℕ) → Calls raw x (Value s) → width_of f s ≡ Some width → CallsRegister raw x r other → other ≡ width
   register_fits x r s width other calls wide (calls', wide') =
       let same : r ≡ s = one_register x r s calls' calls in
       some_same (sym (width_is r other wide') ∙ ap (width_of f) same ∙ wide)

@@ -4,7 +4,7 @@ use Rattle.std.specs.Prelude.{slice_get}
 use Rattle.std.specs.List.{AllZip}
 use Rattle.std.proofs.lemmas.List.Elements.{All-contains}
 use Rattle.ops.specs.Number.{Number}
-use Rattle.ir_tokens.specs.declared.called.Identifier.{Identifier as Called}
+use Rattle.ir_tokens.specs.declared.called.Identifier.{Identifier}
 use Rattle.ir_core.specs.Checks.{OperandHasWidth, IsTyped, CasesFit}
 use Rattle.ir_core.specs.declared.function.Function.{Function}
 use Rattle.ir_core.specs.declared.instruction.Op.{Op}
@@ -33,11 +33,11 @@ use Rattle.ir_resolve.proofs.Pairs.{pair_of_first, made_pairs}
 use Rattle.ir_resolve.proofs.Forming.{literal_meant}
 use Rattle.ir_text.specs.CanonicalModule.{TypesFit, EndTypesFit}
 
-module _ (C : Called → Thing → Type 0) where
+module _ (C : Identifier → Thing → Type 0) where
   -- ---- values
 
   -- a name that is read calls a register
-  pub register_meant : (x : Called) (a : Operand) → ValueMeans C (values.Register x) a → (r : Register) × (a ≡ operands.Register r) × C x (Value r)
+  pub register_meant : (x : Identifier) (a : Operand) → ValueMeans C (values.Register x) a → (r : Register) × (a ≡ operands.Register r) × C x (Value r)
   register_meant x (operands.Register r) h = (r, refl, h)
   register_meant x (operands.Number n) h = cc
   register_meant x operands.Undef h = absurd h

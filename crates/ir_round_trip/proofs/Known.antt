@@ -5,7 +5,7 @@ use Rattle.std.specs.List.{AllZip, AllByRecursion}
 use Rattle.std.proofs.lemmas.Bool.{eq-eqb}
 use Rattle.std.proofs.lemmas.Option.{slice_get_past, slice_get_within}
 use Rattle.ops.specs.Number.{Number}
-use Rattle.ir_tokens.specs.declared.called.Identifier.{Identifier as Called}
+use Rattle.ir_tokens.specs.declared.called.Identifier.{Identifier}
 use Rattle.ir_core.specs.declared.function.Function.{Function}
 use Rattle.ir_core.specs.declared.function.Block.{Block as CoreBlock}
 use Rattle.ir_core.specs.declared.instruction.Inst.{Inst}
@@ -71,8 +71,8 @@ AllKnown f reads = AllByRecursion (λ r. IsKnown f r.operand) reads
 abbrev AllThere : Function → List ℕ → Type 0
 AllThere f blocks = AllByRecursion (λ b. b < length f.blocks) blocks
 
-module _ (F G : Called → Thing → Type 0) (f : Function) (to_register : (x : Called) (r : Register) → IsSome (width_of f r) → F x (Value r) → G x (Value r))
-    (to_block : (x : Called) (b : ℕ) → b < length f.blocks → F x (Block b) → G x (Block b)) where
+module _ (F G : Identifier → Thing → Type 0) (f : Function) (to_register : (x : Identifier) (r : Register) → IsSome (width_of f r) → F x (Value r) → G x (Value r))
+    (to_block : (x : Identifier) (b : ℕ) → b < length f.blocks → F x (Block b) → G x (Block b)) where
   value : (v : RawValue) (a : Operand) → IsKnown f a → ValueMeans F v a → ValueMeans G v a
   value (values.Register x) (operands.Register r) known h = to_register x r known h
   value v a known h = h

@@ -4,8 +4,8 @@ use Rattle.std.specs.Prelude.{slice_get, All}
 use Rattle.std.specs.List.{AllByRecursion, AllZip, flat_map}
 use Rattle.std.proofs.lemmas.Option.{same_Some}
 use Rattle.ops.specs.Number.{Number}
-use Rattle.ir_tokens.specs.declared.called.Identifier.{Identifier as Called}
-use Rattle.ir_tokens.specs.declared.called.Identifier.TheVariants as called
+use Rattle.ir_tokens.specs.declared.called.Identifier.{Identifier}
+use Rattle.ir_tokens.specs.declared.called.Identifier.TheVariants.{Named, Numbered}
 use Rattle.ir_core.specs.declared.function.Function.{Function}
 use Rattle.ir_core.specs.declared.function.Block.{Block as CoreBlock}
 use Rattle.ir_core.specs.declared.instruction.Inst.{Inst}
@@ -69,7 +69,7 @@ result_wide (ops.Phi width incoming) formed = formed.0
 
 -- ---- what is read
 
-module _ (C : Called → Thing → Type 0) where
+module _ (C : Identifier → Thing → Type 0) where
   operand_fits : (v : RawValue) (o : Operand) → ValueMeans C v o → ValueFormed v → OperandFits o
   operand_fits v (operands.Number n) means formed = literal_fits v n (literal_meant C v n means) formed
   operand_fits v (operands.Register r) means formed = tt
@@ -130,9 +130,9 @@ abbrev NameFormed : Name → Type 0
 NameFormed None = Unit {0}
 NameFormed (Some name) = IsName name
 
-named_so : (x : Called) → CalledFormed x → NameFormed (name_in x)
-named_so (called.Named name) formed = formed
-named_so (called.Numbered n) formed = tt
+named_so : (x : Identifier) → CalledFormed x → NameFormed (name_in x)
+named_so (Named name) formed = formed
+named_so (Numbered n) formed = tt
 
 given_so : (w : Option RawIdentifier) → WrittenFormed w → NameFormed (given w)
 given_so None formed = tt

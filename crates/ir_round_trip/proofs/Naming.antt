@@ -3,11 +3,12 @@ use Rattle.std.proofs.Common.{◌≡◌, ℕ, zero, suc, List, [], ◌∷◌, �
 use Rattle.std.specs.Prelude.{slice_get}
 use Rattle.std.specs.List.{AllZip, flat_map}
 use Rattle.std.proofs.lemmas.List.{length-map, map-append}
-use Rattle.ir_tokens.specs.declared.called.Identifier.{Identifier as Called}
+use Rattle.ir_tokens.specs.declared.called.Identifier.{Identifier}
 use Rattle.ir_core.specs.declared.function.Function.{Function}
 use Rattle.ir_core.specs.declared.operand.Register.{Register}
 use Rattle.ir_core.specs.declared.operand.Register.TheVariants as registers
-use Rattle.ir_core.specs.Names.{block_names, names_of, identifiers_from, identifiers_of, block_place, place_of}
+use Rattle.ir_core.specs.Names.{block_names, names_of, block_place, place_of}
+use Rattle.ir_resolve.specs.Identifiers.{identifiers_from, identifiers_of}
 use Rattle.ir_tokens.specs.declared.raw.RawFunction.{RawFunction}
 use Rattle.ir_resolve.specs.Written.{Thing, Value, Block, given, written_in, written_names, identifiers_of as written_identifiers, block_place as written_block_place, place_of as written_place, HasThing, Calls}
 use Rattle.ir_resolve.specs.Means.{BlockIsOf, ParameterMeans, MeansBy}
@@ -45,6 +46,6 @@ module _ (raw : RawFunction) (f : Function) (m : MeansBy (Identifies f) raw f) w
   register_stands (registers.Result b k) = let block = block_stands b in omega arith
 
   -- what identifies a thing calls it, where the function as written has it
-  pub calls : (x : Called) (thing : Thing) → HasThing raw thing → Identifies f x thing → Calls raw x thing
+  pub calls : (x : Identifier) (thing : Thing) → HasThing raw thing → Identifies f x thing → Calls raw x thing
   calls x (Value r) has is = (has, ap (slice_get (written_identifiers raw)) (sym (register_stands r)) ∙ ap (λ names. slice_get names (place_of f r)) (sym identifiers_are) ∙ is)
   calls x (Block b) has is = (has, ap (slice_get (written_identifiers raw)) (sym (block_stands b)) ∙ ap (λ names. slice_get names (block_place f b)) (sym identifiers_are) ∙ is)

@@ -5,8 +5,8 @@ use Rattle.std.specs.List.{flat_map}
 use Rattle.std.proofs.lemmas.List.{length-append, length-map}
 use Rattle.std.proofs.lemmas.List.Elements.{recursion_from_All}
 use Rattle.std.proofs.lemmas.Option.{slice_get-map}
-use Rattle.ir_tokens.specs.declared.called.Identifier.{Identifier as Written}
-use Rattle.ir_tokens.specs.declared.called.Identifier.TheVariants as called
+use Rattle.ir_tokens.specs.declared.called.Identifier.{Identifier}
+use Rattle.ir_tokens.specs.declared.called.Identifier.TheVariants.{Named, Numbered}
 use Rattle.ir_tokens.specs.Identifiers.{identifier_of}
 use Rattle.ir_core.specs.declared.function.Function.{Function}
 use Rattle.ir_core.specs.declared.function.Parameter.{Parameter}
@@ -16,8 +16,9 @@ use Rattle.ir_core.specs.declared.operand.Register.{Register}
 use Rattle.ir_core.specs.declared.operand.Register.TheVariants as registers
 use Rattle.ir_core.specs.Blocks.{IsBlock}
 use Rattle.ir_core.specs.Checks.{IsFormed}
-use Rattle.ir_core.specs.Names.{Name, Identifier, Named, Numbered, identifiers_from, identifiers_of, names_of, block_names, block_place, place_of, width_of}
-use Rattle.ir_resolve.specs.Written.{name_in, identifier}
+use Rattle.ir_core.specs.Names.{Name, names_of, block_names, block_place, place_of, width_of}
+use Rattle.ir_resolve.specs.Identifiers.{identifiers_from, identifiers_of}
+use Rattle.ir_resolve.specs.Written.{name_in}
 use Rattle.ir_resolve.proofs.Places.{contained_at}
 use Rattle.ir_resolve.proofs.Standing.{get_right, get_left, some_same, mapped}
 use Rattle.ir_text.specs.Forms.{IsName, FunctionHasForms}
@@ -35,8 +36,8 @@ pub record IsPrintable (f : Function) : Type 0 where
 
 -- a thing of this name is called so: the identifier is written as a name is, and read as this
 pub record IsCalled (identified : Option Identifier) (name : Name) : Type 0 where
-  pub written : Written
-  pub is_written : identified ≡ Some (identifier written)
+  pub written : Identifier
+  pub is_written : identified ≡ Some written
   pub name_is : name ≡ name_in written
   pub form : IsNameText (identifier_text identified)
   pub reads : written ≡ identifier_of (identifier_text identified)
@@ -48,7 +49,7 @@ bytes_of_name name all = recursion_from_All (λ (b : ℕ). (1 ≤ b) × (b ≤ 2
 pub named_is_called : (name : List ℕ) → IsName name → IsCalled (Some (Named name)) (Some name)
 unfolding identifier_text
 named_is_called name ok = record {
-  written = called.Named name;
+  written = Named name;
   is_written = refl;
   name_is = refl;
   form = name_text_form name (bytes_of_name name ok);
@@ -57,7 +58,7 @@ named_is_called name ok = record {
 
 numbered_is_called : (n : ℕ) → n < 2 ^ 64 → IsCalled (Some (Numbered n)) None
 unfolding identifier_text
-numbered_is_called n small = record { written = called.Numbered n; is_written = refl; name_is = refl; form = decimal_form n small; reads = sym (decimal_calls n small) }
+numbered_is_called n small = record { written = Numbered n; is_written = refl; name_is = refl; form = decimal_form n small; reads = sym (decimal_calls n small) }
 
 called_from : (next : ℕ) (names : List Name) (p : ℕ) (name : Name) → next + length names ≤ 2 ^ 64 → ((i : ℕ) (text : List ℕ) → slice_get names i ≡ Some (Some text) → IsName text) → slice_get names p ≡ Some name
     → IsCalled (slice_get (identifiers_from next names) p) name

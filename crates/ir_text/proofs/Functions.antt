@@ -12,7 +12,8 @@ use Rattle.ir_core.specs.declared.function.Function.{Function}
 use Rattle.ir_core.specs.declared.function.Block.{Block as CoreBlock}
 use Rattle.ir_core.specs.declared.instruction.Inst.{Inst}
 use Rattle.ir_core.specs.Blocks.{IsBlock}
-use Rattle.ir_core.specs.Names.{identifiers_of, block_names, block_place}
+use Rattle.ir_core.specs.Names.{block_names, block_place}
+use Rattle.ir_resolve.specs.Identifiers.{identifiers_of}
 use Rattle.ir_tokens.specs.declared.raw.RawFunction.{RawFunction}
 use Rattle.ir_tokens.specs.declared.raw.RawParameter.{RawParameter}
 use Rattle.ir_tokens.specs.declared.raw.RawBlock.{RawBlock}
@@ -21,7 +22,7 @@ use Rattle.ir_tokens.specs.declared.raw.RawIdentifier.{RawIdentifier}
 use Rattle.ir_instructions.specs.Parts.{Each}
 use Rattle.ir_parse.specs.Grammar.{SpellsBlock, SpellsLabelledBlock, SpellsBlocks, SpellsFunction}
 use Rattle.ir_resolve.specs.Means.{ParameterMeans, BlockIsOf}
-use Rattle.ir_resolve.specs.Written.{identifier, written_in, written_names}
+use Rattle.ir_resolve.specs.Written.{written_in, written_names}
 use Rattle.ir_resolve.proofs.Standing.{get_cases, mapped, some_same}
 use Rattle.ir_text.specs.PrintedText.{block_text, function_text}
 use Rattle.ir_text.specs.CanonicalModule.{Identifies, BlockTypesFit, WritesFunction}
@@ -37,7 +38,7 @@ use Rattle.ir_text.proofs.Numbered.{numbered_at, numbered_here, zip_at, zip_plai
 
 -- what is written for these things, of which the first stands at a place, is what they are called
 abbrev AreCalled : Function → ℕ → List (Option RawIdentifier) → Type 0
-AreCalled f place written = (q : ℕ) (w : RawIdentifier) → slice_get written q ≡ Some (Some w) → slice_get (identifiers_of f) (place + q) ≡ Some (identifier w.identifier)
+AreCalled f place written = (q : ℕ) (w : RawIdentifier) → slice_get written q ≡ Some (Some w) → slice_get (identifiers_of f) (place + q) ≡ Some w.identifier
 
 called_then : (f : Function) (place next : ℕ) (xs ys : List (Option RawIdentifier)) → next ≡ place + length xs → AreCalled f place xs → AreCalled f next ys → AreCalled f place (xs ++ ys)
 called_then f place next xs ys is first second = λ q w at. elim (get_cases xs ys q (Some w) at) [
@@ -52,7 +53,7 @@ parameters_called f raws all = λ q w at.
     let number = numbered_at 0 f.parameters q p there in
     let same : means.name ≡ w = some_same (sym means.is_named ∙ is) in
     let index : 0 + q ≡ p.0 = omega (arith, number.0) in
-    subst (λ (v : RawIdentifier). slice_get (identifiers_of f) (0 + q) ≡ Some (identifier v.identifier)) same (rw index means.identifies)
+    subst (λ (v : RawIdentifier). slice_get (identifiers_of f) (0 + q) ≡ Some v.identifier) same (rw index means.identifies)
 
 results_called : (f : Function) (b : ℕ) (insts : List Inst) (raws : List RawInst) → AllZip (MeansInst f b) raws (enumerate_from 0 insts) → AreCalled f (block_place f b + 1) (map (λ i. Some i.result) raws)
 results_called f b insts raws all = λ q w at.
@@ -61,8 +62,8 @@ results_called f b insts raws all = λ q w at.
     let number = numbered_at 0 insts q p there in
     let same : raw.result ≡ w = some_same is in
     let index : q ≡ p.0 = omega (arith, number.0) in
-    subst (λ (v : RawIdentifier). slice_get (identifiers_of f) (block_place f b + 1 + q) ≡ Some (identifier v.identifier)) same
-    (subst (λ (k : ℕ). slice_get (identifiers_of f) (block_place f b + 1 + k) ≡ Some (identifier raw.result.identifier)) (sym index) means.1)
+    subst (λ (v : RawIdentifier). slice_get (identifiers_of f) (block_place f b + 1 + q) ≡ Some v.identifier) same
+    (subst (λ (k : ℕ). slice_get (identifiers_of f) (block_place f b + 1 + k) ≡ Some raw.result.identifier) (sym index) means.1)
 
 block_called : (f : Function) (raw : RawBlock) (b : ℕ × CoreBlock) → MeansBlock f raw b → AreCalled f (block_place f b.0) (written_in raw)
 block_called f raw b means zero w at = let index : block_place f b.0 + 0 ≡ block_place f b.0 = omega arith in rw index (means.label.identifies w (some_same at))

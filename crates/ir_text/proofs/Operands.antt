@@ -12,7 +12,8 @@ use Rattle.ir_core.specs.declared.operand.Operand.TheVariants as operands
 use Rattle.ir_core.specs.declared.operand.Register.{Register}
 use Rattle.ir_core.specs.Blocks.{IsBlock}
 use Rattle.ir_core.specs.Checks.{OperandHasWidth}
-use Rattle.ir_core.specs.Names.{Name, identifier_of as core_identifier_of, place_of, block_place}
+use Rattle.ir_core.specs.Names.{Name, place_of, block_place}
+use Rattle.ir_resolve.specs.Identifiers.{identifier_of as core_identifier_of}
 use Rattle.ir_tokens.specs.declared.raw.RawIdentifier.{RawIdentifier}
 use Rattle.ir_tokens.specs.declared.raw.RawOperand.{RawOperand}
 use Rattle.ir_tokens.specs.declared.raw.RawValue.{RawValue}

@@ -2,8 +2,8 @@
 -- at the width at which it is read, and everything else is as it is in the module. The lines are free.
 use Rattle.std.specs.Prelude.{◌≡◌, ℕ, suc, Some, IsSome, All, slice_get}
 use Rattle.std.specs.List.{AllZip}
-use Rattle.ir_tokens.specs.declared.called.Identifier.{Identifier as Called}
-use Rattle.ir_core.specs.Names.{identifiers_of, identifier_of}
+use Rattle.ir_tokens.specs.declared.called.Identifier.{Identifier}
+use Rattle.ir_resolve.specs.Identifiers.{identifiers_of, identifier_of}
 use Rattle.ir_core.specs.declared.module.Module.{Module}
 use Rattle.ir_core.specs.declared.module.Entry.{Entry}
 use Rattle.ir_core.specs.declared.module.Entry.TheVariants as entries
@@ -20,13 +20,13 @@ use Rattle.ir_tokens.specs.declared.raw.RawTerminator.{RawTerminator}
 use Rattle.ir_tokens.specs.declared.raw.RawTerminator.TheVariants as terminators
 use Rattle.ir_resolve.specs.FaultKinds.{CallFits}
 use Rattle.ir_resolve.specs.Means.{MeansBy}
-use Rattle.ir_resolve.specs.Written.{Thing, Value, Block, identifier, given, written_names}
+use Rattle.ir_resolve.specs.Written.{Thing, Value, Block, given, written_names}
 use Rattle.ir_text.specs.PrintedText.{block_identifier}
 
 -- the identifier is what the thing is called in the function
-abbrev pub Identifies : Function → Called → Thing → Type 0
-Identifies f x (Value r) = identifier_of f r ≡ Some (identifier x)
-Identifies f x (Block b) = block_identifier f b ≡ Some (identifier x)
+abbrev pub Identifies : Function → Identifier → Thing → Type 0
+Identifies f x (Value r) = identifier_of f r ≡ Some x
+Identifies f x (Block b) = block_identifier f b ≡ Some x
 
 -- the types in an instruction that stand for one are one
 abbrev pub TypesFit : RawOp → Type 0
@@ -53,7 +53,7 @@ BlockTypesFit returned block = All (λ i. TypesFit i.op) block.insts × EndTypes
 pub record WritesFunction (raw : RawFunction) (f : Function) : Type 0 where
   pub means : MeansBy (Identifies f) raw f
   -- what is written for a thing, in text order, is what the thing is called
-  pub names : (p : ℕ) (w : RawIdentifier) → slice_get (written_names raw) p ≡ Some (Some w) → slice_get (identifiers_of f) p ≡ Some (identifier w.identifier)
+  pub names : (p : ℕ) (w : RawIdentifier) → slice_get (written_names raw) p ≡ Some (Some w) → slice_get (identifiers_of f) p ≡ Some w.identifier
   -- each parameter is written with its register, and each block with its label, the first only where it has a name
   pub registers : All (λ p. IsSome p.name) raw.parameters
   pub first_label : (block : RawBlock) → slice_get raw.blocks 0 ≡ Some block → IsSome block.label → IsSome (given block.label)

@@ -14,7 +14,10 @@ use Rattle.ops.specs.Truths.{has_truth}
 use Rattle.ops.specs.Keywords.{opcode_keyword, unary_keyword, predicate_keyword, cast_keyword}
 use Rattle.ir_text.specs.NameText.{name_text}
 use Rattle.ir_text.specs.NumberText.{number_text}
-use Rattle.ir_core.specs.Names.{Name, Identifier, Named, Numbered, identifiers_of, identifier_of, block_place}
+use Rattle.ir_core.specs.Names.{Name, block_place}
+use Rattle.ir_tokens.specs.declared.called.Identifier.{Identifier}
+use Rattle.ir_tokens.specs.declared.called.Identifier.TheVariants.{Named, Numbered}
+use Rattle.ir_resolve.specs.Identifiers.{identifiers_of, identifier_of}
 use Rattle.ir_core.specs.declared.module.Module.{Module}
 use Rattle.ir_core.specs.declared.module.Entry.{Entry}
 use Rattle.ir_core.specs.declared.module.Entry.TheVariants as entries

@@ -42,7 +42,7 @@ use Rattle.ir_viable_prefixes.proofs.Values.{In, IsValue, IsNone, operands, trut
 
 -- ---- values
 
-operand_reads : (width : ℕ) → ReadsValue (operand_at width) width
+pub operand_reads : (width : ℕ) → ReadsValue (operand_at width) width
 unfolding operand_at value_in truth_in unexpected misfit leaves_out
 operand_reads width = record {
   truth = λ line. (record { line = line; value = values.True }, λ more. refl);
@@ -60,7 +60,7 @@ operand_reads width = record {
     by w (Some value) h = inl (λ line. (record { line = line; value = value }, λ more. rw h refl))
     by w None h = inr (λ line more. rw h refl)
 
-truth_reads : (width : ℕ) → ReadsValue (truth_value_at width) width
+pub truth_reads : (width : ℕ) → ReadsValue (truth_value_at width) width
 unfolding truth_value_at truth_in unexpected misfit leaves_out
 truth_reads width = record {
   truth = λ line. (record { line = line; value = values.True }, λ more. refl);
@@ -223,10 +223,10 @@ in_good Q width q alone spelled =
       apart = in_apart Q width spelled;
     }
 
-operand_in-good : (width : ℕ) → Good Anything (In (operand_at width) []) EndsArgument
+pub operand_in-good : (width : ℕ) → Good Anything (In (operand_at width) []) EndsArgument
 operand_in-good width = in_good (operand_at width) width (operand_reads width) (operand_alone width) (operand_at-is width)
 
-truth_in-good : (width : ℕ) → Good Anything (In (truth_value_at width) []) EndsArgument
+pub truth_in-good : (width : ℕ) → Good Anything (In (truth_value_at width) []) EndsArgument
 truth_in-good width = in_good (truth_value_at width) width (truth_reads width) (truth_alone width) (λ tokens x is. (truth_value_at-is width tokens x is).1)
 
 -- ---- arguments
@@ -235,28 +235,28 @@ assoc : {A B C : Type 0} (r : Read A) (f : A → Reader B) (g : B → Reader C) 
 assoc (Ok x) f g = refl
 assoc (Err e) f g = refl
 
-abbrev typed : ℕ → RawOperand → TypedOperand
+abbrev pub typed : ℕ → RawOperand → TypedOperand
 typed width operand = record { width = width; operand = operand }
 
-argument_from : (tokens : List Placed) → argument_at tokens ≡ (type_at >>= λ width. In (operand_at width) [] >>= λ operand. done (typed width operand)) tokens
+pub argument_from : (tokens : List Placed) → argument_at tokens ≡ (type_at >>= λ width. In (operand_at width) [] >>= λ operand. done (typed width operand)) tokens
 unfolding argument_at inner_items_at
 argument_from tokens = same_behind (type_at tokens) _ _ (λ x is. sym (assoc (each_at begins_inner_item item_at [] x.1) (λ before. operand_at x.0) (λ operand. done (typed x.0 operand))))
 
-truth_argument_from : (tokens : List Placed) → truth_argument_at tokens ≡ (type_at >>= λ width. In (truth_value_at width) [] >>= λ operand. done (typed width operand)) tokens
+pub truth_argument_from : (tokens : List Placed) → truth_argument_at tokens ≡ (type_at >>= λ width. In (truth_value_at width) [] >>= λ operand. done (typed width operand)) tokens
 unfolding truth_argument_at inner_items_at
 truth_argument_from tokens = same_behind (type_at tokens) _ _ (λ x is. sym (assoc (each_at begins_inner_item item_at [] x.1) (λ before. truth_value_at x.0) (λ operand. done (typed x.0 operand))))
 
-argument-good : {E : Follow} → E a_type → Good E argument_at EndsArgument
+pub argument-good : {E : Follow} → E a_type → Good E argument_at EndsArgument
 argument-good e = same-good argument_from (type-good e then (λ width. operand_in-good width then (λ operand. done-good (λ t f. f) (typed width operand))))
 
-truth_argument-good : {E : Follow} → E a_type → Good E truth_argument_at EndsArgument
+pub truth_argument-good : {E : Follow} → E a_type → Good E truth_argument_at EndsArgument
 truth_argument-good e = same-good truth_argument_from (type-good e then (λ width. truth_in-good width then (λ operand. done-good (λ t f. f) (typed width operand))))
 
 further_truth-good : Good EndsArgument further_truth_at EndsArgument
 unfolding further_truth_at
 further_truth-good = mark-good marks.comma comma then (λ u. truth_argument-good tt then (λ truth. done-good (λ t f. f) (Some truth)))
 
-truth-good : (op : Unary) → Good EndsArgument (truth_at op) EndsArgument
+pub truth-good : (op : Unary) → Good EndsArgument (truth_at op) EndsArgument
 unfolding truth_at
 truth-good op = by (has_truth op) refl
   where

@@ -127,7 +127,7 @@ callee_fits : (line : ℕ) → Fit Anything (callee_at line) Anything [] (Functi
 unfolding callee_at
 callee_fits line = fits_alone Anything (callee_at line) Anything (Function ctpop) ctpop_is.0 tt (λ more. rw ctpop_is.1 refl)
 
-callee_takes : (line at : ℕ) (t : Token) → Takes (callee_at line) (CalleeOr (callee_at line) Anything line (λ front. front ≡ [])) at t
+pub callee_takes : (line at : ℕ) (t : Token) → Takes (callee_at line) (CalleeOr (callee_at line) Anything line (λ front. front ≡ [])) at t
 unfolding callee_at unexpected
 callee_takes line at (Function written) = by (callee_named (identifier_of written)) refl
   where
@@ -161,10 +161,10 @@ callee_flags line = ((unexpected places.Fixed [], refl), λ flag at more. (fault
 -- ---- a call behind its word
 
 -- items and a type
-abbrev Typed : Reader ℕ
+abbrev pub Typed : Reader ℕ
 Typed = items_at >>= λ items. type_at
 
-typed-good : Good Anything Typed Anything
+pub typed-good : Good Anything Typed Anything
 unfolding is_item_word type_in bytes.is_digit
 typed-good = items-good then (λ items. type-good (refl, tt))
 
@@ -191,19 +191,19 @@ typed_stands tokens x is =
 
 module _ {A : Type 0} (f : RawOp → A) where
   -- what is read behind the callee
-  abbrev Arguments : ℕ → ℕ → Intrinsic × ℕ → Reader A
+  abbrev pub Arguments : ℕ → ℕ → Intrinsic × ℕ → Reader A
   Arguments line width named = mark_at marks.open_paren >>= λ u. arguments_at named.0 >>= λ arguments. Closing (f (Call (record { line = line; width = width; named = named.1; arguments = arguments })))
 
-  arguments-open : (line width : ℕ) (named : Intrinsic × ℕ) → GoodOpen Anything (Arguments line width named) NotComma
+  pub arguments-open : (line width : ℕ) (named : Intrinsic × ℕ) → GoodOpen Anything (Arguments line width named) NotComma
   arguments-open line width named = mark-good marks.open_paren tt then_open (λ u. arguments-good named.0 then_open (λ arguments. closing-open _))
 
-  abbrev Callee : ℕ → ℕ → Reader A
+  abbrev pub Callee : ℕ → ℕ → Reader A
   Callee line width = callee_at line >>= Arguments line width
 
   abbrev pub Called : ℕ → Reader A
   Called line = Typed >>= Callee line
 
-  callee_sample : (line width : ℕ) → Sample Anything (Callee line width) NotComma
+  pub callee_sample : (line width : ℕ) → Sample Anything (Callee line width) NotComma
   unfolding callee_at
   callee_sample line width =
       let s = (arguments-open line width ctpop_is.0).sample in
@@ -311,11 +311,11 @@ call_word_flags = ((unexpected places.Choice [], refl), by)
     by Disjoint line more = (fault line (LeftOut (codes "disjoint")), refl)
     by SameSign line more = (fault line (LeftOut (codes "samesign")), refl)
 
-call_word-good : Good Anything call_word_at Anything
+pub call_word-good : Good Anything call_word_at Anything
 unfolding call_word_at
 call_word-good = one_token (Word (codes "call"), tt, 0, λ more. refl) call_word_flags (call_word_takes (fits_alone Anything call_word_at Anything (Word (codes "call")) 0 tt (λ more. refl)))
 
-call_word_read : (tokens : List Placed) (x : ℕ × List Placed) → call_word_at tokens ≡ Ok x → tokens ≡ (x.0, Word (codes "call")) ∷ x.1
+pub call_word_read : (tokens : List Placed) (x : ℕ × List Placed) → call_word_at tokens ≡ Ok x → tokens ≡ (x.0, Word (codes "call")) ∷ x.1
 unfolding call_word_at
 call_word_read [] x is = absurd cc
 call_word_read ((line, Word w) ∷ rest) x is = by (bytes_eq w (codes "call")) refl is

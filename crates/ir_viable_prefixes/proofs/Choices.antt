@@ -8,7 +8,7 @@ use Rattle.ir_instructions.specs.Places.{begins_record}
 use Rattle.ir_instructions.specs.Readers.{Read, Reader}
 use Rattle.ir_instructions.specs.Keywords.{ending_word}
 use Rattle.ops.specs.Keywords.{predicate_keyword}
-use Rattle.ir_viable_prefixes.proofs.Outcomes.{Follow, Next, next_map, StopsBefore, Halts, CompletesBegun, Sample, Fit, FitsEnd, RefusesAt, RefusesEnd, Bad, a_truth, no_truth, Again, NoValue, no_number, no_word, no_truth_value, no_group, no_quoted, InCall, of_callee, of_value, of_truth, New, Why, Reasons, ReasonsIf, OutcomeIf, Outcome, Good, GoodIf, GoodOpen}
+use Rattle.ir_viable_prefixes.proofs.Outcomes.{Follow, Next, next_map, StopsBefore, Halts, CompletesBegun, Sample, Fit, FitsEnd, RefusesAt, RefusesPlaced, RefusesEnd, Bad, a_truth, no_truth, Again, NoValue, no_number, no_word, no_truth_value, no_group, no_quoted, InCall, of_callee, of_value, of_truth, New, Why, Reasons, ReasonsIf, OutcomeIf, Outcome, Good, GoodIf, GoodOpen}
 use Rattle.ir_viable_prefixes.proofs.FlagRuns.{either_apart}
 use Rattle.ir_viable_prefixes.proofs.Reasons.{a_type, a_pred, an_end, a_group, Like, like_map, NoRecord, NoGroup, Maps, reason_map}
 
@@ -279,7 +279,7 @@ refuses_end_transferred test asks b R S agree U U' voiced opens tokens next ((i,
 
 -- a token that is refused behind others
 refuses_moved : {A : Type 0} (test : List Placed → Bool) → AsksNext test → (b : Bool) (R S : Reader A) → ((tokens : List Placed) → test tokens ≡ b → S tokens ≡ R tokens)
-    → (tokens : List Placed) → test tokens ≡ b → (front before : List Placed) (last : Placed) (rest : List Placed) → tokens ≡ front ++ rest → front ≡ before ++ last ∷ [] → (u : Token) → RefusesAt R front u → RefusesAt S front u
+    → (tokens : List Placed) → test tokens ≡ b → (front before : List Placed) (last : Placed) (rest : List Placed) → tokens ≡ front ++ rest → front ≡ before ++ last ∷ [] → (u : Placed) → RefusesPlaced R front u → RefusesPlaced S front u
 refuses_moved test asks b R S agree tokens next [] before last rest there same u refused = absurd (none before same)
   where
     none : (before : List Placed) → [] ≡ before ++ last ∷ [] → ⊥
@@ -287,7 +287,7 @@ refuses_moved test asks b R S agree tokens next [] before last rest there same u
     none (t ∷ before) e = cc
 refuses_moved test asks b R S agree tokens next ((i, v) ∷ front) before last rest there same u refused = λ more.
     let r = refused more in
-    (r.0, agree ((i, v) ∷ (front ++ (0, u) ∷ more)) (asks i i v (front ++ (0, u) ∷ more) (front ++ rest) ∙ subst (λ (ts : List Placed). test ts ≡ b) there next) ∙ r.1)
+    (r.0, agree ((i, v) ∷ (front ++ u ∷ more)) (asks i i v (front ++ u ∷ more) (front ++ rest) ∙ subst (λ (ts : List Placed). test ts ≡ b) there next) ∙ r.1)
 
 -- what is told of a call
 module _ {A : Type 0} (test : List Placed → Bool) (asks : AsksNext test) (b : Bool) (R S : Reader A) (agree : (tokens : List Placed) → test tokens ≡ b → S tokens ≡ R tokens)

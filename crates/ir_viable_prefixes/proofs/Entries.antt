@@ -80,7 +80,7 @@ behind_entry-good None = function-good then (λ f. done-good (λ t g. tt) _)
 abbrev pub Begins : Follow
 Begins = Tested parsing.begins_entry true
 
-abbrev Ends : Follow
+abbrev pub Ends : Follow
 Ends = Tested parsing.begins_entry false
 
 entry_apart : ReadsApart parsing.entry_at
@@ -90,7 +90,7 @@ entry_apart tokens x is = both_apart entry_token_at behind_entry (token_apart en
 abbrev pub OrFirst : {A : Type 0} → Follow → Reader A → Follow → Why
 OrFirst E R F front t found = IsFirst front t found ⊎ Reasons E R F front t found
 
-entry_outcome : (tokens : List Placed) → Ended tokens → Outcome Begins parsing.entry_at Anything (OrFirst Begins parsing.entry_at Anything) tokens (parsing.entry_at tokens)
+pub entry_outcome : (tokens : List Placed) → Ended tokens → Outcome Begins parsing.entry_at Anything (OrFirst Begins parsing.entry_at Anything) tokens (parsing.entry_at tokens)
 entry_outcome tokens e =
     subst (Outcome Begins parsing.entry_at Anything (OrFirst Begins parsing.entry_at Anything) tokens) (sym (same_entry tokens))
     (transfer (λ ts. true) (λ l k t a b. refl) true read parsing.entry_at (λ ts h. same_entry ts) (Unit {0}) (Unit {0}) (Unit {0}) (λ v. v) (λ t u h like. refl) Begins Begins Anything (λ t begins h. (inr (λ ending. refl), λ end text. refl)) (OrFirst Begins read Anything) (OrFirst Begins parsing.entry_at Anything) (λ t d. refl) (λ t d. d) tokens over refl (read tokens)

@@ -32,7 +32,7 @@ use Rattle.ir_viable_prefixes.proofs.Repeats.{Steps, loop_sample, repeat_outcome
 abbrev pub NotFlag : Flags → Follow
 NotFlag set = Tested (parsing.is_flag set) false
 
-abbrev IsFlag : Flags → Follow
+abbrev pub IsFlag : Flags → Follow
 IsFlag set = Tested (parsing.is_flag set) true
 
 flag_next : (set : Flags) → AsksNext (parsing.is_flag set)
@@ -279,7 +279,7 @@ flags_outcome set tokens e =
 
 -- ---- what stands behind flags
 
-abbrev AreOwn : Flags → List Placed → Type 0
+abbrev pub AreOwn : Flags → List Placed → Type 0
 AreOwn set [] = Unit {0}
 AreOwn set (t ∷ tokens) = IsFlag set t.1 × AreOwn set tokens
 
@@ -288,7 +288,7 @@ own_flag set [] t behind own = own.0
 own_flag set (u ∷ before) t behind own = own_flag set before t behind own.1
 
 -- flags of the operation are read, and none is next
-flags_are : (set : Flags) (tokens : List Placed) (x : Flags × List Placed) → parsing.flags_at set tokens ≡ Ok x → ((front : List Placed) × (tokens ≡ front ++ x.1) × AreOwn set front) × (parsing.is_flag set x.1 ≡ false)
+pub flags_are : (set : Flags) (tokens : List Placed) (x : Flags × List Placed) → parsing.flags_at set tokens ≡ Ok x → ((front : List Placed) × (tokens ≡ front ++ x.1) × AreOwn set front) × (parsing.is_flag set x.1 ≡ false)
 unfolding parsing.flags_at
 flags_are set tokens x is =
     repeat-is (parsing.is_flag set) (parsing.flag_at set) (λ a ts b rest. (front : List Placed) × (ts ≡ front ++ rest) × AreOwn set front) (λ a ts. ([], refl, tt)) (λ a ts y b rest next one more. another a ts y rest next one more) _ no_flags tokens x is

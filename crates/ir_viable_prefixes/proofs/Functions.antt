@@ -43,11 +43,11 @@ use Rattle.ir_viable_prefixes.proofs.TokenReaders.{type_is_no_ending, all_bad, m
 
 -- ---- blocks
 
-label_next : AsksNext parsing.is_label
+pub label_next : AsksNext parsing.is_label
 label_next l k (Label name) a b = refl
 label_next l k t a b = refl
 
-abbrev NotLabel : Follow
+abbrev pub NotLabel : Follow
 NotLabel = Tested parsing.is_label false
 
 label_stops : {t u : Token} → Like (Unit {0}) t u → StopsEach parsing.label_at [] None u
@@ -58,21 +58,21 @@ label_stops (like_function written other) = λ l more. refl
 label_stops (like_width w other width out is) = λ l more. refl
 label_stops (like_number digits other) = λ l more. refl
 
-label_open : Opens parsing.is_label true (Unit {0})
+pub label_open : Opens parsing.is_label true (Unit {0})
 label_open t u next (like_word v w other noun) = absurd cc
 label_open t u next (like_type m other width begins is) = absurd cc
 label_open t u next (like_function written other) = absurd cc
 label_open t u next (like_width w other width out is) = absurd cc
 label_open t u next (like_number digits other) = absurd cc
 
-label_shut : Opens parsing.is_label false (Unit {0})
+pub label_shut : Opens parsing.is_label false (Unit {0})
 label_shut t u none (like_word v w other noun) = refl
 label_shut t u none (like_type m other width begins is) = refl
 label_shut t u none (like_function written other) = refl
 label_shut t u none (like_width w other width out is) = refl
 label_shut t u none (like_number digits other) = refl
 
-label_records : SaysOfRecords parsing.is_label
+pub label_records : SaysOfRecords parsing.is_label
 label_records b (Mark m) begins says = (λ ending. says, λ text. says)
 label_records b t begins says = absurd cc
 
@@ -90,19 +90,19 @@ label_leaves_flags : LeavesFlags parsing.label_at None
 unfolding parsing.label_at
 label_leaves_flags = (refl, λ flag l more. refl)
 
-label-good : Good Anything parsing.label_at NotLabel
+pub label-good : Good Anything parsing.label_at NotLabel
 label-good = token_or_none None no_label (λ t is. tt) label_leaves_flags (label_takes _)
 
 -- what may follow instructions
-abbrev FollowsInsts : Follow
+abbrev pub FollowsInsts : Follow
 FollowsInsts t = NotComma t × NotRegister t × NotLabel t
 
-register_is_no_label : (t : Token) → Tested is_register true t → NotLabel t
+pub register_is_no_label : (t : Token) → Tested is_register true t → NotLabel t
 register_is_no_label (Register name) next = refl
 register_is_no_label t next = absurd cc
 
 -- a block behind its label
-abbrev block_behind : Option RawIdentifier → Reader RawBlock
+abbrev pub block_behind : Option RawIdentifier → Reader RawBlock
 block_behind label = do
   insts ← insts_at
   end ← terminator_at
@@ -143,13 +143,13 @@ end_apart S = record {
   preds = λ pred line more. let r = terminator_refuses (predicate_keyword pred) (pred_is_no_ending pred) line more in (r.0, rw r.1 refl);
 }
 
-block_behind-good : (label : Option RawIdentifier) → Good NotLabel (block_behind label) NotComma
+pub block_behind-good : (label : Option RawIdentifier) → Good NotLabel (block_behind label) NotComma
 block_behind-good label = behind_open insts (λ insts. terminator-good (refl, refl, refl) then (λ end. tail-good then (λ u. done-good (λ t f. f) _))) (λ insts. end_apart _) (Mark marks.open_paren) refl
   where
     insts : GoodOpen NotLabel insts_at FollowsInsts
     insts = insts-open (λ t f. f.0) (λ t f. f.1) (λ t f. f.2) register_is_no_label
 
-block-good : Good Anything parsing.block_at NotComma
+pub block-good : Good Anything parsing.block_at NotComma
 unfolding parsing.block_at
 block-good = label-good then block_behind-good
 
@@ -254,15 +254,15 @@ unfolding parsing.block_at parsing.label_at
 same_block ((line, Label written) ∷ rest) next = refl
 same_block tokens next = absurd cc
 
-label_is_no_comma : (t : Token) → Tested parsing.is_label true t → NotComma t
+pub label_is_no_comma : (t : Token) → Tested parsing.is_label true t → NotComma t
 label_is_no_comma (Label name) next = refl
 label_is_no_comma t next = absurd cc
 
 -- what may follow blocks
-abbrev FollowsBlocks : Follow
+abbrev pub FollowsBlocks : Follow
 FollowsBlocks t = NotLabel t × NotComma t
 
-blocks-good : Good Anything parsing.blocks_at FollowsBlocks
+pub blocks-good : Good Anything parsing.blocks_at FollowsBlocks
 unfolding parsing.blocks_at
 blocks-good = block-good then (λ first. others (first ∷ []))
   where
@@ -295,7 +295,7 @@ no_name (Register name) none = absurd cc
 no_name t none = λ l more. refl
 
 -- what may follow a parameter, and parameters
-abbrev FollowsParameter : Follow
+abbrev pub FollowsParameter : Follow
 FollowsParameter t = FollowsLast t × NotRegister t
 
 abbrev FollowsParameters : Follow
@@ -305,19 +305,19 @@ name_leaves_flags : LeavesFlags parsing.parameter_name_at None
 unfolding parsing.parameter_name_at
 name_leaves_flags = (refl, λ flag l more. refl)
 
-parameter_name-good : Good FollowsLast parsing.parameter_name_at FollowsParameter
+pub parameter_name-good : Good FollowsLast parsing.parameter_name_at FollowsParameter
 parameter_name-good = token_or_none None (λ t f. no_name t f.1) (λ t f. f.0) name_leaves_flags (parameter_name_takes _)
 
-parameter-good : {E : Follow} → E a_type → Good E parsing.parameter_at FollowsParameter
+pub parameter-good : {E : Follow} → E a_type → Good E parsing.parameter_at FollowsParameter
 unfolding parsing.parameter_at
 parameter-good e = type-good e then (λ width. last_items-good then (λ items. parameter_name-good then (λ name. done-good (λ t f. f) _)))
 
-further_parameter-good : {E : Follow} → E (Mark marks.comma) → Good E parsing.further_parameter_at FollowsParameter
+pub further_parameter-good : {E : Follow} → E (Mark marks.comma) → Good E parsing.further_parameter_at FollowsParameter
 unfolding parsing.further_parameter_at
 further_parameter-good e = mark-good marks.comma e then (λ u. parameter-good tt)
 
 -- a mark but `=` may follow a parameter
-mark_follows : (m wanted : ℕ) → eqb m wanted ≡ true → eqb wanted marks.equals ≡ false → FollowsParameter (Mark m)
+pub mark_follows : (m wanted : ℕ) → eqb m wanted ≡ true → eqb wanted marks.equals ≡ false → FollowsParameter (Mark m)
 mark_follows m wanted is other = (((refl, subst (λ (n : ℕ). eqb n marks.equals ≡ false) (sym (eqb-true m wanted is)) other), refl), refl)
 
 comma_follows : (t : Token) → Tested (is_mark marks.comma) true t → FollowsParameter t
@@ -342,11 +342,11 @@ some_parameters-good e = parameter-good e then (λ first. others (first ∷ []))
         (record { asks = mark_next marks.comma; takes = parameter-takes; ends = λ t f. f.1; ends_part = λ t f. f.0; next_ends_part = comma_follows; opens = mark_open marks.comma refl; shuts = mark_shut marks.comma; records = λ a b t begins h. let r = mark_records marks.comma refl b t begins h in (inr r.0, λ end. r.1) })
         (further_parameter-good {E = Anything} tt).apart (λ tokens e next. (further_parameter-good {E = Tested (is_mark marks.comma) true} refl).outcome tokens e) (λ t f. f.0) comma_follows front
 
-parameter_list-good : Good Anything parsing.parameter_list_at ClosesList
+pub parameter_list-good : Good Anything parsing.parameter_list_at ClosesList
 unfolding parsing.parameter_list_at
 parameter_list-good = either-good (is_mark marks.close_paren) (mark_next marks.close_paren) (mark_open marks.close_paren refl) (mark_shut marks.close_paren) (mark_records marks.close_paren refl) (done-good (λ t is. (tt, is)) []) (narrowed close_follows (some_parameters-good (tt, refl)))
 
-parameters-good : Good Anything parsing.parameters_at Anything
+pub parameters-good : Good Anything parsing.parameters_at Anything
 unfolding parsing.parameters_at
 parameters-good = mark-good marks.open_paren tt then (λ u. parameter_list-good then (λ parameters. mark-good marks.close_paren refl then (λ v. done-good (λ t f. tt) _)))
 
@@ -386,19 +386,19 @@ function_name_flags : TakesNoFlag parsing.function_name_at
 unfolding parsing.function_name_at unexpected
 function_name_flags = ((unexpected places.Fixed [], refl), λ flag line more. (fault line (misfit places.Fixed (Word (flag_keyword flag))), refl))
 
-function_name-good : Good Anything parsing.function_name_at Anything
+pub function_name-good : Good Anything parsing.function_name_at Anything
 unfolding parsing.function_name_at identifier_of name_of bytes.is_digit
 function_name-good = one_token (a_function, tt, _, λ more. refl) function_name_flags (function_name_takes Anything Anything (fits_alone Anything parsing.function_name_at Anything a_function (0, codes "f") tt (λ more. refl)))
 
 -- what may follow attachments
-abbrev FollowsAttachments : Follow
+abbrev pub FollowsAttachments : Follow
 FollowsAttachments t = FollowsLast t × NotMetadata t
 
-metadata_follows : (t : Token) → Tested is_metadata true t → FollowsLast t
+pub metadata_follows : (t : Token) → Tested is_metadata true t → FollowsLast t
 metadata_follows (Metadata text) next = ((refl, tt), refl)
 metadata_follows t next = absurd cc
 
-body-good : Good FollowsLast parsing.body_at Anything
+pub body-good : Good FollowsLast parsing.body_at Anything
 unfolding parsing.body_at
 body-good = attachments then (λ u. mark-good marks.open_brace (((refl, refl), refl), refl) then (λ v. blocks-good then (λ blocks. mark-good marks.close_brace (refl, refl) then (λ w. done-good (λ t f. tt) _))))
   where

@@ -166,13 +166,13 @@ phi-good : {A : Type 0} (f : RawOp → A) → Good Anything (parsing.phi_at >>= 
 phi-good f = same-good (phi_ending f) (type-good tt then (λ width. incoming-good width tt then (λ first. others-good width (λ incomings. f (Phi width incomings)) (first ∷ []))))
 
 -- what is read behind the line and the word of an operation
-abbrev Behind : {A : Type 0} → (RawOp → A) → ℕ → Operation → Reader A
+abbrev pub Behind : {A : Type 0} → (RawOp → A) → ℕ → Operation → Reader A
 Behind f line operations.Call = Called f line
 Behind f line operations.Tail = call_word_at >>= Called f
 Behind f line operations.NoTail = call_word_at >>= Called f
 Behind f line operation = parsing.operation_at line operation >>= λ op. Ending (f op)
 
-abbrev BehindWord : {A : Type 0} → (RawOp → A) → ℕ × Operation → Reader A
+abbrev pub BehindWord : {A : Type 0} → (RawOp → A) → ℕ × Operation → Reader A
 BehindWord f o = Behind f o.0 o.1
 
 same_behind_word : {A : Type 0} (f : RawOp → A) (line : ℕ) (operation : Operation) (tokens : List Placed) → (parsing.operation_at line operation >>= λ op. Ending (f op)) tokens ≡ Behind f line operation tokens
@@ -182,13 +182,13 @@ same_behind_word f line operations.NoTail tokens = marked_from f tokens
 same_behind_word f line operation tokens = refl
 
 -- what is told behind the word of an operation
-abbrev BehindWhy : {A : Type 0} → (RawOp → A) → ℕ → Operation → Why
+abbrev pub BehindWhy : {A : Type 0} → (RawOp → A) → ℕ → Operation → Why
 BehindWhy f line operations.Call = CalleeOr (Called f line) NotComma line StandsTyped
 BehindWhy f line operations.Tail = MarkedWhy f
 BehindWhy f line operations.NoTail = MarkedWhy f
 BehindWhy f line operation = Reasons Anything (Behind f line operation) NotComma
 
-behind_open : {A : Type 0} (f : RawOp → A) (line : ℕ) (operation : Operation)
+pub behind_open : {A : Type 0} (f : RawOp → A) (line : ℕ) (operation : Operation)
     → Sample Anything (Behind f line operation) NotComma × ((tokens : List Placed) → Ended tokens → OutcomeIf (Unit {0}) Anything (Behind f line operation) NotComma (Unit {0}) (BehindWhy f line operation) tokens (Behind f line operation tokens)) × Splits (Behind f line operation)
 behind_open f line operations.Call = (called_sample f line, called_outcome f line, called_splits f line)
 behind_open f line operations.Tail = (marked_sample f, marked_outcome f, marked_splits f)
@@ -200,11 +200,11 @@ behind_open f line (operations.Convert cast) = let r = convert-good cast then (�
 behind_open f line operations.Freeze = let r = freeze-good then (λ o. ending-good (f o)) in (r.sample, r.outcome, apart_splits r.apart)
 behind_open f line operations.Phi = let r = phi-good f in (r.sample, r.outcome, apart_splits r.apart)
 
-behind_sample : {A : Type 0} (f : RawOp → A) (o : ℕ × Operation) → Sample Anything (BehindWord f o) NotComma
+pub behind_sample : {A : Type 0} (f : RawOp → A) (o : ℕ × Operation) → Sample Anything (BehindWord f o) NotComma
 behind_sample f o = (behind_open f o.0 o.1).0
 
 -- the word of an operation that is read
-opcode_read : (tokens : List Placed) (x : (ℕ × Operation) × List Placed) → opcode_at tokens ≡ Ok x → tokens ≡ (x.0.0, Word (operation_word x.0.1)) ∷ x.1
+pub opcode_read : (tokens : List Placed) (x : (ℕ × Operation) × List Placed) → opcode_at tokens ≡ Ok x → tokens ≡ (x.0.0, Word (operation_word x.0.1)) ∷ x.1
 opcode_read [] x is = absurd cc
 opcode_read ((line, Word w) ∷ rest) x is = by (operation_in w) refl is
   where
@@ -214,10 +214,10 @@ opcode_read ((line, Word w) ∷ rest) x is = by (operation_in w) refl is
 opcode_read ((line, t) ∷ rest) x is = absurd cc
 
 -- `=`, and behind it the line and the word of an operation
-abbrev Opcode : Reader (ℕ × Operation)
+abbrev pub Opcode : Reader (ℕ × Operation)
 Opcode = parsing.mark_at marks.equals >>= λ u. opcode_at
 
-equals_opcode-good : Good Anything Opcode Anything
+pub equals_opcode-good : Good Anything Opcode Anything
 equals_opcode-good = mark-good marks.equals tt then (λ u. opcode-good)
 
 equals_read : (tokens : List Placed) (x : (ℕ × Operation) × List Placed) → Opcode tokens ≡ Ok x → (l : ℕ) × (tokens ≡ (l, Mark marks.equals) ∷ (x.0.0, Word (operation_word x.0.1)) ∷ x.1)
@@ -274,7 +274,7 @@ op_lifts f tokens line operations.NoTail rest is o front t behind there found wh
 op_lifts f tokens line operation rest is o front t behind there found why =
     reasons_second (Unit {0}) (Unit {0}) Anything Anything NotComma Opcode (BehindWord f) (behind_sample f) tokens ((line, operation), rest) o front t behind there found why
 
-op-open : {A : Type 0} (f : RawOp → A) → GoodOpen Anything (Opcode >>= BehindWord f) NotComma
+pub op-open : {A : Type 0} (f : RawOp → A) → GoodOpen Anything (Opcode >>= BehindWord f) NotComma
 op-open f = record {
   sample = sample_both Anything Anything NotComma Opcode (BehindWord f) equals_opcode-good.sample (behind_sample f);
   outcome = λ tokens e.
@@ -297,25 +297,25 @@ op_ending f ((line, Word w) ∷ rest) = by (operation_in w) refl
     by None h = rw h refl
 op_ending f tokens = refl
 
-equals_ending : {A : Type 0} (f : RawOp → A) (tokens : List Placed) → (parsing.mark_at marks.equals >>= λ u. parsing.op_at >>= λ op. Ending (f op)) tokens ≡ (Opcode >>= BehindWord f) tokens
+pub equals_ending : {A : Type 0} (f : RawOp → A) (tokens : List Placed) → (parsing.mark_at marks.equals >>= λ u. parsing.op_at >>= λ op. Ending (f op)) tokens ≡ (Opcode >>= BehindWord f) tokens
 equals_ending f tokens =
     same_behind (parsing.mark_at marks.equals tokens) (λ u. parsing.op_at >>= λ op. Ending (f op)) (λ u. opcode_at >>= BehindWord f) (λ x is. op_ending f x.1) ∙ sym (assoc (parsing.mark_at marks.equals tokens) (λ u. opcode_at) (BehindWord f))
 
-inst-open : {E : Follow} → E a_register → GoodOpen E parsing.inst_at NotComma
+pub inst-open : {E : Follow} → E a_register → GoodOpen E parsing.inst_at NotComma
 unfolding parsing.inst_at
 inst-open e =
     register-good e then_open (λ result. same_open (equals_ending (λ op. record { result = result; op = op })) (op-open (λ op. record { result = result; op = op })))
 
-register_is_no_comma : (t : Token) → Tested parsing.is_register true t → NotComma t
+pub register_is_no_comma : (t : Token) → Tested parsing.is_register true t → NotComma t
 register_is_no_comma (Register name) next = refl
 register_is_no_comma t next = absurd cc
 
 -- ---- any number of instructions
 
-abbrev Step : List RawInst → Reader (List RawInst)
+abbrev pub Step : List RawInst → Reader (List RawInst)
 Step = another_at parsing.inst_at
 
-abbrev Loop : List RawInst → Reader (List RawInst)
+abbrev pub Loop : List RawInst → Reader (List RawInst)
 Loop = repeat_at parsing.is_register Step
 
 register_no_flag : (tokens : List Placed) → parsing.is_register tokens ≡ true → NoFlagNext tokens

@@ -1,4 +1,5 @@
 pub mod Arguments
+pub mod CallPlaces
 pub mod Calls
 pub mod Choices
 pub mod Closed
@@ -6,9 +7,13 @@ pub mod Endings
 pub mod Entries
 pub mod FlagReaders
 pub mod FlagRuns
+pub mod FunctionPlaces
 pub mod Functions
 pub mod Instructions
+pub mod ItemPlaces
 pub mod Items
+pub mod NoGroups
+pub mod OneFault
 pub mod OneKind
 pub mod Outcomes
 pub mod Prefixed
@@ -18,4 +23,5 @@ pub mod Repeats
 pub mod Statements
 pub mod TextEnds
 pub mod TokenReaders
+pub mod Told
 pub mod Values

@@ -118,6 +118,10 @@ Why = List Placed → Placed → Fault IrFaultKind → Type 0
 abbrev pub RefusesAt : {A : Type 0} → Reader A → List Placed → Follow
 RefusesAt R front t = (more : List Placed) → (e : Fault IrFaultKind) × (R (front ++ (0, t) ∷ more) ≡ Err e)
 
+-- the same of a token on its line
+abbrev pub RefusesPlaced : {A : Type 0} → Reader A → List Placed → Placed → Type 0
+RefusesPlaced R front t = (more : List Placed) → (e : Fault IrFaultKind) × (R (front ++ t ∷ more) ≡ Err e)
+
 -- the same on each line, where the token stands first
 abbrev pub RefusesEach : {A : Type 0} → Reader A → Follow
 RefusesEach R t = (line : ℕ) (more : List Placed) → (e : Fault IrFaultKind) × (R ((line, t) ∷ more) ≡ Err e)
@@ -154,7 +158,7 @@ pub data InCall {A : Type 0} (V : Type 0) (E : Follow) (R : Reader A) (F : Follo
   of_callee : (line at : ℕ) (written one : List ℕ) → CallStands line front → Fit E R F front (Function one)
       → ((other : List ℕ) → callee_named (identifier_of other) ≡ None → Bad V R front (Function written) (Function other)) → InCall V E R F front (at, Function written) (fault line (LeftOut (codes "call")))
   of_value : (before : List Placed) (line : ℕ) (last : Token) (end : Placed) (kind : IrFaultKind) → front ≡ before ++ (line, last) ∷ [] → EndsArgument end.1
-      → ((other : Token) → EndsArgument other → RefusesAt R front other) → Fit E R F before a_group → FitsEnd E R F before a_truth → NoValue V E R F before last kind → InCall V E R F front end (fault line kind)
+      → ((other : Placed) → EndsArgument other.1 → RefusesPlaced R front other) → Fit E R F before a_group → FitsEnd E R F before a_truth → NoValue V E R F before last kind → InCall V E R F front end (fault line kind)
   of_truth : (line : ℕ) (w : List ℕ) → Fit E R F front a_group → FitsEnd E R F front a_truth → RefusesEnd V R front (Word w) no_truth → InCall V E R F front (line, Word w) (fault line Syntax)
 
 -- the word is that of a flag that stands last, and the reader reads on with what follows flags
@@ -706,9 +710,9 @@ stands_behind first front line (before, call, behind, width, begins, same, spell
 
 -- a token that the second reader refuses behind others of its own
 refuses_begun : {A B : Type 0} (U V : Type 0) (E F : Follow) (R : Reader A) (S : A → Reader B) (tokens : List Placed) (x : A × List Placed) (o : IsReadIf U E R F V tokens x.0 x.1)
-    (front before : List Placed) (last : Placed) (rest : List Placed) → x.1 ≡ front ++ rest → front ≡ before ++ last ∷ [] → (u : Token) → RefusesAt (S x.0) front u → RefusesAt (R >>= S) (o.front ++ front) u
+    (front before : List Placed) (last : Placed) (rest : List Placed) → x.1 ≡ front ++ rest → front ≡ before ++ last ∷ [] → (u : Placed) → RefusesPlaced (S x.0) front u → RefusesPlaced (R >>= S) (o.front ++ front) u
 refuses_begun U V E F R S tokens x o [] before last rest there same u refused = let some = no_second before (last ∷ []) (sym same) in absurd cc
-refuses_begun U V E F R S tokens x o (v ∷ front) before last rest there same u refused = λ more. begun_refuses U V E F R S tokens x o v front rest there ((0, u) ∷ more) (refused more)
+refuses_begun U V E F R S tokens x o (v ∷ front) before last rest there same u refused = λ more. begun_refuses U V E F R S tokens x o v front rest there (u ∷ more) (refused more)
 
 in_call_second : {A B : Type 0} (U V : Type 0) (E F G : Follow) (R : Reader A) (S : A → Reader B) (tokens : List Placed) (x : A × List Placed) (o : IsReadIf U E R F V tokens x.0 x.1)
     (front : List Placed) {t : Placed} (behind : List Placed) → x.1 ≡ front ++ t ∷ behind → {found : Fault IrFaultKind} → InCall V F (S x.0) G front t found → InCall U E (R >>= S) G (o.front ++ front) t found

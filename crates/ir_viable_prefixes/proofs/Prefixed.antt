@@ -130,6 +130,11 @@ module _ {A : Type 0} (R S : Reader A) (V : Type 0) (E F Own : Follow) (first : 
   not_empty front [] last same none = let both : last ∷ [] ≡ [] = sym same ∙ none in cc
   not_empty front (u ∷ before) last same none = let both : u ∷ (before ++ last ∷ []) ≡ [] = sym same ∙ none in cc
 
+  -- behind a front that is not empty
+  behind : (front tail : List Placed) → next ∷ rest ≡ front ++ tail → (front ≡ [] → ⊥) → (ts : List Placed) → R (Behind front ++ ts) ≡ S (front ++ ts)
+  behind [] tail there some ts = absurd (some refl)
+  behind (v ∷ front) tail there some ts = begun v front tail there ts
+
   call : (front : List Placed) {t : Placed} (tail : List Placed) → next ∷ rest ≡ front ++ t ∷ tail → {found : Fault IrFaultKind} → InCall (Unit {0}) Anything S F front t found → InCall V E R F (Behind front) t found
   call front tail there (of_callee line at written one stands fit b) =
       of_callee line at written one (stands_behind (first ∷ others) front line stands) (fits front ((at, Function written) ∷ tail) there (Function one) fit)
@@ -137,7 +142,7 @@ module _ {A : Type 0} (R S : Reader A) (V : Type 0) (E F Own : Follow) (first : 
   call front tail there (of_value before line last end kind same ends none item fit why) =
       let whole : next ∷ rest ≡ before ++ (line, last) ∷ (end ∷ tail) = there ∙ ap (λ (ts : List Placed). ts ++ end ∷ tail) same ∙ append_assoc before ((line, last) ∷ []) (end ∷ tail) in
       of_value (Behind before) line last end kind (ap Behind same ∙ ap (λ (ts : List Placed). first ∷ ts) (sym (append_assoc others before ((line, last) ∷ [])))) ends
-      (λ other is more. let r = none other is more in (r.0, moved front (end ∷ tail) there other (λ empty. absurd (not_empty front before (line, last) same empty)) more ∙ r.1))
+      (λ other is more. let r = none other is more in (r.0, behind front (end ∷ tail) there (not_empty front before (line, last) same) (other ∷ more) ∙ r.1))
       (fits before ((line, last) ∷ (end ∷ tail)) whole a_group item) (fits_end before ((line, last) ∷ (end ∷ tail)) whole a_truth fit) (no_value before line (end ∷ tail) whole why)
   call front tail there (of_truth line w item fit b) =
       of_truth line w (fits front ((line, Word w) ∷ tail) there a_group item) (fits_end front ((line, Word w) ∷ tail) there a_truth fit) (refuses_end front ((line, Word w) ∷ tail) there (Word w) no_truth b)

@@ -38,18 +38,20 @@ use Rattle.ir_parse.specs.Text.{most_bytes, IsTextFault, too_long, misfit}
 use Rattle.ir_viable_prefixes.specs.Fits.{Fits, FitsBehind, AttributesFit}
 use Rattle.ir_viable_prefixes.specs.Calls.{NamesIntrinsic, CalleeFits, EndsArgument, ValueFits, IsNoValue, IsToldInCall}
 use Rattle.ir_viable_prefixes.specs.Calls as calls
-use Rattle.ir_viable_prefixes.specs.Laws.{IsTold, of_token, in_call, IsFirstMisfit, FaultsAreWhereTextsDoNotFit}
+use Rattle.ir_viable_prefixes.specs.Laws.{IsSaid, of_token, in_call, IsFirstMisfit, FaultsAreWhereTextsDoNotFit}
 use Rattle.ir_viable_prefixes.specs.Misfits.{TypeFits, TerminatorFits, AnotherFits, IsLeftOut, IsRepeated, IsNothingElse, IsWrongWidth, IsWrongNumber, IsMisfit}
 use Rattle.ir_viable_prefixes.specs.Misfits as nouns
 use Rattle.ir_viable_prefixes.proofs.Entries.{EndsAt, EndsText, OrEnds, entries_outcome, entries_sample}
-use Rattle.ir_viable_prefixes.proofs.Outcomes.{Next, Anything, Ended, CompletesBegun, Fit, FitsEnd, RefusesAt, RefusesEnd, Bad, Again, a_truth, no_truth, NoValue, no_number, no_word, no_truth_value, no_group, no_quoted, InCall, of_callee, of_value, of_truth, New, IsRefused, Outcome}
+use Rattle.ir_viable_prefixes.proofs.Outcomes.{Next, Anything, Ended, CompletesBegun, Fit, FitsEnd, RefusesAt, RefusesPlaced, RefusesEnd, Bad, Again, a_truth, no_truth, NoValue, no_number, no_word, no_truth_value, no_group, no_quoted, InCall, of_callee, of_value, of_truth, New, IsRefused, Outcome}
 use Rattle.ir_viable_prefixes.proofs.Reasons.{a_type, a_pred, an_end, a_group, Reason, LeftOutBy, NoRecord, NoGroup, Widths, widths, Like, like_word, like_type, like_function, like_number}
 use Rattle.ir_viable_prefixes.proofs.Reasons as reasons
 use Rattle.ir_viable_prefixes.proofs.FlagRuns.{IsLeft}
+use Rattle.ir_viable_prefixes.proofs.OneFault.{one_fault}
 use Rattle.ir_viable_prefixes.proofs.OneKind.{EndsHaveNoNumbers, one_kind}
 use Rattle.ir_viable_prefixes.proofs.Statements.{no_record}
 use Rattle.ir_viable_prefixes.proofs.TextEnds.{UpTo, ended_before, is_left_out, refused_at_end, types_refused_at_end, numbers_refused_at_end, functions_refused_at_end}
 use Rattle.ir_viable_prefixes.proofs.TokenReaders.{i8}
+use Rattle.ir_viable_prefixes.proofs.Told.{CalleeAlone, told_alone, alone, begun_fits}
 
 -- a mark of a text stands on a line from 1 on
 mark_line : (kind : TokenKind) (bytes text : List ℕ) (start mark : ℕ) → token_of kind bytes ≡ Mark mark → line_at kind text start ≢ 0
@@ -293,11 +295,19 @@ callee_is law front t bad other fits = by (identifier_of other) refl
         found (Some named) h = (name, named, is, intrinsic_in-is name named h)
         found None h = absurd (bad_misfits law front (Function other) (bad other (ap callee_named is ∙ h)).0 fits)
 
+-- what is refused on its line does not fit
+placed_misfits : ModulesAreReadAsSpelled → (front : List Placed) (u : Placed) → RefusesPlaced entries_at front u → ¬ Fits (front ++ u ∷ [])
+placed_misfits law front u refused (more, m, spelled) =
+    let read : module_of ((front ++ u ∷ []) ++ more) ≡ Ok m = (law ((front ++ u ∷ []) ++ more) m).1 spelled in
+    let r = refused more in
+    let refusal : module_of ((front ++ u ∷ []) ++ more) ≡ Err r.0 = ap module_from (ap entries_at (append_assoc front (u ∷ []) more) ∙ r.1) in
+    let both : the_module (Ok m) ≡ Err r.0 = sym read ∙ refusal in absurd cc
+
 call_is : ModulesAreReadAsSpelled → (front : List Placed) {t : Placed} {found : Fault IrFaultKind} → InCall (Unit {0}) Anything entries_at EndsText front t found → IsToldInCall front t found
 call_is law front (of_callee line at written one stands fit bad) =
     calls.callee line at written (record { one = one; fits = token_fits law front (Function one) fit; alone = callee_is law front (Function written) bad }) stands
 call_is law front (of_value before line value end kind same ends none item fit why) =
-    calls.value before line value end kind same ends (λ other is. bad_misfits law front other (none other is)) (codes "#0", token_fits law before a_group item) (value_fits law before a_truth fit) (no_value_is law before why)
+    calls.value before line value end kind same ends (λ other is. placed_misfits law front other (none other is)) (codes "#0", token_fits law before a_group item) (value_fits law before a_truth fit) (no_value_is law before why)
 call_is law front (of_truth line w item fit bad) = calls.truth line w (codes "#0", token_fits law front a_group item) (value_fits law front a_truth fit) (no_value_fits law front (Word w) no_truth bad)
 
 -- where the text may end no function fits
@@ -323,16 +333,21 @@ no_callee front t (LeftOut text) ends (shows, left, no_width, new) written is c 
 no_callee front t Syntax ends told written is c = told.function written c.one is c.fits
 no_callee front t kind ends told written is c = absurd told
 
+-- what is said of the token by itself
+by_token : ModulesAreReadAsSpelled → (front : List Placed) (t : Placed) (found : Fault IrFaultKind) → EndsHaveNoNumbers front → EndsHaveNoFunctions front → found.line ≡ t.0 → IsMisfit front t.1 found.kind → IsSaid front t found × CalleeAlone front t found
+by_token law front t found numbers functions line told =
+    let none = no_callee front t.1 found.kind functions told in
+    (of_token line told (λ other h. one_kind front t.1 numbers found.kind other told h) none, λ l at written is callee stands. absurd (none written (ap (λ (p : Placed). p.1) is) callee))
+
 -- ---- what is told
 
-told_is : ModulesAreReadAsSpelled → (front : List Placed) (t : Placed) (found : Fault IrFaultKind) → EndsLeaveOut front t.1 found.kind → EndsHaveNoTypes front → EndsHaveNoNumbers front → EndsHaveNoFunctions front → (IsLeft found.kind → ¬ IsRepeated front t.1) → OrEnds Anything entries_at EndsText front t found → IsTold front t found
-told_is law front t found ends types numbers functions new (inl (end, line, kind)) =
+said_is : ModulesAreReadAsSpelled → (front : List Placed) (t : Placed) (found : Fault IrFaultKind) → EndsLeaveOut front t.1 found.kind → EndsHaveNoTypes front → EndsHaveNoNumbers front → EndsHaveNoFunctions front → (IsLeft found.kind → ¬ IsRepeated front t.1) → OrEnds Anything entries_at EndsText front t found
+    → IsSaid front t found × CalleeAlone front t found
+said_is law front t found ends types numbers functions new (inl (end, line, kind)) =
     let told : IsMisfit front t.1 found.kind = subst (IsMisfit front t.1) (sym kind) (entry_is front t.1 (end_fits law front end) types (subst (λ (k : IrFaultKind). IsLeft k → ¬ IsRepeated front t.1) kind new)) in
-    of_token line told (λ other h. one_kind front t.1 numbers found.kind other told h) (no_callee front t.1 found.kind functions told)
-told_is law front t found ends types numbers functions new (inr (inl (line, why))) =
-    let told : IsMisfit front t.1 found.kind = reason_is law front t.1 found.kind ends new why in
-    of_token line told (λ other h. one_kind front t.1 numbers found.kind other told h) (no_callee front t.1 found.kind functions told)
-told_is law front t found ends types numbers functions new (inr (inr call)) = in_call (call_is law front call)
+    by_token law front t found numbers functions line told
+said_is law front t found ends types numbers functions new (inr (inl (line, why))) = by_token law front t found numbers functions line (reason_is law front t.1 found.kind ends new why)
+said_is law front t found ends types numbers functions new (inr (inr call)) = let told = call_is law front call in (in_call told, told_alone front t found told)
 
 -- ---- where a fault stands
 
@@ -392,8 +407,14 @@ first_misfit law tokens found e o = record {
   stands = o.there;
   fits = front_fits law o.front o.completes;
   misfit = refused_misfits law o.front o.token found o.refused;
-  told = told_is law o.front o.token found (ends_leave_out law tokens found e o) (ends_have_no_types law tokens found e o) (ends_have_no_numbers law tokens found e o) (ends_have_no_functions law tokens found e o) (λ left. no_repeat law o.front o.token.1 (o.new left)) o.why;
+  told = record {
+    said = said.0;
+    alone = alone law o.front o.token o.behind found (subst Ended o.there e) (front_fits law o.front o.completes) (refused_misfits law o.front o.token found o.refused) o.refused said.1;
+  };
 }
+  where
+    said : IsSaid o.front o.token found × CalleeAlone o.front o.token found
+    said = said_is law o.front o.token found (ends_leave_out law tokens found e o) (ends_have_no_types law tokens found e o) (ends_have_no_numbers law tokens found e o) (ends_have_no_functions law tokens found e o) (λ left. no_repeat law o.front o.token.1 (o.new left)) o.why
 
 refused_at : ModulesAreReadAsSpelled → (tokens : List Placed) (found : Fault IrFaultKind) (r : Read (List RawEntry)) → module_from r ≡ Err found → Ended tokens → Outcome Anything entries_at EndsText (OrEnds Anything entries_at EndsText) tokens r → IsFirstMisfit tokens found
 refused_at law tokens found (Ok x) is ended o = absurd cc
@@ -408,10 +429,6 @@ refused law one text tokens found within are (misfit less others are_others is_r
     let same : module_of tokens ≡ Err found = ap module_of (one.one text tokens others are are_others) ∙ is_refused in
     refused_at law tokens found (entries_at tokens) same (tokens_end are) (entries_outcome tokens (tokens_end are))
 
--- tokens that begin with others fit only where those do
-begun_fits : (front rest : List Placed) → Fits (front ++ rest) → Fits front
-begun_fits front rest (more, m, spelled) = (rest ++ more, m, subst (SpellsModule m) (append_assoc front rest more) spelled)
-
 read : ModulesAreReadAsSpelled → TextsHaveOneListOfTokens → (text : List ℕ) (tokens : List Placed) (found : Fault IrFaultKind) → length text ≤ most_bytes → AreTokens text tokens → Fits tokens → ¬ IsTextFault text found
 read law one text tokens found within are all_fit fault =
     let first = refused law one text tokens found within are fault in
@@ -419,4 +436,4 @@ read law one text tokens found within are all_fit fault =
     first.misfit (begun_fits (first.front ++ t) first.behind (subst Fits (first.stands ∙ sym (append_assoc first.front t first.behind)) all_fit))
 
 pub faults : ModulesAreReadAsSpelled → TextsHaveOneListOfTokens → FaultsAreWhereTextsDoNotFit
-faults law one = record { refused = refused law one; read = read law one }
+faults law one = record { refused = refused law one; read = read law one; one = one_fault }

@@ -64,7 +64,7 @@ pub record ReadsValue (Q : Reader RawOperand) (width : ℕ) : Type 0 where
 -- ---- items, and what is read behind them
 
 -- an argument ends
-ends_next : (tokens : List Placed) → Next EndsArgument tokens → ends_argument tokens ≡ true
+pub ends_next : (tokens : List Placed) → Next EndsArgument tokens → ends_argument tokens ≡ true
 ends_next [] ends = absurd ends
 ends_next ((l, t) ∷ tokens) ends = by ends
   where
@@ -74,7 +74,7 @@ ends_next ((l, t) ∷ tokens) ends = by ends
 
 module _ (Q : Reader RawOperand) where
   -- where no item is next, the value is
-  here : (items : List (List ℕ)) (tokens : List Placed) → begins_inner_item tokens ≡ false → In Q items tokens ≡ Q tokens
+  pub here : (items : List (List ℕ)) (tokens : List Placed) → begins_inner_item tokens ≡ false → In Q items tokens ≡ Q tokens
   here items tokens none = rw (each-done begins_inner_item item_at items tokens none) refl
 
   pub behind : (items : List (List ℕ)) (tokens : List Placed) (x : List ℕ × List Placed) → begins_inner_item tokens ≡ true → item_at tokens ≡ Ok x → In Q items tokens ≡ In Q (items ++ x.0 ∷ []) x.1
@@ -250,7 +250,7 @@ module _ (Q : Reader RawOperand) (width : ℕ) (q : ReadsValue Q width) where
         refused = λ more. last Q items (l, t) ((k, u) ∷ more) ends ∙ none l ((k, u) ∷ more);
         completes = completion (items ++ item ∷ []) items (l, t) [] (λ more. behind Q items ((l, t) ∷ (0, a_truth) ∷ more) (item, (0, a_truth) ∷ more) (rw (same_item l t ((0, a_truth) ∷ more) [] ∙ begins) refl) (one more));
         why = (
-          inr (of_value [] l t (k, u) kind refl ends (λ other is more. (fault l kind, last Q items (l, t) ((0, other) ∷ more) is ∙ none l ((0, other) ∷ more))) (fit_group items) (value_end items a_truth q.truth) no_value),
+          inr (of_value [] l t (k, u) kind refl ends (λ other is more. (fault l kind, last Q items (l, t) (other ∷ more) is ∙ none l (other ∷ more))) (fit_group items) (value_end items a_truth q.truth) no_value),
           λ left. ends_no_flag ends,
         );
         new = λ left. inl (λ again. ends_no_flag ends again.2.2 (again.1 ∙ ap Word again.2.5));

@@ -66,7 +66,7 @@ pub data IsToldInCall (front : List Placed) : Placed → Fault IrFaultKind → T
       → IsToldInCall front (at, Function written) (record { line = line; kind = LeftOut (codes "call") })
   -- the end of an argument, behind what is no value where items and values stand: no other end fits either
   value : (before : List Placed) (line : ℕ) (last : Token) (end : Placed) (kind : IrFaultKind) → front ≡ before ++ (line, last) ∷ [] → EndsArgument end.1
-      → ((other : Token) → EndsArgument other → ¬ FitsBehind front other) → AttributesFit before → ValueFits before (Word (codes "true")) → IsNoValue before last kind
+      → ((other : Placed) → EndsArgument other.1 → ¬ Fits (front ++ other ∷ [])) → AttributesFit before → ValueFits before (Word (codes "true")) → IsNoValue before last kind
       → IsToldInCall front end (record { line = line; kind = kind })
   -- a word that is no item, where items and a truth value stand
   truth : (line : ℕ) (word : List ℕ) → AttributesFit front → ValueFits front (Word (codes "true")) → ¬ ValueFits front (Word (codes "undef"))

@@ -19,7 +19,8 @@ use Rattle.rule_parse.proofs.Readings.{rule_at-shorter, rules_at-is}
 use Rattle.rule_parse.proofs.Spellings.{rules_at-of}
 use Rattle.rule_viable_prefixes.specs.Fits.{line_behind, line_of}
 use Rattle.rule_viable_prefixes.proofs.Lines.{IsNameLine, NamesEndLines, names_behind, name_follows, name_verdict, IsPrecondition, precondition_verdict, IsWitness, witness_verdict, IsHalf, half_opens, some_of_opens, Follows, by_arrow, by_rule, follows_open, source_verdict, target_verdict, IsArrow, arrow_follows, arrow_verdict, verdict_made}
-use Rattle.rule_viable_prefixes.specs.Misfits.{openings_on_line, Fitting, IsNoun, NounFits, RepeatsFlag, IsExcused, one_use, repeated, nested, Says, IsMisfit}
+use Rattle.rule_viable_prefixes.specs.Misfits.{Fitting, IsNoun, NounFits, RepeatsFlag}
+use Rattle.rule_viable_prefixes.proofs.Reasons.{openings_on_line, IsExcused, one_use, repeated, nested, IsMisfit}
 use Rattle.rule_viable_prefixes.proofs.FlagRuns.{IsNew, new_on_line}
 use Rattle.rule_viable_prefixes.proofs.Outcomes.{lack_wider, repeats_behind, Akin, akin, akin_behind, akin_noun, Alike, same, ended, pair, bare, IsErr}
 use Rattle.rule_viable_prefixes.proofs.Tolds.{Excuse, Told, says_wider, SaysFirst}
@@ -290,7 +291,6 @@ module _ (spare_bytes deepest spare_statements : ℕ) (version : Version) where
     pub line : found.line ≡ line_behind number inner
     pub told : token ≢ Excess → IsMisfit limits (openings_on_line inner) (FitBehind (Line number ∷ inner)) token behind found.kind
     pub excess : token ≡ Excess → found.kind ≡ TooMany
-    pub in_front : token ≢ Excess → (more : List Token) → behind ≡ Excess ∷ more → Says limits (openings_on_line inner) (FitBehind (Line number ∷ inner)) token found.kind
     pub no_noun : found.kind ≡ Syntax → (word : List ℕ) → token ≡ Word word → NounFits (FitBehind (Line number ∷ inner)) → IsExcused limits (FitBehind (Line number ∷ inner)) (Line number ∷ inner) word
     pub new : IsNew inner found.kind
 
@@ -318,7 +318,6 @@ module _ (spare_bytes deepest spare_statements : ℕ) (version : Version) where
     line = w.here;
     told = told.misfit;
     excess = told.excess;
-    in_front = told.in_front;
     no_noun = λ syntax_ word is_word noun. by word (told.lacks syntax_ word is_word) noun;
     new = w.new;
   })

@@ -38,8 +38,9 @@ use Rattle.rule_terms.proofs.FormulaSteps.{member-turns, member-encloses, member
 use Rattle.rule_terms.proofs.Readings.{spells_some}
 use Rattle.rule_terms.proofs.Spellings.{term_at-is}
 use Rattle.rule_terms.proofs.Starts.{mark_at-is}
-use Rattle.rule_viable_prefixes.specs.Misfits as kinds
-use Rattle.rule_viable_prefixes.specs.Misfits.{Fitting, IsNoun, Nests, IsTooDeep, IsFlagWord}
+use Rattle.rule_viable_prefixes.proofs.Reasons as kinds
+use Rattle.rule_viable_prefixes.specs.Misfits.{Fitting, IsNoun, IsFlagWord}
+use Rattle.rule_viable_prefixes.proofs.Reasons.{Nests, IsTooDeep}
 use Rattle.rule_viable_prefixes.proofs.Nouns.{constant_noun, not_in_formulas, predicate_other, one_use_other}
 use Rattle.rule_viable_prefixes.proofs.Outcomes.{lack_wider, Lack, NoNoun, Takes, Alike, same, ended, NoLine, Spelling, Sample, pair, bare, Reader, IsErr, IsErrOn, Outcome, Good, then, passed, led, led_in, opened, opens_one, alike_as, widen, Branch, takes, refuses, by_token, with_none, widened, on_line, then_done, own_last}
 use Rattle.rule_viable_prefixes.proofs.Tolds.{Told, IsTold, says_syntax, says_too_many, says_deep, says_wider, says_carried, says_unexpected}

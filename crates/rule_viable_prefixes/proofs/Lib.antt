@@ -1,4 +1,6 @@
+pub mod Exact
 pub mod Files
+pub mod FitsWithin
 pub mod FlagRuns
 pub mod Formulas
 pub mod LimitLaws
@@ -10,12 +12,13 @@ pub mod MarkedTerms
 pub mod Marks
 pub mod Names
 pub mod Nouns
-pub mod OneKind
 pub mod Outcomes
 pub mod Parentheses
 pub mod Parts
 pub mod Placed
+pub mod Reasons
 pub mod Refusals
+pub mod Room
 pub mod Roomy
 pub mod Rules
 pub mod Statements

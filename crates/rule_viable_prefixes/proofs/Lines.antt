@@ -30,8 +30,8 @@ use Rattle.rule_parse.specs.RuleReaders.{typed_at, operand_at, to_at, flags_at, 
 use Rattle.rule_parse.proofs.Expressions.{expression_shortens}
 use Rattle.rule_parse.proofs.Readings.{name_at-is}
 use Rattle.rule_viable_prefixes.proofs.Formulas.{IsWholeFormula, formula_good}
-use Rattle.rule_viable_prefixes.specs.Misfits as kinds
-use Rattle.rule_viable_prefixes.specs.Misfits.{openings_on_line, HalfEnds}
+use Rattle.rule_viable_prefixes.proofs.Reasons as kinds
+use Rattle.rule_viable_prefixes.proofs.Reasons.{openings_on_line, HalfEnds}
 use Rattle.rule_viable_prefixes.proofs.FlagRuns.{none_new}
 use Rattle.rule_viable_prefixes.proofs.Outcomes.{lack_wider, Lack, Akin, same_next, noun_next, ended_next, akin, akin_behind, akin_noun, Alike, same, ended, alike_itself, Shape, pair, bare, Reader, IsErrOn, Good, then, led, widen, Branch, takes, refuses, by_token, then_done, none_behind, widened}
 use Rattle.rule_viable_prefixes.proofs.Tolds.{says_wider, says_syntax, says_too_many, says_unexpected}

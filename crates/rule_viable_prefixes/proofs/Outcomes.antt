@@ -7,7 +7,8 @@ use Rattle.rule_tokens.specs.Steps.{◌>>=◌}
 use Rattle.rule_tokens.specs.Tokens.{Token, Line, Word, Mark}
 use Rattle.rule_tokens.proofs.Ends.{EndsLine}
 use Rattle.rule_viable_prefixes.specs.Fits.{line_behind}
-use Rattle.rule_viable_prefixes.specs.Misfits.{Fitting, IsNoun, openings, IsFlagWord, RepeatsFlag}
+use Rattle.rule_viable_prefixes.specs.Misfits.{Fitting, IsNoun, IsFlagWord, RepeatsFlag}
+use Rattle.rule_viable_prefixes.proofs.Reasons.{openings}
 use Rattle.rule_viable_prefixes.proofs.FlagRuns.{NoFlag, NoFlagLast, IsNew, new_behind, none_new, last_of_both}
 use Rattle.rule_tokens.specs.Limits.{Limits}
 use Rattle.rule_viable_prefixes.proofs.Tolds.{SaysFirst, says_wider, says_carried}

@@ -185,7 +185,7 @@ unmarked c s (Name text ∷ tokens) kept of names = later (Name text) tokens tok
 unmarked c s (token ∷ tokens) kept of names = later token tokens tokens (of.0, tt) kept.0 (unmarked c (step s token) tokens kept.1 of.1 names)
 
 -- behind tokens with which nothing is passed
-marked_behind : (c : Marking) (s : State) (front a b : List Token) → KeptAlong c.limits s front → AreOfText front → NamesEndLines (front ++ a) → Marked c (run s front) a b → Marked c s (front ++ a) (front ++ b)
+pub marked_behind : (c : Marking) (s : State) (front a b : List Token) → KeptAlong c.limits s front → AreOfText front → NamesEndLines (front ++ a) → Marked c (run s front) a b → Marked c s (front ++ a) (front ++ b)
 marked_behind c s [] a b kept of names more = more
 marked_behind c s (Name text ∷ front) a b kept of names more = later (Name text) (front ++ a) (front ++ b) (tt, names.0) kept.0 (marked_behind c (step s (Name text)) front a b kept.1 of.1 names.1 more)
 marked_behind c s (token ∷ front) a b kept of names more = later token (front ++ a) (front ++ b) (of.0, tt) kept.0 (marked_behind c (step s token) front a b kept.1 of.1 names more)

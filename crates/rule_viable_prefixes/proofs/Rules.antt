@@ -8,7 +8,8 @@ use Rattle.rule_tokens.specs.Parts.{Part, ◌⨾◌}
 use Rattle.rule_tokens.specs.Tokens.{Token, Line, Word}
 use Rattle.rule_tokens.proofs.Ends.{EndsLine}
 use Rattle.rule_viable_prefixes.specs.Fits.{line_behind}
-use Rattle.rule_viable_prefixes.specs.Misfits.{openings, openings_behind, openings_on_line, Fitting, IsNoun}
+use Rattle.rule_viable_prefixes.specs.Misfits.{Fitting, IsNoun}
+use Rattle.rule_viable_prefixes.proofs.Reasons.{openings, openings_behind, openings_on_line}
 use Rattle.rule_viable_prefixes.proofs.FlagRuns.{IsNew, new_on_line}
 use Rattle.rule_viable_prefixes.proofs.Outcomes.{opened, Lack, lack_wider, Akin, same_next, akin, akin_behind, akin_noun, NoNoun, Takes, Alike, Inline, Shape, Reader, IsErr, Begins, Outcome}
 use Rattle.rule_viable_prefixes.proofs.Tolds.{says_wider, SaysFirst}

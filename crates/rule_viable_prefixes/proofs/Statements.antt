@@ -55,7 +55,9 @@ use Rattle.rule_parse.proofs.OpSpellings.{flags_done}
 use Rattle.rule_parse.proofs.Pieces.{IsOpcode, operation_in-is, truth_flag-is, truth_flag-of, source_word_in-is, type_is_no_flag, type_is_no_truth_flag}
 use Rattle.rule_parse.proofs.Beginnings.{BeginsOperand, argument_begins}
 use Rattle.rule_viable_prefixes.specs.Misfits as kinds
-use Rattle.rule_viable_prefixes.specs.Misfits.{Fitting, IsFlagWord, AreFlagWords, of_instruction, of_intrinsic, RepeatsFlag, NounFits, IsTooMany, kind_at, IsMisfit, itself, read_on}
+use Rattle.rule_viable_prefixes.proofs.Reasons as reasons
+use Rattle.rule_viable_prefixes.specs.Misfits.{Fitting, IsFlagWord, AreFlagWords, of_instruction, of_intrinsic, RepeatsFlag, NounFits}
+use Rattle.rule_viable_prefixes.proofs.Reasons.{IsTooMany, kind_at, IsMisfit, itself, read_on}
 use Rattle.rule_viable_prefixes.proofs.Nouns.{no_flag_in, no_truth_in, not_to, constant_noun, noun_other, source_other, to_other}
 use Rattle.rule_viable_prefixes.proofs.Outcomes.{akin, alike_itself, IsOwn, Inline, inline_none, inline_token, repeats_behind, Lack, Akin, same_next, noun_next, ended_next, NoNoun, IsErr, same_as, Takes, Alike, same, ended, Sample, pair, bare, Reader, IsErrOn, Outcome, Good, then, refused_here, passed, took, led, alike_as, widen, Branch, takes, refuses, by_token, widened, then_done, OutcomeBy, then_by}
 use Rattle.rule_viable_prefixes.proofs.Tolds.{says_word, says_syntax, says_too_many, says_misplaced, says_unexpected, says_left_out, SaysFirst}
@@ -101,7 +103,7 @@ module _ (spare_bytes deepest spare_statements : ℕ) (version : Version) where
 
   -- a register whose name is too long
   long_register : (half : Half) (name : List ℕ) → limits.name_bytes < length name → IsTooMany limits 0 (Takes limits (Spelled limits (IsArgument half) {A = RawArgument}) []) (Register name)
-  long_register half name long = kinds.register name (codes "a", long, omega arith, tt, tt, (arguments.Register (codes "a"), [], (arguments.Register (codes "a"), (omega arith, refl))))
+  long_register half name long = reasons.register name (codes "a", long, omega arith, tt, tt, (arguments.Register (codes "a"), [], (arguments.Register (codes "a"), (omega arith, refl))))
 
   source_word_branch : (line : ℕ) (word : List ℕ) → Branch limits (pair limits) (argument_at limits Source line) (Spelled limits (IsArgument Source)) line (Word word)
   unfolding argument_at source_word is_constant
@@ -114,7 +116,7 @@ module _ (spare_bytes deepest spare_statements : ℕ) (version : Version) where
       constant : is_constant word ≡ true → Named limits line word → Branch limits (pair limits) (argument_at limits Source line) (Spelled limits (IsArgument Source)) line (Word word)
       constant c (is_short le n) = takes (arguments.Constant word) (noun_other word (kinds.constant c)) (arguments.Constant word, (c, le, refl)) (λ more. rw (c, n) refl)
       constant c (is_long long n) =
-          refuses (λ more. (fault line TooMany, rw (c, n) refl, refl, says_too_many limits (Word word) more (kinds.constant word (codes "C", long, omega arith, c, refl, (arguments.Constant (codes "C"), [], (arguments.Constant (codes "C"), (refl, omega arith, refl)))))))
+          refuses (λ more. (fault line TooMany, rw (c, n) refl, refl, says_too_many limits (Word word) more (reasons.constant word (codes "C", long, omega arith, c, refl, (arguments.Constant (codes "C"), [], (arguments.Constant (codes "C"), (refl, omega arith, refl)))))))
 
       by : (c : Bool) → is_constant word ≡ c → Branch limits (pair limits) (argument_at limits Source line) (Spelled limits (IsArgument Source)) line (Word word)
       by true c = constant c (named limits line word)

@@ -31,7 +31,9 @@ use Rattle.rule_terms.proofs.Chains.{Shortens, chain-more, chain-fault, chain-do
 use Rattle.rule_terms.proofs.Meanings.{operator_at-is, operator_at-of, meaning_in-is, meaning_in-of}
 use Rattle.rule_terms.proofs.Readings.{operand_shorter}
 use Rattle.rule_viable_prefixes.specs.Misfits as kinds
-use Rattle.rule_viable_prefixes.specs.Misfits.{Fitting, NounFits, Nests, openings, IsTooDeep, IsTooMany}
+use Rattle.rule_viable_prefixes.proofs.Reasons as reasons
+use Rattle.rule_viable_prefixes.specs.Misfits.{Fitting, NounFits}
+use Rattle.rule_viable_prefixes.proofs.Reasons.{Nests, openings, IsTooDeep, IsTooMany}
 use Rattle.rule_viable_prefixes.proofs.Nouns.{noun_other}
 use Rattle.rule_viable_prefixes.proofs.Outcomes.{Lack, Akin, same_next, noun_next, ended_next, Takes, IsOwn, Spelling, pair, bare, IsErrOn, Outcome, Good, then_at, then, passed, led, Branch, takes, refuses, goes, goes_in, opens_one, Reader, by_token, widened, on_line, then_done, bind_named}
 use Rattle.rule_viable_prefixes.proofs.Tolds.{says_misplaced, says_syntax, says_too_many, IsTold, says_deep, says_unexpected}
@@ -243,7 +245,7 @@ module _ (spare_bytes deepest spare_statements : ℕ) where
 
   long_constant : (nesting : ℕ) (place : TermPlace) (fits : Fitting) → Leaves place fits → (name : List ℕ) → limits.name_bytes < length name → IsTrue (is_constant name) → IsTooMany (levels nesting) 0 fits (Word name)
   unfolding is_constant
-  long_constant nesting place fits leaves name long is = kinds.constant name (codes "C", long, omega arith, is, refl, constant_fits place fits leaves)
+  long_constant nesting place fits leaves name long is = reasons.constant name (codes "C", long, omega arith, is, refl, constant_fits place fits leaves)
 
   short_choice : IsChoice (codes "t1") 0
   unfolding is_digit
@@ -251,10 +253,10 @@ module _ (spare_bytes deepest spare_statements : ℕ) where
 
   long_choice : (nesting : ℕ) (fits : Fitting) → Leaves places.Witness fits → (name : List ℕ) (k : ℕ) → limits.name_bytes < length name → IsChoice name k → IsTooMany (levels nesting) 0 fits (Word name)
   long_choice nesting fits leaves name k long is =
-      kinds.choice name (codes "t1", long, omega arith, (k, is), (0, short_choice), leaves (Word (codes "t1")) (raw_nodes.Choice 0) (codes "t1", refl, short_choice, omega arith, refl))
+      reasons.choice name (codes "t1", long, omega arith, (k, is), (0, short_choice), leaves (Word (codes "t1")) (raw_nodes.Choice 0) (codes "t1", refl, short_choice, omega arith, refl))
 
   long_register : (nesting : ℕ) (fits : Fitting) → Leaves places.Witness fits → (name : List ℕ) → limits.name_bytes < length name → IsTooMany (levels nesting) 0 fits (Register name)
-  long_register nesting fits leaves name long = kinds.register name (codes "a", long, omega arith, tt, tt, leaves (Register (codes "a")) (raw_nodes.Register (codes "a")) (refl, omega arith, refl))
+  long_register nesting fits leaves name long = reasons.register name (codes "a", long, omega arith, tt, tt, leaves (Register (codes "a")) (raw_nodes.Register (codes "a")) (refl, omega arith, refl))
 
   opens_word : (nesting : ℕ) (fits : Fitting) (none : List ℕ → Type 0) (place : TermPlace) (line : ℕ) → Leaves place fits → (word : List ℕ) (found : Option Meaning) → meaning_in place word ≡ found → Opens nesting fits none place line (Word word)
   unfolding start_at
@@ -362,7 +364,7 @@ module _ (spare_bytes deepest spare_statements : ℕ) where
       by : Named limits line name → Branch (levels nesting) (pair limits) (measured_at limits line) Measured line (Register name)
       by (is_short le n) = goes (λ ts. mark_at (codes ")") line ts >>= λ behind. Ok (name, behind)) tt (λ more. rw n refl)
           (then_done (levels nesting) {s = (bare limits)} {L = λ u own. own ≡ Mark (codes ")") ∷ []} (λ u. name) (λ behind. Ok (name, behind)) (λ u rest. refl) (λ u own is. (le, ap (λ (ts : List Token). Register name ∷ ts) is)) (mark_good (levels nesting) (codes ")") line))
-      by (is_long long n) = refuses (λ more. (fault line TooMany, rw n refl, refl, says_too_many (levels nesting) (Register name) more (kinds.register name (codes "a", long, omega arith, tt, tt, (codes "a", Mark (codes ")") ∷ [], (omega arith, refl))))))
+      by (is_long long n) = refuses (λ more. (fault line TooMany, rw n refl, refl, says_too_many (levels nesting) (Register name) more (reasons.register name (codes "a", long, omega arith, tt, tt, (codes "a", Mark (codes ")") ∷ [], (omega arith, refl))))))
   measured_branch nesting line token = refuses (λ more. (unexpected line (token ∷ more), refl, refl, says_unexpected (levels nesting) line token more (λ word is. inr (inr (λ noun is_noun others. (unexpected line (Word noun ∷ others), refl))))))
 
   measured_good : (nesting line : ℕ) → Good (levels nesting) (pair limits) (measured_at limits line) Measured line
@@ -408,19 +410,19 @@ module _ (spare_bytes deepest spare_statements : ℕ) where
   shallow_branch place line before token (misfit t h) = refuses (λ more. let e = h more in (e.0, rw e.1 refl, e.2, e.3))
   shallow_branch place line before token (of_leaf t node is stays h) = takes (before ++ node ∷ []) stays (leaf_term place 0 node (t ∷ []) is) (λ more. rw (h more) refl)
   shallow_branch place line before token (of_parenthesis h) =
-      refuses (λ more. (fault line TooMany, rw (h more) refl, refl, says_too_many (levels zero) (Mark (codes "(")) more (kinds.nesting (Mark (codes "(")) (too_deep place (Mark (codes "(")) kinds.parenthesis))))
+      refuses (λ more. (fault line TooMany, rw (h more) refl, refl, says_too_many (levels zero) (Mark (codes "(")) more (reasons.nesting (Mark (codes "(")) (too_deep place (Mark (codes "(")) reasons.parenthesis))))
   shallow_branch place line before token (of_prefix function mark is h) =
-      refuses (λ more. (fault line TooMany, rw (h more) refl, refl, says_too_many (levels zero) (Mark mark) more (kinds.nesting (Mark mark) (too_deep place (Mark mark) (kinds.sign function mark is)))))
+      refuses (λ more. (fault line TooMany, rw (h more) refl, refl, says_too_many (levels zero) (Mark mark) more (reasons.nesting (Mark mark) (too_deep place (Mark mark) (reasons.sign function mark is)))))
   shallow_branch place line before token (of_call function word is h) = refuses (λ more. by more (mark_at (codes "(") line more) refl)
     where
       by : (more : List Token) (r : Result (List Token) RuleFault) → mark_at (codes "(") line more ≡ r → IsErrOn (levels zero) (FitsAt place zero) (Lack limits (primary_at limits place line zero before) []) line (Word word ∷ more) (primary_at limits place line zero before (Word word ∷ more))
-      by more (Ok behind) e = (fault line TooMany, rw (h more, e) refl, refl, says_deep (levels zero) word (too_deep place (Word word) (kinds.function function word is)) more TooMany (inl refl))
-      by more (Err f) e = (f, rw (h more, e) refl, on_line (levels zero) (mark_good (levels zero) (codes "(") line) more f e, says_deep (levels zero) word (too_deep place (Word word) (kinds.function function word is)) more f.kind (parenthesis_missed limits line more f e))
+      by more (Ok behind) e = (fault line TooMany, rw (h more, e) refl, refl, says_deep (levels zero) word (too_deep place (Word word) (reasons.function function word is)) more TooMany (inl refl))
+      by more (Err f) e = (f, rw (h more, e) refl, on_line (levels zero) (mark_good (levels zero) (codes "(") line) more f e, says_deep (levels zero) word (too_deep place (Word word) (reasons.function function word is)) more f.kind (parenthesis_missed limits line more f e))
   shallow_branch place line before token (of_width h) = refuses (λ more. by more (mark_at (codes "(") line more) refl)
     where
       by : (more : List Token) (r : Result (List Token) RuleFault) → mark_at (codes "(") line more ≡ r → IsErrOn (levels zero) (FitsAt place zero) (Lack limits (primary_at limits place line zero before) []) line (Word (codes "width") ∷ more) (primary_at limits place line zero before (Word (codes "width") ∷ more))
-      by more (Ok behind) e = (fault line TooMany, rw (h more, e) refl, refl, says_deep (levels zero) (codes "width") (too_deep place (Word (codes "width")) kinds.width) more TooMany (inl refl))
-      by more (Err f) e = (f, rw (h more, e) refl, on_line (levels zero) (mark_good (levels zero) (codes "(") line) more f e, says_deep (levels zero) (codes "width") (too_deep place (Word (codes "width")) kinds.width) more f.kind (parenthesis_missed limits line more f e))
+      by more (Ok behind) e = (fault line TooMany, rw (h more, e) refl, refl, says_deep (levels zero) (codes "width") (too_deep place (Word (codes "width")) reasons.width) more TooMany (inl refl))
+      by more (Err f) e = (f, rw (h more, e) refl, on_line (levels zero) (mark_good (levels zero) (codes "(") line) more f e, says_deep (levels zero) (codes "width") (too_deep place (Word (codes "width")) reasons.width) more f.kind (parenthesis_missed limits line more f e))
 
   deep_branch : (place : TermPlace) (line nesting : ℕ) (before : List RawNode) (token : Token) → Primaries place nesting line → Opens (suc nesting) (FitsAt place (suc nesting)) (Lack limits (primary_at limits place line (suc nesting) before) []) place line token → Branch (levels (suc nesting)) (pair limits) (primary_at limits place line (suc nesting) before) (Term place (suc nesting) 0) line token
   unfolding primary_at

@@ -11,7 +11,7 @@ use Rattle.ops.proofs.KeywordLemmas.{same_word}
 use Rattle.scan.specs.declared.rule_token.RuleKind.{RuleKind}
 use Rattle.scan.specs.declared.rule_token.RuleKind.TheVariants as kinds
 use Rattle.scan.specs.declared.rule_token.RuleToken.{RuleToken}
-use Rattle.scan.specs.Bytes.{is_blank, is_space, is_printable, is_bad, is_digit, is_letter, begins_with}
+use Rattle.scan.specs.Bytes.{is_blank, is_space, is_printable, is_bad, is_digit, is_letter, is_word_byte, begins_with}
 use Rattle.scan.specs.Gaps.{IsGap, nothing, space, comment}
 use Rattle.scan.specs.Lines.{between, feeds, line_of}
 use Rattle.scan.specs.Names.{is_in_rest, rest_of_line}
@@ -292,6 +292,52 @@ of_text text (token {c} {line = line} {tokens = tokens} t next ne more) = of_tex
 of_text text (name {found = found} {tokens = tokens} is more) = subst (λ (f : Token). AreOfText (f ∷ tokens)) (sym is.2) (tt, of_text text more)
 of_text text (bad_token {line = line} {last = last} bad) = of_text_on line last Bad [] (tt, tt)
 of_text text (bad_name bad) = (tt, tt)
+
+-- ---- numbers of texts
+
+-- it is not this number
+abbrev pub IsProper : Token → Type 0
+IsProper (Number text) = text ≡ codes "hasOneUse" → ⊥
+IsProper t = Unit {0}
+
+abbrev pub AreProper : List Token → Type 0
+AreProper [] = Unit {0}
+AreProper (t ∷ tokens) = IsProper t × AreProper tokens
+
+word_kind : (operator : Bool) (rest : List ℕ) → kind_of operator (codes "hasOneUse") rest ≡ Some kinds.Word
+unfolding kind_of is_mark is_placed_operator is_unsigned_operator is_remainder is_register is_rule_word is_literal is_negative is_letter is_digit is_word_byte
+word_kind true rest = refl
+word_kind false rest = refl
+
+proper_word : (opcode : Bool) (bytes : List ℕ) → IsProper (word_of opcode bytes)
+proper_word true bytes = tt
+proper_word false bytes = tt
+
+proper_kind : (c : Context) (called operator : Bool) (text : List ℕ) (kind : RuleKind) (n : ℕ) → Begins operator text kind n → IsProper (token_of c called kind (take n text))
+proper_kind c called operator text kinds.Number n is = λ same.
+    let found = sym is.of_kind ∙ ap (λ (bytes : List ℕ). kind_of operator bytes (drop n text)) same ∙ word_kind operator (drop n text) in absurd cc
+proper_kind c called operator text kinds.Word n is = proper_word (is_opcode c called (take n text)) (take n text)
+proper_kind c called operator text kinds.End n is = tt
+proper_kind c called operator text kinds.Other n is = tt
+proper_kind c called operator text kinds.Head n is = tt
+proper_kind c called operator text kinds.Register n is = tt
+proper_kind c called operator text kinds.Arrow n is = tt
+proper_kind c called operator text kinds.Mark n is = tt
+
+proper_on : (before line : ℕ) (t : Token) (tokens : List Token) → AreProper (t ∷ tokens) → AreProper (token_on before line t tokens)
+proper_on before line t tokens are = by (eqb line before)
+  where
+    by : (b : Bool) → AreProper (cond b (t ∷ tokens) (Line line ∷ t ∷ tokens))
+    by true = are
+    by false = (tt, are)
+
+pub proper : (text : List ℕ) {place : Place} {at line last : ℕ} {tokens : List Token} → TokensFrom text place at line tokens last → AreProper tokens
+proper text (ends t next end same) = tt
+proper text (token {c} {at} {line} {tokens = tokens} t next ne more) =
+    proper_on line t.line (token_at text c t) tokens (proper_kind c (is_called text t.span.end) (in_operator_place c.operator (between text at t.span.start)) (drop t.span.start text) t.kind (t.span.end - t.span.start) next.token, proper text more)
+proper text (name {found = found} {tokens = tokens} is more) = subst (λ (f : Token). AreProper (f ∷ tokens)) (sym is.2) (tt, proper text more)
+proper text (bad_token {line = line} {last = last} bad) = proper_on line last Bad [] (tt, tt)
+proper text (bad_name bad) = (tt, tt)
 
 -- ---- up to the limit
 

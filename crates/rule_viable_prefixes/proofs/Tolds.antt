@@ -8,7 +8,8 @@ use Rattle.rule_tokens.specs.Limits.{Limits}
 use Rattle.rule_tokens.specs.PartReaders.{unexpected, misplaced_word, left_out}
 use Rattle.rule_tokens.specs.Tokens.{Token, Line, Head, Name, Register, Word, Opcode, Number, Arrow, Mark, Other, Bad, Excess}
 use Rattle.ops.proofs.KeywordLemmas.{same_word}
-use Rattle.rule_viable_prefixes.specs.Misfits.{Fitting, NounFits, IsTooDeep, IsTooMany, name, register, constant, choice, statement, nesting, Says, kind_at, IsMisfit, itself, read_on}
+use Rattle.rule_viable_prefixes.specs.Misfits.{Fitting, NounFits}
+use Rattle.rule_viable_prefixes.proofs.Reasons.{IsTooDeep, IsTooMany, name, register, constant, choice, statement, nesting, Says, kind_at, IsMisfit, itself, read_on}
 
 module _ (limits : Limits) where
   -- why a word is told as `Syntax`, whatever stands opened it
@@ -18,9 +19,8 @@ module _ (limits : Limits) where
   -- what the kind says of the token, where these fit, and of a word that is told as `Syntax`
   pub record Told (opened : ℕ) (fits : Fitting) (none : List ℕ → Type 0) (token : Token) (behind : List Token) (kind : RuleFaultKind) : Type 0 where
     pub misfit : token ≢ Excess → IsMisfit limits opened fits token behind kind
-    -- the mark of the end of what is read is told as a limit that is passed, and in front of it a token by itself
+    -- the mark of the end of what is read is told as a limit that is passed
     pub excess : token ≡ Excess → kind ≡ TooMany
-    pub in_front : token ≢ Excess → (more : List Token) → behind ≡ Excess ∷ more → Says limits opened fits token kind
     pub lacks : kind ≡ Syntax → (word : List ℕ) → token ≡ Word word → Excuse opened fits word ⊎ none word
 
   -- and of the first of the tokens
@@ -47,18 +47,18 @@ module _ (limits : Limits) where
   no_word token word plain is = subst IsPlain is plain
 
   pub says_syntax : {opened : ℕ} {fits : Fitting} {none : List ℕ → Type 0} (token : Token) (more : List Token) → IsPlain token → Told opened fits none token more Syntax
-  says_syntax token more plain = record { misfit = λ read. itself (no_bad token plain); excess = λ is. absurd (no_excess token plain is); in_front = λ read others is. no_bad token plain; lacks = λ kind word is. absurd (no_word token word plain is) }
+  says_syntax token more plain = record { misfit = λ read. itself (no_bad token plain); excess = λ is. absurd (no_excess token plain is); lacks = λ kind word is. absurd (no_word token word plain is) }
 
   pub says_word : {opened : ℕ} {fits : Fitting} {none : List ℕ → Type 0} (word : List ℕ) (more : List Token) → Excuse opened fits word ⊎ none word → Told opened fits none (Word word) more Syntax
-  says_word {opened} {fits} {none} word more why = record { misfit = λ read. itself (λ e. absurd cc); excess = λ is. absurd cc; in_front = λ read others is e. absurd cc; lacks = λ kind other is. subst (λ (w : List ℕ). Excuse opened fits w ⊎ none w) (let equal = is in cc) why }
+  says_word {opened} {fits} {none} word more why = record { misfit = λ read. itself (λ e. absurd cc); excess = λ is. absurd cc; lacks = λ kind other is. subst (λ (w : List ℕ). Excuse opened fits w ⊎ none w) (let equal = is in cc) why }
 
   pub says_too_many : {opened : ℕ} {fits : Fitting} {none : List ℕ → Type 0} (token : Token) (more : List Token) → IsTooMany limits opened fits token → Told opened fits none token more TooMany
-  says_too_many token more is = record { misfit = λ read. itself is; excess = λ e. refl; in_front = λ read others e. is; lacks = λ kind word same_token. absurd cc }
+  says_too_many token more is = record { misfit = λ read. itself is; excess = λ e. refl; lacks = λ kind word same_token. absurd cc }
 
   -- a word has the reason that is given
   pub says_unexpected : {opened : ℕ} {fits : Fitting} {none : List ℕ → Type 0} (line : ℕ) (token : Token) (more : List Token) → ((word : List ℕ) → token ≡ Word word → Excuse opened fits word ⊎ none word) → Told opened fits none token more (unexpected line (token ∷ more)).kind
-  says_unexpected line Bad more why = record { misfit = λ read. itself refl; excess = λ is. absurd cc; in_front = λ read others is. refl; lacks = λ kind word is. absurd cc }
-  says_unexpected line Excess more why = record { misfit = λ read. absurd (read refl); excess = λ is. refl; in_front = λ read others is. absurd (read refl); lacks = λ kind word is. absurd cc }
+  says_unexpected line Bad more why = record { misfit = λ read. itself refl; excess = λ is. absurd cc; lacks = λ kind word is. absurd cc }
+  says_unexpected line Excess more why = record { misfit = λ read. absurd (read refl); excess = λ is. refl; lacks = λ kind word is. absurd cc }
   says_unexpected line (Line number) more why = says_syntax (Line number) more tt
   says_unexpected line (Head text) more why = says_syntax (Head text) more tt
   says_unexpected line (Name text) more why = says_syntax (Name text) more tt
@@ -77,7 +77,7 @@ module _ (limits : Limits) where
       by true h = says_word word more (inl (inl (same_word word (codes "hasOneUse") h)))
       by false h =
           let other : word ≢ codes "hasOneUse" = λ same_word_. let is = ap (λ (w : List ℕ). bytes_eq w (codes "hasOneUse")) same_word_ in let both = sym h ∙ is in absurd cc in
-          record { misfit = λ read. itself (refl, other, noun); excess = λ is. absurd cc; in_front = λ read others is. (refl, other, noun); lacks = λ kind other is. absurd cc }
+          record { misfit = λ read. itself (refl, other, noun); excess = λ is. absurd cc; lacks = λ kind other is. absurd cc }
 
   pub says_left_out : {opened : ℕ} {fits : Fitting} {none : List ℕ → Type 0} → NounFits fits → (line : ℕ) (token : Token) (more : List Token) → Told opened fits none token more (left_out line (token ∷ more)).kind
   says_left_out noun line (Word word) more = says_misplaced noun line word more
@@ -108,7 +108,6 @@ module _ (limits : Limits) where
   says_deep {opened} {fits} {none} word deep tokens kind (inr (none_, is)) = record {
     misfit = λ read. read_on (word, refl, deep, none_, is);
     excess = λ is_excess. absurd cc;
-    in_front = λ read more is_excess. absurd cc;
     lacks = λ kind_ other is_other. inl (subst (Excuse opened fits) (let equal = is_other in cc) (inr deep));
   }
 
@@ -138,7 +137,7 @@ module _ (inner limits : Limits) (a b : ℕ) (bytes : inner.name_bytes ≡ limit
   pub says_carried : {C D : List ℕ → Type 0} (tokens : List Token) → ((word : List ℕ) (rest : List Token) → tokens ≡ Word word ∷ rest → C word → D word)
       → (kind : RuleFaultKind) → SaysFirst inner a P C tokens kind → SaysFirst limits b Q D tokens kind
   says_carried [] g kind is = is
-  says_carried {C} {D} (token ∷ tokens) g kind is = record { misfit = λ read. misfit_carried token tokens kind (is.misfit read); excess = is.excess; in_front = λ read more e. kind_carried token kind (is.in_front read more e); lacks = λ syntax_ word is_word. by word is_word (is.lacks syntax_ word is_word) }
+  says_carried {C} {D} (token ∷ tokens) g kind is = record { misfit = λ read. misfit_carried token tokens kind (is.misfit read); excess = is.excess; lacks = λ syntax_ word is_word. by word is_word (is.lacks syntax_ word is_word) }
     where
       by : (word : List ℕ) → token ≡ Word word → Excuse inner a P word ⊎ C word → Excuse limits b Q word ⊎ D word
       by word is_word (inl (inl one)) = inl (inl one)

@@ -21,13 +21,15 @@ use Rattle.rule_parse.specs.declared.raw.RawRule.{RawRule}
 use Rattle.rule_parse.specs.Grammar.{SpellsRules, SpellsVersion, SpellsFile}
 use Rattle.rule_parse.specs.RuleReaders.{version_number_at, version_at, rules_at, rules_of, all_rules}
 use Rattle.rule_parse.proofs.Files.{version_read}
-use Rattle.rule_viable_prefixes.specs.Fits.{Fits, FitsBehind, LineFits, line_behind, line_of}
-use Rattle.rule_viable_prefixes.specs.Misfits.{openings_on_line, NounFits, IsExcused, one_use, repeated, nested, Says, IsMisfit, itself, IsOtherVersion}
+use Rattle.rule_viable_prefixes.specs.Fits.{line_behind, line_of}
+use Rattle.rule_viable_prefixes.proofs.FitsWithin.{FitsWithin, FitsBehindWithin, LineFitsWithin}
+use Rattle.rule_viable_prefixes.specs.Misfits.{NounFits}
+use Rattle.rule_viable_prefixes.proofs.Reasons.{openings_on_line, IsExcused, one_use, repeated, nested, IsMisfit, itself, IsOtherVersion}
 use Rattle.rule_viable_prefixes.proofs.Files.{Fit, FitBehind, LineFit, AtRuleToken, AtRulesEnd, where_rules_refused}
 use Rattle.rule_viable_prefixes.proofs.FlagRuns.{IsNew, new_behind, none_new, new_on_line}
 use Rattle.rule_viable_prefixes.proofs.Lines.{NamesEndLines}
 use Rattle.rule_viable_prefixes.proofs.Outcomes.{repeats_behind}
-use Rattle.rule_viable_prefixes.proofs.Tolds.{Told, kind_carried, misfit_carried, says_unexpected}
+use Rattle.rule_viable_prefixes.proofs.Tolds.{Told, misfit_carried, says_unexpected}
 use Rattle.rule_viable_prefixes.proofs.Roomy.{roomy}
 use Rattle.rule_viable_prefixes.proofs.Rules.{on_new_line, begins_line, line_of_both}
 
@@ -43,21 +45,20 @@ module _ (spare_bytes deepest spare_statements : ℕ) where
     pub token : Token
     pub behind : List Token
     pub stands : tokens ≡ front ++ token ∷ behind
-    pub fits : Fits limits front
-    pub misfit : ¬ FitsBehind limits front token
+    pub fits : FitsWithin limits front
+    pub misfit : ¬ FitsBehindWithin limits front token
     pub line : found.line ≡ line_of front
-    pub told : token ≢ Excess → IsMisfit limits (openings_on_line front) (FitsBehind limits front) token behind found.kind ⊎ IsOtherVersion (FitsBehind limits front) token found.kind
+    pub told : token ≢ Excess → IsMisfit limits (openings_on_line front) (FitsBehindWithin limits front) token behind found.kind ⊎ IsOtherVersion front token found.kind
     pub excess : token ≡ Excess → found.kind ≡ TooMany
-    pub in_front : token ≢ Excess → (more : List Token) → behind ≡ Excess ∷ more → Says limits (openings_on_line front) (FitsBehind limits front) token found.kind ⊎ IsOtherVersion (FitsBehind limits front) token found.kind
-    pub no_noun : found.kind ≡ Syntax → (word : List ℕ) → token ≡ Word word → NounFits (FitsBehind limits front) → IsExcused limits (FitsBehind limits front) front word
+    pub no_noun : found.kind ≡ Syntax → (word : List ℕ) → token ≡ Word word → NounFits (FitsBehindWithin limits front) → IsExcused limits (FitsBehindWithin limits front) front word
     pub new : IsNew front found.kind
 
   -- at the end
   pub record AtEnd (tokens : List Token) (last : ℕ) (found : RuleFault) : Type 0 where
-    pub fits : Fits limits tokens
+    pub fits : FitsWithin limits tokens
     pub no_rules : (rules : List RawRule) → ¬ SpellsFile limits rules tokens
     pub kind : found.kind ≡ Syntax
-    pub line : (LineFits limits tokens × (found.line ≡ last)) ⊎ ((¬ LineFits limits tokens) × (found.line ≡ line_of tokens))
+    pub line : (LineFitsWithin limits tokens × (found.line ≡ last)) ⊎ ((¬ LineFitsWithin limits tokens) × (found.line ≡ line_of tokens))
 
   abbrev IsRefused : ℕ → List Token → RuleFault → Type 0
   IsRefused last tokens found = AtToken tokens found ⊎ AtEnd tokens last found
@@ -99,14 +100,14 @@ module _ (spare_bytes deepest spare_statements : ℕ) where
     FitNext front token = FitBehind spare_bytes deepest spare_statements version front token
 
     -- what goes on with rules goes on with the file
-    up : (front : List Token) → IsFit front → Fits limits (own ++ front)
+    up : (front : List Token) → IsFit front → FitsWithin limits (own ++ front)
     up front (rules, more, is) = (rules, more, (version, (own, front ++ more, o.spells, is, append_assoc own front more)))
 
-    up_next : (front : List Token) (token : Token) → FitNext front token → FitsBehind limits (own ++ front) token
+    up_next : (front : List Token) (token : Token) → FitNext front token → FitsBehindWithin limits (own ++ front) token
     up_next front token (rules, more, is) = (rules, more, (version, (own, (front ++ token ∷ []) ++ more, o.spells, is, both_behind own front token more)))
 
     -- and the other way round
-    down : (number : ℕ) (inner behind : List Token) → tokens ≡ Line number ∷ inner ++ behind → (token : Token) → IsNext behind token → FitsBehind limits (own ++ Line number ∷ inner) token → FitNext (Line number ∷ inner) token
+    down : (number : ℕ) (inner behind : List Token) → tokens ≡ Line number ∷ inner ++ behind → (token : Token) → IsNext behind token → FitsBehindWithin limits (own ++ Line number ∷ inner) token → FitNext (Line number ∷ inner) token
     down number inner behind stands token next (rules, more, is) =
         let one : (inner ++ token ∷ []) ++ more ≡ inner ++ token ∷ more = append_assoc inner (token ∷ []) more in
         let read : version_at (own ++ (Line number ∷ ((inner ++ token ∷ []) ++ more))) ≡ Ok (version, Line number ∷ ((inner ++ token ∷ []) ++ more)) =
@@ -124,17 +125,16 @@ module _ (spare_bytes deepest spare_statements : ℕ) where
           fits = up front at.fits;
           misfit = λ fits. at.misfit (down at.number at.inner (at.token ∷ at.behind) at.stands at.token (first at.behind refl) fits);
           line = at.line ∙ sym (line_of_both limits own at.inner 0 at.number);
-          told = λ read. inl (misfit_carried limits limits (openings_on_line at.inner) (openings_on_line (own ++ front)) refl (λ far. let same_line = on_new_line limits own at.inner 0 at.number in omega (arith, far, same_line)) (FitNext front) (FitsBehind limits (own ++ front)) (up_next front) at.token at.behind found.kind (at.told read));
+          told = λ read. inl (misfit_carried limits limits (openings_on_line at.inner) (openings_on_line (own ++ front)) refl (λ far. let same_line = on_new_line limits own at.inner 0 at.number in omega (arith, far, same_line)) (FitNext front) (FitsBehindWithin limits (own ++ front)) (up_next front) at.token at.behind found.kind (at.told read));
           excess = at.excess;
-          in_front = λ read more is. inl (kind_carried limits limits (openings_on_line at.inner) (openings_on_line (own ++ front)) refl (λ far. let same_line = on_new_line limits own at.inner 0 at.number in omega (arith, far, same_line)) (FitNext front) (FitsBehind limits (own ++ front)) (up_next front) at.token found.kind (at.in_front read more is));
           no_noun = λ syntax_ word is noun. excused word (at.no_noun syntax_ word is (noun_down noun));
           new = new_on_line own at.number at.inner found.kind at.new;
         }
       where
-        noun_down : NounFits (FitsBehind limits (own ++ Line at.number ∷ at.inner)) → NounFits (FitNext (Line at.number ∷ at.inner))
+        noun_down : NounFits (FitsBehindWithin limits (own ++ Line at.number ∷ at.inner)) → NounFits (FitNext (Line at.number ∷ at.inner))
         noun_down (noun, is_noun, fits) = (noun, is_noun, down at.number at.inner (at.token ∷ at.behind) at.stands (Word noun) (other tt) fits)
 
-        excused : (word : List ℕ) → IsExcused limits (FitNext (Line at.number ∷ at.inner)) (Line at.number ∷ at.inner) word → IsExcused limits (FitsBehind limits (own ++ Line at.number ∷ at.inner)) (own ++ Line at.number ∷ at.inner) word
+        excused : (word : List ℕ) → IsExcused limits (FitNext (Line at.number ∷ at.inner)) (Line at.number ∷ at.inner) word → IsExcused limits (FitsBehindWithin limits (own ++ Line at.number ∷ at.inner)) (own ++ Line at.number ∷ at.inner) word
         excused word (one_use is) = one_use is
         excused word (repeated again) = repeated (repeats_behind limits own (Line at.number ∷ at.inner) (own ++ Line at.number ∷ at.inner) word refl again)
         excused word (nested (far, nests, fits)) = nested ((let same_line = on_new_line limits own at.inner 0 at.number in omega (arith, far, same_line)), nests, up_next (Line at.number ∷ at.inner) (Number (codes "0")) fits)
@@ -151,11 +151,11 @@ module _ (spare_bytes deepest spare_statements : ℕ) where
         stands = is ∙ ap (λ (ts : List Token). Line number ∷ ts) (sym (append-nil inner))
 
         line : (LineFit spare_bytes deepest spare_statements version tokens × (found.line ≡ last)) ⊎ ((¬ LineFit spare_bytes deepest spare_statements version tokens) × (found.line ≡ line_of tokens))
-            → (LineFits limits (own ++ tokens) × (found.line ≡ last)) ⊎ ((¬ LineFits limits (own ++ tokens)) × (found.line ≡ line_of (own ++ tokens)))
+            → (LineFitsWithin limits (own ++ tokens) × (found.line ≡ last)) ⊎ ((¬ LineFitsWithin limits (own ++ tokens)) × (found.line ≡ line_of (own ++ tokens)))
         line (inl ((next, fits), here)) = inl ((next, up_next tokens (Line next) fits), here)
         line (inr (none, here)) = inr (
           (λ fits.
-              none (fits.0, subst (λ (ts : List Token). FitNext ts (Line fits.0)) (sym is) (down number inner [] stands (Line fits.0) (other tt) (subst (λ (ts : List Token). FitsBehind limits (own ++ ts) (Line fits.0)) is fits.1)))),
+              none (fits.0, subst (λ (ts : List Token). FitNext ts (Line fits.0)) (sym is) (down number inner [] stands (Line fits.0) (other tt) (subst (λ (ts : List Token). FitsBehindWithin limits (own ++ ts) (Line fits.0)) is fits.1)))),
           here ∙ ap line_of is ∙ begins_line limits number 0 inner ∙ sym (line_of_both limits own inner 0 number) ∙ sym (ap (λ (ts : List Token). line_of (own ++ ts)) is),
         )
 
@@ -229,11 +229,8 @@ module _ (spare_bytes deepest spare_statements : ℕ) where
   unfolding is_digit
   one_line line = (One, (begun line (Number (codes "1") ∷ []), [], inl (record { line = line; digits = codes "1"; are_digits = refl; number = refl; spelled = refl }), refl, refl))
 
-  head_fits : (line : ℕ) → Fits limits (begun line [])
+  head_fits : (line : ℕ) → FitsWithin limits (begun line [])
   head_fits line = ([], Number (codes "1") ∷ [], one_line line)
-
-  one_fits : (line : ℕ) → FitsBehind limits (begun line []) (Number (codes "1"))
-  one_fits line = ([], [], one_line line)
 
   -- a head repeats no flag
   head_new : (line : ℕ) (kind : RuleFaultKind) → IsNew (begun line []) kind
@@ -254,8 +251,8 @@ module _ (spare_bytes deepest spare_statements : ℕ) where
   })
 
   -- a token that is not expected, which no noun may replace
-  unexpected_token : (line : ℕ) (front : List Token) (token : Token) (behind : List Token) → Fits limits front → line ≡ line_of front → ¬ FitsBehind limits front token
-      → ((noun : List ℕ) → ¬ FitsBehind limits front (Word noun)) → ((kind : RuleFaultKind) → IsNew front kind) → AtToken (front ++ token ∷ behind) (unexpected line (token ∷ behind))
+  unexpected_token : (line : ℕ) (front : List Token) (token : Token) (behind : List Token) → FitsWithin limits front → line ≡ line_of front → ¬ FitsBehindWithin limits front token
+      → ((noun : List ℕ) → ¬ FitsBehindWithin limits front (Word noun)) → ((kind : RuleFaultKind) → IsNew front kind) → AtToken (front ++ token ∷ behind) (unexpected line (token ∷ behind))
   unexpected_token line front token behind fits here misfit none new = record {
     front = front;
     token = token;
@@ -266,7 +263,6 @@ module _ (spare_bytes deepest spare_statements : ℕ) where
     line = on_line token ∙ here;
     told = λ read. inl (told.misfit read);
     excess = told.excess;
-    in_front = λ read more is. inl (told.in_front read more is);
     no_noun = λ syntax_ word is noun. absurd (none noun.0 noun.2);
     new = new (unexpected line (token ∷ behind)).kind;
   }
@@ -276,7 +272,7 @@ module _ (spare_bytes deepest spare_statements : ℕ) where
       on_line Excess = refl
       on_line t = refl
 
-      told : Told limits (openings_on_line front) (FitsBehind limits front) (λ word. NounFits (FitsBehind limits front) → ⊥) token behind (unexpected line (token ∷ behind)).kind
+      told : Told limits (openings_on_line front) (FitsBehindWithin limits front) (λ word. NounFits (FitsBehindWithin limits front) → ⊥) token behind (unexpected line (token ∷ behind)).kind
       told = says_unexpected limits line token behind (λ word is. inr (λ noun. none noun.0 noun.2))
 
   -- no number of a version behind the head
@@ -302,18 +298,13 @@ module _ (spare_bytes deepest spare_statements : ℕ) where
         line = refl;
         told = λ read. why b;
         excess = λ is. absurd cc;
-        in_front = λ read more is. itself_why b;
         no_noun = λ syntax_ word is. absurd cc;
         new = head_new line (cond b Syntax (LeftOut text));
       })
         where
-          why : (c : Bool) → IsMisfit limits (openings_on_line (begun line [])) (FitsBehind limits (begun line [])) (Number text) rest (cond c Syntax (LeftOut text)) ⊎ IsOtherVersion (FitsBehind limits (begun line [])) (Number text) (cond c Syntax (LeftOut text))
+          why : (c : Bool) → IsMisfit limits (openings_on_line (begun line [])) (FitsBehindWithin limits (begun line [])) (Number text) rest (cond c Syntax (LeftOut text)) ⊎ IsOtherVersion (begun line []) (Number text) (cond c Syntax (LeftOut text))
           why true = inl (itself (λ is. cc))
-          why false = inr (text, refl, refl, one_fits line)
-
-          itself_why : (c : Bool) → Says limits (openings_on_line (begun line [])) (FitsBehind limits (begun line [])) (Number text) (cond c Syntax (LeftOut text)) ⊎ IsOtherVersion (FitsBehind limits (begun line [])) (Number text) (cond c Syntax (LeftOut text))
-          itself_why true = inl (λ is. cc)
-          itself_why false = inr (text, refl, refl, one_fits line)
+          why false = inr (line, text, refl, refl, refl)
 
   fault_is : (d e : RuleFault) → ◌≡◌ {A = Result (List RawRule) RuleFault} (Err d) (Err e) → d ≡ e
   fault_is d e is = let equal = is in cc
@@ -368,3 +359,20 @@ module _ (spare_bytes deepest spare_statements : ℕ) where
           subst (λ (word : List ℕ). IsRefused last (Line line ∷ Head word ∷ rest) found) (sym is)
           (headed last line rest found names (subst (λ (word : List ℕ). all_rules limits last (Line line ∷ Head word ∷ rest) ≡ Err found) is e))
   where_refused last tokens found ends names e = without last tokens found ends names e tt
+
+  -- the number of another version is told as it is, but for one that is no number of a text
+  pub version_told : (last line : ℕ) (text : List ℕ) (rest : List Token) (found : RuleFault) → all_rules limits last (begun line (Number text ∷ rest)) ≡ Err found → found.kind ≡ Syntax → ¬ FitsBehindWithin limits (begun line []) (Number text) → text ≡ codes "hasOneUse"
+  unfolding version_at version_number_at
+  version_told last line text rest found e syntax_ misfit = by (version_in text) refl
+    where
+      kind : (b : Bool) → bytes_eq text (codes "hasOneUse") ≡ b → cond b Syntax (LeftOut text) ≡ Syntax → text ≡ codes "hasOneUse"
+      kind true h told = same_word text (codes "hasOneUse") h
+      kind false h told = absurd cc
+
+      by : (version : Option Version) → version_in text ≡ version → text ≡ codes "hasOneUse"
+      by (Some version) is =
+          let known = version_in-is text version is in
+          absurd (misfit ([], [], (version, (begun line (Number text ∷ []), [], inl (record { line = line; digits = text; are_digits = known.0; number = known.1; spelled = refl }), refl, refl))))
+      by None is =
+          let read : all_rules limits last (begun line (Number text ∷ rest)) ≡ Err (misplaced_word line text) = rw is refl in
+          kind (bytes_eq text (codes "hasOneUse")) refl (ap (λ (f : RuleFault). f.kind) (fault_is (misplaced_word line text) found (sym read ∙ e)) ∙ syntax_)

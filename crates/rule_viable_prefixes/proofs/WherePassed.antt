@@ -21,25 +21,26 @@ use Rattle.rule_parse.specs.Text.{IsFaultWithin}
 use Rattle.rule_parse.proofs.Counts.{kept_up_to_the_limit, passed_by_no_line}
 use Rattle.rule_parse.proofs.Cuts.{IsOfText, AreOfText, of_both, of_back}
 use Rattle.rule_parse.proofs.Files.{all_rules-is}
-use Rattle.rule_viable_prefixes.specs.Fits.{Fits, FitsBehind, line_of}
-use Rattle.rule_viable_prefixes.specs.Misfits as kinds
-use Rattle.rule_viable_prefixes.specs.Misfits.{openings, openings_behind, openings_on_line, opening_marks, Fitting, IsTooMany, IsMisfit, itself, read_on, IsOtherVersion}
-use Rattle.rule_viable_prefixes.specs.Passed.{StaysWithin}
-use Rattle.rule_viable_prefixes.specs.WherePassed.{IsPassedOn, TooManyIsToldWhereALimitIsPassed}
-use Rattle.rule_viable_prefixes.proofs.LimitLaws.{fault_is, spelled_wider}
+use Rattle.rule_viable_prefixes.specs.Fits.{line_of}
+use Rattle.rule_viable_prefixes.proofs.FitsWithin.{FitsWithin, FitsBehindWithin, fits_front, fits_before}
+use Rattle.rule_viable_prefixes.proofs.Reasons as kinds
+use Rattle.rule_viable_prefixes.specs.Misfits.{Fitting}
+use Rattle.rule_viable_prefixes.proofs.Reasons.{openings, openings_behind, openings_on_line, opening_marks, IsTooMany, IsMisfit, itself, read_on, IsOtherVersion}
+use Rattle.rule_viable_prefixes.specs.Passed.{StaysWithin, AllStayWithin}
+use Rattle.rule_viable_prefixes.proofs.LimitLaws.{fault_is, fits_wider}
 use Rattle.rule_viable_prefixes.proofs.Lines.{NamesEndLines}
 use Rattle.rule_viable_prefixes.proofs.Marks.{IsMark, bad, excess, Marking, State, step, Passed, bytes, levels, half, Kept, Marked, none, cut, over, over_name, later}
 use Rattle.rule_viable_prefixes.proofs.MarkedRules.{Agrees, agreed, both_failed, marked, file_same}
 use Rattle.rule_viable_prefixes.proofs.Names.{line_behind_name}
 use Rattle.rule_viable_prefixes.proofs.Placed.{run, run_both, start, line_is, within_kept, kept_within, AreLimited, KeptAlong, Placed, place, bytes_in, gap, behind_mark, marks, unmarked, kept_run, marked_at}
-use Rattle.rule_viable_prefixes.proofs.Refusals.{fault_of, split, no_mark, fits_front}
+use Rattle.rule_viable_prefixes.proofs.Refusals.{fault_of, split, one_place, no_mark}
 use Rattle.rule_viable_prefixes.proofs.Roomy.{roomy}
 use Rattle.rule_viable_prefixes.proofs.Texts.{names_in, of_text, text_begins, limited_begins, limited_names}
 use Rattle.rule_viable_prefixes.proofs.Versions.{AtToken, AtEnd, where_refused}
 
 -- ---- marked tokens end lines as the others do
 
-ends_marked : (c : Marking) (s : State) (a b : List Token) → Marked c s a b → EndsLine a → EndsLine b
+pub ends_marked : (c : Marking) (s : State) (a b : List Token) → Marked c s a b → EndsLine a → EndsLine b
 ends_marked c s a b none ended = tt
 ends_marked c s a b cut ended = absurd ended
 ends_marked c s a b (over (Line number) rest text no_name is le) ended = tt
@@ -48,7 +49,7 @@ ends_marked c s a b (over_name text rest over_ long le) ended = absurd ended
 ends_marked c s a b (later (Line number) x y text kept more) ended = tt
 ends_marked c s a b (later token x y text kept more) ended = absurd ended
 
-mark_names : (m : Token) (kind : RuleFaultKind) → IsMark m kind → (rest : List Token) → NamesEndLines rest → NamesEndLines (m ∷ rest)
+pub mark_names : (m : Token) (kind : RuleFaultKind) → IsMark m kind → (rest : List Token) → NamesEndLines rest → NamesEndLines (m ∷ rest)
 mark_names m kind bad rest names = names
 mark_names m kind excess rest names = names
 
@@ -71,12 +72,12 @@ one_opened (Mark mark) = by (is_among opening_marks mark)
     by false = omega arith
 one_opened token = omega arith
 
-few_opened : (n : ℕ) (tokens : List Token) → openings_behind n tokens ≤ n + length tokens
+pub few_opened : (n : ℕ) (tokens : List Token) → openings_behind n tokens ≤ n + length tokens
 few_opened n [] = omega arith
 few_opened n (Line number ∷ tokens) = let less = few_opened 0 tokens in omega (arith, less)
 few_opened n (token ∷ tokens) = let less = few_opened (n + openings token) tokens in let most = one_opened token in omega (arith, less, most)
 
-length_front : (tokens front back : List Token) → tokens ≡ front ++ back → length front ≤ length tokens
+pub length_front : (tokens front back : List Token) → tokens ≡ front ++ back → length front ≤ length tokens
 length_front tokens [] back is = omega arith
 length_front [] (t ∷ front) back is = absurd cc
 length_front (u ∷ tokens) (t ∷ front) back is = let rest : tokens ≡ front ++ back = cc in let less = length_front tokens front back rest in omega (arith, less)
@@ -84,14 +85,14 @@ length_front (u ∷ tokens) (t ∷ front) back is = let rest : tokens ≡ front 
 -- ---- what is told where no level is too deep
 
 -- `BadByte` of a byte that may not stand alone
-only_bad : (limits : Limits) (n : ℕ) (fits : Fitting) (token : Token) (behind : List Token) (kind : RuleFaultKind) → n < limits.nested → IsMisfit limits n fits token behind kind ⊎ IsOtherVersion fits token kind → kind ≡ BadByte → token ≡ Bad
-only_bad limits n fits token behind kind less (inl (read_on (word, is, (far, nests, more), missed, told))) e = absurd (omega (arith, far, less))
-only_bad limits n fits token behind kind less (inr (left, is, told, one)) e = let both = sym told ∙ e in absurd cc
-only_bad limits n fits token behind BadByte less (inl (itself is)) e = is
-only_bad limits n fits token behind TooMany less (inl (itself is)) e = absurd cc
-only_bad limits n fits token behind (LeftOut left) less (inl (itself is)) e = absurd cc
-only_bad limits n fits token behind Syntax less (inl (itself is)) e = absurd cc
-only_bad limits n fits token behind kind less (inl (itself is)) e = absurd is
+pub only_bad : (limits : Limits) (n : ℕ) (front : List Token) (fits : Fitting) (token : Token) (behind : List Token) (kind : RuleFaultKind) → n < limits.nested → IsMisfit limits n fits token behind kind ⊎ IsOtherVersion front token kind → kind ≡ BadByte → token ≡ Bad
+only_bad limits n front fits token behind kind less (inl (read_on (word, is, (far, nests, more), missed, told))) e = absurd (omega (arith, far, less))
+only_bad limits n front fits token behind kind less (inr (line, left, there, is, told)) e = let both = sym told ∙ e in absurd cc
+only_bad limits n front fits token behind BadByte less (inl (itself is)) e = is
+only_bad limits n front fits token behind TooMany less (inl (itself is)) e = absurd cc
+only_bad limits n front fits token behind (LeftOut left) less (inl (itself is)) e = absurd cc
+only_bad limits n front fits token behind Syntax less (inl (itself is)) e = absurd cc
+only_bad limits n front fits token behind kind less (inl (itself is)) e = absurd is
 
 -- and `TooMany` not of such a byte
 no_bad_too_many : (limits : Limits) (n : ℕ) (fits : Fitting) (token : Token) → n < limits.nested → IsTooMany limits n fits token → token ≡ Bad → ⊥
@@ -102,14 +103,14 @@ no_bad_too_many limits n fits token less (kinds.choice name is) e = absurd cc
 no_bad_too_many limits n fits token less (kinds.statement name is) e = absurd cc
 no_bad_too_many limits n fits token less (kinds.nesting t (far, nests, more)) e = absurd (omega (arith, far, less))
 
-no_bad : (limits : Limits) (n : ℕ) (fits : Fitting) (token : Token) (behind : List Token) (kind : RuleFaultKind) → n < limits.nested → IsMisfit limits n fits token behind kind ⊎ IsOtherVersion fits token kind → kind ≡ TooMany → token ≡ Bad → ⊥
-no_bad limits n fits token behind kind less (inl (read_on (word, is, (far, nests, more), missed, told))) e b = absurd (omega (arith, far, less))
-no_bad limits n fits token behind kind less (inr (left, is, told, one)) e b = let both = sym told ∙ e in absurd cc
-no_bad limits n fits token behind TooMany less (inl (itself is)) e b = no_bad_too_many limits n fits token less is b
-no_bad limits n fits token behind BadByte less (inl (itself is)) e b = absurd cc
-no_bad limits n fits token behind (LeftOut left) less (inl (itself is)) e b = absurd cc
-no_bad limits n fits token behind Syntax less (inl (itself is)) e b = absurd cc
-no_bad limits n fits token behind kind less (inl (itself is)) e b = absurd is
+pub no_bad : (limits : Limits) (n : ℕ) (front : List Token) (fits : Fitting) (token : Token) (behind : List Token) (kind : RuleFaultKind) → n < limits.nested → IsMisfit limits n fits token behind kind ⊎ IsOtherVersion front token kind → kind ≡ TooMany → token ≡ Bad → ⊥
+no_bad limits n front fits token behind kind less (inl (read_on (word, is, (far, nests, more), missed, told))) e b = absurd (omega (arith, far, less))
+no_bad limits n front fits token behind kind less (inr (line, left, there, is, told)) e b = let both = sym told ∙ e in absurd cc
+no_bad limits n front fits token behind TooMany less (inl (itself is)) e b = no_bad_too_many limits n fits token less is b
+no_bad limits n front fits token behind BadByte less (inl (itself is)) e b = absurd cc
+no_bad limits n front fits token behind (LeftOut left) less (inl (itself is)) e b = absurd cc
+no_bad limits n front fits token behind Syntax less (inl (itself is)) e b = absurd cc
+no_bad limits n front fits token behind kind less (inl (itself is)) e b = absurd is
 
 -- ---- two marks behind the same tokens
 
@@ -117,45 +118,35 @@ module _ (sb sn ss : ℕ) where
   abbrev wide : Limits
   wide = roomy sb sn ss
 
-  not_marked : (front more : List Token) → Fits wide (front ++ Excess ∷ more) → ⊥
-  not_marked front more (rules, rest, is) = no_mark sb sn ss front (more ++ rest) rules (subst (SpellsFile wide rules) (append_assoc front (Excess ∷ more) rest) is)
-
-  fits_before : (pre front : List Token) (token : Token) (others : List Token) → pre ≡ front ++ token ∷ others → Fits wide pre → FitsBehind wide front token
-  fits_before pre front token others is fits = fits_front sb sn ss (front ++ token ∷ []) others (subst (Fits wide) (is ∙ sym (append_assoc front (token ∷ []) others)) fits)
+  pub not_marked : (front more : List Token) → FitsWithin wide (front ++ Excess ∷ more) → ⊥
+  not_marked front more (rules, rest, is) = no_mark wide front (more ++ rest) rules (subst (SpellsFile wide rules) (append_assoc front (Excess ∷ more) rest) is)
 
   -- all tokens fit up to the mark of the end of what is read, or one before it does not
-  at_excess : (pre rest all : List Token) (found : RuleFault) → all ≡ pre ++ Excess ∷ rest → (at : AtToken sb sn ss all found) → (Fits wide pre × (found.line ≡ line_of pre) × (found.kind ≡ TooMany)) ⊎ ((others : List Token) × (pre ≡ at.front ++ at.token ∷ others))
-  at_excess pre rest all found is at = by (split sb sn ss pre (Excess ∷ rest) at.front (at.token ∷ at.behind) (sym is ∙ at.stands))
+  pub at_excess : (pre rest all : List Token) (found : RuleFault) → all ≡ pre ++ Excess ∷ rest → (at : AtToken sb sn ss all found) → (FitsWithin wide pre × (found.line ≡ line_of pre) × (found.kind ≡ TooMany)) ⊎ ((others : List Token) × (pre ≡ at.front ++ at.token ∷ others))
+  at_excess pre rest all found is at = by (split pre (Excess ∷ rest) at.front (at.token ∷ at.behind) (sym is ∙ at.stands))
     where
-      behind : (g : List Token) → at.front ≡ pre ++ g → Excess ∷ rest ≡ g ++ at.token ∷ at.behind → Fits wide pre × (found.line ≡ line_of pre) × (found.kind ≡ TooMany)
+      behind : (g : List Token) → at.front ≡ pre ++ g → Excess ∷ rest ≡ g ++ at.token ∷ at.behind → FitsWithin wide pre × (found.line ≡ line_of pre) × (found.kind ≡ TooMany)
       behind [] p q =
           let same : at.front ≡ pre = p ∙ append-nil pre in
           let mark : at.token ≡ Excess = cc in
-          (subst (Fits wide) same at.fits, at.line ∙ ap line_of same, at.excess mark)
+          (subst (FitsWithin wide) same at.fits, at.line ∙ ap line_of same, at.excess mark)
       behind (t ∷ g) p q =
           let first : t ≡ Excess = cc in
-          absurd (not_marked pre g (subst (λ (u : Token). Fits wide (pre ++ u ∷ g)) first (subst (Fits wide) p at.fits)))
+          absurd (not_marked pre g (subst (λ (u : Token). FitsWithin wide (pre ++ u ∷ g)) first (subst (FitsWithin wide) p at.fits)))
 
       by : ((g : List Token) × (at.front ≡ pre ++ g) × (Excess ∷ rest ≡ g ++ at.token ∷ at.behind)) ⊎ ((t : Token) × (g : List Token) × (pre ≡ at.front ++ t ∷ g) × (at.token ∷ at.behind ≡ t ∷ g ++ Excess ∷ rest))
-          → (Fits wide pre × (found.line ≡ line_of pre) × (found.kind ≡ TooMany)) ⊎ ((others : List Token) × (pre ≡ at.front ++ at.token ∷ others))
+          → (FitsWithin wide pre × (found.line ≡ line_of pre) × (found.kind ≡ TooMany)) ⊎ ((others : List Token) × (pre ≡ at.front ++ at.token ∷ others))
       by (inl (g, p, q)) = inl (behind g p q)
       by (inr (t, g, p, q)) = let same : t ≡ at.token = cc in inr (g, p ∙ ap (λ (u : Token). at.front ++ u ∷ g) same)
 
-  -- of two such tokens before the same tokens' end both are one
-  one_misfit : (pre f g : List Token) (t u : Token) (x y : List Token) → pre ≡ f ++ t ∷ x → pre ≡ g ++ u ∷ y → Fits wide f → ¬ FitsBehind wide f t → Fits wide g → ¬ FitsBehind wide g u → t ≡ u
-  one_misfit pre f g t u x y p q fits_f misfit_f fits_g misfit_g = by (split sb sn ss f (t ∷ x) g (u ∷ y) (sym p ∙ q))
-    where
-      shorter : (h : List Token) → g ≡ f ++ h → t ∷ x ≡ h ++ u ∷ y → t ≡ u
-      shorter [] a b = cc
-      shorter (v ∷ h) a b = let first : v ≡ t = cc in absurd (misfit_f (fits_before g f t h (a ∙ ap (λ (w : Token). f ++ w ∷ h) first) fits_g))
-
-      by : ((h : List Token) × (g ≡ f ++ h) × (t ∷ x ≡ h ++ u ∷ y)) ⊎ ((v : Token) × (h : List Token) × (f ≡ g ++ v ∷ h) × (u ∷ y ≡ v ∷ h ++ t ∷ x)) → t ≡ u
-      by (inl (h, a, b)) = shorter h a b
-      by (inr (v, h, a, b)) = let first : v ≡ u = cc in absurd (misfit_g (fits_before f g u h (a ∙ ap (λ (w : Token). g ++ w ∷ h) first) fits_f))
+  -- of two tokens that do not fit behind those before them, which do, both are one
+  pub one_misfit : (pre f g : List Token) (t u : Token) (x y : List Token) → pre ≡ f ++ t ∷ x → pre ≡ g ++ u ∷ y → FitsWithin wide f → ¬ FitsBehindWithin wide f t → FitsWithin wide g → ¬ FitsBehindWithin wide g u → (f ≡ g) × (t ≡ u)
+  one_misfit pre f g t u x y p q fits_f misfit_f fits_g misfit_g =
+      one_place (FitsBehindWithin wide) pre f g t u x y p q (λ before earlier more is. fits_before wide f before earlier more is fits_f) misfit_f (λ before earlier more is. fits_before wide g before earlier more is fits_g) misfit_g
 
   -- where the one mark is told as a byte that may not stand, and the other as too many, all tokens before them fit
   fits_marked : (pre rest others b e : List Token) (found_b found_e : RuleFault) → length e < sn → length b < sn → AreOfText pre → e ≡ pre ++ Excess ∷ rest → b ≡ pre ++ Bad ∷ others → AtToken sb sn ss e found_e → AtToken sb sn ss b found_b → found_e.kind ≡ TooMany → found_b.kind ≡ BadByte
-      → Fits wide pre × (found_e.line ≡ line_of pre)
+      → FitsWithin wide pre × (found_e.line ≡ line_of pre)
   fits_marked pre rest others b e found_b found_e small less of is_e is_b at_e at_b many bad_byte = by (at_excess pre rest e found_e is_e at_e)
     where
       opened_e : openings_on_line at_e.front < sn
@@ -165,48 +156,82 @@ module _ (sb sn ss : ℕ) where
       opened_b = let few = few_opened 0 at_b.front in let short = length_front b at_b.front (at_b.token ∷ at_b.behind) at_b.stands in omega (arith, few, short, less)
 
       bad_there : at_b.token ≡ Bad
-      bad_there = only_bad wide (openings_on_line at_b.front) (FitsBehind wide at_b.front) at_b.token at_b.behind found_b.kind opened_b (at_b.told (λ is. let both = sym (at_b.excess is) ∙ bad_byte in absurd cc)) bad_byte
+      bad_there = only_bad wide (openings_on_line at_b.front) at_b.front (FitsBehindWithin wide at_b.front) at_b.token at_b.behind found_b.kind opened_b (at_b.told (λ is. let both = sym (at_b.excess is) ∙ bad_byte in absurd cc)) bad_byte
 
       no_excess : (x : List Token) → pre ≡ at_e.front ++ at_e.token ∷ x → at_e.token ≢ Excess
       no_excess x is same = let back : AreOfText (at_e.token ∷ x) = of_back at_e.front (at_e.token ∷ x) (subst AreOfText is of) in subst IsOfText same back.0
 
       both_before : (x : List Token) → pre ≡ at_e.front ++ at_e.token ∷ x → (y : List Token) → pre ≡ at_b.front ++ at_b.token ∷ y → ⊥
       both_before x p y q =
-          let same : at_e.token ≡ at_b.token = one_misfit pre at_e.front at_b.front at_e.token at_b.token x y p q at_e.fits at_e.misfit at_b.fits at_b.misfit in
-          no_bad wide (openings_on_line at_e.front) (FitsBehind wide at_e.front) at_e.token at_e.behind found_e.kind opened_e (at_e.told (no_excess x p)) many (same ∙ bad_there)
+          let same : at_e.token ≡ at_b.token = (one_misfit pre at_e.front at_b.front at_e.token at_b.token x y p q at_e.fits at_e.misfit at_b.fits at_b.misfit).1 in
+          no_bad wide (openings_on_line at_e.front) at_e.front (FitsBehindWithin wide at_e.front) at_e.token at_e.behind found_e.kind opened_e (at_e.told (no_excess x p)) many (same ∙ bad_there)
 
-      by : (Fits wide pre × (found_e.line ≡ line_of pre) × (found_e.kind ≡ TooMany)) ⊎ ((x : List Token) × (pre ≡ at_e.front ++ at_e.token ∷ x)) → Fits wide pre × (found_e.line ≡ line_of pre)
+      by : (FitsWithin wide pre × (found_e.line ≡ line_of pre) × (found_e.kind ≡ TooMany)) ⊎ ((x : List Token) × (pre ≡ at_e.front ++ at_e.token ∷ x)) → FitsWithin wide pre × (found_e.line ≡ line_of pre)
       by (inl (fits, line, kind)) = (fits, line)
-      by (inr (x, p)) = absurd (behind (split sb sn ss pre (Bad ∷ others) at_b.front (at_b.token ∷ at_b.behind) (sym is_b ∙ at_b.stands)))
+      by (inr (x, p)) = absurd (behind (split pre (Bad ∷ others) at_b.front (at_b.token ∷ at_b.behind) (sym is_b ∙ at_b.stands)))
         where
           behind : ((g : List Token) × (at_b.front ≡ pre ++ g) × (Bad ∷ others ≡ g ++ at_b.token ∷ at_b.behind)) ⊎ ((t : Token) × (g : List Token) × (pre ≡ at_b.front ++ t ∷ g) × (at_b.token ∷ at_b.behind ≡ t ∷ g ++ Bad ∷ others)) → ⊥
-          behind (inl (g, a, h)) = at_e.misfit (fits_before pre at_e.front at_e.token x p (fits_front sb sn ss pre g (subst (Fits wide) a at_b.fits)))
+          behind (inl (g, a, h)) = at_e.misfit (fits_before wide pre at_e.front at_e.token x p (fits_front wide pre g (subst (FitsWithin wide) a at_b.fits)))
           behind (inr (t, g, a, h)) = let same : t ≡ at_b.token = cc in both_before x p g (a ∙ ap (λ (u : Token). at_b.front ++ u ∷ g) same)
+
+-- behind the name of a rule another line fits
+pub fits_lined : (limits : Limits) (front : List Token) (token : Token) → FitsBehindWithin limits front token → (line : ℕ) × FitsWithin limits (front ++ token ∷ gap line token)
+fits_lined limits front token (rules, more, is) = by token (subst (SpellsFile limits rules) (append_assoc front (token ∷ []) more) is)
+  where
+    by : (t : Token) → SpellsFile limits rules (front ++ t ∷ more) → (line : ℕ) × FitsWithin limits (front ++ t ∷ gap line t)
+    by (Name text) spelled =
+        let line = line_behind_name limits rules front text more spelled in
+        (line.0, (rules, line.1.0, subst (SpellsFile limits rules) (ap (λ (us : List Token). front ++ Name text ∷ us) line.1.1 ∙ sym (append_assoc front (Name text ∷ Line line.0 ∷ []) line.1.0)) spelled))
+    by t spelled = (0, (rules, more, subst (SpellsFile limits rules) (sym (append_assoc front (t ∷ []) more)) spelled))
+
+-- ---- what is told of marked tokens
+
+-- where `TooMany` is told within the limits, the fault of the mark is told within the wider ones
+pub told_marked : (c : Marking) (line : ℕ) (r q : Result (List RawRule) RuleFault) → Agrees c {X = List RawRule} (λ x y. x ≡ y) r q → r ≡ Err (fault line TooMany) → (other : ℕ) × (q ≡ Err (fault other c.kind)) × ((other ≡ line) ⊎ (other ≡ c.anew line))
+told_marked c line r q (agreed x y is) e = absurd cc
+told_marked c line r q (both_failed g other) e = absurd (other (ap (λ (f : RuleFault). f.kind) (fault_is g (fault line TooMany) e)))
+told_marked c line r q (marked at other here) e = let same : at ≡ line = ap (λ (f : RuleFault). f.line) (fault_is (fault at TooMany) (fault line TooMany) e) in (other, refl, subst (λ (l : ℕ). (other ≡ l) ⊎ (other ≡ c.anew l)) same here)
+
+abbrev one_wider : Limits → Limits
+one_wider limits = record { name_bytes = limits.name_bytes; nested = limits.nested + 1; statements = limits.statements + 1 }
+
+abbrev one_marking : Limits → (m : Token) (kind : RuleFaultKind) → IsMark m kind → Marking
+one_marking limits m kind is_mark = record { limits = limits; wider = one_wider limits; mark = m; kind = kind; is_mark = is_mark; name_bytes = omega arith; nested = omega arith; statements = omega arith; anew = λ n. n }
+
+-- where nothing is passed, no limit is told
+pub none_told : (limits : Limits) → 1 ≤ limits.nested → (last : ℕ) (tokens : List Token) → EndsLine tokens → NamesEndLines tokens → AreOfText tokens → KeptAlong limits start tokens
+    → (line : ℕ) → all_rules limits last tokens ≡ Err (fault line TooMany) → ⊥
+none_told limits some last tokens ended names all along line err =
+    let b = told Bad BadByte bad in
+    let e = told Excess TooMany excess in
+    let kinds_ : BadByte ≡ TooMany = ap (λ (f : RuleFault). f.kind) (fault_is (fault b.0 BadByte) (fault e.0 TooMany) (sym b.1 ∙ e.1)) in
+    absurd cc
+  where
+    told : (m : Token) (kind : RuleFaultKind) → IsMark m kind → (other : ℕ) × (all_rules (one_wider limits) last tokens ≡ Err (fault other kind)) × ((other ≡ line) ⊎ (other ≡ line))
+    told m kind is_mark =
+        let c : Marking = one_marking limits m kind is_mark in
+        told_marked c line (all_rules limits last tokens) (all_rules (one_wider limits) last tokens) (file_same c some last tokens tokens ended (unmarked c start tokens along all names)) err
 
 -- ---- the first token with which a limit is passed
 
-kept_at : (limits : Limits) (s : State) (before : List Token) (token : Token) (more : List Token) → KeptAlong limits s (before ++ token ∷ more) → Kept limits (run s before) token
+pub kept_at : (limits : Limits) (s : State) (before : List Token) (token : Token) (more : List Token) → KeptAlong limits s (before ++ token ∷ more) → Kept limits (run s before) token
 kept_at limits s [] token more kept = kept.0
 kept_at limits s (t ∷ before) token more kept = kept_at limits (step s t) before token more kept.1
 
 -- it stands among the tokens so
-record FirstPassed (limits : Limits) (tokens front : List Token) (token : Token) : Type 0 where
-  behind : List Token
-  stands : tokens ≡ front ++ token ∷ behind
-  within : (before : List Token) (earlier : Token) (more : List Token) → front ≡ before ++ earlier ∷ more → StaysWithin limits before earlier
-  passed : ¬ StaysWithin limits front token
+pub record FirstPassed (limits : Limits) (tokens front : List Token) (token : Token) : Type 0 where
+  pub behind : List Token
+  pub stands : tokens ≡ front ++ token ∷ behind
+  pub within : AllStayWithin limits front
+  pub passed : ¬ StaysWithin limits front token
 
 -- there is one at most
 no_two : (limits : Limits) (tokens f g : List Token) (t u : Token) → FirstPassed limits tokens f t → FirstPassed limits tokens g u → (f ≡ g) × (t ≡ u)
-no_two limits tokens f g t u p q = by (split 0 0 0 f (t ∷ p.behind) g (u ∷ q.behind) (sym p.stands ∙ q.stands))
-  where
-    shorter : (h : List Token) → g ≡ f ++ h → t ∷ p.behind ≡ h ++ u ∷ q.behind → (f ≡ g) × (t ≡ u)
-    shorter [] a b = (sym (a ∙ append-nil f), cc)
-    shorter (v ∷ h) a b = let first : v ≡ t = cc in absurd (p.passed (q.within f t h (a ∙ ap (λ (w : Token). f ++ w ∷ h) first)))
+no_two limits tokens f g t u p q = one_place (StaysWithin limits) tokens f g t u p.behind q.behind p.stands q.stands p.within p.passed q.within q.passed
 
-    by : ((h : List Token) × (g ≡ f ++ h) × (t ∷ p.behind ≡ h ++ u ∷ q.behind)) ⊎ ((v : Token) × (h : List Token) × (f ≡ g ++ v ∷ h) × (u ∷ q.behind ≡ v ∷ h ++ t ∷ p.behind)) → (f ≡ g) × (t ≡ u)
-    by (inl (h, a, b)) = shorter h a b
-    by (inr (v, h, a, b)) = let first : v ≡ u = cc in absurd (q.passed (p.within g u h (a ∙ ap (λ (w : Token). g ++ w ∷ h) first)))
+pub of_front : (front back : List Token) → AreOfText (front ++ back) → AreOfText front
+of_front [] back all = tt
+of_front (t ∷ front) back all = (all.0, of_front front back all.1)
 
 module _ (limits : Limits) (tokens : List Token) (of : AreOfText tokens) where
   -- the tokens up to the limit of nodes
@@ -222,10 +247,6 @@ module _ (limits : Limits) (tokens : List Token) (of : AreOfText tokens) where
   limited_whole [] all = tt
   limited_whole (t ∷ []) all = all.0
   limited_whole (t ∷ u ∷ ts) all = (all.0, inr (limited_whole (u ∷ ts) all.1))
-
-  of_front : (front back : List Token) → AreOfText (front ++ back) → AreOfText front
-  of_front [] back all = tt
-  of_front (t ∷ front) back all = (all.0, of_front front back all.1)
 
   cut_of : (c : IsCut tokens kept) → AreOfText c.front × IsOfText c.token
   cut_of c =
@@ -288,7 +309,7 @@ module _ (limits : Limits) (tokens : List Token) (of : AreOfText tokens) where
           absurd more.0
 
   placed_cut : (p : Placed limits start kept) → IsCut tokens kept → PlacedSo p
-  placed_cut p c = by (split 0 0 0 p.front (p.token ∷ p.rest) c.front (c.token ∷ Excess ∷ []) (sym p.stands ∙ c.cut))
+  placed_cut p c = by (split p.front (p.token ∷ p.rest) c.front (c.token ∷ Excess ∷ []) (sym p.stands ∙ c.cut))
     where
       last : p.front ≡ c.front → p.token ≡ c.token → PlacedSo p
       last f t =
@@ -343,16 +364,35 @@ module _ (limits : Limits) (tokens : List Token) (of : AreOfText tokens) where
   ]
 
   -- where none is passed, the tokens are kept whole
-  kept_so : KeptAlong limits start kept → AreOfText kept → (front : List Token) (token : Token) → FirstPassed limits tokens front token → ⊥
-  kept_so along all front token first = elim (kept_up_to_the_limit tokens) [
-    | inl (within, same) ↦ first.passed (record {
-      room = kept_within limits front token (kept_at limits start front token first.behind (subst (KeptAlong limits start) (same ∙ first.stands) along));
-      nodes = within (front ++ token ∷ []) first.behind (first.stands ∙ sym (append_assoc front (token ∷ []) first.behind));
-    })
+  kept_so : KeptAlong limits start kept → AreOfText kept → AllStayWithin limits tokens
+  kept_so along all front token behind stands = elim (kept_up_to_the_limit tokens) [
+    | inl (within, same) ↦ record {
+      room = kept_within limits front token (kept_at limits start front token behind (subst (KeptAlong limits start) (same ∙ stands) along));
+      nodes = within (front ++ token ∷ []) behind (stands ∙ sym (append_assoc front (token ∷ []) behind));
+    }
     | inr c ↦ let back : AreOfText (c.token ∷ Excess ∷ []) = of_back c.front (c.token ∷ Excess ∷ []) (subst AreOfText c.cut all) in absurd back.1.0
   ]
 
+  -- one is passed, or none
+  pub first_passed : AllStayWithin limits tokens ⊎ ((front : List Token) × (token : Token) × FirstPassed limits tokens front token)
+  first_passed = elim (place limits start kept kept_limited) [
+    | inl (along, all) ↦ inl (kept_so along all)
+    | inr p ↦ inr (p.front, p.token, (placed_so p).first)
+  ]
+
 -- ---- the law
+
+-- With the token a limit is passed, and with none before it. It fits where no limit is too narrow, and the tokens before it end on the
+-- line.
+pub record IsPassedOn (limits : Limits) (tokens : List Token) (line : ℕ) : Type 0 where
+  pub front : List Token
+  pub token : Token
+  pub behind : List Token
+  pub stands : tokens ≡ front ++ token ∷ behind
+  pub within : AllStayWithin limits front
+  pub passed : ¬ StaysWithin limits front token
+  pub fits : (wide : Limits) × FitsBehindWithin wide front token
+  pub ends_on : line ≡ line_of front
 
 module _ (one : OneTokenAtAPlace) (limits : Limits) (some : 1 ≤ limits.nested) (text : List ℕ) (tokens : List Token) (last : ℕ) (are : AreTokens text tokens last) where
   of : AreOfText tokens
@@ -405,15 +445,6 @@ module _ (one : OneTokenAtAPlace) (limits : Limits) (some : 1 ≤ limits.nested)
   marked_is : (e : Limits) (m : Token) (kind : RuleFaultKind) (is_mark : IsMark m kind) (anew : ℕ → ℕ) (p : Placed limits start ts) → marked_tokens e m kind is_mark anew p ≡ pre anew p ++ m ∷ behind_mark p.passes p.rest
   marked_is e m kind is_mark anew p = sym (append_assoc p.front (p.token ∷ gap (anew (run start p.front).line) p.token) (m ∷ behind_mark p.passes p.rest))
 
-  err_is : (d g : RuleFault) → ◌≡◌ {A = Result (List RawRule) RuleFault} (Err d) (Err g) → d ≡ g
-  err_is d g is = fault_is d g is
-
-  -- where `TooMany` is told within the limits, the fault of the mark is told within the wider ones
-  told_marked : (c : Marking) (line : ℕ) (r q : Result (List RawRule) RuleFault) → Agrees c {X = List RawRule} (λ x y. x ≡ y) r q → r ≡ Err (fault line TooMany) → (other : ℕ) × (q ≡ Err (fault other c.kind)) × ((other ≡ line) ⊎ (other ≡ c.anew line))
-  told_marked c line r q (agreed x y is) e = absurd cc
-  told_marked c line r q (both_failed g other) e = absurd (other (ap (λ (f : RuleFault). f.kind) (fault_is g (fault line TooMany) e)))
-  told_marked c line r q (marked at other here) e = let same : at ≡ line = ap (λ (f : RuleFault). f.line) (fault_is (fault at TooMany) (fault line TooMany) e) in (other, refl, subst (λ (l : ℕ). (other ≡ l) ⊎ (other ≡ c.anew l)) same here)
-
   gap_of_text : (n : ℕ) (token : Token) → AreOfText (gap n token)
   gap_of_text n (Name text_) = (tt, tt)
   gap_of_text n token = tt
@@ -446,15 +477,6 @@ module _ (one : OneTokenAtAPlace) (limits : Limits) (some : 1 ≤ limits.nested)
   line_pre p never =
       line_is start (pre (λ n. n) p) ∙ ap (λ (s : State). s.line) (run_both start p.front (p.token ∷ gap (run start p.front).line p.token)) ∙ line_step (run start p.front) p.token never ∙ sym (line_is start p.front)
 
-  told_once : (line : ℕ) → all_rules limits last ts ≡ Err (fault line TooMany) → KeptAlong limits start ts → AreOfText ts → ⊥
-  told_once line err along all =
-      let c_b : Marking = marking limits Bad BadByte bad (λ n. n) in
-      let c_e : Marking = marking limits Excess TooMany excess (λ n. n) in
-      let b = told_marked c_b line (all_rules limits last ts) (all_rules (wider limits) last ts) (file_same c_b some last ts ts ended (unmarked c_b start ts along all names)) err in
-      let e = told_marked c_e line (all_rules limits last ts) (all_rules (wider limits) last ts) (file_same c_e some last ts ts ended (unmarked c_e start ts along all names)) err in
-      let kinds_ : BadByte ≡ TooMany = ap (λ (f : RuleFault). f.kind) (fault_is (fault b.0 BadByte) (fault e.0 TooMany) (sym b.1 ∙ e.1)) in
-      absurd cc
-
   placed_told : (line : ℕ) → all_rules limits last ts ≡ Err (fault line TooMany) → Placed limits start ts → IsPassedOn limits tokens line
   placed_told line err p =
       let b = told_marked (marking limits Bad BadByte bad (λ n. n)) line _ _ (answers limits Bad BadByte bad (λ n. n) p) err in
@@ -486,15 +508,15 @@ module _ (one : OneTokenAtAPlace) (limits : Limits) (some : 1 ≤ limits.nested)
             stands = first.stands;
             within = first.within;
             passed = first.passed;
-            fits = (wider limits, fits_front (sb limits) (sn limits) (ss limits) (p.front ++ p.token ∷ []) (gap (run start p.front).line p.token) (subst (Fits (wider limits)) (sym (append_assoc p.front (p.token ∷ []) (gap (run start p.front).line p.token))) f.0));
+            fits = (wider limits, fits_front (wider limits) (p.front ++ p.token ∷ []) (gap (run start p.front).line p.token) (subst (FitsWithin (wider limits)) (sym (append_assoc p.front (p.token ∷ []) (gap (run start p.front).line p.token))) f.0));
             ends_on = sym same ∙ f.1 ∙ line_pre p so.no_line;
           }
 
-  told_where : (line : ℕ) → IsFaultWithin limits text (fault line TooMany) → IsPassedOn limits tokens line
+  pub told_where : (line : ℕ) → IsFaultWithin limits text (fault line TooMany) → IsPassedOn limits tokens line
   told_where line is =
       let err : all_rules limits last ts ≡ Err (fault line TooMany) = fault_of limits one text tokens last (fault line TooMany) are is in
       elim (place limits start ts (kept_limited limits tokens of)) [
-        | inl (along, all) ↦ absurd (told_once line err along all)
+        | inl (along, all) ↦ absurd (none_told limits some last ts ended names all along line err)
         | inr p ↦ placed_told line err p
       ]
 
@@ -504,35 +526,26 @@ module _ (one : OneTokenAtAPlace) (limits : Limits) (some : 1 ≤ limits.nested)
   first_of line q = record { behind = q.behind; stands = q.stands; within = q.within; passed = q.passed }
 
   -- the tokens before the mark fit, where the token does
-  pre_fits : (e : Limits) (p : Placed limits start ts) → FitsBehind e p.front p.token → (anew : ℕ → ℕ) × Fits e (pre anew p)
-  pre_fits e p (rules, more, is) = by p.token (subst (SpellsFile e rules) (append_assoc p.front (p.token ∷ []) more) is)
-    where
-      by : (t : Token) → SpellsFile e rules (p.front ++ t ∷ more) → (anew : ℕ → ℕ) × Fits e (p.front ++ t ∷ gap (anew (run start p.front).line) t)
-      by (Name text_) spelled =
-          let line = line_behind_name e rules p.front text_ more spelled in
-          ((λ n. line.0), (rules, line.1.0, subst (SpellsFile e rules) (ap (λ (us : List Token). p.front ++ Name text_ ∷ us) line.1.1 ∙ sym (append_assoc p.front (Name text_ ∷ Line line.0 ∷ []) line.1.0)) spelled))
-      by t spelled = ((λ n. n), (rules, more, subst (SpellsFile e rules) (sym (append_assoc p.front (t ∷ []) more)) spelled))
+  pre_fits : (e : Limits) (p : Placed limits start ts) → FitsBehindWithin e p.front p.token → (anew : ℕ → ℕ) × FitsWithin e (pre anew p)
+  pre_fits e p fits = let line = fits_lined e p.front p.token fits in ((λ n. line.0), line.1)
 
-  wider_fits : (e : Limits) (front : List Token) → Fits e front → Fits (wider e) front
-  wider_fits e front (rules, more, is) = (rules, more, spelled_wider e (wider e) (record { name_bytes = omega arith; nested = omega arith; statements = omega arith }) rules (front ++ more) is)
-
-  told_there : (e : Limits) (p : Placed limits start ts) → FitsBehind e p.front p.token → (line : ℕ) × (all_rules limits last ts ≡ Err (fault line TooMany))
+  told_there : (e : Limits) (p : Placed limits start ts) → FitsBehindWithin e p.front p.token → (line : ℕ) × (all_rules limits last ts ≡ Err (fault line TooMany))
   told_there e p fits = by (pre_fits e p fits)
     where
-      by : (anew : ℕ → ℕ) × Fits e (pre anew p) → (line : ℕ) × (all_rules limits last ts ≡ Err (fault line TooMany))
+      by : (anew : ℕ → ℕ) × FitsWithin e (pre anew p) → (line : ℕ) × (all_rules limits last ts ≡ Err (fault line TooMany))
       by (anew, fits_pre) = answered (all_rules limits last ts) (all_rules (wider e) last (marked_tokens e Excess TooMany excess anew p)) refl refl (answers e Excess TooMany excess anew p)
         where
-          all_fit : Fits (wider e) (pre anew p)
-          all_fit = wider_fits e (pre anew p) fits_pre
+          all_fit : FitsWithin (wider e) (pre anew p)
+          all_fit = fits_wider e (wider e) (record { name_bytes = omega arith; nested = omega arith; statements = omega arith }) (pre anew p) fits_pre
 
-          not_read : Fits (wider e) (marked_tokens e Excess TooMany excess anew p) → ⊥
-          not_read f = not_marked (sb e) (sn e) (ss e) (pre anew p) (behind_mark p.passes p.rest) (subst (Fits (wider e)) (marked_is e Excess TooMany excess anew p) f)
+          not_read : FitsWithin (wider e) (marked_tokens e Excess TooMany excess anew p) → ⊥
+          not_read f = not_marked (sb e) (sn e) (ss e) (pre anew p) (behind_mark p.passes p.rest) (subst (FitsWithin (wider e)) (marked_is e Excess TooMany excess anew p) f)
 
           refused : (g : RuleFault) → g.kind ≢ TooMany → AtToken (sb e) (sn e) (ss e) (marked_tokens e Excess TooMany excess anew p) g ⊎ AtEnd (sb e) (sn e) (ss e) (marked_tokens e Excess TooMany excess anew p) last g → ⊥
           refused g other (inr end) = not_read end.fits
           refused g other (inl at) = elim (at_excess (sb e) (sn e) (ss e) (pre anew p) (behind_mark p.passes p.rest) (marked_tokens e Excess TooMany excess anew p) g (marked_is e Excess TooMany excess anew p) at) [
             | inl (f, line, kind) ↦ other kind
-            | inr (others, is) ↦ at.misfit (fits_before (sb e) (sn e) (ss e) (pre anew p) at.front at.token others is all_fit)
+            | inr (others, is) ↦ at.misfit (fits_before (wider e) (pre anew p) at.front at.token others is all_fit)
           ]
 
           answered : (r q : Result (List RawRule) RuleFault) → all_rules limits last ts ≡ r → all_rules (wider e) last (marked_tokens e Excess TooMany excess anew p) ≡ q → Agrees (marking e Excess TooMany excess anew) {X = List RawRule} (λ x y. x ≡ y) r q → (line : ℕ) × (r ≡ Err (fault line TooMany))
@@ -540,9 +553,9 @@ module _ (one : OneTokenAtAPlace) (limits : Limits) (some : 1 ≤ limits.nested)
           answered r q n w (both_failed g other) = absurd (refused g other (refused_where e Excess TooMany excess anew p g w))
           answered r q n w (marked line other here) = (line, refl)
 
-  passed_told : (line : ℕ) → IsPassedOn limits tokens line → IsFaultWithin limits text (fault line TooMany)
+  pub passed_told : (line : ℕ) → IsPassedOn limits tokens line → IsFaultWithin limits text (fault line TooMany)
   passed_told line q = elim (place limits start ts (kept_limited limits tokens of)) [
-    | inl (along, all) ↦ absurd (kept_so limits tokens of along all q.front q.token (first_of line q))
+    | inl (along, all) ↦ absurd (q.passed (kept_so limits tokens of along all q.front q.token q.behind q.stands))
     | inr p ↦ by p (no_two limits tokens p.front q.front p.token q.token (placed_so limits tokens of p).first (first_of line q))
   ]
     where
@@ -556,9 +569,6 @@ module _ (one : OneTokenAtAPlace) (limits : Limits) (some : 1 ≤ limits.nested)
 
       by : (p : Placed limits start ts) → (p.front ≡ q.front) × (p.token ≡ q.token) → IsFaultWithin limits text (fault line TooMany)
       by p (f, t) =
-          let fits : FitsBehind q.fits.0 p.front p.token = subst (λ (x : List Token). FitsBehind q.fits.0 x p.token) (sym f) (subst (λ (u : Token). FitsBehind q.fits.0 q.front u) (sym t) q.fits.1) in
+          let fits : FitsBehindWithin q.fits.0 p.front p.token = subst (λ (x : List Token). FitsBehindWithin q.fits.0 x p.token) (sym f) (subst (λ (u : Token). FitsBehindWithin q.fits.0 q.front u) (sym t) q.fits.1) in
           let told = told_there q.fits.0 p fits in
           on_it p f told.0 told.1
-
-pub where_passed : OneTokenAtAPlace → TooManyIsToldWhereALimitIsPassed
-where_passed one limits some text tokens last line are = (told_where one limits some text tokens last are line, passed_told one limits some text tokens last are line)

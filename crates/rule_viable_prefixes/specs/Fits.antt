@@ -1,22 +1,25 @@
--- Which tokens begin rule files of the grammar within limits of names, nesting and statements. Nothing but its productions decides that; the
--- limit of 256 nodes, which is none of them, does not.
+-- Which tokens begin rule files where no limit is too narrow. Nothing but the productions of the grammar decides that.
 use Rattle.std.specs.Prelude.{ℕ, List, [], ◌∷◌, ◌++◌}
+use Rattle.rule_tokens.specs.Limits.{Limits}
 use Rattle.rule_tokens.specs.Tokens.{Token, Line}
 use Rattle.rule_parse.specs.declared.raw.RawRule.{RawRule}
 use Rattle.rule_parse.specs.Grammar.{SpellsFile}
-use Rattle.rule_tokens.specs.Limits.{Limits}
+
+-- the tokens spell rules where no limit is too narrow
+abbrev pub SpellsWithoutLimits : List RawRule → List Token → Type 0
+SpellsWithoutLimits rules tokens = (limits : Limits) × SpellsFile limits rules tokens
 
 -- some tokens behind them make them the tokens of a rule file
-abbrev pub Fits : Limits → List Token → Type 0
-Fits limits front = (rules : List RawRule) × (more : List Token) × SpellsFile limits rules (front ++ more)
+abbrev pub Fits : List Token → Type 0
+Fits front = (rules : List RawRule) × (more : List Token) × SpellsWithoutLimits rules (front ++ more)
 
 -- the token fits behind them
-abbrev pub FitsBehind : Limits → List Token → Token → Type 0
-FitsBehind limits front token = Fits limits (front ++ token ∷ [])
+abbrev pub FitsBehind : List Token → Token → Type 0
+FitsBehind front token = Fits (front ++ token ∷ [])
 
 -- another line fits behind them
-abbrev pub LineFits : Limits → List Token → Type 0
-LineFits limits front = (number : ℕ) × FitsBehind limits front (Line number)
+abbrev pub LineFits : List Token → Type 0
+LineFits front = (number : ℕ) × FitsBehind front (Line number)
 
 -- the line that the tokens end on, where they begin on this one
 unfoldable pub line_behind : ℕ → List Token → ℕ

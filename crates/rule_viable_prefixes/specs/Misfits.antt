@@ -1,22 +1,20 @@
--- Why a token does not fit behind tokens that do, said by which other tokens fit in its place.
-use Rattle.std.specs.Prelude.{◌≡◌, ◌≢◌, ◌⊎◌, ℕ, ◌+◌, ◌<◌, ◌≤◌, Bool, IsTrue, if◌then◌else◌, List, [], ◌∷◌, ◌++◌, length, map, Some, codes}
+-- By which kind a token is refused that does not fit, said by which other tokens fit in its place.
+use Rattle.std.specs.Prelude.{◌≡◌, ◌≢◌, ℕ, Bool, IsTrue, List, [], ◌∷◌, ◌++◌, map, Some, codes}
 use Rattle.ops.specs.declared.comparison.Pred.{Pred}
 use Rattle.ops.specs.declared.keywords.flag.Flag.{Flag}
 use Rattle.ops.specs.declared.opcode.Unary.{Unary as Intrinsic}
 use Rattle.ops.specs.FlagKeywords.{flag_keyword}
 use Rattle.ops.specs.Keywords.{predicate_keyword}
-use Rattle.scan.specs.RuleTokens.{is_constant, is_among}
+use Rattle.scan.specs.RuleTokens.{is_constant}
 use Rattle.rule_core.specs.declared.rule.Function.{Function}
 use Rattle.rule_tokens.specs.declared.fault.RuleFaultKind.{RuleFaultKind}
-use Rattle.rule_tokens.specs.declared.fault.RuleFaultKind.TheVariants.{BadByte, Syntax, LeftOut, TooMany}
+use Rattle.rule_tokens.specs.declared.fault.RuleFaultKind.TheVariants.{BadByte, Syntax, LeftOut}
 use Rattle.rule_tokens.specs.Numbers.{IsWrittenType}
-use Rattle.rule_tokens.specs.Tokens.{Token, Line, Head, Name, Register, Word, Number, Arrow, Mark, Bad}
-use Rattle.rule_terms.specs.declared.formula_word.Predicate.{Predicate}
-use Rattle.rule_terms.specs.FormulaKeywords.{predicate_word}
-use Rattle.rule_terms.specs.Keywords.{IsPrefix, IsCalled, IsChoice}
+use Rattle.rule_tokens.specs.Tokens.{Token, Line, Head, Word, Number, Bad}
+use Rattle.rule_terms.specs.Keywords.{IsCalled, IsChoice}
 use Rattle.rule_parse.specs.declared.word.Operation.{Operation}
 use Rattle.rule_parse.specs.Keywords.{operation_word, truth_flag, truth_word}
-use Rattle.rule_tokens.specs.Limits.{Limits}
+use Rattle.rule_viable_prefixes.specs.Fits.{FitsBehind}
 
 -- which tokens fit in the place of the one that does not
 abbrev pub Fitting : Type 1
@@ -40,40 +38,7 @@ pub data IsNoun (word : List ℕ) : Type 0 where
 abbrev pub NounFits : Fitting → Type 0
 NounFits fits = (word : List ℕ) × IsNoun word × fits (Word word)
 
--- ---- what nests
-
--- tokens behind which something more is nested
-pub data Nests : Token → Type 0 where
-  parenthesis : Nests (Mark (codes "("))
-  sign : (function : Function) (mark : List ℕ) → IsPrefix function mark → Nests (Mark mark)
-  function : (function : Function) (word : List ℕ) → IsCalled function word → Nests (Word word)
-  width : Nests (Word (codes "width"))
-  negation : Nests (Mark (codes "!"))
-  test : (predicate : Predicate) → Nests (Word (predicate_word predicate))
-
--- the marks that open a level of nesting: `(`, and the operators of one operand, of which `-` may also join two
-abbrev pub opening_marks : List (List ℕ)
-opening_marks = codes "(" ∷ codes "-" ∷ codes "~" ∷ codes "!" ∷ []
-
-abbrev pub openings : Token → ℕ
-openings (Mark mark) = if is_among opening_marks mark then 1 else 0
-openings token = 0
-
--- how many of these marks stand on the line that the tokens end on, where so many stand before them on the line that they begin on
-abbrev pub openings_behind : ℕ → List Token → ℕ
-openings_behind before [] = before
-openings_behind before (Line number ∷ tokens) = openings_behind 0 tokens
-openings_behind before (token ∷ tokens) = openings_behind (before + openings token) tokens
-
-abbrev pub openings_on_line : List Token → ℕ
-openings_on_line tokens = openings_behind 0 tokens
-
--- One of them may not stand where an operand of one token may, behind at least as many of these marks on its line as levels may be
--- nested: it is nested too deep.
-abbrev pub IsTooDeep : Limits → ℕ → Fitting → Token → Type 0
-IsTooDeep limits opened fits token = (limits.nested ≤ opened) × Nests token × fits (Number (codes "0"))
-
--- ---- words that are told as `Syntax` though a noun fits
+-- ---- flags
 
 -- a flag of instructions, or the one that says the truth value of an intrinsic
 pub data IsFlagWord (word : List ℕ) : Type 0 where
@@ -89,61 +54,17 @@ abbrev pub RepeatsFlag : List Token → List ℕ → Type 0
 RepeatsFlag front word =
     (before : List Token) × (words : List (List ℕ)) × AreFlagWords (word ∷ words) × (front ≡ before ++ map (λ w. Word w) (word ∷ words))
 
-pub data IsExcused (limits : Limits) (fits : Fitting) (front : List Token) (word : List ℕ) : Type 0 where
-  -- it is a word of `Pre:` that may stand elsewhere: `%r = hasOneUse`
-  one_use : word ≡ codes "hasOneUse" → IsExcused limits fits front word
-  -- the instruction has the flag already: `%r = add nuw nuw`
-  repeated : RepeatsFlag front word → IsExcused limits fits front word
-  -- a function or a predicate is nested too deep: `log2 +` behind 32 `(`
-  nested : IsTooDeep limits (openings_on_line front) fits (Word word) → IsExcused limits fits front word
-
--- ---- limits
-
--- a name of more bytes than the limit, where another of its sort within it fits
-abbrev pub IsTooLong : Limits → Fitting → (List ℕ → Token) → (List ℕ → Type 0) → List ℕ → Type 0
-IsTooLong limits fits token IsOfSort name =
-    (short : List ℕ) × (limits.name_bytes < length name) × (length short ≤ limits.name_bytes) × IsOfSort name × IsOfSort short × fits (token short)
-
--- a half of the rule may end: the arrow fits, or another rule
-abbrev pub HalfEnds : Fitting → Type 0
-HalfEnds fits = fits Arrow ⊎ fits (Head (codes "Name:"))
-
--- With the token, which stands behind so many marks that open levels on its line, a limit of names, statements or nesting is passed.
-pub data IsTooMany (limits : Limits) (opened : ℕ) (fits : Fitting) : Token → Type 0 where
-  name : (name : List ℕ) → IsTooLong limits fits Name (λ text. 1 ≤ length text) name → IsTooMany limits opened fits (Name name)
-  register : (name : List ℕ) → IsTooLong limits fits Register (λ text. Unit {0}) name → IsTooMany limits opened fits (Register name)
-  constant : (name : List ℕ) → IsTooLong limits fits Word (λ word. IsTrue (is_constant word)) name → IsTooMany limits opened fits (Word name)
-  choice : (name : List ℕ) → IsTooLong limits fits Word (λ word. (place : ℕ) × IsChoice word place) name → IsTooMany limits opened fits (Word name)
-  -- the register of one more statement, where the half may end
-  statement : (name : List ℕ) → HalfEnds fits → IsTooMany limits opened fits (Register name)
-  nesting : (token : Token) → IsTooDeep limits opened fits token → IsTooMany limits opened fits token
-
 -- ---- kinds
 
--- What a kind says of the token itself: it is a byte that may not stand; with it a limit is passed; it is a word that is left out, not
--- `hasOneUse`, and a noun fits in its place; or it is no byte that may not stand. No token is of another kind.
-abbrev pub Says : Limits → ℕ → Fitting → Token → RuleFaultKind → Type 0
-Says limits opened fits token BadByte = token ≡ Bad
-Says limits opened fits token TooMany = IsTooMany limits opened fits token
-Says limits opened fits token (LeftOut left) = (token ≡ Word left) × (left ≢ codes "hasOneUse") × NounFits fits
-Says limits opened fits token Syntax = token ≢ Bad
-Says limits opened fits token kind = ⊥
+-- A word where a noun may stand, which is not `hasOneUse` and no flag that stands there already, is left out; and so is a number where
+-- that of a version may stand.
+pub data IsLeftOut (front : List Token) (token : Token) (left : List ℕ) : Type 0 where
+  word : token ≡ Word left → NounFits (FitsBehind front) → left ≢ codes "hasOneUse" → ¬ RepeatsFlag front left → IsLeftOut front token left
+  version : (line : ℕ) → token ≡ Number left → front ≡ Line line ∷ Head (codes "Version:") ∷ [] → IsLeftOut front token left
 
--- what the kind of a fault at the first of these tokens is where no word is left out and no other limit is passed
-abbrev pub kind_at : List Token → RuleFaultKind
-kind_at (Bad ∷ tokens) = BadByte
-kind_at tokens = Syntax
-
--- A function or a predicate that is nested too deep, with no `(` behind it, is told as the token behind it is: `log2 +` behind 32 `(`.
-abbrev pub IsReadOn : Limits → ℕ → Fitting → Token → List Token → RuleFaultKind → Type 0
-IsReadOn limits opened fits token behind kind =
-    (word : List ℕ) × (token ≡ Word word) × IsTooDeep limits opened fits token × ((more : List Token) → behind ≢ Mark (codes "(") ∷ more) × (kind ≡ kind_at behind)
-
--- what the kind of a fault says of its token, which stands behind so many marks that open levels on its line, and before these tokens
-pub data IsMisfit (limits : Limits) (opened : ℕ) (fits : Fitting) (token : Token) (behind : List Token) (kind : RuleFaultKind) : Type 0 where
-  itself : Says limits opened fits token kind → IsMisfit limits opened fits token behind kind
-  read_on : IsReadOn limits opened fits token behind kind → IsMisfit limits opened fits token behind kind
-
--- It is the number of a version, left out where that of the first one fits.
-abbrev pub IsOtherVersion : Fitting → Token → RuleFaultKind → Type 0
-IsOtherVersion fits token kind = (left : List ℕ) × (token ≡ Number left) × (kind ≡ LeftOut left) × fits (Number (codes "1"))
+-- A byte that may not stand is told as such, what is left out as that, and every other token as `Syntax`.
+abbrev pub IsKindOf : List Token → Token → RuleFaultKind → Type 0
+IsKindOf front token BadByte = token ≡ Bad
+IsKindOf front token (LeftOut left) = IsLeftOut front token left
+IsKindOf front token Syntax = (token ≢ Bad) × ((left : List ℕ) → ¬ IsLeftOut front token left)
+IsKindOf front token kind = ⊥

@@ -1,5 +1,5 @@
 -- What is used of each limit with a token, counted over the tokens alone.
-use Rattle.std.specs.Prelude.{ℕ, ◌+◌, ◌≤◌, Bool, true, false, not, ◌&&◌, if◌then◌else◌, List, [], ◌∷◌, ◌++◌, length, codes}
+use Rattle.std.specs.Prelude.{◌≡◌, ℕ, ◌+◌, ◌≤◌, Bool, true, false, not, ◌&&◌, if◌then◌else◌, List, [], ◌∷◌, ◌++◌, length, codes}
 use Rattle.std.specs.Str.{bytes_eq}
 use Rattle.scan.specs.declared.rule_token.RuleKind.TheVariants as kinds
 use Rattle.scan.specs.RuleTokens.{ends_primary, is_among}
@@ -107,3 +107,7 @@ used front token = record { name_bytes = name_bytes token; nested = length (open
 pub record StaysWithin (limits : Limits) (front : List Token) (token : Token) : Type 0 where
   pub room : AreWithin limits (used front token)
   pub nodes : counted_at_end (front ++ token ∷ []) ≤ most_nodes
+
+-- it does so with each of the tokens
+abbrev pub AllStayWithin : Limits → List Token → Type 0
+AllStayWithin limits tokens = (front : List Token) (token : Token) (behind : List Token) → tokens ≡ front ++ token ∷ behind → StaysWithin limits front token

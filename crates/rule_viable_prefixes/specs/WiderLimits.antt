@@ -6,13 +6,9 @@ use Rattle.rule_tokens.specs.PartReaders.{fault}
 use Rattle.rule_tokens.specs.RuleFaults.{RuleFault}
 use Rattle.rule_tokens.specs.Tokens.{Token, AreTokens}
 use Rattle.rule_parse.specs.declared.raw.RawRule.{RawRule}
-use Rattle.rule_parse.specs.Grammar.{SpellsFile}
 use Rattle.rule_parse.specs.RuleReaders.{all_rules}
 use Rattle.rule_parse.specs.Text.{IsFaultWithin}
-
--- the tokens spell rules where no limit is too narrow
-abbrev pub SpellsWithoutLimits : List RawRule → List Token → Type 0
-SpellsWithoutLimits rules tokens = (limits : Limits) × SpellsFile limits rules tokens
+use Rattle.rule_viable_prefixes.specs.Fits.{SpellsWithoutLimits}
 
 -- Wider limits change nothing but what is told as `TooMany`: the same rules are read of the same tokens, and the same faults are found.
 abbrev pub WiderLimitsChangeTooManyAlone : Type 0

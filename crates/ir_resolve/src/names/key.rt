@@ -1,7 +1,6 @@
 //! What parameters, blocks and results are called.
 
 ghost use Rattle.std.specs.Prelude.{◌≡◌};
-ghost use Rattle.ir_resolve.specs.Written.{identifier as named_so};
 ghost use Rattle.ir_resolve.specs.Views.{seen};
 
 use ir_tokens::Identifier;
@@ -16,7 +15,7 @@ pub(crate) enum Key<'a> {
 impl<'a> Key<'a> {
     /// The key of a name or a number.
     pub(crate) fn of(identifier: &'a Identifier) -> Self
-        ensures { seen result ≡ named_so identifier.now }
+        ensures { seen result ≡ identifier.now }
     {
         match identifier {
             Identifier::Named(name) => Key::Named(name.as_slice()),

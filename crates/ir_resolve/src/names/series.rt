@@ -2,7 +2,7 @@
 
 ghost use Rattle.std.specs.Prelude.{◌≡◌, ℕ, [], ◌∷◌, map, IfOk};
 ghost use Rattle.std.specs.Option.{option_copied};
-ghost use Rattle.ir_core.specs.Names.{identifiers_from};
+ghost use Rattle.ir_resolve.specs.Identifiers.{identifiers_from};
 ghost use Rattle.ir_resolve.specs.FirstLines.{IsFirst};
 ghost use Rattle.ir_resolve.specs.Written.{given};
 ghost use Rattle.ir_resolve.specs.FaultKinds.{IsMisnumbered, MisnumbersHere};

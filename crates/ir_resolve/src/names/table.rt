@@ -3,7 +3,7 @@
 ghost use Rattle.std.specs.Prelude.{◌≡◌, [], ◌∷◌, ◌++◌, ◌||◌, false, None, map, if◌then◌else◌, option_map, IfOk, OnOk};
 ghost use Rattle.std.specs.List.{zip};
 ghost use Rattle.std.specs.Option.{option_copied};
-ghost use Rattle.ir_core.specs.Names.{Identifier as identifier};
+ghost use Rattle.ir_tokens.specs.declared.called.Identifier.{Identifier as identifier};
 ghost use Rattle.ir_resolve.specs.FirstLines.{IsFirst};
 ghost use Rattle.ir_resolve.specs.FaultKinds.{Repeats, HasName, IsWrittenOn};
 ghost use Rattle.ir_resolve.specs.Views.{seen, seen_written, known_by, AreKeysOf, knows, same, entity_in, register_of, block_of};

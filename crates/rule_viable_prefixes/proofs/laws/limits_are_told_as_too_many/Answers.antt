@@ -1,4 +1,5 @@
-use Rattle.rule_viable_prefixes.proofs.LimitLaws.{wider_change, texts_refused}
+use Rattle.rule_viable_prefixes.proofs.Exact.{texts_refused}
+use Rattle.rule_viable_prefixes.proofs.LimitLaws.{wider_change}
 use Rattle.rule_viable_prefixes.proofs.laws.limits_are_told_as_too_many.Goals as goal
 
 pub returns-clause-wider : goal.returns-clause-wider

@@ -1,6 +1,6 @@
 -- the keys so far, and the next number
 use Rattle.std.proofs.Common.{◌≡◌, map, take}
-use Rattle.ir_core.specs.Names.{identifiers_from}
+use Rattle.ir_resolve.specs.Identifiers.{identifiers_from}
 use Rattle.ir_resolve.specs.Written.{given}
 use Rattle.ir_resolve.specs.Views.{seen, seen_written}
 use Rattle.ir_resolve.proofs.Series.{number_after}

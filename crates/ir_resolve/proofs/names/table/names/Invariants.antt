@@ -1,7 +1,7 @@
 -- what is known so far, the first line of a name that is there again, and the table where there is none
 use Rattle.std.proofs.Common.{◌≡◌, ◌↔◌, map, take, None, IsTrue}
 use Rattle.std.specs.List.{zip}
-use Rattle.ir_core.specs.Names.{Identifier}
+use Rattle.ir_tokens.specs.declared.called.Identifier.{Identifier}
 use Rattle.ir_resolve.specs.FirstLines.{IsFirst}
 use Rattle.ir_resolve.specs.FaultKinds.{SomeHas, RepeatsHere, HasName, IsWrittenOn}
 use Rattle.ir_resolve.specs.Views.{seen, seen_written, known_by, knows, Is}
