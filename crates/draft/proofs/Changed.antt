@@ -13,7 +13,7 @@ use Rattle.ir_core.specs.declared.operand.Operand.{Operand}
 use Rattle.ir_core.specs.declared.operand.Operand.TheVariants as operands
 use Rattle.needed.specs.Operands.{operands_of}
 use Rattle.use_counts.specs.declared.uses.Uses.{Uses}
-use Rattle.draft.specs.Changes.{exchanged, gone, inst_changed, taken_out, with_block}
+use Rattle.draft.specs.Changes.{gone, inst_changed, taken_out, with_block}
 use Rattle.draft.specs.Counts.{AreCounted, operands_at}
 use Rattle.draft.specs.Whole.{AreRowsOf, IsWhole}
 use Rattle.draft.specs.declared.draft.Draft.{Draft}
@@ -23,7 +23,7 @@ use Rattle.draft.proofs.Counting.{only_one}
 use Rattle.draft.proofs.Exchanging.{block_cases, inst_count, inst_differs, read_now, still_few}
 use Rattle.draft.proofs.Places.{AreFew, DiffersAt, IsListedToo, reads_known, still_facts, still_known, still_readers}
 use Rattle.draft.proofs.Rows.{marked}
-use Rattle.draft.proofs.Wholeness.{all_known, few_insts, rows_exchanged, rows_less}
+use Rattle.draft.proofs.Wholeness.{all_known, few_insts, rows_less}
 
 -- what else was done where one place was changed: its old operands are counted no more, its new ones are, and it is listed for them
 pub record IsRecounted (old new : Draft) (p : Place) : Type 0 where
@@ -75,26 +75,6 @@ module _ (old new : Draft) (b n : ℕ) (change : Inst → Inst) (whole : IsWhole
 
   pub reads_are_known : ((a : Operand) → Contains (operands_of (change inst).op) a → IsKnown old.arena a) → (a : Operand) → Contains (operands_at new.arena place) a → IsKnown old.arena a
   reads_are_known known a there = known a (subst (λ (l : List Operand). Contains l a) reads there)
-
--- another instruction in the place of one that stands
-pub whole_exchanged : (old new : Draft) (b n : ℕ) (block : Block) (was inst : Inst) → IsWhole old → IsBlock old.arena b block → slice_get block.insts n ≡ Some was
-    → marked (get_or old.stand.items b []) n ≡ true → All (IsKnown old.arena) (operands_of inst.op)
-    → new.arena ≡ exchanged old.arena b n inst → new.orders.items ≡ old.orders.items → new.stand.items ≡ old.stand.items
-    → IsRecounted old new (record { block = b; number = n }) → IsWhole new
-whole_exchanged old new b n block was inst whole at here stands known arena orders stand recounted =
-    let change : Inst → Inst = λ i. inst in
-    whole_changed old new (record { block = b; number = n }) whole (differs old new b n change whole block was at here arena) recounted (few old new b n change whole block was at here arena)
-    (blocks_count old new b n change whole block was at here arena) (ap length orders) (ap length stand)
-    (λ c x is. subst (λ (rows : List (List ℕ)). AreRowsOf x (get_or rows c []) (get_or new.stand.items c [])) (sym orders)
-    (subst (λ (rows : List (List Bool)). AreRowsOf x (get_or old.orders.items c []) (get_or rows c [])) (sym stand)
-    (elim (block_of_new old new b n change whole block was at here arena c x is) [
-      | inl (same, x_is) ↦
-          subst (λ (z : Block). AreRowsOf z (get_or old.orders.items c []) (get_or old.stand.items c [])) (sym x_is)
-          (subst (λ (d : ℕ). AreRowsOf (inst_changed n change block) (get_or old.orders.items d []) (get_or old.stand.items d [])) (sym same)
-          (rows_exchanged block (get_or old.orders.items b []) (get_or old.stand.items b []) n change (whole.rows b block at) stands))
-      | inr (apart, before) ↦ whole.rows c x before
-    ])))
-    (reads_are_known old new b n change whole block was at here arena (λ a there. All-contains (IsKnown old.arena) (operands_of inst.op) a known there))
 
 -- one that is taken out
 pub whole_taken_out : (old new : Draft) (b n : ℕ) (block : Block) (was : Inst) → IsWhole old → IsBlock old.arena b block → slice_get block.insts n ≡ Some was

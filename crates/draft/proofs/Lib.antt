@@ -52,6 +52,7 @@ pub mod Tallies
 pub mod Keeping
 pub mod QueueSteps
 pub mod WalkSteps
+pub mod Unchanged
 pub mod Walking
 pub mod QueueLaws
 pub mod Arranged

@@ -91,16 +91,6 @@ rows_kept block block' order stand rows same gone_reads = record {
   gone = gone_reads;
 }
 
--- another instruction in the place of one that stands
-pub rows_exchanged : (block : Block) (order : List ℕ) (stand : List Bool) (n : ℕ) (change : Inst → Inst) → AreRowsOf block order stand → marked stand n ≡ true
-    → AreRowsOf (inst_changed n change block) order stand
-rows_exchanged block order stand n change rows marked_so =
-    rows_kept block (inst_changed n change block) order stand rows (changed_length n change block.insts)
-    (λ m inst there unmarked. elim (changed_cases n change block.insts m inst there) [
-      | inl (same, was) ↦ let both : true ≡ false = sym marked_so ∙ ap (marked stand) (sym same) ∙ unmarked in cc
-      | inr (apart, old) ↦ rows.gone m inst old unmarked
-    ])
-
 -- one that is changed without a read of its own
 pub rows_swapped : (block : Block) (order : List ℕ) (stand : List Bool) (n : ℕ) (change : Inst → Inst) → AreRowsOf block order stand
     → ((inst : Inst) → inst.op ≡ Freeze operands.Poison → (change inst).op ≡ Freeze operands.Poison)

@@ -37,17 +37,9 @@ end_changed change block = record { name = block.name; insts = block.insts; end 
 abbrev pub put_in : Function → ℕ → Inst → Function
 put_in f b inst = with_block f b (inst_put inst)
 
--- with another instruction n there
-abbrev pub exchanged : Function → ℕ → ℕ → Inst → Function
-exchanged f b n inst = with_block f b (inst_changed n (λ old. inst))
-
 -- what is left where an instruction was taken out: it reads nothing
 abbrev pub gone : Inst → Inst
 gone inst = record { name = None; width = inst.width; op = Freeze operands.Poison }
-
--- the instruction without the name of its result
-abbrev pub unnamed : Inst → Inst
-unnamed inst = record { name = None; width = inst.width; op = inst.op }
 
 -- without instruction n of block b
 abbrev pub taken_out : Function → ℕ → ℕ → Function

@@ -1,6 +1,7 @@
 -- What is left of a draft while it is cleaned, and what is still to be looked at.
 use Rattle.std.specs.Prelude.{◌≡◌, ◌⊎◌, ◌<◌, ℕ, Bool, true, List, [], Option, None, Some, Contains, option_map, slice_get, slice_index_or}
 use Rattle.std.specs.List.{filter}
+use Rattle.ir_core.specs.Blocks.{HasInst}
 use Rattle.ir_core.specs.Reads.{end_of}
 use Rattle.ir_core.specs.declared.function.Block.{Block}
 use Rattle.ir_core.specs.declared.function.Function.{Function}
@@ -56,6 +57,10 @@ abbrev pub KeepsUses : Draft → Draft → List Register → Type 0
 KeepsUses was now waits = (c m b k i : ℕ) → Stands now c m → IsNamedAt was.arena (registers.Result c m) b k i
     → IsNamedAt now.arena (registers.Result c m) b k i ⊎ Contains waits (registers.Result c m)
 
+-- the instructions of these registers have numbers
+abbrev pub HaveInsts : Draft → List Register → Type 0
+HaveInsts d registers = (b n : ℕ) → Contains registers (registers.Result b n) → HasInst d.arena b n
+
 -- each instruction that stands is read, where its register doesn't wait
 abbrev pub AreRead : Draft → List Register → Type 0
 AreRead d waits = (b n : ℕ) → Stands d b n → ((c : ℕ) × (k : ℕ) × ReadsRegister d.arena c k (registers.Result b n)) ⊎ Contains waits (registers.Result b n)
@@ -63,6 +68,10 @@ AreRead d waits = (b n : ℕ) → Stands d b n → ((c : ℕ) × (k : ℕ) × Re
 -- what an instruction that stands reads of its own block stands before it
 abbrev pub ReadsGoUp : Draft → Type 0
 ReadsGoUp d = (b k n : ℕ) → Stands d b k → ReadsRegister d.arena b k (registers.Result b n) → place_in (numbers_in d b) n < place_in (numbers_in d b) k
+
+-- all of the function is needed
+abbrev pub AllNeeded : Function → Type 0
+AllNeeded f = (b n : ℕ) → HasInst f b n → IsNeeded f (registers.Result b n)
 
 -- all that stands is needed
 abbrev pub IsClean : Draft → Type 0

@@ -29,6 +29,10 @@ standing (row ∷ stand) (numbers ∷ rows) = standing_in row numbers ∷ standi
 abbrev pub arena_of : Draft → Function
 arena_of d = d.arena
 
+-- of each block the numbers of its instructions in order, whether or not they stand there
+abbrev pub orders_of : Draft → List (List ℕ)
+orders_of d = d.orders.items
+
 -- of each block the numbers of the instructions that stand there, in order
 abbrev pub numbers_of : Draft → List (List ℕ)
 numbers_of d = standing d.stand.items d.orders.items

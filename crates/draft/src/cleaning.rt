@@ -4,8 +4,8 @@ ghost use Rattle.std.specs.Prelude.{◌≡◌, ◌++◌, ◌∷◌, [], ◌↔�
 ghost use Rattle.ir_core.specs.declared.function.Function.{Function};
 ghost use Rattle.ir_core.specs.declared.operand.Register.{Register as Named};
 ghost use Rattle.needed.specs.Needed.{IsNeeded};
-ghost use Rattle.draft.specs.Cleaning.{AreRead, IsCleaning, IsNeededWith, KeepsUses, ReadsGoUp};
-ghost use Rattle.draft.specs.Drafts.{Stands, numbers_of};
+ghost use Rattle.draft.specs.Cleaning.{AreRead, HaveInsts, IsCleaning, IsNeededWith, KeepsUses, ReadsGoUp};
+ghost use Rattle.draft.specs.Drafts.{Stands, numbers_of, orders_of};
 ghost use Rattle.draft.specs.Whole.{IsWhole};
 
 use crate::draft::{Draft, Place};
@@ -31,8 +31,10 @@ pub(crate) fn clean_draft(
     requires read { AreRead draft.old draft.old.fallen.items }
     requires ordered { length draft.old.arena.blocks < 2 → ReadsGoUp draft.old }
     ensures whole { OnOk result (IsWhole draft.new) }
+    ensures orders { OnOk result (orders_of draft.new ≡ orders_of draft.old) }
     ensures none_fell { OnOk result (draft.new.fallen.items ≡ []) }
     ensures cleaned { OnOk result (IsCleaning draft.old.arena (numbers_of draft.old) draft.new.arena (numbers_of draft.new) []) }
+    ensures used { IfOk result (λ used. HaveInsts draft.new used.items) }
     ensures reads { IfOk result (λ used. KeepsUses draft.old draft.new used.items) }
 {
     let mut used = Vec::new(alloc);
@@ -50,6 +52,7 @@ fn next_fallen(draft: &mut Draft) -> Option<Register>
     ensures whole { IsWhole draft.new }
     ensures arena { draft.new.arena ≡ draft.old.arena }
     ensures numbers { numbers_of draft.new ≡ numbers_of draft.old }
+    ensures orders { orders_of draft.new ≡ orders_of draft.old }
     ensures some { IfSome result (λ register. draft.old.fallen.items ≡ draft.new.fallen.items ++ register ∷ []) }
     ensures none { IfNone result ((draft.old.fallen.items ≡ []) × (draft.new.fallen.items ≡ [])) }
 {
@@ -60,10 +63,12 @@ fn next_fallen(draft: &mut Draft) -> Option<Register>
 fn take_unused(draft: &mut Draft, used: &mut Vec<Register>) -> Result<(), AllocError>
     requires { IsWhole draft.old }
     ensures whole { OnOk result (IsWhole draft.new) }
+    ensures orders { OnOk result (orders_of draft.new ≡ orders_of draft.old) }
     ensures none_fell { OnOk result (draft.new.fallen.items ≡ []) }
     ensures cleaning { OnOk result ((f : Function) (rows : Seq (Seq ℕ))
         → IsCleaning f rows draft.old.arena (numbers_of draft.old) (draft.old.fallen.items ++ used.old.items)
         → IsCleaning f rows draft.new.arena (numbers_of draft.new) used.new.items) }
+    ensures used { OnOk result (HaveInsts draft.old used.old.items → HaveInsts draft.new used.new.items) }
 {
     while let Some(register) = next_fallen(draft) {
         take_or_list(draft, used, register)?;
@@ -79,10 +84,12 @@ fn take_or_list(
 ) -> Result<(), AllocError>
     requires { IsWhole draft.old }
     ensures whole { OnOk result (IsWhole draft.new) }
+    ensures orders { OnOk result (orders_of draft.new ≡ orders_of draft.old) }
     ensures cleaning { OnOk result ((f : Function) (rows : Seq (Seq ℕ)) (roots : Seq Named)
         → ((r : Named) → Contains roots r → Contains (draft.old.fallen.items ++ used.old.items) r ⊎ (r ≡ register))
         → IsCleaning f rows draft.old.arena (numbers_of draft.old) roots
         → IsCleaning f rows draft.new.arena (numbers_of draft.new) (draft.new.fallen.items ++ used.new.items)) }
+    ensures used { OnOk result (HaveInsts draft.old used.old.items → HaveInsts draft.new used.new.items) }
 {
     if let Register::Result(block, number) = register {
         if is_standing(draft, register) {
@@ -160,6 +167,7 @@ fn is_marked(row: &[bool], number: u32) -> bool
 fn take_unneeded(alloc: Global, draft: &mut Draft) -> Result<(), AllocError>
     requires { IsWhole draft.old }
     ensures whole { OnOk result (IsWhole draft.new) }
+    ensures orders { OnOk result (orders_of draft.new ≡ orders_of draft.old) }
     ensures cleaning { OnOk result ((f : Function) (rows : Seq (Seq ℕ)) (waits : Seq Named)
         → IsCleaning f rows draft.old.arena (numbers_of draft.old) waits
         → IsCleaning f rows draft.new.arena (numbers_of draft.new) []) }

@@ -3,15 +3,15 @@
 ghost use Rattle.std.specs.Prelude.{◌≡◌, ◌+◌, ◌<◌, ◌^◌, ◌++◌, ◌∷◌, [], ◌↔◌, ℕ, length, map, replicate, true, false, All, Contains, IsTrue, IfOk, OnOk, Some, slice_get, slice_index_or, slice_set};
 ghost use Rattle.std.specs.List.{filter_map, range_with_len};
 ghost use Rattle.ir_core.specs.Blocks.{HasInst, IsBlock};
-ghost use Rattle.ir_core.specs.Checks.{MeetsChecks, IsInst, IsKnown};
+ghost use Rattle.ir_core.specs.Checks.{MeetsChecks, IsKnown};
 ghost use Rattle.ir_core.specs.Reads.{end_of};
 ghost use Rattle.ir_core.specs.declared.function.Block.{Block as Written};
-ghost use Rattle.ir_core.specs.declared.instruction.Inst.{Inst as There};
 ghost use Rattle.bindings.specs.Facts.{AreFactsOf};
 ghost use Rattle.needed.specs.Operands.{operands_of};
-ghost use Rattle.draft.specs.Changes.{changed_at, exchanged, gone, inst_changed, inst_put, put_in, taken_out, unnamed, with_block, without};
+ghost use Rattle.draft.specs.Changes.{changed_at, gone, inst_changed, inst_put, put_in, taken_out, without};
 ghost use Rattle.draft.specs.Counts.{operands_at, register_of};
-ghost use Rattle.draft.specs.Drafts.{Stands, StandsBefore, function_of, numbers_of};
+ghost use Rattle.draft.specs.Drafts.{Stands, StandsBefore, function_of, numbers_of, orders_of};
+ghost use Rattle.draft.specs.KeptOrders.{KeepsOrders};
 ghost use Rattle.draft.specs.Orders.{none};
 ghost use Rattle.draft.specs.Orders as numbers;
 ghost use Rattle.draft.specs.Whole.{IsWhole, IsSettled};
@@ -20,9 +20,8 @@ use crate::order::Order;
 use crate::uses::{Readers, count_reads, forget_reads, list_reads, push_reads};
 use bindings::FunctionFacts;
 use ir_core::{Block, Function, Inst, Op, Operand, Register};
-use lists::{List, Text};
+use lists::List;
 use std::alloc::{AllocError, Global};
-use std::mem;
 use use_counts::Uses;
 
 /// The number of a block's terminator.
@@ -145,6 +144,7 @@ impl Draft {
         ensures place { IfOk result (λ place. (place.block ≡ at.block) × (place.number ≡ end_of self.old.arena at.block)) }
         ensures numbers { OnOk result (numbers_of self.new
             ≡ changed_at at.block (λ row. numbers.put_before row at.number (end_of self.old.arena at.block)) (numbers_of self.old)) }
+        ensures orders { OnOk result (KeepsOrders (orders_of self.old) (orders_of self.new)) }
         ensures fallen { OnOk result (self.new.fallen.items
             ≡ self.old.fallen.items ++ Register.Result at.block (end_of self.old.arena at.block) ∷ []) }
     {
@@ -163,24 +163,6 @@ impl Draft {
         Ok(place)
     }
 
-    /// Puts another instruction in the place of one, whose register it takes.
-    pub(crate) fn exchange(&mut self, at: Place, inst: Inst) -> Result<(), AllocError>
-        requires whole { IsWhole self.old }
-        requires at { Stands self.old at.block at.number }
-        requires known { All (IsKnown self.old.arena) (operands_of inst.op) }
-        ensures whole { OnOk result (IsWhole self.new) }
-        ensures arena { OnOk result (self.new.arena ≡ exchanged self.old.arena at.block at.number inst) }
-        ensures numbers { OnOk result (numbers_of self.new ≡ numbers_of self.old) }
-        ensures fallen { OnOk result (self.new.fallen.items
-            ≡ self.old.fallen.items ++ filter_map register_of (operands_at self.old.arena at)) }
-    {
-        push_reads(&self.arena, &mut self.fallen, at)?;
-        forget_reads(&self.arena, &mut self.facts.uses, at);
-        set_inst(&mut self.arena.blocks, at, inst);
-        count_reads(&self.arena, &mut self.facts.uses, at)?;
-        list_reads(&self.arena, &mut self.readers, at)
-    }
-
     /// Takes an instruction out.
     pub(crate) fn take_out(&mut self, at: Place) -> Result<(), AllocError>
         requires whole { IsWhole self.old }
@@ -188,6 +170,7 @@ impl Draft {
         ensures whole { OnOk result (IsWhole self.new) }
         ensures arena { OnOk result (self.new.arena ≡ taken_out self.old.arena at.block at.number) }
         ensures numbers { OnOk result (numbers_of self.new ≡ changed_at at.block (without at.number) (numbers_of self.old)) }
+        ensures orders { OnOk result (orders_of self.new ≡ orders_of self.old) }
         ensures fallen { OnOk result (self.new.fallen.items
             ≡ self.old.fallen.items ++ filter_map register_of (operands_at self.old.arena at)) }
     {
@@ -196,27 +179,6 @@ impl Draft {
         empty_inst(&mut self.arena.blocks, at);
         clear_mark(&mut self.stand, at);
         Ok(())
-    }
-
-    /// Takes the name of an instruction's result.
-    pub(crate) fn take_name(&mut self, at: Place) -> Option<Text>
-        requires whole { IsWhole self.old }
-        requires at { HasInst self.old.arena at.block at.number }
-        ensures whole { IsWhole self.new }
-        ensures name { (inst : There) → IsInst self.old.arena at.block at.number inst → result ≡ inst.name }
-        ensures arena { self.new.arena ≡ with_block self.old.arena at.block (inst_changed at.number unnamed) }
-        ensures numbers { numbers_of self.new ≡ numbers_of self.old }
-        ensures fallen { self.new.fallen.items ≡ self.old.fallen.items }
-    {
-        take_name(&mut self.arena.blocks, at)
-    }
-
-    pub(crate) fn inst_mut(&mut self, at: Place) -> &mut Inst {
-        self.arena
-            .blocks
-            .get_mut(at.block as usize)
-            .insts
-            .get_mut(at.number as usize)
     }
 }
 
@@ -240,17 +202,6 @@ fn push_inst(blocks: &mut List<Block>, block: u32, inst: Inst) -> Result<(), All
     blocks.get_mut(block as usize).insts.push(inst)
 }
 
-/// Puts another instruction in the place of one.
-fn set_inst(blocks: &mut List<Block>, at: Place, inst: Inst)
-    requires { (block : Written) × (slice_get blocks.old at.block ≡ Some block) × (at.number < length block.insts) }
-    ensures { blocks.new ≡ changed_at at.block (inst_changed at.number (λ old. inst)) blocks.old }
-{
-    *blocks
-        .get_mut(at.block as usize)
-        .insts
-        .get_mut(at.number as usize) = inst;
-}
-
 /// Leaves an instruction that reads nothing in the place of one.
 fn empty_inst(blocks: &mut List<Block>, at: Place)
     requires { (block : Written) × (slice_get blocks.old at.block ≡ Some block) × (at.number < length block.insts) }
@@ -262,19 +213,6 @@ fn empty_inst(blocks: &mut List<Block>, at: Place)
         .get_mut(at.number as usize);
     inst.name = None;
     inst.op = Op::Freeze(Operand::Poison);
-}
-
-/// Takes the name of an instruction's result.
-fn take_name(blocks: &mut List<Block>, at: Place) -> Option<Text>
-    requires { (block : Written) × (slice_get blocks.old at.block ≡ Some block) × (at.number < length block.insts) }
-    ensures name { (block : Written) (inst : There) → slice_get blocks.old at.block ≡ Some block → slice_get block.insts at.number ≡ Some inst → result ≡ inst.name }
-    ensures blocks { blocks.new ≡ changed_at at.block (inst_changed at.number unnamed) blocks.old }
-{
-    let inst = blocks
-        .get_mut(at.block as usize)
-        .insts
-        .get_mut(at.number as usize);
-    mem::replace(&mut inst.name, None)
 }
 
 /// One more instruction of a block stands.

@@ -5,7 +5,7 @@ ghost use Rattle.ir_core.specs.declared.function.Block.{Block as Written};
 ghost use Rattle.ir_core.specs.Checks.{IsKnown};
 ghost use Rattle.substitution.specs.Substitution.{substituted_end, substituted_inst};
 ghost use Rattle.draft.specs.Changes.{changed_at, end_changed, inst_changed, instead, replaced, replaced_at};
-ghost use Rattle.draft.specs.Drafts.{numbers_of};
+ghost use Rattle.draft.specs.Drafts.{numbers_of, orders_of};
 ghost use Rattle.draft.specs.Orders.{none};
 ghost use Rattle.draft.specs.Readers.{IsPlaceIn, IsReader};
 ghost use Rattle.draft.specs.Whole.{IsWhole};
@@ -46,6 +46,7 @@ impl Draft {
         ensures whole { OnOk result (IsWhole self.new) }
         ensures arena { OnOk result (self.new.arena ≡ replaced self.old.arena swap.now.from swap.now.to) }
         ensures numbers { OnOk result (numbers_of self.new ≡ numbers_of self.old) }
+        ensures orders { OnOk result (orders_of self.new ≡ orders_of self.old) }
         ensures fallen { OnOk result (self.new.fallen.items ≡ self.old.fallen.items) }
         ensures places { IfOk result (λ places. (p : Spot) → Contains places.items p
             ↔ (IsPlaceIn self.old.arena p × IsReader self.old.arena swap.now.from p)) }
@@ -66,6 +67,7 @@ impl Draft {
         ensures whole { OnOk result (IsWhole self.new) }
         ensures arena { OnOk result (self.new.arena ≡ replaced_at self.old.arena place swap.now.from swap.now.to) }
         ensures numbers { OnOk result (numbers_of self.new ≡ numbers_of self.old) }
+        ensures orders { OnOk result (orders_of self.new ≡ orders_of self.old) }
         ensures fallen { OnOk result (self.new.fallen.items ≡ self.old.fallen.items) }
     {
         forget_reads(&self.arena, &mut self.facts.uses, place);

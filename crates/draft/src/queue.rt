@@ -2,11 +2,11 @@
 
 ghost use Rattle.std.specs.Prelude.{◌≡◌, ◌↔◌, ◌<◌, ◌⊎◌, ℕ, length, All, Contains, IfOk, OnOk, IfSome, IfNone};
 ghost use Rattle.ir_core.specs.Walks.{IsReached};
-ghost use Rattle.draft.specs.Drafts.{Stands, Reaches};
+ghost use Rattle.draft.specs.Drafts.{Stands, Reaches, orders_of};
 ghost use Rattle.draft.specs.Heaps.{IsNumbered};
-ghost use Rattle.draft.specs.Queues.{Waits, waiting_in, IsQueueBy};
+ghost use Rattle.draft.specs.Queues.{ComesNext, IsQueueOf, Waits, size_of, waiting_in};
 ghost use Rattle.draft.specs.Sets.{Has, IsAdded, IsRemoved};
-ghost use Rattle.draft.specs.Waiting.{IsArranged, IsFirst};
+ghost use Rattle.draft.specs.Waiting.{IsArranged};
 ghost use Rattle.draft.specs.Readers.{IsPlaceIn};
 ghost use Rattle.draft.specs.Walks.{IsSameDraft};
 ghost use Rattle.draft.specs.Whole.{IsWhole, IsSettled};
@@ -29,7 +29,7 @@ impl Queue {
     /// All places of a draft's reached blocks.
     pub fn all(alloc: Global, draft: &Draft) -> Result<Queue, AllocError>
         requires { IsWhole draft.now }
-        ensures queue { IfOk result (IsQueueBy draft.now.orders.items) }
+        ensures queue { IfOk result (IsQueueOf draft.now) }
         ensures all { IfOk result (λ queue. (b n : ℕ) → Waits queue b n ↔ (IsReached draft.now.arena b × Stands draft.now b n)) }
     {
         let mut queue = Queue {
@@ -48,8 +48,8 @@ impl Queue {
     fn insert_block(&mut self, draft: &Draft, block: u32) -> Result<(), AllocError>
         requires whole { IsWhole draft.now }
         requires block { block < length draft.now.arena.blocks }
-        requires queue { IsQueueBy draft.now.orders.items self.old }
-        ensures queue { OnOk result (IsQueueBy draft.now.orders.items self.new) }
+        requires queue { IsQueueOf draft.now self.old }
+        ensures queue { OnOk result (IsQueueOf draft.now self.new) }
         ensures added { OnOk result ((b n : ℕ) → Waits self.new b n ↔ (Waits self.old b n ⊎ ((b ≡ block) × Stands draft.now b n))) }
     {
         for number in 0..draft.count_in(block) {
@@ -63,9 +63,9 @@ impl Queue {
 
     /// Puts a place into the queue, where it isn't there.
     pub fn insert(&mut self, draft: &Draft, place: Place) -> Result<(), AllocError>
-        requires queue { IsQueueBy draft.now.orders.items self.old }
-        requires place { IsNumbered draft.now.orders.items place }
-        ensures queue { OnOk result (IsQueueBy draft.now.orders.items self.new) }
+        requires queue { IsQueueOf draft.now self.old }
+        requires place { IsNumbered (orders_of draft.now) place }
+        ensures queue { OnOk result (IsQueueOf draft.now self.new) }
         ensures added { OnOk result (IsAdded (waiting_in self.old) (waiting_in self.new) place) }
     {
         self.waiting.insert(draft.orders.as_slice(), place)?;
@@ -74,10 +74,12 @@ impl Queue {
 
     /// Takes the first place out.
     pub fn take_first(&mut self, draft: &Draft) -> Option<Place>
-        requires { IsQueueBy draft.now.orders.items self.old }
-        ensures queue { IsQueueBy draft.now.orders.items self.new }
-        ensures first { IfSome result (IsFirst draft.now.orders.items (waiting_in self.old)) }
+        requires whole { IsWhole draft.now }
+        requires queue { IsQueueOf draft.now self.old }
+        ensures queue { IsQueueOf draft.now self.new }
+        ensures first { IfSome result (ComesNext draft.now self.old) }
         ensures removed { IfSome result (IsRemoved (waiting_in self.old) (waiting_in self.new)) }
+        ensures fewer { IfSome result (λ place. size_of self.new < size_of self.old) }
         ensures none { IfNone result ((b n : ℕ) → ¬ Waits self.old b n) }
     {
         self.waiting.take_first(draft.orders.as_slice())
@@ -92,10 +94,10 @@ impl Queue {
         depth: usize,
     ) -> Result<(), AllocError>
         requires settled { IsSettled draft.old }
-        requires queue { IsQueueBy draft.old.orders.items self.old }
+        requires queue { IsQueueOf draft.old self.old }
         requires places { All (IsPlaceIn draft.old.arena) places.now }
         ensures draft { OnOk result (IsSameDraft draft.old draft.new) }
-        ensures queue { OnOk result (IsQueueBy draft.new.orders.items self.new) }
+        ensures queue { OnOk result (IsQueueOf draft.new self.new) }
         ensures stay { OnOk result ((b n : ℕ) → Waits self.old b n → Waits self.new b n) }
         ensures reaching { OnOk result ((p : Spot) (n : ℕ) → Contains places.now p → Stands draft.old p.block n
             → Reaches draft.old depth p.block n p.number → Waits self.new p.block n) }

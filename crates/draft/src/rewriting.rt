@@ -12,7 +12,8 @@ ghost use Rattle.rewriter.specs.Put as target;
 ghost use Rattle.rewriter.specs.Ready.{IsBound};
 ghost use Rattle.draft.specs.Changes.{changed_at, replaced, taken_out, without};
 ghost use Rattle.draft.specs.Counts.{operands_at, register_of};
-ghost use Rattle.draft.specs.Drafts.{Stands, numbers_of, HasRoom};
+ghost use Rattle.draft.specs.Drafts.{HasRoomFor, Stands, numbers_of, orders_of};
+ghost use Rattle.draft.specs.KeptOrders.{KeepsOrders};
 ghost use Rattle.draft.specs.Orders.{none};
 ghost use Rattle.draft.specs.Readers.{IsPlaceIn, IsReader};
 ghost use Rattle.draft.specs.Rewriting.{IsPutFor, MayPut, MayRead, numbered, rows_with, with_put};
@@ -56,8 +57,9 @@ pub(crate) fn rewrite_draft(
         → MayPut draft.old.arena binding.now.block (target.rewrite_of rule.now (numbered draft.old.arena binding.now) root.name).put }
     requires result { (root : Instruction) → IsInst draft.old.arena binding.now.block binding.now.place root
         → MayRead draft.old.arena binding.now.block 32 (target.rewrite_of rule.now (numbered draft.old.arena binding.now) root.name).result }
-    requires room { HasRoom draft.old binding.now.block }
+    requires room { HasRoomFor 1 draft.old }
     ensures whole { OnOk result (IsWhole draft.new) }
+    ensures orders { OnOk result (KeepsOrders (orders_of draft.old) (orders_of draft.new)) }
     ensures rewritten { IfOk result (λ rewritten. (root : Instruction) → IsInst draft.old.arena binding.now.block binding.now.place root
         → IsPutFor draft.old draft.new (target.rewrite_of rule.now (numbered draft.old.arena binding.now) root.name) binding.now.place rewritten) }
 {
@@ -90,6 +92,7 @@ fn replace_root(
     ensures whole { OnOk result (IsWhole draft.new) }
     ensures arena { OnOk result (draft.new.arena
         ≡ taken_out (replaced draft.old.arena (Register.Result root.block root.number) operand) root.block root.number) }
+    ensures orders { OnOk result (orders_of draft.new ≡ orders_of draft.old) }
     ensures numbers { OnOk result (numbers_of draft.new ≡ changed_at root.block (without root.number) (numbers_of draft.old)) }
     ensures fell { OnOk result (draft.new.fallen.items ≡ draft.old.fallen.items
         ++ filter_map register_of (operands_at (replaced draft.old.arena (Register.Result root.block root.number) operand) root)) }
@@ -133,6 +136,7 @@ fn put_all(
         (range_with_len (end_of draft.old.arena at.block) (length insts.items))) }
     ensures fell { OnOk result (draft.new.fallen.items ≡ draft.old.fallen.items ++ map (λ number. Register.Result at.block number)
         (range_with_len (end_of draft.old.arena at.block) (length insts.items))) }
+    ensures orders { OnOk result (KeepsOrders (orders_of draft.old) (orders_of draft.new)) }
     ensures arena { OnOk result (draft.new.arena ≡ with_put draft.old.arena at.block insts.items) }
     ensures numbers { OnOk result (numbers_of draft.new ≡ rows_with (numbers_of draft.old) at.block at.number
         (range_with_len (end_of draft.old.arena at.block) (length insts.items))) }

@@ -1,6 +1,6 @@
 //! One step of rewriting.
 
-ghost use Rattle.std.specs.Prelude.{◌+◌, ◌<◌, length, slice_index_or, [], IfOk, OnOk};
+ghost use Rattle.std.specs.Prelude.{ℕ, suc, All, Contains, IfOk, OnOk};
 ghost use Rattle.ir_core.specs.Checks.{MeetsChecks};
 ghost use Rattle.ir_core.specs.declared.function.Function.{Function};
 ghost use Rattle.rule_core.specs.Checks.{IsRule};
@@ -10,7 +10,9 @@ ghost use Rattle.rewriter.specs.Applied.{IsRewritten};
 ghost use Rattle.needed.specs.Cleaned.{IsCleaned};
 ghost use Rattle.run_history.specs.Laws.{NumbersFit};
 ghost use Rattle.draft.specs.Cleaning.{IsClean};
-ghost use Rattle.draft.specs.Drafts.{AreTouched, function_of, placed_binding, HasRoom};
+ghost use Rattle.draft.specs.Drafts.{AreTouched, HasRoomFor, arena_of, function_of, orders_of, placed_binding};
+ghost use Rattle.draft.specs.KeptOrders.{KeepsOrders};
+ghost use Rattle.draft.specs.Readers.{IsPlaceIn};
 ghost use Rattle.draft.specs.Whole.{IsSettled};
 
 use crate::cleaning::clean_draft;
@@ -22,8 +24,9 @@ use rule_core::Rule;
 use std::alloc::{AllocError, Global};
 use use_counts::uses_of;
 
-/// Applies a rule where it matches with this binding, which names numbers, and cleans the draft. It gives the places that were touched:
-/// those of what came, of what reads something else, and of what is read by one operand alone since then. Some of them were taken out.
+/// Applies a rule where it matches with this binding, which names numbers, and cleans the draft. It gives the places that were touched: the
+/// root's, and those of what came, of what reads something else, and of what is read by one operand alone since then. Some of them were
+/// taken out.
 ///
 /// It takes as many steps as the rule is long, places read the root, and instructions go; and where what lost a use may be read by a loop
 /// alone, as many as the arena is long.
@@ -40,16 +43,24 @@ pub fn step(
     requires rule { IsRule rule.now }
     requires typed { HasNoFault rule.now }
     requires matches { let m = placed_binding draft.old binding.now in IsMatch (function_of draft.old) m.block m.place rule.now m }
-    requires room { HasRoom draft.old binding.now.block }
+    requires room { HasRoomFor 1 draft.old }
     ensures settled { OnOk result (IsSettled draft.new) }
     ensures clean { OnOk result (IsClean draft.new) }
     ensures steps { OnOk result ((f : Function) × IsRewritten (function_of draft.old) (placed_binding draft.old binding.now) rule.now f
         × IsCleaned f (function_of draft.new)) }
+    ensures room { OnOk result ((steps : ℕ) → HasRoomFor (suc steps) draft.old → HasRoomFor steps draft.new) }
+    ensures orders { OnOk result (KeepsOrders (orders_of draft.old) (orders_of draft.new)) }
     ensures touched { IfOk result (λ places. AreTouched draft.old draft.new places.items) }
+    ensures root { IfOk result (λ places. Contains places.items (record { block = binding.now.block; number = binding.now.place })) }
+    ensures places { IfOk result (λ places. All (IsPlaceIn (arena_of draft.new)) places.items) }
 {
     let rewritten = rewrite_draft(alloc, draft, binding, rule)?;
     let used = clean_draft(alloc, draft, &rewritten)?;
     let mut touched = rewritten.put;
+    touched.push(Place {
+        block: binding.block,
+        number: binding.place,
+    })?;
     for place in rewritten.replaced {
         touched.push(place)?;
     }

@@ -6,7 +6,6 @@ ghost use Rattle.ir_core.specs.Checks.{IsKnown};
 ghost use Rattle.ir_core.specs.Reads.{Read, IsRead};
 ghost use Rattle.ir_core.specs.declared.operand.Register.{Register as Named};
 ghost use Rattle.use_counts.specs.Tables.{HasNumber, count_of};
-ghost use Rattle.draft.specs.Drafts.{numbers_of};
 ghost use Rattle.draft.specs.Orders.{none};
 ghost use Rattle.draft.specs.Readers.{arena_place, IsReader, IsPlaceIn, HasList, HaveLists, IsListed, IsListedAmong, IsListSetTo, AreListed, listed_for, AreReadersOf};
 ghost use Rattle.draft.specs.Counts.{AreCounted, HasNumbers, IsSetTo, operands_at, register_of, times};
@@ -410,7 +409,8 @@ impl Draft {
         requires known { IsKnown self.old.arena (Operand.Register register) }
         ensures whole { IsWhole self.new }
         ensures arena { self.new.arena ≡ self.old.arena }
-        ensures numbers { numbers_of self.new ≡ numbers_of self.old }
+        ensures orders { self.new.orders.items ≡ self.old.orders.items }
+        ensures stand { self.new.stand.items ≡ self.old.stand.items }
         ensures fallen { self.new.fallen.items ≡ self.old.fallen.items }
         ensures exact { (p : Spot) → Contains (listed_for self.new.readers register) p
             ↔ (IsPlaceIn self.new.arena p × IsReader self.new.arena register p) }

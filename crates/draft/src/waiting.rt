@@ -1,6 +1,6 @@
 //! Places that wait to be taken out in their order.
 
-ghost use Rattle.std.specs.Prelude.{◌≡◌, ℕ, [], length, IfOk, OnOk, IfSome, IfNone};
+ghost use Rattle.std.specs.Prelude.{◌≡◌, ◌<◌, ℕ, [], length, IfOk, OnOk, IfSome, IfNone};
 ghost use Rattle.draft.specs.Heaps.{IsNumbered};
 ghost use Rattle.draft.specs.Sets.{Has, IsAdded, IsRemoved};
 ghost use Rattle.draft.specs.Waiting.{IsArranged, IsFirst};
@@ -52,6 +52,7 @@ impl Waiting {
         ensures arranged { IsArranged orders.now self.new }
         ensures first { IfSome result (IsFirst orders.now self.old.marks) }
         ensures removed { IfSome result (IsRemoved self.old.marks self.new.marks) }
+        ensures fewer { IfSome result (λ place. length self.new.heap.items < length self.old.heap.items) }
         ensures none { IfNone result ((b n : ℕ) → ¬ Has self.old.marks b n) }
     {
         let first = heap::pop(orders, &mut self.heap)?;

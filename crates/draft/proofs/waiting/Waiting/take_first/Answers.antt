@@ -1,6 +1,6 @@
-use Rattle.std.proofs.Common.{◌<◌, ◌∷◌, Contains, sym, subst, ◌∙◌}
+use Rattle.std.proofs.Common.{◌<◌, ◌∷◌, Contains, sym, subst, ◌∙◌, arith}
 use Rattle.std.proofs.lemmas.List.Elements.{All-contains}
-use Rattle.std.proofs.lemmas.List.Sorted.{Contains-permutation, IsPermutation-sym}
+use Rattle.std.proofs.lemmas.List.Sorted.{Contains-permutation, IsPermutation-sym, length_permutation}
 use Rattle.draft.specs.Heaps.{IsNumbered}
 use Rattle.draft.specs.Waiting.{AreMarked}
 use Rattle.draft.proofs.Members.{contains_first}
@@ -32,3 +32,6 @@ returns-clause-arranged c = record {
 
 pub returns-clause-first : goal.returns-clause-first
 returns-clause-first c = first-marked c.args.orders.now c.args.self.now.marks c.args.self.now.heap.items c.pop.new.heap.items c.in_ok-first.first c.requires.once c.in_ok-first.ensures.popped c.in_ok-first.ensures.first
+
+pub returns-clause-fewer : goal.returns-clause-fewer
+returns-clause-fewer c = (let same = length_permutation c.args.self.now.heap.items (c.in_ok-first.first ∷ c.pop.new.heap.items) c.in_ok-first.ensures.popped in omega arith)
