@@ -7,5 +7,6 @@ pub mod Stepping
 pub mod Entering
 pub mod Advancing
 pub mod Searching
+pub mod Cleanness
 pub mod Reaching
 pub mod Requeueing

@@ -27,12 +27,12 @@ module _ (of_the_untouched : MatchesOfTheUntouched) (rules : List Rule) (ready :
     (few : AreSourcesWithin depth rules) (settled : IsSettled new) (are_touched : AreTouched old new touched)
     (reached : (b : ℕ) → IsReached (arena_of old) b ↔ IsReached (arena_of new) b) (arena : (arena_of last) ≡ (arena_of new)) (numbers : numbers_of last ≡ numbers_of new)
     (waiting left : Rows) (stay : (b n : ℕ) → Has waiting b n → Has left b n)
-    (reaching : (b n m : ℕ) → Contains touched (record { block = b; number = m }) → Reaches new depth b n m → Has left b n)
+    (reaching : (b n m : ℕ) → Contains touched (record { block = b; number = m }) → Stands new b n → Reaches new depth b n m → Has left b n)
     (Out : ℕ → ℕ → Type 0) (out : (b n : ℕ) → Out b n → Contains touched (record { block = b; number = n })) where
   pub still_down : (table : List Row) → AreTurnedDownBut rules table Out old waiting → AreTurnedDownBut rules table Nowhere last left
   still_down table others b n stands_last away nowhere =
       let stands : Stands new b n = subst (λ (rows : List (List ℕ)). Contains (row_of rows b) n) numbers stands_last in
-      let free : (m : ℕ) → Reaches new depth b n m → ¬ Contains touched (record { block = b; number = m }) = λ m reaches has. away (reaching b n m has reaches) in
+      let free : (m : ℕ) → Reaches new depth b n m → ¬ Contains touched (record { block = b; number = m }) = λ m reaches has. away (reaching b n m has stands reaches) in
       let untouched = are_touched b n stands (free n (itself new b depth n)) in
       let down : AreTurnedDownAt rules table (arena_of old) b n = others b n untouched.stood (λ has. away (stay b n has)) (λ is. free n (itself new b depth n) (out b n is)) in
       let (kept, are, were) = of_the_untouched rules old new touched depth b n down.matches ready few settled are_touched (reached b) stands free down.are in

@@ -36,7 +36,7 @@ use Rattle.asked_verdicts.specs.Parts.{AsksToPlace}
 use Rattle.asked_verdicts.proofs.Growing.{all_turned_down_stay}
 use Rattle.asked_verdicts.proofs.Parts.{IsPast, asks_again, asks_first, asks_these, nothing_past, past_first, past_place}
 use Rattle.asked_verdicts.proofs.Sequence.{row_stays}
-use Rattle.strategy.specs.Frontiers.{AreTurnedDownAt, AreTurnedDownBut, AsksAt, IsNext, LooksAt, Nowhere, PlaceOf, SearchesTo}
+use Rattle.strategy.specs.Frontiers.{AreTurnedDownAt, AreTurnedDownBut, AsksAt, LooksAt, Nowhere, PlaceOf, SearchesTo}
 use Rattle.strategy.proofs.Advancing.{IsPlaceBefore, come_through, come_to}
 
 -- what is turned down stays so as the table grows
@@ -47,6 +47,11 @@ still_turned_down rules table larger grows arena b n at =
 -- place j of block c isn't before place k of block b
 abbrev pub IsBehind : ℕ → ℕ → ℕ → ℕ → Type 0
 IsBehind b k c j = (b < c) ⊎ ((b ≡ c) × (k ≤ j))
+
+-- the place waits, and nothing that stands before it does
+pub record IsNext (d : Draft) (waiting : Rows) (p : Place) : Type 0 where
+  pub there : Has waiting p.block p.number
+  pub none_before : (b n : ℕ) → Has waiting b n → Stands d b n → ¬ StandsBefore d b n p.block p.number
 
 -- how far a search is: all before some place were asked, and turned down, and nothing waits before it
 pub record Gone (rules : List Rule) (conflicts : ℕ) (d : Draft) (u v : Verdicts) (waiting : Rows) : Type 0 where

@@ -9,9 +9,9 @@ use Rattle.rule_matches.specs.declared.matches.Match.{Match}
 use Rattle.rule_matches.specs.Matches.{AreMatchesInAnyOrder, IsAt}
 use Rattle.draft.specs.declared.draft.Draft.{Draft}
 use Rattle.draft.specs.declared.draft.Place.{Place}
-use Rattle.draft.specs.Drafts.{Stands, StandsBefore, function_of, arena_of}
-use Rattle.draft.specs.Loops.{AreLoopsOf}
-use Rattle.draft.specs.Queues.{IsQueueOf}
+use Rattle.draft.specs.Cleaning.{IsClean}
+use Rattle.draft.specs.Drafts.{Stands, function_of, arena_of}
+use Rattle.draft.specs.Queues.{IsQueueOf, waiting_in}
 use Rattle.draft.specs.Sets.{Rows, Has}
 use Rattle.draft.specs.Whole.{IsSettled}
 use Rattle.draft_matches.specs.Laws.{AreSourcesWithin, placed_match}
@@ -41,15 +41,10 @@ PlaceOf m b n = (m.binding.block ≡ b) × (m.binding.place ≡ n)
 -- between steps: a match that isn't turned down stands at a place that waits
 pub record IsFrontier (rules : List Rule) (table : List Row) (frontier : Frontier) : Type 0 where
   pub draft : IsSettled frontier.draft
-  pub loops : AreLoopsOf frontier.draft frontier.loops
+  pub clean : IsClean frontier.draft
   pub queue : IsQueueOf frontier.draft frontier.queue
   pub depth : AreSourcesWithin frontier.depth rules
-  pub turned_down : AreTurnedDownBut rules table Nowhere frontier.draft frontier.queue
-
--- the place waits, and nothing that stands before it does
-pub record IsNext (d : Draft) (waiting : Rows) (p : Place) : Type 0 where
-  pub there : Has waiting p.block p.number
-  pub none_before : (b n : ℕ) → Has waiting b n → Stands d b n → ¬ StandsBefore d b n p.block p.number
+  pub turned_down : AreTurnedDownBut rules table Nowhere frontier.draft (waiting_in frontier.queue)
 
 -- of the matches at an instruction of an arena those up to the first that is admitted are asked, or all if none is
 abbrev pub AsksAt : List Rule → ℕ → Function → ℕ → ℕ → Verdicts → Verdicts → Option Match → Type 0

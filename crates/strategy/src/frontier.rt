@@ -9,11 +9,12 @@ ghost use Rattle.verdict.specs.declared.verdict.Row.{Row as VerdictRow};
 ghost use Rattle.rule_matches.specs.Matches.{IsMatchAmong};
 ghost use Rattle.rule_matches.specs.Ready.{AreReady};
 ghost use Rattle.rule_matches.specs.Roots.{AreByRoot};
-ghost use Rattle.draft.specs.Drafts.{AreTouched, HasRoomFor, arena_of, function_of};
-ghost use Rattle.draft.specs.Loops.{AreLoopsOf};
+ghost use Rattle.draft.specs.Cleaning.{AllNeeded, IsClean};
+ghost use Rattle.draft.specs.Drafts.{AreTouched, HasRoomFor, arena_of, function_of, orders_of};
+ghost use Rattle.draft.specs.KeptOrders.{KeepsOrders};
 ghost use Rattle.draft.specs.Orders.{none};
-ghost use Rattle.draft.specs.Queues.{IsQueueOf};
-ghost use Rattle.draft.specs.Sets.{Rows};
+ghost use Rattle.draft.specs.Queues.{IsQueueOf, waiting_in};
+ghost use Rattle.draft.specs.Readers.{IsPlaceIn};
 ghost use Rattle.draft.specs.Whole.{IsSettled};
 ghost use Rattle.draft_matches.specs.Laws.{AreSourcesWithin, placed_match};
 ghost use Rattle.asked_verdicts.specs.Asks.{AreVerdicts, AsksAll, IsAnywhere};
@@ -23,7 +24,7 @@ ghost use Rattle.strategy.specs.Searches.{OptimisesCleaned, OptimisesFunction, S
 
 use crate::steps::{Bounds, Turns, clean_checked};
 use asked_verdicts::{Verdicts, any_admitted, first_admitted};
-use draft::{Draft, Loops, Place, Queue};
+use draft::{Draft, Place, Queue, orders_are_kept};
 use draft_matches::{matches_of_the_arena, matches_of_the_untouched};
 use ir_core::Function;
 use needed::{every_cleaned_function_refines_the_old, every_cleaned_number_was_there};
@@ -36,7 +37,6 @@ use std::alloc::{AllocError, Global};
 #[derive(Drop)]
 pub(crate) struct Frontier {
     draft: Draft,
-    loops: Loops,
     /// The places at which a match may stand that isn't turned down.
     queue: Queue,
     /// How far a root may reach through its operands.
@@ -77,6 +77,7 @@ fn optimise_cleaned(
     bounds: Bounds,
 ) -> Result<(Function, Turns), AllocError>
     requires checks { MeetsChecks f }
+    requires needed { AllNeeded f }
     requires numbers { NumbersFit f }
     requires countable { IsCountable bounds.steps f }
     requires ready { AreReady rules.now.all.now }
@@ -103,6 +104,7 @@ fn rewrite_cleaned(
 ) -> Result<(Function, Turns), AllocError>
     requires some { 0 < bounds.steps }
     requires checks { MeetsChecks f }
+    requires needed { AllNeeded f }
     requires numbers { NumbersFit f }
     requires countable { IsCountable bounds.steps f }
     requires ready { AreReady rules.now.all.now }
@@ -162,6 +164,7 @@ impl Frontier {
     /// The frontier of a function in which any match may be admitted.
     fn of(alloc: Global, f: Function, rules: &[Rule]) -> Result<Frontier, AllocError>
         requires checks { MeetsChecks f }
+        requires needed { AllNeeded f }
         requires blocks { length f.blocks < 2 ^ 32 }
         requires insts { All (λ b. length b.insts < none) f.blocks }
         ensures frontier { IfOk result (λ made. (table : Seq VerdictRow) → IsFrontier rules.now table made) }
@@ -170,7 +173,6 @@ impl Frontier {
     {
         let draft = Draft::of(alloc, f)?;
         Ok(Frontier {
-            loops: Loops::of(alloc, &draft)?,
             queue: Queue::all(alloc, &draft)?,
             depth: depth_of(rules),
             draft,
@@ -242,14 +244,14 @@ fn next_admitted(
 ) -> Result<Option<Match>, AllocError>
     requires settled { IsSettled draft.now }
     requires queue { IsQueueOf draft.now queue.old }
-    requires turned_down { AreTurnedDownBut rules.now.all.now verdicts.old.table Nowhere draft.now queue.old }
+    requires turned_down { AreTurnedDownBut rules.now.all.now verdicts.old.table Nowhere draft.now (waiting_in queue.old) }
     requires checks { MeetsChecks (function_of draft.now) }
     requires ready { AreReady rules.now.all.now }
     requires by_root { AreByRoot rules.now.all.now rules.now.by_root.now }
     requires conflicts { conflicts ≤ most_conflicts }
     requires verdicts { AreVerdicts rules.now.all.now conflicts verdicts.old }
     ensures queue { OnOk result (IsQueueOf draft.now queue.new) }
-    ensures found { IfOk result (SearchesTo rules.now.all.now conflicts draft.now queue.new verdicts.old verdicts.new) }
+    ensures found { IfOk result (SearchesTo rules.now.all.now conflicts draft.now (waiting_in queue.new) verdicts.old verdicts.new) }
 {
     matches_of_the_arena();
     while let Some(place) = queue.take_first(draft) {
@@ -328,7 +330,7 @@ fn rewrite_at(
 ) -> Result<(), AllocError>
     requires ready { AreReady rules.now }
     requires settled { IsSettled frontier.old.draft }
-    requires loops { AreLoopsOf frontier.old.draft frontier.old.loops }
+    requires clean { IsClean frontier.old.draft }
     requires queue { IsQueueOf frontier.old.draft frontier.old.queue }
     requires depth { AreSourcesWithin frontier.old.depth rules.now }
     requires matches { IsMatchAmong rules.now (function_of frontier.old.draft) (placed_match frontier.old.draft chosen.now) }
@@ -338,20 +340,15 @@ fn rewrite_at(
     ensures stepped { OnOk result (IsSteppedAt rules.now frontier.old.draft frontier.new.draft chosen.now) }
 
     // What was turned down stays so, whatever the table is.
-    ensures frontier { OnOk result ((table : Seq VerdictRow) → AreTurnedDownBut rules.now table (PlaceOf chosen.now) frontier.old.draft frontier.old.queue
+    ensures frontier { OnOk result ((table : Seq VerdictRow) → AreTurnedDownBut rules.now table (PlaceOf chosen.now) frontier.old.draft (waiting_in frontier.old.queue)
         → IsFrontier rules.now table frontier.new) }
     ensures checks { OnOk result (MeetsChecks (function_of frontier.new.draft)) }
     ensures numbers { OnOk result (NumbersFit (function_of frontier.new.draft)) }
     ensures room { OnOk result ((steps : ℕ) → HasRoomFor (suc steps) frontier.old.draft → HasRoomFor steps frontier.new.draft) }
 {
     matches_of_the_untouched();
-    let touched = rewrite_draft(
-        alloc,
-        &mut frontier.draft,
-        &mut frontier.loops,
-        rules,
-        chosen,
-    )?;
+    orders_are_kept();
+    let touched = rewrite_draft(alloc, &mut frontier.draft, rules, chosen)?;
     frontier.queue.insert_reaching(
         alloc,
         &mut frontier.draft,
@@ -361,39 +358,34 @@ fn rewrite_at(
     Ok(())
 }
 
-/// Rewrites a draft at a match, and gives the places that were touched, with that of the match.
+/// Rewrites a draft at a match, and gives the places that were touched, that of the match among them.
 fn rewrite_draft(
     alloc: Global,
     draft: &mut Draft,
-    loops: &mut Loops,
     rules: &[Rule],
     chosen: &Match,
 ) -> Result<Vec<Place>, AllocError>
     requires ready { AreReady rules.now }
     requires settled { IsSettled draft.old }
-    requires loops { AreLoopsOf draft.old loops.old }
+    requires clean { IsClean draft.old }
     requires matches { IsMatchAmong rules.now (function_of draft.old) (placed_match draft.old chosen.now) }
     requires checks { MeetsChecks (function_of draft.old) }
     requires numbers { NumbersFit (function_of draft.old) }
     requires room { HasRoomFor 1 draft.old }
     ensures settled { OnOk result (IsSettled draft.new) }
-    ensures loops { OnOk result (AreLoopsOf draft.new loops.new) }
+    ensures clean { OnOk result (IsClean draft.new) }
     ensures stepped { OnOk result (IsSteppedAt rules.now draft.old draft.new chosen.now) }
     ensures checks { OnOk result (MeetsChecks (function_of draft.new)) }
     ensures numbers { OnOk result (NumbersFit (function_of draft.new)) }
     ensures touched { IfOk result (λ places. AreTouched draft.old draft.new places.items) }
+    ensures places { IfOk result (λ places. All (IsPlaceIn (arena_of draft.new)) places.items) }
     ensures root { IfOk result (λ places. Contains places.items (record { block = chosen.now.binding.block; number = chosen.now.binding.place })) }
     ensures room { OnOk result ((steps : ℕ) → HasRoomFor (suc steps) draft.old → HasRoomFor steps draft.new) }
-    ensures queues { OnOk result ((waiting : Rows) → IsQueueOf draft.old waiting → IsQueueOf draft.new waiting) }
+    ensures orders { OnOk result (KeepsOrders (orders_of draft.old) (orders_of draft.new)) }
 {
     rewritten_functions_meet_checks();
     every_cleaned_function_refines_the_old();
     every_cleaned_number_was_there();
     let rule = &rules[chosen.rule as usize];
-    let mut touched = draft::step(alloc, draft, loops, &chosen.binding, rule)?;
-    touched.push(Place {
-        block: chosen.binding.block,
-        number: chosen.binding.place,
-    })?;
-    Ok(touched)
+    draft::step(alloc, draft, &chosen.binding, rule)
 }

@@ -1,6 +1,5 @@
 -- what doesn't wait is turned down, and all before what waits is asked
-use Rattle.draft.specs.Queues.{IsQueueOf}
-use Rattle.draft.specs.Sets.{size_of}
+use Rattle.draft.specs.Queues.{IsQueueOf, size_of, waiting_in}
 use Rattle.strategy.specs.Frontiers.{AreTurnedDownBut, Nowhere}
 use Rattle.strategy.proofs.Searching.{Gone}
 use Rattle.strategy.proofs.frontier.next_admitted.Given as goal
@@ -11,6 +10,6 @@ decreases-loop-place l = size_of l.queue
 abbrev pub invariant-loop-place : goal.invariant-loop-place
 invariant-loop-place l = record {
   queue : IsQueueOf l.draft l.queue;
-  others : AreTurnedDownBut l.rules.all.now l.verdicts.table Nowhere l.draft l.queue;
-  gone : Gone l.rules.all.now l.conflicts l.draft l.fn.verdicts l.verdicts l.queue;
+  others : AreTurnedDownBut l.rules.all.now l.verdicts.table Nowhere l.draft (waiting_in l.queue);
+  gone : Gone l.rules.all.now l.conflicts l.draft l.fn.verdicts l.verdicts (waiting_in l.queue);
 }
