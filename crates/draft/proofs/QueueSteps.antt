@@ -1,5 +1,5 @@
 -- What a draft's instructions are to a queue.
-use Rattle.std.proofs.Common.{◌≡◌, ℕ, ◌<◌, inl, inr, List, [], length, All, Contains, get_or, sym, subst}
+use Rattle.std.proofs.Common.{◌≡◌, ℕ, ◌<◌, inl, inr, List, [], length, All, Contains, get_or, set, sym, subst, arith}
 use Rattle.std.proofs.lemmas.List.Elements.{All-contains, All-weaker}
 use Rattle.std.proofs.lemmas.Option.{slice_get_within}
 use Rattle.ir_core.specs.Blocks.{HasInst}
@@ -11,11 +11,13 @@ use Rattle.draft.specs.declared.walk.Walk.{Walk}
 use Rattle.draft.specs.declared.queue.Queue.{Queue}
 use Rattle.draft.specs.Drafts.{Stands, StandsBefore, numbers_in}
 use Rattle.draft.specs.Heaps.{IsNumbered, ComesBefore}
-use Rattle.draft.specs.Orders.{place_in}
+use Rattle.draft.specs.KeptOrders.{KeepsOrders}
+use Rattle.draft.specs.Orders.{place_in, put_before}
 use Rattle.draft.specs.Queues.{ComesNext, IsQueueOf}
 use Rattle.draft.specs.Waiting.{IsFirst}
 use Rattle.draft.specs.Walks.{IsWalk}
 use Rattle.draft.specs.Whole.{IsWhole}
+use Rattle.draft.proofs.Keeping.{put-keeps}
 use Rattle.draft.proofs.Ranks.{numbered-block}
 use Rattle.draft.proofs.Rows.{same_order}
 use Rattle.draft.proofs.Tallies.{marked-contains}
@@ -59,3 +61,20 @@ comes-next d q p whole queue first = record {
       (All-contains (IsNumbered d.orders.items) q.waiting.heap.items p queue.arranged.heap.numbered (marked-contains q.waiting.marks q.waiting.heap.items p.block p.number queue.arranged.once first.there));
   none_before = λ here b n waits there before. first.none_before b n waits (stands-comes d (record { block = b; number = n }) p whole there here before);
 }
+
+-- the orders are kept where the next number is put before an instruction that stands
+pub next-keeps : (d : Draft) (p : Place) → IsWhole d → Stands d p.block p.number
+    → KeepsOrders d.orders.items (set d.orders.items p.block (put_before (get_or d.orders.items p.block []) p.number (length (get_or d.orders.items p.block []))))
+next-keeps d p whole stands =
+    let (block, at, within) = stands_there d whole p.block p.number stands in
+    let inside = slice_get_within d.arena.blocks p.block block at in
+    let rows = whole.rows p.block block at in
+    let row : List ℕ = get_or d.orders.items p.block [] in
+    put-keeps d.orders.items p.block p.number (length row) (subst (λ n. p.block < n) (sym whole.ordered) inside) (stands_marked d whole p.block block at p.number stands).0
+    (λ has. let (k, there) = contained_at row (length row) has in absurd (omega (arith, rows.ordering.below k (length row) there, rows.ordered)))
+
+-- what has no other orders has the same instructions
+pub insts-stay : (old new : Draft) → IsWhole old → IsWhole new → new.orders.items ≡ old.orders.items → (b n : ℕ) → HasInst old.arena b n → HasInst new.arena b n
+insts-stay old new was is same b n inst =
+    let p : Place = record { block = b; number = n } in
+    numbered-inst new p is (subst (λ (l : List (List ℕ)). IsNumbered l p) (sym same) (inst-numbered old p was inst))

@@ -56,7 +56,7 @@ pub(crate) fn rewrite_draft(
     requires readable { (root : Instruction) → IsInst draft.old.arena binding.now.block binding.now.place root
         → MayPut draft.old.arena binding.now.block (target.rewrite_of rule.now (numbered draft.old.arena binding.now) root.name).put }
     requires result { (root : Instruction) → IsInst draft.old.arena binding.now.block binding.now.place root
-        → MayRead draft.old.arena binding.now.block 32 (target.rewrite_of rule.now (numbered draft.old.arena binding.now) root.name).result }
+        → let w = target.rewrite_of rule.now (numbered draft.old.arena binding.now) root.name in MayRead draft.old.arena binding.now.block (length w.put) w.result }
     requires room { HasRoomFor 1 draft.old }
     ensures whole { OnOk result (IsWhole draft.new) }
     ensures orders { OnOk result (KeepsOrders (orders_of draft.old) (orders_of draft.new)) }
@@ -69,11 +69,32 @@ pub(crate) fn rewrite_draft(
     };
     let name = name_at(alloc, draft, root)?;
     let numbered = at_number(alloc, binding, draft.count_in(root.block))?;
-    let Rewrite { put, result, .. } = rewrite_of(alloc, rule, &numbered, name)?;
-    let put = put_all(alloc, draft, root, put.into_vec())?;
+    let rewrite = rewrite_of(alloc, rule, &numbered, name)?;
+    put_for(alloc, draft, root, rewrite)
+}
+
+/// Puts instructions before another, whose register what stands for it is put for, and which goes.
+fn put_for(
+    alloc: Global,
+    draft: &mut Draft,
+    root: Place,
+    rewrite: Rewrite,
+) -> Result<Rewritten, AllocError>
+    requires whole { IsWhole draft.old }
+    requires root { Stands draft.old root.block root.number }
+    requires block { rewrite.block ≡ root.block }
+    requires readable { MayPut draft.old.arena root.block rewrite.put }
+    requires result { MayRead draft.old.arena root.block (length rewrite.put) rewrite.result }
+    requires room { (block : Block) → IsBlock draft.old.arena root.block block → length block.insts + length rewrite.put < none }
+    ensures whole { OnOk result (IsWhole draft.new) }
+    ensures orders { OnOk result (KeepsOrders (orders_of draft.old) (orders_of draft.new)) }
+    ensures put { IfOk result (IsPutFor draft.old draft.new rewrite root.number) }
+{
+    let Rewrite { put, result, .. } = rewrite;
+    let places = put_all(alloc, draft, root, put.into_vec())?;
     let replaced = replace_root(alloc, draft, root, result)?;
     Ok(Rewritten {
-        put,
+        put: places,
         replaced,
         result,
     })
