@@ -1,5 +1,5 @@
 -- Heaps stay where numbers are put between others.
-use Rattle.std.proofs.Common.{◌≡◌, ℕ, suc, ◌<◌, inl, inr, List, [], ◌∷◌, length, get_or, set, sym, ap, subst, ◌∙◌, arith, Contains, length-set, get_or-set_same, get_or-set_other}
+use Rattle.std.proofs.Common.{◌≡◌, ℕ, suc, ◌<◌, inl, inr, List, [], ◌∷◌, length, get_or, set, refl, sym, ap, subst, ◌∙◌, arith, Contains, length-set, get_or-set_same, get_or-set_other}
 use Rattle.std.proofs.lemmas.Bool.{cases_eq}
 use Rattle.std.proofs.lemmas.List.Elements.{All-weaker}
 use Rattle.draft.specs.declared.draft.Place.{Place}
@@ -77,6 +77,9 @@ put-keeps orders b at n within there new = record {
 
     here : (c : ℕ) → c ≡ b → get_or (set orders b row) c [] ≡ row
     here c e = ap (λ d. get_or (set orders b row) d []) e ∙ get_or-set_same orders b row [] within
+
+pub keeps-itself : (a : List (List ℕ)) → KeepsOrders a a
+keeps-itself a = record { blocks = refl; numbered = λ p in_a. in_a; order = λ p q p_in q_in before. before }
 
 pub keeps-twice : (a b c : List (List ℕ)) → KeepsOrders a b → KeepsOrders b c → KeepsOrders a c
 keeps-twice a b c one two = record {

@@ -1,13 +1,16 @@
 use Rattle.std.proofs.Common.{◌≡◌, ℕ, ◌⊎◌, inl, inr, List, [], ◌∷◌, ◌++◌, refl, sym, subst, ◌∙◌, arith}
 use Rattle.std.specs.Prelude.{Contains}
-use Rattle.std.proofs.lemmas.List.Elements.{Contains-append_cases, Contains-append_left, Contains-append_right}
+use Rattle.std.proofs.lemmas.List.Elements.{Contains-append_cases, Contains-append_left, Contains-append_right, Contains-push_cases}
+use Rattle.ir_core.specs.Blocks.{HasInst}
 use Rattle.ir_core.specs.declared.operand.Register.{Register}
 use Rattle.ir_core.specs.declared.operand.Register.TheVariants as registers
 use Rattle.ir_meaning.proofs.Pieces.{first_in}
 use Rattle.needed.specs.Needed.{IsNeeded}
 use Rattle.use_counts.specs.Uses.{IsUseCount}
-use Rattle.draft.specs.Cleaning.{IsCleaning}
+use Rattle.draft.specs.Cleaning.{HaveInsts, IsCleaning}
 use Rattle.draft.specs.Drafts.{Stands, numbers_of}
+use Rattle.draft.specs.declared.draft.Draft.{Draft}
+use Rattle.draft.proofs.QueueSteps.{insts-stay}
 use Rattle.draft.proofs.Taking.{IsGone, cleaning_dropping, take_step, unused}
 use Rattle.draft.proofs.Wholeness.{stands_there}
 use Rattle.draft.proofs.cleaning.take_or_list.Goals as goal
@@ -58,3 +61,26 @@ returns-in_default-clause-cleaning c = λ f rows roots all is.
       | inl old ↦ inl old
       | inr it ↦ inr (inr (λ b n e stands. c.in_default.not-Result b n (sym it ∙ e)))
     ]) is
+
+-- ---- what is used is there
+
+one_more_there : (d : Draft) (used : List Register) (block number : ℕ) → HaveInsts d used → HasInst d.arena block number → HaveInsts d (used ++ registers.Result block number ∷ [])
+one_more_there d used block number had inst b n has =
+    elim (Contains-push_cases used (registers.Result block number) (registers.Result b n) has) [
+      | inl early ↦ had b n early
+      | inr is ↦
+          let same_block : block ≡ b = cc in
+          let same_number : number ≡ n = cc in
+          subst (λ (x : ℕ). HasInst d.arena x n) same_block (subst (HasInst d.arena block) same_number inst)
+    ]
+
+pub returns-in_ok-push-clause-used : goal.returns-in_ok-push-clause-used
+returns-in_ok-push-clause-used c = λ had b n has.
+    let d = c.args.draft.now in
+    let stands : Stands d c.in-Result.block c.in-Result.number = (c.if-is_standing.ensures.result c.in-Result.block c.in-Result.number refl).0 refl in
+    one_more_there d c.args.used.now.items c.in-Result.block c.in-Result.number had (stands_there d c.requires c.in-Result.block c.in-Result.number stands) b n
+    (subst (λ (l : List Register). Contains l (registers.Result b n)) c.in_ok-push.ensures.items has)
+
+pub returns-in_ok-take_out-clause-used : goal.returns-in_ok-take_out-clause-used
+returns-in_ok-take_out-clause-used c = λ had b n has.
+    insts-stay c.args.draft.now c.take_out.new.self c.requires c.in_ok-take_out.ensures.whole c.in_ok-take_out.ensures.orders b n (had b n has)
