@@ -1,5 +1,5 @@
 -- Labels that are given out anew, and those of numbers in order.
-use Rattle.std.proofs.Common.{◌≡◌, ℕ, zero, suc, ◌+◌, ◌-◌, ◌*◌, ◌<◌, cond, eqb, inl, inr, List, [], ◌∷◌, length, get_or, refl, sym, ap, subst, ◌∙◌, arith}
+use Rattle.std.proofs.Common.{◌≡◌, ℕ, zero, suc, ◌+◌, ◌-◌, ◌*◌, ◌<◌, ◌≤◌, cond, eqb, inl, inr, List, [], ◌∷◌, length, get_or, refl, sym, ap, subst, ◌∙◌, arith}
 use Rattle.std.specs.List.{range_with_len}
 use Rattle.std.proofs.lemmas.Bool.{cases_eq, cond-true, cond-false, eq-eqb, ne_eqb}
 use Rattle.std.proofs.lemmas.List.{get_or_past}
@@ -81,7 +81,7 @@ linked-first nodes count gap wide many are k (suc m) q all before label =
           (linked-first nodes count gap wide many are (k + 1) m k (omega arith) (sym (cond-false _ _ _ (ne_eqb (k + 1) 0 later) ∙ (omega arith))) own),
     )
 
-pub first-listing : (nodes : List Node) (count gap : ℕ) → 0 < gap → count < none → length nodes ≡ count → ((k : ℕ) → k < count → node_of nodes k ≡ first_node_at count gap k)
+pub first-listing : (nodes : List Node) (count gap : ℕ) → 0 < gap → count ≤ none → length nodes ≡ count → ((k : ℕ) → k < count → node_of nodes k ≡ first_node_at count gap k)
     → IsListing nodes 0 (cond (eqb count 0) none 0) (range_with_len 0 count)
 first-listing nodes count gap wide few many are =
     let all = length-range_with_len 0 count in

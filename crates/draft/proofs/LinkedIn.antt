@@ -90,7 +90,7 @@ linked-put old new m at p put q a (n ∷ ns) free c h =
           ))
     ]
 
-pub put-listing : (old new : List Node) (m at p first : ℕ) (ns : List ℕ) → IsPut old new m at p → suc m < none → IsListing old 0 first ns → IsListing new 0 (cond (eqb p none) m first) (put_before ns at m)
+pub put-listing : (old new : List Node) (m at p first : ℕ) (ns : List ℕ) → IsPut old new m at p → suc m ≤ none → IsListing old 0 first ns → IsListing new 0 (cond (eqb p none) m first) (put_before ns at m)
 put-listing old new m at p first ns put few h =
     let longer = put.longer in
     let many = put.many in

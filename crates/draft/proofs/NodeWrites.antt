@@ -1,5 +1,5 @@
 -- What nodes are once a field of one is written.
-use Rattle.std.proofs.Common.{◌≡◌, ℕ, suc, ◌+◌, ◌*◌, ◌<◌, cond, eqb, ◌⊎◌, None, Some, Contains, inl, inr, List, [], ◌∷◌, ◌++◌, length, get_or, set, take, drop, Result, Ok, Err, refl, sym, ap, subst, ◌∙◌, arith, length-set, length-append, get_or-set_same, get_or-set_other}
+use Rattle.std.proofs.Common.{◌≡◌, ℕ, suc, ◌+◌, ◌*◌, ◌<◌, ◌≤◌, cond, eqb, ◌⊎◌, None, Some, Contains, inl, inr, List, [], ◌∷◌, ◌++◌, length, get_or, set, take, drop, Result, Ok, Err, refl, sym, ap, subst, ◌∙◌, arith, length-set, length-append, get_or-set_same, get_or-set_other}
 use Rattle.std.specs.Prelude.{◌↔◌, slice_get, OnErr}
 use Rattle.std.proofs.lemmas.Bool.{cases_eq, cases_lt, cond-true, cond-false, eq-eqb, ne_eqb}
 use Rattle.std.proofs.lemmas.List.{get_or_past, get_or_append_left, get_or_push, set_past, take_at}
@@ -132,7 +132,7 @@ pub listing-own : (nodes : List Node) (d first : ℕ) (ns : List ℕ) → IsList
 listing-own nodes d first ns h = subst (IsListing nodes d first) (sym (numbers-listing nodes d first ns h)) h
 
 -- once one more is linked in
-pub put-done : (nodes new : List Node) (first at p label number : ℕ) (ns : List ℕ) → IsListing nodes 0 first ns → at < length nodes → length nodes + 1 < none → p ≡ (node_of nodes at).before → number ≡ length nodes
+pub put-done : (nodes new : List Node) (first at p label number : ℕ) (ns : List ℕ) → IsListing nodes 0 first ns → at < length nodes → length nodes + 1 ≤ none → p ≡ (node_of nodes at).before → number ≡ length nodes
     → (node_of nodes p).label < label → label < (node_of nodes at).label → new ≡ linked_in (nodes ++ record { label = label; before = p; after = at } ∷ []) at p number → IsListing new 0 (cond (eqb p none) number first) (put_before ns at number)
 put-done nodes new first at p label number ns h within few was is low high new_is =
     let there = at_place ns at (h.all at within) in

@@ -33,7 +33,7 @@ use Rattle.draft.proofs.Totals.{counts_are_times, times_are_counts}
 
 -- instructions of each block have numbers
 abbrev pub AreFew : Function → Type 0
-AreFew f = (b : ℕ) (block : Block) → IsBlock f b block → length block.insts < none
+AreFew f = (b : ℕ) (block : Block) → IsBlock f b block → length block.insts ≤ none
 
 -- what is read at each place is a register of the function, or none
 abbrev pub AreKnown : Function → Type 0

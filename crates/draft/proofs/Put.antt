@@ -58,7 +58,7 @@ all_below zero m below = omega arith
 all_below (suc n) m below = let last = below n (omega arith) in omega arith
 
 pub whole_put : (old new : Draft) (b at : ℕ) (block : Block) (inst : Inst) → IsWhole old → IsBlock old.arena b block → Contains (get_or old.orders.items b []) at → at < length block.insts
-    → length block.insts + 1 < none → All (IsKnown old.arena) (operands_of inst.op) → IsPut old new b at block inst → IsWhole new
+    → length block.insts + 1 ≤ none → All (IsKnown old.arena) (operands_of inst.op) → IsPut old new b at block inst → IsWhole new
 whole_put old new b at block inst whole is_block there inside room known put =
     let few = few_insts old whole in
     let n : ℕ = length block.insts in

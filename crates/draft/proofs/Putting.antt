@@ -41,7 +41,7 @@ slice_get_last : {A : Type 0} (xs : List A) (y : A) → slice_get (xs ++ y ∷ [
 slice_get_last [] y = refl
 slice_get_last (x ∷ xs) y = slice_get_last xs y
 
-module _ (f : Function) (few : AreFew f) (b : ℕ) (block : Block) (at : IsBlock f b block) (inst : Inst) (room : length block.insts + 1 < none) where
+module _ (f : Function) (few : AreFew f) (b : ℕ) (block : Block) (at : IsBlock f b block) (inst : Inst) (room : length block.insts + 1 ≤ none) where
   abbrev more : Block → Block
   more = inst_put inst
 

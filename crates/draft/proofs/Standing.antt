@@ -145,7 +145,7 @@ standing_shorter stand (n ∷ numbers) =
       | inr went ↦ let size = ap length (first_gone stand n numbers went) in omega arith
     ]
 
-pub numbers_few : (d : Draft) → IsWhole d → (b : ℕ) → length (get_or (numbers_of d) b []) < none
+pub numbers_few : (d : Draft) → IsWhole d → (b : ℕ) → length (get_or (numbers_of d) b []) ≤ none
 numbers_few d whole b = elim (slice_get_cases d.arena.blocks b).1 [
   | inl (block, within, at, is) ↦
       let rows = whole.rows b block at in

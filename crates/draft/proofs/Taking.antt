@@ -207,7 +207,7 @@ module _ (d d' : Draft) (whole : IsWhole d) (b n : ℕ) (stands : Stands d b n) 
       → IsCleaning f rows d.arena (numbers_of d) roots → IsCleaning f rows d'.arena (numbers_of d') (d'.fallen.items ++ used)
   take_step f rows roots used all is =
       let (block, is_block, lt) = stands_there d whole b n stands in
-      let few : length block.insts < none = (whole.rows b block is_block).few in
+      let few : length block.insts ≤ none = (whole.rows b block is_block).few in
       let then : IsCleaning f rows (taken_out d.arena b n) (changed_at b (without n) (numbers_of d)) (d'.fallen.items ++ used) =
       cleaning_less f rows d.arena (numbers_of d) b n roots (d'.fallen.items ++ used) is (block, is_block, lt) un
       (λ r has. elim (all r has) [ inl old ↦ inl (kept r old) | inr it ↦ inr it ])

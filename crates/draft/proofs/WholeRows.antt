@@ -1,5 +1,5 @@
 -- The rows of a whole draft, and what is read in a settled one.
-use Rattle.std.proofs.Common.{◌≡◌, ℕ, ◌<◌, ◌⊎◌, inl, inr, List, [], length, get_or, Some, refl, sym, ap, subst, ◌∙◌, arith}
+use Rattle.std.proofs.Common.{◌≡◌, ℕ, ◌<◌, ◌≤◌, ◌⊎◌, inl, inr, List, [], length, get_or, Some, refl, sym, ap, subst, ◌∙◌, arith}
 use Rattle.std.specs.Prelude.{Contains, slice_get}
 use Rattle.ir_core.specs.Blocks.{IsBlock}
 use Rattle.std.proofs.lemmas.Option.{slice_get_within}
@@ -54,7 +54,7 @@ settled_reads d settled b k c m h =
     elim (who d.arena b k (registers.Result c m) h) [
       | inl i ↦
           let lt : k < length i.block.insts = slice_get_within i.block.insts k i.inst i.is_inst in
-          let few : length i.block.insts < none = (settled.whole.rows b i.block i.is_block).few in
+          let few : length i.block.insts ≤ none = (settled.whole.rows b i.block i.is_block).few in
           let p : Place = record { block = b; number = k } in
           let here : k ≡ arena_place d.arena p = sym (arena_place_inst d.arena p (omega (arith, lt, few))) in
           settled.read_stands c m p (i.block, i.is_block, inl lt) (subst (λ (j : ℕ). ReadsRegister d.arena b j (registers.Result c m)) here h)

@@ -118,7 +118,7 @@ rows_less block order stand n rows = record {
 }
 
 -- one that is put before another
-pub rows_more : (block : Block) (order : List ℕ) (stand : List Bool) (at : ℕ) (inst : Inst) → AreRowsOf block order stand → Contains order at → length block.insts + 1 < none
+pub rows_more : (block : Block) (order : List ℕ) (stand : List Bool) (at : ℕ) (inst : Inst) → AreRowsOf block order stand → Contains order at → length block.insts + 1 ≤ none
     → AreRowsOf (inst_put inst block) (put_before order at (length block.insts)) (stand ++ true ∷ [])
 rows_more block order stand at inst rows there room =
     let count = length_push block.insts inst in

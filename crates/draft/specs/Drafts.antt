@@ -1,5 +1,5 @@
 -- What drafts are, and of which functions: the instructions of each block in their order, each register at its place.
-use Rattle.std.specs.Prelude.{◌≡◌, ℕ, zero, suc, ◌+◌, ◌*◌, ◌<◌, length, All, ◌⊎◌, if◌then◌else◌, Bool, false, List, [], ◌∷◌, ◌++◌, map, option_to_list, Contains, slice_get, slice_index_or}
+use Rattle.std.specs.Prelude.{◌≡◌, ℕ, zero, suc, ◌+◌, ◌*◌, ◌<◌, ◌≤◌, length, All, ◌⊎◌, if◌then◌else◌, Bool, false, List, [], ◌∷◌, ◌++◌, map, option_to_list, Contains, slice_get, slice_index_or}
 use Rattle.ir_core.specs.Checks.{IsInst}
 use Rattle.ir_core.specs.Reads.{Read, IsRead}
 use Rattle.ir_core.specs.declared.function.Block.{Block}
@@ -86,9 +86,9 @@ AreTouched old new places = (b n : ℕ) → Stands new b n → ¬ Contains place
 abbrev pub placed_binding : Draft → Binding → Binding
 placed_binding d m = moved_binding (placed (numbers_of d)) (place_in (numbers_in d m.block) m.place) m
 
--- each block has numbers left for what so many rules put, which is less than 32 instructions each
+-- each block has numbers left for what so many rules put, which is at most 32 instructions each
 abbrev pub HasRoomFor : ℕ → Draft → Type 0
-HasRoomFor steps d = All (λ block. length block.insts + 31 * steps < none) d.arena.blocks
+HasRoomFor steps d = All (λ block. length block.insts + 32 * steps ≤ none) d.arena.blocks
 
 -- instruction n of block b reaches instruction m there through at most so many operands of instructions of the block
 abbrev pub Reaches : Draft → ℕ → ℕ → ℕ → ℕ → Type 0

@@ -1,5 +1,5 @@
 -- How the numbers of a block are linked, each by a node at its place.
-use Rattle.std.specs.Prelude.{◌≡◌, ℕ, zero, suc, ◌+◌, ◌-◌, ◌*◌, ◌<◌, ◌==◌, if◌then◌else◌, List, [], ◌∷◌, length, Contains, slice_index_or, slice_set}
+use Rattle.std.specs.Prelude.{◌≡◌, ℕ, zero, suc, ◌+◌, ◌-◌, ◌*◌, ◌<◌, ◌≤◌, ◌==◌, if◌then◌else◌, List, [], ◌∷◌, length, Contains, slice_index_or, slice_set}
 use Rattle.draft.specs.Orders.{none}
 use Rattle.draft.specs.declared.links.Node.{Node}
 
@@ -24,7 +24,7 @@ AreLinked nodes apart before at (n ∷ numbers) = IsNext nodes apart before at n
 
 -- These are the numbers of the nodes in order, each once: they are linked, and their labels go up by more than this.
 pub record IsListing (nodes : List Node) (apart first : ℕ) (numbers : List ℕ) : Type 0 where
-  pub few : length nodes < none
+  pub few : length nodes ≤ none
   pub many : length numbers ≡ length nodes
   pub all : (n : ℕ) → n < length nodes → Contains numbers n
   pub linked : AreLinked nodes apart none first numbers

@@ -1,5 +1,5 @@
 -- What the tables of a draft say of its arena.
-use Rattle.std.specs.Prelude.{◌≡◌, ℕ, ◌<◌, ◌^◌, Bool, false, List, [], length, Some, Contains, slice_get, slice_index_or}
+use Rattle.std.specs.Prelude.{◌≡◌, ℕ, ◌<◌, ◌≤◌, ◌^◌, Bool, false, List, [], length, Some, Contains, slice_get, slice_index_or}
 use Rattle.ir_core.specs.Blocks.{IsBlock}
 use Rattle.ir_core.specs.Checks.{IsKnown}
 use Rattle.ir_core.specs.Reads.{Read, IsRead}
@@ -18,7 +18,7 @@ use Rattle.draft.specs.Readers.{AreReadersOf, IsPlaceIn, IsReader}
 
 -- In order stand the numbers of the instructions of a block, each once, whether it was taken out or not; what was reads nothing.
 pub record AreRowsOf (block : Block) (order : List ℕ) (stand : List Bool) : Type 0 where
-  pub few : length block.insts < none
+  pub few : length block.insts ≤ none
   pub ordered : length order ≡ length block.insts
   pub marked : length stand ≡ length block.insts
   pub all : (n : ℕ) → n < length block.insts → Contains order n

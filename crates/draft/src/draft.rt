@@ -1,6 +1,6 @@
 //! A function whose instructions have numbers.
 
-ghost use Rattle.std.specs.Prelude.{◌≡◌, ◌+◌, ◌<◌, ◌^◌, ◌++◌, ◌∷◌, [], ◌↔◌, ℕ, length, map, replicate, true, false, All, Contains, IsTrue, IfOk, OnOk, Some, slice_get, slice_index_or, slice_set};
+ghost use Rattle.std.specs.Prelude.{◌≡◌, ◌+◌, ◌<◌, ◌≤◌, ◌^◌, ◌++◌, ◌∷◌, [], ◌↔◌, ℕ, length, map, replicate, true, false, All, Contains, IsTrue, IfOk, OnOk, Some, slice_get, slice_index_or, slice_set};
 ghost use Rattle.std.specs.List.{filter_map, range_with_len};
 ghost use Rattle.ir_core.specs.Blocks.{HasInst, IsBlock};
 ghost use Rattle.ir_core.specs.Checks.{MeetsChecks, IsKnown};
@@ -54,7 +54,7 @@ impl Draft {
     pub fn of(alloc: Global, f: Function) -> Result<Draft, AllocError>
         requires checks { MeetsChecks f }
         requires blocks { length f.blocks < 2 ^ 32 }
-        requires insts { All (λ b. length b.insts < none) f.blocks }
+        requires insts { All (λ b. length b.insts ≤ none) f.blocks }
         ensures settled { IfOk result IsSettled }
         ensures arena { IfOk result (λ draft. draft.arena ≡ f) }
         ensures function { IfOk result (λ draft. function_of draft ≡ f) }
@@ -137,7 +137,7 @@ impl Draft {
     ) -> Result<Place, AllocError>
         requires whole { IsWhole self.old }
         requires at { Stands self.old at.block at.number }
-        requires room { (block : Written) → IsBlock self.old.arena at.block block → length block.insts + 1 < none }
+        requires room { (block : Written) → IsBlock self.old.arena at.block block → length block.insts + 1 ≤ none }
         requires known { All (IsKnown self.old.arena) (operands_of inst.op) }
         ensures whole { OnOk result (IsWhole self.new) }
         ensures arena { OnOk result (self.new.arena ≡ put_in self.old.arena at.block inst) }
@@ -186,7 +186,7 @@ impl Draft {
 fn put_in_order(orders: &mut Vec<Order>, at: Place) -> Result<u32, AllocError>
     requires block { at.block < length orders.old.items }
     requires at { Contains (slice_index_or orders.old.items at.block []) at.number }
-    requires few { length (slice_index_or orders.old.items at.block []) + 1 < none }
+    requires few { length (slice_index_or orders.old.items at.block []) + 1 ≤ none }
     ensures number { IfOk result (λ number. number ≡ length (slice_index_or orders.old.items at.block [])) }
     ensures orders { IfOk result (λ number. orders.new.items ≡ slice_set orders.old.items at.block
         (numbers.put_before (slice_index_or orders.old.items at.block []) at.number number)) }
@@ -244,7 +244,7 @@ fn push_count(uses: &mut Uses, block: u32) -> Result<(), AllocError>
 
 /// Of each block the numbers of its instructions, in order.
 fn orders_of(alloc: Global, f: &Function) -> Result<Vec<Order>, AllocError>
-    requires { All (λ b. length b.insts < none) f.now.blocks }
+    requires { All (λ b. length b.insts ≤ none) f.now.blocks }
     ensures { IfOk result (λ rows. rows.items ≡ map (λ b. range_with_len 0 (length b.insts)) f.now.blocks) }
 {
     let mut rows = Vec::new(alloc);

@@ -22,7 +22,7 @@ pub(crate) struct Links {
 impl Links {
     /// So many numbers, in their order.
     pub(crate) fn new(alloc: Global, count: u32) -> Result<Links, AllocError>
-        requires { count < none }
+        requires { count ≤ none }
         ensures { IfOk result (λ links. IsListing links.nodes.items 0 links.first (range_with_len 0 count)) }
     {
         let gap = gap_of(count);
@@ -68,7 +68,7 @@ impl Links {
     pub(crate) fn put_before(&mut self, at: u32) -> Result<u32, AllocError>
         requires listing { IsListing self.old.nodes.items 0 self.old.first (numbers_in self.old) }
         requires at { Contains (numbers_in self.old) at }
-        requires few { length (numbers_in self.old) + 1 < none }
+        requires few { length (numbers_in self.old) + 1 ≤ none }
         ensures number { IfOk result (λ number. number ≡ length (numbers_in self.old)) }
         ensures ok { IfOk result (λ number. IsListing self.new.nodes.items 0 self.new.first (numbers.put_before (numbers_in self.old) at number)) }
         ensures err { OnErr result (IsListing self.new.nodes.items 0 self.new.first (numbers_in self.old)) }
@@ -82,7 +82,7 @@ impl Links {
     fn push_before(&mut self, at: u32) -> Result<u32, AllocError>
         requires listing { IsListing self.old.nodes.items 0 self.old.first (numbers_in self.old) }
         requires at { at < length self.old.nodes.items }
-        requires few { length self.old.nodes.items + 1 < none }
+        requires few { length self.old.nodes.items + 1 ≤ none }
         requires room { (node_of self.old.nodes.items (node_of self.old.nodes.items at).before).label + 1 < (node_of self.old.nodes.items at).label }
         ensures number { IfOk result (λ number. number ≡ length self.old.nodes.items) }
         ensures ok { IfOk result (λ number. IsListing self.new.nodes.items 0 self.new.first (numbers.put_before (numbers_in self.old) at number)) }

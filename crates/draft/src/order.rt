@@ -1,6 +1,6 @@
 //! In which order the instructions of a block stand.
 
-ghost use Rattle.std.specs.Prelude.{◌≡◌, ◌+◌, ◌<◌, ◌↔◌, suc, length, Contains, IsTrue, IfOk, OnErr, slice_get};
+ghost use Rattle.std.specs.Prelude.{◌≡◌, ◌+◌, ◌<◌, ◌≤◌, ◌↔◌, suc, length, Contains, IsTrue, IfOk, OnErr, slice_get};
 ghost use Rattle.std.specs.List.{range_with_len};
 ghost use Rattle.draft.specs.Orders.{none, place_in};
 ghost use Rattle.draft.specs.Orders as numbers;
@@ -30,7 +30,7 @@ impl Model for Order {
 impl Order {
     /// So many instructions in the order of their numbers.
     pub(crate) fn new(alloc: Global, count: u32) -> Result<Order, AllocError>
-        requires { count < none }
+        requires { count ≤ none }
         ensures { IfOk result (λ order. order ≡ range_with_len 0 count) }
     {
         let links = Links::new(alloc, count)?;
@@ -64,7 +64,7 @@ impl Order {
     /// Puts one more before an instruction, and gives its number.
     pub(crate) fn put_before(&mut self, at: u32) -> Result<u32, AllocError>
         requires at { Contains self.old at }
-        requires few { length self.old + 1 < none }
+        requires few { length self.old + 1 ≤ none }
         ensures number { IfOk result (λ number. number ≡ length self.old) }
         ensures ok { IfOk result (λ number. self.new ≡ numbers.put_before self.old at number) }
         ensures err { OnErr result (self.new ≡ self.old) }

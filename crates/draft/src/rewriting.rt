@@ -1,6 +1,6 @@
 //! Rules applied to drafts.
 
-ghost use Rattle.std.specs.Prelude.{◌≡◌, ◌+◌, ◌<◌, ◌++◌, ◌↔◌, length, map, Contains, IfOk, OnOk};
+ghost use Rattle.std.specs.Prelude.{◌≡◌, ◌+◌, ◌≤◌, ◌++◌, ◌↔◌, length, map, Contains, IfOk, OnOk};
 ghost use Rattle.std.specs.List.{filter_map, range_with_len};
 ghost use Rattle.ir_core.specs.Blocks.{HasInst, IsBlock};
 ghost use Rattle.ir_core.specs.Checks.{IsInst, IsKnown};
@@ -85,7 +85,7 @@ fn put_for(
     requires block { rewrite.block ≡ root.block }
     requires readable { MayPut draft.old.arena root.block rewrite.put }
     requires result { MayRead draft.old.arena root.block (length rewrite.put) rewrite.result }
-    requires room { (block : Block) → IsBlock draft.old.arena root.block block → length block.insts + length rewrite.put < none }
+    requires room { (block : Block) → IsBlock draft.old.arena root.block block → length block.insts + length rewrite.put ≤ none }
     ensures whole { OnOk result (IsWhole draft.new) }
     ensures orders { OnOk result (KeepsOrders (orders_of draft.old) (orders_of draft.new)) }
     ensures put { IfOk result (IsPutFor draft.old draft.new rewrite root.number) }
@@ -150,7 +150,7 @@ fn put_all(
 ) -> Result<Vec<Place>, AllocError>
     requires whole { IsWhole draft.old }
     requires at { Stands draft.old at.block at.number }
-    requires room { (block : Block) → IsBlock draft.old.arena at.block block → length block.insts + length insts.items < none }
+    requires room { (block : Block) → IsBlock draft.old.arena at.block block → length block.insts + length insts.items ≤ none }
     requires readable { MayPut draft.old.arena at.block insts.items }
     ensures whole { OnOk result (IsWhole draft.new) }
     ensures put { IfOk result (λ put. put.items ≡ map (λ number. record { block = at.block; number = number })

@@ -30,7 +30,7 @@ impl Readers {
     /// What reads the registers of a function.
     pub(crate) fn of(alloc: Global, f: &Function) -> Result<Readers, AllocError>
         requires blocks { length f.now.blocks < 2 ^ 32 }
-        requires insts { All (λ b. length b.insts < none) f.now.blocks }
+        requires insts { All (λ b. length b.insts ≤ none) f.now.blocks }
         requires known { (b k i : ℕ) (r : Read) → IsRead f.now b k i r → IsKnown f.now r.operand }
         ensures { IfOk result (AreReadersOf f.now) }
     {
@@ -60,7 +60,7 @@ impl Readers {
     /// Lists what is read in a block.
     fn list_block(&mut self, f: &Function, block: u32) -> Result<(), AllocError>
         requires block { block < length f.now.blocks }
-        requires insts { All (λ b. length b.insts < none) f.now.blocks }
+        requires insts { All (λ b. length b.insts ≤ none) f.now.blocks }
         requires known { (b k i : ℕ) (r : Read) → IsRead f.now b k i r → IsKnown f.now r.operand }
         requires there { (r : Named) → IsKnown f.now (Operand.Register r) → HasList self.old r }
         ensures there { OnOk result ((r : Named) → HasList self.old r → HasList self.new r) }

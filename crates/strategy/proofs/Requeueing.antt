@@ -51,8 +51,8 @@ same_function new last arena numbers = ap (λ (a : Function). arranged a (number
 pub room_for_fewer : (more steps : ℕ) (d : Draft) → steps ≤ more → HasRoomFor more d → HasRoomFor steps d
 room_for_fewer more steps d fewer room k x lt = (let few = room k x lt in omega (arith, few, fewer))
 
-pub room_at_first : (steps : ℕ) (f : Function) → 0 < steps → IsCountable steps f → All (λ (b : Block). length b.insts + 31 * steps < none) f.blocks
+pub room_at_first : (steps : ℕ) (f : Function) → 0 < steps → IsCountable steps f → All (λ (b : Block). length b.insts + 32 * steps ≤ none) f.blocks
 room_at_first steps f some countable k x lt = (let few = countable.insts k x lt in omega (arith, few, some))
 
-pub few_numbers : (steps : ℕ) (f : Function) → 0 < steps → IsCountable steps f → All (λ (b : Block). length b.insts < none) f.blocks
+pub few_numbers : (steps : ℕ) (f : Function) → 0 < steps → IsCountable steps f → All (λ (b : Block). length b.insts ≤ none) f.blocks
 few_numbers steps f some countable k x lt = (let few = countable.insts k x lt in omega (arith, few, some))

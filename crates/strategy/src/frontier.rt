@@ -166,7 +166,7 @@ impl Frontier {
         requires checks { MeetsChecks f }
         requires needed { AllNeeded f }
         requires blocks { length f.blocks < 2 ^ 32 }
-        requires insts { All (λ b. length b.insts < none) f.blocks }
+        requires insts { All (λ b. length b.insts ≤ none) f.blocks }
         ensures frontier { IfOk result (λ made. (table : Seq VerdictRow) → IsFrontier rules.now table made) }
         ensures function { IfOk result (λ made. function_of made.draft ≡ f) }
         ensures arena { IfOk result (λ made. arena_of made.draft ≡ f) }

@@ -1,4 +1,4 @@
-use Rattle.std.proofs.Common.{◌≡◌, ℕ, suc, List, length, ◌+◌, ◌*◌, ◌<◌, sym, ap, subst, ◌∙◌}
+use Rattle.std.proofs.Common.{◌≡◌, ℕ, suc, List, length, ◌+◌, ◌*◌, ◌≤◌, sym, ap, subst, ◌∙◌}
 use Rattle.std.specs.Prelude.{All, Contains}
 use Rattle.ir_core.specs.Checks.{MeetsChecks}
 use Rattle.ir_core.specs.declared.function.Block.{Block}
@@ -66,4 +66,4 @@ returns-clause-numbers c =
 
 pub returns-clause-room : goal.returns-clause-room
 returns-clause-room c steps room =
-    subst (λ (a : Function). All (λ (b : Block). length b.insts + 31 * steps < none) a.blocks) (sym c.in_ok-insert_reaching.ensures.draft.arena) (c.in_ok-touched.ensures.room steps room)
+    subst (λ (a : Function). All (λ (b : Block). length b.insts + 32 * steps ≤ none) a.blocks) (sym c.in_ok-insert_reaching.ensures.draft.arena) (c.in_ok-touched.ensures.room steps room)

@@ -1,4 +1,4 @@
-use Rattle.std.proofs.Common.{◌≡◌, ◌+◌, ◌*◌, ◌-◌, ◌<◌, ℕ, suc, true, false, length, sym, subst, ◌∙◌, arith}
+use Rattle.std.proofs.Common.{◌≡◌, ◌+◌, ◌*◌, ◌-◌, ◌≤◌, ℕ, suc, true, false, length, sym, subst, ◌∙◌, arith}
 use Rattle.std.specs.Prelude.{All}
 use Rattle.ir_core.specs.Checks.{MeetsChecks}
 use Rattle.ir_core.specs.declared.function.Block.{Block}
@@ -26,14 +26,14 @@ loop-count-init c =
     let before = c.args.verdicts.now in
     let frontier = c.in_ok-frontier.frontier in
     let none_made : steps ≡ steps - 0 = omega arith in
-    let room : All (λ (b : Block). length b.insts + 31 * steps < none) (arena_of frontier.draft).blocks =
-    subst (λ (a : Function). All (λ (b : Block). length b.insts + 31 * steps < none) a.blocks) (sym c.in_ok-frontier.ensures.arena)
+    let room : All (λ (b : Block). length b.insts + 32 * steps ≤ none) (arena_of frontier.draft).blocks =
+    subst (λ (a : Function). All (λ (b : Block). length b.insts + 32 * steps ≤ none) a.blocks) (sym c.in_ok-frontier.ensures.arena)
     (room_at_first steps f (omega arith) c.requires.countable) in
     record {
       along = subst (λ (g : Function). Along rules conflicts steps 0 f g before before) (sym c.in_ok-frontier.ensures.function)
           (no_step_yet rules conflicts steps f before c.requires.checks c.requires.numbers c.requires.countable);
       frontier = c.in_ok-frontier.ensures.frontier before.table;
-      room = subst (λ (n : ℕ). All (λ (b : Block). length b.insts + 31 * n < none) (arena_of frontier.draft).blocks) none_made room;
+      room = subst (λ (n : ℕ). All (λ (b : Block). length b.insts + 32 * n ≤ none) (arena_of frontier.draft).blocks) none_made room;
     }
 
 pub step-requires-clause-room : goal.step-requires-clause-room
