@@ -53,6 +53,7 @@ pub mod Keeping
 pub mod QueueSteps
 pub mod WalkSteps
 pub mod Unchanged
+pub mod Room
 pub mod Walking
 pub mod QueueLaws
 pub mod Arranged
