@@ -2,8 +2,8 @@ use Rattle.std.proofs.Common.{◌≡◌, ℕ, sym, subst, arith}
 use Rattle.strategy.proofs.Stepping.{Along, no_step_yet, spent}
 use Rattle.strategy.proofs.frontier.optimise_cleaned.Goals as goal
 
-pub returns-then-steps-eq0 : goal.returns-then-steps-eq0
-returns-then-steps-eq0 c =
+pub returns-then-bounds-eq0 : goal.returns-then-bounds-eq0
+returns-then-bounds-eq0 c =
     let rules = c.args.rules.now.all.now in
     let conflicts = c.args.bounds.conflicts in
     let steps = c.args.bounds.steps in

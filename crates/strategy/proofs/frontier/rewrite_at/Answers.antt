@@ -22,7 +22,7 @@ insert_reaching-requires-clause-queue c =
     c.orders_are_kept.ensures.queues (orders_of c.args.frontier.now.draft) (orders_of c.rewrite_draft.new.draft) c.args.frontier.now.queue c.in_ok-touched.ensures.orders c.requires.queue
 
 pub insert_reaching-requires-clause-places : goal.insert_reaching-requires-clause-places
-insert_reaching-requires-clause-places c = subst (All (IsPlaceIn (arena_of c.rewrite_draft.new.draft))) (sym c.as_slice.ensures) c.in_ok-touched.ensures.places
+insert_reaching-requires-clause-places c = subst (All (IsPlaceIn (arena_of c.rewrite_draft.new.draft))) (sym c.as_slice.ensures.value) c.in_ok-touched.ensures.places
 
 pub returns-clause-stepped : goal.returns-clause-stepped
 returns-clause-stepped c =
@@ -50,7 +50,7 @@ returns-clause-frontier c table others =
           c.in_ok-touched.ensures.touched
           (reached_as_before old new stepped.0 is.rule (placed_match old chosen).binding c.requires.settled c.in_ok-touched.ensures.settled (stepped.2 is.rule is.is_rule) stepped.1)
           c.in_ok-insert_reaching.ensures.draft.arena (same_numbers c.rewrite_draft.new.draft c.insert_reaching.new.draft c.in_ok-insert_reaching.ensures.draft) (waiting_in c.args.frontier.now.queue) (waiting_in c.insert_reaching.new.self) c.in_ok-insert_reaching.ensures.stay
-          (λ b n m has. c.in_ok-insert_reaching.ensures.reaching (record { block = b; number = m }) n (subst (λ (l : List Place). Contains l (record { block = b; number = m })) (sym c.as_slice.ensures) has))
+          (λ b n m has. c.in_ok-insert_reaching.ensures.reaching (record { block = b; number = m }) n (subst (λ (l : List Place). Contains l (record { block = b; number = m })) (sym c.as_slice.ensures.value) has))
           (PlaceOf chosen)
           (λ b n of. subst (λ (x : ℕ). Contains touched (record { block = b; number = x })) of.1 (subst (λ (x : ℕ). Contains touched (record { block = x; number = chosen.binding.place })) of.0 c.in_ok-touched.ensures.root))
           table others;

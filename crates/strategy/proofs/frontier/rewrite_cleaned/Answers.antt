@@ -72,11 +72,11 @@ loop-count-preserved c =
     }
 
 pub search_last-requires-clause-checks : goal.search_last-requires-clause-checks
-search_last-requires-clause-checks c = subst MeetsChecks (sym c.in_ok-last.ensures) c.loop-count.invariant.along.checks
+search_last-requires-clause-checks c = subst MeetsChecks (sym c.in_ok-last-2.ensures) c.loop-count.invariant.along.checks
 
 pub search_last-requires-clause-countable : goal.search_last-requires-clause-countable
 search_last-requires-clause-countable c =
-    subst (IsCountable 0) (sym c.in_ok-last.ensures) (countable_less (c.args.bounds.steps - c.loop-count.count) 0 (function_of c.loop-count.frontier.draft) (omega arith) c.loop-count.invariant.along.countable)
+    subst (IsCountable 0) (sym c.in_ok-last-2.ensures) (countable_less (c.args.bounds.steps - c.loop-count.count) 0 (function_of c.loop-count.frontier.draft) (omega arith) c.loop-count.invariant.along.countable)
 
 pub search_last-requires-clause-verdicts : goal.search_last-requires-clause-verdicts
 search_last-requires-clause-verdicts c =
@@ -94,5 +94,5 @@ returns c =
     let all_made : c.loop-count.count ≡ steps = omega (arith, c.loop-count-test.false, c.loop-count.auto.count-end) in
     let along = subst (λ (n : ℕ). Along rules conflicts steps n c.args.f f c.args.verdicts.now now) all_made c.loop-count.invariant.along in
     spent rules conflicts steps made.1.count c.args.f f made.0 c.args.verdicts.now now after made.1.limited along
-    (c.in_ok-made.ensures.function ∙ c.in_ok-last.ensures) c.in_ok-made.ensures.count
-    (subst (λ (h : Function). AsksAll rules conflicts h IsAnywhere now after made.1.limited) c.in_ok-last.ensures c.in_ok-made.ensures.asks)
+    (c.in_ok-made.ensures.function ∙ c.in_ok-last-2.ensures) c.in_ok-made.ensures.count
+    (subst (λ (h : Function). AsksAll rules conflicts h IsAnywhere now after made.1.limited) c.in_ok-last-2.ensures c.in_ok-made.ensures.asks)
