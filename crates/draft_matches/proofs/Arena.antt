@@ -1,9 +1,9 @@
 -- The matches of an arena are those of its function.
-use Rattle.std.proofs.Common.{◌≡◌, ℕ, zero, suc, ◌+◌, ◌<◌, ◌≤◌, List, length, get_or, map, Some, refl, sym, ap, subst, ◌∙◌}
+use Rattle.std.proofs.Common.{◌≡◌, ℕ, List, Some, refl, sym, ap, subst, ◌∙◌}
 use Rattle.std.specs.Prelude.{Contains, slice_get}
 use Rattle.std.proofs.lemmas.Option.{get_or_from_slice_get}
 use Rattle.ir_core.specs.Checks.{IsInst}
-use Rattle.ir_core.specs.Reads.{Read, IsRead, reads_of}
+use Rattle.ir_core.specs.Reads.{Read, reads_of}
 use Rattle.ir_core.specs.declared.function.Function.{Function}
 use Rattle.ir_core.specs.declared.instruction.Inst.{Inst}
 use Rattle.ir_core.specs.declared.operand.Operand.{Operand}
@@ -13,7 +13,7 @@ use Rattle.ir_core.specs.declared.operand.Register.TheVariants as registers
 use Rattle.ir_meaning.proofs.Pieces.{contains_at, place_in as place_of}
 use Rattle.rule_core.specs.Checks.{IsRule}
 use Rattle.rule_core.specs.declared.rule.Rule.{Rule}
-use Rattle.substitution.specs.Substitution.{Substitution, substituted_inst}
+use Rattle.substitution.specs.Substitution.{substituted_inst}
 use Rattle.use_counts.specs.Uses.{IsUsedOnce}
 use Rattle.bindings.specs.Match.{MatchesInAnyOrder}
 use Rattle.bindings.specs.declared.binding.Binding.{Binding}
@@ -26,7 +26,6 @@ use Rattle.draft.specs.Arranged.{AreArranged, arranged, row_of}
 use Rattle.draft_matches.proofs.Back.{inst_back, numbered}
 use Rattle.draft_matches.proofs.Places.{IsStanding, inst_on, inst_was, placed-is, placed_register, reached_back, reached_on, used_once_back, used_once_on}
 use Rattle.draft_matches.proofs.Rooted.{bound_inst, bound_there, each_come}
-use Rattle.draft_matches.proofs.Rows.{number_there}
 
 never_undef : (rows : List (List ℕ)) (r : Register) → placed rows r ≡ operands.Undef → ⊥
 never_undef rows (registers.Parameter p) is = absurd cc

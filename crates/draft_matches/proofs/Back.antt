@@ -1,6 +1,6 @@
 -- What stands for a register of the arena stands for no other: numbers are told from places.
-use Rattle.std.proofs.Common.{◌≡◌, ℕ, zero, suc, List, [], ◌∷◌, get_or, map, Some, refl, sym, ap, ◌∙◌}
-use Rattle.std.specs.Prelude.{Contains, slice_get}
+use Rattle.std.proofs.Common.{◌≡◌, ℕ, suc, List, [], ◌∷◌, get_or, map, Some, refl, ap, ◌∙◌}
+use Rattle.std.specs.Prelude.{slice_get}
 use Rattle.std.proofs.lemmas.Option.{get_or_from_slice_get}
 use Rattle.ir_core.specs.Reads.{Read, read, end_of, reads_of}
 use Rattle.ir_core.specs.declared.function.Function.{Function}

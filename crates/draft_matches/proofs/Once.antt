@@ -1,5 +1,5 @@
 -- A register is used once where another is that is named at the same places.
-use Rattle.std.proofs.Common.{◌≡◌, ℕ, sym, ap, subst, ◌∙◌}
+use Rattle.std.proofs.Common.{◌≡◌, ℕ, subst}
 use Rattle.ir_core.specs.declared.function.Function.{Function}
 use Rattle.ir_core.specs.declared.operand.Register.{Register}
 use Rattle.use_counts.specs.Uses.{IsNamedAt, IsUsedOnce}

@@ -5,7 +5,7 @@ use Rattle.std.proofs.lemmas.Bool.{cases_eq, ne_eqb, cond-false}
 use Rattle.std.proofs.lemmas.Option.{slice_get_cases}
 use Rattle.ir_core.specs.Blocks.{IsBlock, targets_of}
 use Rattle.ir_core.specs.Checks.{IsInst}
-use Rattle.ir_core.specs.Reads.{Read, IsRead, read, end_of, reads_of, reads_at, reads_at_end, reads_by, reads_in}
+use Rattle.ir_core.specs.Reads.{Read, IsRead, read, end_of, reads_of, reads_at_end, reads_by, reads_in}
 use Rattle.ir_core.specs.declared.function.Block.{Block}
 use Rattle.ir_core.specs.declared.function.Function.{Function}
 use Rattle.ir_core.specs.declared.instruction.Inst.{Inst}

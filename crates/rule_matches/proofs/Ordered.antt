@@ -1,5 +1,5 @@
 -- What matches in whatever order instructions stand, in a function that meets its checks.
-use Rattle.std.proofs.Common.{ℕ, List, get_or, Ok, Err}
+use Rattle.std.proofs.Common.{List, get_or, Ok, Err}
 use Rattle.std.specs.Prelude.{IfOk, Result}
 use Rattle.ir_core.specs.Checks.{MeetsChecks}
 use Rattle.ir_core.specs.declared.function.Function.{Function}

@@ -1,7 +1,6 @@
 -- All of a cleaned function is needed.
-use Rattle.std.proofs.Common.{◌≡◌, ℕ, suc, ◌+◌, ◌<◌, true, List, [], ◌∷◌, map, Some, refl, sym, ap, subst, ◌∙◌, arith}
+use Rattle.std.proofs.Common.{◌≡◌, ℕ, ◌+◌, true, List, [], ◌∷◌, map, Some, refl, sym, ap, subst, ◌∙◌, arith}
 use Rattle.std.specs.Prelude.{Contains, slice_get}
-use Rattle.std.proofs.lemmas.Option.{slice_get_cases}
 use Rattle.ir_core.specs.Blocks.{HasInst, IsBlock}
 use Rattle.ir_core.specs.Checks.{IsKnown, MeetsChecks}
 use Rattle.ir_core.specs.Reads.{end_of}

@@ -1,6 +1,6 @@
 -- Blocks are reached in what a draft becomes as in what it was.
 use Rattle.std.proofs.Common.{◌≡◌, ◌↔◌, ℕ, List, [], ◌∷◌, refl, sym, subst}
-use Rattle.std.specs.Prelude.{Contains, slice_get}
+use Rattle.std.specs.Prelude.{Contains}
 use Rattle.ir_core.specs.Blocks.{IsBlock, Names, targets_of}
 use Rattle.ir_core.specs.Walks.{IsReached, IsWalk}
 use Rattle.ir_core.specs.declared.function.Block.{Block}

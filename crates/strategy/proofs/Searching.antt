@@ -1,20 +1,20 @@
 -- A search through the function of a draft, by the places that wait.
-use Rattle.std.proofs.Common.{◌≡◌, ◌⊎◌, inl, inr, ℕ, suc, ◌+◌, ◌<◌, ◌≤◌, false, List, ◌∷◌, [], ◌++◌, length, get_or, map, take, Option, None, Some, refl, sym, ap, subst, ◌∙◌, arith}
+use Rattle.std.proofs.Common.{◌≡◌, ◌⊎◌, inl, inr, ℕ, ◌+◌, ◌<◌, ◌≤◌, false, List, ◌∷◌, [], ◌++◌, get_or, map, take, Option, None, Some, sym, ap, subst, ◌∙◌, arith}
 use Rattle.std.specs.Prelude.{All, Contains, slice_get, option_and_then}
 use Rattle.std.proofs.lemmas.Bool.{cases_eq, cases_lt}
 use Rattle.std.proofs.lemmas.List.{map-append, take-map}
 use Rattle.std.proofs.lemmas.List.Elements.{All-contains, Contains-get_or}
-use Rattle.std.proofs.lemmas.Option.{none-some, same_Some, slice_get_within}
+use Rattle.std.proofs.lemmas.Option.{none-some, same_Some}
 use Rattle.ir_core.specs.Checks.{MeetsChecks}
 use Rattle.ir_core.specs.Reads.{end_of}
 use Rattle.ir_core.specs.Walks.{IsReached}
 use Rattle.ir_core.specs.declared.function.Function.{Function}
 use Rattle.ir_meaning.proofs.Pieces.{contains_at, some_at}
 use Rattle.rule_core.specs.declared.rule.Rule.{Rule}
-use Rattle.rule_typing.proofs.Images.{Contains-map, from_map, get-map, map-map}
+use Rattle.rule_typing.proofs.Images.{from_map, get-map, map-map}
 use Rattle.verdict.specs.declared.verdict.Row.{Row}
 use Rattle.rule_matches.specs.declared.matches.Match.{Match}
-use Rattle.rule_matches.specs.Matches.{AreMatchesInAnyOrder, AreMatchesWhere, IsAt, IsMatchAmong, IsMatchInAnyOrder}
+use Rattle.rule_matches.specs.Matches.{AreMatchesInAnyOrder, AreMatchesWhere, IsAt, IsMatchInAnyOrder}
 use Rattle.rule_matches.specs.Ready.{AreReady}
 use Rattle.rule_matches.proofs.Joining.{none_where}
 use Rattle.rule_matches.proofs.Rooting.{before_end}
@@ -24,13 +24,13 @@ use Rattle.draft.specs.Drafts.{Stands, StandsBefore, function_of, numbers_in, nu
 use Rattle.draft.specs.Orders.{place_in}
 use Rattle.draft.specs.Sets.{Has, IsPlace, IsRemoved, Rows}
 use Rattle.draft.specs.Whole.{IsSettled}
-use Rattle.draft.specs.Arranged.{AreArranged, row_of}
+use Rattle.draft.specs.Arranged.{AreArranged}
 use Rattle.draft_matches.specs.Laws.{MatchesOfTheArena, placed_match}
 use Rattle.draft_matches.proofs.Places.{inst_on, number_at}
 use Rattle.draft_matches.proofs.Rows.{number_there}
 use Rattle.draft.proofs.Arranged.{is_arranged}
 use Rattle.asked_verdicts.specs.declared.verdicts.Verdicts.{Verdicts}
-use Rattle.asked_verdicts.specs.Asked.{Pair, pair_of, IsAdmitted, IsTurnedDown}
+use Rattle.asked_verdicts.specs.Asked.{Pair, pair_of, IsTurnedDown}
 use Rattle.asked_verdicts.specs.Asks.{Asks, AsksAll, AsksUpTo, IsAnywhere}
 use Rattle.asked_verdicts.specs.Parts.{AsksToPlace}
 use Rattle.asked_verdicts.proofs.Growing.{all_turned_down_stay}

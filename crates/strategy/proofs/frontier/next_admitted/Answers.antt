@@ -1,4 +1,4 @@
-use Rattle.std.proofs.Common.{None, Some, map, subst}
+use Rattle.std.proofs.Common.{Some, map, subst}
 use Rattle.draft.specs.Drafts.{Stands}
 use Rattle.draft.specs.Queues.{ComesNext, waiting_in}
 use Rattle.draft.specs.Sets.{IsRemoved}

@@ -1,5 +1,4 @@
 use Rattle.std.proofs.Common.{sym, subst}
-use Rattle.ir_core.specs.declared.function.Function.{Function}
 use Rattle.draft.specs.Cleaning.{AllNeeded}
 use Rattle.draft.specs.Drafts.{arena_of}
 use Rattle.draft.proofs.Wholeness.{stands_there}
