@@ -59,3 +59,4 @@ pub mod Room
 pub mod Walking
 pub mod QueueLaws
 pub mod Arranged
+pub mod WalkDrafts
