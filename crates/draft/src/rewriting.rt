@@ -90,9 +90,10 @@ fn put_for(
     ensures orders { OnOk result (KeepsOrders (orders_of draft.old) (orders_of draft.new)) }
     ensures put { IfOk result (IsPutFor draft.old draft.new rewrite root.number) }
 {
+    let operand = rewrite.result;
     let Rewrite { put, result, .. } = rewrite;
     let places = put_all(alloc, draft, root, put.into_vec())?;
-    let replaced = replace_root(alloc, draft, root, result)?;
+    let replaced = replace_root(alloc, draft, root, operand)?;
     Ok(Rewritten {
         put: places,
         replaced,
