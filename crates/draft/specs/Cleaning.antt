@@ -59,7 +59,7 @@ KeepsUses was now waits = (c m b k i : ℕ) → Stands now c m → IsNamedAt was
 
 -- the instructions of these registers have numbers
 abbrev pub HaveInsts : Draft → List Register → Type 0
-HaveInsts d registers = (b n : ℕ) → Contains registers (registers.Result b n) → HasInst d.arena b n
+HaveInsts d these = (b n : ℕ) → Contains these (registers.Result b n) → HasInst d.arena b n
 
 -- each instruction that stands is read, where its register doesn't wait
 abbrev pub AreRead : Draft → List Register → Type 0
