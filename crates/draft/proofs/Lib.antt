@@ -14,9 +14,11 @@ pub mod Replacing
 pub mod Placed
 pub mod Putting
 pub mod Standing
+pub mod Fresh
 pub mod Changed
 pub mod Put
 pub mod Swapped
+pub mod ReplacedAt
 pub mod Listed
 pub mod Exchange
 pub mod Trimming

@@ -99,7 +99,7 @@ module _ (from : Register) (to : Operand) where
 
   -- ---- what is replaced at one place first
 
-  stay_twice : (reads old : List Operand) → reads ≡ map (substituted_operand (instead from to)) old → Stay reads
+  pub stay_twice : (reads old : List Operand) → reads ≡ map (substituted_operand (instead from to)) old → Stay reads
   stay_twice reads old is a there =
       let at : (k : ℕ) × (slice_get reads k ≡ Some a) = contained_at reads a there in
       let found : (x : Operand) × (slice_get old at.0 ≡ Some x) × (substituted_operand (instead from to) x ≡ a) =
