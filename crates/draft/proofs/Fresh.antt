@@ -1,13 +1,12 @@
 -- The draft of a function as it begins: each instruction stands, at the place of its number.
-use Rattle.std.proofs.Common.{◌≡◌, ◌≢◌, ℕ, zero, suc, ◌+◌, ◌<◌, ◌≤◌, ◌^◌, ◌⊎◌, inl, inr, Bool, true, false, List, [], ◌∷◌, length, map, replicate, get_or, All, Option, None, Some, refl, sym, ap, subst, ◌∙◌, arith}
+use Rattle.std.proofs.Common.{◌≡◌, ℕ, zero, suc, ◌+◌, ◌<◌, ◌≤◌, ◌^◌, inl, inr, Bool, true, false, List, [], ◌∷◌, length, map, replicate, get_or, All, Some, refl, sym, ap, subst, ◌∙◌, arith}
 use Rattle.std.specs.Prelude.{Contains, slice_get, option_map}
 use Rattle.std.specs.List.{range_with_len}
-use Rattle.std.proofs.lemmas.Bool.{cases_Bool}
 use Rattle.std.proofs.lemmas.List.{get_or-replicate, length-map, length-replicate}
 use Rattle.std.proofs.lemmas.List.FromFn.{get_or-range_with_len, length-range_with_len}
 use Rattle.std.proofs.lemmas.Option.{get_or_from_slice_get, slice_get-get_or, slice_get-map, slice_get_within}
-use Rattle.ir_core.specs.Blocks.{HasInst, IsBlock}
-use Rattle.ir_core.specs.Checks.{IsKnown, MeetsChecks}
+use Rattle.ir_core.specs.Blocks.{HasInst}
+use Rattle.ir_core.specs.Checks.{MeetsChecks}
 use Rattle.ir_core.specs.declared.function.Block.{Block}
 use Rattle.ir_core.specs.declared.function.Function.{Function}
 use Rattle.ir_core.specs.declared.instruction.Inst.{Inst}
@@ -17,15 +16,14 @@ use Rattle.ir_core.specs.declared.operand.Operand.TheVariants as operands
 use Rattle.ir_core.specs.declared.operand.Register.TheVariants as registers
 use Rattle.ir_core.specs.declared.terminator.Terminator.{Terminator}
 use Rattle.bindings.specs.Facts.{AreFactsOf}
-use Rattle.needed.specs.Operands.{operands_of, operands_at_end}
 use Rattle.needed.proofs.Counting.{contained_at, contains_at, contains_first, contains_later}
 use Rattle.substitution.specs.Substitution.{substituted_inst, substituted_operand}
 use Rattle.draft.specs.Counts.{operands_at}
-use Rattle.draft.specs.Drafts.{Stands, block_of, blocks_of, function_of, insts_of, numbers_in, numbers_of, placed, standing, standing_in}
+use Rattle.draft.specs.Drafts.{Stands, block_of, blocks_of, function_of, insts_of, numbers_of, placed, standing, standing_in}
 use Rattle.draft.specs.Orders.{none, place_in}
 use Rattle.draft.specs.Placing.{IsOrdering}
-use Rattle.draft.specs.Readers.{AreReadersOf, IsPlaceIn, IsReader, arena_place}
-use Rattle.draft.specs.Whole.{AreRowsOf, IsSettled, IsWhole}
+use Rattle.draft.specs.Readers.{AreReadersOf, IsPlaceIn, arena_place}
+use Rattle.draft.specs.Whole.{AreRowsOf, IsSettled}
 use Rattle.draft.specs.declared.draft.Draft.{Draft}
 use Rattle.draft.specs.declared.draft.Place.{Place}
 use Rattle.draft.proofs.Changing.{known_has}
@@ -34,7 +32,7 @@ use Rattle.draft.proofs.Places.{AreFew, AreKnown, known_reads}
 use Rattle.draft.proofs.Reading.{operands_at_inst, operands_at_terminator, reads_written}
 use Rattle.draft.proofs.Rows.{first_stands, marked, place_first, place_later}
 use Rattle.draft.proofs.Standing.{blocks_agree}
-use Rattle.draft.proofs.Substituted.{Agree, end_itself, itself, op_itself, operand_itself}
+use Rattle.draft.proofs.Substituted.{end_itself, itself, op_itself}
 
 -- ---- the numbers of a block in order
 

@@ -1,8 +1,7 @@
 -- An operand is put for a register at one place, and so at all places that read it.
-use Rattle.std.proofs.Common.{◌≡◌, ◌⊎◌, inl, inr, ℕ, ◌+◌, ◌<◌, ◌≤◌, List, [], ◌∷◌, length, drop, get_or, Some, map, refl, sym, ap, subst, ◌∙◌, arith, add-one, drop-cons}
+use Rattle.std.proofs.Common.{◌≡◌, ◌⊎◌, inl, inr, ℕ, List, [], ◌∷◌, length, Some, map, refl, sym, ap, subst, ◌∙◌, arith}
 use Rattle.std.specs.Prelude.{Contains, slice_get}
 use Rattle.std.proofs.lemmas.Bool.{cases_eq}
-use Rattle.std.proofs.lemmas.List.{drop_all}
 use Rattle.ir_core.specs.Blocks.{IsBlock}
 use Rattle.ir_core.specs.Checks.{IsKnown}
 use Rattle.ir_core.specs.declared.function.Block.{Block}
@@ -12,7 +11,6 @@ use Rattle.ir_core.specs.declared.operand.Operand.{Operand}
 use Rattle.ir_core.specs.declared.operand.Operand.TheVariants as operands
 use Rattle.ir_core.specs.declared.operand.Register.{Register}
 use Rattle.ir_core.specs.declared.terminator.Terminator.{Terminator}
-use Rattle.needed.proofs.Counting.{contained_at, contains_at}
 use Rattle.substitution.specs.Substitution.{substituted_end, substituted_inst, substituted_operand}
 use Rattle.draft.specs.Changes.{changed_at, end_changed, inst_changed, instead, replaced, replaced_at, with_block}
 use Rattle.draft.specs.Counts.{operands_at}
@@ -28,7 +26,7 @@ use Rattle.draft.proofs.Exchanging.{end_differs, still_few}
 use Rattle.draft.proofs.Naming.{is_same_register}
 use Rattle.draft.proofs.Places.{AreFew, DiffersAt, is_same_place}
 use Rattle.draft.proofs.Reading.{written_reads}
-use Rattle.draft.proofs.Replacing.{Stay, all_stay, replaced_at_end, replaced_at_inst, replaced_first, stay_twice, unread_stays}
+use Rattle.draft.proofs.Replacing.{all_stay, replaced_at_end, replaced_at_inst, replaced_first, stay_twice, unread_stays}
 use Rattle.draft.proofs.Rows.{first_or_later}
 use Rattle.draft.proofs.Swapped.{end_reads_now, inst_reads_now, targets_stay, whole_end_swapped, whole_swapped}
 use Rattle.draft.proofs.Wholeness.{few_insts}
