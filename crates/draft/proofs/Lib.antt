@@ -69,3 +69,4 @@ pub mod PutInstead
 pub mod Walking
 pub mod QueueLaws
 pub mod Arranged
+pub mod WalkDrafts
