@@ -38,6 +38,14 @@ pub mod Numbering
 pub mod Instead
 pub mod PutFor
 pub mod Taking
+pub mod Using
+pub mod Fallen
+pub mod Lessening
+pub mod Clearing
+pub mod OneBlock
+pub mod MoreOften
+pub mod OneStep
+pub mod Touching
 pub mod Numbered
 pub mod PutReads
 pub mod WholeRows
@@ -56,6 +64,8 @@ pub mod QueueSteps
 pub mod WalkSteps
 pub mod Unchanged
 pub mod Room
+pub mod PutAll
+pub mod PutInstead
 pub mod Walking
 pub mod QueueLaws
 pub mod Arranged
