@@ -14,9 +14,11 @@ pub mod Replacing
 pub mod Placed
 pub mod Putting
 pub mod Standing
+pub mod Fresh
 pub mod Changed
 pub mod Put
 pub mod Swapped
+pub mod ReplacedAt
 pub mod Listed
 pub mod Exchange
 pub mod Trimming
@@ -36,6 +38,14 @@ pub mod Numbering
 pub mod Instead
 pub mod PutFor
 pub mod Taking
+pub mod Using
+pub mod Fallen
+pub mod Lessening
+pub mod Clearing
+pub mod OneBlock
+pub mod MoreOften
+pub mod OneStep
+pub mod Touching
 pub mod Numbered
 pub mod PutReads
 pub mod WholeRows
@@ -54,6 +64,9 @@ pub mod QueueSteps
 pub mod WalkSteps
 pub mod Unchanged
 pub mod Room
+pub mod PutAll
+pub mod PutInstead
 pub mod Walking
 pub mod QueueLaws
 pub mod Arranged
+pub mod WalkDrafts

@@ -93,7 +93,7 @@ module _ (f : Function) (rows : List (List ℕ)) (good : AreRows f rows) where
       subst (Contains (map (substituted_operand to) (operands_at_end e.block.end))) (placed_is rows r) (map_in (substituted_operand to) (operands_at_end e.block.end) (operands.Register r) e.has) in
       end_reads_it F b (block_of to row e.block) (placed_register rows r) (block_on b e.block row e.is_block at) (subst (λ (l : List Operand). Contains l (operands.Register (placed_register rows r))) (sym (end_substituted to e.block.end)) put)
 
-  inst_on : (b n : ℕ) (r : Register) → InstReads f b n r → Contains (slice_index_or rows b []) n → ReadsRegister F b (place_in (slice_index_or rows b []) n) (placed_register rows r)
+  pub inst_on : (b n : ℕ) (r : Register) → InstReads f b n r → Contains (slice_index_or rows b []) n → ReadsRegister F b (place_in (slice_index_or rows b []) n) (placed_register rows r)
   inst_on b n r i has =
       let (row, at) = good.row b i.block i.is_block in
       let put : Contains (map (substituted_operand to) (operands_of i.inst.op)) (operands.Register (placed_register rows r)) =

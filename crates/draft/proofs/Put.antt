@@ -53,7 +53,7 @@ module _ (old : Draft) (whole : IsWhole old) (b : ℕ) (block : Block) (is_block
   pub list_row : (n : ℕ) → n < length block.insts → n < length (get_or old.readers.results.items b [])
   list_row n within = whole.readers.there (registers.Result b n) (has_known old.arena b n (block, is_block, within))
 
-all_below : (n m : ℕ) → ((k : ℕ) → k < n → k < m) → n ≤ m
+pub all_below : (n m : ℕ) → ((k : ℕ) → k < n → k < m) → n ≤ m
 all_below zero m below = omega arith
 all_below (suc n) m below = let last = below n (omega arith) in omega arith
 

@@ -273,7 +273,7 @@ module _ (f : Function) (rows : List (List ℕ)) (good : AreRows f rows) (b n c 
         ∙ (slice_get-map (substituted_inst sigma) (x.insts ++ put) m ∙ ap (option_map (substituted_inst sigma)) (get_left x.insts put m i at));
   }
 
-  are_put : (d : ℕ) → ArePut p n sigma d (slice_get f.blocks d) (slice_get f'.blocks d)
+  pub are_put : (d : ℕ) → ArePut p n sigma d (slice_get f.blocks d) (slice_get f'.blocks d)
   are_put d =
       elim (cases_eq d b) [
         | inr ne ↦ subst (ArePut p n sigma d (slice_get f.blocks d)) (sym (other_block d ne)) (are_other d ne (slice_get f.blocks d))

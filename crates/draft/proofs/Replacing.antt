@@ -73,7 +73,7 @@ module _ (from : Register) (to : Operand) where
   op_stays : (op : Op) → Stay (operands_of op) → substituted_op (instead from to) op ≡ op
   op_stays op stay = op_agrees (instead from to) itself op (λ a there. stay a there ∙ sym (operand_itself a)) ∙ op_itself op
 
-  inst_stays : (inst : Inst) → Stay (operands_of inst.op) → substituted_inst (instead from to) inst ≡ inst
+  pub inst_stays : (inst : Inst) → Stay (operands_of inst.op) → substituted_inst (instead from to) inst ≡ inst
   inst_stays inst stay = ap (λ (op : Op). let i : Inst = record { name = inst.name; width = inst.width; op = op } in i) (op_stays inst.op stay)
 
   end_stays : (end : Terminator) → Stay (operands_at_end end) → substituted_end (instead from to) end ≡ end
@@ -99,7 +99,7 @@ module _ (from : Register) (to : Operand) where
 
   -- ---- what is replaced at one place first
 
-  stay_twice : (reads old : List Operand) → reads ≡ map (substituted_operand (instead from to)) old → Stay reads
+  pub stay_twice : (reads old : List Operand) → reads ≡ map (substituted_operand (instead from to)) old → Stay reads
   stay_twice reads old is a there =
       let at : (k : ℕ) × (slice_get reads k ≡ Some a) = contained_at reads a there in
       let found : (x : Operand) × (slice_get old at.0 ≡ Some x) × (substituted_operand (instead from to) x ≡ a) =

@@ -23,7 +23,7 @@ use Rattle.draft.proofs.Changing.{changed_cases, changed_length}
 abbrev pub WasIn : Function → ℕ → Block → ℕ → Type 0
 WasIn f c x more = (block : Block) × IsBlock f c block × (length x.insts ≤ length block.insts + more)
 
-put_longer : (f : Function) (b : ℕ) (put : List Inst) (c : ℕ) (x : Block) → IsBlock (with_put f b put) c x → WasIn f c x (length put)
+pub put_longer : (f : Function) (b : ℕ) (put : List Inst) (c : ℕ) (x : Block) → IsBlock (with_put f b put) c x → WasIn f c x (length put)
 put_longer f b put c x at = elim (changed_cases b (λ (block : Block). record { name = block.name; insts = block.insts ++ put; end = block.end }) f.blocks c x at) [
   | inl (same, (block, there, is)) ↦
       let size : length x.insts ≡ length block.insts + length put = ap (λ (z : Block). length z.insts) is ∙ length-append block.insts put in

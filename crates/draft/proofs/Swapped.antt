@@ -36,7 +36,7 @@ use Rattle.draft.proofs.Replacing.{instead_same}
 use Rattle.draft.proofs.Substituted.{substituted_end_reads, substituted_reads}
 use Rattle.draft.proofs.Wholeness.{all_known, few_insts, rows_swapped}
 
-targets_stay : (to : Substitution) (t : Terminator) → targets_of (substituted_end to t) ≡ targets_of t
+pub targets_stay : (to : Substitution) (t : Terminator) → targets_of (substituted_end to t) ≡ targets_of t
 targets_stay to (terminators.Return a) = refl
 targets_stay to (terminators.Jump b) = refl
 targets_stay to (terminators.Branch c b other) = refl

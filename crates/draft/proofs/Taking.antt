@@ -19,7 +19,7 @@ use Rattle.needed.specs.Needed.{IsNeeded, by_end, by_inst, ReadsRegister}
 use Rattle.needed.specs.Operands.{operands_of}
 use Rattle.use_counts.specs.Uses.{IsNamedAt, IsUseCount}
 use Rattle.draft.specs.Changes.{changed_at, taken_out, without}
-use Rattle.draft.specs.Cleaning.{AreRead, IsCleaning, IsNeededWith, ReadsGoUp, ends, reads, is_one}
+use Rattle.draft.specs.Cleaning.{AreRead, IsCleaning, IsNeededWith, ends, reads, is_one}
 use Rattle.draft.specs.Counts.{operands_at, register_of}
 use Rattle.draft.specs.Drafts.{Stands, numbers_in, numbers_of}
 use Rattle.draft.specs.Orders.{none, place_in}
@@ -131,13 +131,14 @@ module _ (d : Draft) (whole : IsWhole d) where
                 subst (λ (k : ℕ). ¬ Stands d c k) number (subst (λ (x : ℕ). ¬ Stands d x n) block out))
           ]
 
-  -- where what is read is read further behind, and each instruction is read, each is needed
-  module _ (one : length d.arena.blocks < 2) (up : ReadsGoUp d) (read : AreRead d []) where
+  -- where what reads an instruction has a higher rank, and each instruction is read, each is needed
+  module _ (rank : ℕ → ℕ → ℕ) (bound : ℕ → ℕ) (one : length d.arena.blocks < 2) (below : (b n : ℕ) → Stands d b n → rank b n < bound b)
+      (up : (b k n : ℕ) → Stands d b k → ReadsRegister d.arena b k (registers.Result b n) → rank b n < rank b k) (read : AreRead d []) where
     first_block : (b : ℕ) → b < length d.arena.blocks → b ≡ 0
     first_block b lt = omega arith
 
-    from_behind : (left b n : ℕ) → Stands d b n → length (numbers_in d b) ≤ place_in (numbers_in d b) n + left → IsNeeded d.arena (registers.Result b n)
-    from_behind zero b n stands last = absurd (let lt : place_in (numbers_in d b) n < length (numbers_in d b) = is_in (numbers_in d b) n stands in past (place_in (numbers_in d b) n) (length (numbers_in d b)) last lt)
+    from_behind : (left b n : ℕ) → Stands d b n → bound b ≤ rank b n + left → IsNeeded d.arena (registers.Result b n)
+    from_behind zero b n stands last = absurd (past (rank b n) (bound b) last (below b n stands))
       where
         past : (p l : ℕ) → l ≤ p + 0 → p < l → ⊥
         past p l le lt = omega arith
@@ -153,8 +154,7 @@ module _ (d : Draft) (whole : IsWhole d) where
                   let same : c ≡ b = first_block c (slice_get_within d.arena.blocks c i.block i.is_block) ∙ sym (first_block b (slice_get_within d.arena.blocks b block is_block)) in
                   let stands_too : Stands d b k = subst (λ (x : ℕ). Stands d x k) same there in
                   let here : ReadsRegister d.arena b k (registers.Result b n) = subst (λ (x : ℕ). ReadsRegister d.arena x k (registers.Result b n)) same h in
-                  let lower : place_in (numbers_in d b) n < place_in (numbers_in d b) k = up b k n stands_too here in
-                  by_inst b k (from_behind left b k stands_too (more (place_in (numbers_in d b) n) (place_in (numbers_in d b) k) (length (numbers_in d b)) left lower last)) here
+                  by_inst b k (from_behind left b k stands_too (more (rank b n) (rank b k) (bound b) left (up b k n stands_too here) last)) here
             ]
           ]
         ]
@@ -163,7 +163,7 @@ module _ (d : Draft) (whole : IsWhole d) where
         more p q l left lt le = omega arith
 
     pub all_needed : (b n : ℕ) → Stands d b n → IsNeeded d.arena (registers.Result b n)
-    all_needed b n stands = from_behind (length (numbers_in d b)) b n stands (by (place_in (numbers_in d b) n) (length (numbers_in d b)))
+    all_needed b n stands = from_behind (bound b) b n stands (by (rank b n) (bound b))
       where
         by : (p l : ℕ) → l ≤ p + l
         by p l = omega arith
@@ -171,7 +171,7 @@ module _ (d : Draft) (whole : IsWhole d) where
 -- ---- what nothing reads is taken out
 
 -- registers among operands
-registers_among : (xs : List Operand) (r : Register) → Contains xs (operands.Register r) → Contains (filter_map register_of xs) r
+pub registers_among : (xs : List Operand) (r : Register) → Contains xs (operands.Register r) → Contains (filter_map register_of xs) r
 registers_among [] r has = absurd (not_in_empty (operands.Register r) has)
 registers_among (operands.Register s ∷ xs) r has =
     elim (cases_in (operands.Register s) xs (operands.Register r) has) [
@@ -183,7 +183,7 @@ registers_among (operands.Undef ∷ xs) r has = registers_among xs r (elim (case
 registers_among (operands.Poison ∷ xs) r has = registers_among xs r (elim (cases_in operands.Poison xs (operands.Register r) has) [ inl same ↦ absurd cc | inr later ↦ later ])
 
 -- what an instruction reads is among the registers that fall
-reads_fall : (f : Function) (p : Place) (r : Register) → p.number < none → ReadsRegister f p.block p.number r → Contains (filter_map register_of (operands_at f p)) r
+pub reads_fall : (f : Function) (p : Place) (r : Register) → p.number < none → ReadsRegister f p.block p.number r → Contains (filter_map register_of (operands_at f p)) r
 reads_fall f p r less h =
     let here : p.number ≡ arena_place f p = sym (arena_place_inst f p less) in
     registers_among (operands_at f p) r (reads_written f p.block (arena_place f p) r (subst (λ (k : ℕ). ReadsRegister f p.block k r) here h))

@@ -16,10 +16,10 @@ module _ (old new : Draft) (same : IsSameDraft old new) where
   pub same_numbers : numbers_of new ≡ numbers_of old
   same_numbers = ap (λ (s : List (List Bool)). standing s new.orders.items) same.stand ∙ ap (λ (o : List (List ℕ)). standing old.stand.items o) same.orders
 
-  stays : (b n : ℕ) → Stands old b n → Stands new b n
+  pub stays : (b n : ℕ) → Stands old b n → Stands new b n
   stays b n = subst (λ (rows : List (List ℕ)). Contains (row_of rows b) n) (sym same_numbers)
 
-  stood : (b n : ℕ) → Stands new b n → Stands old b n
+  pub stood : (b n : ℕ) → Stands new b n → Stands old b n
   stood b n = subst (λ (rows : List (List ℕ)). Contains (row_of rows b) n) same_numbers
 
   pub still_settled : IsSettled old → IsSettled new

@@ -1,6 +1,6 @@
 -- What is left of a draft while it is cleaned, and what is still to be looked at.
-use Rattle.std.specs.Prelude.{◌≡◌, ◌⊎◌, ◌<◌, ℕ, Bool, true, List, [], Option, None, Some, Contains, option_map, slice_get, slice_index_or}
-use Rattle.std.specs.List.{filter}
+use Rattle.std.specs.Prelude.{◌≡◌, ◌⊎◌, ◌<◌, ◌≤◌, ℕ, Bool, true, List, [], length, Option, None, Some, Contains, option_map, slice_get, slice_index_or, sum_by}
+use Rattle.std.specs.List.{filter, filter_map}
 use Rattle.ir_core.specs.Blocks.{HasInst}
 use Rattle.ir_core.specs.Reads.{end_of}
 use Rattle.ir_core.specs.declared.function.Block.{Block}
@@ -9,7 +9,8 @@ use Rattle.ir_core.specs.declared.instruction.Inst.{Inst}
 use Rattle.ir_core.specs.declared.operand.Register.{Register}
 use Rattle.ir_core.specs.declared.operand.Register.TheVariants as registers
 use Rattle.needed.specs.Needed.{IsNeeded, ReadsRegister}
-use Rattle.use_counts.specs.Uses.{IsNamedAt}
+use Rattle.needed.specs.Operands.{operands_of}
+use Rattle.draft.specs.Counts.{register_of, times_in_function}
 use Rattle.draft.specs.Drafts.{Stands, numbers_in}
 use Rattle.draft.specs.Orders.{place_in}
 use Rattle.draft.specs.declared.draft.Draft.{Draft}
@@ -52,10 +53,14 @@ pub record IsCleaning (old : Function) (rows : List (List ℕ)) (new : Function)
   pub was_needed : (r : Register) → IsNeeded new r → IsNeeded old r
   pub waits : (b n : ℕ) → Contains (slice_index_or left b []) n → IsNeededWith new roots (registers.Result b n)
 
--- each use of what stands is there, where its register doesn't wait
+-- what stands is read by as many operands as before, or more, where its register doesn't wait
 abbrev pub KeepsUses : Draft → Draft → List Register → Type 0
-KeepsUses was now waits = (c m b k i : ℕ) → Stands now c m → IsNamedAt was.arena (registers.Result c m) b k i
-    → IsNamedAt now.arena (registers.Result c m) b k i ⊎ Contains waits (registers.Result c m)
+KeepsUses was now waits = (b n : ℕ) → Stands now b n
+    → (times_in_function (registers.Result b n) was.arena ≤ times_in_function (registers.Result b n) now.arena) ⊎ Contains waits (registers.Result b n)
+
+-- how many operands of instructions are registers
+abbrev pub registers_read : Function → ℕ
+registers_read f = sum_by (λ block. sum_by (λ inst. length (filter_map register_of (operands_of inst.op))) block.insts) f.blocks
 
 -- the instructions of these registers have numbers
 abbrev pub HaveInsts : Draft → List Register → Type 0

@@ -1,10 +1,10 @@
 //! Cleaning drafts.
 
-ghost use Rattle.std.specs.Prelude.{◌≡◌, ◌++◌, ◌∷◌, [], ◌↔◌, ◌⊎◌, ◌<◌, ℕ, List as Seq, length, Contains, IsTrue, IsFalse, false, slice_index_or, IfSome, IfNone, OnOk};
+ghost use Rattle.std.specs.Prelude.{◌≡◌, ◌+◌, ◌++◌, ◌∷◌, [], ◌↔◌, ◌⊎◌, ◌<◌, ℕ, List as Seq, length, Contains, IsTrue, IsFalse, false, slice_index_or, IfSome, IfNone, IfOk, OnOk};
 ghost use Rattle.ir_core.specs.declared.function.Function.{Function};
 ghost use Rattle.ir_core.specs.declared.operand.Register.{Register as Named};
 ghost use Rattle.needed.specs.Needed.{IsNeeded};
-ghost use Rattle.draft.specs.Cleaning.{AreRead, HaveInsts, IsCleaning, IsNeededWith, KeepsUses, ReadsGoUp};
+ghost use Rattle.draft.specs.Cleaning.{AreRead, HaveInsts, IsCleaning, IsNeededWith, KeepsUses, ReadsGoUp, registers_read};
 ghost use Rattle.draft.specs.Drafts.{Stands, numbers_of, orders_of};
 ghost use Rattle.draft.specs.Whole.{IsWhole};
 
@@ -35,7 +35,7 @@ pub(crate) fn clean_draft(
     ensures none_fell { OnOk result (draft.new.fallen.items ≡ []) }
     ensures cleaned { OnOk result (IsCleaning draft.old.arena (numbers_of draft.old) draft.new.arena (numbers_of draft.new) []) }
     ensures used { IfOk result (λ used. HaveInsts draft.new used.items) }
-    ensures reads { IfOk result (λ used. KeepsUses draft.old draft.new used.items) }
+    ensures reads { IfOk result (λ used. (was : Draft) → KeepsUses was draft.old draft.old.fallen.items → KeepsUses was draft.new used.items) }
 {
     let mut used = Vec::new(alloc);
     take_unused(draft, &mut used)?;
@@ -69,6 +69,9 @@ fn take_unused(draft: &mut Draft, used: &mut Vec<Register>) -> Result<(), AllocE
         → IsCleaning f rows draft.old.arena (numbers_of draft.old) (draft.old.fallen.items ++ used.old.items)
         → IsCleaning f rows draft.new.arena (numbers_of draft.new) used.new.items) }
     ensures used { OnOk result (HaveInsts draft.old used.old.items → HaveInsts draft.new used.new.items) }
+    ensures reads { OnOk result ((was : Draft) → KeepsUses was draft.old (draft.old.fallen.items ++ used.old.items)
+        → KeepsUses was draft.new used.new.items) }
+    ensures read { OnOk result (AreRead draft.old draft.old.fallen.items → AreRead draft.new []) }
 {
     while let Some(register) = next_fallen(draft) {
         take_or_list(draft, used, register)?;
@@ -90,6 +93,13 @@ fn take_or_list(
         → IsCleaning f rows draft.old.arena (numbers_of draft.old) roots
         → IsCleaning f rows draft.new.arena (numbers_of draft.new) (draft.new.fallen.items ++ used.new.items)) }
     ensures used { OnOk result (HaveInsts draft.old used.old.items → HaveInsts draft.new used.new.items) }
+    ensures reads { OnOk result ((was : Draft) (roots : Seq Named)
+        → ((r : Named) → Contains roots r → Contains (draft.old.fallen.items ++ used.old.items) r ⊎ (r ≡ register))
+        → KeepsUses was draft.old roots → KeepsUses was draft.new (draft.new.fallen.items ++ used.new.items)) }
+    ensures read { OnOk result ((roots : Seq Named) → ((r : Named) → Contains roots r → Contains draft.old.fallen.items r ⊎ (r ≡ register))
+        → AreRead draft.old roots → AreRead draft.new draft.new.fallen.items) }
+    ensures as_many { OnOk result (registers_read draft.new.arena + length draft.new.fallen.items
+        ≡ registers_read draft.old.arena + length draft.old.fallen.items) }
 {
     if let Register::Result(block, number) = register {
         if is_standing(draft, register) {
@@ -174,9 +184,31 @@ fn take_unneeded(alloc: Global, draft: &mut Draft) -> Result<(), AllocError>
     ensures reads { OnOk result ((was : Draft) (fell : Seq Named) → KeepsUses was draft.old (draft.old.fallen.items ++ fell)
         → KeepsUses was draft.new (draft.new.fallen.items ++ fell)) }
 {
-    for (block, number) in unneeded_insts(alloc, draft.arena())? {
-        if is_standing(draft, Register::Result(block, number)) {
-            draft.take_out(Place { block, number })?;
+    let unneeded = unneeded_insts(alloc, draft.arena())?;
+    take_all(draft, unneeded.as_slice())
+}
+
+/// Takes out instructions that aren't needed, where they stand.
+fn take_all(draft: &mut Draft, unneeded: &[(u32, u32)]) -> Result<(), AllocError>
+    requires whole { IsWhole draft.old }
+    requires unneeded { (b n : ℕ) → Contains unneeded.now (b, n) → ¬ IsNeeded draft.old.arena (Register.Result b n) }
+    ensures whole { OnOk result (IsWhole draft.new) }
+    ensures orders { OnOk result (orders_of draft.new ≡ orders_of draft.old) }
+    ensures needed { OnOk result ((r : Named) → IsNeeded draft.old.arena r → IsNeeded draft.new.arena r) }
+    ensures stood { OnOk result ((b n : ℕ) → Stands draft.new b n → Stands draft.old b n) }
+    ensures gone { OnOk result ((b n : ℕ) → Contains unneeded.now (b, n) → ¬ Stands draft.new b n) }
+    ensures cleaning { OnOk result ((f : Function) (rows : Seq (Seq ℕ)) (fell : Seq Named)
+        → IsCleaning f rows draft.old.arena (numbers_of draft.old) (draft.old.fallen.items ++ fell)
+        → IsCleaning f rows draft.new.arena (numbers_of draft.new) (draft.new.fallen.items ++ fell)) }
+    ensures reads { OnOk result ((was : Draft) (fell : Seq Named) → KeepsUses was draft.old (draft.old.fallen.items ++ fell)
+        → KeepsUses was draft.new (draft.new.fallen.items ++ fell)) }
+{
+    for (block, number) in unneeded {
+        if is_standing(draft, Register::Result(*block, *number)) {
+            draft.take_out(Place {
+                block: *block,
+                number: *number,
+            })?;
         }
     }
     Ok(())

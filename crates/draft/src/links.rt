@@ -22,7 +22,6 @@ pub(crate) struct Links {
 impl Links {
     /// So many numbers, in their order.
     pub(crate) fn new(alloc: Global, count: u32) -> Result<Links, AllocError>
-        requires { count ≤ none }
         ensures { IfOk result (λ links. IsListing links.nodes.items 0 links.first (range_with_len 0 count)) }
     {
         let gap = gap_of(count);

@@ -30,7 +30,6 @@ impl Model for Order {
 impl Order {
     /// So many instructions in the order of their numbers.
     pub(crate) fn new(alloc: Global, count: u32) -> Result<Order, AllocError>
-        requires { count ≤ none }
         ensures { IfOk result (λ order. order ≡ range_with_len 0 count) }
     {
         let links = Links::new(alloc, count)?;

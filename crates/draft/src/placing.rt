@@ -51,18 +51,28 @@ impl Draft {
         requires { IsSettled self }
         ensures { IfOk result (λ f. f ≡ function_of self) }
     {
-        let Draft {
-            mut arena,
-            orders,
-            stand,
-            ..
-        } = self;
-        let numbers = standing_numbers(alloc, &orders, &stand)?;
-        let places = places_of(alloc, &arena, &numbers)?;
-        let blocks = mem::replace(&mut arena.blocks, List::new(alloc));
-        arena.blocks = placed_blocks(alloc, &places, &numbers, blocks)?;
-        Ok(arena)
+        let numbers = standing_numbers(alloc, &self.orders, &self.stand)?;
+        let places = places_of(alloc, &self.arena, &numbers)?;
+        let Draft { arena, .. } = self;
+        placed_function(alloc, arena, &places, &numbers)
     }
+}
+
+/// The function with the instructions that stand there, in order, and each register at its place.
+fn placed_function(
+    alloc: Global,
+    arena: Function,
+    places: &Places,
+    numbers: &[List<u32>],
+) -> Result<Function, AllocError>
+    requires blocks { length numbers.now ≡ length arena.blocks }
+    requires ordered { AreOrdered arena.blocks numbers.now }
+    ensures { IfOk result (λ f. f ≡ record arena { blocks = blocks_of (at_places places.now.rows.items) numbers.now arena.blocks }) }
+{
+    let mut arena = arena;
+    let blocks = mem::replace(&mut arena.blocks, List::new(alloc));
+    arena.blocks = placed_blocks(alloc, places, numbers, blocks)?;
+    Ok(arena)
 }
 
 /// Of each block the numbers of the instructions that stand there, in order.

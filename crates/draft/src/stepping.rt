@@ -2,6 +2,7 @@
 
 ghost use Rattle.std.specs.Prelude.{ℕ, suc, All, Contains, IfOk, OnOk};
 ghost use Rattle.ir_core.specs.Checks.{MeetsChecks};
+ghost use Rattle.use_counts.specs.Uses.{IsUseCount};
 ghost use Rattle.ir_core.specs.declared.function.Function.{Function};
 ghost use Rattle.rule_core.specs.Checks.{IsRule};
 ghost use Rattle.rule_typing.specs.Faults.{HasNoFault};
@@ -9,17 +10,20 @@ ghost use Rattle.bindings.specs.Match.{IsMatch};
 ghost use Rattle.rewriter.specs.Applied.{IsRewritten};
 ghost use Rattle.needed.specs.Cleaned.{IsCleaned};
 ghost use Rattle.run_history.specs.Laws.{NumbersFit};
-ghost use Rattle.draft.specs.Cleaning.{IsClean};
+ghost use Rattle.draft.specs.Cleaning.{HaveInsts, IsClean};
 ghost use Rattle.draft.specs.Drafts.{AreTouched, HasRoomFor, arena_of, function_of, orders_of, placed_binding};
 ghost use Rattle.draft.specs.KeptOrders.{KeepsOrders};
 ghost use Rattle.draft.specs.Readers.{IsPlaceIn};
-ghost use Rattle.draft.specs.Whole.{IsSettled};
+ghost use Rattle.draft.specs.Whole.{IsSettled, IsWhole};
+ghost use Rattle.draft.specs.declared.draft.Place.{Place as Spot};
 
 use crate::cleaning::clean_draft;
 use crate::draft::{Draft, Place};
-use crate::rewriting::rewrite_draft;
+use crate::rewriting::{Rewritten, rewrite_draft};
 use bindings::Binding;
 use ir_core::Register;
+use moved_matches::reads_of_a_block_stand_before;
+use rewriter::rewritten_functions_meet_checks;
 use rule_core::Rule;
 use std::alloc::{AllocError, Global};
 use use_counts::uses_of;
@@ -54,22 +58,40 @@ pub fn step(
     ensures root { IfOk result (λ places. Contains places.items (record { block = binding.now.block; number = binding.now.place })) }
     ensures places { IfOk result (λ places. All (IsPlaceIn (arena_of draft.new)) places.items) }
 {
+    reads_of_a_block_stand_before();
+    rewritten_functions_meet_checks();
     let rewritten = rewrite_draft(alloc, draft, binding, rule)?;
     let used = clean_draft(alloc, draft, &rewritten)?;
-    let mut touched = rewritten.put;
+    let Rewritten { put, replaced, .. } = rewritten;
+    let mut touched = put;
     touched.push(Place {
         block: binding.block,
         number: binding.place,
     })?;
-    for place in rewritten.replaced {
-        touched.push(place)?;
-    }
+    touched.extend_from_slice(replaced.as_slice())?;
+    push_used(draft, &mut touched, used.as_slice())?;
+    Ok(touched)
+}
+
+/// Puts the places of registers that are read by one operand alone behind others.
+fn push_used(
+    draft: &Draft,
+    places: &mut Vec<Place>,
+    used: &[Register],
+) -> Result<(), AllocError>
+    requires whole { IsWhole draft.now }
+    requires used { HaveInsts draft.now used.now }
+    ensures others { OnOk result ((p : Spot) → Contains places.old.items p → Contains places.new.items p) }
+    ensures used { OnOk result ((b n : ℕ) → Contains used.now (Register.Result b n) → IsUseCount draft.now.arena (Register.Result b n) 1
+        → Contains places.new.items (record { block = b; number = n })) }
+    ensures places { OnOk result (All (IsPlaceIn draft.now.arena) places.old.items → All (IsPlaceIn draft.now.arena) places.new.items) }
+{
     for register in used {
-        if let Register::Result(block, number) = register {
-            if uses_of(&draft.facts.uses, register) == 1 {
-                touched.push(Place { block, number })?;
+        if let Register::Result(block, number) = *register {
+            if uses_of(&draft.facts.uses, *register) == 1 {
+                places.push(Place { block, number })?;
             }
         }
     }
-    Ok(touched)
+    Ok(())
 }

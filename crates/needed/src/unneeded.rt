@@ -40,8 +40,10 @@ pub fn unneeded_insts(alloc: Global, f: &Function) -> Result<Vec<(u32, u32)>, Al
     requires blocks { length f.now.blocks < 2 ^ 32 }
     requires insts { All (λ b. length b.insts < 2 ^ 32) f.now.blocks }
     requires registers { (b k i : ℕ) (r : Read) → IsRead f.now b k i r → IsKnown f.now r.operand }
-    ensures { IfOk result (λ places. (b k : ℕ) → Contains places.items (b, k)
+    ensures unneeded { IfOk result (λ places. (b k : ℕ) → Contains places.items (b, k)
         ↔ (HasInst f.now b k × ¬ IsNeeded f.now (registers.Result b k))) }
+    ensures others { IfOk result (λ places. (b k : ℕ) → HasInst f.now b k
+        → Contains places.items (b, k) ⊎ IsNeeded f.now (registers.Result b k)) }
 {
     let numbers = Numbers::new(alloc, f)?;
     let marks = needed(alloc, f, &numbers)?;

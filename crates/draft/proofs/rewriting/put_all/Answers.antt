@@ -1,0 +1,43 @@
+use Rattle.std.proofs.Common.{◌≡◌, List, [], ◌∷◌, ◌++◌, sym, subst, ◌∙◌, append_assoc}
+use Rattle.std.specs.Vec.Iter.{into_iter_items}
+use Rattle.ir_core.specs.declared.instruction.Inst.{Inst}
+use Rattle.draft.specs.declared.draft.Place.{Place}
+use Rattle.draft.proofs.PutAll.{ArePut, next_known, next_room, none_put, put_more, still_stands}
+use Rattle.draft.proofs.rewriting.put_all.Goals as goal
+
+pub loop-inst-init : goal.loop-inst-init
+loop-inst-init c = record {
+  so_far = none_put c.args.draft.now c.args.at c.requires.whole;
+  left = c.into_iter-inst-iterator.ensures.into_iter_gives.0;
+}
+
+pub put_before-requires-clause-at : goal.put_before-requires-clause-at
+put_before-requires-clause-at c =
+    let l = c.loop-inst in
+    still_stands c.args.draft.now l.draft c.args.at l.yielded l.put.items c.requires.whole c.requires.at l.invariant.so_far
+
+pub put_before-requires-clause-room : goal.put_before-requires-clause-room
+put_before-requires-clause-room c =
+    let l = c.loop-inst in
+    next_room c.args.draft.now l.draft c.args.at l.yielded l.put.items c.requires.whole c.requires.at l.invariant.so_far c.args.insts.items (into_iter_items c.next.new.self) c.in-Some.inst
+    (rw (← c.in-Some.ensures.steps.0) l.invariant.left) c.requires.room
+
+pub put_before-requires-clause-known : goal.put_before-requires-clause-known
+put_before-requires-clause-known c =
+    let l = c.loop-inst in
+    next_known c.args.draft.now l.draft c.args.at l.yielded l.put.items c.requires.whole c.requires.at l.invariant.so_far c.args.insts.items (into_iter_items c.next.new.self) c.in-Some.inst
+    (rw (← c.in-Some.ensures.steps.0) l.invariant.left) c.requires.readable
+
+pub loop-inst-preserved : goal.loop-inst-preserved
+loop-inst-preserved c =
+    let l = c.loop-inst in
+    let e = c.in_ok-put_before.ensures in
+    record {
+      so_far = subst (λ (p : List Place). ArePut c.args.draft.now c.put_before.new.self c.args.at (l.yielded ++ c.in-Some.inst ∷ []) p) (sym c.in_ok-push.ensures.items)
+          (put_more c.args.draft.now l.draft c.args.at l.yielded l.put.items c.requires.whole c.requires.at l.invariant.so_far c.put_before.new.self c.in-Some.inst c.in_ok-put_before.field-0
+          e.whole e.arena e.place e.numbers e.orders e.fallen);
+      left = append_assoc l.yielded (c.in-Some.inst ∷ []) (into_iter_items c.next.new.self) ∙ rw (← c.in-Some.ensures.steps.0) l.invariant.left;
+    }
+
+pub returns : goal.returns
+returns c = ?
