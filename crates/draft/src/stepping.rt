@@ -88,7 +88,7 @@ fn push_used(
 {
     for register in used {
         if let Register::Result(block, number) = *register {
-            if uses_of(&draft.facts.uses, *register) == 1 {
+            if uses_of(&draft.facts.uses, Register::Result(block, number)) == 1 {
                 places.push(Place { block, number })?;
             }
         }

@@ -72,10 +72,10 @@ returns-clause-unneeded c = λ b k.
     (
       λ has.
           let (lt, inst, un) = h.0 has in
-          (inst, λ need. let yes : marks_by c.in_ok-numbers.numbers.firsts.items c.in_ok-marks.marks.items b k ≡ true = (c.in_ok-marks.ensures.exact b k inst).1 need in cc),
+          (inst, λ need. let marked : marks_by c.in_ok-numbers.numbers.firsts.items c.in_ok-marks.marks.items b k ≡ true = (c.in_ok-marks.ensures.exact b k inst).1 need in cc),
       λ (inst, un). elim (cases_Bool (marks_by c.in_ok-numbers.numbers.firsts.items c.in_ok-marks.marks.items b k)) [
-        | inl yes ↦ absurd (un ((c.in_ok-marks.ensures.exact b k inst).0 yes))
-        | inr no ↦ h.1 (before b inst.0 inst.1, inst, no)
+        | inl marked ↦ absurd (un ((c.in_ok-marks.ensures.exact b k inst).0 marked))
+        | inr unmarked ↦ h.1 (before b inst.0 inst.1, inst, unmarked)
       ],
     )
   where
@@ -94,6 +94,6 @@ returns-clause-others c = λ b k inst.
     let past = c.loop-index-test.false in
     let there : b < c.loop-index.index = omega arith in
     elim (cases_Bool (marks_by c.in_ok-numbers.numbers.firsts.items c.in_ok-marks.marks.items b k)) [
-      | inl yes ↦ inr ((c.in_ok-marks.ensures.exact b k inst).0 yes)
-      | inr no ↦ inl ((c.loop-index.invariant b k).1 (there, inst, no))
+      | inl marked ↦ inr ((c.in_ok-marks.ensures.exact b k inst).0 marked)
+      | inr unmarked ↦ inl ((c.loop-index.invariant b k).1 (there, inst, unmarked))
     ]
