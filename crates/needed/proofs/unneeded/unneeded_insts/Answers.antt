@@ -1,4 +1,4 @@
-use Rattle.std.proofs.Common.{◌≡◌, ◌+◌, ◌<◌, ◌↔◌, ◌⊎◌, inl, inr, ℕ, Bool, true, false, List, Contains, length, Some, refl, sym, ap, subst, ◌∙◌, arith}
+use Rattle.std.proofs.Common.{◌≡◌, ◌+◌, ◌<◌, ◌↔◌, ◌⊎◌, inl, inr, ℕ, Bool, true, false, List, Contains, length, Some, sym, ap, subst, ◌∙◌, arith}
 use Rattle.std.specs.Prelude.{slice_get}
 use Rattle.std.proofs.lemmas.Bool.{cases_Bool, cases_eq}
 use Rattle.std.proofs.lemmas.Option.{same_Some, slice_get_within}
@@ -68,13 +68,12 @@ loop-index-preserved c =
 pub returns-clause-unneeded : goal.returns-clause-unneeded
 returns-clause-unneeded c = λ b k.
     let h = c.loop-index.invariant b k in
-    let f = c.args.f.now in
-    (
+    let f = c.args.f.now in (
       λ has.
           let (lt, inst, un) = h.0 has in
-          (inst, λ need. let marked : marks_by c.in_ok-numbers.numbers.firsts.items c.in_ok-marks.marks.items b k ≡ true = (c.in_ok-marks.ensures.exact b k inst).1 need in cc),
+          (inst, λ need. let is_marked : marks_by c.in_ok-numbers.numbers.firsts.items c.in_ok-marks.marks.items b k ≡ true = (c.in_ok-marks.ensures.exact b k inst).1 need in cc),
       λ (inst, un). elim (cases_Bool (marks_by c.in_ok-numbers.numbers.firsts.items c.in_ok-marks.marks.items b k)) [
-        | inl marked ↦ absurd (un ((c.in_ok-marks.ensures.exact b k inst).0 marked))
+        | inl is_marked ↦ absurd (un ((c.in_ok-marks.ensures.exact b k inst).0 is_marked))
         | inr unmarked ↦ h.1 (before b inst.0 inst.1, inst, unmarked)
       ],
     )
@@ -94,6 +93,6 @@ returns-clause-others c = λ b k inst.
     let past = c.loop-index-test.false in
     let there : b < c.loop-index.index = omega arith in
     elim (cases_Bool (marks_by c.in_ok-numbers.numbers.firsts.items c.in_ok-marks.marks.items b k)) [
-      | inl marked ↦ inr ((c.in_ok-marks.ensures.exact b k inst).0 marked)
+      | inl is_marked ↦ inr ((c.in_ok-marks.ensures.exact b k inst).0 is_marked)
       | inr unmarked ↦ inl ((c.loop-index.invariant b k).1 (there, inst, unmarked))
     ]
