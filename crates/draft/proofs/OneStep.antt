@@ -240,14 +240,14 @@ module _ (stands_before : ReadsStandBefore) (old : Draft) (settled : IsSettled o
     pub keeps_then : KeepsUses old mid mid.fallen.items
     keeps_then = λ b n stands. elim (stood_or_put b n stands) [
       | inr (same, came) ↦ inr (fell_then (registers.Result b n) (Contains-append_left (map (λ number. registers.Result m.block number) (put_numbers old.arena w)) (filter_map register_of (operands_at g (record { block = m.block; number = m.place })))
-        (registers.Result b n) (subst (λ (c : ℕ). Contains (map (λ number. registers.Result m.block number) (put_numbers old.arena w)) (registers.Result c n)) (sym same) (map_in (λ number. registers.Result m.block number) (put_numbers old.arena w) n came))))
+          (registers.Result b n) (subst (λ (c : ℕ). Contains (map (λ number. registers.Result m.block number) (put_numbers old.arena w)) (registers.Result c n)) (sym same) (map_in (λ number. registers.Result m.block number) (put_numbers old.arena w) n came))))
       | inl (stood, other) ↦ elim (less_often g few_then m.block m.place has_root (registers.Result b n)) [
         | inr among ↦ inr (fell_then (registers.Result b n) (Contains-append_right (map (λ number. registers.Result m.block number) (put_numbers old.arena w)) (filter_map register_of (operands_at g (record { block = m.block; number = m.place }))) (registers.Result b n) among))
         | inl enough ↦ inl (
-          let arenas = ap (times_in_function (registers.Result b n)) put.arena in
-          let more = put_more_often (registers.Result b n) old.arena m.block w.put in
-          let instead_of = replaced_as_often (registers.Result b n) (registers.Result m.block m.place) w.result other (with_put old.arena m.block w.put) in
-          omega arith)
+            let arenas = ap (times_in_function (registers.Result b n)) put.arena in
+            let more = put_more_often (registers.Result b n) old.arena m.block w.put in
+            let instead_of = replaced_as_often (registers.Result b n) (registers.Result m.block m.place) w.result other (with_put old.arena m.block w.put) in
+            omega arith)
       ]
     ]
 
