@@ -15,7 +15,7 @@ use Rattle.ir_core.specs.declared.operand.Register.TheVariants as registers
 use Rattle.ir_meaning.proofs.Pieces.{not_in_empty}
 use Rattle.needed.specs.Needed.{IsNeeded, by_end, by_inst, ReadsRegister}
 use Rattle.needed.specs.Operands.{operands_of}
-use Rattle.draft.specs.Cleaning.{AreLeft, AreRead, IsBlockLeft, IsCleaning, IsNeededWith, ReadsGoUp}
+use Rattle.draft.specs.Cleaning.{AreLeft, AreRead, HaveInsts, IsBlockLeft, IsCleaning, IsNeededWith, KeepsUses, ReadsGoUp}
 use Rattle.draft.specs.Drafts.{Stands, numbers_in, numbers_of, orders_of}
 use Rattle.draft.specs.Orders.{none, place_in}
 use Rattle.draft.specs.Readers.{IsReader}
@@ -25,15 +25,12 @@ use Rattle.draft.specs.declared.draft.Place.{Place}
 use Rattle.draft.proofs.Changing.{inst_there}
 use Rattle.draft.proofs.Leaving.{left_row}
 use Rattle.draft.proofs.Living.{needed_alone, needed_through}
+use Rattle.draft.proofs.PutAll.{append_none}
 use Rattle.draft.proofs.RowPlaces.{is_in, kept_of}
 use Rattle.draft.proofs.Starting.{cleaning_begins}
 use Rattle.draft.proofs.Taking.{all_needed, cleaning_done, cleaning_dropping}
 use Rattle.draft.proofs.WhoReads.{inst_reads_it, who}
 use Rattle.draft.proofs.Wholeness.{stands_there}
-
-append_none : {A : Type 0} (xs : List A) → xs ++ [] ≡ xs
-append_none [] = refl
-append_none {A = A} (x ∷ xs) = ap (λ (l : List A). x ∷ l) (append_none xs)
 
 -- what is read at a place is needed, where that is of a terminator or of what is needed
 pub read_needed : (f : Function) (p : Place) (r : Register) → IsReader f r p → IsNeeded f (registers.Result p.block p.number) → IsNeeded f r
@@ -122,3 +119,12 @@ module _ (old mid : Draft) (whole : IsWhole old) (whole_mid : IsWhole mid) (orde
   -- and where what is still used is needed
   pub clean_by_uses : ((b n : ℕ) → Contains used (registers.Result b n) → Stands mid b n → IsNeeded mid.arena (registers.Result b n)) → IsCleaning old.arena (numbers_of old) mid.arena (numbers_of mid) []
   clean_by_uses all = cleaning_done mid whole_mid old.arena (numbers_of old) used all is
+
+-- what is told of a draft that was cleaned
+pub record IsMadeClean (old new : Draft) (used : List Register) : Type 0 where
+  pub whole : IsWhole new
+  pub orders : orders_of new ≡ orders_of old
+  pub none_fell : new.fallen.items ≡ []
+  pub cleaned : IsCleaning old.arena (numbers_of old) new.arena (numbers_of new) []
+  pub have : HaveInsts new used
+  pub reads : (was : Draft) → KeepsUses was old old.fallen.items → KeepsUses was new used

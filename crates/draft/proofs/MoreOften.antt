@@ -14,6 +14,7 @@ use Rattle.substitution.specs.Substitution.{substituted_block, substituted_inst,
 use Rattle.draft.specs.Changes.{changed_at, instead, replaced}
 use Rattle.draft.specs.Counts.{names, times, times_in, times_in_function}
 use Rattle.draft.specs.Rewriting.{with_put}
+use Rattle.draft.proofs.Counting.{one_if}
 use Rattle.draft.proofs.Instead.{instead_other}
 use Rattle.draft.proofs.Mapping.{end_substituted, operands_substituted}
 use Rattle.draft.proofs.Naming.{names_is, names_self}
@@ -47,20 +48,20 @@ module _ (r : Register) where
       (λ x. let both = sum_by-append (λ (i : Inst). times r (operands_of i.op)) x.insts put in omega arith) f.blocks
 
   module _ (from : Register) (to : Operand) (other : ¬ (r ≡ from)) where
-    still_one : (a : Operand) → cond (names r a) 1 0 ≤ cond (names r (substituted_operand (instead from to) a)) 1 0
+    still_one : (a : Operand) → one_if r a ≤ one_if r (substituted_operand (instead from to) a)
     still_one a =
         elim (cases_Bool (names r a)) [
-          | inr no ↦ let none : cond (names r a) 1 0 ≡ 0 = ap (λ c. cond c 1 0) no in omega arith
-          | inl yes ↦
-              let is : a ≡ operands.Register r = names_is r a yes in
+          | inr other_one ↦ let none : one_if r a ≡ 0 = ap (λ c. cond c 1 0) other_one in omega arith
+          | inl named ↦
+              let is : a ≡ operands.Register r = names_is r a named in
               let stays : substituted_operand (instead from to) a ≡ operands.Register r = ap (substituted_operand (instead from to)) is ∙ instead_other from to r other in
-              let now : cond (names r (substituted_operand (instead from to) a)) 1 0 ≡ 1 = ap (λ c. cond c 1 0) (names_self r (substituted_operand (instead from to) a) stays) in
-              let was : cond (names r a) 1 0 ≡ 1 = ap (λ c. cond c 1 0) yes in
+              let now : one_if r (substituted_operand (instead from to) a) ≡ 1 = ap (λ c. cond c 1 0) (names_self r (substituted_operand (instead from to) a) stays) in
+              let was : one_if r a ≡ 1 = ap (λ c. cond c 1 0) named in
               omega arith
         ]
 
     times_stay : (xs : List Operand) → times r xs ≤ times r (map (substituted_operand (instead from to)) xs)
-    times_stay xs = map_more (λ a. cond (names r a) 1 0) (substituted_operand (instead from to)) still_one xs
+    times_stay xs = map_more (one_if r) (substituted_operand (instead from to)) still_one xs
 
     inst_stays : (i : Inst) → times r (operands_of i.op) ≤ times r (operands_of (substituted_inst (instead from to) i).op)
     inst_stays i = let same = ap (times r) (operands_substituted (instead from to) i.op) in let low = times_stay (operands_of i.op) in omega arith

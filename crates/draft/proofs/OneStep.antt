@@ -73,6 +73,10 @@ use Rattle.draft.proofs.WhoReads.{inst_reads_it}
 use Rattle.draft.proofs.WholeRows.{settled_rows, whole_rows}
 use Rattle.draft.proofs.Wholeness.{few_insts, stands_there}
 
+-- a place by its number
+abbrev at_number : ℕ → ℕ → Place
+at_number b n = record { block = b; number = n }
+
 -- a block that is there is there with what is put
 there_too : (v : Rewrite) (n : ℕ) (sigma : Substitution) (d : ℕ) (o o' : Option Block) (x : Block) → o ≡ Some x → ArePut v n sigma d o o' → (y : Block) × (o' ≡ Some y) × IsPutBlock v n sigma d x y
 there_too v n sigma d None o' x e are = absurd cc
@@ -236,14 +240,14 @@ module _ (stands_before : ReadsStandBefore) (old : Draft) (settled : IsSettled o
     pub keeps_then : KeepsUses old mid mid.fallen.items
     keeps_then = λ b n stands. elim (stood_or_put b n stands) [
       | inr (same, came) ↦ inr (fell_then (registers.Result b n) (Contains-append_left (map (λ number. registers.Result m.block number) (put_numbers old.arena w)) (filter_map register_of (operands_at g (record { block = m.block; number = m.place })))
-        (registers.Result b n) (subst (λ (c : ℕ). Contains (map (λ number. registers.Result m.block number) (put_numbers old.arena w)) (registers.Result c n)) (sym same) (map_in (λ number. registers.Result m.block number) (put_numbers old.arena w) n came))))
+          (registers.Result b n) (subst (λ (c : ℕ). Contains (map (λ number. registers.Result m.block number) (put_numbers old.arena w)) (registers.Result c n)) (sym same) (map_in (λ number. registers.Result m.block number) (put_numbers old.arena w) n came))))
       | inl (stood, other) ↦ elim (less_often g few_then m.block m.place has_root (registers.Result b n)) [
         | inr among ↦ inr (fell_then (registers.Result b n) (Contains-append_right (map (λ number. registers.Result m.block number) (put_numbers old.arena w)) (filter_map register_of (operands_at g (record { block = m.block; number = m.place }))) (registers.Result b n) among))
         | inl enough ↦ inl (
-          let arenas = ap (times_in_function (registers.Result b n)) put.arena in
-          let more = put_more_often (registers.Result b n) old.arena m.block w.put in
-          let instead_of = replaced_as_often (registers.Result b n) (registers.Result m.block m.place) w.result other (with_put old.arena m.block w.put) in
-          omega arith)
+            let arenas = ap (times_in_function (registers.Result b n)) put.arena in
+            let more = put_more_often (registers.Result b n) old.arena m.block w.put in
+            let instead_of = replaced_as_often (registers.Result b n) (registers.Result m.block m.place) w.result other (with_put old.arena m.block w.put) in
+            omega arith)
       ]
     ]
 
@@ -337,9 +341,10 @@ module _ (stands_before : ReadsStandBefore) (old : Draft) (settled : IsSettled o
 
       pub are_touched : AreTouched old new places
       are_touched = λ b n stands out. elim (stood_or_put b n (stood_first mid new whole whole_now [] is b n stands)) [
-        | inr (same, came) ↦ absurd (out (has_put (record { block = b; number = n }) (subst (λ (l : List Place). Contains l (record { block = b; number = n })) (sym put.put)
-          (subst (λ (c : ℕ). Contains (map (λ number. record { block = m.block; number = number }) (put_numbers old.arena w)) (record { block = c; number = n })) (sym same)
-          (map_in (λ number. let q : Place = record { block = m.block; number = number } in q) (put_numbers old.arena w) n came)))))
+        | inr (same, came) ↦
+            let there : Contains (map (at_number m.block) (put_numbers old.arena w)) (at_number m.block n) = map_in (at_number m.block) (put_numbers old.arena w) n came in
+            let moved : Contains (map (at_number m.block) (put_numbers old.arena w)) (at_number b n) = subst (λ (c : ℕ). Contains (map (at_number m.block) (put_numbers old.arena w)) (at_number c n)) (sym same) there in
+            absurd (out (has_put (at_number b n) (subst (λ (l : List Place). Contains l (at_number b n)) (sym put.put) moved)))
         | inl (stood, other) ↦
             let (block, inst, is_block, here) = inst_there old.arena b n (stands_there old settled.whole b n stood) in
             let at : IsInst old.arena b n inst = record { block = block; is_block = is_block; is_inst = here } in

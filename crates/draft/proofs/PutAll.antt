@@ -47,7 +47,7 @@ changed_none k change [] same = refl
 changed_none {A = A} zero change (x ∷ xs) same = ap (λ (y : A). y ∷ xs) (same x)
 changed_none {A = A} (suc k) change (x ∷ xs) same = ap (λ (l : List A). x ∷ l) (changed_none k change xs same)
 
-append_none : {A : Type 0} (xs : List A) → xs ++ [] ≡ xs
+pub append_none : {A : Type 0} (xs : List A) → xs ++ [] ≡ xs
 append_none [] = refl
 append_none {A = A} (x ∷ xs) = ap (λ (l : List A). x ∷ l) (append_none xs)
 

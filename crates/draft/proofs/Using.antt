@@ -28,6 +28,7 @@ use Rattle.draft.specs.Whole.{IsWhole}
 use Rattle.draft.specs.declared.draft.Draft.{Draft}
 use Rattle.draft.specs.declared.draft.Place.{Place}
 use Rattle.draft.proofs.Changing.{changed_sum, inst_there}
+use Rattle.draft.proofs.Counting.{one_if}
 use Rattle.draft.proofs.Exchanging.{inst_differs}
 use Rattle.draft.proofs.Naming.{names_is}
 use Rattle.draft.proofs.Places.{AreFew, DiffersAt}
@@ -43,8 +44,8 @@ counted_contains r (x ∷ xs) some =
     elim (cases_Bool (names r x)) [
       | inl is ↦ subst (Contains (x ∷ xs)) (names_is r x is) (first_in x xs)
       | inr other ↦
-          let first : cond (names r x) 1 0 ≡ 0 = ap (λ c. cond c 1 0) other in
-          let counts = sum_by-cons (λ (a : Operand). cond (names r a) 1 0) x xs in
+          let first : one_if r x ≡ 0 = ap (λ c. cond c 1 0) other in
+          let counts = sum_by-cons (one_if r) x xs in
           later_in x xs (operands.Register r) (counted_contains r xs (λ none. some (omega (arith, none, first, counts))))
     ]
 

@@ -2,6 +2,7 @@
 
 ghost use Rattle.std.specs.Prelude.{◌≡◌, ◌+◌, ◌++◌, ◌∷◌, [], ◌↔◌, ◌⊎◌, ◌<◌, ℕ, List as Seq, length, Contains, IsTrue, IsFalse, false, slice_index_or, IfSome, IfNone, IfOk, OnOk};
 ghost use Rattle.ir_core.specs.declared.function.Function.{Function};
+ghost use Rattle.ir_core.specs.declared.operand.Operand.TheVariants as operands;
 ghost use Rattle.ir_core.specs.declared.operand.Register.{Register as Named};
 ghost use Rattle.needed.specs.Needed.{IsNeeded};
 ghost use Rattle.draft.specs.Cleaning.{AreRead, HaveInsts, IsCleaning, IsNeededWith, KeepsUses, ReadsGoUp, registers_read};
@@ -10,7 +11,8 @@ ghost use Rattle.draft.specs.Whole.{IsWhole};
 
 use crate::draft::{Draft, Place};
 use crate::rewriting::Rewritten;
-use ir_core::{Operand, Register};
+use crate::uses::is;
+use ir_core::Register;
 use needed::unneeded_insts;
 use std::alloc::{AllocError, Global};
 use use_counts::uses_of;
@@ -27,7 +29,7 @@ pub(crate) fn clean_draft(
 ) -> Result<Vec<Register>, AllocError>
     requires whole { IsWhole draft.old }
     requires waits { (b n : ℕ) → Stands draft.old b n → IsNeededWith draft.old.arena draft.old.fallen.items (Register.Result b n) }
-    requires result { (r : Named) → rewritten.now.result ≡ Operand.Register r → IsNeeded draft.old.arena r }
+    requires result { (r : Named) → rewritten.now.result ≡ operands.Register r → IsNeeded draft.old.arena r }
     requires read { AreRead draft.old draft.old.fallen.items }
     requires ordered { length draft.old.arena.blocks < 2 → ReadsGoUp draft.old }
     ensures whole { OnOk result (IsWhole draft.new) }
@@ -116,7 +118,7 @@ fn take_or_list(
 /// Whether each register, where its instruction stands, is seen to be needed.
 fn are_needed(draft: &Draft, rewritten: &Rewritten, used: &[Register]) -> bool
     requires whole { IsWhole draft.now }
-    requires result { (r : Named) → rewritten.now.result ≡ Operand.Register r → IsNeeded draft.now.arena r }
+    requires result { (r : Named) → rewritten.now.result ≡ operands.Register r → IsNeeded draft.now.arena r }
     ensures { IsTrue result → (b n : ℕ) → Contains used.now (Register.Result b n) → Stands draft.now b n → IsNeeded draft.now.arena (Register.Result b n) }
 {
     for register in used {
@@ -130,7 +132,7 @@ fn are_needed(draft: &Draft, rewritten: &Rewritten, used: &[Register]) -> bool
 /// Whether what was put leads from a register to what stands for the root's; or it has no instruction that stands.
 fn is_seen_needed(draft: &Draft, rewritten: &Rewritten, register: Register) -> bool
     requires whole { IsWhole draft.now }
-    requires result { (r : Named) → rewritten.now.result ≡ Operand.Register r → IsNeeded draft.now.arena r }
+    requires result { (r : Named) → rewritten.now.result ≡ operands.Register r → IsNeeded draft.now.arena r }
     ensures { IsTrue result → (b n : ℕ) → register ≡ Register.Result b n → Stands draft.now b n → IsNeeded draft.now.arena register }
 {
     if !is_standing(draft, register) {
@@ -138,14 +140,14 @@ fn is_seen_needed(draft: &Draft, rewritten: &Rewritten, register: Register) -> b
     }
     let mut here = register;
     for place in &rewritten.put {
-        if rewritten.result == Operand::Register(here) {
+        if is(rewritten.result, here) {
             return true;
         }
         if draft.reads(*place, here) {
             here = Register::Result(place.block, place.number);
         }
     }
-    rewritten.result == Operand::Register(here)
+    is(rewritten.result, here)
 }
 
 /// Whether the register is one of an instruction that stands.
@@ -185,7 +187,8 @@ fn take_unneeded(alloc: Global, draft: &mut Draft) -> Result<(), AllocError>
         → KeepsUses was draft.new (draft.new.fallen.items ++ fell)) }
 {
     let unneeded = unneeded_insts(alloc, draft.arena())?;
-    take_all(draft, unneeded.as_slice())
+    take_all(draft, unneeded.as_slice())?;
+    Ok(())
 }
 
 /// Takes out instructions that aren't needed, where they stand.

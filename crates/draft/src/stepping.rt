@@ -2,7 +2,6 @@
 
 ghost use Rattle.std.specs.Prelude.{ℕ, suc, All, Contains, IfOk, OnOk};
 ghost use Rattle.ir_core.specs.Checks.{MeetsChecks};
-ghost use Rattle.use_counts.specs.Uses.{IsUseCount};
 ghost use Rattle.ir_core.specs.declared.function.Function.{Function};
 ghost use Rattle.rule_core.specs.Checks.{IsRule};
 ghost use Rattle.rule_typing.specs.Faults.{HasNoFault};
@@ -10,6 +9,7 @@ ghost use Rattle.bindings.specs.Match.{IsMatch};
 ghost use Rattle.rewriter.specs.Applied.{IsRewritten};
 ghost use Rattle.needed.specs.Cleaned.{IsCleaned};
 ghost use Rattle.run_history.specs.Laws.{NumbersFit};
+ghost use Rattle.use_counts.specs.Uses.{IsUseCount};
 ghost use Rattle.draft.specs.Cleaning.{HaveInsts, IsClean};
 ghost use Rattle.draft.specs.Drafts.{AreTouched, HasRoomFor, arena_of, function_of, orders_of, placed_binding};
 ghost use Rattle.draft.specs.KeptOrders.{KeepsOrders};
@@ -74,11 +74,7 @@ pub fn step(
 }
 
 /// Puts the places of registers that are read by one operand alone behind others.
-fn push_used(
-    draft: &Draft,
-    places: &mut Vec<Place>,
-    used: &[Register],
-) -> Result<(), AllocError>
+fn push_used(draft: &Draft, places: &mut Vec<Place>, used: &[Register]) -> Result<(), AllocError>
     requires whole { IsWhole draft.now }
     requires used { HaveInsts draft.now used.now }
     ensures others { OnOk result ((p : Spot) → Contains places.old.items p → Contains places.new.items p) }
@@ -88,7 +84,7 @@ fn push_used(
 {
     for register in used {
         if let Register::Result(block, number) = *register {
-            if uses_of(&draft.facts.uses, *register) == 1 {
+            if uses_of(&draft.facts.uses, Register::Result(block, number)) == 1 {
                 places.push(Place { block, number })?;
             }
         }

@@ -351,7 +351,7 @@ fn reads(arena: &Function, place: Place, register: Register) -> bool
 }
 
 /// Whether an operand is the register.
-fn is(operand: Operand, register: Register) -> bool
+pub(crate) fn is(operand: Operand, register: Register) -> bool
     ensures { IsTrue result ↔ (operand ≡ Operand.Register register) }
 {
     operand == Operand::Register(register)

@@ -35,10 +35,10 @@ loop-block-preserved c =
           let un : ¬ IsNeeded old.arena (registers.Result (get_or c.args.unneeded.now c.loop-block.block-index (0, 0)).0 (get_or c.args.unneeded.now c.loop-block.block-index (0, 0)).1) =
           c.requires.unneeded (get_or c.args.unneeded.now c.loop-block.block-index (0, 0)).0 (get_or c.args.unneeded.now c.loop-block.block-index (0, 0)).1 (Contains-get_or all index (0, 0) c.loop-block-test.true) in
           rw w.draft-is (record {
-            less = one_less old now new h.less b n stands un e.arena e.numbers e.fell e.whole e.orders;
+            less = one_less old now new h.less b n stands un e.arena e.numbers e.fallen e.whole e.orders;
             gone = All-more (λ (p : ℕ × ℕ). ¬ Stands new p.0 p.1) all index (0, 0) c.loop-block-test.true
-                (All-weaker (λ (p : ℕ × ℕ). ¬ Stands now p.0 p.1) (λ (p : ℕ × ℕ). ¬ Stands new p.0 p.1) (λ q gone there. gone (stood_other old now new h.less b n stands un e.arena e.numbers e.fell q.0 q.1 there).0) (take index all) h.gone)
-                (λ there. (stood_other old now new h.less b n stands un e.arena e.numbers e.fell b n there).1 (refl, refl));
+                (All-weaker (λ (p : ℕ × ℕ). ¬ Stands now p.0 p.1) (λ (p : ℕ × ℕ). ¬ Stands new p.0 p.1) (λ q gone there. gone (stood_other old now new h.less b n stands un e.arena e.numbers e.fallen q.0 q.1 there).0) (take index all) h.gone)
+                (λ there. (stood_other old now new h.less b n stands un e.arena e.numbers e.fallen b n there).1 (refl, refl));
           })
       | else-is_standing w ↦ rw w.draft-is (record {
         less = h.less;

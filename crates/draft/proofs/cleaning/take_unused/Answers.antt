@@ -44,7 +44,7 @@ returns-clause-cleaning c = λ f rows is.
     let used = c.loop-register.used.items in
     let n = c.next_fallen.ensures in
     now_cleaning now c.next_fallen.new.draft n.arena n.numbers f rows used
-    (subst (λ (l : List Register). IsCleaning f rows now.arena (numbers_of now) (l ++ used)) c.in-None.ensures.none.0 (c.loop-register.invariant.cleaning f rows is))
+    (subst (λ (l : List Register). IsCleaning f rows now.arena (numbers_of now) (l ++ used)) c.in_default.ensures.none.0 (c.loop-register.invariant.cleaning f rows is))
 
 pub returns-clause-used : goal.returns-clause-used
 returns-clause-used c = λ had. now_have c.loop-register.draft c.next_fallen.new.draft c.next_fallen.ensures.arena c.loop-register.used.items (c.loop-register.invariant.used had)
@@ -55,10 +55,10 @@ returns-clause-reads c = λ was keeps.
     let used = c.loop-register.used.items in
     let n = c.next_fallen.ensures in
     now_keeps was now c.next_fallen.new.draft n.arena n.numbers used
-    (subst (λ (l : List Register). KeepsUses was now (l ++ used)) c.in-None.ensures.none.0 (c.loop-register.invariant.reads was keeps))
+    (subst (λ (l : List Register). KeepsUses was now (l ++ used)) c.in_default.ensures.none.0 (c.loop-register.invariant.reads was keeps))
 
 pub returns-clause-read : goal.returns-clause-read
 returns-clause-read c = λ are.
     let now = c.loop-register.draft in
     let n = c.next_fallen.ensures in
-    now_read now c.next_fallen.new.draft n.arena n.numbers [] (subst (AreRead now) c.in-None.ensures.none.0 (c.loop-register.invariant.read are))
+    now_read now c.next_fallen.new.draft n.arena n.numbers [] (subst (AreRead now) c.in_default.ensures.none.0 (c.loop-register.invariant.read are))

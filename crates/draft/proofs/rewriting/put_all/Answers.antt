@@ -1,13 +1,14 @@
-use Rattle.std.proofs.Common.{◌≡◌, List, [], ◌∷◌, ◌++◌, sym, subst, ◌∙◌, append_assoc}
+use Rattle.std.proofs.Common.{◌≡◌, List, [], ◌∷◌, ◌++◌, sym, ap, subst, ◌∙◌, append_assoc, arith}
+use Rattle.std.proofs.lemmas.List.{nil_from_length}
 use Rattle.std.specs.Vec.Iter.{into_iter_items}
 use Rattle.ir_core.specs.declared.instruction.Inst.{Inst}
 use Rattle.draft.specs.declared.draft.Place.{Place}
-use Rattle.draft.proofs.PutAll.{ArePut, next_known, next_room, none_put, put_more, still_stands}
+use Rattle.draft.proofs.PutAll.{ArePut, append_none, next_known, next_room, none_put, put_more, still_stands}
 use Rattle.draft.proofs.rewriting.put_all.Goals as goal
 
 pub loop-inst-init : goal.loop-inst-init
 loop-inst-init c = record {
-  so_far = none_put c.args.draft.now c.args.at c.requires.whole;
+  so_far = subst (λ (p : List Place). ArePut c.args.draft.now c.args.draft.now c.args.at [] p) (sym c.new-put.ensures.items) (none_put c.args.draft.now c.args.at c.requires.whole);
   left = c.into_iter-inst-iterator.ensures.into_iter_gives.0;
 }
 
@@ -40,4 +41,17 @@ loop-inst-preserved c =
     }
 
 pub returns : goal.returns
-returns c = ?
+returns c =
+    let l = c.loop-inst in
+    let none : into_iter_items c.loop-inst.inst-iterator ≡ [] = nil_from_length _ (omega (arith, c.in-None.ensures.steps.0, c.loop-inst.inst-iterator.rest.ok.0)) in
+    let all : c.loop-inst.yielded ≡ c.args.insts.items = sym (append_none l.yielded) ∙ (ap (λ (rest : List Inst). l.yielded ++ rest) (sym none) ∙ l.invariant.left) in
+    let done : ArePut c.args.draft.now c.loop-inst.draft c.args.at c.args.insts.items c.loop-inst.put.items =
+    subst (λ (insts : List Inst). ArePut c.args.draft.now c.loop-inst.draft c.args.at insts c.loop-inst.put.items) all l.invariant.so_far in
+    record {
+      whole = done.whole;
+      put = done.told;
+      fell = done.fell;
+      orders = done.orders;
+      arena = done.arena;
+      numbers = done.numbers;
+    }

@@ -1,5 +1,6 @@
 use Rattle.std.proofs.Common.{◌≡◌, ℕ, suc, inl, inr, List, [], ◌∷◌, ◌++◌, All, Contains, sym, ap, subst, ◌∙◌}
 use Rattle.std.proofs.lemmas.List.Elements.{All-append, All-push, Contains-append_left, Contains-append_right, Contains-push}
+use Rattle.ir_core.specs.declared.operand.Register.{Register}
 use Rattle.ir_core.specs.declared.operand.Register.TheVariants as registers
 use Rattle.draft.specs.Cleaning.{KeepsUses}
 use Rattle.draft.specs.Drafts.{function_of, orders_of}
@@ -9,6 +10,7 @@ use Rattle.draft.specs.declared.draft.Place.{Place}
 use Rattle.draft.proofs.Room.{room_stays}
 use Rattle.draft.proofs.Settled.{is_clean, is_cleaned, is_settled}
 use Rattle.draft.proofs.OneStep.{are_read, are_touched, bound, go_up, good_then, is_rewritten, keeps_then, put_places, readable, replaced_places, result_is_needed, result_readable, room_then, root_inst, root_is, root_place, root_stands, waits}
+use Rattle.draft.proofs.Touching.{all_among, put_among, replaced_among, root_among}
 use Rattle.draft.proofs.stepping.step.Goals as goal
 
 pub rewrite_draft-requires-clause-bound : goal.rewrite_draft-requires-clause-bound
@@ -80,11 +82,31 @@ pub returns-clause-orders : goal.returns-clause-orders
 returns-clause-orders c =
     subst (KeepsOrders (orders_of c.args.draft.now)) (sym c.in_ok-used.ensures.orders) c.in_ok-rewritten.ensures.orders
 
+pub push_used-requires-clause-used : goal.push_used-requires-clause-used
+push_used-requires-clause-used c = λ b n has. c.in_ok-used.ensures.used b n (subst (λ (l : List Register). Contains l (registers.Result b n)) c.as_slice-2.ensures.value has)
+
 pub returns-clause-touched : goal.returns-clause-touched
-returns-clause-touched c = ?
+returns-clause-touched c =
+    let root : Place = record { block = c.args.binding.now.block; number = c.args.binding.now.place } in
+    let r = root_is c.reads_of_a_block_stand_before.ensures c.args.draft.now c.requires.settled c.args.rule.now c.args.binding.now c.requires.checks c.requires.rule c.requires.matches in
+    let p = c.in_ok-rewritten.ensures.rewritten (root_inst c.reads_of_a_block_stand_before.ensures c.args.draft.now c.requires.settled c.args.rule.now c.args.binding.now c.requires.checks c.requires.rule c.requires.matches) r in
+    are_touched c.reads_of_a_block_stand_before.ensures c.args.draft.now c.requires.settled c.args.rule.now c.args.binding.now c.requires.checks c.requires.rule c.requires.matches c.rewrite_draft.new.draft c.in_ok-rewritten.ensures.whole c.in_ok-rewritten.rewritten p c.requires.clean c.clean_draft.new.draft c.in_ok-used.ensures.whole c.in_ok-used.ensures.cleaned c.in_ok-used.used.items
+    (c.in_ok-used.ensures.reads c.args.draft.now (keeps_then c.reads_of_a_block_stand_before.ensures c.args.draft.now c.requires.settled c.args.rule.now c.args.binding.now c.requires.checks c.requires.rule c.requires.matches c.rewrite_draft.new.draft c.in_ok-rewritten.ensures.whole c.in_ok-rewritten.rewritten p)) c.push_used.new.places.items
+    (put_among c.in_ok-rewritten.rewritten.put.items c.in_ok-rewritten.rewritten.replaced.items c.as_slice.result.now c.push.new.self.items c.extend_from_slice.new.self.items c.push_used.new.places.items root c.in_ok-push.ensures.items c.in_ok-extend_from_slice.ensures.items c.as_slice.ensures.value c.in_ok-push_used.ensures.others)
+    (replaced_among c.in_ok-rewritten.rewritten.put.items c.in_ok-rewritten.rewritten.replaced.items c.as_slice.result.now c.push.new.self.items c.extend_from_slice.new.self.items c.push_used.new.places.items root c.in_ok-push.ensures.items c.in_ok-extend_from_slice.ensures.items c.as_slice.ensures.value c.in_ok-push_used.ensures.others)
+    (λ b n among once. c.in_ok-push_used.ensures.used b n (subst (λ (l : List Register). Contains l (registers.Result b n)) (sym c.as_slice-2.ensures.value) among) once)
 
 pub returns-clause-root : goal.returns-clause-root
-returns-clause-root c = ?
+returns-clause-root c =
+    let root : Place = record { block = c.args.binding.now.block; number = c.args.binding.now.place } in
+    root_among c.in_ok-rewritten.rewritten.put.items c.in_ok-rewritten.rewritten.replaced.items c.as_slice.result.now c.push.new.self.items c.extend_from_slice.new.self.items c.push_used.new.places.items root c.in_ok-push.ensures.items c.in_ok-extend_from_slice.ensures.items c.as_slice.ensures.value c.in_ok-push_used.ensures.others
 
 pub returns-clause-places : goal.returns-clause-places
-returns-clause-places c = ?
+returns-clause-places c =
+    let root : Place = record { block = c.args.binding.now.block; number = c.args.binding.now.place } in
+    let r = root_is c.reads_of_a_block_stand_before.ensures c.args.draft.now c.requires.settled c.args.rule.now c.args.binding.now c.requires.checks c.requires.rule c.requires.matches in
+    let p = c.in_ok-rewritten.ensures.rewritten (root_inst c.reads_of_a_block_stand_before.ensures c.args.draft.now c.requires.settled c.args.rule.now c.args.binding.now c.requires.checks c.requires.rule c.requires.matches) r in
+    c.in_ok-push_used.ensures.places (all_among c.in_ok-rewritten.rewritten.put.items c.in_ok-rewritten.rewritten.replaced.items c.as_slice.result.now c.push.new.self.items c.extend_from_slice.new.self.items c.push_used.new.places.items root c.in_ok-push.ensures.items c.in_ok-extend_from_slice.ensures.items c.as_slice.ensures.value c.in_ok-push_used.ensures.others (IsPlaceIn c.clean_draft.new.draft.arena)
+    (put_places c.reads_of_a_block_stand_before.ensures c.args.draft.now c.requires.settled c.args.rule.now c.args.binding.now c.requires.checks c.requires.rule c.requires.matches c.rewrite_draft.new.draft c.in_ok-rewritten.ensures.whole c.in_ok-rewritten.rewritten p c.clean_draft.new.draft c.in_ok-used.ensures.whole c.in_ok-used.ensures.orders)
+    (root_place c.reads_of_a_block_stand_before.ensures c.args.draft.now c.requires.settled c.args.rule.now c.args.binding.now c.requires.checks c.requires.rule c.requires.matches c.rewrite_draft.new.draft c.in_ok-rewritten.ensures.whole c.in_ok-rewritten.rewritten p c.clean_draft.new.draft c.in_ok-used.ensures.whole c.in_ok-used.ensures.orders)
+    (replaced_places c.reads_of_a_block_stand_before.ensures c.args.draft.now c.requires.settled c.args.rule.now c.args.binding.now c.requires.checks c.requires.rule c.requires.matches c.rewrite_draft.new.draft c.in_ok-rewritten.ensures.whole c.in_ok-rewritten.rewritten p c.clean_draft.new.draft c.in_ok-used.ensures.whole c.in_ok-used.ensures.orders))
