@@ -1,8 +1,7 @@
 -- A draft stays whole where what is read at one place of its arena is changed.
-use Rattle.std.proofs.Common.{◌≡◌, ◌⊎◌, inl, inr, ℕ, ◌+◌, ◌<◌, ◌≤◌, ◌^◌, Bool, true, false, List, [], ◌∷◌, length, get_or, slice_set, Some, All, refl, sym, ap, subst, ◌∙◌, arith, get_or-set_other, get_or-set_same}
+use Rattle.std.proofs.Common.{◌≡◌, ◌⊎◌, inl, inr, ℕ, ◌<◌, Bool, false, List, [], ◌∷◌, length, get_or, slice_set, Some, sym, ap, subst, ◌∙◌, arith, get_or-set_other, get_or-set_same}
 use Rattle.std.specs.Prelude.{Contains, slice_get}
 use Rattle.std.proofs.lemmas.List.{length-set}
-use Rattle.std.proofs.lemmas.List.Elements.{All-contains}
 use Rattle.std.proofs.lemmas.Option.{slice_get_within}
 use Rattle.ir_core.specs.Blocks.{IsBlock}
 use Rattle.ir_core.specs.Checks.{IsKnown}
@@ -22,7 +21,6 @@ use Rattle.draft.proofs.Changing.{changed_length}
 use Rattle.draft.proofs.Counting.{only_one}
 use Rattle.draft.proofs.Exchanging.{block_cases, inst_count, inst_differs, read_now, still_few}
 use Rattle.draft.proofs.Places.{AreFew, DiffersAt, IsListedToo, reads_known, still_facts, still_known, still_readers}
-use Rattle.draft.proofs.Rows.{marked}
 use Rattle.draft.proofs.Wholeness.{all_known, few_insts, rows_less}
 
 -- what else was done where one place was changed: its old operands are counted no more, its new ones are, and it is listed for them

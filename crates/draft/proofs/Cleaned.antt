@@ -1,8 +1,6 @@
 -- A draft of which exactly what isn't needed was taken out has as its function the cleaned one.
-use Rattle.std.proofs.Common.{◌≡◌, ℕ, Bool, true, ◌↔◌, List, [], refl, sym, subst}
-use Rattle.std.specs.Prelude.{Contains, slice_get, slice_index_or}
-use Rattle.std.specs.List.{filter}
-use Rattle.ir_core.specs.Blocks.{IsBlock}
+use Rattle.std.proofs.Common.{◌≡◌, ℕ, true, ◌↔◌, List, [], refl, sym, subst}
+use Rattle.std.specs.Prelude.{Contains, slice_index_or}
 use Rattle.ir_core.specs.Reads.{end_of}
 use Rattle.ir_core.specs.declared.function.Function.{Function}
 use Rattle.ir_core.specs.declared.operand.Operand.{Operand}
@@ -11,7 +9,7 @@ use Rattle.ir_core.specs.declared.operand.Register.TheVariants as registers
 use Rattle.needed.specs.Cleaned.{IsCleaned}
 use Rattle.needed.specs.Needed.{IsNeeded, by_end, by_inst, ReadsRegister}
 use Rattle.needed.specs.Operands.{operands_of, operands_at_end}
-use Rattle.draft.specs.Cleaning.{IsCleaning, IsLeft}
+use Rattle.draft.specs.Cleaning.{IsCleaning}
 use Rattle.draft.proofs.Leaving.{ReadsStay, StaysIn, function_at, left_is, left_row, marks_of}
 use Rattle.draft.proofs.Living.{needed_alone}
 use Rattle.draft.proofs.Needing.{AreRows, keeps_needed, row_is}

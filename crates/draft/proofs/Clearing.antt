@@ -1,9 +1,8 @@
 -- When a draft is clean: all that is left of it is needed.
-use Rattle.std.proofs.Common.{◌≡◌, ℕ, ◌<◌, Bool, true, cond, ◌⊎◌, inl, inr, List, [], ◌∷◌, ◌++◌, length, Option, None, Some, refl, sym, ap, subst, ◌∙◌, arith}
-use Rattle.std.specs.Prelude.{Contains, slice_get, slice_index_or}
+use Rattle.std.proofs.Common.{◌≡◌, ℕ, ◌<◌, Bool, true, cond, inl, inr, List, [], ◌++◌, length, Option, None, Some, sym, ap, subst, ◌∙◌, arith}
+use Rattle.std.specs.Prelude.{Contains, slice_get}
 use Rattle.std.proofs.lemmas.Bool.{cases_eq, eq-eqb, ne_eqb}
-use Rattle.std.proofs.lemmas.Option.{same_Some, slice_get_within}
-use Rattle.ir_core.specs.Blocks.{HasInst, IsBlock}
+use Rattle.std.proofs.lemmas.Option.{same_Some}
 use Rattle.ir_core.specs.Checks.{IsInst}
 use Rattle.ir_core.specs.Reads.{end_of}
 use Rattle.ir_core.specs.declared.function.Block.{Block}

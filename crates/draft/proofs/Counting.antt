@@ -1,8 +1,7 @@
 -- How tables of counts change with the operands that are counted.
-use Rattle.std.proofs.Common.{◌≡◌, ◌↔◌, inl, inr, ℕ, ◌+◌, ◌<◌, ◌≤◌, Bool, true, false, cond, List, [], ◌∷◌, length, get_or, take, refl, sym, ap, subst, ◌∙◌, arith}
+use Rattle.std.proofs.Common.{◌≡◌, inl, inr, ℕ, ◌+◌, ◌<◌, ◌≤◌, cond, List, [], ◌∷◌, length, get_or, take, sym, ap, subst, ◌∙◌, arith}
 use Rattle.std.specs.Prelude.{Contains}
-use Rattle.std.proofs.lemmas.Bool.{cases_Bool, cond-true, cond-false}
-use Rattle.std.proofs.lemmas.List.{take_more}
+use Rattle.std.proofs.lemmas.Bool.{cond-true, cond-false}
 use Rattle.std.proofs.lemmas.List.Elements.{Contains-get_or}
 use Rattle.std.proofs.lemmas.List.Sums.{sum_by-cons, sum_by_more, sum_by_more_le}
 use Rattle.ir_core.specs.declared.operand.Operand.{Operand}
@@ -11,7 +10,7 @@ use Rattle.ir_core.specs.declared.operand.Register.{Register}
 use Rattle.use_counts.specs.Tables.{HasNumber, count_of}
 use Rattle.use_counts.specs.declared.uses.Uses.{Uses}
 use Rattle.draft.specs.Counts.{AreCounted, HasNumbers, IsSetTo, names, times}
-use Rattle.draft.proofs.Naming.{is_same_register, names_is, names_not, names_self}
+use Rattle.draft.proofs.Naming.{is_same_register, names_not, names_self}
 
 abbrev pub one_if : Register → Operand → ℕ
 one_if r a = cond (names r a) 1 0

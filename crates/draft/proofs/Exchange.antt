@@ -1,8 +1,8 @@
 -- What the parts of an exchange and of a removal ask for.
-use Rattle.std.proofs.Common.{◌≡◌, ◌⊎◌, inl, inr, ℕ, ◌+◌, ◌<◌, ◌≤◌, ◌^◌, List, [], ◌∷◌, length, get_or, Some, All, refl, sym, ap, subst, ◌∙◌, arith}
-use Rattle.std.specs.Prelude.{Contains, slice_get}
+use Rattle.std.proofs.Common.{◌≡◌, inl, ◌<◌, ◌≤◌, ◌^◌, List, length, All, ap}
+use Rattle.std.specs.Prelude.{Contains}
 use Rattle.std.proofs.lemmas.List.Elements.{All-contains}
-use Rattle.ir_core.specs.Blocks.{HasInst, IsBlock}
+use Rattle.ir_core.specs.Blocks.{HasInst}
 use Rattle.ir_core.specs.Checks.{IsKnown}
 use Rattle.ir_core.specs.declared.function.Block.{Block}
 use Rattle.ir_core.specs.declared.function.Function.{Function}
@@ -11,19 +11,18 @@ use Rattle.ir_core.specs.declared.operand.Operand.{Operand}
 use Rattle.ir_core.specs.declared.operand.Operand.TheVariants as operands
 use Rattle.ir_core.specs.declared.operand.Register.{Register}
 use Rattle.needed.specs.Operands.{operands_of}
-use Rattle.use_counts.specs.Tables.{HasNumber, count_of}
+use Rattle.use_counts.specs.Tables.{count_of}
 use Rattle.use_counts.specs.declared.uses.Uses.{Uses}
 use Rattle.draft.specs.Changes.{changed_at, inst_changed}
 use Rattle.draft.specs.Counts.{AreCounted, HasNumbers, operands_at, times}
-use Rattle.draft.specs.Readers.{AreListed, HaveLists, IsPlaceIn}
+use Rattle.draft.specs.Readers.{HaveLists, IsPlaceIn}
 use Rattle.draft.specs.Whole.{IsWhole}
 use Rattle.draft.specs.declared.draft.Draft.{Draft}
 use Rattle.draft.specs.declared.draft.Place.{Place}
-use Rattle.draft.specs.declared.uses.Readers.{Readers}
-use Rattle.draft.proofs.Changed.{IsRecounted, few, reads_are_known}
+use Rattle.draft.proofs.Changed.{few, reads_are_known}
 use Rattle.draft.proofs.Changing.{inst_there}
-use Rattle.draft.proofs.Places.{few_counted, listed_too, numbers_for, times_counted}
-use Rattle.draft.proofs.Wholeness.{all_known, few_insts, stands_there}
+use Rattle.draft.proofs.Places.{few_counted, numbers_for, times_counted}
+use Rattle.draft.proofs.Wholeness.{all_known, few_insts}
 
 -- a draft with other blocks in its arena
 abbrev pub with_blocks : Draft → List Block → Draft

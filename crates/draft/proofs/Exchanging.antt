@@ -1,19 +1,17 @@
 -- Arenas in which an instruction or a terminator is another.
-use Rattle.std.proofs.Common.{◌≡◌, ◌⊎◌, ◌↔◌, inl, inr, ℕ, zero, suc, ◌+◌, ◌<◌, ◌≤◌, List, [], ◌∷◌, length, get_or, Some, map, refl, sym, ap, subst, ◌∙◌, arith}
-use Rattle.std.specs.Prelude.{Contains, slice_get, sum_by}
+use Rattle.std.proofs.Common.{◌≡◌, ◌⊎◌, ◌↔◌, inl, inr, ℕ, zero, suc, ◌+◌, ◌<◌, List, [], ◌∷◌, length, Some, map, refl, sym, ap, subst, ◌∙◌, arith}
+use Rattle.std.specs.Prelude.{slice_get}
 use Rattle.std.proofs.lemmas.Bool.{cases_eq}
 use Rattle.std.proofs.lemmas.Option.{same_Some, slice_get_cases, slice_get_within}
-use Rattle.assigned_flow.specs.Successors.{successors_of}
-use Rattle.ir_core.specs.Blocks.{HasInst, IsBlock, targets_of}
+use Rattle.ir_core.specs.Blocks.{IsBlock, targets_of}
 use Rattle.ir_core.specs.declared.function.Block.{Block}
 use Rattle.ir_core.specs.declared.function.Function.{Function}
 use Rattle.ir_core.specs.declared.instruction.Inst.{Inst}
-use Rattle.ir_core.specs.declared.operand.Operand.{Operand}
 use Rattle.ir_core.specs.declared.operand.Register.{Register}
 use Rattle.ir_core.specs.declared.terminator.Terminator.{Terminator}
 use Rattle.needed.specs.Operands.{operands_of, operands_at_end}
 use Rattle.draft.specs.Changes.{changed_at, end_changed, inst_changed, with_block}
-use Rattle.draft.specs.Counts.{operands_at, times, times_in, times_in_function}
+use Rattle.draft.specs.Counts.{operands_at, times, times_in}
 use Rattle.draft.specs.Orders.{none}
 use Rattle.draft.specs.Readers.{IsPlaceIn}
 use Rattle.draft.specs.declared.draft.Place.{Place}

@@ -1,5 +1,5 @@
 -- An arena with what is put in it, and an operand that stands for the root's register.
-use Rattle.std.proofs.Common.{◌≡◌, ◌≢◌, ℕ, ◌<◌, ◌⊎◌, inl, inr, true, false, cond, List, [], ◌∷◌, ◌++◌, length, map, Option, None, Some, refl, sym, ap, subst, ◌∙◌, arith}
+use Rattle.std.proofs.Common.{◌≡◌, ◌≢◌, ℕ, ◌⊎◌, inl, inr, cond, List, ◌∷◌, ◌++◌, map, Some, refl, sym, ap, subst, ◌∙◌}
 use Rattle.std.specs.Prelude.{Contains, slice_get, option_map}
 use Rattle.std.proofs.lemmas.Bool.{cases_eq}
 use Rattle.std.proofs.lemmas.Option.{slice_get-map}
@@ -12,15 +12,15 @@ use Rattle.ir_core.specs.declared.operand.Operand.{Operand}
 use Rattle.ir_core.specs.declared.operand.Operand.TheVariants as operands
 use Rattle.ir_core.specs.declared.operand.Register.{Register}
 use Rattle.ir_core.specs.declared.operand.Register.TheVariants as registers
-use Rattle.ir_meaning.proofs.Pieces.{first_in, later_in}
+use Rattle.ir_meaning.proofs.Pieces.{first_in}
 use Rattle.needed.specs.Needed.{IsNeeded, by_end, by_inst, ReadsRegister}
 use Rattle.needed.specs.Operands.{operands_of, operands_at_end}
 use Rattle.substitution.specs.Substitution.{Substitution, substituted_block, substituted_inst, substituted_operand}
 use Rattle.substitution.proofs.Pieces.{get_left, in_map, map_in, mapped}
-use Rattle.draft.specs.Changes.{changed_at, instead, replaced, same_register, taken_out}
+use Rattle.draft.specs.Changes.{changed_at, instead, replaced, taken_out}
 use Rattle.draft.specs.Cleaning.{IsNeededWith, ends, reads, is_one}
 use Rattle.draft.specs.Rewriting.{with_put}
-use Rattle.draft.proofs.Living.{IsSilenced, needed_stays}
+use Rattle.draft.proofs.Living.{needed_stays}
 use Rattle.draft.proofs.Mapping.{end_substituted, operands_substituted}
 use Rattle.draft.proofs.Naming.{is_same_register, other_register, same_register_self}
 use Rattle.draft.proofs.OneChange.{changed_here, changed_other}

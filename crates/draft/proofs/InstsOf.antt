@@ -1,13 +1,12 @@
 -- The instructions of a function by their places: those of the numbers that stand.
-use Rattle.std.proofs.Common.{◌≡◌, ℕ, zero, suc, ◌<◌, List, [], ◌∷◌, ◌++◌, length, map, Option, None, Some, refl, sym, ap, subst, ◌∙◌, arith}
-use Rattle.std.specs.Prelude.{Contains, slice_get, option_map, option_to_list}
+use Rattle.std.proofs.Common.{◌≡◌, ℕ, zero, suc, ◌<◌, List, [], ◌∷◌, ◌++◌, length, map, Option, None, Some, refl, sym, ap, ◌∙◌}
+use Rattle.std.specs.Prelude.{Contains, slice_get, option_to_list}
 use Rattle.std.proofs.lemmas.Option.{same_Some}
 use Rattle.ir_core.specs.declared.function.Block.{Block}
-use Rattle.ir_core.specs.declared.function.Function.{Function}
 use Rattle.ir_core.specs.declared.instruction.Inst.{Inst}
-use Rattle.ir_meaning.proofs.Pieces.{contains_at, first_in, later_in, some_at}
+use Rattle.ir_meaning.proofs.Pieces.{first_in, later_in, some_at}
 use Rattle.substitution.specs.Substitution.{Substitution, substituted_inst}
-use Rattle.draft.specs.Drafts.{insts_of, block_of, blocks_of, placed}
+use Rattle.draft.specs.Drafts.{insts_of, block_of, blocks_of}
 
 -- what two options give together
 abbrev pub both : {A B C : Type 0} → (A → B → C) → Option A → Option B → Option C

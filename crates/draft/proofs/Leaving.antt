@@ -1,28 +1,27 @@
 -- A draft of which instructions are taken out has as its function what is kept.
-use Rattle.std.proofs.Common.{◌≡◌, ℕ, zero, suc, ◌+◌, ◌<◌, Bool, true, false, cond, List, [], ◌∷◌, ◌++◌, length, get_or, Option, None, Some, refl, sym, ap, subst, ◌∙◌, arith}
+use Rattle.std.proofs.Common.{◌≡◌, ℕ, suc, ◌+◌, Bool, true, false, cond, List, [], ◌∷◌, Option, None, Some, refl, sym, ap, ◌∙◌, arith}
 use Rattle.std.specs.Prelude.{Contains, slice_get, slice_index_or, option_map, unwrap_or}
 use Rattle.std.specs.List.{filter}
-use Rattle.std.proofs.lemmas.Option.{same_Some, unwrap_or-slice_get}
+use Rattle.std.proofs.lemmas.Option.{unwrap_or-slice_get}
 use Rattle.ir_core.specs.Blocks.{IsBlock}
 use Rattle.ir_core.specs.declared.function.Block.{Block}
 use Rattle.ir_core.specs.declared.function.Function.{Function}
 use Rattle.ir_core.specs.declared.instruction.Inst.{Inst}
 use Rattle.ir_core.specs.declared.operand.Operand.{Operand}
 use Rattle.ir_core.specs.declared.operand.Operand.TheVariants as operands
-use Rattle.ir_core.specs.declared.operand.Register.{Register}
 use Rattle.ir_core.specs.declared.operand.Register.TheVariants as registers
 use Rattle.ir_meaning.proofs.Pieces.{first_in, later_in, some_at}
 use Rattle.needed.specs.KeptFunction.{KeptMarks, kept_before, kept_block, kept_blocks, kept_first, kept_function, kept_insts, moved_inst, moved_operand}
 use Rattle.needed.specs.Operands.{operands_of, operands_at_end}
 use Rattle.needed.proofs.Counting.{get-block}
-use Rattle.substitution.specs.Substitution.{Substitution, substituted_end, substituted_inst, substituted_operand}
+use Rattle.substitution.specs.Substitution.{substituted_end, substituted_inst, substituted_operand}
 use Rattle.draft.specs.Cleaning.{AreLeft, IsBlockLeft, IsLeft}
 use Rattle.draft.specs.Drafts.{block_of, blocks_of, insts_of, placed}
 use Rattle.draft.specs.Orders.{place_in}
 use Rattle.draft.proofs.OneChange.{same_items}
 use Rattle.draft.proofs.Equal.{block_same, function_same}
-use Rattle.draft.proofs.Mapping.{Agree, moved_end_is_at, moved_inst_is_at}
-use Rattle.draft.proofs.RowPlaces.{IsIn, Marks, is_in, marks_here, marks_later, place_kept}
+use Rattle.draft.proofs.Mapping.{moved_end_is_at, moved_inst_is_at}
+use Rattle.draft.proofs.RowPlaces.{Marks, is_in, marks_here, marks_later, place_kept}
 use Rattle.draft.proofs.InstsOf.{AreNumbersOf, both, get_blocks, insts_more, rest_numbers}
 
 -- the function of these instructions and numbers

@@ -1,13 +1,12 @@
 -- A draft of which instructions that aren't needed are taken out.
-use Rattle.std.proofs.Common.{◌≡◌, ℕ, ◌⊎◌, inl, inr, List, [], ◌∷◌, ◌++◌, refl, sym, subst, ◌∙◌}
-use Rattle.std.specs.Prelude.{Contains, slice_index_or}
+use Rattle.std.proofs.Common.{◌≡◌, ℕ, inl, List, [], ◌++◌, refl, sym, subst, ◌∙◌}
 use Rattle.std.specs.List.{filter_map}
 use Rattle.std.proofs.lemmas.List.Elements.{Contains-append_right}
 use Rattle.ir_core.specs.Blocks.{HasInst}
 use Rattle.ir_core.specs.declared.function.Function.{Function}
 use Rattle.ir_core.specs.declared.operand.Register.{Register}
 use Rattle.ir_core.specs.declared.operand.Register.TheVariants as registers
-use Rattle.needed.specs.Needed.{IsNeeded, ReadsRegister}
+use Rattle.needed.specs.Needed.{IsNeeded}
 use Rattle.draft.specs.Changes.{changed_at, taken_out, without}
 use Rattle.draft.specs.Cleaning.{IsCleaning, KeepsUses}
 use Rattle.draft.specs.Counts.{operands_at, register_of}

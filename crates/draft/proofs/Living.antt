@@ -1,5 +1,5 @@
 -- What is needed, or would be, where an instruction reads nothing any more.
-use Rattle.std.proofs.Common.{◌≡◌, ℕ, ◌<◌, ◌⊎◌, inl, inr, List, [], ◌∷◌, sym, ap, subst, arith}
+use Rattle.std.proofs.Common.{◌≡◌, ℕ, ◌<◌, ◌⊎◌, inl, inr, List, [], sym, subst, arith}
 use Rattle.std.specs.Prelude.{Contains}
 use Rattle.ir_core.specs.Reads.{end_of}
 use Rattle.ir_core.specs.declared.function.Function.{Function}

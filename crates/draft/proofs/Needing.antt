@@ -22,7 +22,7 @@ use Rattle.draft.specs.Orders.{place_in}
 use Rattle.draft.proofs.Leaving.{function_at, marks_of}
 use Rattle.draft.proofs.Mapping.{end_substituted, operands_substituted}
 use Rattle.draft.proofs.WhoReads.{EndReads, InstReads, end_of-is, end_reads_it, inst_reads_it, who}
-use Rattle.draft.proofs.RowPlaces.{IsIn, at_place, is_in, one_place}
+use Rattle.draft.proofs.RowPlaces.{at_place, is_in, one_place}
 use Rattle.draft.proofs.InstsOf.{AreNumbersOf, both, get_blocks, inst_at, inst_from, length-insts_of}
 
 -- a register that is named by its number, by its place

@@ -1,5 +1,5 @@
 -- A rule that matches in a draft's function is applied to it by what it puts in the arena.
-use Rattle.std.proofs.Common.{◌≡◌, ◌≢◌, ℕ, zero, suc, ◌+◌, ◌-◌, ◌<◌, ◌≤◌, ◌⊎◌, inl, inr, true, false, cond, not, List, [], ◌∷◌, ◌++◌, length, map, Option, None, Some, refl, sym, ap, subst, ◌∙◌, arith}
+use Rattle.std.proofs.Common.{◌≡◌, ◌≢◌, ℕ, zero, suc, ◌+◌, ◌-◌, ◌<◌, ◌≤◌, inl, inr, cond, not, List, [], ◌∷◌, length, map, Option, None, Some, refl, sym, ap, subst, ◌∙◌, arith}
 use Rattle.std.specs.Prelude.{Contains, flat_map, slice_get, slice_index_or, option_map, unwrap_or}
 use Rattle.std.specs.List.{range_with_len}
 use Rattle.std.specs.Option.{option_map_or}
@@ -11,7 +11,6 @@ use Rattle.ir_core.specs.Blocks.{IsBlock}
 use Rattle.ir_core.specs.Checks.{IsInst, IsKnown, IsPhi, MeetsChecks}
 use Rattle.ir_core.specs.Names.{Name}
 use Rattle.ir_core.specs.Reads.{Read, IsRead, end_of, reads_of}
-use Rattle.ir_core.specs.Walks.{IsReached}
 use Rattle.ir_core.specs.declared.function.Block.{Block}
 use Rattle.ir_core.specs.declared.function.Function.{Function}
 use Rattle.ir_core.specs.declared.instruction.Inst.{Inst}
@@ -49,12 +48,11 @@ use Rattle.substitution.specs.Rewritten.{rewritten_function}
 use Rattle.draft.specs.Changes.{instead}
 use Rattle.draft.specs.Drafts.{insts_of, placed}
 use Rattle.draft.specs.Orders.{place_in}
-use Rattle.draft.specs.Rewriting.{MayRead, numbered, put_for, put_numbers, rows_put_for}
+use Rattle.draft.specs.Rewriting.{MayRead, numbered, put_for, rows_put_for}
 use Rattle.draft.proofs.Changing.{has_known, known_has}
 use Rattle.draft.proofs.Instead.{instead_other}
 use Rattle.draft.proofs.Leaving.{function_at}
-use Rattle.draft.proofs.Mapping.{changed_inst}
-use Rattle.draft.proofs.Needing.{AreRows, at_its_place, block_back, read_back, row_is}
+use Rattle.draft.proofs.Needing.{AreRows, block_back, read_back, row_is}
 use Rattle.draft.proofs.Numbering.{Agrees, last_same, put_same_insts}
 use Rattle.draft.proofs.InstsOf.{inst_from}
 use Rattle.draft.proofs.PutReads.{Closed, last_holds, put_reads}

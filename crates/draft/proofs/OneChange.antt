@@ -1,5 +1,5 @@
 -- A list with a change at one place.
-use Rattle.std.proofs.Common.{◌≡◌, ◌≢◌, ℕ, zero, suc, List, [], ◌∷◌, length, Option, None, Some, refl, ap, arith}
+use Rattle.std.proofs.Common.{◌≡◌, ◌≢◌, ℕ, zero, suc, List, [], ◌∷◌, length, None, Some, refl, ap}
 use Rattle.std.specs.Prelude.{slice_get, option_map}
 use Rattle.draft.specs.Changes.{changed_at}
 

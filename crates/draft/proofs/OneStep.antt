@@ -1,7 +1,7 @@
 -- One step of rewriting: a rule is applied to the function of a draft, which is cleaned.
-use Rattle.std.proofs.Common.{◌≡◌, ◌≢◌, ℕ, suc, ◌<◌, ◌≤◌, ◌⊎◌, inl, inr, List, [], ◌∷◌, ◌++◌, length, map, Option, None, Some, All, refl, sym, ap, subst, ◌∙◌, arith}
+use Rattle.std.proofs.Common.{◌≡◌, ◌≢◌, ℕ, suc, ◌<◌, ◌≤◌, ◌⊎◌, inl, inr, List, [], ◌++◌, length, map, Option, None, Some, All, refl, sym, ap, subst, ◌∙◌, arith}
 use Rattle.std.specs.Prelude.{Contains, slice_get, slice_index_or, option_map}
-use Rattle.std.specs.List.{filter_map, range_with_len}
+use Rattle.std.specs.List.{filter_map}
 use Rattle.std.proofs.lemmas.Bool.{cases_eq}
 use Rattle.std.proofs.lemmas.List.{length-map}
 use Rattle.std.proofs.lemmas.List.Elements.{All-contains_itself, All-map, All-weaker, Contains-append_cases, Contains-append_left, Contains-append_right}
@@ -43,7 +43,7 @@ use Rattle.draft.specs.Counts.{operands_at, register_of, times_in_function}
 use Rattle.draft.specs.Drafts.{AreTouched, HasRoomFor, Stands, function_of, numbers_of, orders_of, placed, placed_binding}
 use Rattle.draft.specs.Orders.{none}
 use Rattle.draft.specs.Readers.{IsPlaceIn, arena_place}
-use Rattle.draft.specs.Rewriting.{IsPutFor, MayPut, MayRead, numbered, put_for, put_numbers, rows_put_for, with_put}
+use Rattle.draft.specs.Rewriting.{IsPutFor, MayPut, MayRead, numbered, put_for, put_numbers, with_put}
 use Rattle.draft.specs.Whole.{IsSettled, IsWhole}
 use Rattle.draft.specs.declared.draft.Draft.{Draft}
 use Rattle.draft.specs.declared.draft.Place.{Place}

@@ -1,5 +1,5 @@
 -- What is read at each place of an arena, and of one in which what is read at one place is changed.
-use Rattle.std.proofs.Common.{◌≡◌, ◌⊎◌, ◌↔◌, inl, inr, ℕ, zero, suc, ◌+◌, ◌<◌, ◌≤◌, ◌^◌, List, [], ◌∷◌, length, get_or, Option, None, Some, All, map, refl, sym, ap, subst, ◌∙◌, arith}
+use Rattle.std.proofs.Common.{◌≡◌, ◌⊎◌, ◌↔◌, inl, inr, ℕ, ◌+◌, ◌<◌, ◌≤◌, ◌^◌, List, length, get_or, Some, All, refl, sym, ap, subst, ◌∙◌, arith}
 use Rattle.std.specs.Prelude.{Contains, option_map, slice_get, sum_by}
 use Rattle.std.proofs.lemmas.Bool.{cases_eq}
 use Rattle.std.proofs.lemmas.List.Sums.{get_or-le-sum_by}
@@ -7,9 +7,9 @@ use Rattle.std.proofs.lemmas.Option.{get_or_from_slice_get, slice_get-get_or, sl
 use Rattle.assigned_flow.specs.Successors.{successors_of}
 use Rattle.bindings.specs.Facts.{AreFactsOf}
 use Rattle.bindings.specs.declared.facts.FunctionFacts.{FunctionFacts}
-use Rattle.ir_core.specs.Blocks.{HasInst, IsBlock}
+use Rattle.ir_core.specs.Blocks.{IsBlock}
 use Rattle.ir_core.specs.Checks.{IsKnown}
-use Rattle.ir_core.specs.Reads.{Read, IsRead, end_of, reads_at}
+use Rattle.ir_core.specs.Reads.{Read, IsRead, reads_at}
 use Rattle.ir_core.specs.declared.function.Block.{Block}
 use Rattle.ir_core.specs.declared.function.Function.{Function}
 use Rattle.ir_core.specs.declared.instruction.Inst.{Inst}
@@ -19,7 +19,7 @@ use Rattle.ir_core.specs.declared.operand.Register.{Register}
 use Rattle.needed.specs.Operands.{operands_of}
 use Rattle.needed.proofs.Counting.{contained_at, contains_at}
 use Rattle.needed.proofs.Reading.{end_of-is}
-use Rattle.use_counts.specs.Tables.{HasNumber, count_of}
+use Rattle.use_counts.specs.Tables.{count_of}
 use Rattle.use_counts.specs.declared.uses.Uses.{Uses}
 use Rattle.draft.specs.Counts.{AreCounted, HasNumbers, operands_at, times, times_in, times_in_function}
 use Rattle.draft.specs.Orders.{none}

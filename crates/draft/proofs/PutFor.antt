@@ -1,5 +1,5 @@
 -- What is put for an instruction of a draft is what a rewrite puts.
-use Rattle.std.proofs.Common.{◌≡◌, ◌≢◌, ℕ, zero, suc, ◌+◌, ◌<◌, ◌≤◌, ◌⊎◌, inl, inr, cond, List, [], ◌∷◌, ◌++◌, length, map, Option, None, Some, refl, sym, ap, subst, ◌∙◌, arith}
+use Rattle.std.proofs.Common.{◌≡◌, ◌≢◌, ℕ, zero, suc, ◌+◌, ◌<◌, ◌≤◌, inl, inr, cond, List, [], ◌∷◌, ◌++◌, length, map, Option, None, Some, refl, sym, ap, subst, ◌∙◌, arith}
 use Rattle.std.specs.Prelude.{Contains, slice_get, slice_index_or, option_map}
 use Rattle.std.specs.List.{range_with_len}
 use Rattle.std.proofs.lemmas.Bool.{cases_eq, eq-eqb, ne_eqb}
@@ -12,7 +12,6 @@ use Rattle.ir_core.specs.declared.function.Block.{Block}
 use Rattle.ir_core.specs.declared.function.Function.{Function}
 use Rattle.ir_core.specs.declared.instruction.Inst.{Inst}
 use Rattle.ir_core.specs.declared.operand.Operand.{Operand}
-use Rattle.ir_core.specs.declared.operand.Operand.TheVariants as operands
 use Rattle.ir_core.specs.declared.operand.Register.TheVariants as registers
 use Rattle.ir_meaning.proofs.Pieces.{cases_in, not_in_empty}
 use Rattle.substitution.specs.declared.rewrite.Rewrite.{Rewrite}
@@ -22,7 +21,7 @@ use Rattle.substitution.proofs.Pieces.{get_left, get_right}
 use Rattle.draft.specs.Changes.{changed_at, gone, instead, without}
 use Rattle.draft.specs.Drafts.{insts_of, placed}
 use Rattle.draft.specs.Orders.{place_in, put_before}
-use Rattle.draft.specs.Rewriting.{all_before, put_for, put_numbers, rows_put_for, with_put}
+use Rattle.draft.specs.Rewriting.{all_before, put_for, put_numbers, rows_put_for}
 use Rattle.draft.proofs.Instead.{instead_it, instead_other}
 use Rattle.draft.proofs.InstsOf.{insts_more}
 use Rattle.draft.proofs.Leaving.{function_at}

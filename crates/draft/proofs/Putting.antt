@@ -1,10 +1,10 @@
 -- Arenas with one more instruction in a block, and tables with one more entry in its row.
-use Rattle.std.proofs.Common.{◌≡◌, ◌⊎◌, ◌↔◌, inl, inr, ℕ, zero, suc, ◌+◌, ◌<◌, ◌≤◌, List, [], ◌∷◌, ◌++◌, length, get_or, slice_set, Some, map, refl, sym, ap, subst, ◌∙◌, arith, get_or-set_other, get_or-set_same}
+use Rattle.std.proofs.Common.{◌≡◌, ◌⊎◌, inl, inr, ℕ, zero, suc, ◌+◌, ◌<◌, ◌≤◌, List, [], ◌∷◌, ◌++◌, length, get_or, slice_set, Some, refl, sym, ap, subst, ◌∙◌, arith, get_or-set_other, get_or-set_same}
 use Rattle.std.specs.Prelude.{Contains, slice_get}
 use Rattle.std.proofs.lemmas.Bool.{cases_eq, cases_lt}
 use Rattle.std.proofs.lemmas.List.{get_or_append_left, get_or_past, get_or_push, length_push}
 use Rattle.std.proofs.lemmas.List.Sums.{sum_by_push}
-use Rattle.std.proofs.lemmas.Option.{same_Some, slice_get_cases, slice_get_within}
+use Rattle.std.proofs.lemmas.Option.{slice_get_cases}
 use Rattle.assigned_flow.specs.Successors.{successors_of}
 use Rattle.bindings.specs.Facts.{AreFactsOf}
 use Rattle.bindings.specs.declared.facts.FunctionFacts.{FunctionFacts}
@@ -21,9 +21,9 @@ use Rattle.needed.specs.Operands.{operands_of}
 use Rattle.use_counts.specs.Tables.{HasNumber, count_of}
 use Rattle.use_counts.specs.declared.uses.Uses.{Uses}
 use Rattle.draft.specs.Changes.{inst_put, put_in}
-use Rattle.draft.specs.Counts.{AreCounted, HasNumbers, operands_at, times, times_in, times_in_function}
+use Rattle.draft.specs.Counts.{AreCounted, operands_at, times, times_in, times_in_function}
 use Rattle.draft.specs.Orders.{none}
-use Rattle.draft.specs.Readers.{AreListed, AreReadersOf, HasList, HaveLists, IsPlaceIn, arena_place, listed_for}
+use Rattle.draft.specs.Readers.{AreListed, AreReadersOf, HasList, IsPlaceIn, arena_place, listed_for}
 use Rattle.draft.specs.declared.draft.Place.{Place}
 use Rattle.draft.specs.declared.uses.Readers.{Readers}
 use Rattle.draft.proofs.Changing.{HasAll, changed_sum, has_known, known_has, known_kept}

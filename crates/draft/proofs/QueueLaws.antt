@@ -1,5 +1,5 @@
 -- Queues stay where orders are kept.
-use Rattle.std.proofs.Common.{◌≡◌, ℕ, List, length, sym, subst, ◌∙◌}
+use Rattle.std.proofs.Common.{ℕ, List, sym, subst, ◌∙◌}
 use Rattle.draft.specs.declared.queue.Queue.{Queue}
 use Rattle.draft.specs.KeptOrders.{KeepsOrders}
 use Rattle.draft.specs.Queues.{IsQueueBy}

@@ -1,5 +1,5 @@
 -- What a draft's instructions are to a queue.
-use Rattle.std.proofs.Common.{◌≡◌, ℕ, ◌<◌, inl, inr, List, [], length, All, Contains, get_or, set, sym, subst, arith}
+use Rattle.std.proofs.Common.{◌≡◌, ℕ, ◌<◌, inl, inr, List, [], length, All, get_or, set, sym, subst, arith}
 use Rattle.std.proofs.lemmas.List.Elements.{All-contains, All-weaker}
 use Rattle.std.proofs.lemmas.Option.{slice_get_within}
 use Rattle.ir_core.specs.Blocks.{HasInst}
@@ -9,7 +9,7 @@ use Rattle.draft.specs.declared.draft.Draft.{Draft}
 use Rattle.draft.specs.declared.draft.Place.{Place}
 use Rattle.draft.specs.declared.walk.Walk.{Walk}
 use Rattle.draft.specs.declared.queue.Queue.{Queue}
-use Rattle.draft.specs.Drafts.{Stands, StandsBefore, numbers_in}
+use Rattle.draft.specs.Drafts.{Stands, StandsBefore}
 use Rattle.draft.specs.Heaps.{IsNumbered, ComesBefore}
 use Rattle.draft.specs.KeptOrders.{KeepsOrders}
 use Rattle.draft.specs.Orders.{place_in, put_before}

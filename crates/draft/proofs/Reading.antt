@@ -1,5 +1,5 @@
 -- What is read at places of an arena.
-use Rattle.std.proofs.Common.{◌≡◌, ◌⊎◌, inl, inr, ℕ, suc, ◌+◌, ◌<◌, eqb, cond, List, [], length, get_or, Option, None, Some, map, refl, sym, ap, subst, ◌∙◌, arith}
+use Rattle.std.proofs.Common.{◌≡◌, ◌⊎◌, inl, inr, ℕ, ◌<◌, eqb, List, [], length, get_or, Option, None, Some, map, sym, ap, ◌∙◌, arith}
 use Rattle.std.specs.Prelude.{Contains, slice_get, option_map, unwrap_or}
 use Rattle.std.proofs.lemmas.Bool.{cases_eq, cond-true, cond-false, eq-eqb, ne_eqb}
 use Rattle.std.proofs.lemmas.Option.{slice_get-map, slice_get_cases, unwrap_or-slice_get}
@@ -14,11 +14,10 @@ use Rattle.ir_core.specs.declared.operand.Register.{Register}
 use Rattle.needed.specs.Needed.{ReadsRegister}
 use Rattle.needed.specs.Operands.{operands_of, operands_at_end}
 use Rattle.needed.proofs.Counting.{contained_at, contains_at, mapped}
-use Rattle.needed.proofs.Reading.{end_of-is}
 use Rattle.needed.proofs.SearchLemmas.{end_reads, inst_reads}
 use Rattle.draft.specs.Counts.{operands_at}
 use Rattle.draft.specs.Orders.{none}
-use Rattle.draft.specs.Readers.{IsPlaceIn, IsReader, arena_place}
+use Rattle.draft.specs.Readers.{arena_place}
 use Rattle.draft.specs.declared.draft.Place.{Place}
 
 -- the operands that are written at place k of block b

@@ -1,5 +1,5 @@
 -- A draft in which other instructions stand before a root, or in its place, has as its function the rewritten one.
-use Rattle.std.proofs.Common.{◌≡◌, ◌≢◌, ℕ, zero, suc, ◌+◌, ◌-◌, ◌<◌, ◌≤◌, ◌⊎◌, inl, inr, List, [], ◌∷◌, ◌++◌, length, Option, None, Some, refl, sym, ap, subst, ◌∙◌, arith}
+use Rattle.std.proofs.Common.{◌≡◌, ◌≢◌, ℕ, suc, ◌+◌, ◌-◌, ◌<◌, ◌≤◌, ◌⊎◌, inl, inr, List, [], ◌∷◌, ◌++◌, length, Option, None, Some, refl, sym, ap, subst, ◌∙◌, arith}
 use Rattle.std.specs.Prelude.{Contains, slice_get, slice_index_or, option_map, unwrap_or}
 use Rattle.std.proofs.lemmas.Bool.{cases_eq}
 use Rattle.std.proofs.lemmas.List.Elements.{Contains-append_left, Contains-append_right}
@@ -13,7 +13,6 @@ use Rattle.ir_core.specs.declared.operand.Operand.{Operand}
 use Rattle.ir_core.specs.declared.operand.Operand.TheVariants as operands
 use Rattle.ir_core.specs.declared.operand.Register.TheVariants as registers
 use Rattle.ir_meaning.proofs.Pieces.{first_in, later_in, some_at}
-use Rattle.needed.specs.Needed.{ReadsRegister}
 use Rattle.needed.specs.Operands.{operands_of, operands_at_end}
 use Rattle.substitution.specs.declared.rewrite.Rewrite.{Rewrite}
 use Rattle.substitution.specs.Rewritten.{moved_place, rewritten_block, rewritten_blocks, rewritten_function, rewritten_insts, stands_for}

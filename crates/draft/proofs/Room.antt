@@ -1,5 +1,5 @@
 -- How many numbers a step takes: at most 32 of each block.
-use Rattle.std.proofs.Common.{◌≡◌, ℕ, suc, ◌+◌, ◌*◌, ◌<◌, ◌≤◌, inl, inr, List, [], ◌++◌, length, map, get_or, Some, refl, sym, ap, subst, ◌∙◌, arith}
+use Rattle.std.proofs.Common.{◌≡◌, ℕ, suc, ◌+◌, ◌<◌, ◌≤◌, inl, inr, List, [], ◌++◌, length, get_or, Some, sym, ap, subst, ◌∙◌, arith}
 use Rattle.std.specs.Prelude.{slice_get}
 use Rattle.std.proofs.lemmas.List.{length-append, length-map}
 use Rattle.std.proofs.lemmas.Option.{get_or_from_slice_get, slice_get-get_or, slice_get-map, slice_get_within}
@@ -13,7 +13,6 @@ use Rattle.substitution.specs.Substitution.{substituted_block, substituted_inst}
 use Rattle.substitution.specs.declared.rewrite.Rewrite.{Rewrite}
 use Rattle.draft.specs.Changes.{gone, inst_changed, instead, replaced}
 use Rattle.draft.specs.Drafts.{HasRoomFor}
-use Rattle.draft.specs.Orders.{none}
 use Rattle.draft.specs.Rewriting.{put_for, with_put}
 use Rattle.draft.specs.Whole.{IsWhole}
 use Rattle.draft.specs.declared.draft.Draft.{Draft}

@@ -1,15 +1,14 @@
 -- A draft is settled and clean again once all that isn't needed was taken out, and its function is the cleaned one.
-use Rattle.std.proofs.Common.{◌≡◌, ℕ, ◌⊎◌, inl, inr, List, [], sym, subst}
+use Rattle.std.proofs.Common.{◌≡◌, ℕ, inl, inr, List, [], sym, subst}
 use Rattle.std.specs.Prelude.{Contains, slice_index_or}
 use Rattle.ir_core.specs.declared.operand.Register.TheVariants as registers
 use Rattle.needed.specs.Cleaned.{IsCleaned}
-use Rattle.needed.specs.Needed.{IsNeeded, by_end, by_inst, ReadsRegister}
+use Rattle.needed.specs.Needed.{IsNeeded, by_end, by_inst}
 use Rattle.draft.specs.Cleaning.{IsClean, IsCleaning}
-use Rattle.draft.specs.Drafts.{Stands, function_of, numbers_in, numbers_of}
-use Rattle.draft.specs.Readers.{IsReader, arena_place}
+use Rattle.draft.specs.Drafts.{Stands, function_of, numbers_of}
+use Rattle.draft.specs.Readers.{arena_place}
 use Rattle.draft.specs.Whole.{IsSettled, IsWhole}
 use Rattle.draft.specs.declared.draft.Draft.{Draft}
-use Rattle.draft.specs.declared.draft.Place.{Place}
 use Rattle.draft.proofs.Cleaned.{cleaned_is}
 use Rattle.draft.proofs.Leaving.{left_row}
 use Rattle.draft.proofs.Living.{needed_alone}

@@ -1,5 +1,5 @@
 -- What is taken out reads nothing, and what is left is less.
-use Rattle.std.proofs.Common.{◌≡◌, ◌≢◌, ℕ, ◌<◌, ◌==◌, ◌&&◌, ◌⊎◌, inl, inr, Bool, true, false, cond, List, [], ◌∷◌, length, Option, None, Some, refl, sym, ap, subst, ◌∙◌, arith}
+use Rattle.std.proofs.Common.{◌≡◌, ◌≢◌, ℕ, ◌==◌, ◌&&◌, ◌⊎◌, inl, inr, Bool, true, false, cond, List, [], ◌∷◌, length, Option, None, Some, refl, sym, ap, subst, ◌∙◌, arith}
 use Rattle.std.specs.Prelude.{Contains, slice_get, slice_index_or, option_map, unwrap_or}
 use Rattle.std.specs.List.{filter}
 use Rattle.std.proofs.lemmas.Bool.{cases_eq, eq-eqb, ne_eqb, and_from, and_right}
@@ -10,7 +10,6 @@ use Rattle.ir_core.specs.Reads.{end_of}
 use Rattle.ir_core.specs.declared.function.Block.{Block}
 use Rattle.ir_core.specs.declared.function.Function.{Function}
 use Rattle.ir_core.specs.declared.instruction.Inst.{Inst}
-use Rattle.ir_core.specs.declared.operand.Operand.{Operand}
 use Rattle.ir_core.specs.declared.operand.Operand.TheVariants as operands
 use Rattle.ir_core.specs.declared.operand.Register.{Register}
 use Rattle.ir_core.specs.declared.operand.Register.TheVariants as registers
@@ -19,7 +18,7 @@ use Rattle.needed.specs.Needed.{IsNeeded, ReadsRegister}
 use Rattle.needed.specs.Operands.{operands_of, operands_at_end}
 use Rattle.substitution.proofs.Pieces.{mapped}
 use Rattle.draft.specs.Changes.{changed_at, gone, taken_out, without}
-use Rattle.draft.specs.Cleaning.{AreLeft, IsBlockLeft, IsCleaning, IsLeft, IsNeededWith}
+use Rattle.draft.specs.Cleaning.{AreLeft, IsCleaning, IsLeft}
 use Rattle.draft.proofs.OneChange.{changed_here, changed_other, length-changed}
 use Rattle.draft.proofs.Living.{IsSilenced, needed_less, needed_stays, needed_was}
 use Rattle.draft.proofs.WhoReads.{end_of-is, end_reads_it, inst_reads_it, who}

@@ -1,11 +1,11 @@
 -- A draft as cleaning begins, where something was put for an instruction: what is read stands, and what stands is needed, or would be if what
 -- fell were.
-use Rattle.std.proofs.Common.{◌≡◌, ◌≢◌, ℕ, zero, suc, ◌+◌, ◌<◌, ◌⊎◌, inl, inr, Bool, true, cond, List, [], ◌∷◌, ◌++◌, length, map, Option, None, Some, refl, sym, ap, subst, ◌∙◌, arith}
+use Rattle.std.proofs.Common.{◌≡◌, ◌≢◌, ℕ, ◌<◌, ◌⊎◌, inl, inr, true, List, [], ◌∷◌, ◌++◌, length, map, Option, None, Some, refl, sym, ap, subst, ◌∙◌, arith}
 use Rattle.std.specs.Prelude.{Contains, slice_get, slice_index_or, option_map, unwrap_or}
 use Rattle.std.specs.List.{filter, range_with_len}
 use Rattle.std.proofs.lemmas.Bool.{cases_eq}
 use Rattle.std.proofs.lemmas.List.Elements.{Contains-append_cases, Contains-append_left, Contains-append_right}
-use Rattle.std.proofs.lemmas.Option.{same_Some, slice_get-map, unwrap_or-slice_get}
+use Rattle.std.proofs.lemmas.Option.{slice_get-map, unwrap_or-slice_get}
 use Rattle.ir_core.specs.Blocks.{HasInst, IsBlock}
 use Rattle.ir_core.specs.Reads.{end_of}
 use Rattle.ir_core.specs.declared.function.Block.{Block}
@@ -15,25 +15,25 @@ use Rattle.ir_core.specs.declared.operand.Operand.{Operand}
 use Rattle.ir_core.specs.declared.operand.Operand.TheVariants as operands
 use Rattle.ir_core.specs.declared.operand.Register.{Register}
 use Rattle.ir_core.specs.declared.operand.Register.TheVariants as registers
-use Rattle.ir_meaning.proofs.Pieces.{cases_in, contains_at, first_in, later_in, not_in_empty}
+use Rattle.ir_meaning.proofs.Pieces.{cases_in, later_in}
 use Rattle.needed.specs.Needed.{IsNeeded, ReadsRegister}
 use Rattle.needed.specs.Operands.{operands_of, operands_at_end}
-use Rattle.substitution.specs.Substitution.{Substitution, substituted_block, substituted_inst, substituted_operand}
+use Rattle.substitution.specs.Substitution.{Substitution, substituted_inst, substituted_operand}
 use Rattle.substitution.proofs.Pieces.{get_cases, in_map, mapped}
 use Rattle.draft.specs.Changes.{changed_at, instead, replaced, taken_out}
-use Rattle.draft.specs.Cleaning.{AreLeft, IsCleaning, IsLeft, IsNeededWith}
+use Rattle.draft.specs.Cleaning.{AreLeft, IsCleaning, IsNeededWith}
 use Rattle.draft.specs.Orders.{place_in}
 use Rattle.draft.specs.Rewriting.{with_put}
-use Rattle.draft.proofs.Instead.{block_back, instead_it, instead_other, needed_with_root, root_unneeded}
+use Rattle.draft.proofs.Instead.{block_back, instead_it, instead_other, needed_with_root}
 use Rattle.draft.proofs.Living.{IsSilenced, needed_less}
 use Rattle.draft.proofs.Mapping.{end_substituted, operands_substituted}
 use Rattle.draft.proofs.Naming.{is_same_register}
 use Rattle.draft.proofs.Needing.{AreRows, row_is}
 use Rattle.draft.proofs.OneChange.{changed_here, changed_other}
-use Rattle.draft.proofs.PutFor.{at_row, last, new_row, other_row, parts, rows_then}
+use Rattle.draft.proofs.PutFor.{last, new_row, other_row, parts, rows_then}
 use Rattle.draft.proofs.RowPlaces.{is_in}
 use Rattle.draft.proofs.Silencing.{taken_out_is_silenced}
-use Rattle.draft.proofs.WhoReads.{EndReads, InstReads, end_reads_it, inst_reads_it, who}
+use Rattle.draft.proofs.WhoReads.{end_reads_it, inst_reads_it, who}
 
 -- ---- all is kept at first
 

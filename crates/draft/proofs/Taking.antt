@@ -1,12 +1,11 @@
 -- Cleaning a draft, step by step.
-use Rattle.std.proofs.Common.{◌≡◌, ℕ, zero, suc, ◌+◌, ◌<◌, ◌≤◌, ◌⊎◌, inl, inr, Bool, true, false, ◌↔◌, List, [], ◌∷◌, ◌++◌, length, get_or, Some, refl, sym, ap, subst, ◌∙◌, arith}
-use Rattle.std.specs.Prelude.{Contains, slice_get}
+use Rattle.std.proofs.Common.{◌≡◌, ℕ, zero, suc, ◌+◌, ◌<◌, ◌≤◌, ◌⊎◌, inl, inr, Bool, true, false, ◌↔◌, List, [], ◌∷◌, ◌++◌, length, get_or, refl, sym, ap, subst, ◌∙◌, arith}
+use Rattle.std.specs.Prelude.{Contains}
 use Rattle.std.specs.List.{filter_map}
 use Rattle.std.proofs.lemmas.Bool.{cases_Bool, cases_lt}
 use Rattle.std.proofs.lemmas.List.{get_or_past}
 use Rattle.std.proofs.lemmas.List.Elements.{Contains-append_cases, Contains-append_left, Contains-append_right}
 use Rattle.std.proofs.lemmas.Option.{slice_get_cases, slice_get_within}
-use Rattle.ir_core.specs.Blocks.{HasInst, IsBlock}
 use Rattle.ir_core.specs.Reads.{end_of}
 use Rattle.ir_core.specs.declared.function.Function.{Function}
 use Rattle.ir_core.specs.declared.operand.Operand.{Operand}
@@ -32,7 +31,7 @@ use Rattle.draft.proofs.Reading.{arena_place_inst, reads_written}
 use Rattle.draft.proofs.Rows.{marked}
 use Rattle.draft.proofs.Silencing.{cleaning_less}
 use Rattle.draft.proofs.RowPlaces.{contained, in_or_out, is_in}
-use Rattle.draft.proofs.WhoReads.{EndReads, InstReads, end_of-is, end_reads_it, who}
+use Rattle.draft.proofs.WhoReads.{EndReads, InstReads, end_reads_it, who}
 use Rattle.draft.proofs.Wholeness.{marked_stands, stands_marked, stands_there}
 
 -- the register is of no instruction that stands

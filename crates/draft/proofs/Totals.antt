@@ -1,5 +1,5 @@
 -- How often operands name a register, as a list of the places where they do.
-use Rattle.std.proofs.Common.{◌≡◌, ◌⊎◌, inl, inr, ℕ, zero, suc, ◌+◌, ◌<◌, ◌≤◌, Bool, true, false, cond, List, [], ◌∷◌, ◌++◌, length, get_or, Option, Some, refl, sym, ap, subst, ◌∙◌, arith, length-append, zero-add}
+use Rattle.std.proofs.Common.{◌≡◌, ◌⊎◌, inl, inr, ℕ, zero, suc, ◌+◌, ◌<◌, Bool, true, cond, List, [], ◌∷◌, ◌++◌, length, get_or, Some, refl, sym, ap, subst, ◌∙◌, arith, length-append, zero-add}
 use Rattle.std.specs.Prelude.{AllPairs, Contains, option_map, slice_get, sum_by}
 use Rattle.std.proofs.lemmas.Bool.{cases_Bool}
 use Rattle.std.proofs.lemmas.List.Elements.{Contains-append_cases, Contains-append_left, Contains-append_right, Contains-get_or}
@@ -7,7 +7,7 @@ use Rattle.std.proofs.lemmas.List.Sums.{sum_by-cons}
 use Rattle.std.proofs.lemmas.Option.{same_Some, slice_get-map, slice_get_within}
 use Rattle.ir_core.specs.Blocks.{IsBlock}
 use Rattle.ir_core.specs.Checks.{IsKnown}
-use Rattle.ir_core.specs.Reads.{Read, IsRead, end_of, reads_at}
+use Rattle.ir_core.specs.Reads.{Read, reads_at}
 use Rattle.ir_core.specs.declared.function.Block.{Block}
 use Rattle.ir_core.specs.declared.function.Function.{Function}
 use Rattle.ir_core.specs.declared.instruction.Inst.{Inst}
@@ -15,11 +15,11 @@ use Rattle.ir_core.specs.declared.operand.Operand.{Operand}
 use Rattle.ir_core.specs.declared.operand.Operand.TheVariants as operands
 use Rattle.ir_core.specs.declared.operand.Register.{Register}
 use Rattle.needed.specs.Operands.{operands_of, operands_at_end}
-use Rattle.needed.proofs.Counting.{contained_at, contains_at, contains_first, contains_later}
+use Rattle.needed.proofs.Counting.{contains_first, contains_later}
 use Rattle.needed.proofs.Reading.{end_of-is}
 use Rattle.needed.proofs.SearchLemmas.{end_reads, inst_reads}
 use Rattle.use_counts.specs.Tables.{AreCounts, HasNumber, count_of}
-use Rattle.use_counts.specs.Uses.{AreUsesOf, IsNamedAt, IsUseCount, StandsBefore, UsePlace}
+use Rattle.use_counts.specs.Uses.{IsNamedAt, IsUseCount, StandsBefore, UsePlace}
 use Rattle.use_counts.specs.declared.uses.Uses.{Uses}
 use Rattle.use_counts.proofs.OneCount.{use_counts_are_one}
 use Rattle.draft.specs.Counts.{names, times, times_in, times_in_function}

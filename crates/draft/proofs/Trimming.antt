@@ -1,5 +1,5 @@
 -- Lists of readers that are trimmed.
-use Rattle.std.proofs.Common.{◌≡◌, ◌↔◌, inl, inr, List, sym, ap, subst, ◌∙◌}
+use Rattle.std.proofs.Common.{◌≡◌, ◌↔◌, inl, inr, List, sym, subst, ◌∙◌}
 use Rattle.std.specs.Prelude.{Contains}
 use Rattle.ir_core.specs.declared.function.Function.{Function}
 use Rattle.ir_core.specs.declared.operand.Operand.TheVariants as operands

@@ -6,7 +6,7 @@ use Rattle.ir_core.specs.Blocks.{HasInst}
 use Rattle.ir_core.specs.declared.function.Function.{Function}
 use Rattle.ir_core.specs.declared.operand.Register.TheVariants as registers
 use Rattle.needed.proofs.Counting.{contains_at}
-use Rattle.draft.specs.Drafts.{Reaches, Stands}
+use Rattle.draft.specs.Drafts.{Reaches}
 use Rattle.draft.specs.Heaps.{nowhere, place_at}
 use Rattle.draft.specs.Readers.{IsReader}
 use Rattle.draft.specs.Walks.{IsFurther, IsSameDraft, IsWalk, ReadersCame}

@@ -1,11 +1,11 @@
 -- Walks that go on.
-use Rattle.std.proofs.Common.{◌≡◌, ℕ, ◌+◌, ◌<◌, ◌⊎◌, inl, inr, List, [], ◌∷◌, ◌++◌, length, All, Contains, refl, sym, ap, subst, ◌∙◌, append-nil, append_assoc}
+use Rattle.std.proofs.Common.{◌≡◌, ℕ, inl, inr, [], ◌∷◌, ◌++◌, length, All, Contains, sym, ap, subst, ◌∙◌, append-nil, append_assoc}
 use Rattle.std.proofs.lemmas.List.Elements.{All-push, Contains-append_left, Contains-push}
 use Rattle.ir_core.specs.Blocks.{HasInst}
 use Rattle.draft.specs.declared.draft.Draft.{Draft}
 use Rattle.draft.specs.declared.draft.Place.{Place}
 use Rattle.draft.specs.declared.walk.Walk.{Walk}
-use Rattle.draft.specs.Sets.{Rows, Has, IsAdded}
+use Rattle.draft.specs.Sets.{IsAdded}
 use Rattle.draft.specs.Walks.{Came, IsFurther, IsWalk}
 
 pub further-same : (w : Walk) → IsFurther w w

@@ -1,9 +1,8 @@
 -- A walk that forgets place by place.
-use Rattle.std.proofs.Common.{◌≡◌, ℕ, ◌<◌, ◌⊎◌, inl, inr, List, [], ◌∷◌, ◌++◌, length, Some, ap, sym, subst, All, Contains}
-use Rattle.std.specs.Prelude.{option_to_list}
+use Rattle.std.proofs.Common.{ℕ, inl, inr, List, [], ◌∷◌, ◌++◌, ap, Contains}
 use Rattle.std.proofs.lemmas.List.Elements.{Contains-push_cases}
 use Rattle.draft.specs.declared.draft.Place.{Place}
-use Rattle.draft.specs.Sets.{Rows, Has, IsPlace, IsRemoved}
+use Rattle.draft.specs.Sets.{Rows, Has, IsRemoved}
 
 -- all that is marked is among these places
 abbrev pub AreListed : Rows → List Place → Type 0

@@ -1,15 +1,15 @@
 -- Drafts stay whole where their arena changes.
-use Rattle.std.proofs.Common.{◌≡◌, ◌⊎◌, ◌↔◌, inl, inr, ℕ, zero, suc, ◌+◌, ◌<◌, ◌≤◌, ◌^◌, Bool, true, false, List, [], ◌∷◌, ◌++◌, length, get_or, slice_set, Some, All, refl, sym, ap, subst, ◌∙◌, arith}
+use Rattle.std.proofs.Common.{◌≡◌, inl, inr, ℕ, zero, suc, ◌+◌, ◌<◌, ◌≤◌, ◌^◌, Bool, true, false, List, [], ◌∷◌, ◌++◌, length, get_or, slice_set, Some, All, refl, sym, ap, subst, ◌∙◌, arith}
 use Rattle.std.specs.Prelude.{Contains, slice_get}
 use Rattle.std.proofs.lemmas.Bool.{cases_eq, cases_lt}
 use Rattle.std.proofs.lemmas.List.{get_or_append_left, get_or_past, get_or_push, length-set, length_push}
-use Rattle.std.proofs.lemmas.Option.{same_Some, slice_get-get_or, slice_get_cases, slice_get_within}
+use Rattle.std.proofs.lemmas.Option.{slice_get-get_or, slice_get_cases, slice_get_within}
 use Rattle.ir_core.specs.Blocks.{HasInst, IsBlock}
 use Rattle.ir_core.specs.declared.function.Block.{Block}
 use Rattle.ir_core.specs.declared.instruction.Inst.{Inst}
 use Rattle.ir_core.specs.declared.instruction.Op.TheVariants.{Freeze}
 use Rattle.ir_core.specs.declared.operand.Operand.TheVariants as operands
-use Rattle.draft.specs.Changes.{changed_at, gone, inst_changed, inst_put}
+use Rattle.draft.specs.Changes.{gone, inst_changed, inst_put}
 use Rattle.draft.specs.Drafts.{Stands, numbers_in, numbers_of}
 use Rattle.draft.specs.Orders.{none}
 use Rattle.draft.specs.Whole.{AreRowsOf, IsWhole}

@@ -5,7 +5,7 @@ use Rattle.draft.specs.declared.draft.Place.{Place}
 use Rattle.draft.specs.declared.walk.Walk.{Walk}
 use Rattle.ir_core.specs.Blocks.{HasInst}
 use Rattle.ir_core.specs.declared.operand.Register.TheVariants as registers
-use Rattle.draft.specs.Drafts.{Stands, numbers_of}
+use Rattle.draft.specs.Drafts.{Stands}
 use Rattle.draft.specs.Readers.{IsReader}
 use Rattle.draft.specs.Sets.{Has}
 use Rattle.draft.specs.Whole.{IsWhole}

@@ -1,4 +1,4 @@
-use Rattle.std.proofs.Common.{◌≡◌, ℕ, All, List, length, refl, subst, arith}
+use Rattle.std.proofs.Common.{◌≡◌, ℕ, All, refl, subst, arith}
 use Rattle.std.proofs.lemmas.List.{take_all}
 use Rattle.std.proofs.lemmas.List.Elements.{All-contains, All-more}
 use Rattle.ir_core.specs.declared.operand.Register.{Register}

@@ -1,4 +1,4 @@
-use Rattle.std.proofs.Common.{◌≡◌, get_or, refl, subst}
+use Rattle.std.proofs.Common.{get_or, refl, subst}
 use Rattle.needed.specs.Needed.{IsNeeded}
 use Rattle.draft.specs.Heaps.{nowhere}
 use Rattle.draft.proofs.Clearing.{read_needed}

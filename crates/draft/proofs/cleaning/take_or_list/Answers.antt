@@ -11,7 +11,7 @@ use Rattle.draft.specs.Cleaning.{HaveInsts, IsCleaning, KeepsUses}
 use Rattle.draft.specs.Drafts.{Stands, numbers_of}
 use Rattle.draft.specs.declared.draft.Draft.{Draft}
 use Rattle.draft.proofs.QueueSteps.{insts-stay}
-use Rattle.draft.proofs.Taking.{IsGone, cleaning_dropping, take_step, unused}
+use Rattle.draft.proofs.Taking.{cleaning_dropping, take_step, unused}
 use Rattle.draft.proofs.Using.{as_many_read, read_dropping, read_less, used_is_read, uses_dropping, uses_less}
 use Rattle.draft.proofs.Wholeness.{stands_there}
 use Rattle.draft.proofs.cleaning.take_or_list.Goals as goal

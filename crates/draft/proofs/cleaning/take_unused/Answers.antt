@@ -1,8 +1,7 @@
-use Rattle.std.proofs.Common.{◌≡◌, ℕ, ◌+◌, ◌⊎◌, inl, inr, List, [], ◌∷◌, ◌++◌, length, sym, ap, subst, ◌∙◌, arith}
+use Rattle.std.proofs.Common.{List, [], ◌++◌, length, ap, subst, ◌∙◌, arith}
 use Rattle.std.proofs.lemmas.List.{length_push}
-use Rattle.ir_core.specs.declared.function.Function.{Function}
 use Rattle.ir_core.specs.declared.operand.Register.{Register}
-use Rattle.draft.specs.Cleaning.{AreRead, HaveInsts, IsCleaning, KeepsUses, registers_read}
+use Rattle.draft.specs.Cleaning.{AreRead, IsCleaning, KeepsUses, registers_read}
 use Rattle.draft.specs.Drafts.{numbers_of}
 use Rattle.draft.proofs.Fallen.{among_last, last_among, now_cleaning, now_have, now_keeps, now_read}
 use Rattle.draft.proofs.cleaning.take_unused.Goals as goal

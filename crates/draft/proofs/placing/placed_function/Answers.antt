@@ -1,4 +1,4 @@
-use Rattle.std.proofs.Common.{◌≡◌, ◌∙◌, ℕ, List, Some, ap, get_or, length, sym, subst}
+use Rattle.std.proofs.Common.{◌∙◌, List, ap, length, sym}
 use Rattle.std.specs.Prelude.{slice_get}
 use Rattle.ir_core.specs.declared.function.Block.{Block}
 use Rattle.ir_core.specs.declared.function.Function.{Function}

@@ -1,4 +1,4 @@
-use Rattle.std.proofs.Common.{◌≡◌, ◌+◌, List, get_or, set, sym, subst}
+use Rattle.std.proofs.Common.{◌+◌, List, get_or, set, sym, subst}
 use Rattle.std.proofs.lemmas.List.{get_or_default}
 use Rattle.ir_core.specs.declared.instruction.Inst.{Inst}
 use Rattle.draft.specs.Placing.{at_places}

@@ -1,4 +1,4 @@
-use Rattle.std.proofs.Common.{◌≡◌, ℕ, ◌+◌, ◌<◌, inl, inr, List, All, length, get_or, take, refl, sym, subst, arith}
+use Rattle.std.proofs.Common.{inl, inr, All, take, refl, subst, arith}
 use Rattle.std.proofs.lemmas.List.{take_all}
 use Rattle.std.proofs.lemmas.List.Elements.{All-get_or, All-more, All-weaker}
 use Rattle.draft.specs.declared.draft.Place.{Place}

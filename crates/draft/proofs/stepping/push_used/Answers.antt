@@ -1,4 +1,4 @@
-use Rattle.std.proofs.Common.{◌≡◌, ℕ, inl, List, [], ◌∷◌, ◌++◌, All, Contains, length, refl, sym, subst, arith}
+use Rattle.std.proofs.Common.{inl, List, [], ◌∷◌, All, Contains, refl, sym, subst, arith}
 use Rattle.std.proofs.lemmas.List.{take_all}
 use Rattle.std.proofs.lemmas.List.Elements.{All-contains, All-push, Contains-append_left}
 use Rattle.ir_core.specs.declared.operand.Register.{Register}

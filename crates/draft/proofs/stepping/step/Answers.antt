@@ -1,8 +1,6 @@
-use Rattle.std.proofs.Common.{◌≡◌, ℕ, suc, inl, inr, List, [], ◌∷◌, ◌++◌, All, Contains, sym, ap, subst, ◌∙◌}
-use Rattle.std.proofs.lemmas.List.Elements.{All-append, All-push, Contains-append_left, Contains-append_right, Contains-push}
+use Rattle.std.proofs.Common.{List, Contains, sym, subst}
 use Rattle.ir_core.specs.declared.operand.Register.{Register}
 use Rattle.ir_core.specs.declared.operand.Register.TheVariants as registers
-use Rattle.draft.specs.Cleaning.{KeepsUses}
 use Rattle.draft.specs.Drafts.{function_of, orders_of}
 use Rattle.draft.specs.KeptOrders.{KeepsOrders}
 use Rattle.draft.specs.Readers.{IsPlaceIn}

@@ -1,4 +1,4 @@
-use Rattle.std.proofs.Common.{◌≡◌, ◌++◌, ◌<◌, ◌∷◌, [], ◌∙◌, List, Vec, Global, length, sym, ap, subst, arith, take}
+use Rattle.std.proofs.Common.{◌++◌, ◌<◌, ◌∷◌, [], ◌∙◌, List, Vec, Global, length, sym, ap, arith, take}
 use Rattle.std.specs.List.{filter_map}
 use Rattle.std.proofs.lemmas.List.{append-nil, append_assoc, take_all}
 use Rattle.ir_core.specs.declared.operand.Operand.{Operand}

@@ -1,6 +1,5 @@
 use Rattle.std.proofs.Common.{refl, sym, subst}
 use Rattle.ir_core.specs.declared.operand.Register.{Register}
-use Rattle.ir_core.specs.declared.operand.Register.TheVariants as registers
 use Rattle.use_counts.specs.Tables.{HasNumber}
 use Rattle.draft.specs.Counts.{IsSetTo}
 use Rattle.draft.proofs.Tables.{parameter_set, result_set, row_within}

@@ -1,7 +1,7 @@
-use Rattle.std.proofs.Common.{◌≡◌, ◌<◌, ◌∙◌, ℕ, true, List, [], Contains, inl, inr, ap, get_or, length, sym, subst, arith}
+use Rattle.std.proofs.Common.{◌≡◌, ◌<◌, ◌∙◌, ℕ, List, [], Contains, inl, inr, get_or, sym, subst, arith}
 use Rattle.std.proofs.lemmas.List.{get_or_default}
 use Rattle.std.proofs.lemmas.Option.{slice_get_within}
-use Rattle.draft.specs.Drafts.{Stands, numbers_in}
+use Rattle.draft.specs.Drafts.{Stands}
 use Rattle.draft.specs.Orders.{place_in}
 use Rattle.draft.proofs.Rows.{same_order}
 use Rattle.draft.proofs.Wholeness.{numbers_are, stands_marked, stands_there}

@@ -4,14 +4,13 @@ use Rattle.std.proofs.lemmas.Bool.{cases_eq, iff_false}
 use Rattle.std.proofs.lemmas.Option.{slice_get_within}
 use Rattle.ir_core.specs.Walks.{IsReached}
 use Rattle.draft.specs.Drafts.{Stands}
-use Rattle.draft.specs.Queues.{IsQueueBy, IsQueueOf, Waits}
+use Rattle.draft.specs.Queues.{IsQueueOf, Waits}
 use Rattle.draft.specs.Sets.{Has}
 use Rattle.draft.specs.Walks.{IsIdle}
 use Rattle.draft.specs.declared.draft.Draft.{Draft}
 use Rattle.draft.specs.declared.draft.Place.{Place}
 use Rattle.draft.specs.declared.queue.Queue.{Queue}
 use Rattle.draft.specs.declared.waiting.Waiting.{Waiting}
-use Rattle.draft.specs.declared.walk.Walk.{Walk}
 use Rattle.draft.specs.Heaps.{IsHeap}
 use Rattle.draft.specs.Waiting.{IsArranged, tally}
 use Rattle.draft.proofs.Wholeness.{stands_there}

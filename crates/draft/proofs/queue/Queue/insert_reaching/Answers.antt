@@ -1,5 +1,5 @@
 -- What the walk came to is put in, and forgotten.
-use Rattle.std.proofs.Common.{◌≡◌, ℕ, List, length, All, Contains, sym, subst, ◌∙◌}
+use Rattle.std.proofs.Common.{All, Contains, sym, subst, ◌∙◌}
 use Rattle.std.proofs.lemmas.List.Elements.{All-contains}
 use Rattle.draft.specs.declared.draft.Place.{Place}
 use Rattle.draft.specs.Heaps.{IsNumbered}

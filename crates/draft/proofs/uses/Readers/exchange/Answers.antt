@@ -1,6 +1,5 @@
 use Rattle.std.proofs.Common.{[], ap, refl, sym, subst, ◌∙◌}
 use Rattle.ir_core.specs.declared.operand.Register.{Register}
-use Rattle.ir_core.specs.declared.operand.Register.TheVariants as registers
 use Rattle.draft.specs.Readers.{HasList, IsListSetTo, listed_for}
 use Rattle.draft.specs.declared.uses.Readers.{Readers}
 use Rattle.draft.proofs.Tables.{parameter_list_set, result_list_set, row_within}

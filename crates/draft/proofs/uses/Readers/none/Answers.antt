@@ -1,4 +1,4 @@
-use Rattle.std.proofs.Common.{◌≡◌, ◌∙◌, [], List, ap, map, length, replicate, take, arith, rules}
+use Rattle.std.proofs.Common.{◌∙◌, [], List, ap, map, length, replicate, arith, rules}
 use Rattle.std.proofs.lemmas.List.{take_all}
 use Rattle.ir_core.specs.declared.function.Block.{Block}
 use Rattle.draft.specs.declared.draft.Place.{Place}

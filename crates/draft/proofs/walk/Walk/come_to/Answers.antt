@@ -1,4 +1,4 @@
-use Rattle.std.proofs.Common.{◌≡◌, ℕ, ◌<◌, ◌⊎◌, true, arith}
+use Rattle.std.proofs.Common.{◌≡◌, true, arith}
 use Rattle.std.proofs.lemmas.Bool.{iff_false}
 use Rattle.ir_core.specs.Blocks.{HasInst}
 use Rattle.draft.proofs.Wholeness.{few_insts, stands_there}

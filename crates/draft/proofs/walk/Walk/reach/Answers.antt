@@ -1,12 +1,10 @@
-use Rattle.std.proofs.Common.{◌≡◌, ℕ, suc, ◌+◌, ◌<◌, ◌≤◌, inl, inr, List, Contains, length, length-append, refl, sym, ap, subst, ◌∙◌, arith}
+use Rattle.std.proofs.Common.{◌≡◌, ℕ, suc, ◌+◌, ◌<◌, ◌≤◌, inl, inr, length, length-append, sym, ap, subst, ◌∙◌, arith}
 use Rattle.std.proofs.lemmas.Bool.{cases_lt}
 use Rattle.std.proofs.lemmas.List.{get_or_default}
-use Rattle.ir_core.specs.declared.operand.Operand.TheVariants as operands
 use Rattle.ir_core.specs.declared.operand.Register.TheVariants as registers
 use Rattle.needed.specs.Needed.{ReadsRegister}
 use Rattle.draft.specs.Drafts.{Reaches, Stands}
 use Rattle.draft.specs.Heaps.{nowhere, place_at}
-use Rattle.draft.specs.Orders.{none}
 use Rattle.draft.specs.Readers.{IsReader, arena_place}
 use Rattle.draft.specs.Walks.{Came, IsFurther, IsSameDraft, ReadersCame}
 use Rattle.draft.specs.Whole.{IsSettled}
