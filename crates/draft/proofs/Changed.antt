@@ -12,15 +12,15 @@ use Rattle.ir_core.specs.declared.operand.Operand.{Operand}
 use Rattle.ir_core.specs.declared.operand.Operand.TheVariants as operands
 use Rattle.needed.specs.Operands.{operands_of}
 use Rattle.use_counts.specs.declared.uses.Uses.{Uses}
-use Rattle.draft.specs.Changes.{gone, inst_changed, taken_out, with_block}
-use Rattle.draft.specs.Counts.{AreCounted, operands_at}
+use Rattle.readers.specs.Changes.{gone, inst_changed, taken_out, with_block}
+use Rattle.readers.specs.Counts.{AreCounted, operands_at}
 use Rattle.draft.specs.Whole.{AreRowsOf, IsWhole}
 use Rattle.draft.specs.declared.draft.Draft.{Draft}
-use Rattle.draft.specs.declared.draft.Place.{Place}
-use Rattle.draft.proofs.Changing.{changed_length}
-use Rattle.draft.proofs.Counting.{only_one}
+use Rattle.places.specs.declared.place.Place.{Place}
+use Rattle.readers.proofs.Changing.{changed_length}
+use Rattle.readers.proofs.Counting.{only_one}
 use Rattle.draft.proofs.Exchanging.{block_cases, inst_count, inst_differs, read_now, still_few}
-use Rattle.draft.proofs.Places.{AreFew, DiffersAt, IsListedToo, reads_known, still_facts, still_known, still_readers}
+use Rattle.readers.proofs.Places.{AreFew, DiffersAt, IsListedToo, reads_known, still_facts, still_known, still_readers}
 use Rattle.draft.proofs.Wholeness.{all_known, few_insts, rows_less}
 
 -- what else was done where one place was changed: its old operands are counted no more, its new ones are, and it is listed for them

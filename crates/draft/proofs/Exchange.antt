@@ -13,15 +13,15 @@ use Rattle.ir_core.specs.declared.operand.Register.{Register}
 use Rattle.needed.specs.Operands.{operands_of}
 use Rattle.use_counts.specs.Tables.{count_of}
 use Rattle.use_counts.specs.declared.uses.Uses.{Uses}
-use Rattle.draft.specs.Changes.{changed_at, inst_changed}
-use Rattle.draft.specs.Counts.{AreCounted, HasNumbers, operands_at, times}
-use Rattle.draft.specs.Readers.{HaveLists, IsPlaceIn}
+use Rattle.readers.specs.Changes.{changed_at, inst_changed}
+use Rattle.readers.specs.Counts.{AreCounted, HasNumbers, operands_at, times}
+use Rattle.readers.specs.Readers.{HaveLists, IsPlaceIn}
 use Rattle.draft.specs.Whole.{IsWhole}
 use Rattle.draft.specs.declared.draft.Draft.{Draft}
-use Rattle.draft.specs.declared.draft.Place.{Place}
+use Rattle.places.specs.declared.place.Place.{Place}
 use Rattle.draft.proofs.Changed.{few, reads_are_known}
-use Rattle.draft.proofs.Changing.{inst_there}
-use Rattle.draft.proofs.Places.{few_counted, numbers_for, times_counted}
+use Rattle.readers.proofs.Changing.{inst_there}
+use Rattle.readers.proofs.Places.{few_counted, numbers_for, times_counted}
 use Rattle.draft.proofs.Wholeness.{all_known, few_insts}
 
 -- a draft with other blocks in its arena

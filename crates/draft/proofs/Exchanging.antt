@@ -10,14 +10,14 @@ use Rattle.ir_core.specs.declared.instruction.Inst.{Inst}
 use Rattle.ir_core.specs.declared.operand.Register.{Register}
 use Rattle.ir_core.specs.declared.terminator.Terminator.{Terminator}
 use Rattle.needed.specs.Operands.{operands_of, operands_at_end}
-use Rattle.draft.specs.Changes.{changed_at, end_changed, inst_changed, with_block}
-use Rattle.draft.specs.Counts.{operands_at, times, times_in}
-use Rattle.draft.specs.Orders.{none}
-use Rattle.draft.specs.Readers.{IsPlaceIn}
-use Rattle.draft.specs.declared.draft.Place.{Place}
-use Rattle.draft.proofs.Changing.{HasAll, changed_cases, changed_here, changed_length, changed_other, changed_sum}
-use Rattle.draft.proofs.Places.{AreFew, DiffersAt}
-use Rattle.draft.proofs.Reading.{operands_at_inst, operands_at_terminator, same_place}
+use Rattle.readers.specs.Changes.{changed_at, end_changed, inst_changed, with_block}
+use Rattle.readers.specs.Counts.{operands_at, times, times_in}
+use Rattle.places.specs.Orders.{none}
+use Rattle.readers.specs.Readers.{IsPlaceIn}
+use Rattle.places.specs.declared.place.Place.{Place}
+use Rattle.readers.proofs.Changing.{HasAll, changed_cases, changed_here, changed_length, changed_other, changed_sum}
+use Rattle.readers.proofs.Places.{AreFew, DiffersAt}
+use Rattle.readers.proofs.Reading.{operands_at_inst, operands_at_terminator, same_place}
 
 pub map_changed : {A B : Type 0} (g : A → B) (k : ℕ) (change : A → A) (xs : List A) → ((x : A) → g (change x) ≡ g x) → map g (changed_at k change xs) ≡ map g xs
 map_changed g k change [] same = refl

@@ -18,18 +18,18 @@ use Rattle.ir_core.specs.declared.terminator.Terminator.{Terminator}
 use Rattle.bindings.specs.Facts.{AreFactsOf}
 use Rattle.needed.proofs.Counting.{contained_at, contains_at, contains_first, contains_later}
 use Rattle.substitution.specs.Substitution.{substituted_inst, substituted_operand}
-use Rattle.draft.specs.Counts.{operands_at}
+use Rattle.readers.specs.Counts.{operands_at}
 use Rattle.draft.specs.Drafts.{Stands, block_of, blocks_of, function_of, insts_of, numbers_of, placed, standing, standing_in}
-use Rattle.draft.specs.Orders.{none, place_in}
+use Rattle.places.specs.Orders.{none, place_in}
 use Rattle.draft.specs.Placing.{IsOrdering}
-use Rattle.draft.specs.Readers.{AreReadersOf, IsPlaceIn, arena_place}
+use Rattle.readers.specs.Readers.{AreReadersOf, IsPlaceIn, arena_place}
 use Rattle.draft.specs.Whole.{AreRowsOf, IsSettled}
 use Rattle.draft.specs.declared.draft.Draft.{Draft}
-use Rattle.draft.specs.declared.draft.Place.{Place}
-use Rattle.draft.proofs.Changing.{known_has}
+use Rattle.places.specs.declared.place.Place.{Place}
+use Rattle.readers.proofs.Changing.{known_has}
 use Rattle.draft.proofs.InstsOf.{insts_more}
-use Rattle.draft.proofs.Places.{AreFew, AreKnown, known_reads}
-use Rattle.draft.proofs.Reading.{operands_at_inst, operands_at_terminator, reads_written}
+use Rattle.readers.proofs.Places.{AreFew, AreKnown, known_reads}
+use Rattle.readers.proofs.Reading.{operands_at_inst, operands_at_terminator, reads_written}
 use Rattle.draft.proofs.Rows.{first_stands, marked, place_first, place_later}
 use Rattle.draft.proofs.Standing.{blocks_agree}
 use Rattle.draft.proofs.Substituted.{end_itself, itself, op_itself}

@@ -15,19 +15,19 @@ use Rattle.ir_core.specs.declared.operand.Operand.{Operand}
 use Rattle.ir_core.specs.declared.operand.Register.TheVariants as registers
 use Rattle.needed.specs.Operands.{operands_of}
 use Rattle.use_counts.specs.declared.uses.Uses.{Uses}
-use Rattle.draft.specs.Changes.{inst_put, put_in}
-use Rattle.draft.specs.Counts.{AreCounted, operands_at}
-use Rattle.draft.specs.Orders.{none, put_before}
-use Rattle.draft.specs.Readers.{AreListed, AreReadersOf}
+use Rattle.readers.specs.Changes.{inst_put, put_in}
+use Rattle.readers.specs.Counts.{AreCounted, operands_at}
+use Rattle.places.specs.Orders.{none, put_before}
+use Rattle.readers.specs.Readers.{AreListed, AreReadersOf}
 use Rattle.draft.specs.Whole.{AreRowsOf, IsWhole}
 use Rattle.draft.specs.declared.draft.Draft.{Draft}
-use Rattle.draft.specs.declared.draft.Place.{Place}
-use Rattle.draft.specs.declared.uses.Readers.{Readers}
-use Rattle.draft.proofs.Changing.{changed_length, has_known}
+use Rattle.places.specs.declared.place.Place.{Place}
+use Rattle.readers.specs.declared.uses.Readers.{Readers}
+use Rattle.readers.proofs.Changing.{changed_length, has_known}
 use Rattle.draft.proofs.Exchanging.{block_cases}
-use Rattle.draft.proofs.Places.{AreFew, reads_known}
+use Rattle.readers.proofs.Places.{AreFew, reads_known}
 use Rattle.draft.proofs.Putting.{count_kept, facts_put, few_put, known_put, list_kept, list_there, number_there, readers_put}
-use Rattle.draft.proofs.Tables.{row_within}
+use Rattle.readers.proofs.Tables.{row_within}
 use Rattle.draft.proofs.Wholeness.{all_known, few_insts, rows_more}
 
 -- what was done: one more instruction in the arena, in the order of its block, that stands, and has rows; its operands are counted and listed

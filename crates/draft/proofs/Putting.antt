@@ -20,17 +20,17 @@ use Rattle.ir_core.specs.declared.operand.Register.TheVariants as registers
 use Rattle.needed.specs.Operands.{operands_of}
 use Rattle.use_counts.specs.Tables.{HasNumber, count_of}
 use Rattle.use_counts.specs.declared.uses.Uses.{Uses}
-use Rattle.draft.specs.Changes.{inst_put, put_in}
-use Rattle.draft.specs.Counts.{AreCounted, operands_at, times, times_in, times_in_function}
-use Rattle.draft.specs.Orders.{none}
-use Rattle.draft.specs.Readers.{AreListed, AreReadersOf, HasList, IsPlaceIn, arena_place, listed_for}
-use Rattle.draft.specs.declared.draft.Place.{Place}
-use Rattle.draft.specs.declared.uses.Readers.{Readers}
-use Rattle.draft.proofs.Changing.{HasAll, changed_sum, has_known, known_has, known_kept}
+use Rattle.readers.specs.Changes.{inst_put, put_in}
+use Rattle.readers.specs.Counts.{AreCounted, operands_at, times, times_in, times_in_function}
+use Rattle.places.specs.Orders.{none}
+use Rattle.readers.specs.Readers.{AreListed, AreReadersOf, HasList, IsPlaceIn, arena_place, listed_for}
+use Rattle.places.specs.declared.place.Place.{Place}
+use Rattle.readers.specs.declared.uses.Readers.{Readers}
+use Rattle.readers.proofs.Changing.{HasAll, changed_sum, has_known, known_has, known_kept}
 use Rattle.draft.proofs.Exchanging.{block_cases, block_is, block_now, block_other, map_changed, read_in_other}
-use Rattle.draft.proofs.Places.{AreFew, AreKnown}
-use Rattle.draft.proofs.Reading.{operands_at_inst, operands_at_terminator, reads_written, same_place, written_reads}
-use Rattle.draft.proofs.Totals.{counts_are_times, times_are_counts}
+use Rattle.readers.proofs.Places.{AreFew, AreKnown}
+use Rattle.readers.proofs.Reading.{operands_at_inst, operands_at_terminator, reads_written, same_place, written_reads}
+use Rattle.readers.proofs.Totals.{counts_are_times, times_are_counts}
 
 slice_get_left : {A : Type 0} (xs ys : List A) (n : ℕ) → n < length xs → slice_get (xs ++ ys) n ≡ slice_get xs n
 slice_get_left [] ys n within = absurd (omega arith)

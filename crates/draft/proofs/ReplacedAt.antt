@@ -12,20 +12,20 @@ use Rattle.ir_core.specs.declared.operand.Operand.TheVariants as operands
 use Rattle.ir_core.specs.declared.operand.Register.{Register}
 use Rattle.ir_core.specs.declared.terminator.Terminator.{Terminator}
 use Rattle.substitution.specs.Substitution.{substituted_end, substituted_inst, substituted_operand}
-use Rattle.draft.specs.Changes.{changed_at, end_changed, inst_changed, instead, replaced, replaced_at, with_block}
-use Rattle.draft.specs.Counts.{operands_at}
+use Rattle.readers.specs.Changes.{changed_at, end_changed, inst_changed, instead, replaced, replaced_at, with_block}
+use Rattle.readers.specs.Counts.{operands_at}
 use Rattle.draft.specs.Drafts.{numbers_of, orders_of}
-use Rattle.draft.specs.Orders.{none}
-use Rattle.draft.specs.Readers.{IsPlaceIn, IsReader, arena_place}
+use Rattle.places.specs.Orders.{none}
+use Rattle.readers.specs.Readers.{IsPlaceIn, IsReader, arena_place}
 use Rattle.draft.specs.Whole.{IsWhole}
 use Rattle.draft.specs.declared.draft.Draft.{Draft}
-use Rattle.draft.specs.declared.draft.Place.{Place}
+use Rattle.places.specs.declared.place.Place.{Place}
 use Rattle.draft.proofs.Changed.{IsRecounted, differs, few}
-use Rattle.draft.proofs.Changing.{inst_there, known_kept}
+use Rattle.readers.proofs.Changing.{inst_there, known_kept}
 use Rattle.draft.proofs.Exchanging.{end_differs, still_few}
-use Rattle.draft.proofs.Naming.{is_same_register}
-use Rattle.draft.proofs.Places.{AreFew, DiffersAt, is_same_place}
-use Rattle.draft.proofs.Reading.{written_reads}
+use Rattle.readers.proofs.Naming.{is_same_register}
+use Rattle.readers.proofs.Places.{AreFew, DiffersAt, is_same_place}
+use Rattle.readers.proofs.Reading.{written_reads}
 use Rattle.draft.proofs.Replacing.{all_stay, replaced_at_end, replaced_at_inst, replaced_first, stay_twice, unread_stays}
 use Rattle.draft.proofs.Rows.{first_or_later}
 use Rattle.draft.proofs.Swapped.{end_reads_now, inst_reads_now, targets_stay, whole_end_swapped, whole_swapped}

@@ -14,15 +14,15 @@ use Rattle.ir_core.specs.declared.terminator.Terminator.{Terminator}
 use Rattle.needed.specs.Operands.{operands_of, operands_at_end}
 use Rattle.needed.proofs.Counting.{contained_at, mapped}
 use Rattle.substitution.specs.Substitution.{substituted_block, substituted_end, substituted_inst, substituted_op, substituted_operand}
-use Rattle.draft.specs.Changes.{end_changed, inst_changed, instead, replaced, replaced_at, same_register, with_block}
-use Rattle.draft.specs.Counts.{operands_at}
-use Rattle.draft.specs.Orders.{none}
-use Rattle.draft.specs.Readers.{IsPlaceIn}
-use Rattle.draft.specs.declared.draft.Place.{Place}
+use Rattle.readers.specs.Changes.{end_changed, inst_changed, instead, replaced, replaced_at, same_register, with_block}
+use Rattle.readers.specs.Counts.{operands_at}
+use Rattle.places.specs.Orders.{none}
+use Rattle.readers.specs.Readers.{IsPlaceIn}
+use Rattle.places.specs.declared.place.Place.{Place}
 use Rattle.draft.proofs.Exchanging.{map_changed}
-use Rattle.draft.proofs.Naming.{other_register, same_register_is, same_register_self}
-use Rattle.draft.proofs.Places.{AreFew}
-use Rattle.draft.proofs.Reading.{operands_at_inst, operands_at_terminator}
+use Rattle.readers.proofs.Naming.{other_register, same_register_is, same_register_self}
+use Rattle.readers.proofs.Places.{AreFew}
+use Rattle.readers.proofs.Reading.{operands_at_inst, operands_at_terminator}
 use Rattle.draft.proofs.Substituted.{end_agrees, end_itself, itself, op_itself, operand_itself, op_agrees, substituted_end_reads, substituted_reads}
 
 map_same : {A : Type 0} (g : A → A) (xs : List A) → ((k : ℕ) (x : A) → slice_get xs k ≡ Some x → g x ≡ x) → map g xs ≡ xs

@@ -5,9 +5,9 @@ use Rattle.std.proofs.lemmas.Bool.{cases_Bool, cases_eq, cases_lt, cond-false, c
 use Rattle.std.proofs.lemmas.List.{append_assoc, get_or_append_left, get_or_past, get_or_push, length-set, take_all, take_more}
 use Rattle.std.proofs.lemmas.Option.{get_or_from_slice_get, none-some, same_Some, slice_get_cases, slice_get_within}
 use Rattle.needed.proofs.Counting.{contained_at, contains_at, contains_first, contains_later}
-use Rattle.draft.specs.Changes.{changed_at, without}
+use Rattle.readers.specs.Changes.{changed_at, without}
 use Rattle.draft.specs.Drafts.{standing, standing_in}
-use Rattle.draft.specs.Orders.{place_in, put_before}
+use Rattle.places.specs.Orders.{place_in, put_before}
 use Rattle.draft.specs.Placing.{IsOrdering}
 
 abbrev pub marked : List Bool → ℕ → Bool

@@ -13,15 +13,15 @@ use Rattle.ir_core.specs.declared.terminator.Terminator.{Terminator}
 use Rattle.needed.specs.Operands.{operands_of, operands_at_end}
 use Rattle.needed.proofs.Counting.{contained_at, contains_at, contains_first, contains_later}
 use Rattle.substitution.specs.Substitution.{Substitution, substituted_end, substituted_inst, substituted_operand}
-use Rattle.draft.specs.Counts.{operands_at}
+use Rattle.readers.specs.Counts.{operands_at}
 use Rattle.draft.specs.Drafts.{block_of, blocks_of, function_of, insts_of, numbers_in, numbers_of, placed, standing_in}
-use Rattle.draft.specs.Orders.{none, place_in}
+use Rattle.places.specs.Orders.{none, place_in}
 use Rattle.draft.specs.Placing.{AreOrdered, IsOrdering, at_places}
-use Rattle.draft.specs.Readers.{IsPlaceIn, arena_place}
+use Rattle.readers.specs.Readers.{IsPlaceIn, arena_place}
 use Rattle.draft.specs.Whole.{IsSettled, IsWhole}
 use Rattle.draft.specs.declared.draft.Draft.{Draft}
-use Rattle.draft.specs.declared.draft.Place.{Place}
-use Rattle.draft.proofs.Reading.{operands_at_inst, operands_at_terminator, written_reads}
+use Rattle.places.specs.declared.place.Place.{Place}
+use Rattle.readers.proofs.Reading.{operands_at_inst, operands_at_terminator, written_reads}
 use Rattle.draft.proofs.Rows.{Distinct, distinct_once, first_gone, first_stands, marked, once_distinct, standing_at, standing_length, stands_is}
 use Rattle.draft.proofs.Substituted.{Agree, end_agrees, inst_agrees}
 

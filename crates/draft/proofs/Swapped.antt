@@ -17,19 +17,19 @@ use Rattle.ir_core.specs.declared.terminator.Terminator.TheVariants as terminato
 use Rattle.ir_core.specs.Blocks.{targets_of}
 use Rattle.needed.proofs.Counting.{contained_at, contains_at, mapped}
 use Rattle.substitution.specs.Substitution.{Substitution, substituted_end, substituted_inst, substituted_op, substituted_operand}
-use Rattle.draft.specs.Changes.{end_changed, inst_changed, instead, same_register, with_block}
-use Rattle.draft.specs.Counts.{operands_at}
-use Rattle.draft.specs.Orders.{none}
-use Rattle.draft.specs.Readers.{AreReadersOf, IsPlaceIn, arena_place, listed_for}
+use Rattle.readers.specs.Changes.{end_changed, inst_changed, instead, same_register, with_block}
+use Rattle.readers.specs.Counts.{operands_at}
+use Rattle.places.specs.Orders.{none}
+use Rattle.readers.specs.Readers.{AreReadersOf, IsPlaceIn, arena_place, listed_for}
 use Rattle.draft.specs.Whole.{AreRowsOf, IsWhole}
 use Rattle.draft.specs.declared.draft.Draft.{Draft}
-use Rattle.draft.specs.declared.draft.Place.{Place}
+use Rattle.places.specs.declared.place.Place.{Place}
 use Rattle.draft.proofs.Changed.{IsRecounted, block_of_new, blocks_count, differs, few, whole_changed}
-use Rattle.draft.proofs.Changing.{changed_length}
+use Rattle.readers.proofs.Changing.{changed_length}
 use Rattle.draft.proofs.Exchanging.{block_cases, end_differs, end_read_now, end_read_was, read_now, read_was, still_few}
-use Rattle.draft.proofs.Naming.{same_register_is}
-use Rattle.draft.proofs.Places.{AreFew, AreKnown, DiffersAt}
-use Rattle.draft.proofs.Reading.{written_reads}
+use Rattle.readers.proofs.Naming.{same_register_is}
+use Rattle.readers.proofs.Places.{AreFew, AreKnown, DiffersAt}
+use Rattle.readers.proofs.Reading.{written_reads}
 use Rattle.draft.proofs.Replacing.{instead_same}
 use Rattle.draft.proofs.Substituted.{substituted_end_reads, substituted_reads}
 use Rattle.draft.proofs.Wholeness.{all_known, few_insts, rows_swapped}

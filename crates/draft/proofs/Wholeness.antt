@@ -9,16 +9,16 @@ use Rattle.ir_core.specs.declared.function.Block.{Block}
 use Rattle.ir_core.specs.declared.instruction.Inst.{Inst}
 use Rattle.ir_core.specs.declared.instruction.Op.TheVariants.{Freeze}
 use Rattle.ir_core.specs.declared.operand.Operand.TheVariants as operands
-use Rattle.draft.specs.Changes.{gone, inst_changed, inst_put}
+use Rattle.readers.specs.Changes.{gone, inst_changed, inst_put}
 use Rattle.draft.specs.Drafts.{Stands, numbers_in, numbers_of}
-use Rattle.draft.specs.Orders.{none}
+use Rattle.places.specs.Orders.{none}
 use Rattle.draft.specs.Whole.{AreRowsOf, IsWhole}
 use Rattle.draft.specs.declared.draft.Draft.{Draft}
-use Rattle.draft.proofs.Changing.{changed_cases, changed_length}
-use Rattle.draft.proofs.Places.{AreFew, AreKnown, known_reads}
+use Rattle.readers.proofs.Changing.{changed_cases, changed_length}
+use Rattle.readers.proofs.Places.{AreFew, AreKnown, known_reads}
 use Rattle.needed.proofs.Counting.{contained_at}
 use Rattle.draft.specs.Drafts.{standing_in}
-use Rattle.draft.specs.Orders.{put_before}
+use Rattle.places.specs.Orders.{put_before}
 use Rattle.draft.specs.Placing.{IsOrdering}
 use Rattle.draft.proofs.Rows.{is_standing, marked, marked_other, put_keeps, put_ordering, put_there, standing_at, standing_length, stands_is}
 

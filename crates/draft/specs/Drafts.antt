@@ -12,8 +12,8 @@ use Rattle.use_counts.specs.Uses.{IsUsedOnce}
 use Rattle.bindings.specs.declared.binding.Binding.{Binding}
 use Rattle.moved_matches.specs.Moved.{moved_binding}
 use Rattle.draft.specs.declared.draft.Draft.{Draft}
-use Rattle.draft.specs.declared.draft.Place.{Place}
-use Rattle.draft.specs.Orders.{place_in, none}
+use Rattle.places.specs.declared.place.Place.{Place}
+use Rattle.places.specs.Orders.{place_in, none}
 
 -- those of some numbers that stand
 abbrev pub standing_in : List Bool → List ℕ → List ℕ

@@ -1,8 +1,8 @@
 -- Orders that keep what they order while numbers are put between others.
 use Rattle.std.specs.Prelude.{◌≡◌, ℕ, ◌<◌, List, [], length, Contains, slice_index_or, slice_set}
-use Rattle.draft.specs.declared.draft.Place.{Place}
-use Rattle.draft.specs.Heaps.{IsNumbered, ComesBefore}
-use Rattle.draft.specs.Orders.{put_before}
+use Rattle.places.specs.declared.place.Place.{Place}
+use Rattle.places.specs.Heaps.{IsNumbered, ComesBefore}
+use Rattle.places.specs.Orders.{put_before}
 
 -- Each place that has a number in the old orders has it in the new ones, and what comes before it came before it.
 pub record KeepsOrders (old new : List (List ℕ)) : Type 0 where

@@ -4,7 +4,7 @@ use Rattle.ir_core.specs.declared.function.Block.{Block}
 use Rattle.ir_core.specs.declared.operand.Operand.TheVariants as operands
 use Rattle.ir_core.specs.declared.operand.Register.TheVariants as registers
 use Rattle.substitution.specs.Substitution.{Substitution}
-use Rattle.draft.specs.Orders.{place_in}
+use Rattle.places.specs.Orders.{place_in}
 
 -- numbers below a count, each at most once
 pub record IsOrdering (count : ℕ) (numbers : List ℕ) : Type 0 where

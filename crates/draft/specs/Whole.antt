@@ -10,11 +10,11 @@ use Rattle.ir_core.specs.declared.operand.Operand.TheVariants as operands
 use Rattle.ir_core.specs.declared.operand.Register.TheVariants as registers
 use Rattle.bindings.specs.Facts.{AreFactsOf}
 use Rattle.draft.specs.declared.draft.Draft.{Draft}
-use Rattle.draft.specs.declared.draft.Place.{Place}
+use Rattle.places.specs.declared.place.Place.{Place}
 use Rattle.draft.specs.Drafts.{Stands}
-use Rattle.draft.specs.Orders.{none}
+use Rattle.places.specs.Orders.{none}
 use Rattle.draft.specs.Placing.{IsOrdering}
-use Rattle.draft.specs.Readers.{AreReadersOf, IsPlaceIn, IsReader}
+use Rattle.readers.specs.Readers.{AreReadersOf, IsPlaceIn, IsReader}
 
 -- In order stand the numbers of the instructions of a block, each once, whether it was taken out or not; what was reads nothing.
 pub record AreRowsOf (block : Block) (order : List ℕ) (stand : List Bool) : Type 0 where

@@ -8,45 +8,35 @@ ghost use Rattle.ir_core.specs.Reads.{end_of};
 ghost use Rattle.ir_core.specs.declared.function.Block.{Block as Written};
 ghost use Rattle.bindings.specs.Facts.{AreFactsOf};
 ghost use Rattle.needed.specs.Operands.{operands_of};
-ghost use Rattle.draft.specs.Changes.{changed_at, gone, inst_changed, inst_put, put_in, taken_out, without};
-ghost use Rattle.draft.specs.Counts.{operands_at, register_of};
+ghost use Rattle.readers.specs.Changes.{changed_at, gone, inst_changed, inst_put, put_in, taken_out, without};
+ghost use Rattle.readers.specs.Counts.{operands_at, register_of};
 ghost use Rattle.draft.specs.Drafts.{Stands, StandsBefore, function_of, numbers_of, orders_of};
 ghost use Rattle.draft.specs.KeptOrders.{KeepsOrders};
-ghost use Rattle.draft.specs.Orders.{none};
-ghost use Rattle.draft.specs.Orders as numbers;
+ghost use Rattle.places.specs.Orders.{none};
+ghost use Rattle.places.specs.Orders as numbers;
 ghost use Rattle.draft.specs.Whole.{IsWhole, IsSettled};
 
-use crate::order::Order;
-use crate::uses::{Readers, count_reads, forget_reads, list_reads, push_reads};
 use bindings::FunctionFacts;
 use ir_core::{Block, Function, Inst, Op, Operand, Register};
 use lists::List;
+use places::{Order, Place};
+use readers::{Readers, count_reads, forget_reads, list_reads, push_reads};
 use std::alloc::{AllocError, Global};
 use use_counts::Uses;
-
-/// The number of a block's terminator.
-pub(crate) const END: u32 = u32::MAX;
-
-/// What stands in a block: an instruction by its number, or the terminator.
-#[derive(Clone, Copy, PartialEq, Eq, Debug)]
-pub struct Place {
-    pub block: u32,
-    pub number: u32,
-}
 
 /// A function whose instructions keep their numbers.
 #[derive(Drop)]
 pub struct Draft {
     /// The instructions of each block by their numbers: what reads a register names its number. One that was taken out reads nothing.
-    pub(crate) arena: Function,
+    pub arena: Function,
     /// Which blocks are reached, and how often each register is used.
-    pub(crate) facts: FunctionFacts,
-    pub(crate) orders: Vec<Order>,
+    pub facts: FunctionFacts,
+    pub orders: Vec<Order>,
     /// Which instructions stand in the function.
-    pub(crate) stand: Vec<List<bool>>,
-    pub(crate) readers: Readers,
+    pub stand: Vec<List<bool>>,
+    pub readers: Readers,
     /// Registers that were read at a place that reads them no more, and those of instructions that came.
-    pub(crate) fallen: Vec<Register>,
+    pub fallen: Vec<Register>,
 }
 
 impl Draft {
@@ -90,7 +80,7 @@ impl Draft {
     }
 
     /// How many blocks there are.
-    pub(crate) fn blocks(&self) -> u32
+    pub fn blocks(&self) -> u32
         requires { IsWhole self.now }
         ensures { result ≡ length self.now.arena.blocks }
     {
@@ -98,7 +88,7 @@ impl Draft {
     }
 
     /// How many numbers the instructions of a block have.
-    pub(crate) fn count_in(&self, block: u32) -> u32
+    pub fn count_in(&self, block: u32) -> u32
         requires whole { IsWhole self.now }
         requires block { block < length self.now.arena.blocks }
         ensures { result ≡ end_of self.now.arena block }
@@ -129,12 +119,7 @@ impl Draft {
     }
 
     /// Puts an instruction before another, and gives its number.
-    pub(crate) fn put_before(
-        &mut self,
-        alloc: Global,
-        at: Place,
-        inst: Inst,
-    ) -> Result<Place, AllocError>
+    pub fn put_before(&mut self, alloc: Global, at: Place, inst: Inst) -> Result<Place, AllocError>
         requires whole { IsWhole self.old }
         requires at { Stands self.old at.block at.number }
         requires room { (block : Written) → IsBlock self.old.arena at.block block → length block.insts + 1 ≤ none }
@@ -164,7 +149,7 @@ impl Draft {
     }
 
     /// Takes an instruction out.
-    pub(crate) fn take_out(&mut self, at: Place) -> Result<(), AllocError>
+    pub fn take_out(&mut self, at: Place) -> Result<(), AllocError>
         requires whole { IsWhole self.old }
         requires at { HasInst self.old.arena at.block at.number }
         ensures whole { OnOk result (IsWhole self.new) }

@@ -4,24 +4,9 @@
 //! changes costs what it changes, and nothing behind it moves.
 #![tactic(auto)]
 
-mod cleaning;
 mod draft;
-mod heap;
-mod laws;
-mod links;
-mod marks;
 mod operands;
-mod order;
-mod placing;
-mod queue;
-mod rewriting;
-mod stepping;
-mod substituting;
-mod uses;
-mod waiting;
-mod walk;
+mod reading;
 
-pub use draft::{Draft, Place};
-pub use laws::orders_are_kept;
-pub use queue::Queue;
-pub use stepping::step;
+pub use draft::Draft;
+pub use operands::Swap;

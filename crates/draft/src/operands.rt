@@ -4,25 +4,25 @@ ghost use Rattle.std.specs.Prelude.{◌≡◌, ◌↔◌, ◌⊎◌, ◌<◌, le
 ghost use Rattle.ir_core.specs.declared.function.Block.{Block as Written};
 ghost use Rattle.ir_core.specs.Checks.{IsKnown};
 ghost use Rattle.substitution.specs.Substitution.{substituted_end, substituted_inst};
-ghost use Rattle.draft.specs.Changes.{changed_at, end_changed, inst_changed, instead, replaced, replaced_at};
+ghost use Rattle.readers.specs.Changes.{changed_at, end_changed, inst_changed, instead, replaced, replaced_at};
 ghost use Rattle.draft.specs.Drafts.{numbers_of, orders_of};
-ghost use Rattle.draft.specs.Orders.{none};
-ghost use Rattle.draft.specs.Readers.{IsPlaceIn, IsReader};
+ghost use Rattle.places.specs.Orders.{none};
+ghost use Rattle.readers.specs.Readers.{IsPlaceIn, IsReader};
 ghost use Rattle.draft.specs.Whole.{IsWhole};
-ghost use Rattle.draft.specs.declared.draft.Place.{Place as Spot};
+ghost use Rattle.places.specs.declared.place.Place.{Place as Spot};
 
-use crate::draft::{Draft, END, Place};
-use crate::substituting::{Substitute, substitute_end, substitute_inst};
-use crate::uses::{count_reads, forget_reads};
+use crate::draft::Draft;
 use ir_core::{Block, Operand, Register};
 use lists::List;
+use places::{END, Place};
+use readers::{Substitute, count_reads, forget_reads, substitute_end, substitute_inst};
 use std::alloc::{AllocError, Global};
 
 /// An operand that is put for a register.
 #[derive(Clone, Copy, Debug)]
-pub(crate) struct Swap {
-    pub(crate) from: Register,
-    pub(crate) to: Operand,
+pub struct Swap {
+    pub from: Register,
+    pub to: Operand,
 }
 
 impl Substitute for Swap {
@@ -39,7 +39,7 @@ impl Substitute for Swap {
 
 impl Draft {
     /// Puts an operand wherever a register is read, and gives the places.
-    pub(crate) fn replace(&mut self, alloc: Global, swap: &Swap) -> Result<Vec<Place>, AllocError>
+    pub fn replace(&mut self, alloc: Global, swap: &Swap) -> Result<Vec<Place>, AllocError>
         requires whole { IsWhole self.old }
         requires from { IsKnown self.old.arena (Operand.Register swap.now.from) }
         requires to { IsKnown self.old.arena swap.now.to }

@@ -21,8 +21,8 @@ use Rattle.bindings.proofs.Reading.{reads_at_inst}
 use Rattle.moved_matches.specs.Moved.{StandsAt, moved_binding}
 use Rattle.moved_matches.proofs.Staying.{matches_stay}
 use Rattle.draft.specs.Drafts.{placed}
-use Rattle.draft.specs.Orders.{place_in}
-use Rattle.draft.specs.Arranged.{AreArranged, arranged, row_of}
+use Rattle.places.specs.Orders.{place_in}
+use Rattle.draft_steps.specs.Arranged.{AreArranged, arranged, row_of}
 use Rattle.draft_matches.proofs.Back.{inst_back, numbered}
 use Rattle.draft_matches.proofs.Places.{IsStanding, inst_on, inst_was, placed-is, placed_register, reached_back, reached_on, used_once_back, used_once_on}
 use Rattle.draft_matches.proofs.Rooted.{bound_inst, bound_there, each_come}

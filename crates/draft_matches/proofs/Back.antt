@@ -13,8 +13,8 @@ use Rattle.ir_core.specs.declared.operand.Register.{Register}
 use Rattle.ir_core.specs.declared.operand.Register.TheVariants as registers
 use Rattle.substitution.specs.Substitution.{Substitution, substituted_inst, substituted_op, substituted_operand, substituted_entries}
 use Rattle.draft.specs.Drafts.{placed}
-use Rattle.draft.specs.Orders.{place_in}
-use Rattle.draft.specs.Arranged.{row_of}
+use Rattle.places.specs.Orders.{place_in}
+use Rattle.draft_steps.specs.Arranged.{row_of}
 use Rattle.draft_matches.proofs.Places.{IsStanding}
 use Rattle.draft_matches.proofs.Rows.{number_there}
 

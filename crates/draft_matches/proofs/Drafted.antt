@@ -6,11 +6,11 @@ use Rattle.ir_core.specs.declared.operand.Register.TheVariants as registers
 use Rattle.moved_matches.specs.Laws.{TemporariesStandBefore}
 use Rattle.draft.specs.declared.draft.Draft.{Draft}
 use Rattle.draft.specs.Drafts.{Reaches, Stands, numbers_of, arena_of}
-use Rattle.draft.specs.Arranged.{AreArranged}
+use Rattle.draft_steps.specs.Arranged.{AreArranged}
 use Rattle.draft_matches.specs.Laws.{MatchesOfTheArena, MatchesOfTheUntouched}
 use Rattle.draft_matches.proofs.PlacedMatches.{placed_matches}
 use Rattle.draft_matches.proofs.Reaching.{and_on, itself, within_more}
-use Rattle.draft.proofs.Arranged.{is_arranged, once_or_not}
+use Rattle.draft_steps.proofs.Arranged.{is_arranged, once_or_not}
 use Rattle.draft_matches.proofs.Untouched.{IsSameInst, StillThere, still_there}
 
 pub of_the_arena : TemporariesStandBefore → MatchesOfTheArena

@@ -20,8 +20,8 @@ use Rattle.rule_matches.specs.Matches.{AreMatchesInAnyOrder, AreMatchesWhere, Co
 use Rattle.rule_matches.specs.Ready.{AreReady}
 use Rattle.rule_matches.proofs.Joining.{pairs_first, pairs_later}
 use Rattle.draft.specs.Drafts.{placed}
-use Rattle.draft.specs.Orders.{place_in}
-use Rattle.draft.specs.Arranged.{AreArranged, arranged, row_of}
+use Rattle.places.specs.Orders.{place_in}
+use Rattle.draft_steps.specs.Arranged.{AreArranged, arranged, row_of}
 use Rattle.draft_matches.proofs.Arena.{numbered_match, placed_match}
 use Rattle.draft_matches.proofs.Back.{numbered}
 use Rattle.draft_matches.proofs.Rows.{number_there}

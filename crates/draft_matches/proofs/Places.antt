@@ -20,8 +20,8 @@ use Rattle.substitution.specs.Substitution.{Substitution, substituted_end, subst
 use Rattle.use_counts.specs.Uses.{IsNamedAt, IsUsedOnce}
 use Rattle.bindings.proofs.Reading.{reads_at_inst}
 use Rattle.draft.specs.Drafts.{block_of, insts_of, placed}
-use Rattle.draft.specs.Orders.{place_in}
-use Rattle.draft.specs.Arranged.{AreArranged, arranged, row_of}
+use Rattle.places.specs.Orders.{place_in}
+use Rattle.draft_steps.specs.Arranged.{AreArranged, arranged, row_of}
 use Rattle.draft_matches.proofs.Once.{once_on}
 use Rattle.draft_matches.proofs.Reading.{end_substituted, operands_read, read_cases, reads_substituted, targets_substituted}
 use Rattle.draft_matches.proofs.Rows.{as_many_insts, block_at, block_back, inst_at, inst_back, number_there}

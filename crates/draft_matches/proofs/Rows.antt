@@ -8,7 +8,7 @@ use Rattle.ir_core.specs.declared.instruction.Inst.{Inst}
 use Rattle.ir_meaning.proofs.Pieces.{cases_in, first_in, later_in, not_in_empty, some_at}
 use Rattle.substitution.specs.Substitution.{Substitution, substituted_inst}
 use Rattle.draft.specs.Drafts.{block_of, blocks_of, insts_of}
-use Rattle.draft.specs.Orders.{place_in}
+use Rattle.places.specs.Orders.{place_in}
 
 -- ---- the place of a number
 

@@ -7,9 +7,9 @@ use Rattle.rule_matches.specs.declared.matches.Match.{Match}
 use Rattle.rule_matches.specs.Matches.{AreMatchesInAnyOrder, AreMatchesWhere, IsAt}
 use Rattle.rule_matches.specs.Ready.{AreReady}
 use Rattle.draft.specs.declared.draft.Draft.{Draft}
-use Rattle.draft.specs.declared.draft.Place.{Place}
+use Rattle.places.specs.declared.place.Place.{Place}
 use Rattle.draft.specs.Drafts.{AreTouched, Reaches, Stands, function_of, numbers_in, placed_binding, arena_of}
-use Rattle.draft.specs.Orders.{place_in}
+use Rattle.places.specs.Orders.{place_in}
 use Rattle.draft.specs.Whole.{IsSettled}
 
 -- a match that names numbers, by places

@@ -23,9 +23,9 @@ use Rattle.needed.proofs.Counting.{IsKept, block_at, block_back, kept_at, kept_b
 use Rattle.needed.proofs.Reading.{has_inst}
 use Rattle.needed.proofs.SearchLemmas.{end_reads, inst_reads}
 use Rattle.rule_typing.proofs.Images.{Contains-map}
-use Rattle.draft.specs.Cleaning.{AllNeeded}
-use Rattle.draft.proofs.Changing.{inst_there, known_has}
-use Rattle.draft.proofs.Reading.{read_in_block, reads_written, written, written_reads}
+use Rattle.draft_steps.specs.Cleaning.{AllNeeded}
+use Rattle.readers.proofs.Changing.{inst_there, known_has}
+use Rattle.readers.proofs.Reading.{read_in_block, reads_written, written, written_reads}
 
 entries_moved : (kept : KeptMarks) (entries : List (Operand × ℕ)) → map (λ (e : Operand × ℕ). e.0) (map (λ (e : Operand × ℕ). (moved_operand kept e.0, e.1)) entries) ≡ map (moved_operand kept) (map (λ (e : Operand × ℕ). e.0) entries)
 entries_moved kept [] = refl

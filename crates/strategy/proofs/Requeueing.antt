@@ -10,12 +10,12 @@ use Rattle.verdict.specs.declared.verdict.Row.{Row}
 use Rattle.rule_matches.specs.Matches.{AreMatchesInAnyOrder, IsAt}
 use Rattle.rule_matches.specs.Ready.{AreReady}
 use Rattle.draft.specs.declared.draft.Draft.{Draft}
-use Rattle.draft.specs.declared.draft.Place.{Place}
+use Rattle.places.specs.declared.place.Place.{Place}
 use Rattle.draft.specs.Drafts.{AreTouched, HasRoomFor, Reaches, Stands, numbers_of, arena_of, function_of}
-use Rattle.draft.specs.Orders.{none}
-use Rattle.draft.specs.Sets.{Has, Rows}
+use Rattle.places.specs.Orders.{none}
+use Rattle.places.specs.Sets.{Has, Rows}
 use Rattle.draft.specs.Whole.{IsSettled}
-use Rattle.draft.specs.Arranged.{arranged, row_of}
+use Rattle.draft_steps.specs.Arranged.{arranged, row_of}
 use Rattle.draft_matches.specs.Laws.{AreSourcesWithin, MatchesOfTheUntouched}
 use Rattle.draft_matches.proofs.Reaching.{itself}
 use Rattle.asked_verdicts.specs.Asked.{IsTurnedDown}

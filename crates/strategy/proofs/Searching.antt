@@ -19,16 +19,16 @@ use Rattle.rule_matches.specs.Ready.{AreReady}
 use Rattle.rule_matches.proofs.Joining.{none_where}
 use Rattle.rule_matches.proofs.Rooting.{before_end}
 use Rattle.draft.specs.declared.draft.Draft.{Draft}
-use Rattle.draft.specs.declared.draft.Place.{Place}
+use Rattle.places.specs.declared.place.Place.{Place}
 use Rattle.draft.specs.Drafts.{Stands, StandsBefore, function_of, numbers_in, numbers_of, arena_of}
-use Rattle.draft.specs.Orders.{place_in}
-use Rattle.draft.specs.Sets.{Has, IsPlace, IsRemoved, Rows}
+use Rattle.places.specs.Orders.{place_in}
+use Rattle.places.specs.Sets.{Has, IsPlace, IsRemoved, Rows}
 use Rattle.draft.specs.Whole.{IsSettled}
-use Rattle.draft.specs.Arranged.{AreArranged}
+use Rattle.draft_steps.specs.Arranged.{AreArranged}
 use Rattle.draft_matches.specs.Laws.{MatchesOfTheArena, placed_match}
 use Rattle.draft_matches.proofs.Places.{inst_on, number_at}
 use Rattle.draft_matches.proofs.Rows.{number_there}
-use Rattle.draft.proofs.Arranged.{is_arranged}
+use Rattle.draft_steps.proofs.Arranged.{is_arranged}
 use Rattle.asked_verdicts.specs.declared.verdicts.Verdicts.{Verdicts}
 use Rattle.asked_verdicts.specs.Asked.{Pair, pair_of, IsTurnedDown}
 use Rattle.asked_verdicts.specs.Asks.{Asks, AsksAll, AsksUpTo, IsAnywhere}

@@ -8,11 +8,11 @@ use Rattle.verdict.specs.declared.verdict.Row.{Row}
 use Rattle.rule_matches.specs.declared.matches.Match.{Match}
 use Rattle.rule_matches.specs.Matches.{AreMatchesInAnyOrder, IsAt}
 use Rattle.draft.specs.declared.draft.Draft.{Draft}
-use Rattle.draft.specs.declared.draft.Place.{Place}
-use Rattle.draft.specs.Cleaning.{IsClean}
+use Rattle.places.specs.declared.place.Place.{Place}
+use Rattle.draft_steps.specs.Cleaning.{IsClean}
 use Rattle.draft.specs.Drafts.{Stands, function_of, arena_of}
-use Rattle.draft.specs.Queues.{IsQueueOf, waiting_in}
-use Rattle.draft.specs.Sets.{Rows, Has}
+use Rattle.draft_queue.specs.Queues.{IsQueueOf, waiting_in}
+use Rattle.places.specs.Sets.{Rows, Has}
 use Rattle.draft.specs.Whole.{IsSettled}
 use Rattle.draft_matches.specs.Laws.{AreSourcesWithin, placed_match}
 use Rattle.asked_verdicts.specs.declared.verdicts.Verdicts.{Verdicts}

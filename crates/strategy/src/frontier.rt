@@ -9,12 +9,12 @@ ghost use Rattle.verdict.specs.declared.verdict.Row.{Row as VerdictRow};
 ghost use Rattle.rule_matches.specs.Matches.{IsMatchAmong};
 ghost use Rattle.rule_matches.specs.Ready.{AreReady};
 ghost use Rattle.rule_matches.specs.Roots.{AreByRoot};
-ghost use Rattle.draft.specs.Cleaning.{AllNeeded, IsClean};
+ghost use Rattle.draft_steps.specs.Cleaning.{AllNeeded, IsClean};
 ghost use Rattle.draft.specs.Drafts.{AreTouched, HasRoomFor, arena_of, function_of, orders_of};
 ghost use Rattle.draft.specs.KeptOrders.{KeepsOrders};
-ghost use Rattle.draft.specs.Orders.{none};
-ghost use Rattle.draft.specs.Queues.{IsQueueOf, waiting_in};
-ghost use Rattle.draft.specs.Readers.{IsPlaceIn};
+ghost use Rattle.places.specs.Orders.{none};
+ghost use Rattle.draft_queue.specs.Queues.{IsQueueOf, waiting_in};
+ghost use Rattle.readers.specs.Readers.{IsPlaceIn};
 ghost use Rattle.draft.specs.Whole.{IsSettled};
 ghost use Rattle.draft_matches.specs.Laws.{AreSourcesWithin, placed_match};
 ghost use Rattle.asked_verdicts.specs.Asks.{AreVerdicts, AsksAll, IsAnywhere};
@@ -24,7 +24,9 @@ ghost use Rattle.strategy.specs.Searches.{OptimisesCleaned, OptimisesFunction, S
 
 use crate::steps::{Bounds, Turns, clean_checked};
 use asked_verdicts::{Verdicts, any_admitted, first_admitted};
-use draft::{Draft, Place, Queue, orders_are_kept};
+use draft::Draft;
+use draft_queue::{Queue, orders_are_kept};
+use places::Place;
 use draft_matches::{matches_of_the_arena, matches_of_the_untouched};
 use ir_core::Function;
 use needed::{every_cleaned_function_refines_the_old, every_cleaned_number_was_there};
@@ -117,7 +119,7 @@ fn rewrite_cleaned(
     for count in 0..bounds.steps {
         let stepped = step(alloc, &mut frontier, rules, verdicts, bounds.conflicts)?;
         if !stepped {
-            let last = frontier.draft.function(alloc)?;
+            let last = draft_function::function_of(alloc, frontier.draft)?;
             return Ok((
                 last,
                 Turns {
@@ -127,7 +129,7 @@ fn rewrite_cleaned(
             ));
         }
     }
-    let last = frontier.draft.function(alloc)?;
+    let last = draft_function::function_of(alloc, frontier.draft)?;
     let made = search_last(alloc, last, rules, verdicts, bounds)?;
     Ok(made)
 }
@@ -387,5 +389,5 @@ fn rewrite_draft(
     every_cleaned_function_refines_the_old();
     every_cleaned_number_was_there();
     let rule = &rules[chosen.rule as usize];
-    draft::step(alloc, draft, &chosen.binding, rule)
+    draft_steps::step(alloc, draft, &chosen.binding, rule)
 }

@@ -1,6 +1,6 @@
 use Rattle.std.proofs.Common.{refl}
-use Rattle.draft.specs.Changes.{gone}
-use Rattle.draft.proofs.Changing.{block_with}
+use Rattle.readers.specs.Changes.{gone}
+use Rattle.readers.proofs.Changing.{block_with}
 use Rattle.draft.proofs.draft.empty_inst.Goals as goal
 
 pub returns : goal.returns

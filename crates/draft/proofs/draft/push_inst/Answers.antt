@@ -1,5 +1,5 @@
 use Rattle.std.proofs.lemmas.Result.{on_ok_weaker}
-use Rattle.draft.proofs.Changing.{block_pushed}
+use Rattle.readers.proofs.Changing.{block_pushed}
 use Rattle.draft.proofs.draft.push_inst.Goals as goal
 
 pub returns : goal.returns

@@ -1,7 +1,7 @@
 use Rattle.std.proofs.Common.{Some, map, subst}
 use Rattle.draft.specs.Drafts.{Stands}
-use Rattle.draft.specs.Queues.{ComesNext, waiting_in}
-use Rattle.draft.specs.Sets.{IsRemoved}
+use Rattle.draft_queue.specs.Queues.{ComesNext, waiting_in}
+use Rattle.places.specs.Sets.{IsRemoved}
 use Rattle.asked_verdicts.specs.Asked.{pair_of}
 use Rattle.asked_verdicts.proofs.Sequence.{still_verdicts}
 use Rattle.strategy.specs.Frontiers.{LooksAt}

@@ -5,12 +5,13 @@ use Rattle.ir_core.specs.declared.function.Block.{Block}
 use Rattle.ir_core.specs.declared.function.Function.{Function}
 use Rattle.run_history.specs.Laws.{NumbersFit}
 use Rattle.needed.specs.Cleaned.{IsCleaned}
-use Rattle.draft.specs.declared.draft.Place.{Place}
+use Rattle.places.specs.declared.place.Place.{Place}
 use Rattle.draft.specs.Drafts.{arena_of, function_of, orders_of}
-use Rattle.draft.specs.Orders.{none}
-use Rattle.draft.specs.Queues.{waiting_in}
-use Rattle.draft.specs.Readers.{IsPlaceIn}
-use Rattle.draft.proofs.Unchanged.{same_numbers, still_clean, still_settled}
+use Rattle.places.specs.Orders.{none}
+use Rattle.draft_queue.specs.Queues.{waiting_in}
+use Rattle.readers.specs.Readers.{IsPlaceIn}
+use Rattle.draft_queue.proofs.SameDrafts.{same_numbers}
+use Rattle.draft_steps.proofs.Unchanged.{still_clean, still_settled}
 use Rattle.draft_matches.specs.Laws.{placed_match}
 use Rattle.strategy.specs.Frontiers.{PlaceOf}
 use Rattle.strategy.proofs.Reaching.{reached_as_before}

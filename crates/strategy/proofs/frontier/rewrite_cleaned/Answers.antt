@@ -4,7 +4,7 @@ use Rattle.ir_core.specs.Checks.{MeetsChecks}
 use Rattle.ir_core.specs.declared.function.Block.{Block}
 use Rattle.ir_core.specs.declared.function.Function.{Function}
 use Rattle.draft.specs.Drafts.{arena_of, function_of}
-use Rattle.draft.specs.Orders.{none}
+use Rattle.places.specs.Orders.{none}
 use Rattle.asked_verdicts.specs.Asks.{AsksAll, IsAnywhere}
 use Rattle.asked_verdicts.proofs.Sequence.{still_verdicts}
 use Rattle.strategy.specs.Countable.{IsCountable}

@@ -2,7 +2,7 @@ use Rattle.std.proofs.Common.{◌≡◌, ◌<◌, ◌∙◌, ℕ, List, [], Cont
 use Rattle.std.proofs.lemmas.List.{get_or_default}
 use Rattle.std.proofs.lemmas.Option.{slice_get_within}
 use Rattle.draft.specs.Drafts.{Stands}
-use Rattle.draft.specs.Orders.{place_in}
+use Rattle.places.specs.Orders.{place_in}
 use Rattle.draft.proofs.Rows.{same_order}
 use Rattle.draft.proofs.Wholeness.{numbers_are, stands_marked, stands_there}
 use Rattle.draft.proofs.draft.Draft.is_before.Goals as goal

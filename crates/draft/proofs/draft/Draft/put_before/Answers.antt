@@ -15,23 +15,23 @@ use Rattle.ir_core.specs.declared.operand.Register.TheVariants as registers
 use Rattle.needed.specs.Operands.{operands_of}
 use Rattle.needed.proofs.Reading.{end_of-is}
 use Rattle.use_counts.specs.declared.uses.Uses.{Uses}
-use Rattle.draft.specs.Changes.{changed_at, inst_put, put_in}
-use Rattle.draft.specs.Counts.{AreCounted, HasNumbers, operands_at}
+use Rattle.readers.specs.Changes.{changed_at, inst_put, put_in}
+use Rattle.readers.specs.Counts.{AreCounted, HasNumbers, operands_at}
 use Rattle.draft.specs.Drafts.{standing}
 use Rattle.draft.specs.KeptOrders.{KeepsOrders}
-use Rattle.draft.specs.Orders.{none, put_before}
-use Rattle.draft.specs.Readers.{AreListed, HaveLists}
+use Rattle.places.specs.Orders.{none, put_before}
+use Rattle.readers.specs.Readers.{AreListed, HaveLists}
 use Rattle.draft.specs.Whole.{IsWhole}
 use Rattle.draft.specs.declared.draft.Draft.{Draft}
-use Rattle.draft.specs.declared.draft.Place.{Place}
-use Rattle.draft.specs.declared.uses.Readers.{Readers}
+use Rattle.places.specs.declared.place.Place.{Place}
+use Rattle.readers.specs.declared.uses.Readers.{Readers}
 use Rattle.draft.proofs.Exchange.{with_blocks}
-use Rattle.draft.proofs.Places.{few_counted}
+use Rattle.readers.proofs.Places.{few_counted}
 use Rattle.draft.proofs.Put.{all_below, list_row, number_row, whole_put}
 use Rattle.draft.proofs.Putting.{few_put, list_there, number_there, read_put}
-use Rattle.draft.proofs.QueueSteps.{next-keeps}
+use Rattle.draft.proofs.NumberedInsts.{next-keeps}
 use Rattle.draft.proofs.Rows.{put_standing, standing_changed}
-use Rattle.draft.proofs.Tables.{row_within}
+use Rattle.readers.proofs.Tables.{row_within}
 use Rattle.draft.proofs.Wholeness.{few_insts, stands_marked, stands_there}
 use Rattle.draft.proofs.draft.Draft.put_before.Goals as goal
 

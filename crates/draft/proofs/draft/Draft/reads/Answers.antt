@@ -1,5 +1,5 @@
-use Rattle.draft.proofs.Reading.{reads_written, written_reads}
-use Rattle.draft.specs.Readers.{arena_place}
+use Rattle.readers.proofs.Reading.{reads_written, written_reads}
+use Rattle.readers.specs.Readers.{arena_place}
 use Rattle.draft.proofs.Wholeness.{counted_insts}
 use Rattle.draft.proofs.draft.Draft.reads.Goals as goal
 

@@ -7,9 +7,9 @@ use Rattle.ir_core.specs.declared.function.Function.{Function}
 use Rattle.ir_core.specs.declared.operand.Operand.TheVariants as operands
 use Rattle.needed.proofs.Counting.{contains_at}
 use Rattle.draft.specs.Drafts.{numbers_of, standing}
-use Rattle.draft.specs.Heaps.{nowhere, place_at}
-use Rattle.draft.specs.Readers.{IsPlaceIn, IsReader, listed_for}
-use Rattle.draft.specs.declared.draft.Place.{Place}
+use Rattle.places.specs.Heaps.{nowhere, place_at}
+use Rattle.readers.specs.Readers.{IsPlaceIn, IsReader, listed_for}
+use Rattle.places.specs.declared.place.Place.{Place}
 use Rattle.draft.proofs.ReplacedAt.{IsReplacing, replacing_begins, replacing_ends, replacing_goes}
 use Rattle.draft.proofs.draft.Draft.replace.Goals as goal
 

@@ -6,15 +6,15 @@ use Rattle.ir_core.specs.declared.function.Block.{Block}
 use Rattle.ir_core.specs.declared.operand.Operand.{Operand}
 use Rattle.ir_core.specs.declared.operand.Operand.TheVariants as operands
 use Rattle.ir_core.specs.declared.operand.Register.{Register}
-use Rattle.draft.specs.Changes.{replaced_at}
-use Rattle.draft.specs.Counts.{operands_at}
-use Rattle.draft.specs.Orders.{none}
-use Rattle.draft.specs.Readers.{IsPlaceIn}
+use Rattle.readers.specs.Changes.{replaced_at}
+use Rattle.readers.specs.Counts.{operands_at}
+use Rattle.places.specs.Orders.{none}
+use Rattle.readers.specs.Readers.{IsPlaceIn}
 use Rattle.draft.specs.Whole.{IsWhole}
 use Rattle.draft.specs.declared.draft.Draft.{Draft}
-use Rattle.draft.specs.declared.draft.Place.{Place}
+use Rattle.places.specs.declared.place.Place.{Place}
 use Rattle.draft.proofs.Exchange.{with_blocks}
-use Rattle.draft.proofs.Places.{all_listed, few_counted, numbers_for, one_listed, times_counted}
+use Rattle.readers.proofs.Places.{all_listed, few_counted, numbers_for, one_listed, times_counted}
 use Rattle.draft.proofs.ReplacedAt.{few_after, reads_after, swapped_arena, whole_after}
 use Rattle.draft.proofs.Swapped.{swapped_known, swapped_listed}
 use Rattle.draft.proofs.Wholeness.{all_known, counted_insts, few_insts}

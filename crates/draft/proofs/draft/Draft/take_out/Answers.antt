@@ -3,15 +3,15 @@ use Rattle.std.proofs.lemmas.Option.{slice_get-get_or, slice_get_within}
 use Rattle.ir_core.specs.declared.function.Block.{Block}
 use Rattle.ir_core.specs.declared.operand.Operand.{Operand}
 use Rattle.ir_core.specs.declared.operand.Operand.TheVariants as operands
-use Rattle.draft.specs.Changes.{gone, without}
-use Rattle.draft.specs.Counts.{AreCounted, operands_at}
+use Rattle.readers.specs.Changes.{gone, without}
+use Rattle.readers.specs.Counts.{AreCounted, operands_at}
 use Rattle.draft.specs.Drafts.{standing}
 use Rattle.draft.specs.declared.draft.Draft.{Draft}
 use Rattle.draft.proofs.Changed.{reads, whole_taken_out}
-use Rattle.draft.proofs.Changing.{inst_there}
-use Rattle.draft.proofs.Counting.{counted_other, only_one}
+use Rattle.readers.proofs.Changing.{inst_there}
+use Rattle.readers.proofs.Counting.{counted_other, only_one}
 use Rattle.draft.proofs.Exchange.{was_counted, was_numbers, with_blocks}
-use Rattle.draft.proofs.Places.{all_listed}
+use Rattle.readers.proofs.Places.{all_listed}
 use Rattle.draft.proofs.Rows.{standing_marked, without_standing}
 use Rattle.draft.proofs.Wholeness.{counted_insts}
 use Rattle.draft.proofs.draft.Draft.take_out.Goals as goal

@@ -1,5 +1,5 @@
 use Rattle.std.proofs.Common.{sym, subst}
-use Rattle.draft.specs.Cleaning.{AllNeeded}
+use Rattle.draft_steps.specs.Cleaning.{AllNeeded}
 use Rattle.draft.specs.Drafts.{arena_of}
 use Rattle.draft.proofs.Wholeness.{stands_there}
 use Rattle.strategy.proofs.Searching.{unreached_down}

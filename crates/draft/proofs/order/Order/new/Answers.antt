@@ -1,9 +1,0 @@
-use Rattle.draft.proofs.Linking.{numbers-listing}
-use Rattle.draft.proofs.NodeWrites.{listing-own}
-use Rattle.draft.proofs.order.Order.new.Goals as goal
-
-pub invariant_of-result : goal.invariant_of-result
-invariant_of-result c = listing-own c.in_ok-links.links.nodes.items 0 c.in_ok-links.links.first _ c.in_ok-links.ensures
-
-pub returns : goal.returns
-returns c = numbers-listing c.in_ok-links.links.nodes.items 0 c.in_ok-links.links.first _ c.in_ok-links.ensures

@@ -1,7 +1,0 @@
--- the instructions of the numbers before the index are placed
-use Rattle.draft.specs.Placing.{at_places}
-use Rattle.draft.proofs.Placed.{InstsPlaced}
-use Rattle.draft.proofs.placing.placed_insts.Given as goal
-
-abbrev pub invariant-loop-number : goal.invariant-loop-number
-invariant-loop-number l = InstsPlaced (at_places l.places.rows.items) l.fn.insts l.numbers l.number-index l.insts.items l.placed

@@ -1,8 +1,0 @@
--- the place is listed for the operands so far
-use Rattle.std.proofs.Common.{take}
-use Rattle.draft.specs.Counts.{operands_at}
-use Rattle.draft.specs.Readers.{AreListed}
-use Rattle.draft.proofs.uses.list_reads.Given as goal
-
-abbrev pub invariant-loop-index : goal.invariant-loop-index
-invariant-loop-index l = AreListed l.place (take l.index (operands_at l.arena l.place)) l.fn.readers l.readers
