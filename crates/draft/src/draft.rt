@@ -31,9 +31,11 @@ pub struct Draft {
     pub arena: Function,
     /// Which blocks are reached, and how often each register is used.
     pub facts: FunctionFacts,
+    /// In which order the instructions of each block stand.
     pub orders: Vec<Order>,
     /// Which instructions stand in the function.
     pub stand: Vec<List<bool>>,
+    /// For each register the places that may read it.
     pub readers: Readers,
     /// Registers that were read at a place that reads them no more, and those of instructions that came.
     pub fallen: Vec<Register>,

@@ -21,7 +21,9 @@ use std::alloc::{AllocError, Global};
 /// An operand that is put for a register.
 #[derive(Clone, Copy, Debug)]
 pub struct Swap {
+    /// The register.
     pub from: Register,
+    /// What is put for it.
     pub to: Operand,
 }
 

@@ -14,7 +14,9 @@ use std::alloc::{AllocError, Global};
 /// Places that wait, each once.
 #[derive(Drop)]
 pub struct Waiting {
+    /// Which places wait.
     pub marks: Marks,
+    /// The same places, of which none comes before the one above it.
     pub heap: Vec<Place>,
 }
 

@@ -21,7 +21,9 @@ use use_counts::{Uses, uses_of};
 /// For each register what may read it: all that does, and perhaps what did.
 #[derive(Drop)]
 pub struct Readers {
+    /// For each parameter.
     pub parameters: List<List<Place>>,
+    /// For each block the same for the results of its instructions.
     pub results: Vec<List<List<Place>>>,
 }
 
