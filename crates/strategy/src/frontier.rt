@@ -25,11 +25,11 @@ ghost use Rattle.strategy.specs.Searches.{OptimisesCleaned, OptimisesFunction, S
 use crate::steps::{Bounds, Turns, clean_checked};
 use asked_verdicts::{Verdicts, any_admitted, first_admitted};
 use draft::Draft;
-use draft_queue::{Queue, orders_are_kept};
-use places::Place;
 use draft_matches::{matches_of_the_arena, matches_of_the_untouched};
+use draft_queue::{Queue, orders_are_kept};
 use ir_core::Function;
 use needed::{every_cleaned_function_refines_the_old, every_cleaned_number_was_there};
+use places::Place;
 use rewriter::rewritten_functions_meet_checks;
 use rule_core::Rule;
 use rule_matches::{Match, Rules, matches_in_any_order};
