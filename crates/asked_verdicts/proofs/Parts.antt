@@ -1,24 +1,26 @@
 -- A search goes on from one part of a function to the next.
-use Rattle.std.proofs.Common.{◌⊎◌, inl, inr, ℕ, ◌+◌, ◌<◌, ◌≤◌, Bool, true, false, List, [], ◌∷◌, ◌++◌, length, take, map, Some, sym, subst, ◌∙◌, append_assoc, arith}
-use Rattle.std.specs.Prelude.{◌||◌, All, Any, MatchBool}
+use Rattle.std.proofs.Common.{◌≡◌, ◌⊎◌, inl, inr, ℕ, ◌+◌, ◌<◌, ◌≤◌, Bool, true, false, List, [], ◌∷◌, ◌++◌, length, get_or, take, map, Some, sym, subst, ◌∙◌, append_assoc, arith}
+use Rattle.std.specs.Prelude.{◌||◌, All, Any, Contains, MatchBool}
 use Rattle.std.proofs.lemmas.Bool.{cases_lt}
 use Rattle.std.proofs.lemmas.List.{map-append}
-use Rattle.std.proofs.lemmas.List.Elements.{All-append, All-contains, All-nil, Contains-append_right}
+use Rattle.std.proofs.lemmas.List.Elements.{All-append, All-contains, All-nil, Contains-append_right, Contains-get_or}
 use Rattle.std.proofs.lemmas.Option.{slice_get_within}
 use Rattle.ir_core.specs.Reads.{end_of}
 use Rattle.ir_core.specs.Checks.{IsInst}
 use Rattle.ir_core.specs.declared.function.Function.{Function}
 use Rattle.ir_meaning.proofs.Pieces.{contains_at}
 use Rattle.rule_core.specs.declared.rule.Rule.{Rule}
+use Rattle.rule_typing.proofs.Images.{Contains-map, from_map}
 use Rattle.rule_matches.specs.declared.matches.Match.{Match}
 use Rattle.rule_matches.specs.Matches.{AreMatchesWhere, ComesBefore, IsAt, IsMatchAmong}
 use Rattle.rule_matches.specs.Ready.{AreReady}
 use Rattle.rule_matches.proofs.Joining.{before_chosen, joined, joined_before, none_where, same_where}
 use Rattle.rule_matches.proofs.Rooting.{before_end, root_stands}
 use Rattle.asked_verdicts.specs.declared.verdicts.Verdicts.{Verdicts}
-use Rattle.asked_verdicts.specs.Asked.{Pair, pair_of, IsAdmitted, IsTurnedDown}
+use Rattle.asked_verdicts.specs.Asked.{Pair, pair_of, pair_in, IsAdmitted, IsTurnedDown}
 use Rattle.asked_verdicts.specs.Asks.{Asks, AsksAll, AsksUpTo, IsAnywhere}
 use Rattle.asked_verdicts.specs.Parts.{AsksToPlace, IsInBlock}
+use Rattle.asked_verdicts.proofs.Again.{rows_change_nothing}
 use Rattle.asked_verdicts.proofs.Growing.{all_turned_down_stay, any_admitted_stays}
 use Rattle.asked_verdicts.proofs.Passing.{any_left}
 use Rattle.asked_verdicts.proofs.Sequence.{asks_nothing, asks_both, row_stays}
@@ -29,6 +31,9 @@ IsEarlier b k m = IsInBlock b m × (m.binding.place < k)
 
 abbrev pub IsInEarlierBlock : ℕ → Match → Type 0
 IsInEarlierBlock b m = m.binding.block < b
+
+abbrev pub IsPast : ℕ → ℕ → Match → Type 0
+IsPast b k m = IsInEarlierBlock b m ⊎ IsEarlier b k m
 
 any_right : {X : Type 0} (P : X → Type 0) (xs ys : List X) → Any P ys → Any P (xs ++ ys)
 any_right P xs ys (k, x, within, at, h) = (let has = Contains-append_right xs ys x (k, within, at) in (has.0, x, has.1, has.2, h))
@@ -124,19 +129,6 @@ module _ (rules : List Rule) (conflicts : ℕ) (f : Function) where
       (λ m of. (of.0, omega (arith, of.1)))
       (λ m of. (of.0, omega (arith, of.1)))
 
-  pub first_at_place : (b k : ℕ) (chosen : Match) (u v w : Verdicts) → AsksAll rules conflicts f (IsEarlier b k) u v false → AsksUpTo rules conflicts f (IsAt b k) v w chosen
-      → AsksUpTo rules conflicts f (IsInBlock b) u w chosen
-  first_at_place b k chosen u v w first later = ends (IsEarlier b k) (IsAt b k) (IsInBlock b) chosen u v w (place_before b k) split (λ m of. of.0) (λ m of. of.0) first later
-    where
-      split : (m : Match) → IsInBlock b m → ComesBefore m chosen → IsEarlier b k m ⊎ IsAt b k m
-      split m of before = elim before [
-        | inl block ↦ absurd (omega (arith, of, block, later.holds.0))
-        | inr same ↦ elim same.1 [
-          | inl place ↦ inl (of, omega (arith, place, later.holds.1))
-          | inr here ↦ inr (of, here.0 ∙ later.holds.1)
-        ]
-      ]
-
   pub whole_block : (b k : ℕ) (u w : Verdicts) (any : Bool) → AreReady rules → end_of f b ≤ k → AsksAll rules conflicts f (IsEarlier b k) u w any → AsksAll rules conflicts f (IsInBlock b) u w any
   whole_block b k u w any ready past = told_by (IsEarlier b k) (IsInBlock b) u w any within (λ m of. of.0)
     where
@@ -161,16 +153,6 @@ module _ (rules : List Rule) (conflicts : ℕ) (f : Function) where
       (λ m of. omega (arith, of))
       (λ m of. omega (arith, of))
 
-  pub first_in_this_block : (b : ℕ) (chosen : Match) (u v w : Verdicts) → AsksAll rules conflicts f (IsInEarlierBlock b) u v false → AsksUpTo rules conflicts f (IsInBlock b) v w chosen
-      → AsksUpTo rules conflicts f IsAnywhere u w chosen
-  first_in_this_block b chosen u v w first later = ends (IsInEarlierBlock b) (IsInBlock b) IsAnywhere chosen u v w (block_before b) split (λ m of. tt) (λ m of. tt) first later
-    where
-      split : (m : Match) → IsAnywhere m → ComesBefore m chosen → IsInEarlierBlock b m ⊎ IsInBlock b m
-      split m of before = elim before [
-        | inl block ↦ inl (omega (arith, block, later.holds))
-        | inr same ↦ inr (same.0 ∙ later.holds)
-      ]
-
   pub whole_function : (b : ℕ) (u w : Verdicts) (any : Bool) → AreReady rules → length f.blocks ≤ b → AsksAll rules conflicts f (IsInEarlierBlock b) u w any → AsksAll rules conflicts f IsAnywhere u w any
   whole_function b u w any ready past = told_by (IsInEarlierBlock b) IsAnywhere u w any within (λ m of. tt)
     where
@@ -179,3 +161,87 @@ module _ (rules : List Rule) (conflicts : ℕ) (f : Function) where
           let root = root_stands rules f m ready is in
           let less : m.binding.block < length f.blocks = slice_get_within f.blocks m.binding.block root.is_inst.block root.is_inst.is_block in
           omega (arith, less, past)
+
+  -- ---- places that were gone by, in whatever block
+
+  pub nothing_past : (v : Verdicts) → AsksAll rules conflicts f (IsPast 0 0) v v false
+  nothing_past v = asks_none (IsPast 0 0) v (λ m is past. elim past [ inl block ↦ omega (arith, block) | inr place ↦ omega (arith, place.1) ])
+
+  past_before : (b k : ℕ) (m n : Match) → IsPast b k m → IsAt b k n → ComesBefore m n
+  past_before b k m n past of_n = elim past [
+    | inl block ↦ inl (omega (arith, block, of_n.0))
+    | inr place ↦ place_before b k m n place of_n
+  ]
+
+  past_here : (b k : ℕ) (m : Match) → IsAt b k m → IsPast b (k + 1) m
+  past_here b k m of = inr (of.0, omega (arith, of.1))
+
+  past_on : (b k : ℕ) (m : Match) → IsPast b k m → IsPast b (k + 1) m
+  past_on b k m past = elim past [ inl block ↦ inl block | inr place ↦ inr (place.0, omega (arith, place.1)) ]
+
+  pub past_place : (b k : ℕ) (u v w : Verdicts) → AsksAll rules conflicts f (IsPast b k) u v false → AsksAll rules conflicts f (IsAt b k) v w false
+      → AsksAll rules conflicts f (IsPast b (k + 1)) u w false
+  past_place b k u v w = both (IsPast b k) (IsAt b k) (IsPast b (k + 1)) u v w false false (past_before b k) split (past_on b k) (past_here b k)
+    where
+      split : (m : Match) → IsMatchAmong rules f m → IsPast b (k + 1) m → IsPast b k m ⊎ IsAt b k m
+      split m is past = elim past [
+        | inl block ↦ inl (inl block)
+        | inr place ↦ elim (cases_lt m.binding.place k) [ inl less ↦ inl (inr (place.0, less)) | inr late ↦ inr (place.0, omega (arith, place.1, late)) ]
+      ]
+
+  pub past_block : (b k : ℕ) (u w : Verdicts) → AreReady rules → end_of f b ≤ k → AsksAll rules conflicts f (IsPast b k) u w false → AsksAll rules conflicts f (IsPast (b + 1) 0) u w false
+  past_block b k u w ready end = told_by (IsPast b k) (IsPast (b + 1) 0) u w false within on
+    where
+      within : (m : Match) → IsMatchAmong rules f m → IsPast (b + 1) 0 m → IsPast b k m
+      within m is past = elim past [
+        | inr place ↦ absurd (omega (arith, place.1))
+        | inl block ↦ elim (cases_lt m.binding.block b) [
+          | inl less ↦ inl less
+          | inr here ↦
+              let root = root_stands rules f m ready is in
+              let in_block : m.binding.block ≡ b = omega (arith, block, here) in
+              let there : IsInst f b m.binding.place root.inst = subst (λ (d : ℕ). IsInst f d m.binding.place root.inst) in_block root.is_inst in
+              inr (in_block, omega (arith, before_end f b m.binding.place root.inst there, end))
+        ]
+      ]
+
+      on : (m : Match) → IsPast b k m → IsPast (b + 1) 0 m
+      on m past = elim past [ inl block ↦ inl (omega (arith, block)) | inr place ↦ inl (omega (arith, place.0)) ]
+
+  pub past_all : (b k : ℕ) (u w : Verdicts) → AreReady rules → length f.blocks ≤ b → AsksAll rules conflicts f (IsPast b k) u w false → AsksAll rules conflicts f IsAnywhere u w false
+  past_all b k u w ready end = told_by (IsPast b k) IsAnywhere u w false within (λ m past. tt)
+    where
+      within : (m : Match) → IsMatchAmong rules f m → IsAnywhere m → IsPast b k m
+      within m is anywhere =
+          let root = root_stands rules f m ready is in
+          let less : m.binding.block < length f.blocks = slice_get_within f.blocks m.binding.block root.is_inst.block root.is_inst.is_block in
+          inl (omega (arith, less, end))
+
+  pub past_first : (b k : ℕ) (chosen : Match) (u v w : Verdicts) → AsksAll rules conflicts f (IsPast b k) u v false → AsksUpTo rules conflicts f (IsAt b k) v w chosen
+      → AsksUpTo rules conflicts f IsAnywhere u w chosen
+  past_first b k chosen u v w first later = ends (IsPast b k) (IsAt b k) IsAnywhere chosen u v w (past_before b k) split (λ m past. tt) (λ m of. tt) first later
+    where
+      split : (m : Match) → IsAnywhere m → ComesBefore m chosen → IsPast b k m ⊎ IsAt b k m
+      split m of before = elim before [
+        | inl block ↦ inl (inl (omega (arith, block, later.holds.0)))
+        | inr same ↦ elim same.1 [
+          | inl place ↦ inl (inr (same.0 ∙ later.holds.0, omega (arith, place, later.holds.1)))
+          | inr here ↦ inr (same.0 ∙ later.holds.0, here.0 ∙ later.holds.1)
+        ]
+      ]
+
+  -- ---- matches that were turned down before
+
+  rows_there : (v : Verdicts) (ms : List Match) → All (IsTurnedDown v.table) ms → All (Contains (map pair_in v.table)) (map pair_of ms)
+  rows_there v ms down i d lt =
+      let (m, among, is) = from_map pair_of ms (get_or (map pair_of ms) i d) (Contains-get_or (map pair_of ms) i d lt) in
+      let (row, has, pair, other) = All-contains (IsTurnedDown v.table) ms m down among in
+      subst (Contains (map pair_in v.table)) (pair ∙ sym is) (Contains-map pair_in v.table row has)
+
+  pub asks_again : (P : Match → Type 0) (ms : List Match) (v : Verdicts) → AreMatchesWhere rules f P ms → All (IsTurnedDown v.table) ms → AsksAll rules conflicts f P v v false
+  asks_again P ms v are down = record {
+    matches = ms;
+    are_matches = are;
+    asks = rows_change_nothing rules conflicts (map pair_of ms) v (rows_there v ms down);
+    answer = down;
+  }

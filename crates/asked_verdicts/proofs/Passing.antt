@@ -10,7 +10,7 @@ use Rattle.rule_core.specs.declared.rule.Rule.{Rule}
 use Rattle.rule_core.specs.Checks.{IsRule}
 use Rattle.rule_core.specs.Typing.{IsTyping}
 use Rattle.rule_matches.specs.declared.matches.Match.{Match}
-use Rattle.rule_matches.specs.Matches.{IsMatchAmong}
+use Rattle.rule_matches.specs.Matches.{MatchesAmong}
 use Rattle.rule_matches.specs.Ready.{AreReady}
 use Rattle.asked_verdicts.specs.declared.verdicts.Verdicts.{Verdicts}
 use Rattle.asked_verdicts.specs.Asked.{Pair, pair_of, IsAdmitted, IsTurnedDown}
@@ -28,13 +28,13 @@ all_more : {X : Type 0} (P : X → Type 0) (xs : List X) (x : X) → All P xs �
 all_more P xs x all one = All-append P xs (x ∷ []) all (All-cons P x [] one (All-nil P))
 
 -- a match is of a rule that is read, at a typing of it
-pub match_at : (rules : List Rule) (f : Function) (ms : List Match) (k : ℕ) (m : Match) → All (IsMatchAmong rules f) ms → k < length ms → m ≡ get_or ms k m → IsMatchAmong rules f m
-match_at rules f ms k m all within is = subst (IsMatchAmong rules f) (sym is) (all k m within)
+pub match_at : {Before : ℕ → ℕ → Type 0} (rules : List Rule) (f : Function) (ms : List Match) (k : ℕ) (m : Match) → All (MatchesAmong Before rules f) ms → k < length ms → m ≡ get_or ms k m → MatchesAmong Before rules f m
+match_at {Before} rules f ms k m all within is = subst (MatchesAmong Before rules f) (sym is) (all k m within)
 
-pub rule_within : (rules : List Rule) (f : Function) (m : Match) → IsMatchAmong rules f m → m.rule < length rules
+pub rule_within : {Before : ℕ → ℕ → Type 0} (rules : List Rule) (f : Function) (m : Match) → MatchesAmong Before rules f m → m.rule < length rules
 rule_within rules f m is = slice_get_within rules m.rule is.rule is.is_rule
 
-pub rule_of : (rules : List Rule) (f : Function) (m : Match) → AreReady rules → IsMatchAmong rules f m → (rule : Rule) → slice_get rules m.rule ≡ Some rule → IsRule rule × IsTyping rule m.binding.typing
+pub rule_of : {Before : ℕ → ℕ → Type 0} (rules : List Rule) (f : Function) (m : Match) → AreReady rules → MatchesAmong Before rules f m → (rule : Rule) → slice_get rules m.rule ≡ Some rule → IsRule rule × IsTyping rule m.binding.typing
 rule_of rules f m ready is rule at = ((ready m.rule rule at).checks, subst (λ (r : Rule). IsTyping r m.binding.typing) (same_Some is.rule rule (sym is.is_rule ∙ at)) is.matches.typing)
 
 -- after some matches one more is asked

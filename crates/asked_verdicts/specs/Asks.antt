@@ -1,5 +1,5 @@
 -- The verdicts that are kept, and what one search asks.
-use Rattle.std.specs.Prelude.{◌≡◌, ℕ, Bool, false, List, [], ◌∷◌, ◌++◌, map, All, Any, MatchBool, Option, None, Some}
+use Rattle.std.specs.Prelude.{◌≡◌, ℕ, Bool, List, [], ◌∷◌, ◌++◌, map, All, Any, MatchBool}
 use Rattle.ir_core.specs.declared.function.Function.{Function}
 use Rattle.rule_core.specs.declared.rule.Rule.{Rule}
 use Rattle.verdict.specs.declared.verdict.Row.{Row}
@@ -48,8 +48,3 @@ pub record AsksUpTo (rules : List Rule) (conflicts : ℕ) (f : Function) (P : Ma
   pub asks : Asks rules conflicts (map pair_of (passed ++ chosen ∷ [])) old new
   pub turned_down : All (IsTurnedDown new.table) passed
   pub admitted : IsAdmitted new.table chosen
-
--- the first that is admitted is found, and all up to it are asked; or all are, if none is admitted
-abbrev pub AsksToFirst : List Rule → ℕ → Function → (Match → Type 0) → Verdicts → Verdicts → Option Match → Type 0
-AsksToFirst rules conflicts f P old new None = AsksAll rules conflicts f P old new false
-AsksToFirst rules conflicts f P old new (Some chosen) = AsksUpTo rules conflicts f P old new chosen

@@ -1,4 +1,4 @@
-//! Searches through the matches of a function, place by place: no matches are held but those at one instruction.
+//! Searches through some matches, and through those of a function, place by place: no matches are held but those at one instruction.
 
 ghost use Rattle.std.specs.Prelude.{◌<◌, ◌≤◌, ◌^◌, map, length, All, Any, MatchBool, IfOk, OnOk};
 ghost use Rattle.ir_core.specs.Checks.{MeetsChecks};
@@ -7,9 +7,9 @@ ghost use Rattle.bindings.specs.Facts.{AreFactsOf};
 ghost use Rattle.verdict.specs.Limits.{most_conflicts};
 ghost use Rattle.rule_matches.specs.Ready.{AreReady};
 ghost use Rattle.rule_matches.specs.Roots.{AreByRoot};
-ghost use Rattle.rule_matches.specs.Matches.{IsMatchAmong};
+ghost use Rattle.rule_matches.specs.Matches.{IsMatchAmong, IsMatchInAnyOrder};
 ghost use Rattle.asked_verdicts.specs.Asked.{IsAdmitted, IsTurnedDown, pair_of};
-ghost use Rattle.asked_verdicts.specs.Asks.{AreVerdicts, Asks, AsksAll, AsksToFirst, IsAnywhere};
+ghost use Rattle.asked_verdicts.specs.Asks.{AreVerdicts, Asks, AsksAll, IsAnywhere};
 ghost use Rattle.asked_verdicts.specs.Parts.{AsksToPlace, IsInBlock};
 
 use crate::verdicts::Verdicts;
@@ -19,65 +19,8 @@ use rule_core::Rule;
 use rule_matches::{Match, Rules, matches_at};
 use std::alloc::{AllocError, Global};
 
-/// The first match of the function that is admitted. The verdicts of all matches up to it are asked for, and of all matches if there is none.
-pub fn first_admitted(
-    alloc: Global,
-    f: &Function,
-    rules: &Rules<'_>,
-    verdicts: &mut Verdicts,
-    conflicts: u32,
-) -> Result<Option<Match>, AllocError>
-    requires checks { MeetsChecks f.now }
-    requires blocks { length f.now.blocks < 2 ^ 32 }
-    requires insts { All (λ b. length b.insts < 2 ^ 32) f.now.blocks }
-    requires ready { AreReady rules.now.all.now }
-    requires by_root { AreByRoot rules.now.all.now rules.now.by_root.now }
-    requires conflicts { conflicts ≤ most_conflicts }
-    requires verdicts { AreVerdicts rules.now.all.now conflicts verdicts.old }
-    ensures { IfOk result (AsksToFirst rules.now.all.now conflicts f.now IsAnywhere verdicts.old verdicts.new) }
-{
-    let facts = FunctionFacts::of(alloc, f)?;
-    for block in 0..f.blocks.len() as u32 {
-        let found = first_in_block(alloc, f, &facts, rules, block, verdicts, conflicts)?;
-        if let Some(first) = found {
-            return Ok(Some(first));
-        }
-    }
-    Ok(None)
-}
-
-/// The first match in a block that is admitted.
-fn first_in_block(
-    alloc: Global,
-    f: &Function,
-    facts: &FunctionFacts,
-    rules: &Rules<'_>,
-    block: u32,
-    verdicts: &mut Verdicts,
-    conflicts: u32,
-) -> Result<Option<Match>, AllocError>
-    requires checks { MeetsChecks f.now }
-    requires insts { All (λ b. length b.insts < 2 ^ 32) f.now.blocks }
-    requires facts { AreFactsOf f.now facts.now }
-    requires ready { AreReady rules.now.all.now }
-    requires by_root { AreByRoot rules.now.all.now rules.now.by_root.now }
-    requires conflicts { conflicts ≤ most_conflicts }
-    requires verdicts { AreVerdicts rules.now.all.now conflicts verdicts.old }
-    ensures { IfOk result (AsksToFirst rules.now.all.now conflicts f.now (IsInBlock block) verdicts.old verdicts.new) }
-{
-    for place in 0..end_of(f, block) {
-        let found = matches_at(alloc, f, facts, rules, block, place)?;
-        let matches = found.as_slice();
-        let admitted = first_of(alloc, rules.all, matches, verdicts, conflicts)?;
-        if let Some(first) = admitted {
-            return Ok(Some(found.into_vec().swap_remove(first)));
-        }
-    }
-    Ok(None)
-}
-
 /// The place of the first of some matches that is admitted. The verdicts of all up to it are asked for, and of all if there is none.
-fn first_of(
+pub fn first_admitted(
     alloc: Global,
     rules: &[Rule],
     matches: &[Match],
@@ -85,7 +28,7 @@ fn first_of(
     conflicts: u32,
 ) -> Result<Option<usize>, AllocError>
     requires ready { AreReady rules.now }
-    requires matches { (f : FunctionSearched) × All (IsMatchAmong rules.now f) matches.now }
+    requires matches { (f : FunctionSearched) × All (IsMatchInAnyOrder rules.now f) matches.now }
     requires conflicts { conflicts ≤ most_conflicts }
     requires verdicts { AreVerdicts rules.now conflicts verdicts.old }
     ensures { IfOk result (AsksToPlace rules.now conflicts matches.now verdicts.old verdicts.new) }

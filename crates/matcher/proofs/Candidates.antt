@@ -17,7 +17,7 @@ use Rattle.rule_core.specs.declared.rule.Statement.{Statement}
 use Rattle.rule_core.proofs.Members.{Contains-from_get}
 use Rattle.rule_typing.specs.Classes.{HasClasses, IsNamedInSource}
 use Rattle.rule_typing.specs.Faults.{HasNoFault}
-use Rattle.bindings.specs.Match.{IsMatch}
+use Rattle.bindings.specs.Match.{MatchesInAnyOrder}
 use Rattle.matcher.specs.Slots.{AreSlotsOf, IsFilledAs, Keeps, Knows, KnowsFrom, KnowsName, KnowsOperand, KnowsStatement, OperandsMatch}
 use Rattle.bindings.specs.declared.binding.Binding.{Binding}
 use Rattle.matcher.specs.declared.slots.Slots.{Slots}
@@ -29,7 +29,7 @@ use Rattle.bindings.proofs.Reading.{width_of_inst}
 use Rattle.matcher.proofs.Widths.{as_many, stable}
 
 -- the root is bound to the instruction at which the match stands
-pub root_bound : (f : Function) (b p : ℕ) (rule : Rule) (m : Binding) → IsMatch f b p rule m → (k : ℕ) → k + 1 ≡ length rule.source → slice_get m.statements k ≡ Some (registers.Result b p)
+pub root_bound : (f : Function) (b p : ℕ) (rule : Rule) (m : Binding) → MatchesInAnyOrder f b p rule m → (k : ℕ) → k + 1 ≡ length rule.source → slice_get m.statements k ≡ Some (registers.Result b p)
 root_bound f b p rule m is k last =
     let (s, at) = statement_at rule k (omega arith) in
     let bound = is.statements k s at in
@@ -69,7 +69,7 @@ pub record Takes (f : Function) (slots : Slots) (m : Binding) (j : ℕ) (s : Sta
   pub typing : slice_get m.typing s.class ≡ Some N
   pub operands : OperandsMatch f m b p s.op
 
-pub takes : (f : Function) (b p : ℕ) (rule : Rule) (slots : Slots) (m : Binding) (j : ℕ) (s : Statement) → IsRule rule → IsMatch f b p rule m → slice_get rule.source j ≡ Some s → KnowsFrom rule (j + 1) slots m → Takes f slots m j s
+pub takes : (f : Function) (b p : ℕ) (rule : Rule) (slots : Slots) (m : Binding) (j : ℕ) (s : Statement) → IsRule rule → MatchesInAnyOrder f b p rule m → slice_get rule.source j ≡ Some s → KnowsFrom rule (j + 1) slots m → Takes f slots m j s
 takes f b p rule slots m j s is_rule is at knows =
     let bound = is.statements j s at in
     record {
@@ -130,7 +130,7 @@ later : (rule : Rule) (k : ℕ) (slots : Slots) (m : Binding) → KnowsFrom rule
 later rule k slots m knows = record { root = knows.root; fixed = knows.fixed; statements = λ i s late at. knows.statements i s (omega arith) at }
 
 -- in the end all slots are filled as the match has it
-pub filled_as : (f : Function) (b p : ℕ) (rule : Rule) (slots : Slots) (m : Binding) → IsRule rule → HasNoFault rule → IsMatch f b p rule m → AreSlotsOf rule slots → KnowsFrom rule 0 slots m → IsFilledAs slots m
+pub filled_as : (f : Function) (b p : ℕ) (rule : Rule) (slots : Slots) (m : Binding) → IsRule rule → HasNoFault rule → MatchesInAnyOrder f b p rule m → AreSlotsOf rule slots → KnowsFrom rule 0 slots m → IsFilledAs slots m
 filled_as f b p rule slots m is_rule no_fault is are knows =
     let widths : length slots.widths.items ≡ length m.typing = as_many rule m.typing (length slots.widths.items) is.typing are.widths in
     record {

@@ -5,3 +5,4 @@ pub mod SourceSlots
 pub mod Candidates
 pub mod OneBinding
 pub mod Rooted
+pub mod Ordered

@@ -24,7 +24,7 @@ use Rattle.rule_core.proofs.Members.{Contains-from_get}
 use Rattle.rule_typing.specs.Classes.{IsNamedInSource}
 use Rattle.rule_typing.specs.Faults.{HasNoFault}
 use Rattle.matcher.specs.Laws.{MatchesHaveOneBinding}
-use Rattle.bindings.specs.Match.{IsMatch}
+use Rattle.bindings.specs.Match.{MatchesInAnyOrder}
 use Rattle.bindings.specs.Operands.{StandsFor, OperandMatches}
 use Rattle.bindings.specs.Statements.{StatementMatches}
 use Rattle.bindings.specs.declared.binding.Binding.{Binding}
@@ -33,6 +33,7 @@ use Rattle.matcher.proofs.Candidates.{root_bound}
 use Rattle.bindings.proofs.Fitting.{SourceOperand, source_operand, met_at}
 use Rattle.bindings.proofs.Lists.{place_of, same_list}
 use Rattle.bindings.proofs.Reading.{same_inst}
+use Rattle.bindings.proofs.Roots.{in_any_order}
 use Rattle.matcher.proofs.Widths.{as_many, stable}
 
 one_register : (a : Operand) (r q : Register) → a ≡ operands.Register r → a ≡ operands.Register q → r ≡ q
@@ -68,7 +69,7 @@ same_binding x y block place statements inputs constants typing =
     ∙ ap (λ v. made y.block y.place y.statements y.inputs v x.typing) constants
     ∙ ap (λ v. made y.block y.place y.statements y.inputs y.constants v) typing
 
-module _ (f : Function) (b p : ℕ) (rule : Rule) (is_rule : IsRule rule) (x y : Binding) (is_x : IsMatch f b p rule x) (is_y : IsMatch f b p rule y) where
+module _ (f : Function) (b p : ℕ) (rule : Rule) (is_rule : IsRule rule) (x y : Binding) (is_x : MatchesInAnyOrder f b p rule x) (is_y : MatchesInAnyOrder f b p rule y) where
   -- statement j is bound to one register
   abbrev Agree : ℕ → Type 0
   Agree j = slice_get x.statements j ≡ slice_get y.statements j
@@ -178,5 +179,10 @@ module _ (f : Function) (b p : ℕ) (rule : Rule) (is_rule : IsRule rule) (x y :
       let (q, (o, at, read)) = is_rule.constants_read k (omega (arith, is_x.constant_count)) in on_constant k o read (read_of o (source_operand rule q o at))))
       (same_list x.typing y.typing same_count (on_class no_fault))
 
+-- in whatever order instructions stand
+pub one_in_any_order : (f : Function) (b k : ℕ) (rule : Rule) (x y : Binding) → IsRule rule → HasNoFault rule → MatchesInAnyOrder f b k rule x → MatchesInAnyOrder f b k rule y → x ≡ y
+one_in_any_order f b k rule x y is_rule no_fault is_x is_y = one_binding f b k rule is_rule x y is_x is_y no_fault
+
 pub matches_have_one_binding : MatchesHaveOneBinding
-matches_have_one_binding f b k rule x y is_rule no_fault is_x is_y = one_binding f b k rule is_rule x y is_x is_y no_fault
+matches_have_one_binding f b k rule x y is_rule no_fault is_x is_y =
+    one_in_any_order f b k rule x y is_rule no_fault (in_any_order f b k rule x is_x) (in_any_order f b k rule y is_y)

@@ -4,7 +4,7 @@ ghost use Rattle.std.specs.Prelude.{◌≡◌, ◌<◌, ◌^◌, length, All, If
 ghost use Rattle.rule_core.specs.Checks.{IsRule};
 ghost use Rattle.rule_typing.specs.Classes.{IsClassified};
 ghost use Rattle.rule_typing.specs.Faults.{HasNoFault};
-ghost use Rattle.bindings.specs.Match.{IsMatch};
+ghost use Rattle.bindings.specs.Match.{MatchesInAnyOrder};
 ghost use Rattle.bindings.specs.declared.binding.Binding.{Binding};
 
 use crate::slots::Slots;
@@ -27,7 +27,7 @@ pub(crate) fn candidate(
     requires classes { IsClassified rule.now }
     requires typed { HasNoFault rule.now }
     ensures forced { IfOk result (λ found.
-        (m : Binding) → IsMatch f.now block place rule.now m → found ≡ Some m) }
+        (m : Binding) → MatchesInAnyOrder f.now block place rule.now m → found ≡ Some m) }
     ensures place { IfOk result (λ found. IfSome found (λ binding. (binding.block ≡ block) × (binding.place ≡ place))) }
 {
     let mut slots = Slots::new(alloc, rule, Register::Result(block, place))?;

@@ -7,7 +7,7 @@ ghost use Rattle.rule_core.specs.Checks.{IsRule};
 ghost use Rattle.rule_typing.specs.Classes.{IsClassified};
 ghost use Rattle.rule_typing.specs.Faults.{HasNoFault};
 ghost use Rattle.bindings.specs.Facts.{AreFactsOf};
-ghost use Rattle.bindings.specs.Match.{IsMatch};
+ghost use Rattle.bindings.specs.Match.{IsMatch, MatchesInAnyOrder};
 ghost use Rattle.bindings.specs.declared.binding.Binding.{Binding};
 
 use crate::candidate::candidate;
@@ -21,7 +21,6 @@ use std::alloc::{AllocError, Global};
 ///
 /// Where the instruction is one operation with the rule's root, all blocks are looked at, for which are reached and how often registers
 /// are used: [`match_in`] takes that as an argument. Elsewhere it takes no memory.
-#[tactic(auto, using(crate::proofs::Rooted::matched_operation))]
 pub fn match_at(
     alloc: Global,
     f: &Function,
@@ -42,6 +41,7 @@ pub fn match_at(
     ensures ok { IfOk result (λ found. IfSome found (IsMatch f.now block place rule.now)) }
     ensures none { IfOk result (λ found. IfNone found ((binding : Binding) → ¬ IsMatch f.now block place rule.now binding)) }
 {
+    temporaries_stand_before_roots();
     if !is_root_operation(f, block, place, rule) {
         return Ok(None);
     }
@@ -49,8 +49,10 @@ pub fn match_at(
     match_in(alloc, f, &facts, block, place, rule)
 }
 
-/// The same, with what is known of the whole function. It takes as many steps as the rule has operands and nodes, for each of its
-/// classes; and no memory where the block isn't reached, or the instruction isn't one operation with the rule's root.
+/// The same, with what is known of the whole function, and in whatever order instructions stand.
+///
+/// It takes as many steps as the rule has operands and nodes, for each of its classes; and no memory where the block isn't reached, or the
+/// instruction isn't one operation with the rule's root.
 #[tactic(auto, using(crate::proofs::Rooted::matched_operation))]
 pub fn match_in(
     alloc: Global,
@@ -60,17 +62,15 @@ pub fn match_in(
     place: u32,
     rule: &Rule,
 ) -> Result<Option<Binding>, AllocError>
-    requires checks { MeetsChecks f.now }
     requires insts { All (λ b. length b.insts < 2 ^ 32) f.now.blocks }
     requires facts { AreFactsOf f.now facts.now }
     requires place { HasInst f.now block place }
     requires rule { IsRule rule.now }
     requires classes { IsClassified rule.now }
     requires typed { HasNoFault rule.now }
-    ensures ok { IfOk result (λ found. IfSome found (IsMatch f.now block place rule.now)) }
-    ensures none { IfOk result (λ found. IfNone found ((binding : Binding) → ¬ IsMatch f.now block place rule.now binding)) }
+    ensures ok { IfOk result (λ found. IfSome found (MatchesInAnyOrder f.now block place rule.now)) }
+    ensures none { IfOk result (λ found. IfNone found ((binding : Binding) → ¬ MatchesInAnyOrder f.now block place rule.now binding)) }
 {
-    temporaries_stand_before_roots();
     if !facts.flow.reached(block) || !is_root_operation(f, block, place, rule) {
         return Ok(None);
     }

@@ -11,9 +11,11 @@ mod laws;
 mod moving;
 mod numbers;
 mod search;
+mod unneeded;
 
 pub use cleaning::clean;
 pub use laws::{
     every_cleaned_function_refines_the_old, every_cleaned_module_refines_the_old,
     every_cleaned_number_was_there,
 };
+pub use unneeded::unneeded_insts;

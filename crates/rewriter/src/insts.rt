@@ -155,7 +155,7 @@ fn insts_put(
 }
 
 /// What a rule puts in the place of the root of this name, and what stands for the root's register.
-pub(crate) fn rewrite_of(
+pub fn rewrite_of(
     alloc: Global,
     rule: &Rule,
     binding: &Binding,

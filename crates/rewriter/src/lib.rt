@@ -10,4 +10,5 @@ mod laws;
 mod operands;
 
 pub use applying::apply;
+pub use insts::rewrite_of;
 pub use laws::{rewritten_functions_meet_checks, rewritten_functions_refine};

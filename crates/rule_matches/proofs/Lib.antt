@@ -5,3 +5,4 @@ pub mod Rooting
 pub mod Joining
 pub mod Matching
 pub mod Ordering
+pub mod Ordered

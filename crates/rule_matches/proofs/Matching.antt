@@ -8,13 +8,13 @@ use Rattle.ir_core.specs.Checks.{IsInst}
 use Rattle.ir_core.specs.declared.function.Function.{Function}
 use Rattle.ir_core.specs.declared.instruction.Inst.{Inst}
 use Rattle.rule_core.specs.declared.rule.Rule.{Rule}
-use Rattle.bindings.specs.Match.{IsMatch}
+use Rattle.bindings.specs.Match.{MatchesInAnyOrder}
 use Rattle.bindings.specs.declared.binding.Binding.{Binding}
-use Rattle.matcher.proofs.OneBinding.{matches_have_one_binding}
+use Rattle.matcher.proofs.OneBinding.{one_in_any_order}
 use Rattle.bindings.proofs.Reading.{same_inst}
 use Rattle.rule_matches.specs.declared.matches.Match.{Match}
 use Rattle.rule_matches.specs.Found.{IsOf}
-use Rattle.rule_matches.specs.Matches.{AreMatchesWhere, ComesBefore, IsAt, IsMatchAmong}
+use Rattle.rule_matches.specs.Matches.{AreMatchesInAnyOrder, ComesBefore, IsAt, IsMatchInAnyOrder}
 use Rattle.rule_matches.specs.Ready.{AreReady}
 use Rattle.rule_matches.specs.Roots.{AreCandidates, kind_of_inst}
 use Rattle.rule_matches.proofs.Joining.{joined, none_where, one_where, same_where}
@@ -32,29 +32,33 @@ same_match m n rule binding =
 module _ (rules : List Rule) (f : Function) where
   -- the match of one rule
   module _ (b k r : ℕ) (tried : Rule) (at : slice_get rules r ≡ Some tried) (ready : AreReady rules) where
-    here : (m : Match) → IsMatchAmong rules f m → IsOf b k r m → IsMatch f b k tried m.binding
+    here : (m : Match) → IsMatchInAnyOrder rules f m → IsOf b k r m → MatchesInAnyOrder f b k tried m.binding
     here m is (block, place, rule) =
         let same : is.rule ≡ tried = same_Some is.rule tried (sym is.is_rule ∙ ap (slice_get rules) rule ∙ at) in
-        subst (λ (x : Rule). IsMatch f b k x m.binding) same
-        (subst (λ (p : ℕ). IsMatch f b p is.rule m.binding) place (subst (λ (d : ℕ). IsMatch f d m.binding.place is.rule m.binding) block is.matches))
+        subst (λ (x : Rule). MatchesInAnyOrder f b k x m.binding) same
+        (subst (λ (p : ℕ). MatchesInAnyOrder f b p is.rule m.binding) place (subst (λ (d : ℕ). MatchesInAnyOrder f d m.binding.place is.rule m.binding) block is.matches))
 
-    pub no_match : ((binding : Binding) → ¬ IsMatch f b k tried binding) → AreMatchesWhere rules f (IsOf b k r) []
-    no_match never = none_where rules f (IsOf b k r) (λ m is of. never m.binding (here m is of))
+    pub no_match : ((binding : Binding) → ¬ MatchesInAnyOrder f b k tried binding) → AreMatchesInAnyOrder rules f (IsOf b k r) []
+    no_match never =
+        let none : (m : Match) → IsMatchInAnyOrder rules f m → ¬ IsOf b k r m = λ m is of. never m.binding (here m is of) in
+        none_where rules f (IsOf b k r) none
 
-    pub one_match : (binding : Binding) → IsMatch f b k tried binding → AreMatchesWhere rules f (IsOf b k r) (record { rule = r; binding = binding } ∷ [])
+    pub one_match : (binding : Binding) → MatchesInAnyOrder f b k tried binding → AreMatchesInAnyOrder rules f (IsOf b k r) (record { rule = r; binding = binding } ∷ [])
     one_match binding is =
         let m : Match = record { rule = r; binding = binding } in
-        let there : IsMatch f binding.block binding.place tried binding =
-        subst (λ (p : ℕ). IsMatch f binding.block p tried binding) (sym is.place) (subst (λ (d : ℕ). IsMatch f d k tried binding) (sym is.block) is) in
-        one_where rules f (IsOf b k r) m (record { rule = tried; is_rule = at; matches = there }) (is.block, is.place, refl) (λ n is_n of.
-        same_match m n (sym of.2) (matches_have_one_binding f b k tried binding n.binding (ready r tried at).checks (ready r tried at).typed is (here n is_n of)))
+        let there : MatchesInAnyOrder f binding.block binding.place tried binding =
+        subst (λ (p : ℕ). MatchesInAnyOrder f binding.block p tried binding) (sym is.place) (subst (λ (d : ℕ). MatchesInAnyOrder f d k tried binding) (sym is.block) is) in
+        let is_m : IsMatchInAnyOrder rules f m = record { rule = tried; is_rule = at; matches = there } in
+        let only : (n : Match) → IsMatchInAnyOrder rules f n → IsOf b k r n → m ≡ n = λ n is_n of.
+        same_match m n (sym of.2) (one_in_any_order f b k tried binding n.binding (ready r tried at).checks (ready r tried at).typed is (here n is_n of)) in
+        one_where rules f (IsOf b k r) m is_m (is.block, is.place, refl) only
 
   -- and of the next one
   pub next_rule : (b k : ℕ) (places : List ℕ) (i r : ℕ) (old new more : List Match) → i < length places → r ≡ get_or places i 0 → AllPairs (λ q s. q < s) places
-      → AreMatchesWhere rules f (IsAtAmong b k (take i places)) old → new ≡ old ++ more → AreMatchesWhere rules f (IsOf b k r) more
-      → AreMatchesWhere rules f (IsAtAmong b k (take (i + 1) places)) new
+      → AreMatchesInAnyOrder rules f (IsAtAmong b k (take i places)) old → new ≡ old ++ more → AreMatchesInAnyOrder rules f (IsOf b k r) more
+      → AreMatchesInAnyOrder rules f (IsAtAmong b k (take (i + 1) places)) new
   next_rule b k places i r old new more within is ordered found then later =
-      subst (AreMatchesWhere rules f (IsAtAmong b k (take (i + 1) places))) (sym then)
+      subst (AreMatchesInAnyOrder rules f (IsAtAmong b k (take (i + 1) places))) (sym then)
       (joined rules f (IsAtAmong b k (take i places)) (IsOf b k r) (IsAtAmong b k (take (i + 1) places)) old more found later before split
       (λ m of. (of.0, of.1, subst (λ (l : List ℕ). Contains l m.rule) (sym grown) (Contains-append_left (take i places) (r ∷ []) m.rule of.2)))
       (λ m of. (of.0, of.1, subst (λ (l : List ℕ). Contains l m.rule) (sym grown) (subst (Contains (take i places ++ r ∷ [])) (sym of.2) (Contains-push (take i places) r)))))
@@ -74,7 +78,7 @@ module _ (rules : List Rule) (f : Function) where
       before m n of_m of_n =
           inr (of_m.0 ∙ sym of_n.0, inr (of_m.1 ∙ sym of_n.1, subst (λ (s : ℕ). m.rule < s) (sym of_n.2) (below m.rule of_m.2)))
 
-      split : (m : Match) → IsMatchAmong rules f m → IsAtAmong b k (take (i + 1) places) m → IsAtAmong b k (take i places) m ⊎ IsOf b k r m
+      split : (m : Match) → IsMatchInAnyOrder rules f m → IsAtAmong b k (take (i + 1) places) m → IsAtAmong b k (take i places) m ⊎ IsOf b k r m
       split m is_m of = elim (Contains-push_cases (take i places) r m.rule (subst (λ (l : List ℕ). Contains l m.rule) grown of.2)) [
         | inl early ↦ inl (of.0, of.1, early)
         | inr last ↦ inr (of.0, of.1, sym last)
@@ -82,11 +86,11 @@ module _ (rules : List Rule) (f : Function) where
 
   -- of all that may match
   pub each_rule : (b k : ℕ) (inst : Inst) (places : List ℕ) (i : ℕ) (found : List Match) → AreReady rules → IsInst f b k inst → AreCandidates rules inst.op places → length places ≤ i
-      → AreMatchesWhere rules f (IsAtAmong b k (take i places)) found → AreMatchesWhere rules f (IsAt b k) found
+      → AreMatchesInAnyOrder rules f (IsAtAmong b k (take i places)) found → AreMatchesInAnyOrder rules f (IsAt b k) found
   each_rule b k inst places i found ready at candidates past are =
       same_where rules f (IsAtAmong b k (take i places)) (IsAt b k) found are back (λ m of. (of.0, of.1))
     where
-      back : (m : Match) → IsMatchAmong rules f m → IsAt b k m → IsAtAmong b k (take i places) m
+      back : (m : Match) → IsMatchInAnyOrder rules f m → IsAt b k m → IsAtAmong b k (take i places) m
       back m is of =
           let root = root_stands rules f m ready is in
           let there : IsInst f b k root.inst = subst (λ (p : ℕ). IsInst f b p root.inst) of.1 (subst (λ (d : ℕ). IsInst f d m.binding.place root.inst) of.0 root.is_inst) in

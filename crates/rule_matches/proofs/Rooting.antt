@@ -19,7 +19,7 @@ use Rattle.rule_matches.specs.declared.matches.Match.{Match}
 use Rattle.rule_matches.specs.declared.roots.RootKind.{RootKind}
 use Rattle.rule_matches.specs.declared.roots.RootKind.TheVariants.{Binary, Compare, Unary, Select, Convert, Freeze}
 use Rattle.rule_matches.specs.Ready.{AreReady}
-use Rattle.rule_matches.specs.Matches.{IsMatchAmong}
+use Rattle.rule_matches.specs.Matches.{MatchesAmong}
 use Rattle.rule_matches.specs.Roots.{kind_of_statement, kind_of_inst, kind_of_root, HasRootKind}
 
 -- statements and instructions of one operation are of one kind
@@ -40,7 +40,7 @@ pub record RootStands (rules : List Rule) (f : Function) (m : Match) : Type 0 wh
   pub of_inst : kind_of_inst inst.op ≡ Some kind
   pub of_rule : HasRootKind rules kind m.rule
 
-pub root_stands : (rules : List Rule) (f : Function) (m : Match) → AreReady rules → IsMatchAmong rules f m → RootStands rules f m
+pub root_stands : {Before : ℕ → ℕ → Type 0} (rules : List Rule) (f : Function) (m : Match) → AreReady rules → MatchesAmong Before rules f m → RootStands rules f m
 root_stands rules f m ready is = by (length is.rule.source - 1) (let some : 0 < length is.rule.source = (ready m.rule is.rule is.is_rule).checks.source_root in omega (arith, some)) refl
   where
     by : (j : ℕ) → suc j ≡ length is.rule.source → j ≡ length is.rule.source - 1 → RootStands rules f m

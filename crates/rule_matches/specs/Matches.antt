@@ -1,16 +1,24 @@
 -- Where the rules of a file match in a function, in the order in which a search comes to them.
-use Rattle.std.specs.Prelude.{◌≡◌, ℕ, List, Some, All, AllPairs, Contains, slice_get}
+use Rattle.std.specs.Prelude.{◌≡◌, ℕ, ◌<◌, List, Some, All, AllPairs, Contains, slice_get}
 use Rattle.ir_core.specs.Assigned.{IsBefore}
 use Rattle.ir_core.specs.declared.function.Function.{Function}
 use Rattle.rule_core.specs.declared.rule.Rule.{Rule}
-use Rattle.bindings.specs.Match.{IsMatch}
+use Rattle.bindings.specs.Match.{MatchesWhere}
 use Rattle.rule_matches.specs.declared.matches.Match.{Match}
 
--- the rule that it names matches in the function, at the place and with what its binding says
-pub record IsMatchAmong (rules : List Rule) (f : Function) (m : Match) : Type 0 where
+-- the rule that it names matches in the function, at the place and with what its binding says, where temporaries stand to the root as is
+-- said
+pub record MatchesAmong (Before : ℕ → ℕ → Type 0) (rules : List Rule) (f : Function) (m : Match) : Type 0 where
   pub rule : Rule
   pub is_rule : slice_get rules m.rule ≡ Some rule
-  pub matches : IsMatch f m.binding.block m.binding.place rule m.binding
+  pub matches : MatchesWhere Before f m.binding.block m.binding.place rule m.binding
+
+-- where the instructions of a block stand in the order of their places, and where it isn't told in which order they stand
+abbrev pub IsMatchAmong : List Rule → Function → Match → Type 0
+IsMatchAmong = MatchesAmong (λ p k. p < k)
+
+abbrev pub IsMatchInAnyOrder : List Rule → Function → Match → Type 0
+IsMatchInAnyOrder = MatchesAmong (λ p k. Unit {0})
 
 -- the first comes before the second: in order of blocks, in a block of places, and at an instruction of rules
 abbrev pub ComesBefore : Match → Match → Type 0
@@ -23,10 +31,16 @@ pub record AreMatches (rules : List Rule) (f : Function) (matches : List Match) 
   pub in_order : AllPairs ComesBefore matches
 
 -- these are all of which this holds, in order
-pub record AreMatchesWhere (rules : List Rule) (f : Function) (P : Match → Type 0) (matches : List Match) : Type 0 where
-  pub each : All (λ m. IsMatchAmong rules f m × P m) matches
-  pub all : (m : Match) → IsMatchAmong rules f m → P m → Contains matches m
+pub record AreMatchesAmong (Before : ℕ → ℕ → Type 0) (rules : List Rule) (f : Function) (P : Match → Type 0) (matches : List Match) : Type 0 where
+  pub each : All (λ m. MatchesAmong Before rules f m × P m) matches
+  pub all : (m : Match) → MatchesAmong Before rules f m → P m → Contains matches m
   pub in_order : AllPairs ComesBefore matches
+
+abbrev pub AreMatchesWhere : List Rule → Function → (Match → Type 0) → List Match → Type 0
+AreMatchesWhere = AreMatchesAmong (λ p k. p < k)
+
+abbrev pub AreMatchesInAnyOrder : List Rule → Function → (Match → Type 0) → List Match → Type 0
+AreMatchesInAnyOrder = AreMatchesAmong (λ p k. Unit {0})
 
 -- and these all that come before this one
 abbrev pub AreMatchesBefore : List Rule → Function → Match → List Match → Type 0

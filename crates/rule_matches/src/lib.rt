@@ -10,5 +10,5 @@ mod matches;
 mod roots;
 
 pub use laws::matches_before_stand_first;
-pub use matches::{Match, Rules, matches_at};
+pub use matches::{Match, Rules, matches_at, matches_in_any_order};
 pub use roots::{Group, RootKind, RulesByRoot};

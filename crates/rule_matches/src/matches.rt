@@ -6,7 +6,7 @@ ghost use Rattle.ir_core.specs.Checks.{IsInst, MeetsChecks};
 ghost use Rattle.bindings.specs.Facts.{AreFactsOf};
 ghost use Rattle.rule_matches.specs.Found.{IsOf};
 ghost use Rattle.rule_matches.specs.Ready.{AreReady};
-ghost use Rattle.rule_matches.specs.Matches.{AreMatchesWhere, IsAt};
+ghost use Rattle.rule_matches.specs.Matches.{AreMatchesInAnyOrder, AreMatchesWhere, IsAt};
 ghost use Rattle.rule_matches.specs.Roots.{AreByRoot};
 
 use crate::roots::RulesByRoot;
@@ -14,6 +14,7 @@ use bindings::{Binding, FunctionFacts};
 use ir_core::{Function, Inst};
 use lists::List;
 use matcher::match_in;
+use moved_matches::temporaries_stand_before_roots;
 use rule_core::Rule;
 use std::alloc::{AllocError, Global};
 
@@ -52,6 +53,26 @@ pub fn matches_at(
     requires place { HasInst f.now block place }
     ensures { IfOk result (AreMatchesWhere rules.now.all.now f.now (IsAt block place)) }
 {
+    temporaries_stand_before_roots();
+    matches_in_any_order(alloc, f, facts, rules, block, place)
+}
+
+/// The same of a function of which it isn't told in which order its instructions stand.
+pub fn matches_in_any_order(
+    alloc: Global,
+    f: &Function,
+    facts: &FunctionFacts,
+    rules: &Rules<'_>,
+    block: u32,
+    place: u32,
+) -> Result<List<Match>, AllocError>
+    requires insts { All (λ b. length b.insts < 2 ^ 32) f.now.blocks }
+    requires facts { AreFactsOf f.now facts.now }
+    requires ready { AreReady rules.now.all.now }
+    requires by_root { AreByRoot rules.now.all.now rules.now.by_root.now }
+    requires place { HasInst f.now block place }
+    ensures { IfOk result (AreMatchesInAnyOrder rules.now.all.now f.now (IsAt block place)) }
+{
     let inst = inst_at(f, block, place);
     let mut found = List::new(alloc);
     for rule in rules.by_root.at(&inst.op) {
@@ -80,13 +101,12 @@ fn match_of(
     place: u32,
     rule: u32,
 ) -> Result<Option<Match>, AllocError>
-    requires checks { MeetsChecks f.now }
     requires insts { All (λ b. length b.insts < 2 ^ 32) f.now.blocks }
     requires facts { AreFactsOf f.now facts.now }
     requires ready { AreReady rules.now }
     requires place { HasInst f.now block place }
     requires rule { rule < length rules.now }
-    ensures { IfOk result (λ matched. AreMatchesWhere rules.now f.now (IsOf block place rule) (option_to_list matched)) }
+    ensures { IfOk result (λ matched. AreMatchesInAnyOrder rules.now f.now (IsOf block place rule) (option_to_list matched)) }
 {
     let tried = &rules[rule as usize];
     let Some(binding) = match_in(alloc, f, facts, block, place, tried)? else {

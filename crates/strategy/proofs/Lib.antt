@@ -5,3 +5,8 @@ pub mod Growing
 pub mod Sizes
 pub mod Stepping
 pub mod Entering
+pub mod Advancing
+pub mod Searching
+pub mod Cleanness
+pub mod Reaching
+pub mod Requeueing

@@ -1,5 +1,5 @@
 -- One search after the other, up to what becomes of a function.
-use Rattle.std.proofs.Common.{◌≡◌, ℕ, suc, ◌+◌, ◌-◌, ◌<◌, ◌≤◌, Bool, true, false, List, [], ◌∷◌, ◌++◌, map, refl, subst, arith}
+use Rattle.std.proofs.Common.{◌≡◌, ℕ, suc, ◌+◌, ◌-◌, ◌<◌, ◌≤◌, Bool, true, false, List, [], ◌∷◌, ◌++◌, map, refl, sym, subst, ◌∙◌, arith}
 use Rattle.std.specs.Prelude.{All, Any, MatchBool}
 use Rattle.ir_core.specs.declared.function.Function.{Function}
 use Rattle.ir_core.specs.Checks.{MeetsChecks}
@@ -16,7 +16,7 @@ use Rattle.rule_matches.specs.Matches.{AreMatches, ComesBefore}
 use Rattle.rule_matches.proofs.Joining.{everywhere, same_where}
 use Rattle.strategy.specs.PlainStrategy.{IsStep, ComesOf, itself, by_step, IsLastSearch}
 use Rattle.asked_verdicts.specs.Asks.{Asks, AsksAll, AsksUpTo, IsAnywhere}
-use Rattle.strategy.specs.Searches.{StepsOrEnds, OptimisesFunction}
+use Rattle.strategy.specs.Searches.{OptimisesCleaned, OptimisesFunction, StepsOrEnds}
 use Rattle.strategy.proofs.Growing.{steps_stay}
 use Rattle.rule_matches.specs.Ready.{AreReady}
 use Rattle.strategy.proofs.Sizes.{cleaned_countable, rewritten_countable}
@@ -118,3 +118,21 @@ module _ (rules : List Rule) (conflicts : ℕ) where
           → MatchBool limited ((left ≡ 0) × Any (IsAdmitted after.table) all.matches) (All (IsTurnedDown after.table) all.matches)
       by true any = (none, any)
       by false all = all
+
+  -- what comes of a function that was cleaned, where the steps are spent
+  pub spent : (steps count : ℕ) (cleaned f last : Function) (before now after : Verdicts) (limited : Bool) → Along steps steps cleaned f before now → last ≡ f → count ≡ steps
+      → AsksAll rules conflicts f IsAnywhere now after limited → OptimisesCleaned rules conflicts steps cleaned last before after count limited
+  spent steps count cleaned f last before now after limited along same all_made asks old is_cleaned =
+      let made : OptimisesFunction rules conflicts steps old f before after steps limited =
+      all_searched steps steps old cleaned f before now after limited (map pair_of asks.matches) is_cleaned (omega arith) along asks.asks
+      (at_the_limit f now after limited (steps - steps) (omega arith) asks) in
+      subst (λ (g : Function). OptimisesFunction rules conflicts steps old g before after count limited) (sym same)
+      (subst (λ (n : ℕ). OptimisesFunction rules conflicts steps old f before after n limited) (sym all_made) made)
+
+  -- and where a search finds no admitted match
+  pub ended : (steps count : ℕ) (cleaned f g last : Function) (before now after : Verdicts) → count ≤ steps → Along steps count cleaned f before now → last ≡ g
+      → StepsOrEnds rules conflicts f g now after false → OptimisesCleaned rules conflicts steps cleaned last before after count false
+  ended steps count cleaned f g last before now after within along same end old is_cleaned =
+      let made : OptimisesFunction rules conflicts steps old f before after count false =
+      all_searched steps count old cleaned f before now after false end.0 is_cleaned within along end.1 (end.3 (steps - count)) in
+      subst (λ (h : Function). OptimisesFunction rules conflicts steps old h before after count false) (sym (same ∙ end.2)) made

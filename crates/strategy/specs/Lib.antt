@@ -9,3 +9,4 @@ pub mod Countable
 pub mod Laws
 pub mod Searches
 pub mod Entries
+pub mod Frontiers

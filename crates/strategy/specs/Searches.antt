@@ -2,6 +2,7 @@
 use Rattle.std.specs.Prelude.{◌≡◌, ℕ, Bool, true, false, List}
 use Rattle.ir_core.specs.declared.function.Function.{Function}
 use Rattle.rule_core.specs.declared.rule.Rule.{Rule}
+use Rattle.needed.specs.Cleaned.{IsCleaned}
 use Rattle.asked_verdicts.specs.declared.verdicts.Verdicts.{Verdicts}
 use Rattle.asked_verdicts.specs.Asked.{Pair}
 use Rattle.asked_verdicts.specs.Asks.{Asks}
@@ -17,3 +18,8 @@ StepsOrEnds rules conflicts f new old verdicts false = (pairs : List Pair) × As
 abbrev pub OptimisesFunction : List Rule → ℕ → ℕ → Function → Function → Verdicts → Verdicts → ℕ → Bool → Type 0
 OptimisesFunction rules conflicts steps old new before after count limited =
     (pairs : List Pair) × Asks rules conflicts pairs before after × IsOptimised rules after.table steps old new count limited pairs
+
+-- and of a function that was cleaned
+abbrev pub OptimisesCleaned : List Rule → ℕ → ℕ → Function → Function → Verdicts → Verdicts → ℕ → Bool → Type 0
+OptimisesCleaned rules conflicts steps cleaned new before after count limited =
+    (old : Function) → IsCleaned old cleaned → OptimisesFunction rules conflicts steps old new before after count limited

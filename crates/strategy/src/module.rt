@@ -17,8 +17,9 @@ ghost use Rattle.strategy.specs.PlainStrategy.{IsPlainStrategy};
 ghost use Rattle.rule_matches.specs.Roots.{AreByRoot};
 ghost use Rattle.asked_verdicts.specs.Asks.{AreVerdicts};
 
+use crate::frontier::optimise_function;
 use crate::laws::{every_match_left_is_decided, every_optimised_module_refines_the_old};
-use crate::steps::{Bounds, Turns, optimise_function};
+use crate::steps::{Bounds, Turns};
 use asked_verdicts::{StoredLogs, Verdicts};
 use ir_core::{Entry, Function, Module, copy_function};
 use lists::List;
@@ -209,8 +210,8 @@ fn optimise_copy(
     requires verdicts { AreVerdicts rules.now.all.now bounds.conflicts verdicts.old }
     ensures { IfOk result (λ made. OptimisesEntry rules.now.all.now bounds.conflicts bounds.steps (Entry.Function original.now) (Entry.Function made) verdicts.old verdicts.new all.old all.new) }
 {
-    let mut f = copy_function(alloc, original)?;
-    let turns = optimise_function(alloc, &mut f, rules, verdicts, bounds)?;
-    all.push(turns)?;
-    Ok(f)
+    let f = copy_function(alloc, original)?;
+    let made = optimise_function(alloc, f, rules, verdicts, bounds)?;
+    all.push(made.1)?;
+    Ok(made.0)
 }

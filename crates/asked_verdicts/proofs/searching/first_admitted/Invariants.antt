@@ -1,8 +1,12 @@
--- the matches in the blocks so far are asked, and turned down
-use Rattle.std.proofs.Common.{false}
-use Rattle.asked_verdicts.specs.Asks.{AsksAll}
-use Rattle.asked_verdicts.proofs.Parts.{IsInEarlierBlock}
+-- the matches so far are asked, and turned down
+use Rattle.std.proofs.Common.{map, take}
+use Rattle.std.specs.Prelude.{All}
+use Rattle.asked_verdicts.specs.Asked.{pair_of, IsTurnedDown}
+use Rattle.asked_verdicts.specs.Asks.{Asks}
 use Rattle.asked_verdicts.proofs.searching.first_admitted.Given as goal
 
-abbrev pub invariant-loop-block : goal.invariant-loop-block
-invariant-loop-block l = AsksAll l.rules.all.now l.conflicts l.f (IsInEarlierBlock l.block) l.fn.verdicts l.verdicts false
+abbrev pub invariant-loop-place : goal.invariant-loop-place
+invariant-loop-place l = record {
+  asks : Asks l.rules l.conflicts (map pair_of (take l.place l.matches)) l.fn.verdicts l.verdicts;
+  turned_down : All (IsTurnedDown l.verdicts.table) (take l.place l.matches);
+}

@@ -1,7 +1,7 @@
 use Rattle.std.proofs.Common.{◌≡◌, ◌+◌, ◌-◌, ◌<◌, ℕ, List, Option, length, Some, true, false, sym, ap, subst, arith}
 use Rattle.std.specs.Prelude.{slice_get}
 use Rattle.rule_core.specs.declared.rule.Statement.{Statement}
-use Rattle.bindings.specs.Match.{IsMatch}
+use Rattle.bindings.specs.Match.{MatchesInAnyOrder}
 use Rattle.matcher.specs.Slots.{IsFilledAs, KnowsFrom}
 use Rattle.bindings.specs.declared.binding.Binding.{Binding}
 use Rattle.bindings.proofs.Bound.{read_off}
@@ -49,7 +49,7 @@ pub returns-clause-forced : goal.returns-clause-forced
 returns-clause-forced c =
     let end : c.loop-j.j ≡ 0 = omega arith in
     ok_then {P = λ (found : Option Binding). (m : Binding) → m.block ≡ c.args.block → m.place ≡ c.args.place → IsFilledAs c.loop-j.slots m → found ≡ Some m}
-    {Q = λ (found : Option Binding). (m : Binding) → IsMatch c.args.f.now c.args.block c.args.place c.args.rule.now m → found ≡ Some m}
+    {Q = λ (found : Option Binding). (m : Binding) → MatchesInAnyOrder c.args.f.now c.args.block c.args.place c.args.rule.now m → found ≡ Some m}
     c.binding.result c.binding.ensures.filled (λ found forced m is.
     forced m is.block is.place (filled_as c.args.f.now c.args.block c.args.place c.args.rule.now c.loop-j.slots m c.requires.rule c.requires.typed is c.loop-j.invariant.slots
     (subst (λ (k : ℕ). KnowsFrom c.args.rule.now k c.loop-j.slots m) end (c.loop-j.invariant.knows m is))))

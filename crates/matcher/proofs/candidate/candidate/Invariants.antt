@@ -1,5 +1,5 @@
 -- what the statements from this one on name is known
-use Rattle.bindings.specs.Match.{IsMatch}
+use Rattle.bindings.specs.Match.{MatchesInAnyOrder}
 use Rattle.matcher.specs.Slots.{AreSlotsOf, KnowsFrom}
 use Rattle.bindings.specs.declared.binding.Binding.{Binding}
 use Rattle.matcher.proofs.candidate.candidate.Given as goal
@@ -7,5 +7,5 @@ use Rattle.matcher.proofs.candidate.candidate.Given as goal
 abbrev pub invariant-loop-j : goal.invariant-loop-j
 invariant-loop-j l = record {
   slots : AreSlotsOf l.rule l.slots;
-  knows : (m : Binding) → IsMatch l.f l.block l.place l.rule m → KnowsFrom l.rule l.j l.slots m;
+  knows : (m : Binding) → MatchesInAnyOrder l.f l.block l.place l.rule m → KnowsFrom l.rule l.j l.slots m;
 }

@@ -1,7 +1,7 @@
 use Rattle.std.proofs.Common.{◌≡◌, ◌∙◌, sym}
 use Rattle.std.proofs.lemmas.Option.{same_Some}
 use Rattle.rule_typing.proofs.Among.{holds, fails}
-use Rattle.bindings.proofs.Roots.{in_any_order, match_here, match_there, matched_operation}
+use Rattle.bindings.proofs.Roots.{match_here, match_there, matched_operation}
 use Rattle.matcher.proofs.matching.match_in.Goals as goal
 use Rattle.matcher.proofs.matching.match_in.Goals.{then-not-reached-via-then-not-reached, then-not-reached-via-else-not-reached+then-not-is_root_operation}
 
@@ -21,10 +21,9 @@ pub returns-then-is_match-clause-ok : goal.returns-then-is_match-clause-ok
 returns-then-is_match-clause-ok c =
     let there = rw c.in-Some.is at c.in_ok-binding.ensures.place in
     let found = holds c.is_match.result c.is_match.ensures c.if-is_match.true in
-    match_here c.args.f.now c.args.block c.args.place c.args.rule.now c.in-Some.binding there
-    (c.temporaries_stand_before_roots.ensures c.args.f.now c.in-Some.binding.block c.in-Some.binding.place c.args.rule.now c.in-Some.binding c.requires.checks c.requires.rule found)
+    match_here c.args.f.now c.args.block c.args.place c.args.rule.now c.in-Some.binding there found
 
 pub returns-else-is_match-clause-none : goal.returns-else-is_match-clause-none
 returns-else-is_match-clause-none c m is =
     let same : c.in-Some.binding ≡ m = same_Some c.in-Some.binding m (sym c.in-Some.is ∙ c.in_ok-binding.ensures.forced m is) in
-    fails c.is_match.result c.is_match.ensures c.if-is_match.false (match_there c.args.f.now c.args.block c.args.place c.args.rule.now m c.in-Some.binding (in_any_order c.args.f.now c.args.block c.args.place c.args.rule.now m is) same)
+    fails c.is_match.result c.is_match.ensures c.if-is_match.false (match_there c.args.f.now c.args.block c.args.place c.args.rule.now m c.in-Some.binding is same)

@@ -1,28 +1,8 @@
-use Rattle.std.proofs.Common.{get_or, refl}
-use Rattle.std.specs.Prelude.{option_to_list}
-use Rattle.std.proofs.lemmas.List.Elements.{Contains-get_or}
-use Rattle.std.proofs.lemmas.Option.{slice_get_within}
-use Rattle.rule_matches.proofs.Matching.{each_rule, next_rule}
+use Rattle.rule_matches.specs.Matches.{IsAt}
+use Rattle.rule_matches.proofs.Ordered.{found_in_order}
 use Rattle.rule_matches.proofs.matches.matches_at.Goals as goal
-
-pub match_of-requires-clause-rule : goal.match_of-requires-clause-rule
-match_of-requires-clause-rule c =
-    let rules = c.args.rules.now.all.now in
-    let places = c.at-rule-items.result.now in
-    let r = get_or places c.loop-rule.rule-index 0 in
-    let (rule, at, is) = (((c.at-rule-items.ensures rules c.requires.by_root).same r).0 (Contains-get_or places c.loop-rule.rule-index 0 c.loop-rule-test.true)).2 in
-    slice_get_within rules r rule at
-
-pub loop-rule-preserved : goal.loop-rule-preserved
-loop-rule-preserved c =
-    let rules = c.args.rules.now.all.now in
-    let places = c.at-rule-items.result.now in
-    next_rule rules c.args.f.now c.args.block c.args.place places c.loop-rule.rule-index (get_or places c.loop-rule.rule-index 0)
-    c.loop-rule.found c.push_if_any.new.found (option_to_list c.in_ok-matched.matched)
-    c.loop-rule-test.true refl (c.at-rule-items.ensures rules c.requires.by_root).in_order c.loop-rule.invariant c.in_ok-push_if_any.ensures c.in_ok-matched.ensures
 
 pub returns : goal.returns
 returns c =
-    let rules = c.args.rules.now.all.now in
-    each_rule rules c.args.f.now c.args.block c.args.place c.inst_at-inst.result.now c.at-rule-items.result.now c.loop-rule.rule-index
-    c.loop-rule.found c.requires.ready c.inst_at-inst.ensures (c.at-rule-items.ensures rules c.requires.by_root) c.loop-rule-test.false c.loop-rule.invariant
+    found_in_order c.temporaries_stand_before_roots.ensures c.args.rules.now.all.now c.args.f.now (IsAt c.args.block c.args.place) c.requires.checks c.requires.ready
+    c.matches_in_any_order.result c.matches_in_any_order.ensures

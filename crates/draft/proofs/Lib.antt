@@ -1,0 +1,17 @@
+pub mod Rows
+pub mod Exchanging
+pub mod Wholeness
+pub mod Substituted
+pub mod Replacing
+pub mod Putting
+pub mod Standing
+pub mod Fresh
+pub mod Changed
+pub mod Put
+pub mod Swapped
+pub mod ReplacedAt
+pub mod Exchange
+pub mod Trimming
+pub mod InstsOf
+pub mod Keeping
+pub mod NumberedInsts

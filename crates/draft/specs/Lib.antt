@@ -1,0 +1,4 @@
+pub mod KeptOrders
+pub mod Drafts
+pub mod Placing
+pub mod Whole

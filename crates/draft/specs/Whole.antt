@@ -1,0 +1,42 @@
+-- What the tables of a draft say of its arena.
+use Rattle.std.specs.Prelude.{◌≡◌, ℕ, ◌<◌, ◌≤◌, ◌^◌, Bool, false, List, [], length, Some, Contains, slice_get, slice_index_or}
+use Rattle.ir_core.specs.Blocks.{IsBlock}
+use Rattle.ir_core.specs.Checks.{IsKnown}
+use Rattle.ir_core.specs.Reads.{Read, IsRead}
+use Rattle.ir_core.specs.declared.function.Block.{Block}
+use Rattle.ir_core.specs.declared.instruction.Inst.{Inst}
+use Rattle.ir_core.specs.declared.instruction.Op.TheVariants.{Freeze}
+use Rattle.ir_core.specs.declared.operand.Operand.TheVariants as operands
+use Rattle.ir_core.specs.declared.operand.Register.TheVariants as registers
+use Rattle.bindings.specs.Facts.{AreFactsOf}
+use Rattle.draft.specs.declared.draft.Draft.{Draft}
+use Rattle.places.specs.declared.place.Place.{Place}
+use Rattle.draft.specs.Drafts.{Stands}
+use Rattle.places.specs.Orders.{none}
+use Rattle.draft.specs.Placing.{IsOrdering}
+use Rattle.readers.specs.Readers.{AreReadersOf, IsPlaceIn, IsReader}
+
+-- In order stand the numbers of the instructions of a block, each once, whether it was taken out or not; what was reads nothing.
+pub record AreRowsOf (block : Block) (order : List ℕ) (stand : List Bool) : Type 0 where
+  pub few : length block.insts ≤ none
+  pub ordered : length order ≡ length block.insts
+  pub marked : length stand ≡ length block.insts
+  pub all : (n : ℕ) → n < length block.insts → Contains order n
+  pub ordering : IsOrdering (length block.insts) order
+  pub gone : (n : ℕ) (inst : Inst) → slice_get block.insts n ≡ Some inst → slice_index_or stand n false ≡ false → inst.op ≡ Freeze operands.Poison
+
+-- The tables say what the arena is. What is read in it may have been taken out.
+pub record IsWhole (d : Draft) : Type 0 where
+  pub few : length d.arena.blocks < 2 ^ 32
+  pub ordered : length d.orders.items ≡ length d.arena.blocks
+  pub marked : length d.stand.items ≡ length d.arena.blocks
+  pub rows : (b : ℕ) (block : Block) → IsBlock d.arena b block → AreRowsOf block (slice_index_or d.orders.items b []) (slice_index_or d.stand.items b [])
+  pub known : (b k i : ℕ) (r : Read) → IsRead d.arena b k i r → IsKnown d.arena r.operand
+  pub facts : AreFactsOf d.arena d.facts
+  pub readers : AreReadersOf d.arena d.readers
+
+-- Between steps: what is read stands, and no register waits.
+pub record IsSettled (d : Draft) : Type 0 where
+  pub whole : IsWhole d
+  pub read_stands : (b n : ℕ) (p : Place) → IsPlaceIn d.arena p → IsReader d.arena (registers.Result b n) p → Stands d b n
+  pub none_fell : d.fallen.items ≡ []

@@ -1,0 +1,77 @@
+//! What is read at the places of a draft.
+
+ghost use Rattle.std.specs.Prelude.{◌≡◌, ◌<◌, ◌↔◌, Contains, IsTrue, length, slice_index_or};
+ghost use Rattle.ir_core.specs.Checks.{IsKnown};
+ghost use Rattle.readers.specs.Readers.{IsReader, IsPlaceIn, listed_for};
+ghost use Rattle.readers.specs.Counts.{operands_at, register_of};
+ghost use Rattle.draft.specs.Whole.{IsWhole};
+ghost use Rattle.places.specs.declared.place.Place.{Place as Spot};
+
+use crate::draft::Draft;
+use ir_core::{Operand, Register};
+use lists::List;
+use places::Place;
+use readers::{count_at, operand_at, readers_among, reads};
+use std::alloc::Global;
+
+impl Draft {
+    /// How many operands are read at a place.
+    pub fn read_count(&self, place: Place) -> usize
+        requires { IsWhole self.now }
+        ensures { result ≡ length (operands_at self.now.arena place) }
+    {
+        count_at(&self.arena, place)
+    }
+
+    /// The register that is read at a place as this operand, if it is one.
+    pub fn register_at(&self, place: Place, index: usize) -> Option<Register>
+        requires { IsWhole self.now }
+        ensures { result ≡ register_of (slice_index_or (operands_at self.now.arena place) index Operand.Poison) }
+    {
+        match operand_at(&self.arena, place, index) {
+            Operand::Register(register) => Some(register),
+            _ => None,
+        }
+    }
+
+    /// Whether what stands at a place reads the register.
+    pub fn reads(&self, place: Place, register: Register) -> bool
+        requires { IsWhole self.now }
+        ensures { IsTrue result ↔ IsReader self.now.arena register place }
+    {
+        reads(&self.arena, place, register)
+    }
+
+    /// Forgets what reads a register no more: then the places that are listed are those that read it.
+    pub fn trim_readers(&mut self, alloc: Global, register: Register)
+        requires whole { IsWhole self.old }
+        requires known { IsKnown self.old.arena (Operand.Register register) }
+        ensures whole { IsWhole self.new }
+        ensures arena { self.new.arena ≡ self.old.arena }
+        ensures orders { self.new.orders.items ≡ self.old.orders.items }
+        ensures stand { self.new.stand.items ≡ self.old.stand.items }
+        ensures fallen { self.new.fallen.items ≡ self.old.fallen.items }
+        ensures exact { (p : Spot) → Contains (listed_for self.new.readers register) p
+            ↔ (IsPlaceIn self.new.arena p × IsReader self.new.arena register p) }
+    {
+        let listed = self.readers.exchange(register, List::new(alloc));
+        let listed = readers_among(&self.arena, listed, register);
+        let _ = self.readers.exchange(register, listed);
+    }
+
+    /// The places that are listed for a register: all that read it, and none else once its readers are trimmed.
+    pub fn readers_of(&self, register: Register) -> &[Place]
+        requires whole { IsWhole self.now }
+        requires known { IsKnown self.now.arena (Operand.Register register) }
+        ensures listed { result.now ≡ listed_for self.now.readers register }
+        ensures readers { (p : Spot) → IsPlaceIn self.now.arena p → IsReader self.now.arena register p → Contains result.now p }
+        ensures places { (p : Spot) → Contains result.now p → IsPlaceIn self.now.arena p }
+    {
+        match register {
+            Register::Parameter(k) => self.readers.parameters.as_slice()[k as usize].as_slice(),
+            Register::Result(block, number) => {
+                self.readers.results[block as usize].as_slice()[number as usize].as_slice()
+            }
+        }
+    }
+}

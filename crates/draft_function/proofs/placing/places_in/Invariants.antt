@@ -1,0 +1,6 @@
+-- each of the numbers before the index has its place
+use Rattle.draft_function.proofs.Placed.{PlacesKept}
+use Rattle.draft_function.proofs.placing.places_in.Given as goal
+
+abbrev pub invariant-loop-place : goal.invariant-loop-place
+invariant-loop-place l = PlacesKept l.fn.count l.numbers l.place l.places.items

@@ -1,0 +1,6 @@
+-- the numbers of the blocks before this one have their places
+use Rattle.draft_function.proofs.Placed.{TablesKept}
+use Rattle.draft_function.proofs.placing.places_of.Given as goal
+
+abbrev pub invariant-loop-block : goal.invariant-loop-block
+invariant-loop-block l = TablesKept l.numbers l.block l.rows.items

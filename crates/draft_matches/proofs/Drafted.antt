@@ -1,0 +1,40 @@
+-- The laws of matches in drafts.
+use Rattle.std.proofs.Common.{◌≡◌, ℕ, suc, ◌<◌, ◌≤◌}
+use Rattle.ir_core.specs.Reads.{Read, IsRead}
+use Rattle.ir_core.specs.declared.operand.Operand.TheVariants as operands
+use Rattle.ir_core.specs.declared.operand.Register.TheVariants as registers
+use Rattle.moved_matches.specs.Laws.{TemporariesStandBefore}
+use Rattle.draft.specs.declared.draft.Draft.{Draft}
+use Rattle.draft.specs.Drafts.{Reaches, Stands, numbers_of, arena_of}
+use Rattle.draft_steps.specs.Arranged.{AreArranged}
+use Rattle.draft_matches.specs.Laws.{MatchesOfTheArena, MatchesOfTheUntouched}
+use Rattle.draft_matches.proofs.PlacedMatches.{placed_matches}
+use Rattle.draft_matches.proofs.Reaching.{and_on, itself, within_more}
+use Rattle.draft_steps.proofs.Arranged.{is_arranged, once_or_not}
+use Rattle.draft_matches.proofs.Untouched.{IsSameInst, StillThere, still_there}
+
+pub of_the_arena : TemporariesStandBefore → MatchesOfTheArena
+of_the_arena stand_before rules d b n matches ready settled checks stands found =
+    placed_matches stand_before rules ready (arena_of d) (numbers_of d) (is_arranged d settled) checks b n stands matches found
+
+-- it is reached through so many operands, and stands
+abbrev Come : Draft → ℕ → ℕ → ℕ → ℕ → Type 0
+Come d b n t p = Reaches d t b n p × Stands d b p
+
+pub of_the_untouched : MatchesOfTheUntouched
+of_the_untouched rules old new touched depth b n matches ready few settled are_touched reached stands away found =
+    (still.matches, still.are, still.were)
+  where
+    are : AreArranged (arena_of new) (numbers_of new)
+    are = is_arranged new settled
+
+    more : (t p q i : ℕ) (r : Read) → t < depth → Come new b n t p → IsRead (arena_of new) b p i r → r.operand ≡ operands.Register (registers.Result b q) → Come new b n (suc t) q
+    more t p q i r less come is_read reads = (and_on new b t n p q i r come.0 come.1 is_read reads, are.read_stands b p i b q r is_read reads)
+
+    same : (t p : ℕ) → t ≤ depth → Come new b n t p → IsSameInst (arena_of old) (arena_of new) b p
+    same t p within come =
+        let u = are_touched b p come.1 (away p (within_more new b t depth n p within come.0)) in
+        record { inst = u.inst; was = u.was; is = u.is; once = u.once }
+
+    still : StillThere rules ready (arena_of old) (arena_of new) b n depth few reached.0 reached.1 (Come new b n) (itself new b 0 n, stands) more same (λ p. once_or_not new settled (registers.Result b p)) matches
+    still = still_there rules ready (arena_of old) (arena_of new) b n depth few reached.0 reached.1 (Come new b n) (itself new b 0 n, stands) more same (λ p. once_or_not new settled (registers.Result b p)) matches found

@@ -1,0 +1,118 @@
+-- The matches at an instruction of an arena, by places.
+use Rattle.std.proofs.Common.{◌≡◌, inl, inr, ℕ, ◌<◌, List, [], ◌∷◌, get_or, map, Some, refl, sym, ap, subst, ◌∙◌, arith}
+use Rattle.std.specs.Prelude.{All, AllPairs, Contains, slice_get}
+use Rattle.std.proofs.lemmas.List.Elements.{All-contains, Contains-get_or}
+use Rattle.std.proofs.lemmas.List.Kept.{AllPairs-cons}
+use Rattle.std.proofs.lemmas.Option.{same_Some}
+use Rattle.ir_core.specs.Checks.{MeetsChecks}
+use Rattle.ir_core.specs.declared.function.Function.{Function}
+use Rattle.ir_meaning.proofs.Pieces.{first_in, later_in}
+use Rattle.rule_core.specs.declared.rule.Rule.{Rule}
+use Rattle.rule_typing.proofs.Images.{Contains-map, from_map}
+use Rattle.bindings.specs.Match.{IsMatch, MatchesInAnyOrder}
+use Rattle.bindings.specs.declared.binding.Binding.{Binding}
+use Rattle.bindings.proofs.Roots.{in_any_order}
+use Rattle.moved_matches.specs.Laws.{TemporariesStandBefore}
+use Rattle.moved_matches.specs.Moved.{moved_binding}
+use Rattle.matcher.proofs.OneBinding.{matches_have_one_binding}
+use Rattle.rule_matches.specs.declared.matches.Match.{Match}
+use Rattle.rule_matches.specs.Matches.{AreMatchesInAnyOrder, AreMatchesWhere, ComesBefore, IsAt, IsMatchAmong, IsMatchInAnyOrder}
+use Rattle.rule_matches.specs.Ready.{AreReady}
+use Rattle.rule_matches.proofs.Joining.{pairs_first, pairs_later}
+use Rattle.draft.specs.Drafts.{placed}
+use Rattle.places.specs.Orders.{place_in}
+use Rattle.draft_steps.specs.Arranged.{AreArranged, arranged, row_of}
+use Rattle.draft_matches.proofs.Arena.{numbered_match, placed_match}
+use Rattle.draft_matches.proofs.Back.{numbered}
+use Rattle.draft_matches.proofs.Rows.{number_there}
+
+-- the match by places
+abbrev pub put_in_place : List (List ℕ) → Match → Match
+put_in_place rows m = record { rule = m.rule; binding = moved_binding (placed rows) (place_in (row_of rows m.binding.block) m.binding.place) m.binding }
+
+-- at one instruction rules tell the order
+rule_less : (b n : ℕ) (x y : Match) → IsAt b n x → IsAt b n y → ComesBefore x y → x.rule < y.rule
+rule_less b n x y at_x at_y before = elim before [
+  | inl p ↦ absurd (omega (arith, p, at_x.0, at_y.0))
+  | inr p ↦ elim p.1 [ inl q ↦ absurd (omega (arith, q, at_x.1, at_y.1)) | inr q ↦ q.1 ]
+]
+
+same_match : (m n : Match) → m.rule ≡ n.rule → m.binding ≡ n.binding → m ≡ n
+same_match m n rule binding =
+    let put : ℕ → Binding → Match = λ r x. record { rule = r; binding = x } in
+    ap (λ (r : ℕ). put r m.binding) rule ∙ ap (put n.rule) binding
+
+module _ (stand_before : TemporariesStandBefore) (rules : List Rule) (ready : AreReady rules) (arena : Function) (rows : List (List ℕ)) (are : AreArranged arena rows)
+    (checks : MeetsChecks (arranged arena rows)) (b n : ℕ) (has : Contains (row_of rows b) n) where
+  abbrev F : Function
+  F = arranged arena rows
+
+  abbrev k : ℕ
+  k = place_in (row_of rows b) n
+
+  abbrev put : Match → Match
+  put m = put_in_place rows m
+
+  put_at : (m : Match) → IsAt b n m → IsAt b k (put m)
+  put_at m of = (of.0, ap (λ (c : ℕ). place_in (row_of rows c) m.binding.place) of.0 ∙ ap (place_in (row_of rows b)) of.1)
+
+  put_is : (m : Match) → IsMatchInAnyOrder rules arena m → IsAt b n m → IsMatchAmong rules F (put m)
+  put_is m is of =
+      let stands : Contains (row_of rows m.binding.block) m.binding.place =
+      subst (λ (c : ℕ). Contains (row_of rows c) m.binding.place) (sym of.0) (subst (Contains (row_of rows b)) (sym of.1) has) in
+      let good = (ready m.rule is.rule is.is_rule).checks in
+      record {
+        rule = is.rule;
+        is_rule = is.is_rule;
+        matches = stand_before F m.binding.block (place_in (row_of rows m.binding.block) m.binding.place) is.rule (put m).binding checks good
+            (placed_match arena rows are is.rule m.binding good is.matches stands);
+      }
+
+  here : (m : Match) (rule : Rule) → slice_get rules m.rule ≡ Some rule → IsMatchAmong rules F m → IsAt b k m → IsMatch F b k rule m.binding
+  here m rule at is of =
+      let same : is.rule ≡ rule = same_Some is.rule rule (sym is.is_rule ∙ at) in
+      subst (λ (x : Rule). IsMatch F b k x m.binding) same
+      (subst (λ (p : ℕ). IsMatch F b p is.rule m.binding) of.1 (subst (λ (d : ℕ). IsMatch F d m.binding.place is.rule m.binding) of.0 is.matches))
+
+  -- a match there is one that was put there
+  was_put : (ms : List Match) → AreMatchesInAnyOrder rules arena (IsAt b n) ms → (m : Match) → IsMatchAmong rules F m → IsAt b k m → Contains (map put ms) m
+  was_put ms found m is of =
+      let good = (ready m.rule is.rule is.is_rule).checks in
+      let whole : MatchesInAnyOrder F m.binding.block m.binding.place is.rule m.binding = in_any_order F m.binding.block m.binding.place is.rule m.binding is.matches in
+      let at_root : slice_get (row_of rows m.binding.block) m.binding.place ≡ Some n =
+      subst (λ (c : ℕ). slice_get (row_of rows c) m.binding.place ≡ Some n) (sym of.0) (subst (λ (q : ℕ). slice_get (row_of rows b) q ≡ Some n) (sym of.1) (number_there (row_of rows b) n has)) in
+      let old : Match = record { rule = m.rule; binding = moved_binding (numbered rows) n m.binding } in
+      let is_old : IsMatchInAnyOrder rules arena old = record { rule = is.rule; is_rule = is.is_rule; matches = numbered_match arena rows are is.rule m.binding good n whole at_root } in
+      let there : Contains ms old = found.all old is_old (of.0, refl) in
+      let one : (put old).binding ≡ m.binding =
+      matches_have_one_binding F b k is.rule (put old).binding m.binding good (ready m.rule is.rule is.is_rule).typed
+      (here (put old) is.rule is.is_rule (put_is old is_old (of.0, refl)) (put_at old (of.0, refl))) (here m is.rule is.is_rule is of) in
+      subst (Contains (map put ms)) (same_match (put old) m refl one) (Contains-map put ms old there)
+
+  each_put : (ms : List Match) (P Q : Match → Type 0) → All P ms → ((m : Match) → P m → Q (put m)) → All Q (map put ms)
+  each_put ms P Q all on i d lt =
+      let (m, among, is) = from_map put ms (get_or (map put ms) i d) (Contains-get_or (map put ms) i d lt) in
+      subst Q (sym is) (on m (All-contains P ms m all among))
+
+  in_order : (ms : List Match) → All (IsAt b n) ms → AllPairs ComesBefore ms → AllPairs ComesBefore (map put ms)
+  in_order [] at pairs = λ i j d less within. absurd (omega arith)
+  in_order (x ∷ ms) at pairs =
+      let first : IsAt b n x = All-contains (IsAt b n) (x ∷ ms) x at (first_in x ms) in
+      let later : All (IsAt b n) ms = λ i d lt. All-contains (IsAt b n) (x ∷ ms) (get_or ms i d) at (later_in x ms (get_or ms i d) (Contains-get_or ms i d lt)) in
+      let both : All (λ m. ComesBefore x m × IsAt b n m) ms = λ i d lt. (pairs_first ComesBefore x ms pairs i d lt, later i d lt) in
+      AllPairs-cons ComesBefore (put x) (map put ms)
+      (each_put ms (λ m. ComesBefore x m × IsAt b n m) (ComesBefore (put x)) both (λ m h.
+      let of_x = put_at x first in
+      let of_m = put_at m h.1 in
+      inr (of_x.0 ∙ sym of_m.0, inr (of_x.1 ∙ sym of_m.1, rule_less b n x m first h.1 h.0))))
+      (in_order ms later (pairs_later ComesBefore x ms pairs))
+
+  pub placed_matches : (ms : List Match) → AreMatchesInAnyOrder rules arena (IsAt b n) ms → AreMatchesWhere rules F (IsAt b k) (map put ms)
+  placed_matches ms found = record {
+    each = each_put ms (λ m. IsMatchInAnyOrder rules arena m × IsAt b n m) (λ m. IsMatchAmong rules F m × IsAt b k m) found.each (λ m h. (put_is m h.0 h.1, put_at m h.1));
+    all = was_put ms found;
+    in_order = in_order ms (λ i d lt. (found.each i d lt).1) found.in_order;
+  }
+
+  pub placed_match_is : (m : Match) → IsMatchInAnyOrder rules arena m → IsAt b n m → IsMatchAmong rules F (put m)
+  placed_match_is m is of = put_is m is of

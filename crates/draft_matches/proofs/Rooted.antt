@@ -1,0 +1,105 @@
+-- From the root of a match each statement is come to, from what reads it.
+use Rattle.std.proofs.Common.{◌≡◌, inl, inr, ℕ, zero, suc, ◌+◌, ◌<◌, ◌≤◌, length, Some, sym, ap, subst, ◌∙◌, arith}
+use Rattle.std.specs.Prelude.{flat_map, slice_get}
+use Rattle.std.proofs.lemmas.Bool.{cases_lt}
+use Rattle.std.proofs.lemmas.Option.{same_Some, slice_get_within}
+use Rattle.ir_core.specs.Checks.{IsInst}
+use Rattle.ir_core.specs.Reads.{Read, IsRead}
+use Rattle.ir_core.specs.declared.function.Function.{Function}
+use Rattle.ir_core.specs.declared.instruction.Inst.{Inst}
+use Rattle.ir_core.specs.declared.operand.Operand.TheVariants as operands
+use Rattle.ir_core.specs.declared.operand.Register.{Register}
+use Rattle.ir_core.specs.declared.operand.Register.TheVariants as registers
+use Rattle.ir_meaning.proofs.Pieces.{contains_at, place_in}
+use Rattle.rule_core.specs.Checks.{IsRule, SourceMayRead}
+use Rattle.rule_core.specs.Positions.{operands_of}
+use Rattle.rule_core.specs.declared.rule.Argument.{Argument}
+use Rattle.rule_core.specs.declared.rule.Argument.TheVariants as arguments
+use Rattle.rule_core.specs.declared.rule.Op.{Op as RuleOp}
+use Rattle.rule_core.specs.declared.rule.Register.TheVariants as names
+use Rattle.rule_core.specs.declared.rule.Rule.{Rule}
+use Rattle.rule_core.specs.declared.rule.Statement.{Statement}
+use Rattle.rule_core.proofs.Members.{flat_map-from}
+use Rattle.bindings.specs.Match.{MatchesInAnyOrder}
+use Rattle.bindings.specs.Operands.{StandsFor}
+use Rattle.bindings.specs.Statements.{IsSameOperation, StatementMatches}
+use Rattle.bindings.specs.declared.binding.Binding.{Binding}
+use Rattle.bindings.proofs.Reading.{is_read}
+use Rattle.moved_matches.proofs.Staying.{some_at}
+
+module _ (f : Function) (rule : Rule) (m : Binding) (good : IsRule rule) (is : MatchesInAnyOrder f m.block m.place rule m) where
+  -- a statement is bound to one instruction
+  bound_place : (j p : ℕ) (s : Statement) → (h : StatementMatches f rule m j s) → slice_get m.statements j ≡ Some (registers.Result m.block p) → h.place ≡ p
+  bound_place j p s h at =
+      let same : registers.Result m.block h.place ≡ registers.Result m.block p = same_Some (registers.Result m.block h.place) (registers.Result m.block p) (sym h.bound ∙ at) in
+      cc
+
+  pub bound_inst : (j p : ℕ) → slice_get m.statements j ≡ Some (registers.Result m.block p) → (inst : Inst) × IsInst f m.block p inst
+  bound_inst j p at =
+      let within : j < length m.statements = slice_get_within m.statements j (registers.Result m.block p) at in
+      let (s, is_statement) = some_at rule.source j (omega (arith, within, is.statement_count)) in
+      let h = is.statements j s is_statement in
+      (h.inst, subst (λ (k : ℕ). IsInst f m.block k h.inst) (bound_place j p s h at) h.is_inst)
+
+  -- what every statement is bound to
+  pub bound_there : (j : ℕ) (r : Register) → slice_get m.statements j ≡ Some r → (p : ℕ) × (r ≡ registers.Result m.block p) × (slice_get m.statements j ≡ Some (registers.Result m.block p))
+  bound_there j r at =
+      let within : j < length m.statements = slice_get_within m.statements j r at in
+      let (s, is_statement) = some_at rule.source j (omega (arith, within, is.statement_count)) in
+      let h = is.statements j s is_statement in
+      (h.place, same_Some r (registers.Result m.block h.place) (sym at ∙ h.bound), h.bound)
+
+  -- a later statement reads it
+  record ReadBy (j p : ℕ) : Type 0 where
+    i : ℕ
+    s : Statement
+    later : j < i
+    is_statement : slice_get rule.source i ≡ Some s
+    matched : StatementMatches f rule m i s
+    n : ℕ
+    r : Read
+    is_read_there : IsRead f m.block matched.place n r
+    reads : r.operand ≡ operands.Register (registers.Result m.block p)
+
+  read_by : (j p : ℕ) → suc j < length rule.source → slice_get m.statements j ≡ Some (registers.Result m.block p) → ReadBy j p
+  read_by j p less at =
+      let (q, (o, at_q, names_it)) = good.temporaries_read j less in
+      let (i, s, is_statement, among) = flat_map-from (λ (s : Statement). operands_of s.op) rule.source o (contains_at (flat_map (λ (s : Statement). operands_of s.op) rule.source) q o at_q) in
+      let earlier : j < i = subst (SourceMayRead rule i) names_it (good.source_reads i s o is_statement among) in
+      let h = is.statements i s is_statement in
+      let (n, there) = place_in (operands_of s.op) o among in
+      let (r, read_there) = is_read f m.block h.place h.inst s.op h.is_inst h.matches.operation n o there in
+      let matched = h.matches.operands n o r there read_there in
+      let (reg, bound, reads) : StandsFor m r.width (arguments.Register (names.Source j)) r.operand = subst (λ (a : Argument). StandsFor m r.width a r.operand) names_it matched.value in
+      let same : reg ≡ registers.Result m.block p = same_Some reg (registers.Result m.block p) (sym bound ∙ at) in
+      record { i = i; s = s; later = earlier; is_statement = is_statement; matched = h; n = n; r = r; is_read_there = read_there; reads = reads ∙ ap operands.Register same }
+
+  -- what holds of the root, and of what is read by what it holds of, holds of each, told how many reads it is from the root
+  module _ (G : ℕ → ℕ → Type 0) (root : G 0 m.place)
+      (step : (t p q i : ℕ) (s : RuleOp) (inst : Inst) (r : Read) → suc t < length rule.source → G t p → IsInst f m.block p inst → IsSameOperation s inst.op → IsRead f m.block p i r
+      → r.operand ≡ operands.Register (registers.Result m.block q) → G (suc t) q) where
+    abbrev Come : ℕ → ℕ → Type 0
+    Come j p = (t : ℕ) × (t + suc j ≤ length rule.source) × G t p
+
+    at_root : (j p : ℕ) → length rule.source ≤ suc j → slice_get m.statements j ≡ Some (registers.Result m.block p) → Come j p
+    at_root j p last at =
+        let within : j < length m.statements = slice_get_within m.statements j (registers.Result m.block p) at in
+        let (s, is_statement) = some_at rule.source j (omega (arith, within, is.statement_count)) in
+        let h = is.statements j s is_statement in
+        let here : m.place ≡ p = sym (h.matches.root (omega (arith, within, is.statement_count))) ∙ bound_place j p s h at in
+        (0, omega (arith, within, is.statement_count), subst (G 0) here root)
+
+    -- of the last n statements, and one more
+    from_root : (n j p : ℕ) → length rule.source ≤ n + suc j → slice_get m.statements j ≡ Some (registers.Result m.block p) → Come j p
+    from_root zero j p few at = at_root j p (omega (arith, few)) at
+    from_root (suc n) j p few at = elim (cases_lt (suc j) (length rule.source)) [
+      | inr last ↦ at_root j p last at
+      | inl less ↦
+          let by = read_by j p less at in
+          let later : j < by.i = by.later in
+          let (t, near, holds) = from_root n by.i by.matched.place (omega (arith, few, later)) by.matched.bound in
+          (suc t, omega (arith, near, later), step t by.matched.place p by.n by.s.op by.matched.inst by.r (omega (arith, near, later)) holds by.matched.is_inst by.matched.matches.operation by.is_read_there by.reads)
+    ]
+
+    pub each_come : (j p : ℕ) → slice_get m.statements j ≡ Some (registers.Result m.block p) → (t : ℕ) × (t + suc j ≤ length rule.source) × G t p
+    each_come j p at = from_root (length rule.source) j p (omega arith) at

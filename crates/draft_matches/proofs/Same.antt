@@ -1,0 +1,74 @@
+-- A match stays where the instructions that it is bound to are the same.
+use Rattle.std.proofs.Common.{◌≡◌, ℕ, List, Some, refl, sym, ap, ◌∙◌}
+use Rattle.std.specs.Prelude.{Contains, slice_get}
+use Rattle.ir_core.specs.Checks.{IsInst}
+use Rattle.ir_core.specs.Reads.{Read, IsRead, reads_of}
+use Rattle.ir_core.specs.Walks.{IsReached}
+use Rattle.ir_core.specs.declared.function.Function.{Function}
+use Rattle.ir_core.specs.declared.instruction.Inst.{Inst}
+use Rattle.ir_core.specs.declared.instruction.Op.{Op}
+use Rattle.ir_core.specs.declared.instruction.Op.TheVariants as ops
+use Rattle.ir_core.specs.declared.operand.Register.{Register}
+use Rattle.ir_core.specs.declared.operand.Register.TheVariants as registers
+use Rattle.rule_core.specs.declared.rule.Formula.TheVariants as formulas
+use Rattle.rule_core.specs.declared.rule.Op.{Op as RuleOp}
+use Rattle.rule_core.specs.declared.rule.Op.TheVariants as rule_ops
+use Rattle.rule_core.specs.declared.rule.Rule.{Rule}
+use Rattle.rule_core.specs.declared.rule.Statement.{Statement}
+use Rattle.use_counts.specs.Uses.{IsUsedOnce}
+use Rattle.bindings.specs.Match.{MatchesInAnyOrder}
+use Rattle.bindings.specs.Statements.{IsSameOperation, StatementMatches}
+use Rattle.bindings.specs.declared.binding.Binding.{Binding}
+use Rattle.bindings.proofs.Reading.{reads_at_inst}
+
+-- what a statement matches reads the same in each function
+pub same_reads : (f f' : Function) (b k w : ℕ) (s : RuleOp) (op : Op) → IsSameOperation s op → reads_of f b k w op ≡ reads_of f' b k w op
+same_reads f f' b k w (rule_ops.Binary opcode flags a d) (ops.Binary opcode' flags' x y) same = refl
+same_reads f f' b k w (rule_ops.Compare pred samesign a d) (ops.Compare pred' samesign' width x y) same = refl
+same_reads f f' b k w (rule_ops.Unary op truth a) (ops.Unary op' truth' x) same = refl
+same_reads f f' b k w (rule_ops.Select c a d) (ops.Select z x y) same = refl
+same_reads f f' b k w (rule_ops.Convert cast flags a to) (ops.Convert cast' flags' from x) same = refl
+same_reads f f' b k w (rule_ops.Freeze a j) (ops.Freeze x) same = refl
+same_reads f f' b k w s op same = absurd same
+
+module _ (f f' : Function) (b k : ℕ) (rule : Rule) (m : Binding) (is : MatchesInAnyOrder f b k rule m)
+    (same : (j p : ℕ) (inst : Inst) → slice_get m.statements j ≡ Some (registers.Result m.block p) → IsInst f m.block p inst → IsInst f' m.block p inst) where
+  statement_too : (j : ℕ) (s : Statement) → slice_get rule.source j ≡ Some s → StatementMatches f' rule m j s
+  statement_too j s at =
+      let h = is.statements j s at in
+      let is_inst : IsInst f' m.block h.place h.inst = same j h.place h.inst h.bound h.is_inst in
+      let reads : reads_of f m.block h.place h.inst.width h.inst.op ≡ reads_of f' m.block h.place h.inst.width h.inst.op = same_reads f f' m.block h.place h.inst.width s.op h.inst.op h.matches.operation in
+      record {
+        place = h.place;
+        inst = h.inst;
+        bound = h.bound;
+        is_inst = is_inst;
+        matches = record {
+          root = h.matches.root;
+          operation = h.matches.operation;
+          flags = h.matches.flags;
+          no_more_flags = h.matches.no_more_flags;
+          width = h.matches.width;
+          operands = λ i o r at_i is_read.
+              let was : IsRead f m.block h.place i r = ap (λ (l : List Read). slice_get l i) (reads_at_inst f m.block h.place h.inst h.is_inst ∙ reads ∙ sym (reads_at_inst f' m.block h.place h.inst is_inst)) ∙ is_read in
+              h.matches.operands i o r at_i was;
+        };
+      }
+
+  pub match_too : (IsReached f b → IsReached f' b)
+      → ((j : ℕ) (r : Register) → Contains rule.precondition (formulas.HasOneUse j) → slice_get m.statements j ≡ Some r → IsUsedOnce f' r)
+      → MatchesInAnyOrder f' b k rule m
+  match_too reached one_use = record {
+    block = is.block;
+    place = is.place;
+    reached = reached is.reached;
+    statement_count = is.statement_count;
+    statements = statement_too;
+    before = is.before;
+    input_count = is.input_count;
+    no_undef = is.no_undef;
+    constant_count = is.constant_count;
+    typing = is.typing;
+    precondition = is.precondition;
+    one_use = one_use;
+  }

@@ -1,0 +1,189 @@
+-- The matches at an instruction whose statements are untouched are those that were there, but for what is asked to be used once.
+use Rattle.std.proofs.Common.{◌≡◌, ◌⊎◌, inl, inr, ℕ, suc, ◌<◌, ◌≤◌, List, [], ◌∷◌, length, get_or, None, Some, refl, sym, ap, subst, ◌∙◌, arith}
+use Rattle.std.specs.Prelude.{All, Contains, slice_get}
+use Rattle.std.proofs.lemmas.List.Elements.{All-contains, Contains-get_or}
+use Rattle.std.proofs.lemmas.Option.{none-some, same_Some, slice_get_cases}
+use Rattle.ir_core.specs.Checks.{IsInst}
+use Rattle.ir_core.specs.Reads.{Read, IsRead}
+use Rattle.ir_core.specs.Walks.{IsReached}
+use Rattle.ir_core.specs.declared.function.Function.{Function}
+use Rattle.ir_core.specs.declared.instruction.Inst.{Inst}
+use Rattle.ir_core.specs.declared.operand.Operand.TheVariants as operands
+use Rattle.ir_core.specs.declared.operand.Register.{Register}
+use Rattle.ir_core.specs.declared.operand.Register.TheVariants as registers
+use Rattle.ir_meaning.proofs.Pieces.{cases_in, later_in, first_in, not_in_empty}
+use Rattle.rule_core.specs.declared.rule.Formula.{Formula}
+use Rattle.rule_core.specs.declared.rule.Formula.TheVariants as formulas
+use Rattle.rule_core.specs.declared.rule.Op.{Op as RuleOp}
+use Rattle.rule_core.specs.declared.rule.Rule.{Rule}
+use Rattle.use_counts.specs.Uses.{IsUsedOnce}
+use Rattle.bindings.specs.Match.{MatchesInAnyOrder}
+use Rattle.bindings.specs.Statements.{IsSameOperation}
+use Rattle.bindings.specs.declared.binding.Binding.{Binding}
+use Rattle.bindings.proofs.Reading.{reads_at_inst, same_inst}
+use Rattle.rule_matches.specs.declared.matches.Match.{Match}
+use Rattle.rule_matches.specs.Matches.{AreMatchesInAnyOrder, ComesBefore, IsAt, IsMatchInAnyOrder}
+use Rattle.rule_matches.specs.Ready.{AreReady}
+use Rattle.draft_matches.proofs.Filtered.{Filtered, filtered}
+use Rattle.draft_matches.proofs.Rooted.{bound_there, each_come}
+use Rattle.draft_matches.proofs.Same.{match_too, same_reads}
+
+-- the instruction is the same in both, and is used once now only where it was
+pub record IsSameInst (old new : Function) (b p : ℕ) : Type 0 where
+  pub inst : Inst
+  pub was : IsInst old b p inst
+  pub is : IsInst new b p inst
+  pub once : IsUsedOnce new (registers.Result b p) → IsUsedOnce old (registers.Result b p)
+
+module _ (rules : List Rule) (ready : AreReady rules) (old new : Function) (b n depth : ℕ)
+    (few : (r : ℕ) (rule : Rule) → slice_get rules r ≡ Some rule → length rule.source ≤ suc depth)
+    (reached_on : IsReached old b → IsReached new b) (reached_back : IsReached new b → IsReached old b)
+    (G : ℕ → ℕ → Type 0) (root : G 0 n)
+    (more : (t p q i : ℕ) (r : Read) → t < depth → G t p → IsRead new b p i r → r.operand ≡ operands.Register (registers.Result b q) → G (suc t) q)
+    (same : (t p : ℕ) → t ≤ depth → G t p → IsSameInst old new b p)
+    (once_or_not : (p : ℕ) → IsUsedOnce new (registers.Result b p) ⊎ ¬ IsUsedOnce new (registers.Result b p)) where
+  -- what statements are bound to is the same
+  module _ (m : Match) (of : IsAt b n m) (rule : Rule) (at_rule : slice_get rules m.rule ≡ Some rule) where
+    abbrev x : Binding
+    x = m.binding
+
+    root_here : G 0 x.place
+    root_here = subst (G 0) (sym of.1) root
+
+    abbrev Bound : ℕ → ℕ → Type 0
+    Bound j p = slice_get x.statements j ≡ Some (registers.Result x.block p)
+
+    -- of a match that is there now
+    module _ (is : MatchesInAnyOrder new x.block x.place rule x) where
+      now_same : (j p : ℕ) → Bound j p → IsSameInst old new b p
+      now_same j p at =
+          let good = (ready m.rule rule at_rule).checks in
+          let (t, near, g) = each_come new rule x good is G root_here (λ t p q i s inst r less g is_inst operation is_read reads.
+          more t p q i r (let most = few m.rule rule at_rule in omega (arith, most, less)) g (subst (λ (c : ℕ). IsRead new c p i r) of.0 is_read) (reads ∙ ap (λ (c : ℕ). operands.Register (registers.Result c q)) of.0)) j p at in
+          same t p (let most = few m.rule rule at_rule in omega (arith, most, near)) g
+
+      pub was_there : MatchesInAnyOrder old x.block x.place rule x
+      was_there = match_too new old x.block x.place rule x is
+          (λ j p inst at is_inst.
+          let u = now_same j p at in
+          let equal : u.inst ≡ inst = same_inst new b p u.inst inst u.is (subst (λ (c : ℕ). IsInst new c p inst) of.0 is_inst) in
+          subst (λ (c : ℕ). IsInst old c p inst) (sym of.0) (subst (IsInst old b p) equal u.was))
+          (subst (λ (c : ℕ). IsReached new c → IsReached old c) (sym of.0) reached_back)
+          (λ j r asked at.
+          let (p, is_r, bound) = bound_there new rule x (ready m.rule rule at_rule).checks is j r at in
+          let here : registers.Result x.block p ≡ registers.Result b p = ap (λ (c : ℕ). registers.Result c p) of.0 in
+          let once : IsUsedOnce new (registers.Result b p) = subst (IsUsedOnce new) (is_r ∙ here) (is.one_use j r asked at) in
+          subst (IsUsedOnce old) (sym (is_r ∙ here)) ((now_same j p bound).once once))
+
+    -- of a match that was there
+    module _ (is : MatchesInAnyOrder old x.block x.place rule x) where
+      then_same : (j p : ℕ) → Bound j p → IsSameInst old new b p
+      then_same j p at =
+          let good = (ready m.rule rule at_rule).checks in
+          let (t, near, g) = each_come old rule x good is G root_here step j p at in
+          same t p (let most = few m.rule rule at_rule in omega (arith, most, near)) g
+        where
+          step : (t p q i : ℕ) (s : RuleOp) (inst : Inst) (r : Read) → suc t < length rule.source → G t p → IsInst old x.block p inst → IsSameOperation s inst.op → IsRead old x.block p i r
+              → r.operand ≡ operands.Register (registers.Result x.block q) → G (suc t) q
+          step t p q i s inst r less g is_inst operation is_read reads =
+              let most = few m.rule rule at_rule in
+              let u = same t p (omega (arith, most, less)) g in
+              let was : IsInst old b p inst = subst (λ (c : ℕ). IsInst old c p inst) of.0 is_inst in
+              let now : IsInst new b p inst = subst (IsInst new b p) (same_inst old b p u.inst inst u.was was) u.is in
+              let read_old : IsRead old b p i r = subst (λ (c : ℕ). IsRead old c p i r) of.0 is_read in
+              let read_new : IsRead new b p i r =
+              ap (λ (l : List Read). slice_get l i) (reads_at_inst new b p inst now ∙ sym (same_reads old new b p inst.width s inst.op operation) ∙ sym (reads_at_inst old b p inst was)) ∙ read_old in
+              more t p q i r (omega (arith, most, less)) g read_new (reads ∙ ap (λ (c : ℕ). operands.Register (registers.Result c q)) of.0)
+
+      -- what these formulas ask to be used once is
+      abbrev AreUsedOnce : List Formula → Type 0
+      AreUsedOnce asked = (j : ℕ) (r : Register) → Contains asked (formulas.HasOneUse j) → slice_get x.statements j ≡ Some r → IsUsedOnce new r
+
+      abbrev IsOneUse : Formula → Type 0
+      IsOneUse formula = (j : ℕ) (r : Register) → formula ≡ formulas.HasOneUse j → slice_get x.statements j ≡ Some r → IsUsedOnce new r
+
+      register_or_not : (j : ℕ) (r : Register) → slice_get x.statements j ≡ Some r → IsUsedOnce new r ⊎ ¬ IsUsedOnce new r
+      register_or_not j r at =
+          let (p, is_r, bound) = bound_there old rule x (ready m.rule rule at_rule).checks is j r at in
+          let here : registers.Result b p ≡ r = sym (is_r ∙ ap (λ (c : ℕ). registers.Result c p) of.0) in
+          subst (λ (s : Register). IsUsedOnce new s ⊎ ¬ IsUsedOnce new s) here (once_or_not p)
+
+      statement_or_not : (j : ℕ) → IsOneUse (formulas.HasOneUse j) ⊎ ¬ IsOneUse (formulas.HasOneUse j)
+      statement_or_not j = elim (slice_get_cases x.statements j).1 [
+        | inr (past, none) ↦ inl (λ i r same_j at. absurd (nothing i r same_j at none))
+        | inl (r, within, at, got) ↦ elim (register_or_not j r at) [
+          | inl once ↦ inl (λ i s same_j at_s. subst (IsUsedOnce new) (same_register i s r same_j at_s at) once)
+          | inr other ↦ inr (λ all. other (all j r refl at))
+        ]
+      ]
+        where
+          same_place : (i : ℕ) → formulas.HasOneUse j ≡ formulas.HasOneUse i → j ≡ i
+          same_place i same_j = cc
+
+          same_register : (i : ℕ) (s r : Register) → formulas.HasOneUse j ≡ formulas.HasOneUse i → slice_get x.statements i ≡ Some s → slice_get x.statements j ≡ Some r → r ≡ s
+          same_register i s r same_j at_s at = same_Some r s (sym at ∙ ap (slice_get x.statements) (same_place i same_j) ∙ at_s)
+
+          nothing : (i : ℕ) (r : Register) → formulas.HasOneUse j ≡ formulas.HasOneUse i → slice_get x.statements i ≡ Some r → slice_get x.statements j ≡ None → ⊥
+          nothing i r same_j at none = none-some r (sym none ∙ ap (slice_get x.statements) (same_place i same_j) ∙ at)
+
+      formula_or_not : (formula : Formula) → IsOneUse formula ⊎ ¬ IsOneUse formula
+      formula_or_not (formulas.HasOneUse j) = statement_or_not j
+      formula_or_not formula = inl (λ j r is_that at. absurd cc)
+
+      formulas_or_not : (asked : List Formula) → AreUsedOnce asked ⊎ ¬ AreUsedOnce asked
+      formulas_or_not [] = inl (λ j r has at. absurd (not_in_empty (formulas.HasOneUse j) has))
+      formulas_or_not (formula ∷ asked) = elim (formula_or_not formula) [
+        | inr other ↦ inr (λ all. other (λ j r is_that at. all j r (subst (Contains (formula ∷ asked)) is_that (first_in formula asked)) at))
+        | inl one ↦ elim (formulas_or_not asked) [
+          | inr other ↦ inr (λ all. other (λ j r has at. all j r (later_in formula asked (formulas.HasOneUse j) has) at))
+          | inl others ↦ inl (λ j r has at. elim (cases_in formula asked (formulas.HasOneUse j) has) [
+            | inl is_that ↦ one j r is_that at
+            | inr later ↦ others j r later at
+          ])
+        ]
+      ]
+
+      is_there : AreUsedOnce rule.precondition → MatchesInAnyOrder new x.block x.place rule x
+      is_there uses = match_too old new x.block x.place rule x is
+          (λ j p inst at is_inst.
+          let u = then_same j p at in
+          let equal : u.inst ≡ inst = same_inst old b p u.inst inst u.was (subst (λ (c : ℕ). IsInst old c p inst) of.0 is_inst) in
+          subst (λ (c : ℕ). IsInst new c p inst) (sym of.0) (subst (IsInst new b p) equal u.is))
+          (subst (λ (c : ℕ). IsReached old c → IsReached new c) (sym of.0) reached_on)
+          uses
+
+      pub there_or_not : MatchesInAnyOrder new x.block x.place rule x ⊎ ¬ MatchesInAnyOrder new x.block x.place rule x
+      there_or_not = elim (formulas_or_not rule.precondition) [
+        | inl uses ↦ inl (is_there uses)
+        | inr other ↦ inr (λ now. other now.one_use)
+      ]
+
+  -- ---- the matches at the instruction
+
+  match_was : (m : Match) → IsAt b n m → IsMatchInAnyOrder rules new m → IsMatchInAnyOrder rules old m
+  match_was m of is = record { rule = is.rule; is_rule = is.is_rule; matches = was_there m of is.rule is.is_rule is.matches }
+
+  match_or_not : (m : Match) → IsAt b n m → IsMatchInAnyOrder rules old m → IsMatchInAnyOrder rules new m ⊎ ¬ IsMatchInAnyOrder rules new m
+  match_or_not m of is = elim (there_or_not m of is.rule is.is_rule is.matches) [
+    | inl now ↦ inl (record { rule = is.rule; is_rule = is.is_rule; matches = now })
+    | inr other ↦ inr (λ now. other (subst (λ (r : Rule). MatchesInAnyOrder new m.binding.block m.binding.place r m.binding) (same_Some now.rule is.rule (sym now.is_rule ∙ is.is_rule)) now.matches))
+  ]
+
+  pub record StillThere (ms : List Match) : Type 0 where
+    pub matches : List Match
+    pub are : AreMatchesInAnyOrder rules new (IsAt b n) matches
+    pub were : (m : Match) → Contains matches m → Contains ms m
+
+  pub still_there : (ms : List Match) → AreMatchesInAnyOrder rules old (IsAt b n) ms → StillThere ms
+  still_there ms found =
+      let each : (m : Match) → Contains ms m → IsMatchInAnyOrder rules old m × IsAt b n m = λ m has. All-contains (λ y. IsMatchInAnyOrder rules old y × IsAt b n y) ms m found.each has in
+      let rest : Filtered (IsMatchInAnyOrder rules new) ComesBefore ms = filtered (IsMatchInAnyOrder rules new) ComesBefore ms (λ m has. let h = each m has in match_or_not m h.1 h.0) in
+      record {
+        matches = rest.kept;
+        are = record {
+          each = λ i d lt. let h = rest.each (get_or rest.kept i d) (Contains-get_or rest.kept i d lt) in (h.1, (each (get_or rest.kept i d) h.0).1);
+          all = λ m is of. rest.all m (found.all m (match_was m of is) of) is;
+          in_order = rest.in_order found.in_order;
+        };
+        were = λ m has. (rest.each m has).0;
+      }

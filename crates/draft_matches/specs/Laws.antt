@@ -1,0 +1,36 @@
+-- The laws of matches in drafts.
+use Rattle.std.specs.Prelude.{◌≡◌, ◌↔◌, ◌≤◌, ℕ, suc, List, length, map, Some, Contains, slice_get}
+use Rattle.ir_core.specs.Checks.{MeetsChecks}
+use Rattle.ir_core.specs.Walks.{IsReached}
+use Rattle.rule_core.specs.declared.rule.Rule.{Rule}
+use Rattle.rule_matches.specs.declared.matches.Match.{Match}
+use Rattle.rule_matches.specs.Matches.{AreMatchesInAnyOrder, AreMatchesWhere, IsAt}
+use Rattle.rule_matches.specs.Ready.{AreReady}
+use Rattle.draft.specs.declared.draft.Draft.{Draft}
+use Rattle.places.specs.declared.place.Place.{Place}
+use Rattle.draft.specs.Drafts.{AreTouched, Reaches, Stands, function_of, numbers_in, placed_binding, arena_of}
+use Rattle.places.specs.Orders.{place_in}
+use Rattle.draft.specs.Whole.{IsSettled}
+
+-- a match that names numbers, by places
+abbrev pub placed_match : Draft → Match → Match
+placed_match d m = record { rule = m.rule; binding = placed_binding d m.binding }
+
+-- the matches at an instruction of the arena, whatever the order of its numbers, are by places those of the draft's function
+abbrev pub MatchesOfTheArena : Type 0
+MatchesOfTheArena = (rules : List Rule) (d : Draft) (b n : ℕ) (matches : List Match)
+    → AreReady rules → IsSettled d → MeetsChecks (function_of d) → Stands d b n
+    → AreMatchesInAnyOrder rules (arena_of d) (IsAt b n) matches
+    → AreMatchesWhere rules (function_of d) (IsAt b (place_in (numbers_in d b) n)) (map (placed_match d) matches)
+
+-- no source has more statements than one more than so many
+abbrev pub AreSourcesWithin : ℕ → List Rule → Type 0
+AreSourcesWithin depth rules = (r : ℕ) (rule : Rule) → slice_get rules r ≡ Some rule → length rule.source ≤ suc depth
+
+-- An instruction that reaches nothing that was touched, through as many operands as a source has, has no match that it didn't have.
+abbrev pub MatchesOfTheUntouched : Type 0
+MatchesOfTheUntouched = (rules : List Rule) (old new : Draft) (touched : List Place) (depth b n : ℕ) (matches : List Match)
+    → AreReady rules → AreSourcesWithin depth rules → IsSettled new → AreTouched old new touched → (IsReached (arena_of old) b ↔ IsReached (arena_of new) b)
+    → Stands new b n → ((m : ℕ) → Reaches new depth b n m → ¬ Contains touched (record { block = b; number = m }))
+    → AreMatchesInAnyOrder rules (arena_of old) (IsAt b n) matches
+    → (kept : List Match) × AreMatchesInAnyOrder rules (arena_of new) (IsAt b n) kept × ((m : Match) → Contains kept m → Contains matches m)

@@ -1,0 +1,129 @@
+-- When a draft is clean: all that is left of it is needed.
+use Rattle.std.proofs.Common.{◌≡◌, ℕ, ◌<◌, Bool, true, cond, inl, inr, List, [], ◌++◌, length, Option, None, Some, sym, ap, subst, ◌∙◌, arith}
+use Rattle.std.specs.Prelude.{Contains, slice_get}
+use Rattle.std.proofs.lemmas.Bool.{cases_eq, eq-eqb, ne_eqb}
+use Rattle.std.proofs.lemmas.Option.{same_Some}
+use Rattle.ir_core.specs.Checks.{IsInst}
+use Rattle.ir_core.specs.Reads.{end_of}
+use Rattle.ir_core.specs.declared.function.Block.{Block}
+use Rattle.ir_core.specs.declared.function.Function.{Function}
+use Rattle.ir_core.specs.declared.instruction.Inst.{Inst}
+use Rattle.ir_core.specs.declared.operand.Operand.TheVariants as operands
+use Rattle.ir_core.specs.declared.operand.Register.{Register}
+use Rattle.ir_core.specs.declared.operand.Register.TheVariants as registers
+use Rattle.ir_meaning.proofs.Pieces.{not_in_empty}
+use Rattle.needed.specs.Needed.{IsNeeded, by_end, by_inst, ReadsRegister}
+use Rattle.needed.specs.Operands.{operands_of}
+use Rattle.draft_steps.specs.Cleaning.{AreLeft, AreRead, HaveInsts, IsBlockLeft, IsCleaning, IsNeededWith, KeepsUses, ReadsGoUp}
+use Rattle.draft.specs.Drafts.{Stands, numbers_in, numbers_of, orders_of}
+use Rattle.places.specs.Orders.{none, place_in}
+use Rattle.readers.specs.Readers.{IsReader}
+use Rattle.draft.specs.Whole.{IsWhole}
+use Rattle.draft.specs.declared.draft.Draft.{Draft}
+use Rattle.places.specs.declared.place.Place.{Place}
+use Rattle.readers.proofs.Changing.{inst_there}
+use Rattle.draft_steps.proofs.Leaving.{left_row}
+use Rattle.draft_steps.proofs.Living.{needed_alone, needed_through}
+use Rattle.draft_steps.proofs.PutAll.{append_none}
+use Rattle.draft_steps.proofs.RowPlaces.{is_in, kept_of}
+use Rattle.draft_steps.proofs.Starting.{cleaning_begins}
+use Rattle.draft_steps.proofs.Taking.{all_needed, cleaning_done, cleaning_dropping}
+use Rattle.draft_steps.proofs.WhoReads.{inst_reads_it, who}
+use Rattle.draft.proofs.Wholeness.{stands_there}
+
+-- what is read at a place is needed, where that is of a terminator or of what is needed
+pub read_needed : (f : Function) (p : Place) (r : Register) → IsReader f r p → IsNeeded f (registers.Result p.block p.number) → IsNeeded f r
+read_needed f p r h need = elim (cases_eq p.number none) [
+  | inl end ↦ by_end p.block (subst (λ (k : ℕ). ReadsRegister f p.block k r) (ap (λ c. cond c (end_of f p.block) p.number) (eq-eqb p.number none end)) h)
+  | inr inst ↦ by_inst p.block p.number need (subst (λ (k : ℕ). ReadsRegister f p.block k r) (ap (λ c. cond c (end_of f p.block) p.number) (ne_eqb p.number none inst)) h)
+]
+
+-- at first all waits that would be needed with these
+pub cleaning_starts : (d : Draft) (waits : List Register) → ((b n : ℕ) → Stands d b n → IsNeededWith d.arena waits (registers.Result b n)) → IsCleaning d.arena (numbers_of d) d.arena (numbers_of d) (waits ++ [])
+cleaning_starts d waits all =
+    subst (λ (l : List Register). IsCleaning d.arena (numbers_of d) d.arena (numbers_of d) l) (sym (append_none waits))
+    (cleaning_begins d.arena (numbers_of d) waits all)
+
+module _ (old new : Draft) (whole : IsWhole old) (whole_now : IsWhole new) (roots : List Register) (is : IsCleaning old.arena (numbers_of old) new.arena (numbers_of new) roots) where
+  was_kept : (b n : ℕ) → Stands new b n → Stands old b n × (is.keep b n ≡ true)
+  was_kept b n stands =
+      kept_of (is.keep b) (numbers_in old b) n (subst (λ (l : List ℕ). Contains l n) (left_row is.keep old.arena (numbers_of old) new.arena (numbers_of new) is.is_left b) stands)
+
+  -- what stands stood
+  pub stood_first : (b n : ℕ) → Stands new b n → Stands old b n
+  stood_first b n stands = (was_kept b n stands).0
+
+  block_kept : (keep : ℕ → Bool) (o o' : Option Block) (x y : Block) → o ≡ Some x → o' ≡ Some y → AreLeft keep o o' → IsBlockLeft keep x y
+  block_kept keep None o' x y at at' left = absurd cc
+  block_kept keep (Some z) None x y at at' left = absurd cc
+  block_kept keep (Some z) (Some z') x y at at' left = subst (λ (w : Block). IsBlockLeft keep w y) (same_Some z x at) (subst (IsBlockLeft keep z) (same_Some z' y at') left)
+
+  -- and is what it was
+  pub inst_left : (b n : ℕ) (inst : Inst) → Stands new b n → IsInst old.arena b n inst → IsInst new.arena b n inst
+  inst_left b n inst stands at =
+      let (block, is_block, lt) = stands_there new whole_now b n stands in
+      let left : IsBlockLeft (is.keep b) at.block block = block_kept (is.keep b) (slice_get old.arena.blocks b) (slice_get new.arena.blocks b) at.block block at.is_block is_block (is.is_left.blocks b) in
+      record { block = block; is_block = is_block; is_inst = left.kept n inst (was_kept b n stands).1 at.is_inst }
+
+  -- and reads what it read
+  read_first : (b k : ℕ) (r : Register) → Stands new b k → ReadsRegister new.arena b k r → ReadsRegister old.arena b k r
+  read_first b k r stands h =
+      elim (who new.arena b k r h) [
+        | inr e ↦
+            let (block, is_block, lt) = stands_there new whole_now b k stands in
+            let same : block ≡ e.block = same_Some block e.block (sym is_block ∙ e.is_block) in
+            let size = ap (λ (x : Block). length x.insts) same in
+            let last = e.last in
+            absurd (omega arith)
+        | inl i ↦
+            let (stood, kept) = was_kept b k stands in
+            let (block, inst, is_block, here) = inst_there old.arena b k (stands_there old whole b k stood) in
+            let left : IsBlockLeft (is.keep b) block i.block = block_kept (is.keep b) (slice_get old.arena.blocks b) (slice_get new.arena.blocks b) block i.block is_block i.is_block (is.is_left.blocks b) in
+            let same : i.inst ≡ inst = same_Some i.inst inst (sym i.is_inst ∙ left.kept k inst kept here) in
+            inst_reads_it old.arena b k block inst r is_block here (subst (λ (x : Inst). Contains (operands_of x.op) (operands.Register r)) same i.has)
+      ]
+
+  -- in a function of one block all that is read is needed
+  pub one_block_needed : length new.arena.blocks < 2 → ReadsGoUp old → AreRead new [] → (b n : ℕ) → Stands new b n → IsNeeded new.arena (registers.Result b n)
+  one_block_needed one up read =
+      all_needed new whole_now (λ b n. place_in (numbers_in old b) n) (λ b. length (numbers_in old b)) one
+      (λ b n stands. is_in (numbers_in old b) n (stood_first b n stands))
+      (λ b k n stands h. up b k n (stood_first b k stands) (read_first b k (registers.Result b n) stands h))
+      read
+
+-- what was clean and is cleaned again is clean
+module _ (f : Function) (rows : List (List ℕ)) (old new : Draft) (whole : IsWhole old) (whole_now : IsWhole new) (waits used : List Register) (clean : IsCleaning f rows old.arena (numbers_of old) [])
+    (again : (f : Function) (rows : List (List ℕ)) → IsCleaning f rows old.arena (numbers_of old) waits → IsCleaning f rows new.arena (numbers_of new) used) where
+  own : IsCleaning old.arena (numbers_of old) new.arena (numbers_of new) used
+  own = again old.arena (numbers_of old) (cleaning_begins old.arena (numbers_of old) waits (λ b n stands.
+      needed_through old.arena [] waits (λ r none. absurd (not_in_empty r none)) (registers.Result b n) (clean.waits b n stands)))
+
+  pub cleaned_again : IsCleaning f rows new.arena (numbers_of new) []
+  cleaned_again =
+      cleaning_done new whole_now f rows used
+      (λ b n among stands. own.needed (registers.Result b n) (needed_alone old.arena (registers.Result b n) (clean.waits b n (stood_first old new whole whole_now used own b n stands))))
+      (again f rows (cleaning_dropping old whole f rows [] waits (λ r none. absurd (not_in_empty r none)) clean))
+
+-- ---- a draft of which what nothing reads was taken out
+
+module _ (old mid : Draft) (whole : IsWhole old) (whole_mid : IsWhole mid) (orders : orders_of mid ≡ orders_of old) (used : List Register)
+    (is : IsCleaning old.arena (numbers_of old) mid.arena (numbers_of mid) used) where
+  -- is clean where it has one block
+  pub clean_by_order : length mid.arena.blocks < 2 → (length old.arena.blocks < 2 → ReadsGoUp old) → AreRead mid [] → IsCleaning old.arena (numbers_of old) mid.arena (numbers_of mid) []
+  clean_by_order few ordered read =
+      let size = ap length orders in
+      let few_before : length old.arena.blocks < 2 = omega (arith, few, size, whole.ordered, whole_mid.ordered) in
+      cleaning_done mid whole_mid old.arena (numbers_of old) used (λ b n among stands. one_block_needed old mid whole whole_mid used is few (ordered few_before) read b n stands) is
+
+  -- and where what is still used is needed
+  pub clean_by_uses : ((b n : ℕ) → Contains used (registers.Result b n) → Stands mid b n → IsNeeded mid.arena (registers.Result b n)) → IsCleaning old.arena (numbers_of old) mid.arena (numbers_of mid) []
+  clean_by_uses all = cleaning_done mid whole_mid old.arena (numbers_of old) used all is
+
+-- what is told of a draft that was cleaned
+pub record IsMadeClean (old new : Draft) (used : List Register) : Type 0 where
+  pub whole : IsWhole new
+  pub orders : orders_of new ≡ orders_of old
+  pub none_fell : new.fallen.items ≡ []
+  pub cleaned : IsCleaning old.arena (numbers_of old) new.arena (numbers_of new) []
+  pub have : HaveInsts new used
+  pub reads : (was : Draft) → KeepsUses was old old.fallen.items → KeepsUses was new used

@@ -1,0 +1,222 @@
+-- Cleaning a draft, step by step.
+use Rattle.std.proofs.Common.{◌≡◌, ℕ, zero, suc, ◌+◌, ◌<◌, ◌≤◌, ◌⊎◌, inl, inr, Bool, true, false, ◌↔◌, List, [], ◌∷◌, ◌++◌, length, get_or, refl, sym, ap, subst, ◌∙◌, arith}
+use Rattle.std.specs.Prelude.{Contains}
+use Rattle.std.specs.List.{filter_map}
+use Rattle.std.proofs.lemmas.Bool.{cases_Bool, cases_lt}
+use Rattle.std.proofs.lemmas.List.{get_or_past}
+use Rattle.std.proofs.lemmas.List.Elements.{Contains-append_cases, Contains-append_left, Contains-append_right}
+use Rattle.std.proofs.lemmas.Option.{slice_get_cases, slice_get_within}
+use Rattle.ir_core.specs.Reads.{end_of}
+use Rattle.ir_core.specs.declared.function.Function.{Function}
+use Rattle.ir_core.specs.declared.operand.Operand.{Operand}
+use Rattle.ir_core.specs.declared.operand.Operand.TheVariants as operands
+use Rattle.ir_core.specs.declared.operand.Register.{Register}
+use Rattle.ir_core.specs.declared.operand.Register.TheVariants as registers
+use Rattle.ir_core.specs.declared.instruction.Op.{Op}
+use Rattle.ir_meaning.proofs.Pieces.{cases_in, first_in, later_in, not_in_empty}
+use Rattle.needed.specs.Needed.{IsNeeded, by_end, by_inst, ReadsRegister}
+use Rattle.needed.specs.Operands.{operands_of}
+use Rattle.use_counts.specs.Uses.{IsNamedAt, IsUseCount}
+use Rattle.readers.specs.Changes.{changed_at, taken_out, without}
+use Rattle.draft_steps.specs.Cleaning.{AreRead, IsCleaning, IsNeededWith, ends, reads, is_one}
+use Rattle.readers.specs.Counts.{operands_at, register_of}
+use Rattle.draft.specs.Drafts.{Stands, numbers_in, numbers_of}
+use Rattle.places.specs.Orders.{none, place_in}
+use Rattle.readers.specs.Readers.{arena_place}
+use Rattle.draft.specs.Whole.{IsWhole}
+use Rattle.draft.specs.declared.draft.Draft.{Draft}
+use Rattle.places.specs.declared.place.Place.{Place}
+use Rattle.draft_steps.proofs.Needing.{reader_of}
+use Rattle.readers.proofs.Reading.{arena_place_inst, reads_written}
+use Rattle.draft.proofs.Rows.{marked}
+use Rattle.draft_steps.proofs.Silencing.{cleaning_less}
+use Rattle.draft_steps.proofs.RowPlaces.{contained, in_or_out, is_in}
+use Rattle.draft_steps.proofs.WhoReads.{EndReads, InstReads, end_reads_it, who}
+use Rattle.draft.proofs.Wholeness.{marked_stands, stands_marked, stands_there}
+
+-- the register is of no instruction that stands
+abbrev pub IsGone : Draft → Register → Type 0
+IsGone d r = (b n : ℕ) → r ≡ registers.Result b n → ¬ Stands d b n
+
+module _ (d : Draft) (whole : IsWhole d) where
+  pub stands_or : (b n : ℕ) → Stands d b n ⊎ ¬ Stands d b n
+  stands_or b n =
+      elim (in_or_out (numbers_in d b) n) [
+        | inl there ↦ inl (contained (numbers_in d b) n there)
+        | inr out ↦ inr (λ stands. apart (place_in (numbers_in d b) n) (length (numbers_in d b)) out (is_in (numbers_in d b) n stands))
+      ]
+    where
+      apart : (p l : ℕ) → p ≡ l → p < l → ⊥
+      apart p l same lt = omega arith
+
+  -- an instruction stands where it is marked
+  pub stands_marks : (b n : ℕ) → (get_or (get_or d.stand.items b []) n false ≡ true) ↔ Stands d b n
+  stands_marks b n = (
+    λ there. elim (slice_get_cases d.arena.blocks b).1 [
+      | inl (block, within, is, at) ↦ elim (cases_lt n (length (get_or d.stand.items b []))) [
+        | inl lt ↦ let same : length (get_or d.stand.items b []) ≡ length block.insts = (whole.rows b block is).marked in marked_stands d whole b block is n (omega (arith, lt, same)) there
+        | inr past ↦ absurd (let clash : true ≡ false = sym there ∙ get_or_past (get_or d.stand.items b []) n false past in cc)
+      ]
+      | inr (past, absent) ↦
+          let same : length d.stand.items ≡ length d.arena.blocks = whole.marked in
+          let none : get_or d.stand.items b [] ≡ [] = get_or_past d.stand.items b [] (omega (arith, past, same)) in
+          absurd (let clash : true ≡ false = sym there ∙ ap (λ (row : List Bool). get_or row n false) none in cc)
+    ],
+    λ stands. let (block, is, lt) = stands_there d whole b n stands in (stands_marked d whole b block is n stands).1,
+  )
+
+  -- what doesn't stand reads nothing
+  pub gone_reads_nothing : (b n : ℕ) (r : Register) → ¬ Stands d b n → InstReads d.arena b n r → ⊥
+  gone_reads_nothing b n r out i =
+      elim (cases_Bool (marked (get_or d.stand.items b []) n)) [
+        | inl there ↦ out (marked_stands d whole b i.block i.is_block n (slice_get_within i.block.insts n i.inst i.is_inst) there)
+        | inr none ↦
+            let has : Contains (operands.Poison ∷ []) (operands.Register r) = subst (λ (op : Op). Contains (operands_of op) (operands.Register r)) ((whole.rows b i.block i.is_block).gone n i.inst i.is_inst none) i.has in
+            elim (cases_in operands.Poison [] (operands.Register r) has) [ inl same ↦ cc | inr later ↦ not_in_empty (operands.Register r) later ]
+      ]
+
+  pub end_reads_there : (b k : ℕ) (r : Register) → EndReads d.arena b k r → ReadsRegister d.arena b (end_of d.arena b) r
+  end_reads_there b k r e = end_reads_it d.arena b e.block r e.is_block e.has
+
+  -- roots that are gone, or needed, may be left out
+  needed_dropping : (roots others : List Register) → ((r : Register) → Contains roots r → Contains others r ⊎ (IsNeeded d.arena r ⊎ IsGone d r)) → (r : Register) → IsNeededWith d.arena roots r → IsNeededWith d.arena others r ⊎ IsGone d r
+  needed_dropping roots others all r (ends b h) = inl (ends b h)
+  needed_dropping roots others all r (reads b k need h) =
+      let rest : IsNeededWith d.arena others (registers.Result b k) ⊎ IsGone d (registers.Result b k) = needed_dropping roots others all (registers.Result b k) need in
+      elim (who d.arena b k r h) [
+        | inr e ↦ inl (ends b (end_reads_there b k r e))
+        | inl i ↦ elim rest [
+          | inl need_it ↦ inl (reads b k need_it h)
+          | inr gone ↦ absurd (gone_reads_nothing b k r (gone b k refl) i)
+        ]
+      ]
+  needed_dropping roots others all r (is_one has) =
+      elim (all r has) [
+        | inl other ↦ inl (is_one other)
+        | inr known ↦ elim known [ inl need ↦ inl (with_none r need) | inr gone ↦ inr gone ]
+      ]
+    where
+      with_none : (r : Register) → IsNeeded d.arena r → IsNeededWith d.arena others r
+      with_none r (by_end b h) = ends b h
+      with_none r (by_inst b k need h) = reads b k (with_none (registers.Result b k) need) h
+
+  pub cleaning_dropping : (f : Function) (rows : List (List ℕ)) (roots others : List Register) → ((r : Register) → Contains roots r → Contains others r ⊎ (IsNeeded d.arena r ⊎ IsGone d r))
+      → IsCleaning f rows d.arena (numbers_of d) roots → IsCleaning f rows d.arena (numbers_of d) others
+  cleaning_dropping f rows roots others all is = record {
+    keep = is.keep;
+    is_left = is.is_left;
+    keeps = is.keeps;
+    needed = is.needed;
+    was_needed = is.was_needed;
+    waits = λ b n stands. elim (needed_dropping roots others all (registers.Result b n) (is.waits b n stands)) [
+      | inl need ↦ need
+      | inr gone ↦ absurd (gone b n refl stands)
+    ];
+  }
+
+  -- where each root that stands is needed, all that stands is
+  pub cleaning_done : (f : Function) (rows : List (List ℕ)) (roots : List Register) → ((b n : ℕ) → Contains roots (registers.Result b n) → Stands d b n → IsNeeded d.arena (registers.Result b n))
+      → IsCleaning f rows d.arena (numbers_of d) roots → IsCleaning f rows d.arena (numbers_of d) []
+  cleaning_done f rows roots all is = cleaning_dropping f rows roots [] (λ r has. inr (by r has)) is
+    where
+      by : (r : Register) → Contains roots r → IsNeeded d.arena r ⊎ IsGone d r
+      by (registers.Parameter p) has = inr (λ b n e. absurd cc)
+      by (registers.Result b n) has =
+          elim (stands_or b n) [
+            | inl stands ↦ inl (all b n has stands)
+            | inr out ↦ inr (λ c m e.
+                let block : b ≡ c = cc in
+                let number : n ≡ m = cc in
+                subst (λ (k : ℕ). ¬ Stands d c k) number (subst (λ (x : ℕ). ¬ Stands d x n) block out))
+          ]
+
+  -- where what reads an instruction has a higher rank, and each instruction is read, each is needed
+  module _ (rank : ℕ → ℕ → ℕ) (bound : ℕ → ℕ) (one : length d.arena.blocks < 2) (below : (b n : ℕ) → Stands d b n → rank b n < bound b)
+      (up : (b k n : ℕ) → Stands d b k → ReadsRegister d.arena b k (registers.Result b n) → rank b n < rank b k) (read : AreRead d []) where
+    first_block : (b : ℕ) → b < length d.arena.blocks → b ≡ 0
+    first_block b lt = omega arith
+
+    from_behind : (left b n : ℕ) → Stands d b n → bound b ≤ rank b n + left → IsNeeded d.arena (registers.Result b n)
+    from_behind zero b n stands last = absurd (past (rank b n) (bound b) last (below b n stands))
+      where
+        past : (p l : ℕ) → l ≤ p + 0 → p < l → ⊥
+        past p l le lt = omega arith
+    from_behind (suc left) b n stands last =
+        elim (read b n stands) [
+          | inr waits ↦ absurd (not_in_empty (registers.Result b n) waits)
+          | inl (c, k, h) ↦ elim (who d.arena c k (registers.Result b n) h) [
+            | inr e ↦ by_end c (end_reads_there c k (registers.Result b n) e)
+            | inl i ↦ elim (stands_or c k) [
+              | inr out ↦ absurd (gone_reads_nothing c k (registers.Result b n) out i)
+              | inl there ↦
+                  let (block, is_block, lt) = stands_there d whole b n stands in
+                  let same : c ≡ b = first_block c (slice_get_within d.arena.blocks c i.block i.is_block) ∙ sym (first_block b (slice_get_within d.arena.blocks b block is_block)) in
+                  let stands_too : Stands d b k = subst (λ (x : ℕ). Stands d x k) same there in
+                  let here : ReadsRegister d.arena b k (registers.Result b n) = subst (λ (x : ℕ). ReadsRegister d.arena x k (registers.Result b n)) same h in
+                  by_inst b k (from_behind left b k stands_too (more (rank b n) (rank b k) (bound b) left (up b k n stands_too here) last)) here
+            ]
+          ]
+        ]
+      where
+        more : (p q l left : ℕ) → p < q → l ≤ p + suc left → l ≤ q + left
+        more p q l left lt le = omega arith
+
+    pub all_needed : (b n : ℕ) → Stands d b n → IsNeeded d.arena (registers.Result b n)
+    all_needed b n stands = from_behind (bound b) b n stands (by (rank b n) (bound b))
+      where
+        by : (p l : ℕ) → l ≤ p + l
+        by p l = omega arith
+
+-- ---- what nothing reads is taken out
+
+-- registers among operands
+pub registers_among : (xs : List Operand) (r : Register) → Contains xs (operands.Register r) → Contains (filter_map register_of xs) r
+registers_among [] r has = absurd (not_in_empty (operands.Register r) has)
+registers_among (operands.Register s ∷ xs) r has =
+    elim (cases_in (operands.Register s) xs (operands.Register r) has) [
+      | inl same ↦ let register : s ≡ r = cc in subst (Contains (s ∷ filter_map register_of xs)) register (first_in s (filter_map register_of xs))
+      | inr later ↦ later_in s (filter_map register_of xs) r (registers_among xs r later)
+    ]
+registers_among (operands.Number n ∷ xs) r has = registers_among xs r (elim (cases_in (operands.Number n) xs (operands.Register r) has) [ inl same ↦ absurd cc | inr later ↦ later ])
+registers_among (operands.Undef ∷ xs) r has = registers_among xs r (elim (cases_in operands.Undef xs (operands.Register r) has) [ inl same ↦ absurd cc | inr later ↦ later ])
+registers_among (operands.Poison ∷ xs) r has = registers_among xs r (elim (cases_in operands.Poison xs (operands.Register r) has) [ inl same ↦ absurd cc | inr later ↦ later ])
+
+-- what an instruction reads is among the registers that fall
+pub reads_fall : (f : Function) (p : Place) (r : Register) → p.number < none → ReadsRegister f p.block p.number r → Contains (filter_map register_of (operands_at f p)) r
+reads_fall f p r less h =
+    let here : p.number ≡ arena_place f p = sym (arena_place_inst f p less) in
+    registers_among (operands_at f p) r (reads_written f p.block (arena_place f p) r (subst (λ (k : ℕ). ReadsRegister f p.block k r) here h))
+
+-- what is used nowhere isn't needed
+pub unused : (f : Function) (r : Register) → IsUseCount f r 0 → ¬ IsNeeded f r
+unused f r (places, are, none_of) need =
+    let (b, k, h) = reader_of f r need in
+    let named : IsNamedAt f r b k h.operand = (h.read, h.is_read, h.reads) in
+    let there : Contains places (b, k, h.operand) = (are.each b k h.operand).1 named in
+    let lt : there.0 < length places = there.1 in
+    omega (arith, lt, none_of)
+
+module _ (d d' : Draft) (whole : IsWhole d) (b n : ℕ) (stands : Stands d b n) (un : ¬ IsNeeded d.arena (registers.Result b n))
+    (arena : d'.arena ≡ taken_out d.arena b n) (numbers : numbers_of d' ≡ changed_at b (without n) (numbers_of d))
+    (fell : d'.fallen.items ≡ d.fallen.items ++ filter_map register_of (operands_at d.arena (record { block = b; number = n }))) where
+  abbrev read : List Register
+  read = filter_map register_of (operands_at d.arena (record { block = b; number = n }))
+
+  pub take_step : (f : Function) (rows : List (List ℕ)) (roots used : List Register) → ((r : Register) → Contains roots r → Contains (d.fallen.items ++ used) r ⊎ (r ≡ registers.Result b n))
+      → IsCleaning f rows d.arena (numbers_of d) roots → IsCleaning f rows d'.arena (numbers_of d') (d'.fallen.items ++ used)
+  take_step f rows roots used all is =
+      let (block, is_block, lt) = stands_there d whole b n stands in
+      let few : length block.insts ≤ none = (whole.rows b block is_block).few in
+      let then : IsCleaning f rows (taken_out d.arena b n) (changed_at b (without n) (numbers_of d)) (d'.fallen.items ++ used) =
+      cleaning_less f rows d.arena (numbers_of d) b n roots (d'.fallen.items ++ used) is (block, is_block, lt) un
+      (λ r has. elim (all r has) [ inl old ↦ inl (kept r old) | inr it ↦ inr it ])
+      (λ r h. subst (λ (l : List Register). Contains (l ++ used) r) (sym fell) (Contains-append_left (d.fallen.items ++ read) used r (Contains-append_right d.fallen.items read r (reads_fall d.arena (record { block = b; number = n }) r (omega (arith, lt, few)) h)))) in
+      subst (λ (g : Function). IsCleaning f rows g (numbers_of d') (d'.fallen.items ++ used)) (sym arena)
+      (subst (λ (l : List (List ℕ)). IsCleaning f rows (taken_out d.arena b n) l (d'.fallen.items ++ used)) (sym numbers) then)
+    where
+      kept : (r : Register) → Contains (d.fallen.items ++ used) r → Contains (d'.fallen.items ++ used) r
+      kept r has =
+          elim (Contains-append_cases d.fallen.items used r has) [
+            | inl early ↦ subst (λ (l : List Register). Contains (l ++ used) r) (sym fell) (Contains-append_left (d.fallen.items ++ read) used r (Contains-append_left d.fallen.items read r early))
+            | inr late ↦ Contains-append_right d'.fallen.items used r late
+          ]

@@ -1,0 +1,23 @@
+-- A draft of which only what is listed for its registers differs is settled and clean as before.
+use Rattle.std.proofs.Common.{sym, subst, ◌∙◌}
+use Rattle.ir_core.specs.declared.function.Function.{Function}
+use Rattle.ir_core.specs.declared.operand.Register.TheVariants as registers
+use Rattle.needed.specs.Needed.{IsNeeded}
+use Rattle.draft_steps.specs.Cleaning.{IsClean}
+use Rattle.readers.specs.Readers.{IsPlaceIn, IsReader}
+use Rattle.draft_queue.specs.Walks.{IsSameDraft}
+use Rattle.draft.specs.Whole.{IsSettled}
+use Rattle.draft.specs.declared.draft.Draft.{Draft}
+use Rattle.draft_queue.proofs.SameDrafts.{stays, stood}
+
+module _ (old new : Draft) (same : IsSameDraft old new) where
+  pub still_settled : IsSettled old → IsSettled new
+  still_settled settled = record {
+    whole = same.whole;
+    read_stands = λ b n p inside reads. stays old new same b n (settled.read_stands b n p (subst (λ (f : Function). IsPlaceIn f p) same.arena inside)
+        (subst (λ (f : Function). IsReader f (registers.Result b n) p) same.arena reads));
+    none_fell = same.fallen ∙ settled.none_fell;
+  }
+
+  pub still_clean : IsClean old → IsClean new
+  still_clean clean b n stands = subst (λ (f : Function). IsNeeded f (registers.Result b n)) (sym same.arena) (clean b n (stood old new same b n stands))

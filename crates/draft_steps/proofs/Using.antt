@@ -1,0 +1,181 @@
+-- What is read of a draft where an instruction is taken out: all else is read where it was, and what it read falls.
+use Rattle.std.proofs.Common.{◌≡◌, ℕ, zero, suc, ◌+◌, ◌<◌, ◌≤◌, ◌⊎◌, inl, inr, cond, List, [], ◌∷◌, ◌++◌, length, refl, sym, ap, subst, ◌∙◌, arith}
+use Rattle.std.specs.Prelude.{Contains, slice_index_or, sum_by}
+use Rattle.std.specs.List.{filter_map}
+use Rattle.std.proofs.lemmas.Bool.{cases_Bool, cases_eq}
+use Rattle.std.proofs.lemmas.List.{length-append}
+use Rattle.std.proofs.lemmas.List.Sums.{sum_by-cons}
+use Rattle.std.proofs.lemmas.List.Elements.{Contains-append_cases, Contains-append_left, Contains-append_right}
+use Rattle.std.proofs.lemmas.Option.{slice_get_within}
+use Rattle.ir_core.specs.Blocks.{HasInst}
+use Rattle.ir_core.specs.declared.function.Block.{Block}
+use Rattle.ir_core.specs.declared.function.Function.{Function}
+use Rattle.ir_core.specs.declared.instruction.Inst.{Inst}
+use Rattle.ir_core.specs.declared.operand.Operand.{Operand}
+use Rattle.ir_core.specs.declared.operand.Operand.TheVariants as operands
+use Rattle.ir_core.specs.declared.operand.Register.{Register}
+use Rattle.ir_core.specs.declared.operand.Register.TheVariants as registers
+use Rattle.ir_meaning.proofs.Pieces.{contains_at, first_in, later_in, not_in_empty, some_at}
+use Rattle.needed.specs.Needed.{ReadsRegister}
+use Rattle.needed.specs.Operands.{operands_of}
+use Rattle.use_counts.specs.Uses.{IsUseCount}
+use Rattle.readers.specs.Changes.{changed_at, gone, inst_changed, taken_out, without}
+use Rattle.draft_steps.specs.Cleaning.{AreRead, KeepsUses, registers_read}
+use Rattle.readers.specs.Counts.{names, operands_at, register_of, times, times_in_function}
+use Rattle.draft.specs.Drafts.{Stands, numbers_of}
+use Rattle.places.specs.Orders.{none}
+use Rattle.draft.specs.Whole.{IsWhole}
+use Rattle.draft.specs.declared.draft.Draft.{Draft}
+use Rattle.readers.proofs.Changing.{changed_sum, inst_there}
+use Rattle.readers.proofs.Counting.{one_if}
+use Rattle.draft.proofs.Exchanging.{inst_differs}
+use Rattle.readers.proofs.Naming.{names_is}
+use Rattle.readers.proofs.Places.{AreFew, DiffersAt}
+use Rattle.readers.proofs.Reading.{operands_at_inst}
+use Rattle.draft_steps.proofs.Silencing.{taken_out_is_silenced, without_of}
+use Rattle.draft_steps.proofs.Taking.{IsGone, reads_fall, registers_among}
+use Rattle.draft.proofs.Wholeness.{few_insts}
+
+-- what is counted among operands is there
+counted_contains : (r : Register) (xs : List Operand) → (times r xs ≡ 0 → ⊥) → Contains xs (operands.Register r)
+counted_contains r [] some = absurd (some refl)
+counted_contains r (x ∷ xs) some =
+    elim (cases_Bool (names r x)) [
+      | inl is ↦ subst (Contains (x ∷ xs)) (names_is r x is) (first_in x xs)
+      | inr other ↦
+          let first : one_if r x ≡ 0 = ap (λ c. cond c 1 0) other in
+          let counts = sum_by-cons (one_if r) x xs in
+          later_in x xs (operands.Register r) (counted_contains r xs (λ none. some (omega (arith, none, first, counts))))
+    ]
+
+-- where an instruction is taken out a register is read by as many operands, or that one read it
+pub less_often : (f : Function) → AreFew f → (b n : ℕ) → HasInst f b n → (r : Register)
+    → (times_in_function r f ≤ times_in_function r (taken_out f b n)) ⊎ Contains (filter_map register_of (operands_at f (record { block = b; number = n }))) r
+less_often f few b n has r =
+    let (block, inst, is_block, here) = inst_there f b n has in
+    let less : n < length block.insts = slice_get_within block.insts n inst here in
+    let low : length block.insts ≤ none = few b block is_block in
+    let differs : DiffersAt f (taken_out f b n) (record { block = b; number = n }) = inst_differs f few b n gone block inst is_block here in
+    let counted = differs.times_differ r in
+    elim (cases_eq (times r (operands_at f (record { block = b; number = n }))) 0) [
+      | inl nowhere ↦ inl (omega arith)
+      | inr somewhere ↦ inr (registers_among (operands_at f (record { block = b; number = n })) r (counted_contains r (operands_at f (record { block = b; number = n })) somewhere))
+    ]
+
+-- ---- what stands
+
+-- what stands without a number stood, and is another
+pub less_in : (rows : List (List ℕ)) (b n c m : ℕ) → Contains (slice_index_or (changed_at b (without n) rows) c []) m → Contains (slice_index_or rows c []) m × ((c ≡ b) × (m ≡ n) → ⊥)
+less_in [] b n c m has = absurd (not_in_empty m has)
+less_in (row ∷ rows) zero n zero m has = let (had, ne) = without_of n row m has in (had, λ e. ne e.1)
+less_in (row ∷ rows) zero n (suc c) m has = (has, λ e. let same : suc c ≡ zero = e.0 in cc)
+less_in (row ∷ rows) (suc b) n zero m has = (has, λ e. let same : zero ≡ suc b = e.0 in cc)
+less_in (row ∷ rows) (suc b) n (suc c) m has =
+    let (had, other) = less_in rows b n c m has in
+    (had, λ e. other (let same : c ≡ b = let both : suc c ≡ suc b = e.0 in cc in same, e.1))
+
+-- ---- the draft
+
+-- where a register is of nothing that stands, no use of it is told
+pub uses_dropping : (was d : Draft) (roots others : List Register) → ((r : Register) → Contains roots r → Contains others r ⊎ IsGone d r) → KeepsUses was d roots → KeepsUses was d others
+uses_dropping was d roots others all keeps = λ b n stands. elim (keeps b n stands) [
+  | inl enough ↦ inl enough
+  | inr waits ↦ elim (all (registers.Result b n) waits) [ inl other ↦ inr other | inr gone ↦ absurd (gone b n refl stands) ]
+]
+
+-- nor is it read
+pub read_dropping : (d : Draft) (roots others : List Register) → ((r : Register) → Contains roots r → Contains others r ⊎ (IsGone d r ⊎ ((b : ℕ) × (k : ℕ) × ReadsRegister d.arena b k r))) → AreRead d roots → AreRead d others
+read_dropping d roots others all are = λ b n stands. elim (are b n stands) [
+  | inl read ↦ inl read
+  | inr waits ↦ elim (all (registers.Result b n) waits) [
+    | inl other ↦ inr other
+    | inr known ↦ elim known [ inl gone ↦ absurd (gone b n refl stands) | inr read ↦ inl read ]
+  ]
+]
+
+module _ (d d' : Draft) (whole : IsWhole d) (b n : ℕ) (has : HasInst d.arena b n)
+    (arena : d'.arena ≡ taken_out d.arena b n) (numbers : numbers_of d' ≡ changed_at b (without n) (numbers_of d))
+    (fell : d'.fallen.items ≡ d.fallen.items ++ filter_map register_of (operands_at d.arena (record { block = b; number = n }))) where
+  pub stood : (c m : ℕ) → Stands d' c m → Stands d c m × ((c ≡ b) × (m ≡ n) → ⊥)
+  stood c m stands = less_in (numbers_of d) b n c m (subst (λ (rows : List (List ℕ)). Contains (slice_index_or rows c []) m) numbers stands)
+
+  -- what it read falls
+  falls : (r : Register) → ReadsRegister d.arena b n r → Contains d'.fallen.items r
+  falls r h =
+      let (block, is_block, lt) = has in
+      let few : length block.insts ≤ none = (whole.rows b block is_block).few in
+      subst (λ (l : List Register). Contains l r) (sym fell)
+      (Contains-append_right d.fallen.items (filter_map register_of (operands_at d.arena (record { block = b; number = n }))) r (reads_fall d.arena (record { block = b; number = n }) r (omega (arith, lt, few)) h))
+
+  still_falls : (r : Register) → Contains d.fallen.items r → Contains d'.fallen.items r
+  still_falls r old = subst (λ (l : List Register). Contains l r) (sym fell) (Contains-append_left d.fallen.items (filter_map register_of (operands_at d.arena (record { block = b; number = n }))) r old)
+
+  -- what reads a register does, or it falls
+  read_stays : (c k : ℕ) (r : Register) → ReadsRegister d.arena c k r → ReadsRegister d'.arena c k r ⊎ Contains d'.fallen.items r
+  read_stays c k r h =
+      elim ((taken_out_is_silenced d.arena b n has).stay c k r h) [
+        | inl here ↦ inl (subst (λ (f : Function). ReadsRegister f c k r) (sym arena) here)
+        | inr same ↦ inr (falls r (subst (λ (j : ℕ). ReadsRegister d.arena b j r) same.1 (subst (λ (x : ℕ). ReadsRegister d.arena x k r) same.0 h)))
+      ]
+
+  -- it is read by as many operands, or its register falls
+  as_often : (r : Register) → (times_in_function r d.arena ≤ times_in_function r d'.arena) ⊎ Contains d'.fallen.items r
+  as_often r = elim (less_often d.arena (few_insts d whole) b n has r) [
+    | inl enough ↦ inl (let arenas = ap (times_in_function r) arena in omega arith)
+    | inr among ↦ inr (subst (λ (l : List Register). Contains l r) (sym fell) (Contains-append_right d.fallen.items (filter_map register_of (operands_at d.arena (record { block = b; number = n }))) r among))
+  ]
+
+  pub uses_less : (was : Draft) (roots used : List Register) → ((r : Register) → Contains roots r → Contains (d.fallen.items ++ used) r ⊎ (r ≡ registers.Result b n)) → KeepsUses was d roots → KeepsUses was d' (d'.fallen.items ++ used)
+  uses_less was roots used all keeps = λ c m stands.
+      let (had, other) = stood c m stands in
+      elim (keeps c m had) [
+        | inl enough ↦ elim (as_often (registers.Result c m)) [
+          | inl as_many ↦ inl (omega arith)
+          | inr fallen ↦ inr (Contains-append_left d'.fallen.items used (registers.Result c m) fallen)
+        ]
+        | inr waits ↦ elim (all (registers.Result c m) waits) [
+          | inl old ↦ inr (elim (Contains-append_cases d.fallen.items used (registers.Result c m) old) [
+            | inl early ↦ Contains-append_left d'.fallen.items used (registers.Result c m) (still_falls (registers.Result c m) early)
+            | inr late ↦ Contains-append_right d'.fallen.items used (registers.Result c m) late
+          ])
+          | inr it ↦
+              let block : c ≡ b = cc in
+              let number : m ≡ n = cc in
+              absurd (other (block, number))
+        ]
+      ]
+
+  pub read_less : (roots : List Register) → ((r : Register) → Contains roots r → Contains d.fallen.items r ⊎ (r ≡ registers.Result b n)) → AreRead d roots → AreRead d' d'.fallen.items
+  read_less roots all are = λ c m stands.
+      let (had, other) = stood c m stands in
+      elim (are c m had) [
+        | inl (x, k, h) ↦ elim (read_stays x k (registers.Result c m) h) [ inl here ↦ inl (x, k, here) | inr fallen ↦ inr fallen ]
+        | inr waits ↦ elim (all (registers.Result c m) waits) [
+          | inl old ↦ inr (still_falls (registers.Result c m) old)
+          | inr it ↦
+              let block : c ≡ b = cc in
+              let number : m ≡ n = cc in
+              absurd (other (block, number))
+        ]
+      ]
+
+  -- as many registers are read and wait as before
+  pub as_many_read : registers_read d'.arena + length d'.fallen.items ≡ registers_read d.arena + length d.fallen.items
+  as_many_read =
+      let (block, inst, is_block, here) = inst_there d.arena b n has in
+      let few : length block.insts ≤ none = (whole.rows b block is_block).few in
+      let lt : n < length block.insts = slice_get_within block.insts n inst here in
+      let reads : operands_at d.arena (record { block = b; number = n }) ≡ operands_of inst.op = operands_at_inst d.arena (record { block = b; number = n }) block inst is_block here (omega (arith, lt, few)) in
+      let insts = changed_sum (λ (i : Inst). length (filter_map register_of (operands_of i.op))) n gone block.insts inst here in
+      let blocks = changed_sum (λ (x : Block). sum_by (λ (i : Inst). length (filter_map register_of (operands_of i.op))) x.insts) b (inst_changed n gone) d.arena.blocks block is_block in
+      let arenas : registers_read d'.arena ≡ registers_read (taken_out d.arena b n) = ap registers_read arena in
+      let falling : length d'.fallen.items ≡ length d.fallen.items + length (filter_map register_of (operands_of inst.op)) =
+      ap length fell ∙ (length-append d.fallen.items (filter_map register_of (operands_at d.arena (record { block = b; number = n }))) ∙ ap (λ (l : List Operand). length d.fallen.items + length (filter_map register_of l)) reads) in
+      omega arith
+
+-- a register that is used is read somewhere
+pub used_is_read : (f : Function) (r : Register) (count : ℕ) → IsUseCount f r count → 0 < count → (b : ℕ) × (k : ℕ) × ReadsRegister f b k r
+used_is_read f r count (places, are, many) some =
+    let found = some_at places 0 (omega (arith, many, some)) in
+    let named = (are.each found.0.0 found.0.1 found.0.2).0 (contains_at places 0 found.0 found.1) in
+    (found.0.0, found.0.1, record { operand = found.0.2; read = named.0; is_read = named.1; reads = named.2 })

@@ -1,0 +1,14 @@
+use Rattle.draft_steps.proofs.cleaning.next_fallen.Goals as goal
+
+pub returns-clause-whole : goal.returns-clause-whole
+returns-clause-whole c =
+    let whole = c.requires in
+    record {
+      few = whole.few;
+      ordered = whole.ordered;
+      marked = whole.marked;
+      rows = whole.rows;
+      known = whole.known;
+      facts = whole.facts;
+      readers = whole.readers;
+    }

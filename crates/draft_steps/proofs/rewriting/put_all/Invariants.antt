@@ -1,0 +1,12 @@
+use Rattle.std.proofs.Common.{◌≡◌, ◌++◌}
+use Rattle.std.specs.Vec.Iter.{into_iter_items}
+use Rattle.draft_steps.proofs.PutAll.{ArePut}
+use Rattle.draft_steps.proofs.rewriting.put_all.Given as goal
+
+-- those so far were put, and the others are left
+abbrev pub invariant-loop-inst : goal.invariant-loop-inst
+invariant-loop-inst l =
+    record {
+      so_far : ArePut l.initial.draft l.draft l.at l.yielded l.put.items;
+      left : l.yielded ++ into_iter_items l.inst-iterator ≡ l.fn.insts.items;
+    }

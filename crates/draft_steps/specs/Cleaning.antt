@@ -1,0 +1,83 @@
+-- What is left of a draft while it is cleaned, and what is still to be looked at.
+use Rattle.std.specs.Prelude.{◌≡◌, ◌⊎◌, ◌<◌, ◌≤◌, ℕ, Bool, true, List, [], length, Option, None, Some, Contains, option_map, slice_get, slice_index_or, sum_by}
+use Rattle.std.specs.List.{filter, filter_map}
+use Rattle.ir_core.specs.Blocks.{HasInst}
+use Rattle.ir_core.specs.Reads.{end_of}
+use Rattle.ir_core.specs.declared.function.Block.{Block}
+use Rattle.ir_core.specs.declared.function.Function.{Function}
+use Rattle.ir_core.specs.declared.instruction.Inst.{Inst}
+use Rattle.ir_core.specs.declared.operand.Register.{Register}
+use Rattle.ir_core.specs.declared.operand.Register.TheVariants as registers
+use Rattle.needed.specs.Needed.{IsNeeded, ReadsRegister}
+use Rattle.needed.specs.Operands.{operands_of}
+use Rattle.readers.specs.Counts.{register_of, times_in_function}
+use Rattle.draft.specs.Drafts.{Stands, numbers_in}
+use Rattle.places.specs.Orders.{place_in}
+use Rattle.draft.specs.declared.draft.Draft.{Draft}
+
+-- A register is needed, or it would be if these were.
+pub data IsNeededWith (f : Function) (roots : List Register) : Register → Type 0 where
+  ends : (b : ℕ) {register : Register} → ReadsRegister f b (end_of f b) register → IsNeededWith f roots register
+  reads : (b k : ℕ) {register : Register} → IsNeededWith f roots (registers.Result b k) → ReadsRegister f b k register → IsNeededWith f roots register
+  is_one : {register : Register} → Contains roots register → IsNeededWith f roots register
+
+-- the block with what is kept
+pub record IsBlockLeft (keep : ℕ → Bool) (old new : Block) : Type 0 where
+  pub name : new.name ≡ old.name
+  pub end : new.end ≡ old.end
+  pub kept : (n : ℕ) (i : Inst) → keep n ≡ true → slice_get old.insts n ≡ Some i → slice_get new.insts n ≡ Some i
+
+-- so each of the blocks
+abbrev pub AreLeft : (ℕ → Bool) → Option Block → Option Block → Type 0
+AreLeft keep None None = Unit {0}
+AreLeft keep None (Some new) = ⊥
+AreLeft keep (Some old) None = ⊥
+AreLeft keep (Some old) (Some new) = IsBlockLeft keep old new
+
+-- The arena and its numbers with what is kept.
+pub record IsLeft (keep : ℕ → ℕ → Bool) (old : Function) (rows : List (List ℕ)) (new : Function) (left : List (List ℕ)) : Type 0 where
+  pub name : new.name ≡ old.name
+  pub before : new.before ≡ old.before
+  pub width : new.width ≡ old.width
+  pub parameters : new.parameters ≡ old.parameters
+  pub after : new.after ≡ old.after
+  pub blocks : (b : ℕ) → AreLeft (keep b) (slice_get old.blocks b) (slice_get new.blocks b)
+  pub row : (b : ℕ) → slice_get left b ≡ option_map (filter (keep b)) (slice_get rows b)
+
+-- Of an arena and its numbers what isn't needed is taken out, so far; and what is left is needed, or it would be if these registers were.
+pub record IsCleaning (old : Function) (rows : List (List ℕ)) (new : Function) (left : List (List ℕ)) (roots : List Register) : Type 0 where
+  pub keep : ℕ → ℕ → Bool
+  pub is_left : IsLeft keep old rows new left
+  pub keeps : (b n : ℕ) → IsNeeded old (registers.Result b n) → keep b n ≡ true
+  pub needed : (r : Register) → IsNeeded old r → IsNeeded new r
+  pub was_needed : (r : Register) → IsNeeded new r → IsNeeded old r
+  pub waits : (b n : ℕ) → Contains (slice_index_or left b []) n → IsNeededWith new roots (registers.Result b n)
+
+-- what stands is read by as many operands as before, or more, where its register doesn't wait
+abbrev pub KeepsUses : Draft → Draft → List Register → Type 0
+KeepsUses was now waits = (b n : ℕ) → Stands now b n
+    → (times_in_function (registers.Result b n) was.arena ≤ times_in_function (registers.Result b n) now.arena) ⊎ Contains waits (registers.Result b n)
+
+-- how many operands of instructions are registers
+abbrev pub registers_read : Function → ℕ
+registers_read f = sum_by (λ block. sum_by (λ inst. length (filter_map register_of (operands_of inst.op))) block.insts) f.blocks
+
+-- the instructions of these registers have numbers
+abbrev pub HaveInsts : Draft → List Register → Type 0
+HaveInsts d these = (b n : ℕ) → Contains these (registers.Result b n) → HasInst d.arena b n
+
+-- each instruction that stands is read, where its register doesn't wait
+abbrev pub AreRead : Draft → List Register → Type 0
+AreRead d waits = (b n : ℕ) → Stands d b n → ((c : ℕ) × (k : ℕ) × ReadsRegister d.arena c k (registers.Result b n)) ⊎ Contains waits (registers.Result b n)
+
+-- what an instruction that stands reads of its own block stands before it
+abbrev pub ReadsGoUp : Draft → Type 0
+ReadsGoUp d = (b k n : ℕ) → Stands d b k → ReadsRegister d.arena b k (registers.Result b n) → place_in (numbers_in d b) n < place_in (numbers_in d b) k
+
+-- all of the function is needed
+abbrev pub AllNeeded : Function → Type 0
+AllNeeded f = (b n : ℕ) → HasInst f b n → IsNeeded f (registers.Result b n)
+
+-- all that stands is needed
+abbrev pub IsClean : Draft → Type 0
+IsClean d = (b n : ℕ) → Stands d b n → IsNeeded d.arena (registers.Result b n)

@@ -1,0 +1,6 @@
+pub use Rattle.bindings.specs.Match
+pub use Rattle.rewriter.specs.Applied
+pub use Rattle.needed.specs.Cleaned
+pub mod Cleaning
+pub mod Rewriting
+pub mod Arranged

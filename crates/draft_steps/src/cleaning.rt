@@ -1,0 +1,219 @@
+//! Cleaning drafts.
+
+ghost use Rattle.std.specs.Prelude.{◌≡◌, ◌+◌, ◌++◌, ◌∷◌, [], ◌↔◌, ◌⊎◌, ◌<◌, ℕ, List as Seq, length, Contains, IsTrue, IsFalse, false, slice_index_or, IfSome, IfNone, IfOk, OnOk};
+ghost use Rattle.ir_core.specs.declared.function.Function.{Function};
+ghost use Rattle.ir_core.specs.declared.operand.Operand.TheVariants as operands;
+ghost use Rattle.ir_core.specs.declared.operand.Register.{Register as Named};
+ghost use Rattle.needed.specs.Needed.{IsNeeded};
+ghost use Rattle.draft_steps.specs.Cleaning.{AreRead, HaveInsts, IsCleaning, IsNeededWith, KeepsUses, ReadsGoUp, registers_read};
+ghost use Rattle.draft.specs.Drafts.{Stands, numbers_of, orders_of};
+ghost use Rattle.draft.specs.Whole.{IsWhole};
+
+use crate::rewriting::Rewritten;
+use draft::Draft;
+use ir_core::Register;
+use needed::unneeded_insts;
+use places::Place;
+use readers::is;
+use std::alloc::{AllocError, Global};
+use use_counts::uses_of;
+
+/// Takes out what is needed no more since a rewrite, and gives the registers of which a use went and which are still used.
+///
+/// What nothing reads goes, and with it what it alone read. In a function of one block all else is needed, since what reads an
+/// instruction stands behind it. In others what is left of a loop may read itself alone: there a walk from the terminators finds what is
+/// needed, but where what was put leads from each register that lost a use to what stands for the root's.
+pub(crate) fn clean_draft(
+    alloc: Global,
+    draft: &mut Draft,
+    rewritten: &Rewritten,
+) -> Result<Vec<Register>, AllocError>
+    requires whole { IsWhole draft.old }
+    requires waits { (b n : ℕ) → Stands draft.old b n → IsNeededWith draft.old.arena draft.old.fallen.items (Register.Result b n) }
+    requires result { (r : Named) → rewritten.now.result ≡ operands.Register r → IsNeeded draft.old.arena r }
+    requires read { AreRead draft.old draft.old.fallen.items }
+    requires ordered { length draft.old.arena.blocks < 2 → ReadsGoUp draft.old }
+    ensures whole { OnOk result (IsWhole draft.new) }
+    ensures orders { OnOk result (orders_of draft.new ≡ orders_of draft.old) }
+    ensures none_fell { OnOk result (draft.new.fallen.items ≡ []) }
+    ensures cleaned { OnOk result (IsCleaning draft.old.arena (numbers_of draft.old) draft.new.arena (numbers_of draft.new) []) }
+    ensures used { IfOk result (λ used. HaveInsts draft.new used.items) }
+    ensures reads { IfOk result (λ used. (was : Draft) → KeepsUses was draft.old draft.old.fallen.items → KeepsUses was draft.new used.items) }
+{
+    let mut used = Vec::new(alloc);
+    take_unused(draft, &mut used)?;
+    if draft.blocks() > 1 && !are_needed(draft, rewritten, used.as_slice()) {
+        take_unneeded(alloc, draft)?;
+        take_unused(draft, &mut used)?;
+    }
+    Ok(used)
+}
+
+/// The register that fell last, if one is left.
+fn next_fallen(draft: &mut Draft) -> Option<Register>
+    requires { IsWhole draft.old }
+    ensures whole { IsWhole draft.new }
+    ensures arena { draft.new.arena ≡ draft.old.arena }
+    ensures numbers { numbers_of draft.new ≡ numbers_of draft.old }
+    ensures orders { orders_of draft.new ≡ orders_of draft.old }
+    ensures some { IfSome result (λ register. draft.old.fallen.items ≡ draft.new.fallen.items ++ register ∷ []) }
+    ensures none { IfNone result ((draft.old.fallen.items ≡ []) × (draft.new.fallen.items ≡ [])) }
+{
+    draft.fallen.pop()
+}
+
+/// Takes out what nothing reads, of what fell, and lists the rest.
+fn take_unused(draft: &mut Draft, used: &mut Vec<Register>) -> Result<(), AllocError>
+    requires { IsWhole draft.old }
+    ensures whole { OnOk result (IsWhole draft.new) }
+    ensures orders { OnOk result (orders_of draft.new ≡ orders_of draft.old) }
+    ensures none_fell { OnOk result (draft.new.fallen.items ≡ []) }
+    ensures cleaning { OnOk result ((f : Function) (rows : Seq (Seq ℕ))
+        → IsCleaning f rows draft.old.arena (numbers_of draft.old) (draft.old.fallen.items ++ used.old.items)
+        → IsCleaning f rows draft.new.arena (numbers_of draft.new) used.new.items) }
+    ensures used { OnOk result (HaveInsts draft.old used.old.items → HaveInsts draft.new used.new.items) }
+    ensures reads { OnOk result ((was : Draft) → KeepsUses was draft.old (draft.old.fallen.items ++ used.old.items)
+        → KeepsUses was draft.new used.new.items) }
+    ensures read { OnOk result (AreRead draft.old draft.old.fallen.items → AreRead draft.new []) }
+{
+    while let Some(register) = next_fallen(draft) {
+        take_or_list(draft, used, register)?;
+    }
+    Ok(())
+}
+
+/// Takes out the instruction of a register that fell, where nothing reads it, and else lists the register.
+fn take_or_list(
+    draft: &mut Draft,
+    used: &mut Vec<Register>,
+    register: Register,
+) -> Result<(), AllocError>
+    requires { IsWhole draft.old }
+    ensures whole { OnOk result (IsWhole draft.new) }
+    ensures orders { OnOk result (orders_of draft.new ≡ orders_of draft.old) }
+    ensures cleaning { OnOk result ((f : Function) (rows : Seq (Seq ℕ)) (roots : Seq Named)
+        → ((r : Named) → Contains roots r → Contains (draft.old.fallen.items ++ used.old.items) r ⊎ (r ≡ register))
+        → IsCleaning f rows draft.old.arena (numbers_of draft.old) roots
+        → IsCleaning f rows draft.new.arena (numbers_of draft.new) (draft.new.fallen.items ++ used.new.items)) }
+    ensures used { OnOk result (HaveInsts draft.old used.old.items → HaveInsts draft.new used.new.items) }
+    ensures reads { OnOk result ((was : Draft) (roots : Seq Named)
+        → ((r : Named) → Contains roots r → Contains (draft.old.fallen.items ++ used.old.items) r ⊎ (r ≡ register))
+        → KeepsUses was draft.old roots → KeepsUses was draft.new (draft.new.fallen.items ++ used.new.items)) }
+    ensures read { OnOk result ((roots : Seq Named) → ((r : Named) → Contains roots r → Contains draft.old.fallen.items r ⊎ (r ≡ register))
+        → AreRead draft.old roots → AreRead draft.new draft.new.fallen.items) }
+    ensures as_many { OnOk result (registers_read draft.new.arena + length draft.new.fallen.items
+        ≡ registers_read draft.old.arena + length draft.old.fallen.items) }
+{
+    if let Register::Result(block, number) = register {
+        if is_standing(draft, register) {
+            if uses_of(&draft.facts.uses, register) > 0 {
+                used.push(register)?;
+            } else {
+                draft.take_out(Place { block, number })?;
+            }
+        }
+    }
+    Ok(())
+}
+
+/// Whether each register, where its instruction stands, is seen to be needed.
+fn are_needed(draft: &Draft, rewritten: &Rewritten, used: &[Register]) -> bool
+    requires whole { IsWhole draft.now }
+    requires result { (r : Named) → rewritten.now.result ≡ operands.Register r → IsNeeded draft.now.arena r }
+    ensures { IsTrue result → (b n : ℕ) → Contains used.now (Register.Result b n) → Stands draft.now b n → IsNeeded draft.now.arena (Register.Result b n) }
+{
+    for register in used {
+        if !is_seen_needed(draft, rewritten, *register) {
+            return false;
+        }
+    }
+    true
+}
+
+/// Whether what was put leads from a register to what stands for the root's; or it has no instruction that stands.
+fn is_seen_needed(draft: &Draft, rewritten: &Rewritten, register: Register) -> bool
+    requires whole { IsWhole draft.now }
+    requires result { (r : Named) → rewritten.now.result ≡ operands.Register r → IsNeeded draft.now.arena r }
+    ensures { IsTrue result → (b n : ℕ) → register ≡ Register.Result b n → Stands draft.now b n → IsNeeded draft.now.arena register }
+{
+    if !is_standing(draft, register) {
+        return true;
+    }
+    let mut here = register;
+    for place in &rewritten.put {
+        if is(rewritten.result, here) {
+            return true;
+        }
+        if draft.reads(*place, here) {
+            here = Register::Result(place.block, place.number);
+        }
+    }
+    is(rewritten.result, here)
+}
+
+/// Whether the register is one of an instruction that stands.
+fn is_standing(draft: &Draft, register: Register) -> bool
+    requires { IsWhole draft.now }
+    ensures result { (b n : ℕ) → register ≡ Register.Result b n → IsTrue result ↔ Stands draft.now b n }
+    ensures parameter { (p : ℕ) → register ≡ Register.Parameter p → IsFalse result }
+{
+    match register {
+        Register::Result(block, number) => match draft.stand.get(block as usize) {
+            Some(row) => is_marked(row.as_slice(), number),
+            None => false,
+        },
+        Register::Parameter(_) => false,
+    }
+}
+
+/// Whether a number is marked in a row.
+fn is_marked(row: &[bool], number: u32) -> bool
+    ensures { result ≡ slice_index_or row.now number false }
+{
+    match row.get(number as usize) {
+        Some(mark) => *mark,
+        None => false,
+    }
+}
+
+/// Takes out all that isn't needed.
+fn take_unneeded(alloc: Global, draft: &mut Draft) -> Result<(), AllocError>
+    requires { IsWhole draft.old }
+    ensures whole { OnOk result (IsWhole draft.new) }
+    ensures orders { OnOk result (orders_of draft.new ≡ orders_of draft.old) }
+    ensures cleaning { OnOk result ((f : Function) (rows : Seq (Seq ℕ)) (waits : Seq Named)
+        → IsCleaning f rows draft.old.arena (numbers_of draft.old) waits
+        → IsCleaning f rows draft.new.arena (numbers_of draft.new) []) }
+    ensures reads { OnOk result ((was : Draft) (fell : Seq Named) → KeepsUses was draft.old (draft.old.fallen.items ++ fell)
+        → KeepsUses was draft.new (draft.new.fallen.items ++ fell)) }
+{
+    let unneeded = unneeded_insts(alloc, draft.arena())?;
+    take_all(draft, unneeded.as_slice())?;
+    Ok(())
+}
+
+/// Takes out instructions that aren't needed, where they stand.
+fn take_all(draft: &mut Draft, unneeded: &[(u32, u32)]) -> Result<(), AllocError>
+    requires whole { IsWhole draft.old }
+    requires unneeded { (b n : ℕ) → Contains unneeded.now (b, n) → ¬ IsNeeded draft.old.arena (Register.Result b n) }
+    ensures whole { OnOk result (IsWhole draft.new) }
+    ensures orders { OnOk result (orders_of draft.new ≡ orders_of draft.old) }
+    ensures needed { OnOk result ((r : Named) → IsNeeded draft.old.arena r → IsNeeded draft.new.arena r) }
+    ensures stood { OnOk result ((b n : ℕ) → Stands draft.new b n → Stands draft.old b n) }
+    ensures gone { OnOk result ((b n : ℕ) → Contains unneeded.now (b, n) → ¬ Stands draft.new b n) }
+    ensures cleaning { OnOk result ((f : Function) (rows : Seq (Seq ℕ)) (fell : Seq Named)
+        → IsCleaning f rows draft.old.arena (numbers_of draft.old) (draft.old.fallen.items ++ fell)
+        → IsCleaning f rows draft.new.arena (numbers_of draft.new) (draft.new.fallen.items ++ fell)) }
+    ensures reads { OnOk result ((was : Draft) (fell : Seq Named) → KeepsUses was draft.old (draft.old.fallen.items ++ fell)
+        → KeepsUses was draft.new (draft.new.fallen.items ++ fell)) }
+{
+    for (block, number) in unneeded {
+        if is_standing(draft, Register::Result(*block, *number)) {
+            draft.take_out(Place {
+                block: *block,
+                number: *number,
+            })?;
+        }
+    }
+    Ok(())
+}

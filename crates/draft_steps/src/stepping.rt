@@ -1,0 +1,94 @@
+//! One step of rewriting.
+
+ghost use Rattle.std.specs.Prelude.{ℕ, suc, All, Contains, IfOk, OnOk};
+ghost use Rattle.ir_core.specs.Checks.{MeetsChecks};
+ghost use Rattle.ir_core.specs.declared.function.Function.{Function};
+ghost use Rattle.rule_core.specs.Checks.{IsRule};
+ghost use Rattle.rule_typing.specs.Faults.{HasNoFault};
+ghost use Rattle.bindings.specs.Match.{IsMatch};
+ghost use Rattle.rewriter.specs.Applied.{IsRewritten};
+ghost use Rattle.needed.specs.Cleaned.{IsCleaned};
+ghost use Rattle.run_history.specs.Laws.{NumbersFit};
+ghost use Rattle.use_counts.specs.Uses.{IsUseCount};
+ghost use Rattle.draft_steps.specs.Cleaning.{HaveInsts, IsClean};
+ghost use Rattle.draft.specs.Drafts.{AreTouched, HasRoomFor, arena_of, function_of, orders_of, placed_binding};
+ghost use Rattle.draft.specs.KeptOrders.{KeepsOrders};
+ghost use Rattle.readers.specs.Readers.{IsPlaceIn};
+ghost use Rattle.draft.specs.Whole.{IsSettled, IsWhole};
+ghost use Rattle.places.specs.declared.place.Place.{Place as Spot};
+
+use crate::cleaning::clean_draft;
+use crate::rewriting::{Rewritten, rewrite_draft};
+use bindings::Binding;
+use draft::Draft;
+use ir_core::Register;
+use moved_matches::reads_of_a_block_stand_before;
+use places::Place;
+use rewriter::rewritten_functions_meet_checks;
+use rule_core::Rule;
+use std::alloc::{AllocError, Global};
+use use_counts::uses_of;
+
+/// Applies a rule where it matches with this binding, which names numbers, and cleans the draft. It gives the places that were touched: the
+/// root's, and those of what came, of what reads something else, and of what is read by one operand alone since then. Some of them were
+/// taken out.
+///
+/// It takes as many steps as the rule is long, places read the root, and instructions go; and where what lost a use may be read by a loop
+/// alone, as many as the arena is long.
+pub fn step(
+    alloc: Global,
+    draft: &mut Draft,
+    binding: &Binding,
+    rule: &Rule,
+) -> Result<Vec<Place>, AllocError>
+    requires settled { IsSettled draft.old }
+    requires clean { IsClean draft.old }
+    requires checks { MeetsChecks (function_of draft.old) }
+    requires numbers { NumbersFit (function_of draft.old) }
+    requires rule { IsRule rule.now }
+    requires typed { HasNoFault rule.now }
+    requires matches { let m = placed_binding draft.old binding.now in IsMatch (function_of draft.old) m.block m.place rule.now m }
+    requires room { HasRoomFor 1 draft.old }
+    ensures settled { OnOk result (IsSettled draft.new) }
+    ensures clean { OnOk result (IsClean draft.new) }
+    ensures steps { OnOk result ((f : Function) × IsRewritten (function_of draft.old) (placed_binding draft.old binding.now) rule.now f
+        × IsCleaned f (function_of draft.new)) }
+    ensures room { OnOk result ((steps : ℕ) → HasRoomFor (suc steps) draft.old → HasRoomFor steps draft.new) }
+    ensures orders { OnOk result (KeepsOrders (orders_of draft.old) (orders_of draft.new)) }
+    ensures touched { IfOk result (λ places. AreTouched draft.old draft.new places.items) }
+    ensures root { IfOk result (λ places. Contains places.items (record { block = binding.now.block; number = binding.now.place })) }
+    ensures places { IfOk result (λ places. All (IsPlaceIn (arena_of draft.new)) places.items) }
+{
+    reads_of_a_block_stand_before();
+    rewritten_functions_meet_checks();
+    let rewritten = rewrite_draft(alloc, draft, binding, rule)?;
+    let used = clean_draft(alloc, draft, &rewritten)?;
+    let Rewritten { put, replaced, .. } = rewritten;
+    let mut touched = put;
+    touched.push(Place {
+        block: binding.block,
+        number: binding.place,
+    })?;
+    touched.extend_from_slice(replaced.as_slice())?;
+    push_used(draft, &mut touched, used.as_slice())?;
+    Ok(touched)
+}
+
+/// Puts the places of registers that are read by one operand alone behind others.
+fn push_used(draft: &Draft, places: &mut Vec<Place>, used: &[Register]) -> Result<(), AllocError>
+    requires whole { IsWhole draft.now }
+    requires used { HaveInsts draft.now used.now }
+    ensures others { OnOk result ((p : Spot) → Contains places.old.items p → Contains places.new.items p) }
+    ensures used { OnOk result ((b n : ℕ) → Contains used.now (Register.Result b n) → IsUseCount draft.now.arena (Register.Result b n) 1
+        → Contains places.new.items (record { block = b; number = n })) }
+    ensures places { OnOk result (All (IsPlaceIn draft.now.arena) places.old.items → All (IsPlaceIn draft.now.arena) places.new.items) }
+{
+    for register in used {
+        if let Register::Result(block, number) = *register {
+            if uses_of(&draft.facts.uses, Register::Result(block, number)) == 1 {
+                places.push(Place { block, number })?;
+            }
+        }
+    }
+    Ok(())
+}

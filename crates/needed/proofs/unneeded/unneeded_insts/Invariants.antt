@@ -1,0 +1,8 @@
+use Rattle.std.proofs.Common.{◌≡◌, ◌<◌, ◌↔◌, ℕ, false, Contains}
+use Rattle.ir_core.specs.Blocks.{HasInst}
+use Rattle.needed.specs.InstNumbers.{marks_by}
+use Rattle.needed.proofs.unneeded.unneeded_insts.Given as goal
+
+-- the unmarked of the first blocks were put
+abbrev pub invariant-loop-index : goal.invariant-loop-index
+invariant-loop-index l = (b k : ℕ) → Contains l.places.items (b, k) ↔ ((b < l.index) × HasInst l.f b k × (marks_by l.numbers.firsts.items l.marks.items b k ≡ false))

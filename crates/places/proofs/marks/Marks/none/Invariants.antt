@@ -1,0 +1,10 @@
+use Rattle.std.proofs.Common.{◌≡◌, ℕ, length}
+use Rattle.places.specs.Sets.{Has}
+use Rattle.places.proofs.marks.Marks.none.Given as goal
+
+abbrev pub invariant-loop-block : goal.invariant-loop-block
+invariant-loop-block l =
+    record {
+      blocks : length l.rows.items ≡ l._block;
+      none : (b n : ℕ) → ¬ Has l.rows.items b n;
+    }

@@ -1,0 +1,6 @@
+pub mod Orders
+pub mod Links
+pub mod Numbers
+pub mod Sets
+pub mod Heaps
+pub mod Waiting

@@ -1,0 +1,8 @@
+-- The numbers that are linked.
+use Rattle.std.specs.Prelude.{ℕ, List}
+use Rattle.places.specs.Links.{numbers_from}
+use Rattle.places.specs.declared.links.Links.{Links}
+
+-- the numbers in order
+abbrev pub numbers_in : Links → List ℕ
+numbers_in links = numbers_from links.nodes.items links.first

@@ -1,0 +1,26 @@
+-- Sets of places.
+use Rattle.std.specs.Prelude.{◌≡◌, ℕ, ◌↔◌, ◌⊎◌, Bool, true, List, [], Some, slice_get, slice_index_or}
+use Rattle.places.specs.declared.place.Place.{Place}
+
+-- for each block a row that says of each number whether it is in the set; a number behind its end is not
+abbrev pub Rows : Type 0
+Rows = List (List Bool)
+
+-- number n of block b is in the set
+abbrev pub Has : Rows → ℕ → ℕ → Type 0
+Has rows b n = slice_get (slice_index_or rows b []) n ≡ Some true
+
+abbrev pub IsPlace : Place → ℕ → ℕ → Type 0
+IsPlace p b n = (p.block ≡ b) × (p.number ≡ n)
+
+-- one place is in the set, and all else is as it was
+abbrev pub IsAdded : Rows → Rows → Place → Type 0
+IsAdded old new p = (b n : ℕ) → Has new b n ↔ (IsPlace p b n ⊎ Has old b n)
+
+-- one place is not, and all else is as it was
+abbrev pub IsRemoved : Rows → Rows → Place → Type 0
+IsRemoved old new p = (b n : ℕ) → Has new b n ↔ (¬ IsPlace p b n × Has old b n)
+
+-- of the numbers of a row one is in the set, and all else is as it was
+abbrev pub IsMarkedIn : List Bool → List Bool → ℕ → Type 0
+IsMarkedIn old new i = (n : ℕ) → (slice_get new n ≡ Some true) ↔ ((i ≡ n) ⊎ (slice_get old n ≡ Some true))

@@ -1,0 +1,9 @@
+pub mod Naming
+pub mod Tables
+pub mod Counting
+pub mod Listing
+pub mod Reading
+pub mod Totals
+pub mod Changing
+pub mod Places
+pub mod Listed

@@ -1,0 +1,7 @@
+-- a row of lists for each block so far
+use Rattle.std.proofs.Common.{◌≡◌, [], take}
+use Rattle.std.specs.Prelude.{map, replicate, length}
+use Rattle.readers.proofs.uses.Readers.none.Given as goal
+
+abbrev pub invariant-loop-block : goal.invariant-loop-block
+invariant-loop-block l = l.results.items ≡ map (λ b. replicate (length b.insts) []) (take l.block-index l.f.blocks)

@@ -1,0 +1,6 @@
+-- the blocks so far are listed
+use Rattle.readers.proofs.Listed.{AreListedBefore}
+use Rattle.readers.proofs.uses.Readers.of.Given as goal
+
+abbrev pub invariant-loop-block : goal.invariant-loop-block
+invariant-loop-block l = AreListedBefore l.f l.block l.readers

@@ -1,0 +1,12 @@
+use Rattle.std.proofs.Common.{List, Contains, subst, sym}
+use Rattle.std.proofs.lemmas.Result.{on_ok_weaker}
+use Rattle.readers.specs.Readers.{IsListedAmong}
+use Rattle.places.specs.declared.place.Place.{Place}
+use Rattle.readers.proofs.Listing.{listed_again, listed_push}
+use Rattle.readers.proofs.uses.list_last.Goals as goal
+
+pub returns-then-ends_in : goal.returns-then-ends_in
+returns-then-ends_in c = listed_again c.args.places.now c.args.place (subst (λ (l : List Place). Contains l c.args.place) c.as_slice.ensures (c.ends_in.ensures c.if-ends_in.true))
+
+pub returns : goal.returns
+returns c = on_ok_weaker c.push.result (λ is. subst (λ (l : List Place). IsListedAmong c.args.place c.args.places.now l) (sym is) (listed_push c.args.places.now c.args.place)) c.push.ensures.ok

@@ -1,0 +1,8 @@
+-- the place is listed for the operands so far
+use Rattle.std.proofs.Common.{take}
+use Rattle.readers.specs.Counts.{operands_at}
+use Rattle.readers.specs.Readers.{AreListed}
+use Rattle.readers.proofs.uses.list_reads.Given as goal
+
+abbrev pub invariant-loop-index : goal.invariant-loop-index
+invariant-loop-index l = AreListed l.place (take l.index (operands_at l.arena l.place)) l.fn.readers l.readers

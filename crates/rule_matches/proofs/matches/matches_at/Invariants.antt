@@ -1,8 +1,0 @@
--- the matches of the rules so far are found
-use Rattle.std.proofs.Common.{take}
-use Rattle.rule_matches.specs.Matches.{AreMatchesWhere}
-use Rattle.rule_matches.proofs.Matching.{IsAtAmong}
-use Rattle.rule_matches.proofs.matches.matches_at.Given as goal
-
-abbrev pub invariant-loop-rule : goal.invariant-loop-rule
-invariant-loop-rule l = AreMatchesWhere l.rules.all.now l.f (IsAtAmong l.block l.place (take l.rule-index l.rule-items)) l.found

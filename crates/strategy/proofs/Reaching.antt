@@ -1,0 +1,72 @@
+-- Blocks are reached in what a draft becomes as in what it was.
+use Rattle.std.proofs.Common.{◌≡◌, ◌↔◌, ℕ, List, [], ◌∷◌, refl, sym, subst}
+use Rattle.std.specs.Prelude.{Contains}
+use Rattle.ir_core.specs.Blocks.{IsBlock, Names, targets_of}
+use Rattle.ir_core.specs.Walks.{IsReached, IsWalk}
+use Rattle.ir_core.specs.declared.function.Block.{Block}
+use Rattle.ir_core.specs.declared.function.Function.{Function}
+use Rattle.ir_core.specs.declared.terminator.Terminator.{Terminator}
+use Rattle.ir_core.specs.declared.terminator.Terminator.TheVariants as terminators
+use Rattle.rule_core.specs.declared.rule.Rule.{Rule}
+use Rattle.needed.specs.Cleaned.{IsCleaned}
+use Rattle.needed.specs.KeptFunction.{KeptMarks, kept_block, kept_function, moved_end}
+use Rattle.needed.proofs.Counting.{block_at, block_back}
+use Rattle.substitution.proofs.Passing.{names_back, names_on}
+use Rattle.rewriter.specs.Applied.{IsRewritten}
+use Rattle.rewriter.specs.Put.{rewrite_of}
+use Rattle.bindings.specs.declared.binding.Binding.{Binding}
+use Rattle.draft.specs.declared.draft.Draft.{Draft}
+use Rattle.draft.specs.Drafts.{function_of, numbers_of, arena_of}
+use Rattle.draft.specs.Whole.{IsSettled}
+use Rattle.draft_matches.proofs.Places.{reached_back, reached_on}
+use Rattle.draft_steps.proofs.Arranged.{is_arranged}
+
+-- a walk goes on where each block names what it named
+module _ (f g : Function) (on : (b c : ℕ) → Names f b c → Names g b c) where
+  walk_along : (blocks : List ℕ) → IsWalk f blocks → IsWalk g blocks
+  walk_along [] h = h
+  walk_along (b ∷ []) h = h
+  walk_along (c ∷ b ∷ before) h = (on b c h.0, walk_along (b ∷ before) h.1)
+
+  pub reached_along : (b : ℕ) → IsReached f b → IsReached g b
+  reached_along b h = (h.0, walk_along (b ∷ h.0) h.1)
+
+targets_moved : (kept : KeptMarks) (end : Terminator) → targets_of (moved_end kept end) ≡ targets_of end
+targets_moved kept (terminators.Return a) = refl
+targets_moved kept (terminators.Jump to) = refl
+targets_moved kept (terminators.Branch c to other) = refl
+targets_moved kept (terminators.Switch a width other cases) = refl
+targets_moved kept terminators.Unreachable = refl
+
+kept_on : (f : Function) (kept : KeptMarks) (b c : ℕ) → Names f b c → Names (kept_function kept f) b c
+kept_on f kept b c h = (kept_block kept b h.0, block_at kept f b h.0 h.1, subst (λ (l : List ℕ). Contains l c) (sym (targets_moved kept h.0.end)) h.2)
+
+kept_back : (f : Function) (kept : KeptMarks) (b c : ℕ) → Names (kept_function kept f) b c → Names f b c
+kept_back f kept b c h =
+    let was : (block : Block) × IsBlock f b block × (kept_block kept b block ≡ h.0) = block_back kept f b h.0 h.1 in
+    let named : Contains (targets_of (moved_end kept was.0.end)) c = subst (λ (x : Block). Contains (targets_of x.end) c) (sym was.2) h.2 in
+    (was.0, was.1, subst (λ (l : List ℕ). Contains l c) (targets_moved kept was.0.end) named)
+
+module _ (f g : Function) (rule : Rule) (binding : Binding) (is : IsRewritten f binding rule g) where
+  rewritten_on : (b : ℕ) → IsReached f b → IsReached g b
+  rewritten_on b = reached_along f g (λ c d h. subst (λ (x : Function). Names x c d) (sym is.is) (names_on (rewrite_of rule binding is.root.name) f c d h)) b
+
+  rewritten_back : (b : ℕ) → IsReached g b → IsReached f b
+  rewritten_back b = reached_along g f (λ c d h. names_back (rewrite_of rule binding is.root.name) f c d (subst (λ (x : Function). Names x c d) is.is h)) b
+
+module _ (f g : Function) (is : IsCleaned f g) where
+  cleaned_on : (b : ℕ) → IsReached f b → IsReached g b
+  cleaned_on b = reached_along f g (λ c d h. subst (λ (x : Function). Names x c d) (sym is.2) (kept_on f is.0 c d h)) b
+
+  cleaned_back : (b : ℕ) → IsReached g b → IsReached f b
+  cleaned_back b = reached_along g f (λ c d h. kept_back f is.0 c d (subst (λ (x : Function). Names x c d) is.2 h)) b
+
+-- so they are in the arenas
+pub reached_as_before : (old new : Draft) (f : Function) (rule : Rule) (binding : Binding) → IsSettled old → IsSettled new
+    → IsRewritten (function_of old) binding rule f → IsCleaned f (function_of new) → (b : ℕ) → IsReached (arena_of old) b ↔ IsReached (arena_of new) b
+reached_as_before old new f rule binding settled_old settled_new is_rewritten is_cleaned b = (
+  λ h. reached_back (arena_of new) (numbers_of new) (is_arranged new settled_new) b
+      (cleaned_on f (function_of new) is_cleaned b (rewritten_on (function_of old) f rule binding is_rewritten b (reached_on (arena_of old) (numbers_of old) (is_arranged old settled_old) b h))),
+  λ h. reached_back (arena_of old) (numbers_of old) (is_arranged old settled_old) b
+      (rewritten_back (function_of old) f rule binding is_rewritten b (cleaned_back f (function_of new) is_cleaned b (reached_on (arena_of new) (numbers_of new) (is_arranged new settled_new) b h))),
+)

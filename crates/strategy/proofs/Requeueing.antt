@@ -1,0 +1,57 @@
+-- After a step what doesn't wait was turned down before.
+use Rattle.std.proofs.Common.{◌≡◌, ◌↔◌, ◌+◌, ◌*◌, ◌-◌, ◌<◌, ◌≤◌, ℕ, List, length, get_or, sym, ap, subst, ◌∙◌, arith}
+use Rattle.std.specs.Prelude.{All, Contains}
+use Rattle.std.proofs.lemmas.List.Elements.{All-contains, Contains-get_or}
+use Rattle.ir_core.specs.Walks.{IsReached}
+use Rattle.ir_core.specs.declared.function.Block.{Block}
+use Rattle.ir_core.specs.declared.function.Function.{Function}
+use Rattle.rule_core.specs.declared.rule.Rule.{Rule}
+use Rattle.verdict.specs.declared.verdict.Row.{Row}
+use Rattle.rule_matches.specs.Matches.{AreMatchesInAnyOrder, IsAt}
+use Rattle.rule_matches.specs.Ready.{AreReady}
+use Rattle.draft.specs.declared.draft.Draft.{Draft}
+use Rattle.places.specs.declared.place.Place.{Place}
+use Rattle.draft.specs.Drafts.{AreTouched, HasRoomFor, Reaches, Stands, numbers_of, arena_of, function_of}
+use Rattle.places.specs.Orders.{none}
+use Rattle.places.specs.Sets.{Has, Rows}
+use Rattle.draft.specs.Whole.{IsSettled}
+use Rattle.draft_steps.specs.Arranged.{arranged, row_of}
+use Rattle.draft_matches.specs.Laws.{AreSourcesWithin, MatchesOfTheUntouched}
+use Rattle.draft_matches.proofs.Reaching.{itself}
+use Rattle.asked_verdicts.specs.Asked.{IsTurnedDown}
+use Rattle.strategy.specs.Countable.{IsCountable}
+use Rattle.strategy.specs.Frontiers.{AreTurnedDownAt, AreTurnedDownBut, Nowhere}
+
+module _ (of_the_untouched : MatchesOfTheUntouched) (rules : List Rule) (ready : AreReady rules) (old new last : Draft) (touched : List Place) (depth : ℕ)
+    (few : AreSourcesWithin depth rules) (settled : IsSettled new) (are_touched : AreTouched old new touched)
+    (reached : (b : ℕ) → IsReached (arena_of old) b ↔ IsReached (arena_of new) b) (arena : (arena_of last) ≡ (arena_of new)) (numbers : numbers_of last ≡ numbers_of new)
+    (waiting left : Rows) (stay : (b n : ℕ) → Has waiting b n → Has left b n)
+    (reaching : (b n m : ℕ) → Contains touched (record { block = b; number = m }) → Stands new b n → Reaches new depth b n m → Has left b n)
+    (Out : ℕ → ℕ → Type 0) (out : (b n : ℕ) → Out b n → Contains touched (record { block = b; number = n })) where
+  pub still_down : (table : List Row) → AreTurnedDownBut rules table Out old waiting → AreTurnedDownBut rules table Nowhere last left
+  still_down table others b n stands_last away nowhere =
+      let stands : Stands new b n = subst (λ (rows : List (List ℕ)). Contains (row_of rows b) n) numbers stands_last in
+      let free : (m : ℕ) → Reaches new depth b n m → ¬ Contains touched (record { block = b; number = m }) = λ m reaches has. away (reaching b n m has stands reaches) in
+      let untouched = are_touched b n stands (free n (itself new b depth n)) in
+      let down : AreTurnedDownAt rules table (arena_of old) b n = others b n untouched.stood (λ has. away (stay b n has)) (λ is. free n (itself new b depth n) (out b n is)) in
+      let (kept, are, were) = of_the_untouched rules old new touched depth b n down.matches ready few settled are_touched (reached b) stands free down.are in
+      record {
+        matches = kept;
+        are = subst (λ (a : Function). AreMatchesInAnyOrder rules a (IsAt b n) kept) (sym arena) are;
+        turned_down = λ i d lt. All-contains (IsTurnedDown table) down.matches (get_or kept i d) down.turned_down (were (get_or kept i d) (Contains-get_or kept i d lt));
+      }
+
+-- what has one arena, of which the same stands, is one function
+pub same_function : (new last : Draft) → arena_of last ≡ arena_of new → numbers_of last ≡ numbers_of new → function_of last ≡ function_of new
+same_function new last arena numbers = ap (λ (a : Function). arranged a (numbers_of last)) arena ∙ ap (arranged (arena_of new)) numbers
+
+-- ---- numbers that are left
+
+pub room_for_fewer : (more steps : ℕ) (d : Draft) → steps ≤ more → HasRoomFor more d → HasRoomFor steps d
+room_for_fewer more steps d fewer room k x lt = (let few = room k x lt in omega (arith, few, fewer))
+
+pub room_at_first : (steps : ℕ) (f : Function) → 0 < steps → IsCountable steps f → All (λ (b : Block). length b.insts + 32 * steps ≤ none) f.blocks
+room_at_first steps f some countable k x lt = (let few = countable.insts k x lt in omega (arith, few, some))
+
+pub few_numbers : (steps : ℕ) (f : Function) → 0 < steps → IsCountable steps f → All (λ (b : Block). length b.insts ≤ none) f.blocks
+few_numbers steps f some countable k x lt = (let few = countable.insts k x lt in omega (arith, few, some))

@@ -1,0 +1,289 @@
+-- A search through the function of a draft, by the places that wait.
+use Rattle.std.proofs.Common.{◌≡◌, ◌⊎◌, inl, inr, ℕ, ◌+◌, ◌<◌, ◌≤◌, false, List, ◌∷◌, [], ◌++◌, get_or, map, take, Option, None, Some, sym, ap, subst, ◌∙◌, arith}
+use Rattle.std.specs.Prelude.{All, Contains, slice_get, option_and_then}
+use Rattle.std.proofs.lemmas.Bool.{cases_eq, cases_lt}
+use Rattle.std.proofs.lemmas.List.{map-append, take-map}
+use Rattle.std.proofs.lemmas.List.Elements.{All-contains, Contains-get_or}
+use Rattle.std.proofs.lemmas.Option.{none-some, same_Some}
+use Rattle.ir_core.specs.Checks.{MeetsChecks}
+use Rattle.ir_core.specs.Reads.{end_of}
+use Rattle.ir_core.specs.Walks.{IsReached}
+use Rattle.ir_core.specs.declared.function.Function.{Function}
+use Rattle.ir_meaning.proofs.Pieces.{contains_at, some_at}
+use Rattle.rule_core.specs.declared.rule.Rule.{Rule}
+use Rattle.rule_typing.proofs.Images.{from_map, get-map, map-map}
+use Rattle.verdict.specs.declared.verdict.Row.{Row}
+use Rattle.rule_matches.specs.declared.matches.Match.{Match}
+use Rattle.rule_matches.specs.Matches.{AreMatchesInAnyOrder, AreMatchesWhere, IsAt, IsMatchInAnyOrder}
+use Rattle.rule_matches.specs.Ready.{AreReady}
+use Rattle.rule_matches.proofs.Joining.{none_where}
+use Rattle.rule_matches.proofs.Rooting.{before_end}
+use Rattle.draft.specs.declared.draft.Draft.{Draft}
+use Rattle.places.specs.declared.place.Place.{Place}
+use Rattle.draft.specs.Drafts.{Stands, StandsBefore, function_of, numbers_in, numbers_of, arena_of}
+use Rattle.places.specs.Orders.{place_in}
+use Rattle.places.specs.Sets.{Has, IsPlace, IsRemoved, Rows}
+use Rattle.draft.specs.Whole.{IsSettled}
+use Rattle.draft_steps.specs.Arranged.{AreArranged}
+use Rattle.draft_matches.specs.Laws.{MatchesOfTheArena, placed_match}
+use Rattle.draft_matches.proofs.Places.{inst_on, number_at}
+use Rattle.draft_matches.proofs.Rows.{number_there}
+use Rattle.draft_steps.proofs.Arranged.{is_arranged}
+use Rattle.asked_verdicts.specs.declared.verdicts.Verdicts.{Verdicts}
+use Rattle.asked_verdicts.specs.Asked.{Pair, pair_of, IsTurnedDown}
+use Rattle.asked_verdicts.specs.Asks.{Asks, AsksAll, AsksUpTo, IsAnywhere}
+use Rattle.asked_verdicts.specs.Parts.{AsksToPlace}
+use Rattle.asked_verdicts.proofs.Growing.{all_turned_down_stay}
+use Rattle.asked_verdicts.proofs.Parts.{IsPast, asks_again, asks_first, asks_these, nothing_past, past_first, past_place}
+use Rattle.asked_verdicts.proofs.Sequence.{row_stays}
+use Rattle.strategy.specs.Frontiers.{AreTurnedDownAt, AreTurnedDownBut, AsksAt, LooksAt, Nowhere, PlaceOf, SearchesTo}
+use Rattle.strategy.proofs.Advancing.{IsPlaceBefore, come_through, come_to}
+
+-- what is turned down stays so as the table grows
+pub still_turned_down : (rules : List Rule) (table larger : List Row) → ((row : Row) → Contains table row → Contains larger row) → (arena : Function) (b n : ℕ) → AreTurnedDownAt rules table arena b n → AreTurnedDownAt rules larger arena b n
+still_turned_down rules table larger grows arena b n at =
+    record { matches = at.matches; are = at.are; turned_down = all_turned_down_stay rules table larger grows at.matches at.turned_down }
+
+-- place j of block c isn't before place k of block b
+abbrev pub IsBehind : ℕ → ℕ → ℕ → ℕ → Type 0
+IsBehind b k c j = (b < c) ⊎ ((b ≡ c) × (k ≤ j))
+
+-- the place waits, and nothing that stands before it does
+pub record IsNext (d : Draft) (waiting : Rows) (p : Place) : Type 0 where
+  pub there : Has waiting p.block p.number
+  pub none_before : (b n : ℕ) → Has waiting b n → Stands d b n → ¬ StandsBefore d b n p.block p.number
+
+-- how far a search is: all before some place were asked, and turned down, and nothing waits before it
+pub record Gone (rules : List Rule) (conflicts : ℕ) (d : Draft) (u v : Verdicts) (waiting : Rows) : Type 0 where
+  pub b : ℕ
+  pub k : ℕ
+  pub asked : AsksAll rules conflicts (function_of d) (IsPast b k) u v false
+  pub behind : (c n : ℕ) → Has waiting c n → Stands d c n → IsBehind b k c (place_in (numbers_in d c) n)
+
+-- no match stands in a block that isn't reached
+pub unreached_down : (rules : List Rule) (table : List Row) (arena : Function) (b n : ℕ) → ¬ IsReached arena b → AreTurnedDownAt rules table arena b n
+unreached_down rules table arena b n unreached =
+    let never : (m : Match) → IsMatchInAnyOrder rules arena m → ¬ IsAt b n m = λ m is of. unreached (subst (IsReached arena) of.0 is.matches.reached) in
+    record { matches = []; are = none_where rules arena (IsAt b n) never; turned_down = λ i d lt. absurd (omega arith) }
+
+module _ (of_the_arena : MatchesOfTheArena) (rules : List Rule) (conflicts : ℕ) (ready : AreReady rules) (d : Draft) (settled : IsSettled d) (checks : MeetsChecks (function_of d)) where
+  abbrev F : Function
+  F = function_of d
+
+  abbrev put : Match → Match
+  put m = placed_match d m
+
+  abbrev place : ℕ → ℕ → ℕ
+  place b n = place_in (numbers_in d b) n
+
+  are : AreArranged (arena_of d) (numbers_of d)
+  are = is_arranged d settled
+
+  -- ---- the matches at a place
+
+  all_put : (P : Match → Type 0) (ms : List Match) → ((m : Match) → P m → P (put m)) → All P ms → All P (map put ms)
+  all_put P ms on all i m lt =
+      let (x, among, is) = from_map put ms (get_or (map put ms) i m) (Contains-get_or (map put ms) i m lt) in
+      subst P (sym is) (on x (All-contains P ms x all among))
+
+  same_pairs : (ms : List Match) → map pair_of (map put ms) ≡ map pair_of ms
+  same_pairs ms = map-map pair_of put ms
+
+  asks_put : (ms : List Match) (a c : Verdicts) (found : Option ℕ) → AsksToPlace rules conflicts ms a c found → AsksToPlace rules conflicts (map put ms) a c found
+  asks_put ms a c None asks = (
+    subst (λ (l : List Pair). Asks rules conflicts l a c) (sym (same_pairs ms)) asks.0,
+    all_put (IsTurnedDown c.table) ms (λ m h. h) asks.1,
+  )
+  asks_put ms a c (Some i) (chosen, at, asks, down, up) =
+      let before : take i (map put ms) ≡ map put (take i ms) = take-map put i ms in
+      let these : take i (map put ms) ++ put chosen ∷ [] ≡ map put (take i ms ++ chosen ∷ []) = ap (λ (l : List Match). l ++ put chosen ∷ []) before ∙ sym (map-append put (take i ms) (chosen ∷ [])) in
+      let pairs : map pair_of (take i (map put ms) ++ put chosen ∷ []) ≡ map pair_of (take i ms ++ chosen ∷ []) = ap (map pair_of) these ∙ same_pairs (take i ms ++ chosen ∷ []) in (
+        put chosen,
+        get-map put ms i chosen at,
+        subst (λ (l : List Pair). Asks rules conflicts l a c) (sym pairs) asks,
+        subst (All (IsTurnedDown c.table)) (sym before) (all_put (IsTurnedDown c.table) (take i ms) (λ m h. h) down),
+        up,
+      )
+
+  -- at a place at which they were turned down before
+  down_again : (v : Verdicts) (waiting : Rows) (c j : ℕ) → AreTurnedDownBut rules v.table Nowhere d waiting → j < end_of F c
+      → ((n : ℕ) → slice_get (numbers_in d c) j ≡ Some n → ¬ Has waiting c n) → AsksAll rules conflicts F (IsAt c j) v v false
+  down_again v waiting c j others less away =
+      let (n, at) = number_at (arena_of d) (numbers_of d) are c j less in
+      let stands : Stands d c n = contains_at (numbers_in d c) j n at in
+      let down = others c n stands (away n at) (λ none. none) in
+      let there : AreMatchesWhere rules F (IsAt c (place c n)) (map put down.matches) = of_the_arena rules d c n down.matches ready settled checks stands down.are in
+      subst (λ (k : ℕ). AsksAll rules conflicts F (IsAt c k) v v false) (are.once c j n at)
+      (asks_again rules conflicts F (IsAt c (place c n)) (map put down.matches) v there (all_put (IsTurnedDown v.table) down.matches (λ m h. h) down.turned_down))
+
+  -- ---- how far a search is
+
+  module _ (u : Verdicts) where
+    pub not_gone : (waiting : Rows) → Gone rules conflicts d u u waiting
+    not_gone waiting = record {
+      b = 0;
+      k = 0;
+      asked = nothing_past rules conflicts F u;
+      behind = λ c n has stands. elim (cases_eq 0 c) [ inl same ↦ inr (same, omega arith) | inr other ↦ inl (omega (arith, other)) ];
+    }
+
+    -- the next place
+    module _ (v : Verdicts) (waiting left : Rows) (p : Place) (gone : Gone rules conflicts d u v waiting) (others : AreTurnedDownBut rules v.table Nowhere d waiting)
+        (removed : IsRemoved waiting left p) where
+      -- what is left waits
+      still_waits : (b n : ℕ) → Has left b n → Has waiting b n
+      still_waits b n has = ((removed b n).0 has).1
+
+      waits_no_more : (b n : ℕ) → ¬ Has left b n → ¬ IsPlace p b n → ¬ Has waiting b n
+      waits_no_more b n away other has = away ((removed b n).1 (other, has))
+
+      this_or_other : (b n : ℕ) → IsPlace p b n ⊎ ¬ IsPlace p b n
+      this_or_other b n = elim (cases_eq p.block b) [
+        | inr other ↦ inr (λ is. other is.0)
+        | inl block ↦ elim (cases_eq p.number n) [ inl number ↦ inl (block, number) | inr other ↦ inr (λ is. other is.1) ]
+      ]
+
+      -- it stands no more
+      pub skipped : ¬ Stands d p.block p.number → Gone rules conflicts d u v left × AreTurnedDownBut rules v.table Nowhere d left
+      skipped fell = (
+        record { b = gone.b; k = gone.k; asked = gone.asked; behind = λ c n has stands. gone.behind c n (still_waits c n has) stands },
+        λ b n stands away none. elim (this_or_other b n) [
+          | inl this ↦ absurd (fell (subst (λ (x : ℕ). Stands d x p.number) (sym this.0) (subst (λ (x : ℕ). Stands d b x) (sym this.1) stands)))
+          | inr other ↦ others b n stands (waits_no_more b n away other) none
+        ],
+      )
+
+      module _ (stands : Stands d p.block p.number) (first : IsNext d waiting p) where
+        abbrev here : ℕ
+        here = place p.block p.number
+
+        within : here ≤ end_of F p.block
+        within =
+            let (block, at, less) = are.there p.block p.number stands in
+            let (inst, at_inst) = some_at block.insts p.number less in
+            let is = inst_on (arena_of d) (numbers_of d) are p.block p.number inst stands (record { block = block; is_block = at; is_inst = at_inst }) in
+            let below : here < end_of F p.block = before_end F p.block here _ is in
+            omega (arith, below)
+
+        -- what stands at an earlier place doesn't wait
+        earlier : (c j n : ℕ) → slice_get (numbers_in d c) j ≡ Some n → IsPlaceBefore c j p.block here → StandsBefore d c n p.block p.number
+        earlier c j n at before = elim before [
+          | inl block ↦ inl block
+          | inr same ↦
+              let place_n : place c n ≡ j = are.once c j n at in
+              let place_p : place c p.number ≡ here = ap (λ (b : ℕ). place b p.number) same.0 in
+              let less : j < here = same.1 in
+              inr (same.0, omega (arith, place_n, place_p, less))
+        ]
+
+        down : (c j : ℕ) → IsPlaceBefore c j p.block here → j < end_of F c → AsksAll rules conflicts F (IsAt c j) v v false
+        down c j before less = down_again v waiting c j others less (λ n at has. first.none_before c n has (contains_at (numbers_in d c) j n at) (earlier c j n at before))
+
+        -- all before it are turned down
+        come : AsksAll rules conflicts F (IsPast p.block here) u v false
+        come = come_to rules conflicts F ready u v gone.b gone.k p.block here (gone.behind p.block p.number first.there stands) within down gone.asked
+
+        -- and what is left stands behind it
+        behind_here : (c n : ℕ) → c ≡ p.block → Has left c n → Stands d c n → here + 1 ≤ place c n
+        behind_here c n same has stands_n =
+            let place_p : place c p.number ≡ here = ap (λ (b : ℕ). place b p.number) same in
+            elim (cases_lt (place c n) here) [
+              | inl before ↦ absurd (first.none_before c n (still_waits c n has) stands_n (inr (same, omega (arith, before, place_p))))
+              | inr late ↦ elim (cases_eq (place c n) here) [
+                | inr other ↦ omega (arith, late, other)
+                | inl equal ↦
+                    let stands_p : Stands d c p.number = subst (λ (b : ℕ). Stands d b p.number) (sym same) stands in
+                    let one : p.number ≡ n = same_Some p.number n (sym (number_there (numbers_in d c) p.number stands_p)
+                    ∙ ap (slice_get (numbers_in d c)) (place_p ∙ sym equal) ∙ number_there (numbers_in d c) n stands_n) in
+                    absurd (((removed c n).0 has).0 (sym same, one))
+              ]
+            ]
+
+        after : (c n : ℕ) → Has left c n → Stands d c n → IsBehind p.block (here + 1) c (place c n)
+        after c n has stands_n = elim (cases_lt p.block c) [
+          | inl later ↦ inl later
+          | inr not_later ↦ elim (cases_eq c p.block) [
+            | inr other ↦ absurd (first.none_before c n (still_waits c n has) stands_n (inl (omega (arith, not_later, other))))
+            | inl same ↦ inr (sym same, behind_here c n same has stands_n)
+          ]
+        ]
+
+        -- the matches at it
+        module _ (w : Verdicts) (ms : List Match) (found : AreMatchesInAnyOrder rules (arena_of d) (IsAt p.block p.number) ms) where
+          there : AreMatchesWhere rules F (IsAt p.block here) (map put ms)
+          there = of_the_arena rules d p.block p.number ms ready settled checks stands found
+
+          -- none is admitted
+          module _ (asks : AsksToPlace rules conflicts ms v w None) where
+            at_place : AsksAll rules conflicts F (IsAt p.block here) v w false
+            at_place =
+                let both = asks_put ms v w None asks in
+                asks_these rules conflicts F (IsAt p.block here) (map put ms) v w false there both.0 both.1
+
+            gone_on : Gone rules conflicts d u w left
+            gone_on = record { b = p.block; k = here + 1; asked = past_place rules conflicts F p.block here u v w come at_place; behind = after }
+
+            all_down : AreTurnedDownBut rules w.table Nowhere d left
+            all_down b n stands_n away none = elim (this_or_other b n) [
+              | inl this ↦ subst (λ (x : ℕ). AreTurnedDownAt rules w.table (arena_of d) x n) this.0
+                  (subst (λ (x : ℕ). AreTurnedDownAt rules w.table (arena_of d) p.block x) this.1 (record { matches = ms; are = found; turned_down = asks.1 }))
+              | inr other ↦ still_turned_down rules v.table w.table (row_stays rules conflicts (map pair_of ms) v w asks.0) (arena_of d) b n (others b n stands_n (waits_no_more b n away other) none)
+            ]
+
+          passed_by : (at : Option ℕ) → AsksToPlace rules conflicts ms v w at → None ≡ option_and_then (slice_get ms) at → Gone rules conflicts d u w left × AreTurnedDownBut rules w.table Nowhere d left
+          passed_by None asks none = (gone_on asks, all_down asks)
+          passed_by (Some i) asks none = absurd (none-some asks.0 (none ∙ asks.1))
+
+          -- one is
+          module _ (i : ℕ) (asks : AsksToPlace rules conflicts ms v w (Some i)) where
+            is_first : IsMatchInAnyOrder rules (arena_of d) asks.0 × IsAt p.block p.number asks.0
+            is_first = All-contains (λ m. IsMatchInAnyOrder rules (arena_of d) m × IsAt p.block p.number m) ms asks.0 found.each (contains_at ms i asks.0 asks.1)
+
+            asked_to : AsksUpTo rules conflicts F IsAnywhere u w (put asks.0)
+            asked_to =
+                let put_there = asks_put ms v w (Some i) asks in
+                past_first rules conflicts F p.block here (put asks.0) u v w come
+                (subst (AsksUpTo rules conflicts F (IsAt p.block here) v w) (same_Some put_there.0 (put asks.0) (sym put_there.1 ∙ get-map put ms i asks.0 asks.1))
+                (asks_first rules conflicts F (IsAt p.block here) (map put ms) i v w there put_there))
+
+            others_down : AreTurnedDownBut rules w.table (PlaceOf asks.0) d left
+            others_down b n stands_n away out = elim (this_or_other b n) [
+              | inl this ↦ absurd (out (is_first.1.0 ∙ this.0, is_first.1.1 ∙ this.1))
+              | inr other ↦ still_turned_down rules v.table w.table (row_stays rules conflicts (map pair_of (take i ms ++ asks.0 ∷ [])) v w asks.2) (arena_of d) b n (others b n stands_n (waits_no_more b n away other) (λ none. none))
+            ]
+
+            searches_to : SearchesTo rules conflicts d left u w (Some asks.0)
+            searches_to = (asked_to, others_down)
+
+          stopped_by : (chosen : Match) (at : Option ℕ) → AsksToPlace rules conflicts ms v w at → Some chosen ≡ option_and_then (slice_get ms) at → SearchesTo rules conflicts d left u w (Some chosen)
+          stopped_by chosen None asks is = absurd (none-some chosen (sym is))
+          stopped_by chosen (Some i) asks is =
+              subst (λ (m : Match). SearchesTo rules conflicts d left u w (Some m)) (same_Some asks.0 chosen (sym asks.1 ∙ sym is)) (searches_to i asks)
+
+        pub passed : (w : Verdicts) → AsksAt rules conflicts (arena_of d) p.block p.number v w None → Gone rules conflicts d u w left × AreTurnedDownBut rules w.table Nowhere d left
+        passed w asked = passed_by w asked.0 asked.2 asked.1 asked.3 asked.4
+
+        pub stopped : (w : Verdicts) (chosen : Match) → AsksAt rules conflicts (arena_of d) p.block p.number v w (Some chosen) → SearchesTo rules conflicts d left u w (Some chosen)
+        stopped w chosen asked = stopped_by w asked.0 asked.2 chosen asked.1 asked.3 asked.4
+
+      -- what is looked at
+      module _ (first : Stands d p.block p.number → IsNext d waiting p) where
+        pub looked_past : (w : Verdicts) → LooksAt rules conflicts d p v w None → Gone rules conflicts d u w left × AreTurnedDownBut rules w.table Nowhere d left
+        looked_past w looked = elim looked [
+          | inl (stands, asked) ↦ passed stands (first stands) w asked
+          | inr (fell, none, same) ↦ subst (λ (x : Verdicts). Gone rules conflicts d u x left × AreTurnedDownBut rules x.table Nowhere d left) (sym same) (skipped fell)
+        ]
+
+        pub looked_found : (w : Verdicts) (chosen : Match) → LooksAt rules conflicts d p v w (Some chosen) → SearchesTo rules conflicts d left u w (Some chosen)
+        looked_found w chosen looked = elim looked [
+          | inl (stands, asked) ↦ stopped stands (first stands) w chosen asked
+          | inr (fell, none, same) ↦ absurd (none-some chosen (sym none))
+        ]
+
+    -- nothing waits
+    pub searched : (v : Verdicts) (waiting left : Rows) → Gone rules conflicts d u v waiting → AreTurnedDownBut rules v.table Nowhere d waiting → ((b n : ℕ) → ¬ Has waiting b n)
+        → SearchesTo rules conflicts d left u v None
+    searched v waiting left gone others empty = (
+      come_through rules conflicts F ready u v gone.b gone.k (λ c j less. down_again v waiting c j others less (λ n at. empty c n)) gone.asked,
+      λ b n stands away none. others b n stands (empty b n) none,
+    )

@@ -1,0 +1,78 @@
+use Rattle.std.proofs.Common.{◌≡◌, List, get_or, sym, subst, ◌∙◌}
+use Rattle.std.proofs.lemmas.Option.{get_or_from_slice_get, slice_get_within}
+use Rattle.std.proofs.lemmas.Result.{on_ok_weaker}
+use Rattle.bindings.specs.Match.{IsMatch}
+use Rattle.rewriter.specs.Applied.{IsRewritten}
+use Rattle.rule_core.specs.Checks.{IsRule}
+use Rattle.rule_core.specs.declared.rule.Rule.{Rule}
+use Rattle.rule_typing.specs.Faults.{HasNoFault}
+use Rattle.rule_matches.specs.Matches.{IsMatchAmong}
+use Rattle.rule_matches.specs.Ready.{AreReady}
+use Rattle.rule_matches.specs.declared.matches.Match.{Match}
+use Rattle.draft.specs.Drafts.{function_of}
+use Rattle.draft_matches.specs.Laws.{placed_match}
+use Rattle.ir_core.specs.declared.function.Function.{Function}
+use Rattle.strategy.proofs.Numbers.{cleaned_numbers_fit}
+use Rattle.strategy.proofs.frontier.rewrite_draft.Goals as goal
+
+-- the rule that is read at the match's place is the one that matches
+rule_there : (rules : List Rule) (f : Function) (m : Match) (read : Rule) (is : IsMatchAmong rules f m) → read ≡ get_or rules m.rule read → is.rule ≡ read
+rule_there rules f m read is from = sym (from ∙ get_or_from_slice_get rules m.rule is.rule read is.is_rule)
+
+-- and it is ready
+ready_there : (rules : List Rule) (f : Function) (m : Match) (read : Rule) → AreReady rules → IsMatchAmong rules f m → read ≡ get_or rules m.rule read
+    → IsRule read × HasNoFault read × IsMatch f m.binding.block m.binding.place read m.binding
+ready_there rules f m read ready is from =
+    let same = rule_there rules f m read is from in
+    let good = ready m.rule is.rule is.is_rule in
+    (subst IsRule same good.checks, subst HasNoFault same good.typed, subst (λ (r : Rule). IsMatch f m.binding.block m.binding.place r m.binding) same is.matches)
+
+pub bounds-rules-chosen : goal.bounds-rules-chosen
+bounds-rules-chosen c = slice_get_within c.args.rules.now c.args.chosen.now.rule c.requires.matches.rule c.requires.matches.is_rule
+
+pub step-requires-clause-rule : goal.step-requires-clause-rule
+step-requires-clause-rule c =
+    let old = c.args.draft.now in
+    (ready_there c.args.rules.now (function_of old) (placed_match old c.args.chosen.now) c.index-rules-chosen.result c.requires.ready c.requires.matches c.index-rules-chosen.is).0
+
+pub step-requires-clause-typed : goal.step-requires-clause-typed
+step-requires-clause-typed c =
+    let old = c.args.draft.now in
+    (ready_there c.args.rules.now (function_of old) (placed_match old c.args.chosen.now) c.index-rules-chosen.result c.requires.ready c.requires.matches c.index-rules-chosen.is).1
+
+pub step-requires-clause-matches : goal.step-requires-clause-matches
+step-requires-clause-matches c =
+    let old = c.args.draft.now in
+    (ready_there c.args.rules.now (function_of old) (placed_match old c.args.chosen.now) c.index-rules-chosen.result c.requires.ready c.requires.matches c.index-rules-chosen.is).2
+
+pub returns-clause-stepped : goal.returns-clause-stepped
+returns-clause-stepped c =
+    let old = c.args.draft.now in
+    let m = placed_match old c.args.chosen.now in
+    let read = c.index-rules-chosen.result in
+    on_ok_weaker c.step.result
+    (λ made. (made.0, made.2, λ rule at. subst (λ (r : Rule). IsRewritten (function_of old) m.binding r made.0) (c.index-rules-chosen.is ∙ get_or_from_slice_get c.args.rules.now m.rule rule read at) made.1))
+    c.step.ensures.steps
+
+pub returns-clause-checks : goal.returns-clause-checks
+returns-clause-checks c =
+    let old = c.args.draft.now in
+    let m = placed_match old c.args.chosen.now in
+    let read = c.index-rules-chosen.result in
+    let (rule, typed, matches) = ready_there c.args.rules.now (function_of old) m read c.requires.ready c.requires.matches c.index-rules-chosen.is in
+    on_ok_weaker c.step.result
+    (λ made. c.every_cleaned_function_refines_the_old.ensures.checks made.0 (function_of c.step.new.draft)
+    (c.rewritten_functions_meet_checks.ensures.checks (function_of old) made.0 m.binding.block m.binding.place read m.binding rule typed c.requires.checks c.requires.numbers matches made.1) made.2)
+    c.step.ensures.steps
+
+pub returns-clause-numbers : goal.returns-clause-numbers
+returns-clause-numbers c =
+    let old = c.args.draft.now in
+    let m = placed_match old c.args.chosen.now in
+    let read = c.index-rules-chosen.result in
+    let (rule, typed, matches) = ready_there c.args.rules.now (function_of old) m read c.requires.ready c.requires.matches c.index-rules-chosen.is in
+    on_ok_weaker c.step.result
+    (λ made. cleaned_numbers_fit c.every_cleaned_number_was_there.ensures made.0 (function_of c.step.new.draft)
+    (c.rewritten_functions_meet_checks.ensures.checks (function_of old) made.0 m.binding.block m.binding.place read m.binding rule typed c.requires.checks c.requires.numbers matches made.1)
+    (c.rewritten_functions_meet_checks.ensures.numbers (function_of old) made.0 m.binding.block m.binding.place read m.binding rule typed c.requires.checks c.requires.numbers matches made.1) made.2)
+    c.step.ensures.steps

@@ -1,0 +1,70 @@
+-- What is known of the matches of a draft while it is rewritten, and what a search asks in it.
+use Rattle.std.specs.Prelude.{◌≡◌, ◌⊎◌, ℕ, false, List, All, Option, None, Some, slice_get, option_and_then}
+use Rattle.ir_core.specs.declared.function.Function.{Function}
+use Rattle.rule_core.specs.declared.rule.Rule.{Rule}
+use Rattle.needed.specs.Cleaned.{IsCleaned}
+use Rattle.rewriter.specs.Applied.{IsRewritten}
+use Rattle.verdict.specs.declared.verdict.Row.{Row}
+use Rattle.rule_matches.specs.declared.matches.Match.{Match}
+use Rattle.rule_matches.specs.Matches.{AreMatchesInAnyOrder, IsAt}
+use Rattle.draft.specs.declared.draft.Draft.{Draft}
+use Rattle.places.specs.declared.place.Place.{Place}
+use Rattle.draft_steps.specs.Cleaning.{IsClean}
+use Rattle.draft.specs.Drafts.{Stands, function_of, arena_of}
+use Rattle.draft_queue.specs.Queues.{IsQueueOf, waiting_in}
+use Rattle.places.specs.Sets.{Rows, Has}
+use Rattle.draft.specs.Whole.{IsSettled}
+use Rattle.draft_matches.specs.Laws.{AreSourcesWithin, placed_match}
+use Rattle.asked_verdicts.specs.declared.verdicts.Verdicts.{Verdicts}
+use Rattle.asked_verdicts.specs.Asked.{IsTurnedDown}
+use Rattle.asked_verdicts.specs.Asks.{AsksAll, AsksUpTo, IsAnywhere}
+use Rattle.asked_verdicts.specs.Parts.{AsksToPlace}
+use Rattle.strategy.specs.declared.frontier.Frontier.{Frontier}
+
+-- the matches at an instruction of an arena are turned down
+pub record AreTurnedDownAt (rules : List Rule) (table : List Row) (arena : Function) (b n : ℕ) : Type 0 where
+  pub matches : List Match
+  pub are : AreMatchesInAnyOrder rules arena (IsAt b n) matches
+  pub turned_down : All (IsTurnedDown table) matches
+
+-- so are those at each instruction that stands and doesn't wait, but for some
+abbrev pub AreTurnedDownBut : List Rule → List Row → (ℕ → ℕ → Type 0) → Draft → Rows → Type 0
+AreTurnedDownBut rules table Out d waiting = (b n : ℕ) → Stands d b n → ¬ Has waiting b n → ¬ Out b n → AreTurnedDownAt rules table (arena_of d) b n
+
+abbrev pub Nowhere : ℕ → ℕ → Type 0
+Nowhere b n = ⊥
+
+-- the place of a match that names numbers
+abbrev pub PlaceOf : Match → ℕ → ℕ → Type 0
+PlaceOf m b n = (m.binding.block ≡ b) × (m.binding.place ≡ n)
+
+-- between steps: a match that isn't turned down stands at a place that waits
+pub record IsFrontier (rules : List Rule) (table : List Row) (frontier : Frontier) : Type 0 where
+  pub draft : IsSettled frontier.draft
+  pub clean : IsClean frontier.draft
+  pub queue : IsQueueOf frontier.draft frontier.queue
+  pub depth : AreSourcesWithin frontier.depth rules
+  pub turned_down : AreTurnedDownBut rules table Nowhere frontier.draft (waiting_in frontier.queue)
+
+-- of the matches at an instruction of an arena those up to the first that is admitted are asked, or all if none is
+abbrev pub AsksAt : List Rule → ℕ → Function → ℕ → ℕ → Verdicts → Verdicts → Option Match → Type 0
+AsksAt rules conflicts arena b n old new found = (matches : List Match) × (place : Option ℕ) × AreMatchesInAnyOrder rules arena (IsAt b n) matches
+    × AsksToPlace rules conflicts matches old new place × (found ≡ option_and_then (slice_get matches) place)
+
+-- so it is where the instruction stands, and nothing is asked where it was taken out
+abbrev pub LooksAt : List Rule → ℕ → Draft → Place → Verdicts → Verdicts → Option Match → Type 0
+LooksAt rules conflicts d p old new found = (Stands d p.block p.number × AsksAt rules conflicts (arena_of d) p.block p.number old new found)
+    ⊎ (¬ Stands d p.block p.number × (found ≡ None) × (new ≡ old))
+
+-- A search through the draft's function asks up to the first match that is admitted, which names numbers of the draft, or all if none is.
+-- After it all is turned down but for what waits, and that match.
+abbrev pub SearchesTo : List Rule → ℕ → Draft → Rows → Verdicts → Verdicts → Option Match → Type 0
+SearchesTo rules conflicts d waiting old new None = AsksAll rules conflicts (function_of d) IsAnywhere old new false
+    × AreTurnedDownBut rules new.table Nowhere d waiting
+SearchesTo rules conflicts d waiting old new (Some chosen) = AsksUpTo rules conflicts (function_of d) IsAnywhere old new (placed_match d chosen)
+    × AreTurnedDownBut rules new.table (PlaceOf chosen) d waiting
+
+-- the draft's function is rewritten at a match, which names its numbers, and cleaned
+abbrev pub IsSteppedAt : List Rule → Draft → Draft → Match → Type 0
+IsSteppedAt rules old new chosen = (rewritten : Function) × IsCleaned rewritten (function_of new)
+    × ((rule : Rule) → slice_get rules chosen.rule ≡ Some rule → IsRewritten (function_of old) (placed_match old chosen).binding rule rewritten)
