@@ -7,6 +7,7 @@ pub mod StartLemmas
 pub mod RoleLemmas
 pub mod Resolved
 pub mod Analysed
+pub mod Shown
 pub mod Measure
 pub mod Learnt
 pub mod SearchLemmas

@@ -6,5 +6,6 @@ pub mod Watching
 pub mod Looks
 pub mod Shapes
 pub mod Conflict
+pub mod Shown
 pub mod Searching
 pub mod Order

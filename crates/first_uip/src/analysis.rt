@@ -7,11 +7,12 @@ ghost use Rattle.clauses.proofs.Closed.{IsClosed};
 ghost use Rattle.depth_first.specs.TrailEntries.{literals, reasons};
 ghost use Rattle.depth_first.specs.TrailEntries.{EachForced};
 ghost use Rattle.first_uip.specs.Conflict.{DecidedAt, IsAnalysis, IsAsserting, IsJump, IsLastLevel, IsOther, NoneDecided, NoneSeen, Resolves, SeenAt, is_kept, kept_entries, resolved_entries, role_of};
+ghost use Rattle.first_uip.specs.Shown.{VariablesBelow, shown_entries};
 
 use crate::minimisation::settle_earlier;
 use crate::roles::{Role, resolve, see};
 use clauses::{Clause, Cnf, Lit, Step};
-use depth_first::{Trail, numbered};
+use depth_first::{Entry, Trail, numbered};
 use lists::List;
 use std::alloc::{AllocError, Global};
 
@@ -142,42 +143,50 @@ fn jump_from(trail: &Trail, roles: &[Role], start: usize) -> Jump
     }
 }
 
-/// The clause of the negations of what is kept before `start`, and of this literal, with no room for more: it stays.
-fn clause_of(
-    alloc: Global,
-    trail: &Trail,
-    roles: &[Role],
-    start: usize,
-    asserted: Lit,
-) -> Result<Clause, AllocError>
-    requires size { length roles.now ≡ length trail.now.values.items }
-    requires within { start ≤ length trail.now.entries.items }
-    ensures { IfOk result (λ clause. clause ≡ negations_of (literals (kept_entries roles.now (take start trail.now.entries.items))) ++ asserted ∷ []) }
+/// The entries on which the conflict rests, and the decisions, in order.
+fn shown_entries(alloc: Global, trail: &Trail, roles: &[Role]) -> Result<Vec<Entry>, AllocError>
+    requires { length roles.now ≡ length trail.now.values.items }
+    ensures shown { IfOk result (λ shown. shown.items ≡ shown_entries roles.now trail.now.entries.items) }
+    ensures within { IfOk result (λ shown. VariablesBelow (length roles.now) shown.items) }
 {
-    let mut clause = Clause::new(alloc);
-    for place in 0..start {
-        let literal = trail.entries[place].literal;
-        if roles[literal.variable() as usize] == Role::Kept {
-            clause.push(literal.negation())?;
+    let mut shown = Vec::new(alloc);
+    for place in 0..trail.entries.len() {
+        let entry = trail.entries[place];
+        let role = roles[entry.literal.variable() as usize];
+        if role != Role::Unseen || entry.cause.is_decision() {
+            shown.push(entry)?;
         }
     }
-    clause.push(asserted)?;
+    Ok(shown)
+}
+
+/// The clause of the negations of what is kept of these entries, with no room for more: it stays.
+fn clause_of(alloc: Global, shown: &[Entry], roles: &[Role]) -> Result<Clause, AllocError>
+    requires { VariablesBelow (length roles.now) shown.now }
+    ensures { IfOk result (λ clause. clause ≡ negations_of (literals (kept_entries roles.now shown.now))) }
+{
+    let mut clause = Clause::new(alloc);
+    for entry in shown {
+        if roles[entry.literal.variable() as usize] == Role::Kept {
+            clause.push(entry.literal.negation())?;
+        }
+    }
     Clause::from_slice(alloc, clause.as_slice())
 }
 
-/// The reasons of what is resolved, in order, and then the number of the clause that is false, with no room for more.
+/// The reasons of what is resolved of these entries, in order, and then the number of the clause that is false, with
+/// no room for more.
 fn hints_of(
     alloc: Global,
-    trail: &Trail,
+    shown: &[Entry],
     roles: &[Role],
     conflict: u32,
 ) -> Result<List<u32>, AllocError>
-    requires { length roles.now ≡ length trail.now.values.items }
-    ensures { IfOk result (λ hints. hints ≡ reasons (resolved_entries roles.now trail.now.entries.items) ++ conflict ∷ []) }
+    requires { VariablesBelow (length roles.now) shown.now }
+    ensures { IfOk result (λ hints. hints ≡ reasons (resolved_entries roles.now shown.now) ++ conflict ∷ []) }
 {
     let mut hints = List::new(alloc);
-    for place in 0..trail.entries.len() {
-        let entry = trail.entries[place];
+    for entry in shown {
         if roles[entry.literal.variable() as usize] == Role::Resolved {
             if let Some(number) = entry.cause.reason() {
                 hints.push(number)?;
@@ -235,6 +244,7 @@ fn learned_of(
     cnf: &Cnf,
     log: &[Step],
     trail: &Trail,
+    shown: &[Entry],
     roles: &[Role],
     conflict: u32,
     start: usize,
@@ -247,6 +257,8 @@ fn learned_of(
     requires decided { DecidedAt trail.now.entries.items start }
     requires closed { IsClosed (clauses_with cnf.now log.now) (literals (take start trail.now.entries.items)) }
     requires analysis { IsAnalysis (clauses_with cnf.now log.now) trail.now.entries.items roles.now conflict start point }
+    requires shown { shown.now ≡ shown_entries roles.now trail.now.entries.items }
+    requires within { VariablesBelow (length roles.now) shown.now }
     ensures follows { IfOk result (λ learned. StepFollows cnf.now (clauses_with cnf.now log.now) learned.step) }
     ensures new { IfOk result (λ learned. IsNew (clauses_with cnf.now log.now) learned.step.clause) }
     ensures not_empty { IfOk result (λ learned. learned.step.clause ≡ [] → ⊥) }
@@ -254,8 +266,8 @@ fn learned_of(
     ensures other { IfOk result (λ learned. IsOther trail.now.entries.items learned.jump learned.step.clause learned.asserted learned.other) }
 {
     let asserted = trail.entries[point].literal.negation();
-    let clause = clause_of(alloc, trail, roles, start, asserted)?;
-    let hints = hints_of(alloc, trail, roles, conflict)?;
+    let clause = clause_of(alloc, shown, roles)?;
+    let hints = hints_of(alloc, shown, roles, conflict)?;
     let jump = jump_from(trail, roles, start);
     let other = match jump.below {
         Some(below) => Some(trail.entries[below].literal.negation()),
@@ -269,8 +281,8 @@ fn learned_of(
     })
 }
 
-/// What the conflict at a clause shows, where the last decision stands at `start`, and the parts of the variables
-/// in it. It may be told where in the trail each variable stands.
+/// What the conflict at a clause shows, where the last decision stands at `start`, the parts of the variables in it,
+/// and the entries on which it rests, with the decisions. It may be told where in the trail each variable stands.
 pub(crate) fn analyse(
     alloc: Global,
     cnf: &Cnf,
@@ -279,7 +291,7 @@ pub(crate) fn analyse(
     places: &[usize],
     conflict: u32,
     start: usize,
-) -> Result<(Learned, Vec<Role>), AllocError>
+) -> Result<(Learned, Vec<Role>, Vec<Entry>), AllocError>
     requires variables { length trail.now.values.items ≡ cnf.now.count + 1 }
     requires places { length places.now ≡ cnf.now.count + 1 }
     requires follows { LogFollows cnf.now log.now }
@@ -287,12 +299,13 @@ pub(crate) fn analyse(
     requires falsified { NamesFalse (clauses_with cnf.now log.now) (literals trail.now.entries.items) conflict }
     requires last { IsLastLevel trail.now.entries.items start }
     requires closed { IsClosed (clauses_with cnf.now log.now) (literals (take start trail.now.entries.items)) }
-    ensures follows { IfOk result (λ both. StepFollows cnf.now (clauses_with cnf.now log.now) both.0.step) }
-    ensures new { IfOk result (λ both. IsNew (clauses_with cnf.now log.now) both.0.step.clause) }
-    ensures not_empty { IfOk result (λ both. both.0.step.clause ≡ [] → ⊥) }
-    ensures asserting { IfOk result (λ both. IsAsserting trail.now.entries.items both.0.jump both.0.step.clause both.0.asserted) }
-    ensures other { IfOk result (λ both. IsOther trail.now.entries.items both.0.jump both.0.step.clause both.0.asserted both.0.other) }
-    ensures roles { IfOk result (λ both. length both.1.items ≡ cnf.now.count + 1) }
+    ensures follows { IfOk result (λ all. StepFollows cnf.now (clauses_with cnf.now log.now) all.0.step) }
+    ensures new { IfOk result (λ all. IsNew (clauses_with cnf.now log.now) all.0.step.clause) }
+    ensures not_empty { IfOk result (λ all. all.0.step.clause ≡ [] → ⊥) }
+    ensures asserting { IfOk result (λ all. IsAsserting trail.now.entries.items all.0.jump all.0.step.clause all.0.asserted) }
+    ensures other { IfOk result (λ all. IsOther trail.now.entries.items all.0.jump all.0.step.clause all.0.asserted all.0.other) }
+    ensures roles { IfOk result (λ all. length all.1.items ≡ cnf.now.count + 1) }
+    ensures within { IfOk result (λ all. VariablesBelow (cnf.now.count + 1) all.2.items) }
 {
     let mut roles = no_parts(alloc, cnf.count)?;
     let mut implied = vec![in alloc; None; cnf.count as usize + 1]?;
@@ -306,6 +319,9 @@ pub(crate) fn analyse(
         &mut implied,
         &mut roles,
     );
-    let learned = learned_of(alloc, cnf, log, trail, &roles, conflict, start, point)?;
-    Ok((learned, roles))
+    let shown = shown_entries(alloc, trail, &roles)?;
+    let learned = learned_of(
+        alloc, cnf, log, trail, &shown, &roles, conflict, start, point,
+    )?;
+    Ok((learned, roles, shown))
 }

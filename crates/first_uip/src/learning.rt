@@ -137,8 +137,8 @@ pub fn search_counted(
         if log.len() >= limit as usize {
             return Ok(Found::Limit(List::from_vec(log)));
         }
-        let (learned, roles) = analyse(alloc, cnf, &log, &trail, &places, conflict, start)?;
-        head = if policy.count_conflict(&trail, &roles) {
+        let (learned, roles, shown) = analyse(alloc, cnf, &log, &trail, &places, conflict, start)?;
+        head = if policy.count_conflict(&shown, &roles) {
             first_decision(&trail).unwrap_or(learned.jump)
         } else {
             learned.jump

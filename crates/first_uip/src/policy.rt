@@ -8,7 +8,7 @@ use crate::order::Order;
 use crate::restarts::Restarts;
 use crate::roles::Role;
 use clauses::{Cnf, Lit};
-use depth_first::Trail;
+use depth_first::{Entry, Trail};
 use std::alloc::{AllocError, Global};
 
 /// What the search learned for its choices.
@@ -39,6 +39,7 @@ impl Policy {
     ghost use Rattle.std.specs.Prelude.{◌≡◌, ◌+◌, ◌<◌, ℕ, length, IfOk, IfSome, IfNone};
     ghost use Rattle.clauses.specs.Literal.{IsVariable};
     ghost use Rattle.depth_first.specs.TrailEntries.{literals, IsOpen, IsSet};
+    ghost use Rattle.first_uip.specs.Shown.{VariablesBelow};
 
     /// Nothing is learned yet.
     pub(crate) fn new(alloc: Global, cnf: &Cnf) -> Result<Policy, AllocError>
@@ -96,18 +97,17 @@ impl Policy {
         Ok(())
     }
 
-    /// Counts a conflict, what it rests on, and the levels that its clause spans; the answer is true where the search
-    /// is to restart.
-    pub(crate) fn count_conflict(&mut self, trail: &Trail, roles: &[Role]) -> bool
-        requires variables { length trail.now.values.items ≡ length self.old.negated.items }
+    /// Counts a conflict, what it rests on, and the levels that its clause spans, by the entries on which it rests
+    /// and the decisions; the answer is true where the search is to restart.
+    pub(crate) fn count_conflict(&mut self, shown: &[Entry], roles: &[Role]) -> bool
+        requires within { VariablesBelow (length self.old.negated.items) shown.now }
         requires roles { length roles.now ≡ length self.old.negated.items }
         ensures { length self.new.negated.items ≡ length self.old.negated.items }
     {
         let mut levels: u32 = 0;
-        // whether the level of the place is one of them
+        // whether the level of the entry is one of them
         let mut is_counted = true;
-        for place in 0..trail.entries.len() {
-            let entry = trail.entries[place];
+        for entry in shown {
             if entry.cause.is_decision() {
                 is_counted = false;
             }

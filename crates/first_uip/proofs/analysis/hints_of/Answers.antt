@@ -1,7 +1,7 @@
-use Rattle.std.proofs.Common.{◌≡◌, Bool, ◌+◌, ◌<◌, true, false, Some, [], ◌∷◌, length, refl, sym, ap, ◌∙◌, arith}
+use Rattle.std.proofs.Common.{◌≡◌, Bool, true, false, Some, [], ◌∷◌, refl, sym, ap, ◌∙◌}
 use Rattle.std.specs.Prelude.{slice_get}
 use Rattle.std.specs.Option.{option_to_list}
-use Rattle.std.proofs.lemmas.Option.{slice_get_read}
+use Rattle.std.proofs.lemmas.Option.{slice_get-get_or}
 use Rattle.std.proofs.lemmas.List.{append-nil}
 use Rattle.depth_first.specs.declared.trail.Entry.{Entry}
 use denote.Enum.Bare.{sameb}
@@ -12,25 +12,24 @@ use Rattle.first_uip.proofs.RoleLemmas.{hints_next, resolved_is}
 use Rattle.first_uip.proofs.analysis.hints_of.Goals as goal
 use Rattle.first_uip.proofs.analysis.hints_of.Goals.{then-eq+in-Some+in_ok-push, then-eq+in_default, else-eq}
 
-pub loop-place-preserved : goal.loop-place-preserved
-loop-place-preserved c =
-    let entries = c.args.trail.now.entries in
+pub loop-entry-preserved : goal.loop-entry-preserved
+loop-entry-preserved c =
+    let shown = c.args.shown.now in
     let roles = c.args.roles.now in
-    let k = c.loop-place.place in
-    let e : Entry = c.index-entry.result.now in
-    let within : k < length entries.items = omega (arith, c.loop-place-test.true, c.len-place-end.ensures, entries.ok.0) in
-    let at : slice_get entries.items k ≡ Some e = slice_get_read entries.items (length entries.items) k e refl within c.index-entry.ensures in
-    let so_far = c.loop-place.invariant in
+    let k = c.loop-entry.entry-index in
+    let e : Entry = c.entry-item.result in
+    let at : slice_get shown k ≡ Some e = slice_get-get_or shown k e c.loop-entry-test.true ∙ ap Some (sym c.entry-item.is) in
+    let so_far = c.loop-entry.invariant in
     let part : (b : Bool) → sameb the_type (role_of roles c.variable.result) Resolved ≡ b → is_resolved (part_of roles e) ≡ b =
     λ b same. sym (ap (λ n. is_resolved (role_of roles n)) c.variable.ensures) ∙ resolved_is (role_of roles c.variable.result) b same in
     elim c.if-eq.branch [
       | then-eq+in-Some+in_ok-push w ↦
-          hints_next entries.items roles k e c.loop-place.hints c.if-eq.hints (w.in-Some.number ∷ []) true at (part true (sym c.eq.ensures ∙ w.if-eq.true))
+          hints_next shown roles k e c.loop-entry.hints c.if-eq.hints (w.in-Some.number ∷ []) true at (part true (sym c.eq.ensures ∙ w.if-eq.true))
           (sym (ap option_to_list (sym w.reason.ensures ∙ w.in-Some.is))) so_far (w.hints-is ∙ w.in_ok-push.ensures.ok)
       | then-eq+in_default w ↦
-          hints_next entries.items roles k e c.loop-place.hints c.if-eq.hints [] true at (part true (sym c.eq.ensures ∙ w.if-eq.true))
-          (sym (ap option_to_list (sym w.reason.ensures ∙ w.in_default.is))) so_far (w.hints-is ∙ sym (append-nil c.loop-place.hints))
+          hints_next shown roles k e c.loop-entry.hints c.if-eq.hints [] true at (part true (sym c.eq.ensures ∙ w.if-eq.true))
+          (sym (ap option_to_list (sym w.reason.ensures ∙ w.in_default.is))) so_far (w.hints-is ∙ sym (append-nil c.loop-entry.hints))
       | else-eq w ↦
-          hints_next entries.items roles k e c.loop-place.hints c.if-eq.hints [] false at (part false (sym c.eq.ensures ∙ w.if-eq.false))
-          refl so_far (w.hints-is ∙ sym (append-nil c.loop-place.hints))
+          hints_next shown roles k e c.loop-entry.hints c.if-eq.hints [] false at (part false (sym c.eq.ensures ∙ w.if-eq.false))
+          refl so_far (w.hints-is ∙ sym (append-nil c.loop-entry.hints))
     ]

@@ -3,5 +3,5 @@ use Rattle.depth_first.specs.TrailEntries.{reasons}
 use Rattle.first_uip.specs.Conflict.{resolved_entries}
 use Rattle.first_uip.proofs.analysis.hints_of.Given as goal
 
-abbrev pub invariant-loop-place : goal.invariant-loop-place
-invariant-loop-place l = l.hints ≡ reasons (resolved_entries l.roles (take l.place l.trail.entries.items))
+abbrev pub invariant-loop-entry : goal.invariant-loop-entry
+invariant-loop-entry l = l.hints ≡ reasons (resolved_entries l.roles (take l.entry-index l.shown))

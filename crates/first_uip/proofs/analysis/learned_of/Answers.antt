@@ -1,14 +1,16 @@
-use Rattle.std.proofs.Common.{◌≡◌, ℕ, List, Some, None, length, refl, sym, ap, ◌∙◌, subst}
+use Rattle.std.proofs.Common.{◌≡◌, ℕ, List, [], ◌∷◌, ◌++◌, Some, None, length, refl, sym, ap, ◌∙◌, subst}
 use Rattle.std.specs.Prelude.{slice_get}
 use Rattle.std.proofs.lemmas.Option.{slice_get_read}
 use Rattle.clauses.specs.declared.step.Step.{Step}
 use Rattle.clauses.specs.Literal.{Lit, negation_of}
 use Rattle.clauses.specs.ClauseSet.{IsNew, clauses_with}
 use Rattle.depth_first.specs.declared.trail.Entry.{Entry}
+use Rattle.depth_first.specs.TrailEntries.{reasons}
 use Rattle.depth_first.proofs.Lists.{some_same, slice_get_below}
 use Rattle.depth_first.proofs.TrailTable.{Consistent-from_table}
-use Rattle.first_uip.specs.Conflict.{IsAsserting, IsOther, IsJump}
-use Rattle.first_uip.proofs.Analysed.{learned_clause, learned_follows, learned_is_new, learned_asserts, none_other, some_other}
+use Rattle.first_uip.specs.Conflict.{IsAsserting, IsOther, IsJump, resolved_entries}
+use Rattle.first_uip.proofs.Analysed.{learned_clause, learned_clause-not_empty, learned_follows, learned_is_new, learned_asserts, none_other, some_other}
+use Rattle.first_uip.proofs.Shown.{learned_shown, resolved_shown}
 use Rattle.first_uip.proofs.analysis.learned_of.Goals as goal
 use Rattle.first_uip.proofs.analysis.learned_of.Goals.{in-Some, in-None}
 
@@ -25,12 +27,13 @@ returns-clause-follows c =
     let roles = c.args.roles.now in
     let point = c.args.point in
     let analysis = c.requires.analysis in
-    let here : slice_get entries point ≡ Some c.index.result.now =
-    slice_get_read entries (length entries) point c.index.result.now refl (slice_get_below entries point analysis.entry analysis.at) c.index.ensures in
-    let u : c.negation-asserted.result ≡ negation_of analysis.entry.literal = asserted_is entries point analysis.entry c.index.result.now c.negation-asserted.result analysis.at here c.negation-asserted.ensures in
+    let clause_is : c.in_ok-clause.clause ≡ learned_clause roles entries c.args.start (negation_of analysis.entry.literal) =
+    c.in_ok-clause.ensures ∙ learned_shown (clauses_with c.args.cnf.now c.args.log.now) entries roles c.args.conflict c.args.start point analysis c.args.shown.now c.requires.shown in
+    let hints_are : c.in_ok-hints.hints ≡ reasons (resolved_entries roles entries) ++ c.args.conflict ∷ [] =
+    c.in_ok-hints.ensures ∙ ap (λ es. reasons es ++ c.args.conflict ∷ []) (resolved_shown roles entries c.args.shown.now c.requires.shown) in
     let step : Step = record { clause = c.in_ok-clause.clause; hints = c.in_ok-hints.hints } in
     learned_follows set log trail.values.items entries roles c.args.conflict c.args.start point trail.fresh (Consistent-from_table trail.values.items entries trail.table) c.requires.variables analysis
-    c.in_ok-hints.hints step c.requires.forced c.requires.falsified c.in_ok-hints.ensures (c.in_ok-clause.ensures ∙ ap (learned_clause roles entries c.args.start) u) refl
+    c.in_ok-hints.hints step c.requires.forced c.requires.falsified hints_are clause_is refl
 
 pub returns-clause-new : goal.returns-clause-new
 returns-clause-new c =
@@ -41,11 +44,20 @@ returns-clause-new c =
     let roles = c.args.roles.now in
     let point = c.args.point in
     let analysis = c.requires.analysis in
-    let here : slice_get entries point ≡ Some c.index.result.now =
-    slice_get_read entries (length entries) point c.index.result.now refl (slice_get_below entries point analysis.entry analysis.at) c.index.ensures in
-    let u : c.negation-asserted.result ≡ negation_of analysis.entry.literal = asserted_is entries point analysis.entry c.index.result.now c.negation-asserted.result analysis.at here c.negation-asserted.ensures in
-    subst (IsNew (clauses_with set log)) (sym (c.in_ok-clause.ensures ∙ ap (learned_clause roles entries c.args.start) u))
+    let clause_is : c.in_ok-clause.clause ≡ learned_clause roles entries c.args.start (negation_of analysis.entry.literal) =
+    c.in_ok-clause.ensures ∙ learned_shown (clauses_with c.args.cnf.now c.args.log.now) entries roles c.args.conflict c.args.start point analysis c.args.shown.now c.requires.shown in
+    subst (IsNew (clauses_with set log)) (sym clause_is)
     (learned_is_new set log trail.values.items entries roles c.args.conflict c.args.start point trail.fresh (Consistent-from_table trail.values.items entries trail.table) c.requires.variables analysis c.requires.closed)
+
+pub returns-clause-not_empty : goal.returns-clause-not_empty
+returns-clause-not_empty c =
+    λ empty.
+    let entries = c.args.trail.now.entries.items in
+    let roles = c.args.roles.now in
+    let analysis = c.requires.analysis in
+    let clause_is : c.in_ok-clause.clause ≡ learned_clause roles entries c.args.start (negation_of analysis.entry.literal) =
+    c.in_ok-clause.ensures ∙ learned_shown (clauses_with c.args.cnf.now c.args.log.now) entries roles c.args.conflict c.args.start c.args.point analysis c.args.shown.now c.requires.shown in
+    learned_clause-not_empty roles entries c.args.start (negation_of analysis.entry.literal) (sym clause_is ∙ empty)
 
 pub returns-clause-asserting : goal.returns-clause-asserting
 returns-clause-asserting c =
@@ -59,9 +71,11 @@ returns-clause-asserting c =
     let here : slice_get entries point ≡ Some c.index.result.now =
     slice_get_read entries (length entries) point c.index.result.now refl (slice_get_below entries point analysis.entry analysis.at) c.index.ensures in
     let u : c.negation-asserted.result ≡ negation_of analysis.entry.literal = asserted_is entries point analysis.entry c.index.result.now c.negation-asserted.result analysis.at here c.negation-asserted.ensures in
+    let clause_is : c.in_ok-clause.clause ≡ learned_clause roles entries c.args.start (negation_of analysis.entry.literal) =
+    c.in_ok-clause.ensures ∙ learned_shown (clauses_with c.args.cnf.now c.args.log.now) entries roles c.args.conflict c.args.start point analysis c.args.shown.now c.requires.shown in
     let jump = c.jump_from-jump.result in
-    subst (λ ls. IsAsserting entries jump.place ls c.negation-asserted.result) (sym c.in_ok-clause.ensures)
-    (subst (λ l. IsAsserting entries jump.place (learned_clause roles entries c.args.start l) l) (sym u)
+    subst (λ ls. IsAsserting entries jump.place ls c.negation-asserted.result) (sym clause_is)
+    (subst (IsAsserting entries jump.place (learned_clause roles entries c.args.start (negation_of analysis.entry.literal))) (sym u)
     (learned_asserts set log trail.values.items entries roles c.args.conflict c.args.start point trail.fresh (Consistent-from_table trail.values.items entries trail.table) c.requires.variables analysis jump.place jump.below c.jump_from-jump.ensures))
 
 pub returns-clause-other : goal.returns-clause-other
@@ -77,11 +91,13 @@ returns-clause-other c =
     let here : slice_get entries point ≡ Some c.index.result.now =
     slice_get_read entries (length entries) point c.index.result.now refl (slice_get_below entries point analysis.entry analysis.at) c.index.ensures in
     let u : c.negation-asserted.result ≡ negation_of analysis.entry.literal = asserted_is entries point analysis.entry c.index.result.now c.negation-asserted.result analysis.at here c.negation-asserted.ensures in
+    let clause_is : c.in_ok-clause.clause ≡ learned_clause roles entries c.args.start (negation_of analysis.entry.literal) =
+    c.in_ok-clause.ensures ∙ learned_shown (clauses_with c.args.cnf.now c.args.log.now) entries roles c.args.conflict c.args.start point analysis c.args.shown.now c.requires.shown in
     let place = c.jump_from-jump.result.place in
     let ok = Consistent-from_table trail.values.items entries trail.table in
     let l = negation_of analysis.entry.literal in
-    subst (λ ls. IsOther entries place ls c.negation-asserted.result c.match-jump.other) (sym c.in_ok-clause.ensures)
-    (subst (λ m. IsOther entries place (learned_clause roles entries start m) m c.match-jump.other) (sym u)
+    subst (λ ls. IsOther entries place ls c.negation-asserted.result c.match-jump.other) (sym clause_is)
+    (subst (λ m. IsOther entries place (learned_clause roles entries start l) m c.match-jump.other) (sym u)
     (elim c.match-jump.branch [
       | in-Some w ↦
           let below = w.in-Some.below in
