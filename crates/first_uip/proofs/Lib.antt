@@ -5,6 +5,8 @@ pub mod Guards
 pub mod Additions
 pub mod StartLemmas
 pub mod RoleLemmas
+pub mod Marked
+pub mod Noted
 pub mod Resolved
 pub mod Analysed
 pub mod Shown

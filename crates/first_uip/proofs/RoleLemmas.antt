@@ -1,5 +1,5 @@
 -- The parts of variables in a conflict, step by step.
-use Rattle.std.proofs.Common.{◌≡◌, ℕ, zero, suc, ◌+◌, ◌<◌, Bool, true, false, cond, List, [], ◌∷◌, ◌++◌, Option, Some, None, length, take, set, get_or, refl, sym, ap, ◌∙◌, arith, inl, inr, subst}
+use Rattle.std.proofs.Common.{◌≡◌, ℕ, zero, suc, ◌+◌, ◌<◌, Bool, true, false, not, cond, List, [], ◌∷◌, ◌++◌, Option, Some, None, length, take, set, get_or, refl, sym, ap, ◌∙◌, arith, inl, inr, subst}
 use Rattle.std.specs.Prelude.{slice_get, ◌⊎◌}
 use Rattle.std.proofs.lemmas.Bool.{cases_Bool, cases_eq, cases_order, true≢false}
 use Rattle.std.proofs.lemmas.List.{get_or-set_same, get_or-set_other}
@@ -235,6 +235,16 @@ pub seen_if : (r : Role) → sameb the_type r Unseen ≡ false → is_seen r ≡
 seen_if Unseen h = absurd (true≢false h)
 seen_if Resolved h = refl
 seen_if Kept h = refl
+
+pub seen_if_ne : (r : Role) (differs : Bool) → differs ≡ not (sameb the_type r Unseen) → differs ≡ true → is_seen r ≡ true
+seen_if_ne Unseen differs is h = absurd (true≢false (sym h ∙ is))
+seen_if_ne Resolved differs is h = refl
+seen_if_ne Kept differs is h = refl
+
+pub unseen_if_ne : (r : Role) (differs : Bool) → differs ≡ not (sameb the_type r Unseen) → differs ≡ false → is_seen r ≡ false
+unseen_if_ne Unseen differs is h = refl
+unseen_if_ne Resolved differs is h = absurd (true≢false (sym is ∙ h))
+unseen_if_ne Kept differs is h = absurd (true≢false (sym is ∙ h))
 
 pub resolved_is : (r : Role) (b : Bool) → sameb the_type r Resolved ≡ b → is_resolved r ≡ b
 resolved_is Unseen b h = h

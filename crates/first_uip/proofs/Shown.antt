@@ -1,18 +1,18 @@
 -- What the entries on which a conflict rests show, without the others.
 use Rattle.std.proofs.Common.{◌≡◌, ℕ, zero, suc, ◌+◌, ◌-◌, ◌<◌, ◌≤◌, Bool, true, false, cond, List, [], ◌∷◌, ◌++◌, Option, Some, length, take, filter, get_or, refl, sym, ap, ◌∙◌, subst, arith, inl, inr}
-use Rattle.std.specs.Prelude.{slice_get, ◌||◌}
-use Rattle.std.proofs.lemmas.Bool.{cases_Bool, or_left, true≢false}
+use Rattle.std.specs.Prelude.{slice_get}
+use Rattle.std.proofs.lemmas.Bool.{cases_Bool, true≢false}
 use Rattle.std.proofs.lemmas.List.{append-nil, take_all}
 use Rattle.std.proofs.lemmas.List.Elements.{All-filter, filter-append}
 use Rattle.std.proofs.lemmas.Option.{slice_get-get_or}
 use Rattle.clauses.specs.Literal.{Lit, negation_of}
 use Rattle.clauses.specs.Propagation.{negations_of}
 use Rattle.depth_first.specs.declared.trail.Entry.{Entry}
-use Rattle.depth_first.specs.TrailEntries.{literals, is_decision, EachFresh}
+use Rattle.depth_first.specs.TrailEntries.{literals, EachFresh}
 use Rattle.depth_first.proofs.Lists.{element_at, slice_get_below, take_next}
 use Rattle.first_uip.specs.declared.roles.Role.{Role}
 use Rattle.first_uip.specs.declared.roles.Role.TheVariants.{Unseen, Resolved, Kept}
-use Rattle.first_uip.specs.Conflict.{is_kept, is_resolved, is_seen, part_of, kept_entries, resolved_entries, IsAnalysis}
+use Rattle.first_uip.specs.Conflict.{is_kept, is_resolved, is_seen, part_of, kept_entries, resolved_entries, IsAnalysis, NoneSeen}
 use Rattle.first_uip.specs.Shown.{shown_entries, VariablesBelow}
 use Rattle.first_uip.proofs.Analysed.{learned_clause}
 
@@ -39,14 +39,14 @@ resolved_seen Kept h = refl
 
 kept_shown : (roles : List Role) (entries : List Entry) → kept_entries roles (shown_entries roles entries) ≡ kept_entries roles entries
 kept_shown roles entries =
-    filter_within (λ (e : Entry). is_kept (part_of roles e)) (λ (e : Entry). is_seen (part_of roles e) || is_decision e.cause)
-    (λ e kept. or_left (is_seen (part_of roles e)) (is_decision e.cause) (kept_seen (part_of roles e) kept)) entries
+    filter_within (λ (e : Entry). is_kept (part_of roles e)) (λ (e : Entry). is_seen (part_of roles e))
+    (λ e kept. kept_seen (part_of roles e) kept) entries
 
 pub resolved_shown : (roles : List Role) (entries shown : List Entry) → shown ≡ shown_entries roles entries → resolved_entries roles shown ≡ resolved_entries roles entries
 resolved_shown roles entries shown is =
     ap (resolved_entries roles) is
-    ∙ filter_within (λ (e : Entry). is_resolved (part_of roles e)) (λ (e : Entry). is_seen (part_of roles e) || is_decision e.cause)
-    (λ e resolved. or_left (is_seen (part_of roles e)) (is_decision e.cause) (resolved_seen (part_of roles e) resolved)) entries
+    ∙ filter_within (λ (e : Entry). is_resolved (part_of roles e)) (λ (e : Entry). is_seen (part_of roles e))
+    (λ e resolved. resolved_seen (part_of roles e) resolved) entries
 
 -- where a filter keeps nothing between two places
 filter_gap : {X : Type 0} (p : X → Bool) (xs : List X) (from k : ℕ) → from + k ≤ length xs → ((place : ℕ) (x : X) → from ≤ place → place < from + k → slice_get xs place ≡ Some x → p x ≡ false) → filter p (take (from + k) xs) ≡ filter p (take from xs)
@@ -102,10 +102,26 @@ module _ (clauses : List (List Lit)) (entries : List Entry) (roles : List Role) 
       ap (λ es. negations_of (literals es)) (ap (kept_entries roles) is ∙ kept_shown roles entries ∙ kept_all)
       ∙ negated_push (kept_entries roles (take start entries)) e
 
+-- an entry more that is seen
+pub shown_next : (roles : List Role) (entries : List Entry) (place : ℕ) (e : Entry) → slice_get entries place ≡ Some e → is_seen (part_of roles e) ≡ true → shown_entries roles (take (place + 1) entries) ≡ shown_entries roles (take place entries) ++ e ∷ []
+shown_next roles entries place e at seen =
+    let next : place + 1 ≡ suc place = omega arith in
+    ap (λ n. shown_entries roles (take n entries)) next
+    ∙ ap (shown_entries roles) (take_next entries place e at)
+    ∙ filter-append (λ (f : Entry). is_seen (part_of roles f)) (take place entries) (e ∷ [])
+    ∙ ap (λ b. shown_entries roles (take place entries) ++ cond b (e ∷ []) []) seen
+
+pub shown_between : (roles : List Role) (entries : List Entry) (from to : ℕ) → from ≤ to → to ≤ length entries → NoneSeen entries roles from to → shown_entries roles (take to entries) ≡ shown_entries roles (take from entries)
+shown_between roles entries from to order within none = filter_between (λ (e : Entry). is_seen (part_of roles e)) entries from to order within none
+
+pub shown_all : (roles : List Role) (entries : List Entry) (from : ℕ) → from ≤ length entries → NoneSeen entries roles from (length entries) → shown_entries roles (take from entries) ≡ shown_entries roles entries
+shown_all roles entries from order none =
+    sym (shown_between roles entries from (length entries) order (omega arith) none) ∙ ap (shown_entries roles) (take_all (length entries) entries (omega arith))
+
 -- the entries' variables are in the table
 pub shown_within : (values : List (Option Bool)) (entries : List Entry) (roles : List Role) → EachFresh values entries → VariablesBelow (length values) (shown_entries roles entries)
 shown_within values entries roles fresh =
-    All-filter (λ (e : Entry). is_seen (part_of roles e) || is_decision e.cause) (λ (e : Entry). e.literal.variable < length values) entries
+    All-filter (λ (e : Entry). is_seen (part_of roles e)) (λ (e : Entry). e.literal.variable < length values) entries
     (λ i d inside. (fresh i (get_or entries i d) (slice_get-get_or entries i d inside)).1)
 
 pub VariablesBelow-same : (n m : ℕ) (es : List Entry) → n ≡ m → VariablesBelow n es → VariablesBelow m es

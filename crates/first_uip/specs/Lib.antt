@@ -6,6 +6,7 @@ pub mod Watching
 pub mod Looks
 pub mod Shapes
 pub mod Conflict
+pub mod Marks
 pub mod Shown
 pub mod Searching
 pub mod Order

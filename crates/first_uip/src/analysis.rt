@@ -7,8 +7,10 @@ ghost use Rattle.clauses.proofs.Closed.{IsClosed};
 ghost use Rattle.depth_first.specs.TrailEntries.{literals, reasons};
 ghost use Rattle.depth_first.specs.TrailEntries.{EachForced};
 ghost use Rattle.first_uip.specs.Conflict.{DecidedAt, IsAnalysis, IsAsserting, IsJump, IsLastLevel, IsOther, NoneDecided, NoneSeen, Resolves, SeenAt, is_kept, kept_entries, resolved_entries, role_of};
+ghost use Rattle.first_uip.specs.Marks.{EachMarked, IsMarked, IsPlaced};
 ghost use Rattle.first_uip.specs.Shown.{VariablesBelow, shown_entries};
 
+use crate::blocks::{BLOCK, seen_from};
 use crate::minimisation::settle_earlier;
 use crate::roles::{Role, resolve, see};
 use clauses::{Clause, Cnf, Lit, Step};
@@ -49,8 +51,18 @@ fn last_seen(trail: &Trail, roles: &[Role], start: usize, end: usize) -> Option<
 
 /// Resolves the entries of the last level, which begins at `start`, from the end back to the first unique
 /// implication point, and tells its place.
-fn resolve_level(cnf: &Cnf, log: &[Step], trail: &Trail, start: usize, roles: &mut [Role]) -> usize
+fn resolve_level(
+    cnf: &Cnf,
+    log: &[Step],
+    trail: &Trail,
+    places: &[usize],
+    start: usize,
+    blocks: &mut [bool],
+    roles: &mut [Role],
+) -> usize
     requires variables { length trail.now.values.items ≡ cnf.now.count + 1 }
+    requires places { length places.now ≡ cnf.now.count + 1 }
+    requires marked { EachMarked blocks.old places.now roles.old }
     requires size { length roles.old ≡ cnf.now.count + 1 }
     requires follows { LogFollows cnf.now log.now }
     requires forced { EachForced (clauses_with cnf.now log.now) trail.now.entries.items }
@@ -62,6 +74,7 @@ fn resolve_level(cnf: &Cnf, log: &[Step], trail: &Trail, start: usize, roles: &m
     ensures none_between { NoneSeen trail.now.entries.items roles.new start result }
     ensures resolves { Resolves (clauses_with cnf.now log.now) trail.now.entries.items (length trail.now.entries.items) roles.old (result + 1) roles.new }
     ensures same_kept { (n : ℕ) → is_kept (role_of roles.new n) ≡ is_kept (role_of roles.old n) }
+    ensures marked { EachMarked blocks.new places.now roles.new }
 {
     let mut place = trail.entries.len();
     // an entry before `place` on which the conflict rests
@@ -74,7 +87,7 @@ fn resolve_level(cnf: &Cnf, log: &[Step], trail: &Trail, start: usize, roles: &m
                 Some(next) => lower = next,
             }
         }
-        resolve(cnf, log, trail, place, roles);
+        resolve(cnf, log, trail, places, place, blocks, roles);
     }
 }
 
@@ -143,19 +156,23 @@ fn jump_from(trail: &Trail, roles: &[Role], start: usize) -> Jump
     }
 }
 
-/// The entries on which the conflict rests, and the decisions, in order.
-fn shown_entries(alloc: Global, trail: &Trail, roles: &[Role]) -> Result<Vec<Entry>, AllocError>
-    requires { length roles.now ≡ length trail.now.values.items }
+/// The entries on which the conflict rests, in order.
+fn shown_entries(
+    alloc: Global,
+    trail: &Trail,
+    blocks: &[bool],
+    roles: &[Role],
+) -> Result<Vec<Entry>, AllocError>
+    requires size { length roles.now ≡ length trail.now.values.items }
+    requires marked { IsMarked trail.now.entries.items roles.now blocks.now }
     ensures shown { IfOk result (λ shown. shown.items ≡ shown_entries roles.now trail.now.entries.items) }
     ensures within { IfOk result (λ shown. VariablesBelow (length roles.now) shown.items) }
 {
     let mut shown = Vec::new(alloc);
-    for place in 0..trail.entries.len() {
-        let entry = trail.entries[place];
-        let role = roles[entry.literal.variable() as usize];
-        if role != Role::Unseen || entry.cause.is_decision() {
-            shown.push(entry)?;
-        }
+    let mut next = 0;
+    while let Some(place) = seen_from(trail, roles, blocks, next, trail.entries.len()) {
+        shown.push(trail.entries[place])?;
+        next = place + 1;
     }
     Ok(shown)
 }
@@ -216,10 +233,12 @@ fn give_parts(
     conflict: u32,
     start: usize,
     implied: &mut [Option<bool>],
+    blocks: &mut [bool],
     roles: &mut [Role],
 ) -> usize
     requires variables { length trail.now.values.items ≡ cnf.now.count + 1 }
     requires places { length places.now ≡ cnf.now.count + 1 }
+    requires placed { IsPlaced places.now trail.now.entries.items (length trail.now.entries.items) }
     requires implied { length implied.old ≡ cnf.now.count + 1 }
     requires size { length roles.old ≡ cnf.now.count + 1 }
     requires unseen { (n : ℕ) → role_of roles.old n ≡ Role.Unseen }
@@ -228,13 +247,14 @@ fn give_parts(
     requires falsified { NamesFalse (clauses_with cnf.now log.now) (literals trail.now.entries.items) conflict }
     requires last { IsLastLevel trail.now.entries.items start }
     requires closed { IsClosed (clauses_with cnf.now log.now) (literals (take start trail.now.entries.items)) }
-    ensures { IsAnalysis (clauses_with cnf.now log.now) trail.now.entries.items roles.new conflict start result }
+    ensures analysis { IsAnalysis (clauses_with cnf.now log.now) trail.now.entries.items roles.new conflict start result }
+    ensures marked { IsMarked trail.now.entries.items roles.new blocks.new }
 {
-    see(numbered(cnf, log, conflict), roles);
-    let point = resolve_level(cnf, log, trail, start, roles);
+    see(numbered(cnf, log, conflict), places, blocks, roles);
+    let point = resolve_level(cnf, log, trail, places, start, blocks, roles);
     roles[trail.entries[point].literal.variable() as usize] = Role::Kept;
     let root = first_decision(trail).unwrap_or(start);
-    settle_earlier(cnf, log, trail, places, root, start, implied, roles);
+    settle_earlier(cnf, log, trail, places, root, start, implied, blocks, roles);
     point
 }
 
@@ -282,7 +302,7 @@ fn learned_of(
 }
 
 /// What the conflict at a clause shows, where the last decision stands at `start`, the parts of the variables in it,
-/// and the entries on which it rests, with the decisions. It may be told where in the trail each variable stands.
+/// and the entries on which it rests.
 pub(crate) fn analyse(
     alloc: Global,
     cnf: &Cnf,
@@ -294,6 +314,7 @@ pub(crate) fn analyse(
 ) -> Result<(Learned, Vec<Role>, Vec<Entry>), AllocError>
     requires variables { length trail.now.values.items ≡ cnf.now.count + 1 }
     requires places { length places.now ≡ cnf.now.count + 1 }
+    requires placed { IsPlaced places.now trail.now.entries.items (length trail.now.entries.items) }
     requires follows { LogFollows cnf.now log.now }
     requires forced { EachForced (clauses_with cnf.now log.now) trail.now.entries.items }
     requires falsified { NamesFalse (clauses_with cnf.now log.now) (literals trail.now.entries.items) conflict }
@@ -309,6 +330,7 @@ pub(crate) fn analyse(
 {
     let mut roles = no_parts(alloc, cnf.count)?;
     let mut implied = vec![in alloc; None; cnf.count as usize + 1]?;
+    let mut blocks = vec![in alloc; false; cnf.count as usize / BLOCK + 1]?;
     let point = give_parts(
         cnf,
         log,
@@ -317,9 +339,10 @@ pub(crate) fn analyse(
         conflict,
         start,
         &mut implied,
+        &mut blocks,
         &mut roles,
     );
-    let shown = shown_entries(alloc, trail, &roles)?;
+    let shown = shown_entries(alloc, trail, &blocks, &roles)?;
     let learned = learned_of(
         alloc, cnf, log, trail, &shown, &roles, conflict, start, point,
     )?;

@@ -1,6 +1,6 @@
 //! The search by conflict-driven clause learning.
 
-ghost use Rattle.std.specs.Prelude.{◌≡◌, ◌+◌, ◌^◌, ◌<◌, ◌≤◌, [], length, IfOk, MatchOption, OnOk};
+ghost use Rattle.std.specs.Prelude.{◌≡◌, ◌+◌, ◌^◌, ◌<◌, ◌≤◌, [], length, take, IfOk, MatchOption, OnOk};
 ghost use Rattle.clauses.specs.ClauseSet.{IsNew, StepFollows, clauses_with};
 ghost use Rattle.depth_first.specs.Found.{IsFound, distinct_count};
 ghost use Rattle.depth_first.specs.DepthFirst.{IsLearned};
@@ -9,6 +9,7 @@ ghost use Rattle.first_uip.specs.Watching.{CoversBelow, IsWatching, IsWatchingUp
 ghost use Rattle.first_uip.specs.Conflict.{DecidedAt, IsAsserting, IsOther};
 
 use crate::analysis::{Learned, analyse, first_decision, last_decision};
+use crate::blocks::note_places;
 use crate::policy::Policy;
 use crate::propagation::propagate;
 use crate::start::add_clauses;
@@ -53,6 +54,7 @@ fn learn(
     requires within { place ≤ learned.jump }
     ensures same_variables { length trail.new.values.items ≡ length trail.old.values.items }
     ensures covers { CoversBelow (cnf.now.count + 1) watches.new }
+    ensures kept { OnOk result (take place trail.new.entries.items ≡ take place trail.old.entries.items) }
     ensures longer { OnOk result (length log.new.items ≡ length log.old.items + 1) }
     ensures log_learned { OnOk result (IsLearned cnf.now log.new.items) }
     ensures forced { OnOk result (EachForced (clauses_with cnf.now log.new.items) trail.new.entries.items) }
@@ -108,18 +110,12 @@ pub fn search_counted(
         return Ok(Found::Unsat(refutation(alloc, cnf, &trail, log, conflict)?));
     }
     let mut policy = Policy::new(alloc, cnf)?;
+    let mut levels = vec![in alloc; 0u32; cnf.count as usize + 1]?;
     let mut places = vec![in alloc; 0; cnf.count as usize + 1]?;
+    let mut noted = 0;
     let mut head = 0;
     loop {
-        let Some(conflict) = propagate(
-            cnf,
-            &log,
-            &mut watches,
-            &mut trail,
-            &mut places,
-            head,
-            propagations,
-        )?
+        let Some(conflict) = propagate(cnf, &log, &mut watches, &mut trail, head, propagations)?
         else {
             let Some(literal) = policy.decision(cnf, &trail) else {
                 return Ok(Found::Sat(trail.assignment(alloc)?));
@@ -137,13 +133,15 @@ pub fn search_counted(
         if log.len() >= limit as usize {
             return Ok(Found::Limit(List::from_vec(log)));
         }
+        note_places(&trail, noted, &mut places, &mut levels);
         let (learned, roles, shown) = analyse(alloc, cnf, &log, &trail, &places, conflict, start)?;
-        head = if policy.count_conflict(&shown, &roles) {
+        head = if policy.count_conflict(&shown, &roles, &levels) {
             first_decision(&trail).unwrap_or(learned.jump)
         } else {
             learned.jump
         };
         policy.release(&trail, head)?;
         learn(cnf, &mut log, &mut watches, &mut trail, learned, head)?;
+        noted = head;
     }
 }

@@ -2,6 +2,7 @@
 #![tactic(auto)]
 
 mod analysis;
+mod blocks;
 mod learning;
 mod look;
 mod minimisation;

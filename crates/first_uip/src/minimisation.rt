@@ -4,7 +4,9 @@ ghost use Rattle.std.specs.Prelude.{◌≡◌, ◌+◌, ◌<◌, ◌≤◌, leng
 ghost use Rattle.clauses.specs.ClauseSet.{LogFollows, clauses_with};
 ghost use Rattle.depth_first.specs.TrailEntries.{EachForced};
 ghost use Rattle.first_uip.specs.Conflict.{NoneDecided, Resolves, SameKeptFrom};
+ghost use Rattle.first_uip.specs.Marks.{EachMarked, IsPlaced};
 
+use crate::blocks::seen_before;
 use crate::roles::{Role, resolve};
 use clauses::{Cnf, Lit, Step};
 use depth_first::{Trail, numbered};
@@ -12,7 +14,7 @@ use depth_first::{Trail, numbered};
 /// How many reasons deep an entry is looked into, so that the recursion stays within the stack.
 const DEPTH: u32 = 1000;
 
-/// The place of a variable's entry, if it stands where it was propagated last.
+/// The place of a variable's entry, if it stands where it was noted last.
 fn place_of(trail: &Trail, places: &[usize], variable: u32) -> Option<usize>
     requires { variable < length places.now }
     ensures { IfSome result (λ place. place < length trail.now.entries.items) }
@@ -125,29 +127,29 @@ pub(crate) fn settle_earlier(
     root: usize,
     start: usize,
     implied: &mut [Option<bool>],
+    blocks: &mut [bool],
     roles: &mut [Role],
 )
     requires variables { length trail.now.values.items ≡ cnf.now.count + 1 }
     requires places { length places.now ≡ cnf.now.count + 1 }
+    requires placed { IsPlaced places.now trail.now.entries.items (length trail.now.entries.items) }
     requires implied { length implied.old ≡ cnf.now.count + 1 }
     requires size { length roles.old ≡ cnf.now.count + 1 }
+    requires marked { EachMarked blocks.old places.now roles.old }
     requires follows { LogFollows cnf.now log.now }
     requires forced { EachForced (clauses_with cnf.now log.now) trail.now.entries.items }
     requires within { start ≤ length trail.now.entries.items }
     ensures resolves { Resolves (clauses_with cnf.now log.now) trail.now.entries.items start roles.old 0 roles.new }
     ensures same_later { SameKeptFrom trail.now.entries.items roles.old roles.new start }
+    ensures marked { EachMarked blocks.new places.now roles.new }
 {
-    let mut place = start;
-    while place > 0 {
-        place -= 1;
-        let variable = trail.entries[place].literal.variable() as usize;
-        if roles[variable] == Role::Unseen {
-            continue;
-        }
+    let mut end = start;
+    while let Some(place) = seen_before(trail, roles, blocks, end) {
         if is_redundant(cnf, log, trail, places, root, roles, implied, place, DEPTH) {
-            resolve(cnf, log, trail, place, roles);
+            resolve(cnf, log, trail, places, place, blocks, roles);
         } else {
-            roles[variable] = Role::Kept;
+            roles[trail.entries[place].literal.variable() as usize] = Role::Kept;
         }
+        end = place;
     }
 }

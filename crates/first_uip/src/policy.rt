@@ -97,30 +97,27 @@ impl Policy {
         Ok(())
     }
 
-    /// Counts a conflict, what it rests on, and the levels that its clause spans, by the entries on which it rests
-    /// and the decisions; the answer is true where the search is to restart.
-    pub(crate) fn count_conflict(&mut self, shown: &[Entry], roles: &[Role]) -> bool
+    /// Counts a conflict, the entries on which it rests, and the levels that its clause spans; the answer is true where
+    /// the search is to restart.
+    pub(crate) fn count_conflict(&mut self, shown: &[Entry], roles: &[Role], levels: &[u32]) -> bool
+        requires levels { length levels.now ≡ length self.old.negated.items }
         requires within { VariablesBelow (length self.old.negated.items) shown.now }
         requires roles { length roles.now ≡ length self.old.negated.items }
         ensures { length self.new.negated.items ≡ length self.old.negated.items }
     {
-        let mut levels: u32 = 0;
-        // whether the level of the entry is one of them
-        let mut is_counted = true;
+        let mut spanned: u32 = 0;
+        // the last level that was counted; what stands before the first decision is of none
+        let mut last = 0;
         for entry in shown {
-            if entry.cause.is_decision() {
-                is_counted = false;
-            }
-            let role = roles[entry.literal.variable() as usize];
-            if role != Role::Unseen {
-                self.order.bump(entry.literal.variable());
-            }
-            if role == Role::Kept && !is_counted {
-                levels = levels.saturating_add(1);
-                is_counted = true;
+            let variable = entry.literal.variable();
+            self.order.bump(variable);
+            let level = levels[variable as usize];
+            if level != last && roles[variable as usize] == Role::Kept {
+                spanned = spanned.saturating_add(1);
+                last = level;
             }
         }
         self.order.decay();
-        self.restarts.count_conflict(levels)
+        self.restarts.count_conflict(spanned)
     }
 }

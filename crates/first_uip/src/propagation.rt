@@ -46,18 +46,16 @@ fn propagate_entry(
 }
 
 /// Propagates the entries from `head` on, which wait, and those that come of it, up to the first clause that is
-/// false. It counts the entries, and notes of each variable where it stands.
+/// false. It counts the entries.
 pub(crate) fn propagate(
     cnf: &Cnf,
     log: &[Step],
     watches: &mut Watches,
     trail: &mut Trail,
-    places: &mut [usize],
     mut head: usize,
     propagations: &mut u64,
 ) -> Result<Option<u32>, AllocError>
     requires variables { length trail.old.values.items ≡ cnf.now.count + 1 }
-    requires places { length places.old ≡ cnf.now.count + 1 }
     requires follows { LogFollows cnf.now log.now }
     requires covers { CoversBelow (cnf.now.count + 1) watches.old }
     requires watching { IsWatchingUpTo (clauses_with cnf.now log.now) watches.old trail.old.entries.items head }
@@ -70,7 +68,6 @@ pub(crate) fn propagate(
 {
     while head < trail.entries.len() {
         *propagations = propagations.saturating_add(1);
-        places[trail.entries[head].literal.variable() as usize] = head;
         let conflict = propagate_entry(cnf, log, watches, trail, head)?;
         if conflict.is_some() {
             return Ok(conflict);

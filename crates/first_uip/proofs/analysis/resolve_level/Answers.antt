@@ -36,5 +36,6 @@ loop-place-preserved c =
       seen = (e, at, c.resolve.ensures.still e.literal.variable seen);
       resolves = λ conflict so_far.
           c.resolve.ensures.resolves conflict (subst (λ from. IsResolution cs entries conflict from mid) back (inv.resolves conflict so_far));
+      marked = c.resolve.ensures.marked;
       same_kept = λ n. c.resolve.ensures.same_kept n ∙ inv.same_kept n;
     }

@@ -1,6 +1,7 @@
 use Rattle.std.proofs.Common.{◌≡◌, ℕ, ◌<◌, ◌≤◌, length}
 use Rattle.clauses.specs.ClauseSet.{clauses_with}
 use Rattle.first_uip.specs.Conflict.{Resolves, SeenAt, is_kept, role_of}
+use Rattle.first_uip.specs.Marks.{EachMarked}
 use Rattle.first_uip.proofs.analysis.resolve_level.Given as goal
 
 abbrev pub invariant-loop-place : goal.invariant-loop-place
@@ -11,6 +12,7 @@ invariant-loop-place l =
       last : l.lower < l.place;
       seen : SeenAt l.trail.entries.items l.roles l.lower;
       resolves : Resolves (clauses_with l.cnf l.log) l.trail.entries.items (length l.trail.entries.items) l.initial.roles l.place l.roles;
+      marked : EachMarked l.blocks l.places l.roles;
       same_kept : (n : ℕ) → is_kept (role_of l.roles n) ≡ is_kept (role_of l.initial.roles n);
     }
 

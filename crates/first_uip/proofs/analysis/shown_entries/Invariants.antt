@@ -1,6 +1,13 @@
-use Rattle.std.proofs.Common.{◌≡◌, take}
+use Rattle.std.proofs.Common.{◌≡◌, ◌-◌, ◌≤◌, length, take}
 use Rattle.first_uip.specs.Shown.{shown_entries}
 use Rattle.first_uip.proofs.analysis.shown_entries.Given as goal
 
 abbrev pub invariant-loop-place : goal.invariant-loop-place
-invariant-loop-place l = l.shown.items ≡ shown_entries l.roles (take l.place l.trail.entries.items)
+invariant-loop-place l =
+    record {
+      within : l.next ≤ length l.trail.entries.items;
+      shown : l.shown.items ≡ shown_entries l.roles (take l.next l.trail.entries.items);
+    }
+
+abbrev pub decreases-loop-place : goal.decreases-loop-place
+decreases-loop-place l = length l.trail.entries.items - l.next

@@ -1,9 +1,11 @@
 use Rattle.std.proofs.Common.{◌≡◌, ◌+◌, false, [], ◌∷◌, ◌++◌, length, take, refl, sym, ap, ◌∙◌, subst, arith}
+use Rattle.std.proofs.lemmas.List.{length-take-le}
 use Rattle.clauses.specs.ClauseSet.{clauses_with}
 use Rattle.depth_first.specs.declared.trail.Entry.{Entry}
 use Rattle.depth_first.specs.declared.trail.Cause.TheVariants.{Reason}
 use Rattle.depth_first.specs.DepthFirst.{IsLearned}
 use Rattle.depth_first.specs.TrailEntries.{EachForced}
+use Rattle.depth_first.proofs.Lists.{slice_get_below, take_take_below, take_whole}
 use Rattle.depth_first.proofs.Open.{variable_within}
 use Rattle.depth_first.proofs.States.{clauses_with-push}
 use Rattle.first_uip.specs.Watching.{IsWatchingUpTo}
@@ -33,6 +35,20 @@ pub returns-else-place-jump-clause-log_learned : goal.returns-else-place-jump-cl
 returns-else-place-jump-clause-log_learned c =
     subst (IsLearned c.args.cnf.now) (sym c.in_ok-push.ensures.items)
     (IsLearned-push c.args.cnf.now c.args.log.now.items c.args.learned.step c.requires.log_learned c.requires.follows c.requires.new c.requires.not_empty)
+
+pub returns-in_ok-push-2-clause-kept : goal.returns-in_ok-push-2-clause-kept
+returns-in_ok-push-2-clause-kept c =
+    let entries = c.args.trail.now.entries.items in
+    let place = c.args.place in
+    let first = take place entries in
+    let e : Entry = record { literal = c.args.learned.asserted; cause = Reason c.len-number.result } in
+    let after : c.push-then-place-jump.new.self.entries.items ≡ first ++ e ∷ [] = c.in_ok-push-2.ensures.ok ∙ ap (λ es. es ++ e ∷ []) c.cut.ensures.entries in
+    let size : length first ≡ place = length-take-le place entries (omega (arith, slice_get_below entries place c.requires.decided.0 c.requires.decided.1)) in
+    ap (take place) after ∙ ap (λ n. take n (first ++ e ∷ [])) (sym size) ∙ take_whole first (e ∷ [])
+
+pub returns-else-place-jump-clause-kept : goal.returns-else-place-jump-clause-kept
+returns-else-place-jump-clause-kept c =
+    ap (take c.args.place) c.cut.ensures.entries ∙ take_take_below c.args.place c.args.place c.args.trail.now.entries.items (omega arith)
 
 pub returns-in_ok-push-2-clause-forced : goal.returns-in_ok-push-2-clause-forced
 returns-in_ok-push-2-clause-forced c =

@@ -1,4 +1,4 @@
-use Rattle.std.proofs.Common.{◌≡◌, List, ◌+◌, ◌≤◌, [], ◌∷◌, ◌++◌, Some, length, take, refl, sym, ◌∙◌, subst, arith}
+use Rattle.std.proofs.Common.{rules, ◌≡◌, List, ◌+◌, ◌≤◌, [], ◌∷◌, ◌++◌, Some, length, take, drop, refl, sym, ap, ◌∙◌, subst, arith}
 use Rattle.std.specs.Prelude.{unwrap_or}
 use Rattle.clauses.specs.ClauseSet.{IsNew, LogFollows, StepFollows, all_clauses, clauses_with}
 use Rattle.clauses.specs.declared.step.Step.{Step}
@@ -12,8 +12,10 @@ use Rattle.depth_first.proofs.SearchSteps.{EachCaused-start, no_decisions, IfNon
 use Rattle.first_uip.specs.Watching.{IsWatching, IsWatchingUpTo}
 use Rattle.first_uip.specs.Conflict.{DecidedAt}
 use Rattle.first_uip.specs.Searching.{IsSearching}
+use Rattle.first_uip.specs.Marks.{IsNoted, IsPlaced}
+use Rattle.first_uip.proofs.Noted.{IsNoted-append, IsNoted-cut, IsNoted-grows, written_back}
 use Rattle.first_uip.proofs.Measure.{less_after_conflict}
-use Rattle.first_uip.proofs.SearchLemmas.{no_decisions as none_decided_gives_none, EachCaused-from_forced, EachForced-grown, closed_before, model_found, limit_found, IsSearching-decided, first_or_jump}
+use Rattle.first_uip.proofs.SearchLemmas.{no_decisions as none_decided_gives_none, EachCaused-from_forced, EachForced-grown, closed_before, model_found, limit_found, IsSearching-decided, IsSearching-start, first_or_jump}
 use Rattle.first_uip.proofs.learning.search_counted.Goals as goal
 use Rattle.first_uip.proofs.learning.search_counted.Goals.{then-count_conflict, else-count_conflict}
 
@@ -24,6 +26,28 @@ refutation-requires-clause-caused c =
 pub refutation-requires-clause-no_decisions : goal.refutation-requires-clause-no_decisions
 refutation-requires-clause-no_decisions c =
     no_decisions (all_clauses c.args.cnf.now) [] c.add_clauses.new.trail.entries.items refl c.add_clauses.ensures.grown
+
+pub loop-places-init : goal.loop-places-init
+loop-places-init c =
+    let set = c.args.cnf.now in
+    let watches = c.add_clauses.new.watches in
+    let entries = c.add_clauses.new.trail.entries.items in
+    let watching : IsWatchingUpTo (all_clauses set) watches entries 0 =
+    IfNone_is c.in_ok-conflict.field-0 (IsWatchingUpTo (all_clauses set) watches entries 0) c.in_default.is c.in_ok-conflict.ensures.watching in
+    record {
+      variables = c.add_clauses.ensures.same_variables ∙ c.in_ok-trail.ensures.variables;
+      covers = c.add_clauses.ensures.covers;
+      levels = search rules;
+      places = search rules;
+      noted = (omega arith, λ place e below at. absurd (omega (arith, below)));
+      sizes = c.in_ok-policy.ensures;
+      within = search rules;
+      state = IsSearching-start set c.new-log.result.items watches entries c.new-log.ensures.items c.add_clauses.ensures.grown watching;
+    }
+
+pub propagate-requires-clause-follows : goal.propagate-requires-clause-follows
+propagate-requires-clause-follows c =
+    subst (LogFollows c.args.cnf.now) (sym c.deref.ensures.value) c.loop-places.invariant.state.learned.follows
 
 pub returns-in_default-decision : goal.returns-in_default-decision
 returns-in_default-decision c =
@@ -55,7 +79,12 @@ loop-places-preserved-in_default-2 c =
     record {
       variables = c.in_ok-push.ensures.variables ∙ c.propagate.ensures.same_variables ∙ inv.variables;
       covers = c.propagate.ensures.covers;
+      levels = inv.levels;
       places = inv.places;
+      noted =
+          subst (λ es. IsNoted c.loop-places.places.items es c.loop-places.noted) (sym c.in_ok-push.ensures.ok)
+          (IsNoted-append c.loop-places.places.items entries (e ∷ []) c.loop-places.noted
+          (IsNoted-grows (clauses_with set log) c.loop-places.places.items c.loop-places.trail.entries.items entries c.loop-places.noted grows inv.noted));
       sizes = c.decision.ensures.sizes ∙ inv.sizes;
       within = inv.within;
       state =
@@ -158,6 +187,57 @@ learn-requires-clause-within c =
           (first_or_jump entries w.first_decision.result jump decided w.first_decision.ensures.decided w.first_decision.ensures.earlier).1
       | else-count_conflict w ↦ omega (arith, w.head-is)
     ]
+
+pub note_places-requires-clause-placed : goal.note_places-requires-clause-placed
+note_places-requires-clause-placed c =
+    let set = c.args.cnf.now in
+    let log = c.loop-places.log.items in
+    let entries = c.propagate.new.trail.entries.items in
+    let grows : Grows (clauses_with set log) c.loop-places.trail.entries.items entries =
+    subst (λ (steps : List Step). Grows (clauses_with set steps) c.loop-places.trail.entries.items entries) c.deref.ensures.value c.propagate.ensures.grows in
+    subst (λ ps. IsPlaced ps entries c.loop-places.noted) (sym c.deref_mut.ensures.value)
+    (IsNoted-grows (clauses_with set log) c.loop-places.places.items c.loop-places.trail.entries.items entries c.loop-places.noted grows c.loop-places.invariant.noted).1
+
+pub analyse-requires-clause-placed : goal.analyse-requires-clause-placed
+analyse-requires-clause-placed c =
+    let entries = c.propagate.new.trail.entries.items in
+    let places = c.note_places.new.places in
+    let size : c.loop-places.places.len ≡ length places =
+    omega (arith, c.loop-places.places.ok.0, ap length c.deref_mut.ensures.value, c.note_places.auto.places) in
+    let written = written_back c.loop-places.places.len places (drop (length places) c.loop-places.places.items) size in
+    subst (λ ps. IsPlaced ps entries (length entries)) (sym (c.deref-in-loop-places-2.ensures.value ∙ written)) c.note_places.ensures
+
+pub loop-places-preserved : goal.loop-places-preserved
+loop-places-preserved c =
+    let inv = c.loop-places.invariant in
+    let entries = c.propagate.new.trail.entries.items in
+    let after = c.learn.new.trail.entries.items in
+    let head = c.if-count_conflict.head in
+    let jump = c.in_ok-learned.learned.jump in
+    let decided_jump : DecidedAt entries jump = c.in_ok-learned.ensures.asserting.decided in
+    let decided : DecidedAt entries head =
+    elim c.if-count_conflict.branch [
+      | then-count_conflict w ↦
+          subst (DecidedAt entries) (sym (w.head-is ∙ w.unwrap_or-head.ensures))
+          (first_or_jump entries w.first_decision.result jump decided_jump w.first_decision.ensures.decided w.first_decision.ensures.earlier).0
+      | else-count_conflict w ↦ subst (DecidedAt entries) (sym w.head-is) decided_jump
+    ] in
+    let places = c.note_places.new.places in
+    let size : c.loop-places.places.len ≡ length places =
+    omega (arith, c.loop-places.places.ok.0, ap length c.deref_mut.ensures.value, c.note_places.auto.places) in
+    let written = written_back c.loop-places.places.len places (drop (length places) c.loop-places.places.items) size in
+    record {
+      variables = c.learn.ensures.same_variables ∙ c.propagate.ensures.same_variables ∙ inv.variables;
+      covers = c.learn.ensures.covers;
+      levels = inv.levels;
+      places = inv.places;
+      noted =
+          subst (λ ps. IsNoted ps after head) (sym written)
+          (IsNoted-cut places entries after head decided.0 decided.1 c.in_ok-learn.ensures.kept c.note_places.ensures);
+      sizes = search rules;
+      within = omega (arith, c.in_ok-learn.ensures.longer, c.if-len-limit.false, c.len.ensures, c.loop-places.log.ok.0);
+      state = record { learned = c.in_ok-learn.ensures.log_learned; forced = c.in_ok-learn.ensures.forced; watching = c.in_ok-learn.ensures.watching };
+    }
 
 pub loop-places-smaller : goal.loop-places-smaller
 loop-places-smaller c =

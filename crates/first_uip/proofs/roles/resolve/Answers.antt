@@ -21,8 +21,8 @@ numbered-requires c =
     let (clause, named, unit) = c.requires.forced.each c.args.place e c.in-Some.number at cause in
     slice_get_below cs c.in-Some.number clause named
 
-pub see-requires : goal.see-requires
-see-requires c =
+pub see-requires-clause-within : goal.see-requires-clause-within
+see-requires-clause-within c =
     let set = c.args.cnf.now in
     below_from_within set.count (length c.args.roles.now) c.numbered.result.now c.requires.size
     (with_within set c.args.log.now c.in-Some.number c.numbered.result.now c.requires.follows c.numbered.ensures)
@@ -36,7 +36,7 @@ returns-in-Some-clause-resolves c =
     let at : slice_get entries c.args.place ≡ Some e = slice_get_read entries (length entries) c.args.place e refl c.requires.within c.index-entry.ensures in
     let cause : e.cause ≡ Reason c.in-Some.number = cause_of_reason e.cause c.in-Some.number (sym c.reason.ensures ∙ c.in-Some.is) in
     IsResolution-see (clauses_with c.args.cnf.now c.args.log.now) trail.values.items entries conflict c.args.place c.in-Some.number e c.numbered.result.now c.args.roles.now c.see.new.roles trail.fresh c.requires.forced at cause
-    c.numbered.ensures c.see.ensures so_far
+    c.numbered.ensures c.see.ensures.sees so_far
 
 pub returns-in_default-clause-resolves : goal.returns-in_default-clause-resolves
 returns-in_default-clause-resolves c =

@@ -1,6 +1,11 @@
 use Rattle.std.proofs.Common.{take}
 use Rattle.first_uip.specs.Conflict.{Sees}
+use Rattle.first_uip.specs.Marks.{EachMarked}
 use Rattle.first_uip.proofs.roles.see.Given as goal
 
 abbrev pub invariant-loop-literal : goal.invariant-loop-literal
-invariant-loop-literal l = Sees (take l.literal-index l.clause) l.initial.roles l.roles
+invariant-loop-literal l =
+    record {
+      sees : Sees (take l.literal-index l.clause) l.initial.roles l.roles;
+      marked : EachMarked l.blocks l.places l.roles;
+    }
