@@ -1,7 +1,6 @@
 -- What the parts of an exchange and of a removal ask for.
 use Rattle.std.proofs.Common.{◌≡◌, inl, ◌<◌, ◌≤◌, ◌^◌, List, length, All, ap}
 use Rattle.std.specs.Prelude.{Contains}
-use Rattle.std.proofs.lemmas.List.Elements.{All-contains}
 use Rattle.ir_core.specs.Blocks.{HasInst}
 use Rattle.ir_core.specs.Checks.{IsKnown}
 use Rattle.ir_core.specs.declared.function.Block.{Block}
@@ -61,7 +60,3 @@ module _ (old : Draft) (whole : IsWhole old) (p : Place) (has : HasInst old.aren
 
     pub now_lists : ((inst : Inst) (a : Operand) → Contains (operands_of (change inst).op) a → IsKnown old.arena a) → HaveLists old.readers (operands_at new.arena p)
     now_lists known r there = whole.readers.there r (now_known known (operands.Register r) there)
-
--- the operands of the instruction that is put are known
-pub all_known_of : (f : Function) (inst : Inst) → All (IsKnown f) (operands_of inst.op) → (i : Inst) (a : Operand) → Contains (operands_of inst.op) a → IsKnown f a
-all_known_of f inst known i a there = All-contains (IsKnown f) (operands_of inst.op) a known there

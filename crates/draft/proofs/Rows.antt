@@ -353,9 +353,6 @@ pub record Walked (stand : List Bool) (order : List ℕ) (at : Option ℕ) (numb
   pub next : at ≡ slice_get order count
   pub done : numbers ≡ standing_in stand (take count order)
 
-pub walked_none : (stand : List Bool) (order : List ℕ) (at : Option ℕ) → at ≡ slice_get order 0 → Walked stand order at []
-walked_none stand order at is = record { count = 0; next = is; done = refl }
-
 -- how many are left
 abbrev pub left : List ℕ → Option ℕ → ℕ
 left order None = 0
@@ -367,12 +364,6 @@ module _ (stand : List Bool) (order : List ℕ) (count n : ℕ) (numbers : List 
 
   within : walked.count < length order
   within = slice_get_within order walked.count n here
-
-  pub walked_contains : Contains order n
-  walked_contains = contains_at order n walked.count here
-
-  pub walked_below : n < count
-  walked_below = ordering.below walked.count n here
 
   place_is : place_in order n ≡ walked.count
   place_is = ordering.once walked.count n here
@@ -387,15 +378,6 @@ module _ (stand : List Bool) (order : List ℕ) (count n : ℕ) (numbers : List 
         next = is ∙ ap (slice_get order) one;
         done = grown ∙ ap (λ (l : List ℕ). l ++ standing_in stand (n ∷ [])) walked.done ∙ sym (standing_append stand (take walked.count order) (n ∷ [])) ∙ ap (standing_in stand) (sym taken);
       }
-
-  pub walked_less : (next : Option ℕ) → next ≡ slice_get order (suc (place_in order n)) → left order next < left order (Some n)
-  walked_less None is = let e = place_is in let inside = within in omega arith
-  walked_less (Some m) is =
-      let e = place_is in
-      let later : slice_get order (suc (place_in order n)) ≡ Some m = sym is in
-      let m_place : place_in order m ≡ suc (place_in order n) = ordering.once (suc (place_in order n)) m later in
-      let m_within = slice_get_within order (suc (place_in order n)) m later in
-      omega arith
 
 pub walked_end : (stand : List Bool) (order numbers : List ℕ) → Walked stand order None numbers → numbers ≡ standing_in stand order
 walked_end stand order numbers walked = walked.done ∙ ap (standing_in stand) (take_all walked.count order (elim (slice_get_cases order walked.count).1 [

@@ -10,7 +10,7 @@ ghost use Rattle.bindings.specs.Facts.{AreFactsOf};
 ghost use Rattle.needed.specs.Operands.{operands_of};
 ghost use Rattle.readers.specs.Changes.{changed_at, gone, inst_changed, inst_put, put_in, taken_out, without};
 ghost use Rattle.readers.specs.Counts.{operands_at, register_of};
-ghost use Rattle.draft.specs.Drafts.{Stands, StandsBefore, function_of, numbers_of, orders_of};
+ghost use Rattle.draft.specs.Drafts.{Stands, function_of, numbers_of, orders_of};
 ghost use Rattle.draft.specs.KeptOrders.{KeepsOrders};
 ghost use Rattle.places.specs.Orders.{none};
 ghost use Rattle.places.specs.Orders as numbers;
@@ -105,19 +105,6 @@ impl Draft {
         ensures { IsTrue result ↔ Stands self.now place.block place.number }
     {
         self.stand[place.block as usize].as_slice()[place.number as usize]
-    }
-
-    /// Whether the first stands before the second.
-    pub fn is_before(&self, one: Place, other: Place) -> bool
-        requires whole { IsWhole self.now }
-        requires one { Stands self.now one.block one.number }
-        requires other { Stands self.now other.block other.number }
-        ensures { IsTrue result ↔ StandsBefore self.now one.block one.number other.block other.number }
-    {
-        if one.block != other.block {
-            return one.block < other.block;
-        }
-        self.orders[one.block as usize].is_before(one.number, other.number)
     }
 
     /// Puts an instruction before another, and gives its number.

@@ -2,8 +2,8 @@
 use Rattle.std.proofs.Common.{◌≡◌, inl, inr, ℕ, zero, suc, ◌+◌, ◌<◌, ◌≤◌, min, List, [], ◌∷◌, ◌++◌, length, get_or, set, take, drop, Option, Some, map, refl, sym, ap, subst, ◌∙◌, arith, get_or-set_other, get_or-set_same}
 use Rattle.std.specs.Prelude.{option_to_list, slice_get}
 use Rattle.std.proofs.Math.ListN.{length-set}
-use Rattle.std.proofs.lemmas.Bool.{cases_eq, cases_lt}
-use Rattle.std.proofs.lemmas.List.{append_assoc, drop-set-lt, drop_more, get_or_append_left, get_or_default, get_or_past, get_or_push, length-take, length_push, take_all, take_more, take_more_set}
+use Rattle.std.proofs.lemmas.Bool.{cases_eq}
+use Rattle.std.proofs.lemmas.List.{append_assoc, drop-set-lt, drop_more, get_or_append_left, get_or_default, get_or_push, length-take, length_push, take_all, take_more, take_more_set}
 use Rattle.std.proofs.lemmas.Option.{same_Some, slice_get-get_or}
 use Rattle.ir_core.specs.declared.function.Block.{Block}
 use Rattle.ir_core.specs.declared.instruction.Inst.{Inst}
@@ -25,9 +25,6 @@ pub record InstsPlaced (to : Substitution) (all : List Inst) (numbers : List ℕ
   pub size : length insts ≡ length all
   pub done : placed ≡ insts_of to all (take i numbers)
   pub rest : (k n : ℕ) → i ≤ k → slice_get numbers k ≡ Some n → slice_get insts n ≡ slice_get all n
-
-pub none_placed : (to : Substitution) (all : List Inst) (numbers : List ℕ) → InstsPlaced to all numbers 0 all []
-none_placed to all numbers = record { size = refl; done = refl; rest = λ k n later at. refl }
 
 slice_get-set_other : {A : Type 0} (xs : List A) (i j : ℕ) (x : A) → (j ≡ i → ⊥) → slice_get (set xs i x) j ≡ slice_get xs j
 slice_get-set_other [] i j x apart = refl
@@ -80,9 +77,6 @@ pub record BlocksPlaced (to : Substitution) (rows : List (List ℕ)) (all : List
   pub rest : drop i items ≡ drop i all
   pub size : length items ≡ length all
 
-pub no_block_placed : (to : Substitution) (rows : List (List ℕ)) (all : List Block) → BlocksPlaced to rows all 0 all
-no_block_placed to rows all = record { done = refl; rest = refl; size = refl }
-
 module _ (to : Substitution) (rows : List (List ℕ)) (all : List Block) (i : ℕ) (items : List Block) (so_far : BlocksPlaced to rows all i items) (same : length rows ≡ length all) (within : i < length items) (block : Block) (here : block ≡ get_or items i block) where
   heads_and_tails : get_or items i block ∷ drop (i + 1) items ≡ get_or all i block ∷ drop (i + 1) all
   heads_and_tails = let size = so_far.size in sym (drop_more items i block within) ∙ so_far.rest ∙ drop_more all i block (omega arith)
@@ -108,13 +102,6 @@ module _ (to : Substitution) (rows : List (List ℕ)) (all : List Block) (i : �
         rest = drop-set-lt (i + 1) items i new (omega arith) ∙ tails;
         size = length-set items i new ∙ so_far.size;
       }
-
-pub all_blocks_placed : (to : Substitution) (rows : List (List ℕ)) (all : List Block) (i : ℕ) (items : List Block) → BlocksPlaced to rows all i items → length rows ≡ length all → length all ≤ i → items ≡ blocks_of to rows all
-all_blocks_placed to rows all i items so_far same past =
-    let size = so_far.size in
-    sym (take_all i items (omega arith)) ∙ so_far.done
-    ∙ ap (λ (l : List (List ℕ)). blocks_of to l (take i all)) (take_all i rows (omega arith))
-    ∙ ap (blocks_of to rows) (take_all i all past)
 
 -- ---- the table of a block's places
 
@@ -163,16 +150,6 @@ table_kept numbers i rows row so_far table =
         | inr apart ↦ ap (λ (l : List ℕ). get_or l n 0) (get_or_append_left rows (row ∷ []) [] b (omega arith)) ∙ so_far.done b k n (omega arith) at
       ];
     }
-
--- behind the last block nothing has a number
-pub tables_full : (numbers : List (List ℕ)) (i : ℕ) (rows : List (List ℕ)) → TablesKept numbers i rows → length numbers ≤ i → (b k n : ℕ) → slice_get (get_or numbers b []) k ≡ Some n → get_or (get_or rows b []) n 0 ≡ k
-tables_full numbers i rows so_far past b k n at = elim (cases_lt b (length numbers)) [
-  | inl within ↦ so_far.done b k n (omega arith) at
-  | inr beyond ↦
-      let empty : get_or numbers b [] ≡ [] = get_or_past numbers b [] beyond in
-      let none : slice_get {X = ℕ} [] k ≡ Some n = ap (λ (l : List ℕ). slice_get l k) (sym empty) ∙ at in
-      cc
-]
 
 -- the numbers of the next block are its
 pub next_ordering : (to : Substitution) (rows : List (List ℕ)) (all : List Block) (i : ℕ) (items : List Block) → BlocksPlaced to rows all i items → length rows ≡ length all → i < length items → (block : Block) → block ≡ get_or items i block

@@ -1,10 +1,8 @@
 //! The function that a draft stands for.
 
-ghost use Rattle.std.specs.Prelude.{◌≡◌, ◌<◌, ◌≤◌, ◌^◌, ℕ, [], ◌∷◌, All, Contains, IfOk, OnOk, List as Seq, Some, length, slice_get, slice_index_or};
-ghost use Rattle.ir_core.specs.declared.function.Block.{Block as Written};
+ghost use Rattle.std.specs.Prelude.{◌≡◌, ◌<◌, ◌^◌, ℕ, [], All, IfOk, OnOk, Some, length, slice_get, slice_index_or};
 ghost use Rattle.substitution.specs.Substitution.{substituted_inst};
 ghost use Rattle.draft.specs.Drafts.{block_of, blocks_of, insts_of, function_of, standing, standing_in};
-ghost use Rattle.places.specs.Orders.{place_in};
 ghost use Rattle.draft.specs.Placing.{AreOrdered, IsOrdering, at_places};
 ghost use Rattle.draft.specs.Whole.{IsSettled};
 

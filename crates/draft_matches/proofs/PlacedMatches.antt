@@ -113,6 +113,3 @@ module _ (stand_before : TemporariesStandBefore) (rules : List Rule) (ready : Ar
     all = was_put ms found;
     in_order = in_order ms (λ i d lt. (found.each i d lt).1) found.in_order;
   }
-
-  pub placed_match_is : (m : Match) → IsMatchInAnyOrder rules arena m → IsAt b n m → IsMatchAmong rules F (put m)
-  placed_match_is m is of = put_is m is of

@@ -14,10 +14,6 @@ needed_alone f r (ends b h) = by_end b h
 needed_alone f r (reads b k need h) = by_inst b k (needed_alone f (registers.Result b k) need) h
 needed_alone f r (is_one has) = absurd (not_in_empty r has)
 
-pub needed_with : (f : Function) (roots : List Register) (r : Register) → IsNeeded f r → IsNeededWith f roots r
-needed_with f roots r (by_end b h) = ends b h
-needed_with f roots r (by_inst b k need h) = reads b k (needed_with f roots (registers.Result b k) need) h
-
 -- where each of these would be needed with those
 pub needed_through : (f : Function) (roots others : List Register) → ((r : Register) → Contains roots r → IsNeededWith f others r) → (r : Register) → IsNeededWith f roots r → IsNeededWith f others r
 needed_through f roots others all r (ends b h) = ends b h

@@ -222,9 +222,6 @@ module _ (stands_before : ReadsStandBefore) (old : Draft) (settled : IsSettled o
     pub room_then : (steps : ℕ) → HasRoomFor (suc steps) old → HasRoomFor steps mid
     room_then steps room = room_after_put steps old mid w m.place put.arena (most_put rule (numbered old.arena m) is_rule root.inst.name) room
 
-    abbrev root_register : Register
-    root_register = registers.Result m.block m.place
-
     -- what stands then stood, or came
     stood_or_put : (b n : ℕ) → Stands mid b n → (Stands old b n × ¬ (registers.Result b n ≡ registers.Result m.block m.place)) ⊎ ((b ≡ m.block) × Contains (put_numbers old.arena w) n)
     stood_or_put b n stands =

@@ -71,16 +71,6 @@ contains-marked waits heap p h c =
       | inr absent ↦ absurd (let none = h.only p.block p.number absent in let some = contains-tally heap p c in omega arith)
     ]
 
--- what waits already is in the set with or without it
-pub added-before : (rows : Rows) (p : Place) → Has rows p.block p.number → IsAdded rows rows p
-added-before rows p has b n = (
-  λ h. inr h,
-  λ h. elim h [
-    | inl is ↦ subst (λ c. Has rows c n) is.0 (subst (Has rows p.block) is.1 has)
-    | inr had ↦ had
-  ],
-)
-
 pub marked-pushed : (old new : Rows) (heap more : List Place) (p : Place) → AreMarked old heap → ¬ Has old p.block p.number → IsAdded old new p → IsPermutation (p ∷ heap) more → AreMarked new more
 marked-pushed old new heap more p h free added moved = record {
   once = λ b n has. (let sum = sum_by_pushed (counts b n) p heap more moved in elim ((added b n).0 has) [
@@ -128,6 +118,3 @@ first-marked orders marks heap rest p h moved least = record {
   there = contains-marked marks heap p h (Contains-permutation (p ∷ rest) heap p (IsPermutation-sym heap (p ∷ rest) moved) (contains_first p rest));
   none_before = λ b n has. All-contains (λ other. ¬ ComesBefore orders other p) heap _ least (marked-contains marks heap b n h has);
 }
-
-pub none-marked : (waits : Rows) (heap : List Place) → AreMarked waits heap → heap ≡ [] → (b n : ℕ) → ¬ Has waits b n
-none-marked waits heap h none b n has = contains_none _ (subst (λ l. Contains l (record { block = b; number = n })) none (marked-contains waits heap b n h has))

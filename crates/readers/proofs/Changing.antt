@@ -1,5 +1,5 @@
 -- What a function is where one of its blocks is another.
-use Rattle.std.proofs.Common.{◌≡◌, ◌⊎◌, inl, inr, ℕ, zero, suc, ◌+◌, ◌<◌, ◌≤◌, List, [], ◌∷◌, ◌++◌, length, get_or, slice_set, Option, None, Some, refl, sym, ap, subst, ◌∙◌, arith}
+use Rattle.std.proofs.Common.{◌≡◌, ◌⊎◌, inl, inr, ℕ, zero, suc, ◌+◌, ◌<◌, List, [], ◌∷◌, ◌++◌, length, get_or, slice_set, Option, None, Some, refl, sym, ap, subst, ◌∙◌, arith}
 use Rattle.std.specs.Prelude.{IsSome, option_and_then, option_map, slice_get, sum_by}
 use Rattle.std.proofs.lemmas.Bool.{cases_eq}
 use Rattle.std.proofs.lemmas.List.Sums.{sum_by-set}
@@ -40,11 +40,6 @@ pub changed_is_set : {A : Type 0} (k : ℕ) (change : A → A) (xs : List A) (x 
 changed_is_set k change [] x at = refl
 changed_is_set {A = A} zero change (y ∷ xs) x at = ap (λ (z : A). change z ∷ xs) (sym (same_Some y x at))
 changed_is_set {A = A} (suc k) change (y ∷ xs) x at = ap (λ (l : List A). y ∷ l) (changed_is_set k change xs x at)
-
-pub changed_past : {A : Type 0} (k : ℕ) (change : A → A) (xs : List A) → length xs ≤ k → changed_at k change xs ≡ xs
-changed_past k change [] past = refl
-changed_past zero change (y ∷ xs) past = absurd (omega arith)
-changed_past {A = A} (suc k) change (y ∷ xs) past = ap (λ (l : List A). y ∷ l) (changed_past k change xs (omega arith))
 
 pub changed_sum : {A : Type 0} (h : A → ℕ) (k : ℕ) (change : A → A) (xs : List A) (x : A) → slice_get xs k ≡ Some x → sum_by h (changed_at k change xs) + h x ≡ sum_by h xs + h (change x)
 changed_sum h k change xs x at =
@@ -108,17 +103,6 @@ inst_there f d j (block, at, within) = elim (slice_get_cases block.insts j).1 [
 ]
 
 -- ---- a block that is written
-
-pub block_set : (blocks : List Block) (b n : ℕ) (inst : Inst) (now : Block) → (block : Block) × (slice_get blocks b ≡ Some block) × (n < length block.insts) → now ≡ get_or blocks b now
-    → slice_set blocks b (record { name = now.name; insts = slice_set now.insts n inst; end = now.end }) ≡ changed_at b (inst_changed n (λ old. inst)) blocks
-block_set blocks b n inst now (block, at, within) is =
-    let there : slice_get blocks b ≡ Some now = slice_get-get_or blocks b now (slice_get_within blocks b block at) ∙ ap (λ (x : Block). Some x) (sym is) in
-    let same : block ≡ now = same_Some block now (sym at ∙ there) in
-    let size = ap (λ (x : Block). length x.insts) same in
-    let old : Inst = get_or now.insts n inst in
-    let insts : slice_set now.insts n inst ≡ changed_at n (λ i. inst) now.insts = changed_is_set n (λ i. inst) now.insts old (slice_get-get_or now.insts n inst (omega arith)) in
-    ap (λ (l : List Inst). slice_set blocks b (let x : Block = record { name = now.name; insts = l; end = now.end } in x)) insts
-    ∙ changed_is_set b (inst_changed n (λ i. inst)) blocks now there
 
 pub block_pushed : (blocks : List Block) (b : ℕ) (inst : Inst) (now : Block) (insts : List Inst) → b < length blocks → now ≡ get_or blocks b now → insts ≡ now.insts ++ inst ∷ []
     → slice_set blocks b (record { name = now.name; insts = insts; end = now.end }) ≡ changed_at b (inst_put inst) blocks

@@ -148,14 +148,6 @@ pub record Kept {A : Type 0} (P : A → Type 0) (all : List A) (i kept : ℕ) (i
   pub rest : drop i items ≡ drop i all
   pub chosen : (x : A) → Contains (take kept items) x ↔ (Contains (take i all) x × P x)
 
-pub kept_none : {A : Type 0} (P : A → Type 0) (all : List A) → Kept P all 0 0 all
-kept_none P all = record {
-  few = omega arith;
-  size = refl;
-  rest = refl;
-  chosen = λ x. (λ h. absurd (nothing_contained x h), λ h. absurd (nothing_contained x h.0));
-}
-
 module _ {A : Type 0} (P : A → Type 0) (all : List A) (i kept : ℕ) (items : List A) (x : A) (so_far : Kept P all i kept items) (within : i < length items) (here : x ≡ get_or items i x) where
   next_and_rest : get_or items i x ∷ drop (i + 1) items ≡ get_or all i x ∷ drop (i + 1) all
   next_and_rest =

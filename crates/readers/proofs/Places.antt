@@ -23,7 +23,7 @@ use Rattle.use_counts.specs.Tables.{count_of}
 use Rattle.use_counts.specs.declared.uses.Uses.{Uses}
 use Rattle.readers.specs.Counts.{AreCounted, HasNumbers, operands_at, times, times_in, times_in_function}
 use Rattle.places.specs.Orders.{none}
-use Rattle.readers.specs.Readers.{AreListed, AreReadersOf, HasList, HaveLists, IsListed, IsPlaceIn, arena_place, listed_for}
+use Rattle.readers.specs.Readers.{AreReadersOf, HasList, IsListed, IsPlaceIn, arena_place, listed_for}
 use Rattle.places.specs.declared.place.Place.{Place}
 use Rattle.readers.specs.declared.uses.Readers.{Readers}
 use Rattle.readers.proofs.Changing.{HasAll, known_kept}
@@ -74,14 +74,6 @@ pub record IsListedToo (p : Place) (reads : List Operand) (old new : Readers) : 
   pub kept : (r : Register) (q : Place) → Contains (listed_for old r) q → Contains (listed_for new r) q
   pub listed : (r : Register) → Contains reads (operands.Register r) → Contains (listed_for new r) p
   pub came : (r : Register) (q : Place) → Contains (listed_for new r) q → Contains (listed_for old r) q ⊎ (q ≡ p)
-
-pub listed_too : (p : Place) (reads : List Operand) (old new : Readers) → AreListed p reads old new → IsListedToo p reads old new
-listed_too p reads old new are = record {
-  there = are.there;
-  kept = λ r q older. (are.listed r q).1 (inl older);
-  listed = λ r there. (are.listed r p).1 (inr (there, refl));
-  came = λ r q there. elim ((are.listed r q).0 there) [ inl older ↦ inl older | inr (reads, same) ↦ inr same ];
-}
 
 -- where nothing is listed
 pub all_listed : (p : Place) (reads : List Operand) (readers : Readers) → ((r : Register) → Contains reads (operands.Register r) → Contains (listed_for readers r) p) → IsListedToo p reads readers readers
@@ -184,9 +176,6 @@ module _ (f f' : Function) (p : Place) (differs : DiffersAt f f' p) where
 
 pub numbers_for : (f : Function) (facts : FunctionFacts) (p : Place) → AreFactsOf f facts → AreKnown f → IsPlaceIn f p → HasNumbers facts.uses (operands_at f p)
 numbers_for f facts p are known inside r there = are.uses.there r (known p (operands.Register r) inside there)
-
-pub lists_for : (f : Function) (readers : Readers) (reads : List Operand) → AreReadersOf f readers → ((a : Operand) → Contains reads a → IsKnown f a) → HaveLists readers reads
-lists_for f readers reads are known r there = are.there r (known (operands.Register r) there)
 
 -- ---- what is read at a place is among all that is read
 
