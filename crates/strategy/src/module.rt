@@ -45,8 +45,8 @@ pub struct Done {
 /// for its pair, or else by a search that may learn `conflicts` clauses. The module that it gives may stand in the place of the old one,
 /// whatever the logs are.
 ///
-/// After each rewrite the search begins at the first instruction of the function again. At each instruction the rules are tried whose root
-/// is of its kind, in the order of the file. The only error is want of memory.
+/// Each search goes through the matches in order of place, and looks where one may have come since the search before. At each instruction
+/// the rules are tried whose root is of its kind, in the order of the file. The only error is want of memory.
 pub fn optimise(
     alloc: Global,
     module: &Module,
