@@ -31,10 +31,14 @@ use Rattle.draft_steps.proofs.Taking.{all_needed, cleaning_done, cleaning_droppi
 use Rattle.draft_steps.proofs.WhoReads.{inst_reads_it, who}
 use Rattle.draft.proofs.Wholeness.{stands_there}
 
+-- what a terminator reads is needed
+pub end_needed : (f : Function) (p : Place) (r : Register) → IsReader f r p → p.number ≡ none → IsNeeded f r
+end_needed f p r h end = by_end p.block (subst (λ (k : ℕ). ReadsRegister f p.block k r) (ap (λ c. cond c (end_of f p.block) p.number) (eq-eqb p.number none end)) h)
+
 -- what is read at a place is needed, where that is of a terminator or of what is needed
 pub read_needed : (f : Function) (p : Place) (r : Register) → IsReader f r p → IsNeeded f (registers.Result p.block p.number) → IsNeeded f r
 read_needed f p r h need = elim (cases_eq p.number none) [
-  | inl end ↦ by_end p.block (subst (λ (k : ℕ). ReadsRegister f p.block k r) (ap (λ c. cond c (end_of f p.block) p.number) (eq-eqb p.number none end)) h)
+  | inl end ↦ end_needed f p r h end
   | inr inst ↦ by_inst p.block p.number need (subst (λ (k : ℕ). ReadsRegister f p.block k r) (ap (λ c. cond c (end_of f p.block) p.number) (ne_eqb p.number none inst)) h)
 ]
 

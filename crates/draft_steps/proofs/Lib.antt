@@ -17,6 +17,7 @@ pub mod Using
 pub mod Fallen
 pub mod Lessening
 pub mod Clearing
+pub mod ToEnds
 pub mod OneBlock
 pub mod MoreOften
 pub mod OneStep

@@ -9,6 +9,7 @@ ghost use Rattle.draft_steps.specs.Cleaning.{AreRead, HaveInsts, IsCleaning, IsN
 ghost use Rattle.draft.specs.Drafts.{Stands, numbers_of, orders_of};
 ghost use Rattle.draft.specs.Whole.{IsWhole};
 
+use crate::leading::leads_to_a_terminator;
 use crate::rewriting::Rewritten;
 use draft::Draft;
 use ir_core::Register;
@@ -22,7 +23,7 @@ use use_counts::uses_of;
 ///
 /// What nothing reads goes, and with it what it alone read. In a function of one block all else is needed, since what reads an
 /// instruction stands behind it. In others what is left of a loop may read itself alone: there a walk from the terminators finds what is
-/// needed, but where what was put leads from each register that lost a use to what stands for the root's.
+/// needed, but where each register that lost a use is seen to be.
 pub(crate) fn clean_draft(
     alloc: Global,
     draft: &mut Draft,
@@ -130,7 +131,8 @@ fn are_needed(draft: &Draft, rewritten: &Rewritten, used: &[Register]) -> bool
     true
 }
 
-/// Whether what was put leads from a register to what stands for the root's; or it has no instruction that stands.
+/// Whether what was put leads from a register to what stands for the root's, or it leads to a terminator within a few readers; or it has no
+/// instruction that stands.
 fn is_seen_needed(draft: &Draft, rewritten: &Rewritten, register: Register) -> bool
     requires whole { IsWhole draft.now }
     requires result { (r : Named) → rewritten.now.result ≡ operands.Register r → IsNeeded draft.now.arena r }
@@ -148,7 +150,10 @@ fn is_seen_needed(draft: &Draft, rewritten: &Rewritten, register: Register) -> b
             here = Register::Result(place.block, place.number);
         }
     }
-    is(rewritten.result, here)
+    if is(rewritten.result, here) {
+        return true;
+    }
+    leads_to_a_terminator(draft, register)
 }
 
 /// Whether the register is one of an instruction that stands.

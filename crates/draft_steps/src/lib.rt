@@ -2,6 +2,7 @@
 #![tactic(auto)]
 
 mod cleaning;
+mod leading;
 mod rewriting;
 mod stepping;
 

@@ -1,0 +1,12 @@
+use Rattle.ir_core.specs.Checks.{IsKnown}
+use Rattle.ir_core.specs.declared.operand.Operand.TheVariants as operands
+use Rattle.needed.specs.Needed.{IsNeeded}
+use Rattle.draft_steps.proofs.leading.leads_to_a_terminator.Given as goal
+
+-- the register leads to this one
+abbrev pub invariant-loop-reader : goal.invariant-loop-reader
+invariant-loop-reader l =
+    record {
+      known : IsKnown l.draft.arena (operands.Register l.here);
+      leads : IsNeeded l.draft.arena l.here → IsNeeded l.draft.arena l.fn.register;
+    }

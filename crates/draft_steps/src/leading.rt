@@ -1,0 +1,54 @@
+//! What leads to a terminator.
+
+ghost use Rattle.std.specs.Prelude.{IsTrue, IfSome};
+ghost use Rattle.ir_core.specs.Checks.{IsKnown};
+ghost use Rattle.needed.specs.Needed.{IsNeeded};
+ghost use Rattle.draft.specs.Whole.{IsWhole};
+ghost use Rattle.readers.specs.Readers.{IsPlaceIn, IsReader};
+
+use draft::Draft;
+use ir_core::{Operand, Register};
+use places::{END, Place};
+
+/// How far readers are followed.
+const MOST_FOLLOWED: u32 = 64;
+
+/// Whether a register is seen to be needed: what was listed last of what reads it, and of what reads that, is a terminator in the end,
+/// before so many of them.
+pub(crate) fn leads_to_a_terminator(draft: &Draft, register: Register) -> bool
+    requires whole { IsWhole draft.now }
+    requires known { IsKnown draft.now.arena (Operand.Register register) }
+    ensures { IsTrue result → IsNeeded draft.now.arena register }
+{
+    let mut here = register;
+    for _reader in 0..MOST_FOLLOWED {
+        let Some(place) = last_reader(draft, here) else {
+            return false;
+        };
+        if place.number == END {
+            return true;
+        }
+        here = Register::Result(place.block, place.number);
+    }
+    false
+}
+
+/// The place that was listed last for a register, where it is still read there.
+fn last_reader(draft: &Draft, register: Register) -> Option<Place>
+    requires whole { IsWhole draft.now }
+    requires known { IsKnown draft.now.arena (Operand.Register register) }
+    ensures place { IfSome result (IsPlaceIn draft.now.arena) }
+    ensures reads { IfSome result (IsReader draft.now.arena register) }
+{
+    let places = draft.readers_of(register);
+    let count = places.len();
+    if count == 0 {
+        return None;
+    }
+    let place = places[count - 1];
+    if draft.reads(place, register) {
+        Some(place)
+    } else {
+        None
+    }
+}
