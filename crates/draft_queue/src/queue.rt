@@ -80,6 +80,7 @@ impl Queue {
         ensures removed { IfSome result (IsRemoved (waiting_in self.old) (waiting_in self.new)) }
         ensures fewer { IfSome result (λ place. size_of self.new < size_of self.old) }
         ensures none { IfNone result ((b n : ℕ) → ¬ Waits self.old b n) }
+        ensures kept { IfNone result (waiting_in self.new ≡ waiting_in self.old) }
     {
         self.waiting.take_first(draft.orders.as_slice())
     }

@@ -56,6 +56,7 @@ impl Waiting {
         ensures removed { IfSome result (IsRemoved self.old.marks self.new.marks) }
         ensures fewer { IfSome result (λ place. length self.new.heap.items < length self.old.heap.items) }
         ensures none { IfNone result ((b n : ℕ) → ¬ Has self.old.marks b n) }
+        ensures kept { IfNone result (self.new.marks ≡ self.old.marks) }
     {
         let first = heap::pop(orders, &mut self.heap)?;
         self.marks.remove(first);
