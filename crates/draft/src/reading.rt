@@ -1,9 +1,8 @@
 //! What is read at the places of a draft.
 
-ghost use Rattle.std.specs.Prelude.{◌≡◌, ◌<◌, ◌↔◌, Contains, IsTrue, length, slice_index_or};
+ghost use Rattle.std.specs.Prelude.{◌≡◌, ◌↔◌, Contains, IsTrue};
 ghost use Rattle.ir_core.specs.Checks.{IsKnown};
 ghost use Rattle.readers.specs.Readers.{IsReader, IsPlaceIn, listed_for};
-ghost use Rattle.readers.specs.Counts.{operands_at, register_of};
 ghost use Rattle.draft.specs.Whole.{IsWhole};
 ghost use Rattle.places.specs.declared.place.Place.{Place as Spot};
 
@@ -11,29 +10,10 @@ use crate::draft::Draft;
 use ir_core::{Operand, Register};
 use lists::List;
 use places::Place;
-use readers::{count_at, operand_at, readers_among, reads};
+use readers::{readers_among, reads};
 use std::alloc::Global;
 
 impl Draft {
-    /// How many operands are read at a place.
-    pub fn read_count(&self, place: Place) -> usize
-        requires { IsWhole self.now }
-        ensures { result ≡ length (operands_at self.now.arena place) }
-    {
-        count_at(&self.arena, place)
-    }
-
-    /// The register that is read at a place as this operand, if it is one.
-    pub fn register_at(&self, place: Place, index: usize) -> Option<Register>
-        requires { IsWhole self.now }
-        ensures { result ≡ register_of (slice_index_or (operands_at self.now.arena place) index Operand.Poison) }
-    {
-        match operand_at(&self.arena, place, index) {
-            Operand::Register(register) => Some(register),
-            _ => None,
-        }
-    }
-
     /// Whether what stands at a place reads the register.
     pub fn reads(&self, place: Place, register: Register) -> bool
         requires { IsWhole self.now }

@@ -61,7 +61,7 @@ impl Queue {
     }
 
     /// Puts a place into the queue, where it isn't there.
-    pub fn insert(&mut self, draft: &Draft, place: Place) -> Result<(), AllocError>
+    fn insert(&mut self, draft: &Draft, place: Place) -> Result<(), AllocError>
         requires queue { IsQueueOf draft.now self.old }
         requires place { IsNumbered (orders_of draft.now) place }
         ensures queue { OnOk result (IsQueueOf draft.now self.new) }

@@ -17,7 +17,7 @@ use std::alloc::{AllocError, Global};
 
 /// Places of instructions that a walk came to, each once.
 #[derive(Drop)]
-pub struct Walk {
+pub(crate) struct Walk {
     reached: Marks,
     pub(crate) found: Vec<Place>,
 }

@@ -32,7 +32,7 @@ use substitution::Rewrite;
 
 /// What a rule put.
 #[derive(Debug, Drop)]
-pub struct Rewritten {
+pub(crate) struct Rewritten {
     /// The instructions of its target.
     pub(crate) put: Vec<Place>,
     /// Where what stands for the root's register was put for it.

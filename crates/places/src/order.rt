@@ -52,7 +52,7 @@ impl Order {
     }
 
     /// Whether the first stands before the second.
-    pub fn is_before(&self, one: u32, other: u32) -> bool
+    pub(crate) fn is_before(&self, one: u32, other: u32) -> bool
         requires one { Contains self.now one }
         requires other { Contains self.now other }
         ensures { IsTrue result ↔ (place_in self.now one < place_in self.now other) }

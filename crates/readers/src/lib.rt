@@ -6,6 +6,5 @@ mod uses;
 
 pub use substituting::{Substitute, substitute_end, substitute_inst};
 pub use uses::{
-    Readers, count_at, count_reads, forget_reads, is, list_reads, operand_at, push_reads,
-    readers_among, reads,
+    Readers, count_reads, forget_reads, is, list_reads, push_reads, readers_among, reads,
 };

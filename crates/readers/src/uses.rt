@@ -227,7 +227,7 @@ fn arena_place(arena: &Function, place: Place) -> u32
 }
 
 /// How many operands are read at a place.
-pub fn count_at(arena: &Function, place: Place) -> usize
+fn count_at(arena: &Function, place: Place) -> usize
     requires { All (λ b. length b.insts < 2 ^ 32) arena.now.blocks }
     ensures { result ≡ length (operands_at arena.now place) }
 {
@@ -235,7 +235,7 @@ pub fn count_at(arena: &Function, place: Place) -> usize
 }
 
 /// What is read at a place as this operand, and `poison` where there is none.
-pub fn operand_at(arena: &Function, place: Place, index: usize) -> Operand
+fn operand_at(arena: &Function, place: Place, index: usize) -> Operand
     requires { All (λ b. length b.insts < 2 ^ 32) arena.now.blocks }
     ensures { result ≡ slice_index_or (operands_at arena.now place) index Operand.Poison }
 {
@@ -373,7 +373,7 @@ pub fn readers_among(arena: &Function, places: List<Place>, register: Register) 
 }
 
 /// Lists without elements, so many.
-pub fn rows(alloc: Global, count: usize) -> Result<List<List<Place>>, AllocError>
+fn rows(alloc: Global, count: usize) -> Result<List<List<Place>>, AllocError>
     ensures { IfOk result (λ rows. rows ≡ replicate count []) }
 {
     let mut rows = List::new(alloc);
