@@ -1,7 +1,8 @@
 //! The command line, as `clap` takes its definition.
 
-ghost use Rattle.std.specs.Prelude.{◌≡◌, false, IfOk, codes};
-ghost use Rattle.clap.specs.Words.{app_of, rule_of};
+ghost use Rattle.std.specs.Prelude.{◌≡◌, true, false, IfOk, codes};
+ghost use Rattle.clap.specs.Words.{App, Shape, app_of, rule_of, with_rule, with_subcommand};
+ghost use Rattle.clap.specs.Simple.{new_shape};
 ghost use Rattle.command_line.specs.Definition.{required_argument, required_number, repeated_argument, optional_argument, option_argument, number_argument, flag_argument, verify_shape, optimise_shape, run_shape, load_shape, recheck_shape, program};
 ghost use Rattle.command_line.specs.Leaf.{IsLeaf};
 ghost use Rattle.command_line.specs.Limits.{most_conflicts};
@@ -135,124 +136,184 @@ fn conflicts_argument<'a>(alloc: Global) -> Arg<'a>
     )
 }
 
+/// A command of this name, without arguments.
+fn new_command<'a>(alloc: Global, name: &'a str, about: &'a str) -> Result<Command<'a>, AllocError>
+    ensures { IfOk result (IsLeaf (new_shape name.entry.now)) }
+{
+    Ok(Command::new(alloc, name).about(about))
+}
+
+/// A command with one more argument, the last.
+fn with_argument<'a>(
+    made: Result<Command<'a>, AllocError>,
+    argument: Arg<'a>,
+) -> Result<Command<'a>, AllocError>
+    requires { argument.global ≡ false }
+    ensures { (app : App) → IfOk made.entry (λ command. app_of command ≡ app)
+        → IfOk result (λ command. app_of command ≡ with_rule app (rule_of argument.entry)) }
+{
+    let command = made?;
+    command.arg(argument)
+}
+
+/// A command with one more command of its own, the last.
+fn with_command<'a>(
+    made: Result<Command<'a>, AllocError>,
+    added: Result<Command<'a>, AllocError>,
+) -> Result<Command<'a>, AllocError>
+    ensures { (app : App) (shape : Shape) → shape.is_plain ≡ true → IfOk made.entry (λ command. app_of command ≡ app)
+        → IfOk added.entry (IsLeaf shape) → IfOk result (λ command. app_of command ≡ with_subcommand app shape) }
+{
+    let command = made?;
+    let added = added?;
+    command.subcommand(added)
+}
+
 /// `verify RULES [--widths LIST] [--conflicts N] [--logs]`.
 fn verify<'a>(alloc: Global) -> Result<Command<'a>, AllocError>
     ensures { IfOk result (IsLeaf verify_shape) }
 {
-    let widths = option_argument(
-        alloc,
-        "widths",
-        "LIST",
-        "1-8,16,32,64",
-        "The widths that types may have, as 1-8,16",
+    let made = new_command(alloc, "verify", "Decides each rule of a file");
+    let made = with_argument(made, rules_argument(alloc));
+    let made = with_argument(
+        made,
+        option_argument(
+            alloc,
+            "widths",
+            "LIST",
+            "1-8,16,32,64",
+            "The widths that types may have, as 1-8,16",
+        ),
     );
-    let logs = flag_argument(alloc, "logs", "Writes proofs in place of verdicts");
-    Command::new(alloc, "verify")
-        .about("Decides each rule of a file")
-        .arg(rules_argument(alloc))?
-        .arg(widths)?
-        .arg(conflicts_argument(alloc))?
-        .arg(logs)
+    let made = with_argument(made, conflicts_argument(alloc));
+    with_argument(
+        made,
+        flag_argument(alloc, "logs", "Writes proofs in place of verdicts"),
+    )
 }
 
 /// `optimise RULES MODULE [--conflicts N] [--steps N] [--logs LOGS]`.
 fn optimise<'a>(alloc: Global) -> Result<Command<'a>, AllocError>
     ensures { IfOk result (IsLeaf optimise_shape) }
 {
-    let steps = number_argument(
+    let made = new_command(
         alloc,
-        "steps",
-        MOST_STEPS,
-        "10000",
-        "The most rewrites of a function",
+        "optimise",
+        "Rewrites a module by the rules of a file",
     );
-    let logs = optional_argument(
-        alloc,
-        "logs",
-        "LOGS",
-        "The file of proofs that are asked before a search",
+    let made = with_argument(made, rules_argument(alloc));
+    let made = with_argument(made, module_argument(alloc));
+    let made = with_argument(made, conflicts_argument(alloc));
+    let made = with_argument(
+        made,
+        number_argument(
+            alloc,
+            "steps",
+            MOST_STEPS,
+            "10000",
+            "The most rewrites of a function",
+        ),
     );
-    Command::new(alloc, "optimise")
-        .about("Rewrites a module by the rules of a file")
-        .arg(rules_argument(alloc))?
-        .arg(module_argument(alloc))?
-        .arg(conflicts_argument(alloc))?
-        .arg(steps)?
-        .arg(logs)
+    with_argument(
+        made,
+        optional_argument(
+            alloc,
+            "logs",
+            "LOGS",
+            "The file of proofs that are asked before a search",
+        ),
+    )
 }
 
 /// `run [--blocks N] MODULE NAME [ARG..]`.
 fn run<'a>(alloc: Global) -> Result<Command<'a>, AllocError>
     ensures { IfOk result (IsLeaf run_shape) }
 {
-    let name = required_argument(
-        alloc,
-        "name",
-        "NAME",
-        "The name of the function, without its @",
+    let made = new_command(alloc, "run", "Runs a function of a module");
+    let made = with_argument(made, module_argument(alloc));
+    let made = with_argument(
+        made,
+        required_argument(
+            alloc,
+            "name",
+            "NAME",
+            "The name of the function, without its @",
+        ),
     );
-    let arguments = repeated_argument(alloc, "arguments", "ARG", "The function's arguments");
-    let blocks = number_argument(
-        alloc,
-        "blocks",
-        MOST_BLOCKS,
-        "1000000",
-        "The most blocks that are entered",
+    let made = with_argument(
+        made,
+        repeated_argument(alloc, "arguments", "ARG", "The function's arguments"),
     );
-    Command::new(alloc, "run")
-        .about("Runs a function of a module")
-        .arg(module_argument(alloc))?
-        .arg(name)?
-        .arg(arguments)?
-        .arg(blocks)
+    with_argument(
+        made,
+        number_argument(
+            alloc,
+            "blocks",
+            MOST_BLOCKS,
+            "1000000",
+            "The most blocks that are entered",
+        ),
+    )
 }
 
 /// `load NUMBER`.
 fn load<'a>(alloc: Global) -> Result<Command<'a>, AllocError>
     ensures { IfOk result (IsLeaf load_shape) }
 {
-    let number = required_number(
+    let made = new_command(
         alloc,
-        "number",
-        "NUMBER",
-        MOST_NUMBER,
-        "The number that the module is made of",
+        "load",
+        "Optimises a generated module by built-in rules",
     );
-    Command::new(alloc, "load")
-        .about("Optimises a generated module by built-in rules")
-        .arg(number)
+    with_argument(
+        made,
+        required_number(
+            alloc,
+            "number",
+            "NUMBER",
+            MOST_NUMBER,
+            "The number that the module is made of",
+        ),
+    )
 }
 
 /// `recheck RULES LOGS [--conflicts N]`.
 fn recheck<'a>(alloc: Global) -> Result<Command<'a>, AllocError>
     ensures { IfOk result (IsLeaf recheck_shape) }
 {
-    let logs = required_argument(alloc, "logs", "LOGS", "The file of proofs");
-    Command::new(alloc, "recheck")
-        .about("Decides what the proofs in a file are of, by their logs")
-        .arg(rules_argument(alloc))?
-        .arg(logs)?
-        .arg(conflicts_argument(alloc))
+    let made = new_command(
+        alloc,
+        "recheck",
+        "Decides what the proofs in a file are of, by their logs",
+    );
+    let made = with_argument(made, rules_argument(alloc));
+    let made = with_argument(
+        made,
+        required_argument(alloc, "logs", "LOGS", "The file of proofs"),
+    );
+    with_argument(made, conflicts_argument(alloc))
+}
+
+/// The program, without its commands.
+fn program_alone<'a>(alloc: Global) -> Result<Command<'a>, AllocError>
+    ensures { IfOk result (IsLeaf (record program.top { is_leaf = true })) }
+{
+    Ok(
+        Command::new(alloc, "alive")
+            .about("Verifies rewrite rules, optimises LLVM IR by them, and runs it")
+            .version("0.1.0")
+            .subcommand_required(true)
+            .disable_help_subcommand(true),
+    )
 }
 
 /// The program with its commands.
 pub(crate) fn definition<'a>(alloc: Global) -> Result<Command<'a>, AllocError>
     ensures { IfOk result (λ command. app_of command ≡ program) }
 {
-    let verify = verify(alloc)?;
-    let optimise = optimise(alloc)?;
-    let run = run(alloc)?;
-    let load = load(alloc)?;
-    let recheck = recheck(alloc)?;
-    let command = Command::new(alloc, "alive")
-        .about("Verifies rewrite rules, optimises LLVM IR by them, and runs it")
-        .version("0.1.0")
-        .subcommand_required(true)
-        .disable_help_subcommand(true);
-    command
-        .subcommand(verify)?
-        .subcommand(optimise)?
-        .subcommand(run)?
-        .subcommand(load)?
-        .subcommand(recheck)
+    let made = with_command(program_alone(alloc), verify(alloc));
+    let made = with_command(made, optimise(alloc));
+    let made = with_command(made, run(alloc));
+    let made = with_command(made, load(alloc));
+    with_command(made, recheck(alloc))
 }
