@@ -34,7 +34,7 @@ loop-place-preserved c = λ w p before.
     elim c.match-reader_at.branch [
       | in-Some+in_ok-push x ↦
           listed_more f (ReadsRoot f w) (one_place w f) (in_order w f) b l.place x.in-Some.moved l.places c.match-reader_at.places (x.places-is ∙ x.in_ok-push.ensures.ok) there
-          ((x.in-Some.ensures w x.in-Some.moved p).0 refl) (l.invariant w p before)
+          ((c.reader_at.ensures w x.in-Some.moved p).0 x.in-Some.is) (l.invariant w p before)
       | in_default x ↦
           subst (λ (places : List (ℕ × ℕ)). AreAscending (ListedTo f (ReadsRoot f w) b (l.place + 1)) places) (sym x.places-is)
           (listed_none f (ReadsRoot f w) b l.place l.places (λ n r. x.in_default.not-Some n ((c.reader_at.ensures w n p).1 r)) (l.invariant w p before))

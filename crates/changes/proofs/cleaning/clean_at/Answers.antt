@@ -4,6 +4,7 @@ use Rattle.ir_core.specs.declared.function.Function.{Function}
 use Rattle.needed.specs.Cleaned.{IsCleaned}
 use Rattle.needed.specs.KeptFunction.{kept_function}
 use Rattle.needed.proofs.Checking.{cleaned_meets}
+use Rattle.needed.proofs.SearchLemmas.{AllKnown}
 use Rattle.changes.specs.Changed.{AreChanges, Came, IsChanged}
 use Rattle.changes.specs.Calls.{kept_moves}
 use Rattle.changes.specs.Places.{AreAscending}
@@ -15,6 +16,18 @@ use Rattle.changes.proofs.cleaning.clean_at.Goals as goal
 -- a function that a copy was of was cleaned
 cleaned_from : (f copy new : Function) → copy ≡ f → IsCleaned copy new → IsCleaned f new
 cleaned_from f copy new same is = subst (λ (g : Function). IsCleaned g new) same is
+
+pub unneeded-requires-clause-registers : goal.unneeded-requires-clause-registers
+unneeded-requires-clause-registers c = c.requires.checks.formed.registers
+
+pub clean-requires-clause-blocks : goal.clean-requires-clause-blocks
+clean-requires-clause-blocks c = subst (λ (g : Function). length g.blocks < 2 ^ 32) (sym c.in_ok-new.ensures) c.requires.blocks
+
+pub clean-requires-clause-insts : goal.clean-requires-clause-insts
+clean-requires-clause-insts c = subst (λ (g : Function). AreFew g) (sym c.in_ok-new.ensures) c.requires.insts
+
+pub clean-requires-clause-registers : goal.clean-requires-clause-registers
+clean-requires-clause-registers c = subst (λ (g : Function). AllKnown g) (sym c.in_ok-new.ensures) c.requires.checks.formed.registers
 
 pub count_uses-requires-clause-blocks : goal.count_uses-requires-clause-blocks
 count_uses-requires-clause-blocks c =
