@@ -1,4 +1,5 @@
-//! Tests of rules and functions that are read: where the rules match, which functions come of it, and how often registers are used.
+//! Tests of rules and functions that are read: where the rules match, which functions come of it and what changed, and how often registers
+//! are used.
 #![tactic(auto)]
 
 #[cfg(test)]
@@ -7,5 +8,7 @@ mod applied;
 mod matches;
 #[cfg(test)]
 mod reading;
+#[cfg(test)]
+mod told;
 #[cfg(test)]
 mod uses;

@@ -1,0 +1,9 @@
+pub mod Answering
+pub mod Ascending
+pub mod InOrder
+pub mod Rewritten
+pub mod Put
+pub mod Cleaned
+pub mod Few
+pub mod Readers
+pub mod Applied

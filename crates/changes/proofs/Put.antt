@@ -1,0 +1,56 @@
+-- What stands for the root where a rule puts a new instruction for it.
+use Rattle.std.proofs.Common.{◌≡◌, ℕ, suc, ◌+◌, ◌-◌, ◌<◌, Bool, false, length, Option, Some, refl, sym, ap, ◌∙◌, arith}
+use Rattle.std.specs.Prelude.{slice_get}
+use Rattle.std.specs.Option.{option_map_or}
+use Rattle.std.proofs.lemmas.Option.{get_or_from_slice_get}
+use Rattle.ir_core.specs.Names.{Name}
+use Rattle.ir_core.specs.declared.operand.Operand.TheVariants as operands
+use Rattle.ir_core.specs.declared.operand.Register.TheVariants as registers
+use Rattle.ir_meaning.proofs.Pieces.{some_at}
+use Rattle.rule_core.specs.Checks.{IsRule}
+use Rattle.rule_core.specs.declared.rule.Rule.{Rule}
+use Rattle.rule_core.specs.declared.rule.Statement.{Statement}
+use Rattle.bindings.specs.declared.binding.Binding.{Binding}
+use Rattle.substitution.specs.declared.rewrite.Rewrite.{Rewrite}
+use Rattle.rewriter.specs.Put.{is_copy, insts_put, rewrite_of}
+use Rattle.rewriter.proofs.Putting.{results, put_before, result_at, result_put_at, result_is, count_more}
+use Rattle.rewriter.proofs.Placed.{put_length, all_aligned}
+use Rattle.changes.specs.Calls.{root_is_copy}
+
+module _ (rule : Rule) (binding : Binding) (checked : IsRule rule) (name : Name) where
+  abbrev w : Rewrite
+  w = rewrite_of rule binding name
+
+  put_count : length (insts_put rule binding name rule.target) ≡ put_before rule binding (length rule.target)
+  put_count =
+      let e : put_before rule binding 0 + length (insts_put rule binding name rule.target) ≡ put_before rule binding (0 + length rule.target) = put_length rule binding name rule.target 0 (all_aligned rule binding) in
+      let none : put_before rule binding 0 ≡ 0 = refl in
+      let same : 0 + length rule.target ≡ length rule.target = omega arith in
+      let whole : put_before rule binding (0 + length rule.target) ≡ put_before rule binding (length rule.target) = ap (put_before rule binding) same in
+      omega arith
+
+  last_target : (s : Statement) × (slice_get rule.target (length rule.target - 1) ≡ Some s)
+  last_target = let some : 0 < length rule.target = checked.target_root in some_at rule.target (length rule.target - 1) (omega arith)
+
+  module _ (stays : root_is_copy rule ≡ false) where
+    last_kept : is_copy last_target.0.op ≡ false
+    last_kept = ap (λ (o : Option Statement). option_map_or (λ (s : Statement). is_copy s.op) o false) (sym last_target.1) ∙ stays
+
+    put_last : length (insts_put rule binding name rule.target) ≡ suc (put_before rule binding (length rule.target - 1))
+    put_last =
+        let some : 0 < length rule.target = checked.target_root in
+        let same : length rule.target ≡ suc (length rule.target - 1) = omega arith in
+        let all : put_before rule binding (length rule.target) ≡ put_before rule binding (suc (length rule.target - 1)) = ap (put_before rule binding) same in
+        put_count ∙ all ∙ count_more rule binding (length rule.target - 1) last_target.0 last_target.1 last_kept
+
+    pub some_put : 0 < length w.put
+    some_put = let e = put_last in omega arith
+
+    pub last_result : w.result ≡ operands.Register (registers.Result w.block (w.place + length w.put - 1))
+    last_result =
+        let t : ℕ = length rule.target - 1 in
+        let e = put_last in
+        let place : binding.place + put_before rule binding (length rule.target - 1) ≡ binding.place + length (insts_put rule binding name rule.target) - 1 = omega arith in
+        get_or_from_slice_get (results rule binding) t (result_at rule binding t last_target.0.op) operands.Poison (result_is rule binding checked.target_reads t last_target.0 last_target.1)
+        ∙ result_put_at rule binding t last_target.0.op last_kept
+        ∙ ap (λ (n : ℕ). operands.Register (registers.Result binding.block n)) place

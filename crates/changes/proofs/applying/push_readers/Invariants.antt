@@ -1,0 +1,8 @@
+-- those of the first places are listed
+use Rattle.changes.specs.Listing.{IsPutFor, ListedTo, ReadsRoot}
+use Rattle.changes.specs.Places.{AreAscending}
+use Rattle.substitution.specs.declared.rewrite.Rewrite.{Rewrite}
+use Rattle.changes.proofs.applying.push_readers.Given as goal
+
+abbrev pub invariant-loop-place : goal.invariant-loop-place
+invariant-loop-place l = (w : Rewrite) → IsPutFor w l.put → AreAscending (ListedTo l.f (ReadsRoot l.f w) l.block 0) l.initial.places → AreAscending (ListedTo l.f (ReadsRoot l.f w) l.block l.place) l.places

@@ -1,0 +1,8 @@
+-- those of the first blocks are listed
+use Rattle.changes.specs.Listing.{IsPutFor, ListedTo, ReadsRoot}
+use Rattle.changes.specs.Places.{AreAscending}
+use Rattle.substitution.specs.declared.rewrite.Rewrite.{Rewrite}
+use Rattle.changes.proofs.applying.readers_of.Given as goal
+
+abbrev pub invariant-loop-block : goal.invariant-loop-block
+invariant-loop-block l = (w : Rewrite) → IsPutFor w l.put → AreAscending (ListedTo l.f (ReadsRoot l.f w) l.block 0) l.places

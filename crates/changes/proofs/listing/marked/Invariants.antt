@@ -1,0 +1,7 @@
+-- those of the first blocks are listed
+use Rattle.changes.specs.Listing.{IsIn, ListedTo}
+use Rattle.changes.specs.Places.{AreAscending}
+use Rattle.changes.proofs.listing.marked.Given as goal
+
+abbrev pub invariant-loop-block : goal.invariant-loop-block
+invariant-loop-block l = AreAscending (ListedTo l.f (IsIn l.marks) l.block 0) l.places

@@ -1,0 +1,7 @@
+-- those of the first places are listed
+use Rattle.changes.specs.Listing.{IsIn, ListedTo}
+use Rattle.changes.specs.Places.{AreAscending}
+use Rattle.changes.proofs.listing.push_marked.Given as goal
+
+abbrev pub invariant-loop-number : goal.invariant-loop-number
+invariant-loop-number l = AreAscending (ListedTo l.f (IsIn l.marks) l.block l.number) l.places

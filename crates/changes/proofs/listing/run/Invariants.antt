@@ -1,0 +1,7 @@
+-- the first of them are listed
+use Rattle.std.proofs.Common.{◌≡◌, ◌+◌, ◌<◌, ◌≤◌}
+use Rattle.changes.specs.Places.{AreAscending}
+use Rattle.changes.proofs.listing.run.Given as goal
+
+abbrev pub invariant-loop-index : goal.invariant-loop-index
+invariant-loop-index l = AreAscending (λ b k. (b ≡ l.block) × (l.first ≤ k) × (k < l.first + l.index)) l.places

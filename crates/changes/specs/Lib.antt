@@ -1,0 +1,9 @@
+pub use Rattle.ir_core.specs.Checks
+pub use Rattle.bindings.specs.Match
+pub use Rattle.rewriter.specs.Applied
+pub use Rattle.needed.specs.Cleaned
+pub use Rattle.use_counts.specs.Tables
+pub mod Places
+pub mod Changed
+pub mod Calls
+pub mod Listing
