@@ -3,12 +3,14 @@
 ghost use Rattle.std.specs.Prelude.{◌<◌, ◌-◌, ◌^◌, length, All, IsTrue, IfOk, IfSome};
 ghost use Rattle.ir_core.specs.Blocks.{HasInst};
 ghost use Rattle.ir_core.specs.Checks.{MeetsChecks, ModuleMeetsChecks};
+ghost use Rattle.ir_text.specs.Forms.{FunctionHasForms, ModuleHasForms};
 ghost use Rattle.bindings.specs.Match.{IsMatch};
 ghost use Rattle.test_rewriting.specs.Ready.{FunctionIsReady, RuleIsReady};
 
 use bindings::Binding;
 use ir_core::{Entry, Function, Module};
 use ir_reader::read_module;
+use ir_round_trip::module_texts_have_forms;
 use matcher::match_at;
 use rule_core::Rule;
 use rule_reader::read_rules;
@@ -45,9 +47,12 @@ pub(crate) const TZ_READ: &str =
 
 /// The module of a text.
 pub(crate) fn module_of(alloc: Global, text: &str) -> Result<Module, Fail>
-    ensures { IfOk result ModuleMeetsChecks }
+    ensures checks { IfOk result ModuleMeetsChecks }
+    ensures forms { IfOk result ModuleHasForms }
 {
-    match read_module(alloc, text.as_bytes()) {
+    module_texts_have_forms();
+    let bytes = text.as_bytes();
+    match read_module(alloc, bytes) {
         Ok(module) => Ok(module),
         Err(_) => Err(format!(in alloc; "no module: {text}")?)?,
     }
@@ -67,7 +72,8 @@ pub(crate) fn function_of(alloc: Global, text: &str) -> Result<Function, Fail>
 
 /// The function, if it has fewer than 2^32 blocks, and each block fewer than 2^32 - 32 instructions.
 fn small(f: Function) -> Result<Function, Fail>
-    requires { MeetsChecks f }
+    requires checks { MeetsChecks f }
+    requires forms { FunctionHasForms f }
     ensures { IfOk result FunctionIsReady }
 {
     if has_few(&f) { Ok(f) } else { Err("too many")? }

@@ -1,0 +1,11 @@
+use Rattle.test_rewriting.proofs.Readiness.{insts_are_few, is_match_there, places_are_few}
+use Rattle.test_rewriting.proofs.told.apply_there.Goals as goal
+
+pub apply_at-requires-clause-insts : goal.apply_at-requires-clause-insts
+apply_at-requires-clause-insts c = insts_are_few c.args.f.now c.requires.function
+
+pub apply_at-requires-clause-places : goal.apply_at-requires-clause-places
+apply_at-requires-clause-places c = places_are_few c.args.f.now c.in-Some.binding.block c.requires.function
+
+pub apply_at-requires-clause-matches : goal.apply_at-requires-clause-matches
+apply_at-requires-clause-matches c = is_match_there c.args.f.now c.args.block c.args.place c.args.rule.now c.in-Some.binding (rw c.in-Some.is at c.in_ok-binding.ensures)
