@@ -2,7 +2,7 @@
 use Rattle.std.specs.Prelude.{◌-◌, ◌<◌, ◌^◌, length, All}
 use Rattle.ir_core.specs.Checks.{MeetsChecks}
 use Rattle.ir_core.specs.declared.function.Function.{Function}
-use Rattle.run_history.specs.Laws.{NumbersFit}
+use Rattle.ir_text.specs.Forms.{FunctionHasForms}
 use Rattle.rule_core.specs.Checks.{IsRule}
 use Rattle.rule_core.specs.declared.rule.Rule.{Rule}
 use Rattle.rule_typing.specs.Classes.{IsClassified}
@@ -11,7 +11,7 @@ use Rattle.rule_typing.specs.Faults.{HasNoFault}
 -- a function that is read, and no larger than what is counted in 32 bits
 pub record FunctionIsReady (f : Function) : Type 0 where
   pub checks : MeetsChecks f
-  pub numbers : NumbersFit f
+  pub forms : FunctionHasForms f
   pub blocks : length f.blocks < 2 ^ 32
   pub insts : All (λ b. length b.insts < 2 ^ 32 - 32) f.blocks
 

@@ -9,7 +9,7 @@ ghost use Rattle.test_rewriting.specs.Ready.{FunctionIsReady, RuleIsReady};
 
 use bindings::Binding;
 use ir_core::{Entry, Function, Module};
-use ir_reader::read_module;
+use ir_reader::{IrError, read_module};
 use ir_round_trip::module_texts_have_forms;
 use matcher::match_at;
 use rule_core::Rule;
@@ -50,12 +50,20 @@ pub(crate) fn module_of(alloc: Global, text: &str) -> Result<Module, Fail>
     ensures checks { IfOk result ModuleMeetsChecks }
     ensures forms { IfOk result ModuleHasForms }
 {
-    module_texts_have_forms();
-    let bytes = text.as_bytes();
-    match read_module(alloc, bytes) {
+    match read_formed(alloc, text.as_bytes()) {
         Ok(module) => Ok(module),
         Err(_) => Err(format!(in alloc; "no module: {text}")?)?,
     }
+}
+
+/// Reads a module, whose parts have the forms that a text gives them.
+fn read_formed(alloc: Global, bytes: &[u8]) -> Result<Module, IrError>
+    ensures checks { IfOk result ModuleMeetsChecks }
+    ensures forms { IfOk result ModuleHasForms }
+{
+    module_texts_have_forms();
+    let module = read_module(alloc, bytes)?;
+    Ok(module)
 }
 
 /// The function that a text ends with.

@@ -1,5 +1,8 @@
-use Rattle.test_rewriting.proofs.Readiness.{insts_are_few, is_match_there, places_are_few}
+use Rattle.test_rewriting.proofs.Readiness.{insts_are_few, is_match_there, numbers_fit, places_are_few}
 use Rattle.test_rewriting.proofs.told.apply_there.Goals as goal
+
+pub apply_at-requires-clause-numbers : goal.apply_at-requires-clause-numbers
+apply_at-requires-clause-numbers c = numbers_fit c.args.f.now c.requires.function.forms
 
 pub apply_at-requires-clause-insts : goal.apply_at-requires-clause-insts
 apply_at-requires-clause-insts c = insts_are_few c.args.f.now c.requires.function
