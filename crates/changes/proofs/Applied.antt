@@ -1,5 +1,5 @@
 -- A function to which a rule is applied meets the checks, and has few instructions in each block.
-use Rattle.std.proofs.Common.{◌≡◌, ℕ, ◌+◌, ◌-◌, ◌<◌, ◌≤◌, ◌^◌, Bool, true, false, length, sym, ap, subst, arith}
+use Rattle.std.proofs.Common.{◌≡◌, ℕ, ◌+◌, ◌-◌, ◌<◌, ◌≤◌, ◌^◌, Bool, true, false, length, sym, subst, arith}
 use Rattle.std.proofs.lemmas.Option.{slice_get_within}
 use Rattle.ir_core.specs.Blocks.{IsBlock}
 use Rattle.ir_core.specs.Checks.{IsInst, MeetsChecks}
@@ -8,7 +8,7 @@ use Rattle.ir_core.specs.declared.function.Function.{Function}
 use Rattle.ir_core.specs.declared.instruction.Inst.{Inst}
 use Rattle.ir_core.specs.declared.operand.Operand.TheVariants as operands
 use Rattle.ir_core.specs.declared.operand.Register.TheVariants as registers
-use Rattle.run_history.specs.Laws.{NumbersFit}
+use Rattle.ir_meaning.specs.HistoryLaws.{NumbersFit}
 use Rattle.rule_core.specs.Checks.{IsRule}
 use Rattle.rule_core.specs.declared.rule.Rule.{Rule}
 use Rattle.bindings.specs.Match.{IsMatch}

@@ -15,7 +15,7 @@ use Rattle.ir_core.specs.declared.operand.Operand.TheVariants as operands
 use Rattle.ir_core.specs.declared.operand.Register.{Register}
 use Rattle.ir_core.specs.declared.operand.Register.TheVariants as registers
 use Rattle.needed.specs.Cleaned.{KeepsNeeded}
-use Rattle.needed.specs.KeptFunction.{KeptMarks, kept_before, moved_register, moved_operand, moved_op, moved_inst, kept_insts, kept_block, kept_function}
+use Rattle.needed.specs.KeptFunction.{KeptMarks, kept_before, moved_register, moved_operand, moved_op, moved_inst, kept_block, kept_function}
 use Rattle.needed.specs.Needed.{IsNeeded, by_inst, ReadsRegister}
 use Rattle.needed.specs.Operands.{operands_of}
 use Rattle.needed.proofs.Counting.{kept_at, IsKept, kept_back, block_at, block_back}

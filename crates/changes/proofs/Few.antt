@@ -1,6 +1,5 @@
 -- Functions that are rewritten or cleaned have as many blocks as before, and few instructions in each.
-use Rattle.std.proofs.Common.{◌≡◌, ◌≢◌, ℕ, suc, ◌+◌, ◌-◌, ◌<◌, ◌≤◌, ◌^◌, inl, inr, List, [], ◌∷◌, length, get_or, Some, sym, ap, subst, ◌∙◌, arith, All}
-use Rattle.std.specs.Prelude.{slice_get}
+use Rattle.std.proofs.Common.{◌≡◌, ℕ, suc, ◌+◌, ◌-◌, ◌<◌, ◌≤◌, ◌^◌, inl, inr, List, [], ◌∷◌, length, get_or, sym, ap, subst, ◌∙◌, arith, All}
 use Rattle.std.proofs.lemmas.Bool.{cases_eq}
 use Rattle.std.proofs.lemmas.Option.{slice_get-get_or, get_or_from_slice_get, slice_get_within, same_Some}
 use Rattle.std.proofs.lemmas.List.Elements.{All-get_or}
@@ -15,7 +14,7 @@ use Rattle.needed.proofs.Counting as kept_function_of
 use Rattle.needed.proofs.Reading.{end_of-is}
 use Rattle.substitution.specs.Rewritten.{moved_place, rewritten_insts, rewritten_block, rewritten_blocks, rewritten_function}
 use Rattle.substitution.specs.declared.rewrite.Rewrite.{Rewrite}
-use Rattle.substitution.proofs.Placing.{IsMoved, is_moved, length-block, block_at, block_back}
+use Rattle.substitution.proofs.Placing.{is_moved, length-block, block_at, block_back}
 
 abbrev pub AreFew : Function → Type 0
 AreFew f = All (λ (b : Block). length b.insts < 2 ^ 32) f.blocks

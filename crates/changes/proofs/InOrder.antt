@@ -1,5 +1,5 @@
 -- Places of a function that are listed block after block.
-use Rattle.std.proofs.Common.{◌≡◌, ◌⊎◌, ◌↔◌, inl, inr, ℕ, ◌+◌, ◌<◌, ◌≤◌, List, [], ◌∷◌, ◌++◌, length, get_or, take, Option, None, Some, refl, sym, ap, subst, ◌∙◌, arith}
+use Rattle.std.proofs.Common.{◌≡◌, ◌↔◌, inl, inr, ℕ, ◌+◌, ◌<◌, ◌≤◌, List, [], ◌∷◌, ◌++◌, length, get_or, take, Option, None, Some, refl, sym, ap, subst, ◌∙◌, arith}
 use Rattle.std.specs.Prelude.{slice_get, option_map, unwrap_or, Contains}
 use Rattle.std.proofs.lemmas.Bool.{cases_eq}
 use Rattle.std.proofs.lemmas.List.{take_more}
@@ -12,7 +12,7 @@ use Rattle.ir_core.specs.declared.function.Function.{Function}
 use Rattle.needed.proofs.Reading.{end_of-is}
 use Rattle.places.specs.Sets.{Rows, Has, IsAdded}
 use Rattle.changes.specs.Listing.{IsPast, ListedTo, Listed, IsIn}
-use Rattle.changes.specs.Places.{StandsBefore, AreAscending}
+use Rattle.changes.specs.Places.{AreAscending}
 use Rattle.changes.proofs.Ascending.{none_listed, same_listed, one_more}
 
 -- an instruction stands before the end of its block

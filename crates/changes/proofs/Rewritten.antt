@@ -11,7 +11,7 @@ use Rattle.ir_core.specs.declared.operand.Operand.TheVariants as operands
 use Rattle.ir_core.specs.declared.operand.Register.{Register}
 use Rattle.ir_core.specs.declared.operand.Register.TheVariants as registers
 use Rattle.ir_meaning.proofs.Pieces.{some_at}
-use Rattle.run_history.proofs.Equations.{one_inst}
+use Rattle.ir_meaning.proofs.Equations.{one_inst}
 use Rattle.needed.specs.Operands.{operands_of}
 use Rattle.needed.proofs.Counting.{contained_at, contains_at, contains_first, contains_later}
 use Rattle.readers.proofs.Naming.{is_same_register}

@@ -1,5 +1,5 @@
 -- Where instructions are in a function to which a rule is applied, and in one that is cleaned, and what changed there.
-use Rattle.std.specs.Prelude.{◌≡◌, ℕ, ◌+◌, ◌-◌, if◌then◌else◌, Bool, false, length, None, Some, slice_get}
+use Rattle.std.specs.Prelude.{◌≡◌, ◌+◌, ◌-◌, if◌then◌else◌, Bool, false, length, None, Some, slice_get}
 use Rattle.std.specs.Option.{option_map_or}
 use Rattle.ir_core.specs.Checks.{IsInst}
 use Rattle.ir_core.specs.declared.function.Function.{Function}

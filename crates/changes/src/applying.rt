@@ -8,7 +8,7 @@ ghost use Rattle.ir_core.specs.declared.function.Function.{Function};
 ghost use Rattle.ir_core.specs.declared.instruction.Inst.{Inst};
 ghost use Rattle.ir_core.specs.declared.operand.Operand.TheVariants as operands;
 ghost use Rattle.ir_core.specs.declared.operand.Register.TheVariants as registers;
-ghost use Rattle.run_history.specs.Laws.{NumbersFit};
+ghost use Rattle.ir_meaning.specs.HistoryLaws.{NumbersFit};
 ghost use Rattle.rule_core.specs.Checks.{IsRule};
 ghost use Rattle.bindings.specs.Match.{IsMatch};
 ghost use Rattle.substitution.specs.Rewritten.{rewritten_function};

@@ -1,6 +1,6 @@
 //! Lists of places, ascending.
 
-ghost use Rattle.std.specs.Prelude.{◌≡◌, ◌+◌, ◌<◌, ◌≤◌, ◌^◌, ◌∷◌, ◌↔◌, [], ℕ, length, All, Contains, IfOk, OnOk};
+ghost use Rattle.std.specs.Prelude.{◌≡◌, ◌+◌, ◌<◌, ◌≤◌, ◌^◌, ◌↔◌, ℕ, length, All, Contains, IfOk, OnOk};
 ghost use Rattle.places.specs.Sets.{Has};
 ghost use Rattle.changes.specs.Listing.{IsIn, Listed, ListedTo};
 ghost use Rattle.changes.specs.Places.{AreAscending};

@@ -1,6 +1,5 @@
 -- What leads to a terminator is needed.
-use Rattle.std.proofs.Common.{◌≡◌, ℕ, ◌<◌, ◌⊎◌, inl, inr, length, refl}
-use Rattle.ir_core.specs.Blocks.{HasInst}
+use Rattle.std.proofs.Common.{◌≡◌, ℕ, inl, inr, refl}
 use Rattle.ir_core.specs.Checks.{IsKnown}
 use Rattle.ir_core.specs.declared.function.Function.{Function}
 use Rattle.ir_core.specs.declared.operand.Operand.TheVariants as operands

@@ -8,7 +8,7 @@ ghost use Rattle.rule_typing.specs.Faults.{HasNoFault};
 ghost use Rattle.bindings.specs.Match.{IsMatch};
 ghost use Rattle.rewriter.specs.Applied.{IsRewritten};
 ghost use Rattle.needed.specs.Cleaned.{IsCleaned};
-ghost use Rattle.run_history.specs.Laws.{NumbersFit};
+ghost use Rattle.ir_meaning.specs.HistoryLaws.{NumbersFit};
 ghost use Rattle.use_counts.specs.Uses.{IsUseCount};
 ghost use Rattle.draft_steps.specs.Cleaning.{HaveInsts, IsClean};
 ghost use Rattle.draft.specs.Drafts.{AreTouched, HasRoomFor, arena_of, function_of, orders_of, placed_binding};

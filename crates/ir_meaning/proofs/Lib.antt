@@ -6,3 +6,11 @@ pub mod Totality
 pub mod Outcomes
 pub mod Tables
 pub mod Following
+pub mod Assignments
+pub mod PathLemmas
+pub mod Steps
+pub mod Holding
+pub mod Equations
+pub mod HistoryOutcomes
+pub mod Widths
+pub mod Orders

@@ -5,3 +5,8 @@ pub mod Laws
 pub mod Table
 pub mod Step
 pub mod Taken
+pub mod Paths
+pub mod Histories
+pub mod Assignments
+pub mod HistoryLaws
+pub mod Orders

@@ -2,9 +2,15 @@
 //!
 //! What a run may do stands in `specs/Run` of `ir_core`, and the laws in `specs/Laws`. `specs/Table`, `specs/Step` and
 //! `specs/Taken` say what the code keeps while it runs.
+//!
+//! What a run has come through is told beside that: `specs/Paths` says which ways there are through a function instruction by
+//! instruction, and `specs/Histories` which moments a run has come through and what is held at each. The laws of it stand in
+//! `specs/Assignments` (in which order results are assigned), `specs/HistoryLaws` (what registers hold) and `specs/Orders`
+//! (refinement is an order).
 #![tactic(auto)]
 
 mod block;
+mod histories;
 mod instruction;
 mod laws;
 mod noundef;
@@ -14,6 +20,10 @@ mod run;
 mod table;
 mod terminator;
 
+pub use histories::{
+    assigned_registers_keep_their_order, equations_hold_where_assigned, outcomes_have_histories,
+    refinement_is_an_order, registers_hold_their_widths, registers_hold_what_they_did,
+};
 pub use laws::{
     every_function_has_outcomes, every_zero_outcome_is_an_outcome, instructions_are_monotone,
 };

@@ -8,7 +8,7 @@ use Rattle.ir_core.specs.Reads.{Read, reads_of}
 use Rattle.ir_core.specs.declared.function.Function.{Function}
 use Rattle.ir_core.specs.declared.instruction.Inst.{Inst}
 use Rattle.ir_core.specs.declared.operand.Register.TheVariants as registers
-use Rattle.run_history.specs.Assignments.{NotBothAreAssigned}
+use Rattle.ir_meaning.specs.Assignments.{NotBothAreAssigned}
 use Rattle.needed.proofs.Reading.{own_place}
 use Rattle.bindings.proofs.Reading.{has_inst_at, reads_at_inst}
 use Rattle.moved_matches.specs.Laws.{ReadsStandBefore}

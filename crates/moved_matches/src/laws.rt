@@ -2,7 +2,7 @@
 
 ghost use Rattle.moved_matches.specs.Laws.{InAnyOrder, InOrder, MatchesAwayFromRootsStay, MatchesOfKeptStay, MatchesStay, ReadsStandBefore, TemporariesStandBefore};
 
-use run_history::assigned_registers_keep_their_order;
+use ir_meaning::assigned_registers_keep_their_order;
 
 /// A rule that matches in a function matches in another one where what the match stands on does, with the binding that says where it
 /// stands there.

@@ -6,7 +6,7 @@ use Rattle.ir_core.specs.declared.function.Function.{Function}
 use Rattle.ir_core.specs.declared.module.Entry.{Entry}
 use Rattle.ir_core.specs.declared.module.Entry.TheVariants as entries
 use Rattle.ir_core.specs.declared.module.Module.{Module}
-use Rattle.run_history.specs.Laws.{NumbersFit}
+use Rattle.ir_meaning.specs.HistoryLaws.{NumbersFit}
 use Rattle.ir_text.specs.Forms.{OperandFits, FunctionHasForms, EntryHasForms, ModuleHasForms}
 use Rattle.optimised_forms.specs.Laws.{FormedModulesNumbersFit}
 

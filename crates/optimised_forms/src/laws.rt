@@ -2,10 +2,10 @@
 
 ghost use Rattle.optimised_forms.specs.Laws.{FormedModulesNumbersFit, ModuleTextsAreCountable, OptimisedModulesHaveForms, RewrittenFunctionsHaveForms};
 
+use ir_meaning::refinement_is_an_order;
 use ir_round_trip::{cleaning_keeps_forms, module_texts_are_small};
 use needed::{every_cleaned_function_refines_the_old, every_cleaned_number_was_there};
 use rewriter::{rewritten_functions_meet_checks, rewritten_functions_refine};
-use run_history::refinement_is_an_order;
 
 /// A function to which a rule is applied where it matches has the forms that the old one has.
 pub fn rewritten_functions_have_forms()

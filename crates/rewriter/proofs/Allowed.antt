@@ -43,11 +43,11 @@ use Rattle.rule_core.proofs.Once.{follows_once}
 use Rattle.rule_core.proofs.Outcomes.{temporaries_fit}
 use Rattle.rule_core.proofs.Unchosen.{temporaries_same}
 use Rattle.rule_core.proofs.Witnesses.{choices_fit}
-use Rattle.run_history.specs.Laws.{EquationHolds}
-use Rattle.run_history.proofs.Assignments.{not_both_assigned}
-use Rattle.run_history.proofs.Equations.{one_inst}
-use Rattle.run_history.proofs.Steps.{has_inst}
-use Rattle.run_history.specs.Laws.{NumbersFit}
+use Rattle.ir_meaning.specs.HistoryLaws.{EquationHolds}
+use Rattle.ir_meaning.proofs.Assignments.{not_both_assigned}
+use Rattle.ir_meaning.proofs.Equations.{one_inst}
+use Rattle.ir_meaning.proofs.Steps.{has_inst}
+use Rattle.ir_meaning.specs.HistoryLaws.{NumbersFit}
 use Rattle.substitution.specs.Laws.{PutIsAllowed}
 use Rattle.substitution.specs.Allows.{AllowsPut}
 use Rattle.substitution.specs.Held.{MayHold}

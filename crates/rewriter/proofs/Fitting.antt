@@ -41,8 +41,8 @@ use Rattle.rule_core.specs.declared.rule.Term.{Term}
 use Rattle.rule_core.proofs.Fits.{residue_lt}
 use Rattle.rule_core.proofs.Members.{Contains-from_get, Contains-flat_map, target_statement, target_operand, source_operand, class_stands, operand_class_stands}
 use Rattle.rule_core.proofs.Ready.{constant_values_fit, class_width as width_of_class}
-use Rattle.run_history.proofs.Equations.{one_inst}
-use Rattle.run_history.specs.Laws.{NumbersFit}
+use Rattle.ir_meaning.proofs.Equations.{one_inst}
+use Rattle.ir_meaning.specs.HistoryLaws.{NumbersFit}
 use Rattle.substitution.specs.Fits.{Fits, IsOfItsWidth, IsOld, MayBeRead}
 use Rattle.substitution.specs.declared.rewrite.Rewrite.{Rewrite}
 use Rattle.substitution.proofs.Pieces.{mapped}

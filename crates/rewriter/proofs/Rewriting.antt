@@ -3,7 +3,7 @@ use Rattle.std.proofs.Common.{sym, subst}
 use Rattle.ir_core.specs.Checks.{MeetsChecks}
 use Rattle.ir_core.specs.Refines.{Refines}
 use Rattle.ir_core.specs.declared.function.Function.{Function}
-use Rattle.run_history.specs.Laws.{NumbersFit}
+use Rattle.ir_meaning.specs.HistoryLaws.{NumbersFit}
 use Rattle.substitution.specs.Fits.{Fits}
 use Rattle.substitution.specs.declared.rewrite.Rewrite.{Rewrite}
 use Rattle.substitution.proofs.Checking.{meets_checks, numbers_fit}

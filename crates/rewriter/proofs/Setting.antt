@@ -33,7 +33,7 @@ use Rattle.rule_core.specs.declared.rule.Statement.{Statement}
 use Rattle.rule_core.specs.declared.rule.Term.{Term}
 use Rattle.rule_core.proofs.Members.{Contains-from_get, flat_map-from, source_operand, target_operand}
 use Rattle.rule_core.proofs.Ready.{constant_values_fit}
-use Rattle.run_history.specs.Laws.{NumbersFit}
+use Rattle.ir_meaning.specs.HistoryLaws.{NumbersFit}
 use Rattle.substitution.specs.Fits.{IsOfItsWidth}
 use Rattle.substitution.proofs.Arriving.{inst_reads}
 use Rattle.bindings.specs.Match.{IsMatch}

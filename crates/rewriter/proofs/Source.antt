@@ -35,7 +35,7 @@ use Rattle.rule_core.specs.declared.rule.Rule.{Rule}
 use Rattle.rule_core.specs.declared.rule.Statement.{Statement}
 use Rattle.rule_core.proofs.Members.{Contains-from_get, source_operand, Contains-flat_map}
 use Rattle.rule_core.proofs.Givens.{get_taken}
-use Rattle.run_history.specs.Laws.{EquationHolds}
+use Rattle.ir_meaning.specs.HistoryLaws.{EquationHolds}
 use Rattle.substitution.specs.Substitution.{value_of}
 use Rattle.substitution.proofs.Pieces.{get_left, get_right}
 use Rattle.substitution.proofs.Arriving.{inst_reads}

@@ -39,7 +39,7 @@ use Rattle.rule_core.proofs.Members.{Contains-from_get, Contains-flat_map, flat_
 use Rattle.rule_core.proofs.Ready.{class_width as width_of_class}
 use Rattle.substitution.specs.Rewritten.{RunsOn, RunsThrough}
 use Rattle.substitution.proofs.Pieces.{get_left, get_right, get_cases}
-use Rattle.run_history.proofs.Steps.{held_here, held_elsewhere}
+use Rattle.ir_meaning.proofs.Steps.{held_here, held_elsewhere}
 use Rattle.bindings.specs.Statements.{IsTemporary, TargetReadsTemporary}
 use Rattle.bindings.specs.declared.binding.Binding.{Binding}
 use Rattle.rewriter.specs.Put.{literal_of, is_copy, argument_put, class_width, operand_put, insts_with, insts_put}

@@ -7,7 +7,7 @@ use Rattle.rule_core.specs.Checks.{IsRule}
 use Rattle.rule_core.specs.Valid.{IsValid}
 use Rattle.rule_core.specs.declared.rule.Rule.{Rule}
 use Rattle.rule_typing.specs.Faults.{HasNoFault}
-use Rattle.run_history.specs.Laws.{NumbersFit}
+use Rattle.ir_meaning.specs.HistoryLaws.{NumbersFit}
 use Rattle.bindings.specs.Match.{IsMatch}
 use Rattle.bindings.specs.declared.binding.Binding.{Binding}
 use Rattle.rewriter.specs.Applied.{IsRewritten}

@@ -9,8 +9,8 @@ use Rattle.ir_core.specs.Checks.{MeetsChecks, ModuleMeetsChecks}
 use Rattle.ir_core.specs.Refines.{Refines, EntriesRefine}
 use Rattle.rule_core.specs.declared.rule.Rule.{Rule}
 use Rattle.rule_core.specs.Valid.{IsValid}
-use Rattle.run_history.specs.Laws.{NumbersFit}
-use Rattle.run_history.specs.Orders.{RefinementIsTransitive, RefinementIsReflexive}
+use Rattle.ir_meaning.specs.HistoryLaws.{NumbersFit}
+use Rattle.ir_meaning.specs.Orders.{RefinementIsTransitive, RefinementIsReflexive}
 use Rattle.needed.specs.Cleaned.{IsCleaned}
 use Rattle.needed.specs.Laws.{CleanedFunctionsRefine, CleanedFunctionsMeetChecks, CleanedNumbersWereThere}
 use Rattle.verdict.specs.declared.verdict.Row.{Row}

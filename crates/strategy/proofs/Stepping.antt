@@ -4,7 +4,7 @@ use Rattle.std.specs.Prelude.{All, Any, MatchBool}
 use Rattle.ir_core.specs.declared.function.Function.{Function}
 use Rattle.ir_core.specs.Checks.{MeetsChecks}
 use Rattle.rule_core.specs.declared.rule.Rule.{Rule}
-use Rattle.run_history.specs.Laws.{NumbersFit}
+use Rattle.ir_meaning.specs.HistoryLaws.{NumbersFit}
 use Rattle.needed.specs.Cleaned.{IsCleaned}
 use Rattle.rewriter.specs.Applied.{IsRewritten}
 use Rattle.verdict.specs.declared.verdict.Row.{Row}

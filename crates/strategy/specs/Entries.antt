@@ -4,7 +4,7 @@ use Rattle.ir_core.specs.declared.module.Entry.{Entry}
 use Rattle.ir_core.specs.declared.module.Entry.TheVariants as entries
 use Rattle.ir_core.specs.Checks.{MeetsChecks}
 use Rattle.rule_core.specs.declared.rule.Rule.{Rule}
-use Rattle.run_history.specs.Laws.{NumbersFit}
+use Rattle.ir_meaning.specs.HistoryLaws.{NumbersFit}
 use Rattle.strategy.specs.declared.module.Counts.{Counts}
 use Rattle.asked_verdicts.specs.declared.verdicts.Verdicts.{Verdicts}
 use Rattle.asked_verdicts.specs.Asked.{Pair}

@@ -8,7 +8,7 @@ use Rattle.ir_core.specs.Refines.{ModuleRefines}
 use Rattle.rule_core.specs.declared.rule.Rule.{Rule}
 use Rattle.rule_core.specs.Valid.{IsValid}
 use Rattle.rule_matches.specs.Ready.{AreReady}
-use Rattle.run_history.specs.Laws.{NumbersFit}
+use Rattle.ir_meaning.specs.HistoryLaws.{NumbersFit}
 use Rattle.needed.specs.Cleaned.{IsCleaned}
 use Rattle.verdict.specs.declared.verdict.Row.{Row}
 use Rattle.verdict.specs.declared.verdict.Verdict.TheVariants.{Admitted}

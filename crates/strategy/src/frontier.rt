@@ -3,7 +3,7 @@
 ghost use Rattle.std.specs.Prelude.{◌≡◌, ◌<◌, ◌≤◌, ◌^◌, ℕ, suc, List as Seq, length, All, Contains, IfOk, OnOk};
 ghost use Rattle.ir_core.specs.Blocks.{HasInst};
 ghost use Rattle.ir_core.specs.Checks.{MeetsChecks};
-ghost use Rattle.run_history.specs.Laws.{NumbersFit};
+ghost use Rattle.ir_meaning.specs.HistoryLaws.{NumbersFit};
 ghost use Rattle.verdict.specs.Limits.{most_conflicts};
 ghost use Rattle.verdict.specs.declared.verdict.Row.{Row as VerdictRow};
 ghost use Rattle.rule_matches.specs.Matches.{IsMatchAmong};

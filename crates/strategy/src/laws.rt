@@ -2,9 +2,9 @@
 
 ghost use Rattle.strategy.specs.Laws.{StrategyDecides, StrategyMeetsChecks, StrategyNumbersFit, StrategyRefines};
 
+use ir_meaning::refinement_is_an_order;
 use needed::{every_cleaned_function_refines_the_old, every_cleaned_number_was_there};
 use rewriter::{rewritten_functions_meet_checks, rewritten_functions_refine};
-use run_history::refinement_is_an_order;
 
 /// What the strategy gives for a module may stand in its place, where only valid rules are admitted, however many the steps are. Valid or
 /// not, it meets the checks of a module, and its numbers are of their widths.

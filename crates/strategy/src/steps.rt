@@ -2,7 +2,7 @@
 
 ghost use Rattle.std.specs.Prelude.{OnOk};
 ghost use Rattle.ir_core.specs.Checks.{MeetsChecks};
-ghost use Rattle.run_history.specs.Laws.{NumbersFit};
+ghost use Rattle.ir_meaning.specs.HistoryLaws.{NumbersFit};
 ghost use Rattle.needed.specs.Cleaned.{IsCleaned};
 ghost use Rattle.strategy.specs.Countable.{IsCountable};
 

@@ -15,8 +15,8 @@ use Rattle.ir_core.specs.declared.instruction.Op.{Op}
 use Rattle.ir_core.specs.declared.instruction.Op.TheVariants.{Binary, Compare, Unary, Select, Convert, Freeze, Phi}
 use Rattle.ir_core.specs.declared.operand.Operand.{Operand}
 use Rattle.ir_core.specs.declared.terminator.Terminator.{Terminator}
-use Rattle.run_history.specs.Histories.{Moment, InstGives, IsHistory}
-use Rattle.run_history.proofs.Steps.{end_among}
+use Rattle.ir_meaning.specs.Histories.{Moment, InstGives, IsHistory}
+use Rattle.ir_meaning.proofs.Steps.{end_among}
 use Rattle.substitution.specs.Held.{ComesTo}
 
 -- the block that was passed last, if one was

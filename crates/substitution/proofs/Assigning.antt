@@ -19,7 +19,7 @@ use Rattle.ir_core.specs.declared.terminator.Terminator.{Terminator}
 use Rattle.ir_core.specs.declared.terminator.Terminator.TheVariants as terminators
 use Rattle.ir_meaning.proofs.Pieces.{not_in_empty, cases_in}
 use Rattle.std.proofs.lemmas.Option.{same_Some}
-use Rattle.run_history.proofs.PathLemmas.{end_of-is}
+use Rattle.ir_meaning.proofs.PathLemmas.{end_of-is}
 use Rattle.substitution.proofs.Arriving.{same_or_other}
 
 -- what is assigned behind an instruction is its register, or was assigned before it

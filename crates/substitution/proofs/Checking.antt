@@ -20,7 +20,7 @@ use Rattle.ir_core.specs.declared.terminator.Terminator.{Terminator}
 use Rattle.ir_core.specs.declared.terminator.Terminator.TheVariants as terminators
 use Rattle.substitution.specs.Substitution.{substituted_operand, substituted_entries, substituted_op, substituted_end}
 use Rattle.substitution.specs.Rewritten.{Rewrite, moved_place, stands_for, rewritten_insts, rewritten_block, rewritten_blocks, rewritten_function}
-use Rattle.run_history.specs.Laws.{NumbersFit}
+use Rattle.ir_meaning.specs.HistoryLaws.{NumbersFit}
 use Rattle.substitution.specs.Fits.{Fits, IsOfItsWidth, MayBeRead}
 use Rattle.substitution.specs.Laws.{RewrittenFunctionsMeetChecks, RewrittenNumbersFit}
 use Rattle.substitution.proofs.Pieces.{mapped, in_map, map_in}

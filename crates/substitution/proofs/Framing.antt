@@ -23,7 +23,7 @@ use Rattle.ir_core.specs.declared.terminator.Terminator.{Terminator}
 use Rattle.ir_meaning.specs.Laws.{HoldWidths}
 use Rattle.substitution.specs.Substitution.{substituted_entries, substituted_op, substituted_inst, substituted_end, pulled_back, ending_back}
 use Rattle.substitution.specs.Rewritten.{Rewrite, moved_place, stands_for, rewritten_insts, rewritten_block, rewritten_function, RunsThrough}
-use Rattle.run_history.specs.Laws.{NumbersFit}
+use Rattle.ir_meaning.specs.HistoryLaws.{NumbersFit}
 use Rattle.substitution.specs.Fits.{Fits}
 use Rattle.substitution.specs.Held.{ComesTo}
 use Rattle.substitution.specs.Allows.{AllowsEnding, AssignedAllow, AllowsPut}
@@ -32,10 +32,10 @@ use Rattle.substitution.proofs.Allowing.{terminators_monotone, Same}
 use Rattle.substitution.proofs.Going.{phi_or_not, no_phi_to, no_phi_substituted, NoPhis, no_phis_at, no_phis_joined, enters_follows, GoesAfter, through}
 use Rattle.substitution.proofs.Reading.{reads_allow, end_reads_there, op_allowed, Edge, phi_matched}
 use Rattle.substitution.proofs.Writing.{allows_next, allows_behind, put_through}
-use Rattle.run_history.proofs.Equations.{one_inst}
-use Rattle.run_history.proofs.Outcomes.{rest_here, rest_next}
-use Rattle.run_history.proofs.PathLemmas.{end_of-is}
-use Rattle.run_history.proofs.Widths.{held_widths}
+use Rattle.ir_meaning.proofs.Equations.{one_inst}
+use Rattle.ir_meaning.proofs.HistoryOutcomes.{rest_here, rest_next}
+use Rattle.ir_meaning.proofs.PathLemmas.{end_of-is}
+use Rattle.ir_meaning.proofs.Widths.{held_widths}
 use Rattle.substitution.proofs.Arriving.{last_of, moment, Arrives, comes_to, is_reached, arrive_first, arrive_phi, arrive_next, arrive_edge, goes_by_names, goes_with, same_or_other}
 use Rattle.substitution.proofs.Assigning.{assigned_edge, none_assigned}
 use Rattle.substitution.proofs.Placing.{IsTheRoot, moved_first, moved_next, moved_root, moved_behind_root, insts_root, insts_other, block_back, length-block, block_at, inst_on}

@@ -17,7 +17,7 @@ use Rattle.ir_core.specs.declared.operand.Register.TheVariants as registers
 use Rattle.ir_core.specs.declared.terminator.Terminator.{Terminator}
 use Rattle.substitution.specs.Substitution.{substituted_op, value_of}
 use Rattle.substitution.specs.Rewritten.{Rewrite, stands_for, RunsOn, RunsThrough}
-use Rattle.run_history.proofs.Steps.{held_elsewhere}
+use Rattle.ir_meaning.proofs.Steps.{held_elsewhere}
 
 -- ---- phis
 

@@ -18,13 +18,13 @@ use Rattle.substitution.specs.Rewritten.{Rewrite, moved_place, root_of, stands_f
 use Rattle.substitution.specs.Fits.{Fits}
 use Rattle.substitution.specs.Held.{MayHold}
 use Rattle.substitution.specs.Laws.{RunsHoldWhatIsAssigned}
-use Rattle.run_history.specs.Histories.{Moment, InstGives, IsHistory}
-use Rattle.run_history.specs.Laws.{LastRan, NumbersFit}
-use Rattle.run_history.proofs.Assignments.{not_both_assigned}
-use Rattle.run_history.proofs.Equations.{equations}
-use Rattle.run_history.proofs.Holding.{assigned_ran, results_held}
-use Rattle.run_history.proofs.Steps.{step_keeps_parameter}
-use Rattle.run_history.proofs.Widths.{held_widths}
+use Rattle.ir_meaning.specs.Histories.{Moment, InstGives, IsHistory}
+use Rattle.ir_meaning.specs.HistoryLaws.{LastRan, NumbersFit}
+use Rattle.ir_meaning.proofs.Assignments.{not_both_assigned}
+use Rattle.ir_meaning.proofs.Equations.{equations}
+use Rattle.ir_meaning.proofs.Holding.{assigned_ran, results_held}
+use Rattle.ir_meaning.proofs.Steps.{step_keeps_parameter}
+use Rattle.ir_meaning.proofs.Widths.{held_widths}
 use Rattle.substitution.proofs.Going.{no_phi_substituted}
 use Rattle.substitution.proofs.Passing.{assigned_on}
 use Rattle.substitution.proofs.Placing.{IsTheRoot, moved_root, stands_other, inst_on}

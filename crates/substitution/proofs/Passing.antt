@@ -21,8 +21,8 @@ use Rattle.substitution.specs.Fits.{Fits, MayBeRead}
 use Rattle.substitution.proofs.Arriving.{same_or_other}
 use Rattle.substitution.proofs.Placing.{IsTheRoot, moved_below, moved_root, put_below, stands_root, stands_other, block_at, block_back, inst_on, put_on}
 use Rattle.substitution.proofs.Standing.{old_other, other_register}
-use Rattle.run_history.proofs.Assignments.{assignment_transitive}
-use Rattle.run_history.proofs.Steps.{has_inst}
+use Rattle.ir_meaning.proofs.Assignments.{assignment_transitive}
+use Rattle.ir_meaning.proofs.Steps.{has_inst}
 
 -- ---- walks
 

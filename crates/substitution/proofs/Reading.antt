@@ -17,7 +17,7 @@ use Rattle.ir_core.specs.declared.instruction.Op.TheVariants.{Phi}
 use Rattle.ir_core.specs.declared.operand.Operand.{Operand}
 use Rattle.ir_meaning.specs.Laws.{HoldWidths}
 use Rattle.ir_meaning.proofs.Pieces.{place_in}
-use Rattle.run_history.proofs.Widths.{inst_widths}
+use Rattle.ir_meaning.proofs.Widths.{inst_widths}
 use Rattle.substitution.specs.Substitution.{IsDefinite, substituted_entries, pulled_back}
 use Rattle.substitution.specs.Rewritten.{Rewrite, stands_for}
 use Rattle.substitution.specs.Allows.{AssignedAllow, ReadsAllow}

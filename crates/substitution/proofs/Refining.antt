@@ -12,7 +12,7 @@ use Rattle.ir_core.specs.declared.function.Block.{Block}
 use Rattle.ir_core.specs.declared.instruction.Inst.{Inst}
 use Rattle.substitution.specs.Substitution.{pulled_back}
 use Rattle.substitution.specs.Rewritten.{Rewrite, stands_for, rewritten_blocks, rewritten_function}
-use Rattle.run_history.specs.Laws.{NumbersFit}
+use Rattle.ir_meaning.specs.HistoryLaws.{NumbersFit}
 use Rattle.substitution.specs.Fits.{Fits}
 use Rattle.substitution.specs.Held.{MayHold}
 use Rattle.substitution.specs.Allows.{AllowsPut}

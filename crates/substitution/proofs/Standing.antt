@@ -22,7 +22,7 @@ use Rattle.substitution.specs.Rewritten.{Rewrite, root_of, moved_place, stands_f
 use Rattle.substitution.specs.Fits.{Fits, IsOfItsWidth, IsOld, MayBeRead}
 use Rattle.substitution.proofs.Pieces.{mapped, chained}
 use Rattle.substitution.proofs.Arriving.{same_or_other}
-use Rattle.run_history.proofs.Assignments.{not_both_assigned}
+use Rattle.ir_meaning.proofs.Assignments.{not_both_assigned}
 use Rattle.substitution.proofs.Placing.{IsTheRoot, stands_root, stands_other, inst_on, put_on}
 
 pub width_at : (f : Function) (b k : ℕ) (inst : Inst) → IsInst f b k inst → width_of f (registers.Result b k) ≡ Some inst.width

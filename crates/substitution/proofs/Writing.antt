@@ -21,12 +21,12 @@ use Rattle.substitution.specs.Rewritten.{Rewrite, root_of, moved_place, stands_f
 use Rattle.substitution.specs.Fits.{Fits}
 use Rattle.substitution.specs.Allows.{AssignedAllow, AllowsPut}
 use Rattle.substitution.proofs.Going.{unwritten, unwritten_by}
-use Rattle.run_history.proofs.Outcomes.{rest_here, rest_next}
+use Rattle.ir_meaning.proofs.HistoryOutcomes.{rest_here, rest_next}
 use Rattle.substitution.proofs.Arriving.{Arrives, arrive_next, same_or_other}
-use Rattle.run_history.proofs.Steps.{held_here, held_elsewhere}
+use Rattle.ir_meaning.proofs.Steps.{held_here, held_elsewhere}
 use Rattle.substitution.proofs.Assigning.{assigned_next}
 use Rattle.substitution.proofs.Standing.{old_other}
-use Rattle.run_history.proofs.Assignments.{not_both_assigned}
+use Rattle.ir_meaning.proofs.Assignments.{not_both_assigned}
 use Rattle.substitution.proofs.Placing.{IsTheRoot, moved_apart, moved_no_put, stands_root, stands_other, put_on}
 use Rattle.substitution.proofs.Standing.{other_register}
 

@@ -9,8 +9,8 @@ use Rattle.ir_core.specs.declared.instruction.Inst.{Inst}
 use Rattle.ir_core.specs.declared.operand.Register.{Register}
 use Rattle.ir_core.specs.declared.operand.Register.TheVariants as registers
 use Rattle.ir_meaning.specs.Laws.{HoldWidths}
-use Rattle.run_history.specs.Histories.{Moment, place_of, IsHistory}
-use Rattle.run_history.specs.Laws.{EquationHolds}
+use Rattle.ir_meaning.specs.Histories.{Moment, place_of, IsHistory}
+use Rattle.ir_meaning.specs.HistoryLaws.{EquationHolds}
 
 -- a run at these arguments comes to place k of block b with these registers held
 abbrev pub ComesTo : Function → List Value → ℕ → ℕ → Registers → Type 0

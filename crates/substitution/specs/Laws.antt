@@ -13,7 +13,7 @@ use Rattle.ir_core.specs.declared.instruction.Op.{Op}
 use Rattle.ir_core.specs.declared.operand.Operand.{Operand}
 use Rattle.ir_core.specs.declared.terminator.Terminator.{Terminator}
 use Rattle.ir_meaning.specs.Laws.{HoldWidths, OperandsHaveWidths}
-use Rattle.run_history.specs.Laws.{NumbersFit}
+use Rattle.ir_meaning.specs.HistoryLaws.{NumbersFit}
 use Rattle.substitution.specs.Substitution.{Substitution, substituted_entries, substituted_op, substituted_end, IsDefinite, pulled_back, ending_back}
 use Rattle.substitution.specs.Rewritten.{Rewrite, stands_for, rewritten_function, RunsThrough}
 use Rattle.substitution.specs.Fits.{Fits}

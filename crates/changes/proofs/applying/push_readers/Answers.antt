@@ -1,6 +1,5 @@
-use Rattle.std.proofs.Common.{◌≡◌, ◌+◌, ◌<◌, ◌≤◌, ◌∙◌, ◌^◌, ℕ, List, None, Some, length, refl, sym, subst, arith}
+use Rattle.std.proofs.Common.{◌+◌, ◌∙◌, ℕ, List, sym, subst, arith}
 use Rattle.ir_core.specs.Blocks.{HasInst}
-use Rattle.ir_core.specs.Reads.{end_of}
 use Rattle.changes.specs.Listing.{ListedTo, ReadsRoot}
 use Rattle.changes.specs.Places.{AreAscending}
 use Rattle.changes.proofs.InOrder.{inst_before_end, listed_more, listed_none, row_past}

@@ -1,4 +1,4 @@
-use Rattle.std.proofs.Common.{ℕ, ◌-◌, ◌≤◌, refl, arith}
+use Rattle.std.proofs.Common.{◌-◌, refl, arith}
 use Rattle.rewriter.specs.Put.{rewrite_of}
 use Rattle.changes.proofs.Few.{end_rewritten}
 use Rattle.changes.proofs.applying.put_at.Goals as goal

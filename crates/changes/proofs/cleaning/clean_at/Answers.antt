@@ -1,5 +1,4 @@
-use Rattle.std.proofs.Common.{◌≡◌, ◌<◌, ◌^◌, ◌∙◌, ℕ, List, [], length, sym, ap, subst, arith}
-use Rattle.ir_core.specs.Checks.{MeetsChecks}
+use Rattle.std.proofs.Common.{◌≡◌, ◌<◌, ◌^◌, ℕ, List, length, sym, ap, subst, arith}
 use Rattle.ir_core.specs.declared.function.Function.{Function}
 use Rattle.needed.specs.Cleaned.{IsCleaned}
 use Rattle.needed.specs.KeptFunction.{kept_function}

@@ -1,4 +1,4 @@
-use Rattle.std.proofs.Common.{Some, map, subst}
+use Rattle.std.proofs.Common.{map, subst}
 use Rattle.draft.specs.Drafts.{Stands}
 use Rattle.draft_queue.specs.Queues.{ComesNext, waiting_in}
 use Rattle.places.specs.Sets.{IsRemoved}

@@ -1,6 +1,6 @@
-use Rattle.run_history.proofs.Outcomes.{outcomes_histories}
-use Rattle.run_history.proofs.Steps.{histories_paths, moments_reached, entered_from}
-use Rattle.run_history.proofs.laws.outcomes_have_histories.Goals as goal
+use Rattle.ir_meaning.proofs.HistoryOutcomes.{outcomes_histories}
+use Rattle.ir_meaning.proofs.Steps.{histories_paths, moments_reached, entered_from}
+use Rattle.ir_meaning.proofs.histories.outcomes_have_histories.Goals as goal
 
 pub returns-clause-outcomes : goal.returns-clause-outcomes
 returns-clause-outcomes c = outcomes_histories

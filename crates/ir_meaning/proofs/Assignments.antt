@@ -7,7 +7,7 @@ use Rattle.ir_core.specs.declared.operand.Register.TheVariants as registers
 use Rattle.ir_core.specs.Assigned.{IsAssigned}
 use Rattle.ir_core.specs.Walks.{IsWalk, IsReached}
 use Rattle.ir_meaning.proofs.Pieces.{not_in_empty, first_in, later_in, cases_in}
-use Rattle.run_history.specs.Assignments.{NotBothAreAssigned, NoneIsAssignedBehind, AssignmentIsTransitive}
+use Rattle.ir_meaning.specs.Assignments.{NotBothAreAssigned, NoneIsAssignedBehind, AssignmentIsTransitive}
 
 contains_or : (xs : List ℕ) (d : ℕ) → Contains xs d ⊎ (Contains xs d → ⊥)
 contains_or [] d = inr (not_in_empty d)

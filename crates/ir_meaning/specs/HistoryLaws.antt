@@ -17,8 +17,8 @@ use Rattle.ir_core.specs.Refines.{AreArguments}
 use Rattle.ir_core.specs.Run.{Registers, AnyNumber, OpGives, HasOutcome, breaks_noundef}
 use Rattle.ir_core.specs.Walks.{IsReached}
 use Rattle.ir_meaning.specs.Laws.{HoldWidths}
-use Rattle.run_history.specs.Paths.{IsPath}
-use Rattle.run_history.specs.Histories.{Moment, place_of, InstGives, IsHistory, EndsAt}
+use Rattle.ir_meaning.specs.Paths.{IsPath}
+use Rattle.ir_meaning.specs.Histories.{Moment, place_of, InstGives, IsHistory, EndsAt}
 
 -- ---- outcomes, places and blocks
 

@@ -14,8 +14,8 @@ use Rattle.ir_core.specs.declared.outcome.Outcome.{Outcome}
 use Rattle.ir_core.specs.declared.outcome.Outcome.TheVariants as outcomes
 use Rattle.ir_core.specs.Blocks.{IsBlock}
 use Rattle.ir_core.specs.Run.{Registers, arguments, holding, Ending, Undefines, Returns, Goes, GoesOn, Leads, IfPhi, AnyNumber, OpGives, PhiGives, EndGives, Follows, Enters, RunsFrom, Starts}
-use Rattle.run_history.specs.Histories.{Moment, entering, InstGives, IsHistory, EndsAt}
-use Rattle.run_history.specs.Laws.{OutcomesHaveHistories}
+use Rattle.ir_meaning.specs.Histories.{Moment, entering, InstGives, IsHistory, EndsAt}
+use Rattle.ir_meaning.specs.HistoryLaws.{OutcomesHaveHistories}
 
 -- ---- the rest of a list
 

@@ -8,9 +8,9 @@ use Rattle.ir_core.specs.Blocks.{IsBlock, HasInst}
 use Rattle.ir_core.specs.Reads.{end_of}
 use Rattle.ir_core.specs.Walks.{IsWalk}
 use Rattle.ir_meaning.proofs.Pieces.{not_in_empty, first_in, later_in, cases_in}
-use Rattle.run_history.specs.Paths.{Place, ComesNext, IsPath}
-use Rattle.run_history.specs.Assignments.{AssignedIsPassed, DefinedBeforeStaysSo}
-use Rattle.run_history.proofs.Assignments.{Unpassed, unassigned, comes_first}
+use Rattle.ir_meaning.specs.Paths.{Place, ComesNext, IsPath}
+use Rattle.ir_meaning.specs.Assignments.{AssignedIsPassed, DefinedBeforeStaysSo}
+use Rattle.ir_meaning.proofs.Assignments.{Unpassed, unassigned, comes_first}
 
 pub end_of-is : (f : Function) (b : ℕ) (block : Block) → IsBlock f b block → end_of f b ≡ length block.insts
 end_of-is f b block at = ap (λ (o : Option Block). unwrap_or (option_map (λ (block : Block). length block.insts) o) 0) at

@@ -11,7 +11,7 @@ use Rattle.ir_core.specs.declared.outcome.Outcome.TheVariants as outcomes
 use Rattle.ir_core.specs.Blocks.{IsBlock}
 use Rattle.ir_core.specs.Checks.{IsInst}
 use Rattle.ir_core.specs.Run.{Registers, arguments, holding, AnyNumber, OpGives, PhiGives, IfPhi, Ending, Undefines, Returns, Goes, EndGives}
-use Rattle.run_history.specs.Paths.{Place}
+use Rattle.ir_meaning.specs.Paths.{Place}
 
 -- A moment of a run: it is at a place of a block, and these registers are held. The phis of the block read the registers `entered`, which
 -- were held where control came from the block `from`, None at the start.

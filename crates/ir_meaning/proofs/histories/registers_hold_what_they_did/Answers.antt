@@ -1,5 +1,5 @@
-use Rattle.run_history.proofs.Holding.{assigned_ran, results_held, operands_held, one_visit}
-use Rattle.run_history.proofs.laws.registers_hold_what_they_did.Goals as goal
+use Rattle.ir_meaning.proofs.Holding.{assigned_ran, results_held, operands_held, one_visit}
+use Rattle.ir_meaning.proofs.histories.registers_hold_what_they_did.Goals as goal
 
 pub returns-clause-ran : goal.returns-clause-ran
 returns-clause-ran c = assigned_ran

@@ -1,6 +1,6 @@
-use Rattle.run_history.proofs.Assignments.{not_both_assigned, none_behind, assignment_transitive}
-use Rattle.run_history.proofs.PathLemmas.{assigned_passed, defined_before}
-use Rattle.run_history.proofs.laws.assigned_registers_keep_their_order.Goals as goal
+use Rattle.ir_meaning.proofs.Assignments.{not_both_assigned, none_behind, assignment_transitive}
+use Rattle.ir_meaning.proofs.PathLemmas.{assigned_passed, defined_before}
+use Rattle.ir_meaning.proofs.histories.assigned_registers_keep_their_order.Goals as goal
 
 pub returns-clause-not_both : goal.returns-clause-not_both
 returns-clause-not_both c = not_both_assigned

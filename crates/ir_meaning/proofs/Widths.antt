@@ -29,10 +29,10 @@ use Rattle.ir_core.specs.Refines.{AreArguments}
 use Rattle.ir_core.specs.Run.{Registers, arguments, holding, AnyNumber, OperandGives, Freezes, OpGives, PhiGives, Goes}
 use Rattle.ir_meaning.specs.Laws.{HoldWidths, OperandsHaveWidths}
 use Rattle.ir_meaning.proofs.Restricting.{reads_inst, phi_read}
-use Rattle.run_history.specs.Histories.{Moment, entering, once_held, InstGives, IsStep, IsHistory}
-use Rattle.run_history.specs.Laws.{NumbersFit, HeldHaveWidths}
-use Rattle.run_history.proofs.Steps.{held_here, held_elsewhere, end_among}
-use Rattle.run_history.proofs.Outcomes.{phi_cases}
+use Rattle.ir_meaning.specs.Histories.{Moment, entering, once_held, InstGives, IsStep, IsHistory}
+use Rattle.ir_meaning.specs.HistoryLaws.{NumbersFit, HeldHaveWidths}
+use Rattle.ir_meaning.proofs.Steps.{held_here, held_elsewhere, end_among}
+use Rattle.ir_meaning.proofs.HistoryOutcomes.{phi_cases}
 use Rattle.ir_meaning.proofs.Following.{width_known}
 
 -- ---- reads, one by one

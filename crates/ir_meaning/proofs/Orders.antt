@@ -5,7 +5,7 @@ use Rattle.ir_core.specs.declared.function.Parameter.{Parameter}
 use Rattle.ir_core.specs.declared.outcome.Outcome.{Outcome}
 use Rattle.ir_core.specs.declared.outcome.Outcome.TheVariants as outcomes
 use Rattle.ir_core.specs.Refines.{AreArguments, AllowsOutcome}
-use Rattle.run_history.specs.Orders.{RefinementIsTransitive, RefinementIsReflexive}
+use Rattle.ir_meaning.specs.Orders.{RefinementIsTransitive, RefinementIsReflexive}
 
 outcome_allows_itself : (o : Outcome) → AllowsOutcome o o
 outcome_allows_itself outcomes.Undefined = tt

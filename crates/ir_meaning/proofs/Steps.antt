@@ -18,10 +18,10 @@ use Rattle.ir_core.specs.Checks.{IsInst}
 use Rattle.ir_core.specs.Reads.{end_of}
 use Rattle.ir_core.specs.Run.{Registers, holding, Ending, Undefines, Returns, Goes, going_by, branch_target, switch_target, is_indefinite, has_noundef, AnyNumber, EndGives}
 use Rattle.ir_meaning.proofs.Pieces.{first_in, branch_among, switch_among_all}
-use Rattle.run_history.specs.Paths.{ComesNext}
-use Rattle.run_history.specs.Histories.{Moment, place_of, Runs, Leaves, IsStep, IsHistory}
-use Rattle.run_history.specs.Laws.{HistoriesArePaths, MomentsAreReached, BlocksAreEnteredFromEnds}
-use Rattle.run_history.proofs.PathLemmas.{end_of-is, same_place, path_reaches}
+use Rattle.ir_meaning.specs.Paths.{ComesNext}
+use Rattle.ir_meaning.specs.Histories.{Moment, place_of, Runs, Leaves, IsStep, IsHistory}
+use Rattle.ir_meaning.specs.HistoryLaws.{HistoriesArePaths, MomentsAreReached, BlocksAreEnteredFromEnds}
+use Rattle.ir_meaning.proofs.PathLemmas.{end_of-is, same_place, path_reaches}
 
 -- ---- where a terminator goes
 

@@ -1,5 +1,5 @@
-use Rattle.run_history.proofs.Orders.{refines_itself, refines_transitively}
-use Rattle.run_history.proofs.laws.refinement_is_an_order.Goals as goal
+use Rattle.ir_meaning.proofs.Orders.{refines_itself, refines_transitively}
+use Rattle.ir_meaning.proofs.histories.refinement_is_an_order.Goals as goal
 
 pub returns-clause-reflexive : goal.returns-clause-reflexive
 returns-clause-reflexive c = refines_itself

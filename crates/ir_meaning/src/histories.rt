@@ -1,8 +1,8 @@
 //! The laws of assignment and of histories, each the contract of a function that does nothing.
 
-ghost use Rattle.run_history.specs.Assignments.{AssignedIsPassed, AssignmentIsTransitive, DefinedBeforeStaysSo, NoneIsAssignedBehind, NotBothAreAssigned};
-ghost use Rattle.run_history.specs.Laws.{AssignedHasRun, BlocksAreEnteredFromEnds, EquationsHoldInOneVisit, EquationsHoldWhereAssigned, HeldHaveWidths, HistoriesArePaths, MomentsAreReached, NothingNamedChangesInOneVisit, OperandsAreHeld, OutcomesHaveHistories, ResultsAreHeld};
-ghost use Rattle.run_history.specs.Orders.{RefinementIsReflexive, RefinementIsTransitive};
+ghost use Rattle.ir_meaning.specs.Assignments.{AssignedIsPassed, AssignmentIsTransitive, DefinedBeforeStaysSo, NoneIsAssignedBehind, NotBothAreAssigned};
+ghost use Rattle.ir_meaning.specs.HistoryLaws.{AssignedHasRun, BlocksAreEnteredFromEnds, EquationsHoldInOneVisit, EquationsHoldWhereAssigned, HeldHaveWidths, HistoriesArePaths, MomentsAreReached, NothingNamedChangesInOneVisit, OperandsAreHeld, OutcomesHaveHistories, ResultsAreHeld};
+ghost use Rattle.ir_meaning.specs.Orders.{RefinementIsReflexive, RefinementIsTransitive};
 
 /// Where o is assigned at r's instruction, r isn't at o's or right behind it, if the block is reached; so on the way to where r is
 /// assigned control doesn't come to o's instruction again behind r's. What is assigned has been passed.

@@ -14,12 +14,12 @@ use Rattle.ir_core.specs.Blocks.{HasInst}
 use Rattle.ir_core.specs.Checks.{IsInst}
 use Rattle.ir_core.specs.Walks.{IsWalk}
 use Rattle.ir_meaning.proofs.Pieces.{not_in_empty, first_in, later_in, cases_in}
-use Rattle.run_history.specs.Paths.{Place, IsPath}
-use Rattle.run_history.specs.Histories.{Moment, place_of, InstGives, Runs, IsStep, IsHistory}
-use Rattle.run_history.specs.Laws.{LastRan, AssignedHasRun, ResultsAreHeld, OperandsAreHeld, NothingNamedChangesInOneVisit}
-use Rattle.run_history.proofs.Assignments.{not_both_assigned}
-use Rattle.run_history.proofs.PathLemmas.{same_place, assigned_passed, defined_before, path_before, path_reaches}
-use Rattle.run_history.proofs.Steps.{held_here, step_keeps, step_keeps_parameter, step_gives, histories_paths}
+use Rattle.ir_meaning.specs.Paths.{Place, IsPath}
+use Rattle.ir_meaning.specs.Histories.{Moment, place_of, InstGives, Runs, IsStep, IsHistory}
+use Rattle.ir_meaning.specs.HistoryLaws.{LastRan, AssignedHasRun, ResultsAreHeld, OperandsAreHeld, NothingNamedChangesInOneVisit}
+use Rattle.ir_meaning.proofs.Assignments.{not_both_assigned}
+use Rattle.ir_meaning.proofs.PathLemmas.{same_place, assigned_passed, defined_before, path_before, path_reaches}
+use Rattle.ir_meaning.proofs.Steps.{held_here, step_keeps, step_keeps_parameter, step_gives, histories_paths}
 
 -- ---- the last time that an instruction ran
 

@@ -1,5 +1,5 @@
-use Rattle.run_history.proofs.Equations.{equations, equations_here}
-use Rattle.run_history.proofs.laws.equations_hold_where_assigned.Goals as goal
+use Rattle.ir_meaning.proofs.Equations.{equations, equations_here}
+use Rattle.ir_meaning.proofs.histories.equations_hold_where_assigned.Goals as goal
 
 pub returns-clause-assigned : goal.returns-clause-assigned
 returns-clause-assigned c = equations

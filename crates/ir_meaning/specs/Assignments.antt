@@ -5,7 +5,7 @@ use Rattle.ir_core.specs.declared.operand.Register.{Register}
 use Rattle.ir_core.specs.declared.operand.Register.TheVariants as registers
 use Rattle.ir_core.specs.Assigned.{IsAssigned}
 use Rattle.ir_core.specs.Walks.{IsReached}
-use Rattle.run_history.specs.Paths.{Place, IsPath}
+use Rattle.ir_meaning.specs.Paths.{Place, IsPath}
 
 -- Of two results one isn't assigned at the other's instruction, where that is reached; nor is one at its own. For the first walk to come
 -- to the one hasn't come to the other, and then neither has the first walk to the other come to the one.

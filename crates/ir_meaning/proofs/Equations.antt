@@ -18,10 +18,10 @@ use Rattle.ir_core.specs.Checks.{IsInst, IsPhi}
 use Rattle.ir_core.specs.Reads.{Read, read, reads_of}
 use Rattle.ir_core.specs.Run.{Registers, AnyNumber, OperandGives, OpGives, PhiGives, IfPhi}
 use Rattle.ir_meaning.proofs.Restricting.{reads_inst}
-use Rattle.run_history.specs.Histories.{Moment, InstGives}
-use Rattle.run_history.specs.Laws.{EquationsHoldWhereAssigned, EquationsHoldInOneVisit}
-use Rattle.run_history.proofs.Steps.{has_inst}
-use Rattle.run_history.proofs.Holding.{assigned_ran, results_held, operands_held}
+use Rattle.ir_meaning.specs.Histories.{Moment, InstGives}
+use Rattle.ir_meaning.specs.HistoryLaws.{EquationsHoldWhereAssigned, EquationsHoldInOneVisit}
+use Rattle.ir_meaning.proofs.Steps.{has_inst}
+use Rattle.ir_meaning.proofs.Holding.{assigned_ran, results_held, operands_held}
 
 -- ---- registers that are held as before
 
