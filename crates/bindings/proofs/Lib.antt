@@ -7,3 +7,5 @@ pub mod Bound
 pub mod Fitting
 pub mod Uses
 pub mod Roots
+pub mod Before
+pub mod TemporariesBefore

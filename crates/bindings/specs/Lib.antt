@@ -6,3 +6,4 @@ pub mod Statements
 pub mod Match
 pub mod Facts
 pub mod Checks
+pub mod Laws

@@ -2,13 +2,14 @@
 //!
 //! The definitions stand in `specs/`: `Match` says when a rule matches at an instruction with a binding, `Statements` which
 //! instructions its statements match, and `Operands` what its operands stand for; `Uses` of `use_counts` says how often a
-//! register is used. `Facts` and `Checks` serve the code.
+//! register is used. `Laws` says that temporaries stand before the root. `Facts` and `Checks` serve the code.
 #![tactic(auto)]
 
 mod binding;
 mod check;
 mod facts;
 mod inst;
+mod laws;
 mod operation;
 mod promises;
 mod root;
@@ -18,6 +19,7 @@ pub use binding::Binding;
 pub use check::is_match;
 pub use facts::FunctionFacts;
 pub use inst::inst_at;
+pub use laws::{reads_of_a_block_stand_before, temporaries_stand_before_roots};
 pub use operation::{MOST_OPERANDS, operand_of};
 pub use promises::Promises;
 pub use root::is_root_operation;

@@ -3,7 +3,7 @@ use Rattle.std.proofs.Common.{◌≡◌, ℕ, suc, ◌<◌, ◌≤◌}
 use Rattle.ir_core.specs.Reads.{Read, IsRead}
 use Rattle.ir_core.specs.declared.operand.Operand.TheVariants as operands
 use Rattle.ir_core.specs.declared.operand.Register.TheVariants as registers
-use Rattle.moved_matches.specs.Laws.{TemporariesStandBefore}
+use Rattle.bindings.specs.Laws.{TemporariesStandBefore}
 use Rattle.draft.specs.declared.draft.Draft.{Draft}
 use Rattle.draft.specs.Drafts.{Reaches, Stands, numbers_of, arena_of}
 use Rattle.draft_steps.specs.Arranged.{AreArranged}

@@ -12,7 +12,7 @@ use Rattle.rule_typing.proofs.Images.{Contains-map, from_map}
 use Rattle.bindings.specs.Match.{IsMatch, MatchesInAnyOrder}
 use Rattle.bindings.specs.declared.binding.Binding.{Binding}
 use Rattle.bindings.proofs.Roots.{in_any_order}
-use Rattle.moved_matches.specs.Laws.{TemporariesStandBefore}
+use Rattle.bindings.specs.Laws.{TemporariesStandBefore}
 use Rattle.moved_matches.specs.Moved.{moved_binding}
 use Rattle.matcher.proofs.OneBinding.{matches_have_one_binding}
 use Rattle.rule_matches.specs.declared.matches.Match.{Match}

@@ -2,7 +2,7 @@
 
 ghost use Rattle.draft_matches.specs.Laws.{MatchesOfTheArena, MatchesOfTheUntouched};
 
-use moved_matches::temporaries_stand_before_roots;
+use bindings::temporaries_stand_before_roots;
 
 /// The matches at an instruction of a draft's arena are by places those of its function.
 pub fn matches_of_the_arena()

@@ -36,7 +36,7 @@ use Rattle.bindings.specs.Operands.{StandsFor}
 use Rattle.bindings.specs.Statements.{StatementMatches}
 use Rattle.bindings.specs.declared.binding.Binding.{Binding}
 use Rattle.bindings.proofs.Reading.{reads_at_inst}
-use Rattle.moved_matches.specs.Laws.{ReadsStandBefore}
+use Rattle.bindings.specs.Laws.{ReadsStandBefore}
 use Rattle.moved_matches.specs.Moved.{moved_binding, register_or}
 use Rattle.rewriter.proofs.Matched.{arity_same, computed_no_phi, same_is_computed}
 use Rattle.rewriter.specs.Applied.{IsRewritten}

@@ -10,7 +10,7 @@ use Rattle.ir_core.specs.declared.instruction.Op.TheVariants.{Binary, Compare, U
 use Rattle.ir_core.specs.declared.operand.Register.TheVariants as registers
 use Rattle.ir_meaning.proofs.Pieces.{contains_at, some_at}
 use Rattle.needed.specs.Needed.{ReadsRegister}
-use Rattle.moved_matches.specs.Laws.{ReadsStandBefore}
+use Rattle.bindings.specs.Laws.{ReadsStandBefore}
 use Rattle.substitution.specs.Substitution.{substituted_inst}
 use Rattle.draft_steps.specs.Cleaning.{ReadsGoUp}
 use Rattle.draft.specs.Drafts.{block_of, function_of, numbers_in, numbers_of, placed}

@@ -27,7 +27,7 @@ use Rattle.rule_typing.specs.Faults.{HasNoFault}
 use Rattle.ir_meaning.specs.HistoryLaws.{NumbersFit}
 use Rattle.bindings.specs.Match.{IsMatch}
 use Rattle.bindings.specs.declared.binding.Binding.{Binding}
-use Rattle.moved_matches.specs.Laws.{ReadsStandBefore}
+use Rattle.bindings.specs.Laws.{ReadsStandBefore}
 use Rattle.moved_matches.specs.Moved.{register_or}
 use Rattle.rewriter.specs.Applied.{IsRewritten}
 use Rattle.rewriter.specs.Laws.{RewrittenFunctionsMeetChecks}

@@ -19,10 +19,9 @@ ghost use Rattle.places.specs.declared.place.Place.{Place as Spot};
 
 use crate::cleaning::clean_draft;
 use crate::rewriting::{Rewritten, rewrite_draft};
-use bindings::Binding;
+use bindings::{Binding, reads_of_a_block_stand_before};
 use draft::Draft;
 use ir_core::Register;
-use moved_matches::reads_of_a_block_stand_before;
 use places::Place;
 use rewriter::rewritten_functions_meet_checks;
 use rule_core::Rule;

@@ -8,7 +8,7 @@ use Rattle.rule_core.specs.declared.rule.Rule.{Rule}
 use Rattle.bindings.specs.Match.{IsMatch, MatchesInAnyOrder}
 use Rattle.bindings.specs.declared.binding.Binding.{Binding}
 use Rattle.bindings.proofs.Roots.{in_any_order}
-use Rattle.moved_matches.specs.Laws.{TemporariesStandBefore}
+use Rattle.bindings.specs.Laws.{TemporariesStandBefore}
 
 module _ (stand_before : TemporariesStandBefore) (f : Function) (b k : ℕ) (rule : Rule) (checks : MeetsChecks f) (good : IsRule rule) where
   pub found_in_order : {E : Type 0} (r : Result (Option Binding) E) → IfOk r (λ found. IfSome found (MatchesInAnyOrder f b k rule)) → IfOk r (λ found. IfSome found (IsMatch f b k rule))

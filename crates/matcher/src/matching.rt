@@ -11,9 +11,10 @@ ghost use Rattle.bindings.specs.Match.{IsMatch, MatchesInAnyOrder};
 ghost use Rattle.bindings.specs.declared.binding.Binding.{Binding};
 
 use crate::candidate::candidate;
-use bindings::{Binding, FunctionFacts, is_match, is_root_operation};
+use bindings::{
+    Binding, FunctionFacts, is_match, is_root_operation, temporaries_stand_before_roots,
+};
 use ir_core::Function;
-use moved_matches::temporaries_stand_before_roots;
 use rule_core::Rule;
 use std::alloc::{AllocError, Global};
 

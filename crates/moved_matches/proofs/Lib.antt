@@ -2,5 +2,3 @@ pub mod Staying
 pub mod Bound
 pub mod Away
 pub mod Keeping
-pub mod Before
-pub mod Temporaries

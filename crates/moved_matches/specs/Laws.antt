@@ -1,10 +1,7 @@
 -- The laws of matches that stay.
 use Rattle.std.specs.Prelude.{◌≡◌, ℕ, ◌<◌, true, Contains}
-use Rattle.ir_core.specs.Checks.{IsInst, IsPhi, MeetsChecks}
-use Rattle.ir_core.specs.Reads.{Read, IsRead}
-use Rattle.ir_core.specs.Walks.{IsReached}
+use Rattle.ir_core.specs.Checks.{MeetsChecks}
 use Rattle.ir_core.specs.declared.function.Function.{Function}
-use Rattle.ir_core.specs.declared.instruction.Inst.{Inst}
 use Rattle.ir_core.specs.declared.operand.Operand.TheVariants as operands
 use Rattle.ir_core.specs.declared.operand.Register.{Register}
 use Rattle.ir_core.specs.declared.operand.Register.TheVariants as registers
@@ -16,7 +13,7 @@ use Rattle.needed.specs.KeptFunction.{KeptMarks, kept_before, moved_register, ke
 use Rattle.substitution.specs.Substitution.{Substitution, IsDefinite}
 use Rattle.substitution.specs.declared.rewrite.Rewrite.{Rewrite}
 use Rattle.substitution.specs.Rewritten.{root_of, moved_place, stands_for, rewritten_function}
-use Rattle.bindings.specs.Match.{IsMatch, MatchesInAnyOrder, MatchesWhere}
+use Rattle.bindings.specs.Match.{IsMatch, MatchesWhere}
 use Rattle.bindings.specs.declared.binding.Binding.{Binding}
 use Rattle.moved_matches.specs.Moved.{StandsThere, moved_binding}
 
@@ -57,15 +54,3 @@ MatchesOfKeptStay = (f : Function) (kept : KeptMarks) (rule : Rule) (m : Binding
     → ((k : ℕ) → Contains m.statements (registers.Result m.block k) → kept m.block k ≡ true)
     → UsesStay f (kept_function kept f) (kept_register kept) m
     → IsMatch (kept_function kept f) m.block (kept_before kept m.block m.place) rule (moved_binding (kept_register kept) (kept_before kept m.block m.place) m)
-
--- In a block that is reached, what an instruction that is no phi reads of the block's own results stands before it: so temporaries of a
--- match stand before its root, since each is read on the way there.
-abbrev pub ReadsStandBefore : Type 0
-ReadsStandBefore = (f : Function) (b k p i : ℕ) (inst : Inst) (r : Read)
-    → MeetsChecks f → IsReached f b → IsInst f b k inst → ¬ IsPhi inst.op
-    → IsRead f b k i r → r.operand ≡ operands.Register (registers.Result b p) → p < k
-
--- So a rule matches in a function that meets its checks where it matches but for the order in which instructions stand.
-abbrev pub TemporariesStandBefore : Type 0
-TemporariesStandBefore = (f : Function) (b k : ℕ) (rule : Rule) (m : Binding)
-    → MeetsChecks f → IsRule rule → MatchesInAnyOrder f b k rule m → IsMatch f b k rule m

@@ -6,7 +6,4 @@
 
 mod laws;
 
-pub use laws::{
-    matches_stay_away_from_changes, matches_stay_where_instructions_move,
-    reads_of_a_block_stand_before, temporaries_stand_before_roots,
-};
+pub use laws::{matches_stay_away_from_changes, matches_stay_where_instructions_move};

@@ -5,7 +5,7 @@ use Rattle.ir_core.specs.Checks.{MeetsChecks}
 use Rattle.ir_core.specs.declared.function.Function.{Function}
 use Rattle.rule_core.specs.declared.rule.Rule.{Rule}
 use Rattle.bindings.proofs.Roots as roots
-use Rattle.moved_matches.specs.Laws.{TemporariesStandBefore}
+use Rattle.bindings.specs.Laws.{TemporariesStandBefore}
 use Rattle.rule_matches.specs.declared.matches.Match.{Match}
 use Rattle.rule_matches.specs.Matches.{AreMatchesInAnyOrder, AreMatchesWhere, IsMatchAmong, IsMatchInAnyOrder}
 use Rattle.rule_matches.specs.Ready.{AreReady}

@@ -10,11 +10,10 @@ ghost use Rattle.rule_matches.specs.Matches.{AreMatchesInAnyOrder, AreMatchesWhe
 ghost use Rattle.rule_matches.specs.Roots.{AreByRoot};
 
 use crate::roots::RulesByRoot;
-use bindings::{Binding, FunctionFacts};
+use bindings::{Binding, FunctionFacts, temporaries_stand_before_roots};
 use ir_core::{Function, Inst};
 use lists::List;
 use matcher::match_in;
-use moved_matches::temporaries_stand_before_roots;
 use rule_core::Rule;
 use std::alloc::{AllocError, Global};
 

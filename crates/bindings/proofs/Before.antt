@@ -11,7 +11,7 @@ use Rattle.ir_core.specs.declared.operand.Register.TheVariants as registers
 use Rattle.ir_meaning.specs.Assignments.{NotBothAreAssigned}
 use Rattle.needed.proofs.Reading.{own_place}
 use Rattle.bindings.proofs.Reading.{has_inst_at, reads_at_inst}
-use Rattle.moved_matches.specs.Laws.{ReadsStandBefore}
+use Rattle.bindings.specs.Laws.{ReadsStandBefore}
 
 -- a result is assigned behind its instruction
 assigned_behind : (f : Function) (b k p : ℕ) (inst : Inst) → IsInst f b k inst → k < p → IsAssigned f (registers.Result b k) b p

@@ -11,7 +11,7 @@ use Rattle.ir_core.specs.declared.instruction.Op.{Op}
 use Rattle.ir_core.specs.declared.instruction.Op.TheVariants as ops
 use Rattle.ir_core.specs.declared.operand.Operand.TheVariants as operands
 use Rattle.ir_core.specs.declared.operand.Register.TheVariants as registers
-use Rattle.ir_meaning.proofs.Pieces.{contains_at, place_in}
+use Rattle.ir_meaning.proofs.Pieces.{contains_at, place_in, some_at}
 use Rattle.rule_core.specs.Checks.{IsRule, SourceMayRead}
 use Rattle.rule_core.specs.Positions.{operands_of}
 use Rattle.rule_core.specs.declared.rule.Argument.{Argument}
@@ -28,8 +28,7 @@ use Rattle.bindings.specs.Operands.{StandsFor}
 use Rattle.bindings.specs.Statements.{IsSameOperation, StatementMatches}
 use Rattle.bindings.specs.declared.binding.Binding.{Binding}
 use Rattle.bindings.proofs.Reading.{reads_at_inst}
-use Rattle.moved_matches.specs.Laws.{ReadsStandBefore, TemporariesStandBefore}
-use Rattle.moved_matches.proofs.Staying.{some_at}
+use Rattle.bindings.specs.Laws.{ReadsStandBefore, TemporariesStandBefore}
 
 -- what a statement matches reads as many operands, and is no phi
 count_same : (f : Function) (b k w : ℕ) (s : RuleOp) (i : Op) → IsSameOperation s i → length (operands_of s) ≡ length (reads_of f b k w i)

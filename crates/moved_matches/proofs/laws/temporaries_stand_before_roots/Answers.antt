@@ -1,5 +1,0 @@
-use Rattle.moved_matches.proofs.Temporaries.{temporaries_before}
-use Rattle.moved_matches.proofs.laws.temporaries_stand_before_roots.Goals as goal
-
-pub returns : goal.returns
-returns c = temporaries_before c.reads_of_a_block_stand_before.ensures
