@@ -32,3 +32,9 @@ pub mod Room
 pub mod PutAll
 pub mod PutInstead
 pub mod Arranged
+pub mod QueueSteps
+pub mod WalkSteps
+pub mod Walking
+pub mod QueueLaws
+pub mod WalkDrafts
+pub mod SameDrafts

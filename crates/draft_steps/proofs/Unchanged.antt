@@ -5,10 +5,10 @@ use Rattle.ir_core.specs.declared.operand.Register.TheVariants as registers
 use Rattle.needed.specs.Needed.{IsNeeded}
 use Rattle.draft_steps.specs.Cleaning.{IsClean}
 use Rattle.readers.specs.Readers.{IsPlaceIn, IsReader}
-use Rattle.draft_queue.specs.Walks.{IsSameDraft}
+use Rattle.draft_steps.specs.Walks.{IsSameDraft}
 use Rattle.draft.specs.Whole.{IsSettled}
 use Rattle.draft.specs.declared.draft.Draft.{Draft}
-use Rattle.draft_queue.proofs.SameDrafts.{stays, stood}
+use Rattle.draft_steps.proofs.SameDrafts.{stays, stood}
 
 module _ (old new : Draft) (same : IsSameDraft old new) where
   pub still_settled : IsSettled old → IsSettled new

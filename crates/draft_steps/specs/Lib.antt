@@ -4,3 +4,5 @@ pub use Rattle.needed.specs.Cleaned
 pub mod Cleaning
 pub mod Rewriting
 pub mod Arranged
+pub mod Walks
+pub mod Queues

@@ -11,7 +11,7 @@ use Rattle.draft.specs.declared.draft.Draft.{Draft}
 use Rattle.places.specs.declared.place.Place.{Place}
 use Rattle.draft_steps.specs.Cleaning.{IsClean}
 use Rattle.draft.specs.Drafts.{Stands, function_of, arena_of}
-use Rattle.draft_queue.specs.Queues.{IsQueueOf, waiting_in}
+use Rattle.draft_steps.specs.Queues.{IsQueueOf, waiting_in}
 use Rattle.places.specs.Sets.{Rows, Has}
 use Rattle.draft.specs.Whole.{IsSettled}
 use Rattle.draft_matches.specs.Laws.{AreSourcesWithin, placed_match}

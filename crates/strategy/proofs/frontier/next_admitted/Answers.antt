@@ -1,6 +1,6 @@
 use Rattle.std.proofs.Common.{map, subst}
 use Rattle.draft.specs.Drafts.{Stands}
-use Rattle.draft_queue.specs.Queues.{ComesNext, waiting_in}
+use Rattle.draft_steps.specs.Queues.{ComesNext, waiting_in}
 use Rattle.places.specs.Sets.{IsRemoved}
 use Rattle.asked_verdicts.specs.Asked.{pair_of}
 use Rattle.asked_verdicts.proofs.Sequence.{still_verdicts}

@@ -1,5 +1,5 @@
 -- what doesn't wait is turned down, and all before what waits is asked
-use Rattle.draft_queue.specs.Queues.{IsQueueOf, size_of, waiting_in}
+use Rattle.draft_steps.specs.Queues.{IsQueueOf, size_of, waiting_in}
 use Rattle.strategy.specs.Frontiers.{AreTurnedDownBut, Nowhere}
 use Rattle.strategy.proofs.Searching.{Gone}
 use Rattle.strategy.proofs.frontier.next_admitted.Given as goal

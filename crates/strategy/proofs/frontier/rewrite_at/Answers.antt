@@ -8,9 +8,9 @@ use Rattle.needed.specs.Cleaned.{IsCleaned}
 use Rattle.places.specs.declared.place.Place.{Place}
 use Rattle.draft.specs.Drafts.{arena_of, function_of, orders_of}
 use Rattle.places.specs.Orders.{none}
-use Rattle.draft_queue.specs.Queues.{waiting_in}
+use Rattle.draft_steps.specs.Queues.{waiting_in}
 use Rattle.readers.specs.Readers.{IsPlaceIn}
-use Rattle.draft_queue.proofs.SameDrafts.{same_numbers}
+use Rattle.draft_steps.proofs.SameDrafts.{same_numbers}
 use Rattle.draft_steps.proofs.Unchanged.{still_clean, still_settled}
 use Rattle.draft_matches.specs.Laws.{placed_match}
 use Rattle.strategy.specs.Frontiers.{PlaceOf}

@@ -1,6 +1,6 @@
 use Rattle.std.proofs.Common.{Some, None, suc, subst, arith}
 use Rattle.draft.specs.Drafts.{function_of}
-use Rattle.draft_queue.specs.Queues.{waiting_in}
+use Rattle.draft_steps.specs.Queues.{waiting_in}
 use Rattle.draft_matches.specs.Laws.{placed_match}
 use Rattle.strategy.specs.Frontiers.{SearchesTo}
 use Rattle.strategy.proofs.Requeueing.{room_for_fewer}

@@ -1,0 +1,51 @@
+-- Walks over drafts of which only what is listed for registers differs.
+use Rattle.std.proofs.Common.{◌≡◌, ℕ, zero, suc, ◌<◌, inl, List, length, All, Contains, refl, sym, ap, subst, ◌∙◌}
+use Rattle.std.proofs.lemmas.List.{get_or_append_left}
+use Rattle.std.proofs.lemmas.Option.{slice_get-get_or}
+use Rattle.ir_core.specs.Blocks.{HasInst}
+use Rattle.ir_core.specs.declared.function.Function.{Function}
+use Rattle.ir_core.specs.declared.operand.Register.TheVariants as registers
+use Rattle.needed.proofs.Counting.{contains_at}
+use Rattle.draft.specs.Drafts.{Reaches}
+use Rattle.places.specs.Heaps.{nowhere, place_at}
+use Rattle.readers.specs.Readers.{IsReader}
+use Rattle.draft_steps.specs.Walks.{IsFurther, IsSameDraft, IsWalk, ReadersCame}
+use Rattle.draft.specs.Whole.{IsWhole}
+use Rattle.draft.specs.declared.draft.Draft.{Draft}
+use Rattle.places.specs.declared.place.Place.{Place}
+use Rattle.draft_steps.specs.declared.walk.Walk.{Walk}
+use Rattle.draft_steps.proofs.SameDrafts.{stays}
+
+pub same-itself : (d : Draft) → IsWhole d → IsSameDraft d d
+same-itself d whole = record { whole = whole; arena = refl; orders = refl; stand = refl; fallen = refl }
+
+pub same-twice : (a b c : Draft) → IsSameDraft a b → IsSameDraft b c → IsSameDraft a c
+same-twice a b c one two = record {
+  whole = two.whole;
+  arena = two.arena ∙ one.arena;
+  orders = two.orders ∙ one.orders;
+  stand = two.stand ∙ one.stand;
+  fallen = two.fallen ∙ one.fallen;
+}
+
+pub walk-by : (old new : Draft) (w : Walk) → new.arena ≡ old.arena → IsWalk old w → IsWalk new w
+walk-by old new w arena walk = record {
+  blocks = walk.blocks ∙ ap (λ (f : Function). length f.blocks) (sym arena);
+  insts = subst (λ (f : Function). All (λ (q : Place). HasInst f q.block q.number) w.found.items) (sym arena) walk.insts;
+  marked = walk.marked;
+}
+
+pub readers-by : (old new : Draft) (same : IsSameDraft old new) (w : Walk) (p : Place) → ReadersCame new w p → ReadersCame old w p
+readers-by old new same w p came n stands reads =
+    let q : Place = record { block = p.block; number = n } in
+    came n (stays old new same p.block n stands) (subst (λ (f : Function). IsReader f (registers.Result p.block p.number) q) (sym same.arena) reads)
+
+pub place-further : (u v : Walk) (k : ℕ) → IsFurther u v → k < length u.found.items → place_at v.found.items k ≡ place_at u.found.items k
+place-further u v k further within = ap (λ (l : List Place). place_at l k) further.is ∙ get_or_append_left u.found.items further.more nowhere k within
+
+pub place-among : (places : List Place) (k : ℕ) → k < length places → Contains places (place_at places k)
+place-among places k within = contains_at places (place_at places k) k (slice_get-get_or places k nowhere within)
+
+pub reaches-itself : (d : Draft) (depth b n : ℕ) → Reaches d depth b n n
+reaches-itself d zero b n = refl
+reaches-itself d (suc depth) b n = inl refl

@@ -1,0 +1,35 @@
+-- Walks that go on.
+use Rattle.std.proofs.Common.{◌≡◌, ℕ, inl, inr, [], ◌∷◌, ◌++◌, length, All, Contains, sym, ap, subst, ◌∙◌, append-nil, append_assoc}
+use Rattle.std.proofs.lemmas.List.Elements.{All-push, Contains-append_left, Contains-push}
+use Rattle.ir_core.specs.Blocks.{HasInst}
+use Rattle.draft.specs.declared.draft.Draft.{Draft}
+use Rattle.places.specs.declared.place.Place.{Place}
+use Rattle.draft_steps.specs.declared.walk.Walk.{Walk}
+use Rattle.places.specs.Sets.{IsAdded}
+use Rattle.draft_steps.specs.Walks.{Came, IsFurther, IsWalk}
+
+pub further-same : (w : Walk) → IsFurther w w
+further-same w = record { more = []; is = sym (append-nil w.found.items) }
+
+pub further-twice : (u v w : Walk) → IsFurther u v → IsFurther v w → IsFurther u w
+further-twice u v w one two = record {
+  more = one.more ++ two.more;
+  is = two.is ∙ ap (λ l. l ++ two.more) one.is ∙ append_assoc u.found.items one.more two.more;
+}
+
+pub came-further : (v w : Walk) (b n : ℕ) → IsFurther v w → Came v b n → Came w b n
+came-further v w b n further came =
+    subst (λ l. Contains l (record { block = b; number = n })) (sym further.is) (Contains-append_left v.found.items further.more (record { block = b; number = n }) came)
+
+-- one more place
+pub walk-more : (d : Draft) (old new : Walk) (p : Place) → IsWalk d old → HasInst d.arena p.block p.number → length new.reached ≡ length old.reached → IsAdded old.reached new.reached p → new.found.items ≡ old.found.items ++ p ∷ []
+    → IsWalk d new
+walk-more d old new p walk inst blocks added found = record {
+  blocks = blocks ∙ walk.blocks;
+  insts = subst (All (λ (q : Place). HasInst d.arena q.block q.number)) (sym found) (All-push (λ (q : Place). HasInst d.arena q.block q.number) old.found.items p walk.insts inst);
+  marked = λ b n has. subst (λ l. Contains l (record { block = b; number = n })) (sym found) (elim ((added b n).0 has) [
+    | inl is ↦ subst (λ c. Contains (old.found.items ++ p ∷ []) (record { block = c; number = n })) is.0
+        (subst (λ m. Contains (old.found.items ++ p ∷ []) (record { block = p.block; number = m })) is.1 (Contains-push old.found.items p))
+    | inr had ↦ Contains-append_left old.found.items (p ∷ []) (record { block = b; number = n }) (walk.marked b n had)
+  ]);
+}

@@ -1,0 +1,41 @@
+-- What the walk came to is put in, and forgotten.
+use Rattle.std.proofs.Common.{All, Contains, sym, subst, ◌∙◌}
+use Rattle.std.proofs.lemmas.List.Elements.{All-contains}
+use Rattle.places.specs.declared.place.Place.{Place}
+use Rattle.places.specs.Heaps.{IsNumbered}
+use Rattle.places.specs.Sets.{Has}
+use Rattle.places.specs.Waiting.{IsArranged}
+use Rattle.draft_steps.specs.Walks.{IsIdle}
+use Rattle.draft_steps.proofs.QueueSteps.{walk-inside, walk-numbered}
+use Rattle.draft_steps.proofs.queue.Queue.insert_reaching.Goals as goal
+
+pub reach-requires-clause-idle : goal.reach-requires-clause-idle
+reach-requires-clause-idle c = subst (λ n. IsIdle n c.args.self.now.walk) c.requires.settled.whole.ordered c.requires.queue.idle
+
+pub insert_all-requires-clause-arranged : goal.insert_all-requires-clause-arranged
+insert_all-requires-clause-arranged c =
+    subst (λ o. IsArranged o c.args.self.now.waiting) (sym (c.as_slice.ensures.value ∙ c.in_ok-reach.ensures.draft.orders)) c.requires.queue.arranged
+
+pub insert_all-requires-clause-places : goal.insert_all-requires-clause-places
+insert_all-requires-clause-places c =
+    let d = c.reach.new.draft in
+    let w = c.reach.new.self in
+    subst (λ o. All (IsNumbered o) c.as_slice-2.result.now) (sym c.as_slice.ensures.value)
+    (subst (All (IsNumbered d.orders.items)) (sym c.as_slice-2.ensures.value) (walk-numbered d w c.in_ok-reach.ensures.draft.whole c.in_ok-reach.ensures.walk))
+
+pub clear-requires-clause-marked : goal.clear-requires-clause-marked
+clear-requires-clause-marked c = c.in_ok-reach.ensures.walk.marked
+
+pub clear-requires-clause-blocks : goal.clear-requires-clause-blocks
+clear-requires-clause-blocks c = walk-inside c.reach.new.draft c.reach.new.self c.in_ok-reach.ensures.walk
+
+pub returns-clause-queue : goal.returns-clause-queue
+returns-clause-queue c = record {
+  arranged = subst (λ o. IsArranged o c.insert_all.new.waiting) c.as_slice.ensures.value c.in_ok-insert_all.ensures.arranged;
+  idle = subst (λ n. IsIdle n c.clear.new.self) (c.in_ok-reach.ensures.walk.blocks ∙ sym c.in_ok-reach.ensures.draft.whole.ordered) c.clear.ensures;
+}
+
+pub returns-clause-reaching : goal.returns-clause-reaching
+returns-clause-reaching c = λ p n there stands reaches.
+    All-contains (λ (q : Place). Has c.insert_all.new.waiting.marks q.block q.number) c.as_slice-2.result.now (record { block = p.block; number = n }) c.in_ok-insert_all.ensures.places
+    (subst (λ l. Contains l (record { block = p.block; number = n })) (sym c.as_slice-2.ensures.value) (c.in_ok-reach.ensures.reached p n there stands reaches))

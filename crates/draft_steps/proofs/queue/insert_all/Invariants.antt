@@ -1,0 +1,13 @@
+use Rattle.std.proofs.Common.{ℕ, All, take}
+use Rattle.places.specs.Sets.{Has}
+use Rattle.places.specs.Waiting.{IsArranged}
+use Rattle.draft_steps.proofs.queue.insert_all.Given as goal
+
+-- the places before this one are in
+abbrev pub invariant-loop-place : goal.invariant-loop-place
+invariant-loop-place l =
+    record {
+      arranged : IsArranged l.orders l.waiting;
+      stay : (b n : ℕ) → Has l.initial.waiting.marks b n → Has l.waiting.marks b n;
+      places : All (λ p. Has l.waiting.marks p.block p.number) (take l.place-index l.places);
+    }

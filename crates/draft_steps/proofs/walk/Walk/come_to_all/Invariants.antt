@@ -1,0 +1,14 @@
+use Rattle.std.proofs.Common.{ℕ, ◌<◌}
+use Rattle.draft.specs.Drafts.{Stands}
+use Rattle.places.specs.Heaps.{place_at}
+use Rattle.draft_steps.specs.Walks.{Came, IsFurther, IsWalk}
+use Rattle.draft_steps.proofs.walk.Walk.come_to_all.Given as goal
+
+-- it came to the places before this one
+abbrev pub invariant-loop-place : goal.invariant-loop-place
+invariant-loop-place l =
+    record {
+      walk : IsWalk l.draft l.self;
+      further : IsFurther l.initial.self l.self;
+      came : (k : ℕ) → k < l.place-index → Stands l.draft (place_at l.places k).block (place_at l.places k).number → Came l.self (place_at l.places k).block (place_at l.places k).number;
+    }

@@ -1,0 +1,84 @@
+use Rattle.std.proofs.Common.{◌≡◌, ℕ, ◌+◌, ◌<◌, inl, inr, List, Contains, length, refl, sym, subst, ◌∙◌, arith}
+use Rattle.std.proofs.lemmas.Bool.{cases_eq}
+use Rattle.std.proofs.lemmas.List.{get_or_default}
+use Rattle.ir_core.specs.declared.function.Function.{Function}
+use Rattle.ir_core.specs.declared.operand.Register.TheVariants as registers
+use Rattle.draft.specs.Drafts.{Stands}
+use Rattle.places.specs.Heaps.{nowhere, place_at}
+use Rattle.readers.specs.Readers.{IsPlaceIn, IsReader}
+use Rattle.draft_steps.specs.Walks.{Came, IsFurther, IsSameDraft, IsWalk}
+use Rattle.draft.specs.declared.draft.Draft.{Draft}
+use Rattle.places.specs.declared.place.Place.{Place}
+use Rattle.draft_steps.specs.declared.walk.Walk.{Walk}
+use Rattle.draft_steps.proofs.SameDrafts.{stays}
+use Rattle.draft_steps.proofs.WalkDrafts.{place-among, walk-by}
+use Rattle.draft_steps.proofs.WalkSteps.{came-further, further-same, further-twice}
+use Rattle.draft.proofs.Wholeness.{stands_there}
+use Rattle.draft_steps.proofs.walk.Walk.come_to_readers.Goals as goal
+use Rattle.draft_steps.proofs.walk.Walk.come_to_readers.Goals.{then-reader-place+in_ok-come_to, else-reader-place}
+
+-- it came to this place, if it stands in the block
+abbrev CameIn : Draft → ℕ → Walk → Place → Type 0
+CameIn d b w p = p.block ≡ b → Stands d p.block p.number → Came w p.block p.number
+
+one_more : (d : Draft) (b : ℕ) (places : List Place) (was now : Walk) (index : ℕ) → IsFurther was now → ((k : ℕ) → k < index → CameIn d b was (place_at places k)) → CameIn d b now (place_at places index)
+    → (k : ℕ) → k < index + 1 → CameIn d b now (place_at places k)
+one_more d b places was now index further so_far this k below = elim (cases_eq index k) [
+  | inl e ↦ subst (λ (i : ℕ). CameIn d b now (place_at places i)) e this
+  | inr ne ↦ λ same stands. came-further was now (place_at places k).block (place_at places k).number further (so_far k (omega arith) same stands)
+]
+
+pub come_to-requires-clause-walk : goal.come_to-requires-clause-walk
+come_to-requires-clause-walk c = walk-by c.args.draft.now c.trim_readers.new.self c.loop-reader.self c.trim_readers.ensures.arena c.loop-reader.invariant.walk
+
+pub come_to-requires-clause-place : goal.come_to-requires-clause-place
+come_to-requires-clause-place c =
+    let places : List Place = c.readers_of-reader-items.result.now in
+    let within : c.loop-reader.reader-index < length places = omega arith in
+    c.readers_of-reader-items.ensures.places (place_at places c.loop-reader.reader-index) (place-among places c.loop-reader.reader-index within)
+
+pub loop-reader-preserved : goal.loop-reader-preserved
+loop-reader-preserved c =
+    let old = c.args.draft.now in
+    let new = c.trim_readers.new.self in
+    let trimmed = c.trim_readers.ensures in
+    let same : IsSameDraft old new = record { whole = trimmed.whole; arena = trimmed.arena; orders = trimmed.orders; stand = trimmed.stand; fallen = trimmed.fallen } in
+    let l = c.loop-reader in
+    let places : List Place = c.readers_of-reader-items.result.now in
+    let p : Place = place_at places l.reader-index in
+    elim c.if-reader-place.branch [
+      | then-reader-place+in_ok-come_to w ↦
+          let on = w.in_ok-come_to.ensures in
+          let further : IsFurther l.self c.if-reader-place.self = subst (IsFurther l.self) (sym w.self-is) on.further in
+          record {
+            walk = subst (IsWalk old) (sym w.self-is) (walk-by new old w.come_to.new.self (sym trimmed.arena) on.walk);
+            further = further-twice c.args.self.now l.self c.if-reader-place.self l.invariant.further further;
+            came = one_more old c.args.place.block places l.self c.if-reader-place.self l.reader-index further l.invariant.came
+                (λ here stands. subst (λ (s : Walk). Came s p.block p.number) (sym w.self-is) (on.came (stays old new same p.block p.number stands)));
+          }
+      | else-reader-place w ↦
+          let further : IsFurther l.self c.if-reader-place.self = subst (IsFurther l.self) (sym w.self-is) (further-same l.self) in
+          record {
+            walk = subst (IsWalk old) (sym w.self-is) l.invariant.walk;
+            further = further-twice c.args.self.now l.self c.if-reader-place.self l.invariant.further further;
+            came = one_more old c.args.place.block places l.self c.if-reader-place.self l.reader-index further l.invariant.came
+                (λ here stands. absurd (w.if-reader-place.false here));
+          }
+    ]
+
+pub returns-clause-walk : goal.returns-clause-walk
+returns-clause-walk c = walk-by c.args.draft.now c.trim_readers.new.self c.loop-reader.self c.trim_readers.ensures.arena c.loop-reader.invariant.walk
+
+pub returns-clause-came : goal.returns-clause-came
+returns-clause-came c = λ n stands reads.
+    let old = c.args.draft.now in
+    let b : ℕ = c.args.place.block in
+    let p : Place = record { block = b; number = n } in
+    let places : List Place = c.readers_of-reader-items.result.now in
+    let (block, at, within) = stands_there old c.requires.whole b n stands in
+    let there : Contains places p = c.readers_of-reader-items.ensures.readers p
+    (subst (λ (f : Function). IsPlaceIn f p) (sym c.trim_readers.ensures.arena) (block, at, inl within))
+    (subst (λ (f : Function). IsReader f (registers.Result b c.args.place.number) p) (sym c.trim_readers.ensures.arena) reads) in
+    let is : place_at places there.0 ≡ p = get_or_default places there.0 nowhere p there.1 ∙ there.2 in
+    let inside = there.1 in
+    subst (λ (q : Place). CameIn old b c.loop-reader.self q) is (c.loop-reader.invariant.came there.0 (omega arith)) refl stands

@@ -1,0 +1,15 @@
+use Rattle.std.proofs.Common.{◌≡◌, ℕ, ◌<◌}
+use Rattle.draft.specs.Drafts.{Stands}
+use Rattle.places.specs.Heaps.{place_at}
+use Rattle.draft_steps.specs.Walks.{Came, IsFurther, IsWalk}
+use Rattle.draft_steps.proofs.walk.Walk.come_to_readers.Given as goal
+
+-- it came to the readers before this one that stand in the block
+abbrev pub invariant-loop-reader : goal.invariant-loop-reader
+invariant-loop-reader l =
+    record {
+      walk : IsWalk l.fn.draft l.self;
+      further : IsFurther l.initial.self l.self;
+      came : (k : ℕ) → k < l.reader-index → (place_at l.reader-items k).block ≡ l.fn.place.block → Stands l.fn.draft (place_at l.reader-items k).block (place_at l.reader-items k).number
+          → Came l.self (place_at l.reader-items k).block (place_at l.reader-items k).number;
+    }

@@ -1,0 +1,43 @@
+use Rattle.std.proofs.Common.{◌≡◌, ℕ, ◌<◌, ◌≤◌, inl, inr, length, length-append, sym, ap, subst, ◌∙◌, arith}
+use Rattle.std.proofs.lemmas.Bool.{cases_eq}
+use Rattle.std.proofs.lemmas.List.{get_or_default}
+use Rattle.ir_core.specs.Blocks.{HasInst}
+use Rattle.places.specs.Heaps.{nowhere, place_at}
+use Rattle.draft_steps.specs.Walks.{IsFurther, ReadersCame}
+use Rattle.places.specs.declared.place.Place.{Place}
+use Rattle.draft_steps.specs.declared.walk.Walk.{Walk}
+use Rattle.draft_steps.proofs.WalkDrafts.{place-further, readers-by, same-twice}
+use Rattle.draft_steps.proofs.WalkSteps.{came-further, further-twice}
+use Rattle.draft_steps.proofs.walk.Walk.follow.Goals as goal
+
+longer : (u v : Walk) → IsFurther u v → length u.found.items ≤ length v.found.items
+longer u v further = let size = ap length further.is ∙ length-append u.found.items further.more in omega arith
+
+pub come_to_readers-requires-clause-inst : goal.come_to_readers-requires-clause-inst
+come_to_readers-requires-clause-inst c =
+    let l = c.loop-index in
+    let long = longer c.args.self.now l.self l.invariant.further in
+    let within : l.index < length l.self.found.items = omega arith in
+    subst (λ (p : Place). HasInst l.draft.arena p.block p.number) (sym c.index-place.ensures) (l.invariant.walk.insts l.index c.index-place.result.now within)
+
+pub loop-index-preserved : goal.loop-index-preserved
+loop-index-preserved c =
+    let old = c.args.draft.now in
+    let first = c.args.self.now in
+    let l = c.loop-index in
+    let new = c.come_to_readers.new.self in
+    let on = c.in_ok-come_to_readers.ensures in
+    let within : l.index < length first.found.items = omega arith in
+    let long = longer first l.self l.invariant.further in
+    let place_is : c.index-place.result.now ≡ place_at first.found.items l.index =
+    c.index-place.ensures ∙ get_or_default l.self.found.items l.index c.index-place.result.now nowhere (omega arith) ∙ place-further first l.self l.index l.invariant.further within in
+    record {
+      draft = same-twice old l.draft c.come_to_readers.new.draft l.invariant.draft on.draft;
+      walk = on.walk;
+      further = further-twice first l.self new l.invariant.further on.further;
+      came = λ k low below. elim (cases_eq l.index k) [
+        | inl e ↦ subst (λ (i : ℕ). ReadersCame old new (place_at first.found.items i)) e
+            (subst (ReadersCame old new) place_is (readers-by old l.draft l.invariant.draft new c.index-place.result.now on.came))
+        | inr ne ↦ λ n stands reads. came-further l.self new (place_at first.found.items k).block n on.further (l.invariant.came k low (omega arith) n stands reads)
+      ];
+    }

@@ -1,0 +1,14 @@
+use Rattle.std.proofs.Common.{ℕ, ◌<◌, ◌≤◌}
+use Rattle.places.specs.Heaps.{place_at}
+use Rattle.draft_steps.specs.Walks.{IsFurther, IsSameDraft, IsWalk, ReadersCame}
+use Rattle.draft_steps.proofs.walk.Walk.follow.Given as goal
+
+-- it came to what reads the places before this one
+abbrev pub invariant-loop-index : goal.invariant-loop-index
+invariant-loop-index l =
+    record {
+      draft : IsSameDraft l.initial.draft l.draft;
+      walk : IsWalk l.draft l.self;
+      further : IsFurther l.initial.self l.self;
+      came : (k : ℕ) → l.fn.from ≤ k → k < l.index → ReadersCame l.initial.draft l.self (place_at l.initial.self.found.items k);
+    }

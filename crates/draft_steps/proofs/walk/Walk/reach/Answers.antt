@@ -1,0 +1,91 @@
+use Rattle.std.proofs.Common.{◌≡◌, ℕ, suc, ◌+◌, ◌<◌, ◌≤◌, inl, inr, length, length-append, sym, ap, subst, ◌∙◌, arith}
+use Rattle.std.proofs.lemmas.Bool.{cases_lt}
+use Rattle.std.proofs.lemmas.List.{get_or_default}
+use Rattle.ir_core.specs.declared.operand.Register.TheVariants as registers
+use Rattle.needed.specs.Needed.{ReadsRegister}
+use Rattle.draft.specs.Drafts.{Reaches, Stands}
+use Rattle.places.specs.Heaps.{nowhere, place_at}
+use Rattle.readers.specs.Readers.{IsReader, arena_place}
+use Rattle.draft_steps.specs.Walks.{Came, IsFurther, IsSameDraft, ReadersCame}
+use Rattle.draft.specs.Whole.{IsSettled}
+use Rattle.draft.specs.declared.draft.Draft.{Draft}
+use Rattle.places.specs.declared.place.Place.{Place}
+use Rattle.draft_steps.specs.declared.walk.Walk.{Walk}
+use Rattle.readers.proofs.Reading.{arena_place_inst}
+use Rattle.draft_steps.proofs.WalkDrafts.{place-further, reaches-itself, readers-by, same-itself, same-twice}
+use Rattle.draft_steps.proofs.WalkSteps.{came-further}
+use Rattle.draft.proofs.Wholeness.{few_insts, stands_there}
+use Rattle.draft_steps.proofs.walk.Walk.reach.Goals as goal
+
+-- what was read before the last level, and then what it came to at it
+readers_next : (old mid : Draft) (same : IsSameDraft old mid) (was now : Walk) (next end : ℕ) → IsFurther was now → end ≤ length was.found.items → next ≤ end
+    → ((k : ℕ) → k < next → ReadersCame old was (place_at was.found.items k))
+    → ((k : ℕ) → next ≤ k → k < end → ReadersCame mid now (place_at was.found.items k))
+    → (k : ℕ) → k < end → ReadersCame old now (place_at now.found.items k)
+readers_next old mid same was now next end further within low before at_last k below =
+    let is = place-further was now k further (omega arith) in
+    subst (ReadersCame old now) (sym is) (elim (cases_lt k next) [
+      | inl early ↦ λ n stands reads. came-further was now (place_at was.found.items k).block n further (before k early n stands reads)
+      | inr late ↦ readers-by old mid same now (place_at was.found.items k) (at_last k (omega arith) below)
+    ])
+
+-- so it came to what reaches a place through one operand more
+reached_next : (d : Draft) (settled : IsSettled d) (was now : Walk) (level b m : ℕ) → IsFurther was now
+    → ((k : ℕ) → k < length was.found.items → ReadersCame d now (place_at now.found.items k))
+    → ((n : ℕ) → Stands d b n → Reaches d level b n m → Came was b n)
+    → (n : ℕ) → Stands d b n → Reaches d (suc level) b n m → Came now b n
+reached_next d settled was now level b m further readers before n stands (inl same) =
+    came-further was now b n further (before n stands (subst (Reaches d level b n) same (reaches-itself d level b n)))
+reached_next d settled was now level b m further readers before n stands (inr (k, i, r, stands_too, is_read, operand, rest)) =
+    let p : Place = record { block = b; number = n } in
+    let q : Place = record { block = b; number = k } in
+    let (block, at, within) = stands_there d settled.whole b n stands in
+    let few = few_insts d settled.whole b block at in
+    let here : arena_place d.arena p ≡ n = arena_place_inst d.arena p (omega arith) in
+    let reads : IsReader d.arena (registers.Result b k) p = subst (λ (x : ℕ). ReadsRegister d.arena b x (registers.Result b k)) (sym here) (record { operand = i; read = r; is_read = is_read; reads = operand }) in
+    let there : Came was b k = before k (settled.read_stands b k p (block, at, inl within) reads) rest in
+    let inside = there.1 in
+    let found : place_at now.found.items there.0 ≡ q = place-further was now there.0 further there.1 ∙ get_or_default was.found.items there.0 nowhere q there.1 ∙ there.2 in
+    subst (ReadersCame d now) found (readers there.0 there.1) n stands reads
+
+pub loop-level-init : goal.loop-level-init
+loop-level-init c = record {
+  draft = same-itself c.args.draft.now c.requires.settled.whole;
+  walk = c.in_ok-come_to_all.ensures.walk;
+  next = omega arith;
+  read = λ k below. absurd (omega arith);
+  reached = λ p n there stands reaches.
+      let same : n ≡ p.number = reaches in
+      subst (λ (m : ℕ). Came c.come_to_all.new.self p.block m) (sym same) (c.in_ok-come_to_all.ensures.came p there (subst (Stands c.args.draft.now p.block) same stands));
+}
+
+pub loop-level-preserved : goal.loop-level-preserved
+loop-level-preserved c =
+    let d = c.args.draft.now in
+    let l = c.loop-level in
+    let inv = l.invariant in
+    let now = c.follow.new.self in
+    let on = c.in_ok-follow.ensures in
+    let count = l.self.found.ok.0 in
+    let found = c.len-end.ensures in
+    let end : c.len-end.result ≡ length l.self.found.items = omega arith in
+    let low = inv.next in
+    let size = ap length on.further.is ∙ length-append l.self.found.items on.further.more in
+    let readers : (k : ℕ) → k < length l.self.found.items → ReadersCame d now (place_at now.found.items k) =
+    readers_next d l.draft inv.draft l.self now l.next (length l.self.found.items) on.further (omega arith) inv.next inv.read (λ k above below. on.came k above (omega arith)) in
+    record {
+      draft = same-twice d l.draft c.follow.new.draft inv.draft on.draft;
+      walk = on.walk;
+      next = omega arith;
+      read = λ k below. readers k (omega arith);
+      reached = λ p n there stands reaches.
+          let one : l._level + 1 ≡ suc l._level = omega arith in
+          reached_next d c.requires.settled l.self now l._level p.block p.number on.further readers (λ m m_stands m_reaches. inv.reached p m there m_stands m_reaches) n stands
+          (subst (λ (k : ℕ). Reaches d k p.block n p.number) one reaches);
+    }
+
+pub returns-clause-reached : goal.returns-clause-reached
+returns-clause-reached c = λ p n there stands reaches.
+    let l = c.loop-level in
+    let all : c.args.depth ≡ l._level = omega arith in
+    l.invariant.reached p n there stands (subst (λ (k : ℕ). Reaches c.args.draft.now k p.block n p.number) all reaches)

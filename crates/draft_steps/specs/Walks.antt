@@ -1,0 +1,44 @@
+-- Walks from places to what reads them in their block.
+use Rattle.std.specs.Prelude.{◌≡◌, ℕ, ◌++◌, List, [], length, All, Contains}
+use Rattle.draft.specs.declared.draft.Draft.{Draft}
+use Rattle.places.specs.declared.place.Place.{Place}
+use Rattle.draft_steps.specs.declared.walk.Walk.{Walk}
+use Rattle.ir_core.specs.Blocks.{HasInst}
+use Rattle.ir_core.specs.declared.operand.Register.TheVariants as registers
+use Rattle.draft.specs.Drafts.{Stands}
+use Rattle.readers.specs.Readers.{IsReader}
+use Rattle.places.specs.Sets.{Has}
+use Rattle.draft.specs.Whole.{IsWhole}
+
+-- the walk came to number n of block b
+abbrev pub Came : Walk → ℕ → ℕ → Type 0
+Came w b n = Contains w.found.items (record { block = b; number = n })
+
+-- It came to no place of so many blocks.
+pub record IsIdle (blocks : ℕ) (w : Walk) : Type 0 where
+  pub blocks_are : length w.reached ≡ blocks
+  pub unmarked : (b n : ℕ) → ¬ Has w.reached b n
+  pub none : w.found.items ≡ []
+
+-- It came to instructions of the draft. What is marked is among them.
+pub record IsWalk (d : Draft) (w : Walk) : Type 0 where
+  pub blocks : length w.reached ≡ length d.arena.blocks
+  pub insts : All (λ p. HasInst d.arena p.block p.number) w.found.items
+  pub marked : (b n : ℕ) → Has w.reached b n → Came w b n
+
+-- It goes on from where it came to.
+pub record IsFurther (old new : Walk) : Type 0 where
+  pub more : List Place
+  pub is : new.found.items ≡ old.found.items ++ more
+
+-- Only of what reads registers less may be listed.
+pub record IsSameDraft (old new : Draft) : Type 0 where
+  pub whole : IsWhole new
+  pub arena : new.arena ≡ old.arena
+  pub orders : new.orders.items ≡ old.orders.items
+  pub stand : new.stand.items ≡ old.stand.items
+  pub fallen : new.fallen.items ≡ old.fallen.items
+
+-- it came to what reads an instruction in its block and stands
+abbrev pub ReadersCame : Draft → Walk → Place → Type 0
+ReadersCame d w p = (n : ℕ) → Stands d p.block n → IsReader d.arena (registers.Result p.block p.number) (record { block = p.block; number = n }) → Came w p.block n

@@ -1,0 +1,149 @@
+//! What reaches places through operands of their block.
+
+ghost use Rattle.std.specs.Prelude.{◌<◌, ◌≤◌, ℕ, length, All, Contains, IfOk, OnOk};
+ghost use Rattle.ir_core.specs.Blocks.{HasInst};
+ghost use Rattle.draft.specs.Drafts.{Stands, Reaches};
+ghost use Rattle.places.specs.Heaps.{place_at};
+ghost use Rattle.readers.specs.Readers.{IsPlaceIn};
+ghost use Rattle.places.specs.Sets.{Has};
+ghost use Rattle.draft_steps.specs.Walks.{IsIdle, IsWalk, IsFurther, IsSameDraft, Came, ReadersCame};
+ghost use Rattle.draft.specs.Whole.{IsWhole, IsSettled};
+ghost use Rattle.places.specs.declared.place.Place.{Place as Spot};
+
+use draft::Draft;
+use ir_core::Register;
+use places::{END, Marks, Place};
+use std::alloc::{AllocError, Global};
+
+/// Places of instructions that a walk came to, each once.
+#[derive(Drop)]
+pub(crate) struct Walk {
+    reached: Marks,
+    pub(crate) found: Vec<Place>,
+}
+
+impl Walk {
+    /// A walk that came to no place of so many blocks.
+    pub(crate) fn none(alloc: Global, blocks: u32) -> Result<Walk, AllocError>
+        ensures { IfOk result (IsIdle blocks) }
+    {
+        let reached = Marks::none(alloc, blocks)?;
+        let found = Vec::new(alloc);
+        Ok(Walk { reached, found })
+    }
+
+    /// Comes to places that stand, and to what reaches them through so many operands of their block.
+    pub(crate) fn reach(
+        &mut self,
+        alloc: Global,
+        draft: &mut Draft,
+        places: &[Place],
+        depth: usize,
+    ) -> Result<(), AllocError>
+        requires settled { IsSettled draft.old }
+        requires idle { IsIdle (length draft.old.arena.blocks) self.old }
+        requires places { All (IsPlaceIn draft.old.arena) places.now }
+        ensures draft { OnOk result (IsSameDraft draft.old draft.new) }
+        ensures walk { OnOk result (IsWalk draft.new self.new) }
+        ensures reached { OnOk result ((p : Spot) (n : ℕ) → Contains places.now p → Stands draft.old p.block n
+            → Reaches draft.old depth p.block n p.number → Came self.new p.block n) }
+    {
+        self.come_to_all(draft, places)?;
+        let mut next = 0;
+        for _level in 0..depth {
+            let end = self.found.len();
+            self.follow(alloc, draft, next, end)?;
+            next = end;
+        }
+        Ok(())
+    }
+
+    /// Forgets what it came to.
+    pub(crate) fn clear(&mut self)
+        requires marked { (b n : ℕ) → Has self.old.reached b n → Came self.old b n }
+        requires blocks { All (λ p. p.block < length self.old.reached) self.old.found.items }
+        ensures { IsIdle (length self.old.reached) self.new }
+    {
+        while let Some(place) = self.found.pop() {
+            self.reached.remove(place);
+        }
+    }
+
+    fn come_to_all(&mut self, draft: &Draft, places: &[Place]) -> Result<(), AllocError>
+        requires whole { IsWhole draft.now }
+        requires walk { IsWalk draft.now self.old }
+        requires places { All (IsPlaceIn draft.now.arena) places.now }
+        ensures walk { OnOk result (IsWalk draft.now self.new) }
+        ensures further { OnOk result (IsFurther self.old self.new) }
+        ensures came { OnOk result ((p : Spot) → Contains places.now p → Stands draft.now p.block p.number → Came self.new p.block p.number) }
+    {
+        for place in places {
+            self.come_to(draft, *place)?;
+        }
+        Ok(())
+    }
+
+    /// Comes to what reads the places from one on up to another.
+    fn follow(
+        &mut self,
+        alloc: Global,
+        draft: &mut Draft,
+        from: usize,
+        end: usize,
+    ) -> Result<(), AllocError>
+        requires whole { IsWhole draft.old }
+        requires walk { IsWalk draft.old self.old }
+        requires end { end ≤ length self.old.found.items }
+        ensures draft { OnOk result (IsSameDraft draft.old draft.new) }
+        ensures walk { OnOk result (IsWalk draft.new self.new) }
+        ensures further { OnOk result (IsFurther self.old self.new) }
+        ensures came { OnOk result ((k : ℕ) → from ≤ k → k < end → ReadersCame draft.old self.new (place_at self.old.found.items k)) }
+    {
+        for index in from..end {
+            let place = self.found[index];
+            self.come_to_readers(alloc, draft, place)?;
+        }
+        Ok(())
+    }
+
+    /// Comes to what reads an instruction in its block.
+    fn come_to_readers(
+        &mut self,
+        alloc: Global,
+        draft: &mut Draft,
+        place: Place,
+    ) -> Result<(), AllocError>
+        requires whole { IsWhole draft.old }
+        requires walk { IsWalk draft.old self.old }
+        requires inst { HasInst draft.old.arena place.block place.number }
+        ensures draft { OnOk result (IsSameDraft draft.old draft.new) }
+        ensures walk { OnOk result (IsWalk draft.new self.new) }
+        ensures further { OnOk result (IsFurther self.old self.new) }
+        ensures came { OnOk result (ReadersCame draft.old self.new place) }
+    {
+        let register = Register::Result(place.block, place.number);
+        draft.trim_readers(alloc, register);
+        for reader in draft.readers_of(register) {
+            if reader.block == place.block {
+                self.come_to(draft, *reader)?;
+            }
+        }
+        Ok(())
+    }
+
+    /// Comes to a place, where an instruction stands there and the walk didn't come there before.
+    fn come_to(&mut self, draft: &Draft, place: Place) -> Result<(), AllocError>
+        requires whole { IsWhole draft.now }
+        requires walk { IsWalk draft.now self.old }
+        requires place { IsPlaceIn draft.now.arena place }
+        ensures walk { OnOk result (IsWalk draft.now self.new) }
+        ensures further { OnOk result (IsFurther self.old self.new) }
+        ensures came { OnOk result (Stands draft.now place.block place.number → Came self.new place.block place.number) }
+    {
+        if place.number != END && draft.stands(place) && !self.reached.has(place) {
+            self.reached.insert(place)?;
+            self.found.push(place)?;
+        }
+        Ok(())
+    }
+}
