@@ -38,3 +38,16 @@ pub mod Walking
 pub mod QueueLaws
 pub mod WalkDrafts
 pub mod SameDrafts
+pub mod Same
+pub mod Rooted
+pub mod Rows
+pub mod Reading
+pub mod Once
+pub mod Places
+pub mod Back
+pub mod Arena
+pub mod PlacedMatches
+pub mod Filtered
+pub mod Untouched
+pub mod Reaching
+pub mod Drafted

@@ -6,3 +6,4 @@ pub mod Rewriting
 pub mod Arranged
 pub mod Walks
 pub mod Queues
+pub mod MatchLaws

@@ -18,7 +18,7 @@ use Rattle.bindings.specs.declared.binding.Binding.{Binding}
 use Rattle.draft.specs.declared.draft.Draft.{Draft}
 use Rattle.draft.specs.Drafts.{function_of, numbers_of, arena_of}
 use Rattle.draft.specs.Whole.{IsSettled}
-use Rattle.draft_matches.proofs.Places.{reached_back, reached_on}
+use Rattle.draft_steps.proofs.Places.{reached_back, reached_on}
 use Rattle.draft_steps.proofs.Arranged.{is_arranged}
 
 -- a walk goes on where each block names what it named

@@ -16,8 +16,8 @@ use Rattle.places.specs.Orders.{none}
 use Rattle.places.specs.Sets.{Has, Rows}
 use Rattle.draft.specs.Whole.{IsSettled}
 use Rattle.draft_steps.specs.Arranged.{arranged, row_of}
-use Rattle.draft_matches.specs.Laws.{AreSourcesWithin, MatchesOfTheUntouched}
-use Rattle.draft_matches.proofs.Reaching.{itself}
+use Rattle.draft_steps.specs.MatchLaws.{AreSourcesWithin, MatchesOfTheUntouched}
+use Rattle.draft_steps.proofs.Reaching.{itself}
 use Rattle.asked_verdicts.specs.Asked.{IsTurnedDown}
 use Rattle.strategy.specs.Countable.{IsCountable}
 use Rattle.strategy.specs.Frontiers.{AreTurnedDownAt, AreTurnedDownBut, Nowhere}

@@ -25,9 +25,9 @@ use Rattle.places.specs.Orders.{place_in}
 use Rattle.places.specs.Sets.{Has, IsPlace, IsRemoved, Rows}
 use Rattle.draft.specs.Whole.{IsSettled}
 use Rattle.draft_steps.specs.Arranged.{AreArranged}
-use Rattle.draft_matches.specs.Laws.{MatchesOfTheArena, placed_match}
-use Rattle.draft_matches.proofs.Places.{inst_on, number_at}
-use Rattle.draft_matches.proofs.Rows.{number_there}
+use Rattle.draft_steps.specs.MatchLaws.{MatchesOfTheArena, placed_match}
+use Rattle.draft_steps.proofs.Places.{inst_on, number_at}
+use Rattle.draft_steps.proofs.Rows.{number_there}
 use Rattle.draft_steps.proofs.Arranged.{is_arranged}
 use Rattle.asked_verdicts.specs.declared.verdicts.Verdicts.{Verdicts}
 use Rattle.asked_verdicts.specs.Asked.{Pair, pair_of, IsTurnedDown}

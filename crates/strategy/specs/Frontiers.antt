@@ -14,7 +14,7 @@ use Rattle.draft.specs.Drafts.{Stands, function_of, arena_of}
 use Rattle.draft_steps.specs.Queues.{IsQueueOf, waiting_in}
 use Rattle.places.specs.Sets.{Rows, Has}
 use Rattle.draft.specs.Whole.{IsSettled}
-use Rattle.draft_matches.specs.Laws.{AreSourcesWithin, placed_match}
+use Rattle.draft_steps.specs.MatchLaws.{AreSourcesWithin, placed_match}
 use Rattle.asked_verdicts.specs.declared.verdicts.Verdicts.{Verdicts}
 use Rattle.asked_verdicts.specs.Asked.{IsTurnedDown}
 use Rattle.asked_verdicts.specs.Asks.{AsksAll, AsksUpTo, IsAnywhere}

@@ -16,7 +16,7 @@ ghost use Rattle.places.specs.Orders.{none};
 ghost use Rattle.draft_steps.specs.Queues.{IsQueueOf, waiting_in};
 ghost use Rattle.readers.specs.Readers.{IsPlaceIn};
 ghost use Rattle.draft.specs.Whole.{IsSettled};
-ghost use Rattle.draft_matches.specs.Laws.{AreSourcesWithin, placed_match};
+ghost use Rattle.draft_steps.specs.MatchLaws.{AreSourcesWithin, placed_match};
 ghost use Rattle.asked_verdicts.specs.Asks.{AreVerdicts, AsksAll, IsAnywhere};
 ghost use Rattle.strategy.specs.Countable.{IsCountable};
 ghost use Rattle.strategy.specs.Frontiers.{AreTurnedDownBut, AsksAt, IsFrontier, IsSteppedAt, LooksAt, Nowhere, PlaceOf, SearchesTo};
@@ -25,8 +25,7 @@ ghost use Rattle.strategy.specs.Searches.{OptimisesCleaned, OptimisesFunction, S
 use crate::steps::{Bounds, Turns, clean_checked};
 use asked_verdicts::{Verdicts, any_admitted, first_admitted};
 use draft::Draft;
-use draft_matches::{matches_of_the_arena, matches_of_the_untouched};
-use draft_steps::{Queue, orders_are_kept};
+use draft_steps::{Queue, matches_of_the_arena, matches_of_the_untouched, orders_are_kept};
 use ir_core::Function;
 use needed::{every_cleaned_function_refines_the_old, every_cleaned_number_was_there};
 use places::Place;

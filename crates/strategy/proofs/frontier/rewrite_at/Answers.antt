@@ -12,7 +12,7 @@ use Rattle.draft_steps.specs.Queues.{waiting_in}
 use Rattle.readers.specs.Readers.{IsPlaceIn}
 use Rattle.draft_steps.proofs.SameDrafts.{same_numbers}
 use Rattle.draft_steps.proofs.Unchanged.{still_clean, still_settled}
-use Rattle.draft_matches.specs.Laws.{placed_match}
+use Rattle.draft_steps.specs.MatchLaws.{placed_match}
 use Rattle.strategy.specs.Frontiers.{PlaceOf}
 use Rattle.strategy.proofs.Reaching.{reached_as_before}
 use Rattle.strategy.proofs.Requeueing.{same_function, still_down}

@@ -10,7 +10,7 @@ use Rattle.rule_matches.specs.Matches.{IsMatchAmong}
 use Rattle.rule_matches.specs.Ready.{AreReady}
 use Rattle.rule_matches.specs.declared.matches.Match.{Match}
 use Rattle.draft.specs.Drafts.{function_of}
-use Rattle.draft_matches.specs.Laws.{placed_match}
+use Rattle.draft_steps.specs.MatchLaws.{placed_match}
 use Rattle.ir_core.specs.declared.function.Function.{Function}
 use Rattle.strategy.proofs.Numbers.{cleaned_numbers_fit}
 use Rattle.strategy.proofs.frontier.rewrite_draft.Goals as goal

@@ -1,7 +1,7 @@
 use Rattle.std.proofs.Common.{Some, None, suc, subst, arith}
 use Rattle.draft.specs.Drafts.{function_of}
 use Rattle.draft_steps.specs.Queues.{waiting_in}
-use Rattle.draft_matches.specs.Laws.{placed_match}
+use Rattle.draft_steps.specs.MatchLaws.{placed_match}
 use Rattle.strategy.specs.Frontiers.{SearchesTo}
 use Rattle.strategy.proofs.Requeueing.{room_for_fewer}
 use Rattle.strategy.proofs.Stepping.{search_ended, step_made}

@@ -22,9 +22,9 @@ use Rattle.moved_matches.proofs.Staying.{matches_stay}
 use Rattle.draft.specs.Drafts.{placed}
 use Rattle.places.specs.Orders.{place_in}
 use Rattle.draft_steps.specs.Arranged.{AreArranged, arranged, row_of}
-use Rattle.draft_matches.proofs.Back.{inst_back, numbered}
-use Rattle.draft_matches.proofs.Places.{IsStanding, inst_on, inst_was, placed-is, placed_register, reached_back, reached_on, used_once_back, used_once_on}
-use Rattle.draft_matches.proofs.Rooted.{bound_inst, bound_there, each_come}
+use Rattle.draft_steps.proofs.Back.{inst_back, numbered}
+use Rattle.draft_steps.proofs.Places.{IsStanding, inst_on, inst_was, placed-is, placed_register, reached_back, reached_on, used_once_back, used_once_on}
+use Rattle.draft_steps.proofs.Rooted.{bound_inst, bound_there, each_come}
 
 never_undef : (rows : List (List ℕ)) (r : Register) → placed rows r ≡ operands.Undef → ⊥
 never_undef rows (registers.Parameter p) is = absurd cc

@@ -24,9 +24,9 @@ use Rattle.bindings.proofs.Reading.{reads_at_inst, same_inst}
 use Rattle.rule_matches.specs.declared.matches.Match.{Match}
 use Rattle.rule_matches.specs.Matches.{AreMatchesInAnyOrder, ComesBefore, IsAt, IsMatchInAnyOrder}
 use Rattle.rule_matches.specs.Ready.{AreReady}
-use Rattle.draft_matches.proofs.Filtered.{Filtered, filtered}
-use Rattle.draft_matches.proofs.Rooted.{bound_there, each_come}
-use Rattle.draft_matches.proofs.Same.{match_too, same_reads}
+use Rattle.draft_steps.proofs.Filtered.{Filtered, filtered}
+use Rattle.draft_steps.proofs.Rooted.{bound_there, each_come}
+use Rattle.draft_steps.proofs.Same.{match_too, same_reads}
 
 -- the instruction is the same in both, and is used once now only where it was
 pub record IsSameInst (old new : Function) (b p : ℕ) : Type 0 where

@@ -22,9 +22,9 @@ use Rattle.bindings.proofs.Reading.{reads_at_inst}
 use Rattle.draft.specs.Drafts.{block_of, insts_of, placed}
 use Rattle.places.specs.Orders.{place_in}
 use Rattle.draft_steps.specs.Arranged.{AreArranged, arranged, row_of}
-use Rattle.draft_matches.proofs.Once.{once_on}
-use Rattle.draft_matches.proofs.Reading.{end_substituted, operands_read, read_cases, reads_substituted, targets_substituted}
-use Rattle.draft_matches.proofs.Rows.{as_many_insts, block_at, block_back, inst_at, inst_back, number_there}
+use Rattle.draft_steps.proofs.Once.{once_on}
+use Rattle.draft_steps.proofs.Reading.{end_substituted, operands_read, read_cases, reads_substituted, targets_substituted}
+use Rattle.draft_steps.proofs.Rows.{as_many_insts, block_at, block_back, inst_at, inst_back, number_there}
 
 -- the register for which one of the arena stands
 abbrev pub placed_register : List (List ℕ) → Register → Register

@@ -7,11 +7,11 @@ use Rattle.bindings.specs.Laws.{TemporariesStandBefore}
 use Rattle.draft.specs.declared.draft.Draft.{Draft}
 use Rattle.draft.specs.Drafts.{Reaches, Stands, numbers_of, arena_of}
 use Rattle.draft_steps.specs.Arranged.{AreArranged}
-use Rattle.draft_matches.specs.Laws.{MatchesOfTheArena, MatchesOfTheUntouched}
-use Rattle.draft_matches.proofs.PlacedMatches.{placed_matches}
-use Rattle.draft_matches.proofs.Reaching.{and_on, itself, within_more}
+use Rattle.draft_steps.specs.MatchLaws.{MatchesOfTheArena, MatchesOfTheUntouched}
+use Rattle.draft_steps.proofs.PlacedMatches.{placed_matches}
+use Rattle.draft_steps.proofs.Reaching.{and_on, itself, within_more}
 use Rattle.draft_steps.proofs.Arranged.{is_arranged, once_or_not}
-use Rattle.draft_matches.proofs.Untouched.{IsSameInst, StillThere, still_there}
+use Rattle.draft_steps.proofs.Untouched.{IsSameInst, StillThere, still_there}
 
 pub of_the_arena : TemporariesStandBefore → MatchesOfTheArena
 of_the_arena stand_before rules d b n matches ready settled checks stands found =

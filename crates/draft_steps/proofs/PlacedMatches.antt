@@ -22,9 +22,9 @@ use Rattle.rule_matches.proofs.Joining.{pairs_first, pairs_later}
 use Rattle.draft.specs.Drafts.{placed}
 use Rattle.places.specs.Orders.{place_in}
 use Rattle.draft_steps.specs.Arranged.{AreArranged, arranged, row_of}
-use Rattle.draft_matches.proofs.Arena.{numbered_match, placed_match}
-use Rattle.draft_matches.proofs.Back.{numbered}
-use Rattle.draft_matches.proofs.Rows.{number_there}
+use Rattle.draft_steps.proofs.Arena.{numbered_match, placed_match}
+use Rattle.draft_steps.proofs.Back.{numbered}
+use Rattle.draft_steps.proofs.Rows.{number_there}
 
 -- the match by places
 abbrev pub put_in_place : List (List ℕ) → Match → Match

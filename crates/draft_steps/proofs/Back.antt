@@ -15,8 +15,8 @@ use Rattle.substitution.specs.Substitution.{Substitution, substituted_inst, subs
 use Rattle.draft.specs.Drafts.{placed}
 use Rattle.places.specs.Orders.{place_in}
 use Rattle.draft_steps.specs.Arranged.{row_of}
-use Rattle.draft_matches.proofs.Places.{IsStanding}
-use Rattle.draft_matches.proofs.Rows.{number_there}
+use Rattle.draft_steps.proofs.Places.{IsStanding}
+use Rattle.draft_steps.proofs.Rows.{number_there}
 
 -- for each register by its place the one of the arena
 abbrev pub numbered : List (List ℕ) → Substitution
