@@ -24,7 +24,7 @@ use Rattle.command_line.specs.declared.command.Command.{Command}
 use Rattle.command_line.specs.declared.command.Command.TheVariants as commands
 use Rattle.command_line.specs.declared.command.OptimiseOptions.{OptimiseOptions}
 use Rattle.command_line.specs.declared.command.VerifyOptions.{VerifyOptions}
-use Rattle.verdict.specs.declared.verdict.Row.{Row as VerdictRow}
+use Rattle.verdict_core.specs.declared.verdicts.Row.{Row as VerdictRow}
 use Rattle.run_text.specs.OutcomeLaws.{RunsAreNotMisnamed}
 use Rattle.alive_top.specs.declared.status.Ended.{Ended}
 use Rattle.alive_top.specs.declared.status.Status.{Status}

@@ -9,12 +9,12 @@ use Rattle.ir_reader.specs.Faults.{IsModuleText}
 use Rattle.ir_printer.specs.Forms.{ModuleHasForms}
 use Rattle.ir_printer.specs.PrintedText.{text_of}
 use Rattle.ir_printer.specs.Report.{report_of}
-use Rattle.strategy.specs.Countable.{ModuleIsCountable}
-use Rattle.strategy.specs.Decided.{MatchesAreDecided}
-use Rattle.strategy.specs.PlainStrategy.{IsPlainStrategy}
+use Rattle.strategy_core.specs.Countable.{ModuleIsCountable}
+use Rattle.strategy_core.specs.Decided.{MatchesAreDecided}
+use Rattle.strategy_core.specs.PlainStrategy.{IsPlainStrategy}
 use Rattle.verdict.specs.Rule.{Rule}
 use Rattle.verdict.specs.Table.{IsHonestTable, table_text}
-use Rattle.verdict.specs.declared.verdict.Row.{Row}
+use Rattle.verdict_core.specs.declared.verdicts.Row.{Row}
 
 -- a module that the strategy takes, whatever steps it is given, and that has the forms which its text needs
 pub record IsReady (m : Module) : Type 0 where

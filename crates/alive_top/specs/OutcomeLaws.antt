@@ -3,7 +3,7 @@ use Rattle.std.specs.Prelude.{ℕ, Bool, List}
 use Rattle.ir_core.specs.declared.module.Module.{Module}
 use Rattle.command_line.specs.declared.command.OptimiseOptions.{OptimiseOptions}
 use Rattle.verdict.specs.Rule.{Rule}
-use Rattle.verdict.specs.declared.verdict.Row.{Row}
+use Rattle.verdict_core.specs.declared.verdicts.Row.{Row}
 use Rattle.run_text.specs.OutcomeLaws.{ModuleHasOutcomes}
 use Rattle.alive_top.specs.Optimised.{IsOptimised}
 

@@ -9,7 +9,7 @@ use Rattle.load_text.specs.Load.{IsLoaded}
 use Rattle.alive_top.specs.Optimised.{Prints}
 use Rattle.run_text.specs.Runs.{IsRun}
 use Rattle.ir_reader.specs.Text.{most_bytes}
-use Rattle.verdict.specs.declared.verdict.Row.{Row}
+use Rattle.verdict_core.specs.declared.verdicts.Row.{Row}
 use Rattle.verdict.specs.declared.verification.Verified.{Verified}
 use Rattle.verdict.specs.Verified.{IsVerified}
 use Rattle.stored_logs.specs.declared.proved.Proved.{Proved}

@@ -7,6 +7,7 @@
 mod by_logs;
 mod hindrance;
 mod laws;
+mod loading;
 mod optimised;
 mod recheck;
 mod report;
@@ -16,7 +17,8 @@ mod work;
 
 pub use command_line::OptimiseOptions;
 pub use laws::every_module_written_has_outcomes;
-pub use load_text::{BUILT_IN, Loaded, load};
+pub use load_text::{BUILT_IN, Loaded};
+pub use loading::load;
 pub use optimised::{Optimised, optimise};
 pub use run_text::{
     RunError, RunFault, every_module_read_has_outcomes, every_run_has_its_function_and_arguments,

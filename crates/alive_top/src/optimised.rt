@@ -17,7 +17,7 @@ use ir_reader::{IrError, read_module};
 use rule_reader::Rule;
 use std::alloc::{AllocError, Global};
 use strategy::StoredLogs;
-use verdict::Table;
+use verdict_core::Table;
 
 /// What `optimise` writes, and the verdicts by which it came to be.
 #[derive(Debug, Drop)]

@@ -8,8 +8,9 @@ ghost use Rattle.verdict.specs.Table.{row_text, table_text};
 use ir_printer::print_report;
 use rule_reader::Rule;
 use std::alloc::{AllocError, Global};
-use strategy::Done;
-use verdict::{Row, push_verdict};
+use strategy_core::Done;
+use verdict::push_verdict;
+use verdict_core::Row;
 
 /// Adds the text of a row's verdict on its rule.
 fn push_row(out: &mut Vec<u8>, rules: &[Rule], row: &Row) -> Result<(), AllocError>

@@ -4,7 +4,7 @@ ghost use Rattle.std.specs.Prelude.{◌≡◌};
 ghost use Rattle.alive_top.specs.Statuses.{code_of};
 
 use stored_logs::Refutations;
-use verdict::Table;
+use verdict_core::Table;
 
 /// The status of a command.
 #[derive(Clone, Copy, Debug, PartialEq, Eq)]

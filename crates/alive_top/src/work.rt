@@ -25,7 +25,7 @@ use rule_reader::{Rule, RuleError, read_rules};
 use run_text::{RunError, RunFault};
 use std::alloc::{AllocError, Global};
 use stored_logs::Refutations;
-use verdict::Table;
+use verdict_core::Table;
 
 /// What a command writes: a text for the output, and a report. Beside them the verdicts, the proofs, and the status once both are written.
 #[derive(Drop)]
@@ -294,7 +294,7 @@ fn run<'a, F: Files>(
 fn load(alloc: Global, number: u32) -> Result<Work, AllocError>
     ensures { IfOk result (λ work. IsLoadWork number (seen_work work)) }
 {
-    let loaded = load_text::load(alloc, number)?;
+    let loaded = crate::loading::load(alloc, number)?;
     Ok(Work {
         text: loaded.text,
         report: Vec::new(alloc),

@@ -2,7 +2,7 @@
 use Rattle.std.proofs.Common.{List, [], ◌∷◌, ◌++◌, append-nil, append_assoc, map, sym, subst}
 use Rattle.std.specs.Prelude.{All, Contains}
 use Rattle.std.proofs.lemmas.List.Elements.{All-head, All-tail}
-use Rattle.asked_verdicts.specs.Asked.{Pair, AreFirstAsked, pair_in}
+use Rattle.strategy_core.specs.Asked.{Pair, AreFirstAsked, pair_in}
 use Rattle.asked_verdicts.specs.Laws.{PairsWithRowsChangeNothing}
 use Rattle.asked_verdicts.proofs.Asking.{asked_again}
 

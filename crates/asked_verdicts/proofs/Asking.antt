@@ -5,7 +5,7 @@ use Rattle.std.proofs.lemmas.Option.{same_Some, slice_get_within, get_or_from_sl
 use Rattle.std.proofs.lemmas.List.Elements.{Contains-append_left, Contains-push, Contains-push_cases}
 use Rattle.rule_typing.proofs.Images.{get-append_cases}
 use Rattle.ir_meaning.proofs.Pieces.{contains_at}
-use Rattle.asked_verdicts.specs.Asked.{Pair, IsAskedBefore, AreFirstAsked}
+use Rattle.strategy_core.specs.Asked.{Pair, IsAskedBefore, AreFirstAsked}
 
 take_front : (asked : List Pair) (x : Pair) (k : ℕ) → k ≤ length asked → take k (asked ++ x ∷ []) ≡ take k asked
 take_front asked x zero within = refl

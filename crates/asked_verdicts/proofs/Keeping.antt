@@ -10,11 +10,11 @@ use Rattle.std.proofs.lemmas.Option.{same_Some, slice_get-map, slice_get_read}
 use Rattle.indexmap.specs.IndexSet.{insert_key}
 use Rattle.ir_meaning.proofs.Pieces.{place_in, contains_at}
 use Rattle.rule_core.specs.declared.rule.Rule.{Rule}
-use Rattle.verdict.specs.declared.verdict.Row.{Row}
-use Rattle.verdict.specs.declared.verdict.Verdict.TheVariants.{Admitted}
+use Rattle.verdict_core.specs.declared.verdicts.Row.{Row}
+use Rattle.verdict_core.specs.declared.verdicts.Verdict.TheVariants.{Admitted}
 use Rattle.verdict.specs.Table.{IsHonestRow, IsHonestTable}
 use Rattle.asked_verdicts.specs.declared.verdicts.Verdicts.{Verdicts}
-use Rattle.asked_verdicts.specs.Asked.{Pair, pair_in, HasVerdict, AreFirstAsked}
+use Rattle.strategy_core.specs.Asked.{Pair, pair_in, HasVerdict, AreFirstAsked}
 use Rattle.asked_verdicts.specs.Asks.{Asks}
 use Rattle.asked_verdicts.specs.Stored.{Key, pair_of_key}
 use Rattle.asked_verdicts.proofs.Asking.{asked_again, asked_first}

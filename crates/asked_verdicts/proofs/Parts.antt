@@ -17,7 +17,7 @@ use Rattle.rule_matches.specs.Ready.{AreReady}
 use Rattle.rule_matches.proofs.Joining.{before_chosen, joined, joined_before, none_where, same_where}
 use Rattle.rule_matches.proofs.Rooting.{before_end, root_stands}
 use Rattle.asked_verdicts.specs.declared.verdicts.Verdicts.{Verdicts}
-use Rattle.asked_verdicts.specs.Asked.{Pair, pair_of, pair_in, IsAdmitted, IsTurnedDown}
+use Rattle.strategy_core.specs.Asked.{Pair, pair_of, pair_in, IsAdmitted, IsTurnedDown}
 use Rattle.asked_verdicts.specs.Asks.{Asks, AsksAll, AsksUpTo, IsAnywhere}
 use Rattle.asked_verdicts.specs.Parts.{AsksToPlace, IsInBlock}
 use Rattle.asked_verdicts.proofs.Again.{rows_change_nothing}

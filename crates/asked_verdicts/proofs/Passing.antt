@@ -13,7 +13,7 @@ use Rattle.rule_matches.specs.declared.matches.Match.{Match}
 use Rattle.rule_matches.specs.Matches.{MatchesAmong}
 use Rattle.rule_matches.specs.Ready.{AreReady}
 use Rattle.asked_verdicts.specs.declared.verdicts.Verdicts.{Verdicts}
-use Rattle.asked_verdicts.specs.Asked.{Pair, pair_of, IsAdmitted, IsTurnedDown}
+use Rattle.strategy_core.specs.Asked.{Pair, pair_of, IsAdmitted, IsTurnedDown}
 use Rattle.asked_verdicts.specs.Asks.{Asks}
 use Rattle.asked_verdicts.proofs.Growing.{all_turned_down_stay, any_admitted_stays}
 use Rattle.asked_verdicts.proofs.Sequence.{asks_both, row_stays}

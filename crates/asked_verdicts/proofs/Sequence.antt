@@ -3,9 +3,9 @@ use Rattle.std.proofs.Common.{ℕ, List, [], ◌++◌, sym, ap, subst, ◌∙◌
 use Rattle.std.specs.Prelude.{Contains}
 use Rattle.std.proofs.lemmas.List.Elements.{Contains-append_left}
 use Rattle.rule_core.specs.declared.rule.Rule.{Rule}
-use Rattle.verdict.specs.declared.verdict.Row.{Row}
+use Rattle.verdict_core.specs.declared.verdicts.Row.{Row}
 use Rattle.asked_verdicts.specs.declared.verdicts.Verdicts.{Verdicts}
-use Rattle.asked_verdicts.specs.Asked.{Pair}
+use Rattle.strategy_core.specs.Asked.{Pair}
 use Rattle.asked_verdicts.specs.Asks.{AreVerdictsOn, AreVerdicts, Asks}
 
 module _ (rules : List Rule) (conflicts : ℕ) where

@@ -6,7 +6,7 @@ use Rattle.std.specs.Map.{lookup, KeepsOthers}
 use Rattle.std.specs.Str.{bytes_eq}
 use Rattle.std.proofs.lemmas.Bool.Decides.{Decides-and, Decides-eqb, Decides-like}
 use Rattle.std.proofs.lemmas.Slice.Eq.{bytes_eq-Decides}
-use Rattle.asked_verdicts.specs.Asked.{Pair}
+use Rattle.strategy_core.specs.Asked.{Pair}
 use Rattle.asked_verdicts.specs.Stored.{Key, pair_of_key, is_key_of}
 
 -- how a table compares keys

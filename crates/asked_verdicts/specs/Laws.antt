@@ -2,7 +2,7 @@
 use Rattle.std.specs.Prelude.{ℕ, List, map, All, Contains}
 use Rattle.rule_core.specs.declared.rule.Rule.{Rule}
 use Rattle.asked_verdicts.specs.declared.verdicts.Verdicts.{Verdicts}
-use Rattle.asked_verdicts.specs.Asked.{Pair, pair_in}
+use Rattle.strategy_core.specs.Asked.{Pair, pair_in}
 use Rattle.asked_verdicts.specs.Asks.{Asks}
 
 -- pairs that have rows may be asked again, whatever was asked before: then the verdicts stay as they are

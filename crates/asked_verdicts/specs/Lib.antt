@@ -1,6 +1,5 @@
 pub use Rattle.rule_matches.specs.Matches
 pub use Rattle.rule_matches.specs.Ready
-pub mod Asked
 pub mod Asks
 pub mod Parts
 pub mod Stored

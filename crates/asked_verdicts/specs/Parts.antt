@@ -3,7 +3,7 @@ use Rattle.std.specs.Prelude.{◌≡◌, ℕ, List, [], ◌∷◌, ◌++◌, map
 use Rattle.rule_core.specs.declared.rule.Rule.{Rule}
 use Rattle.rule_matches.specs.declared.matches.Match.{Match}
 use Rattle.asked_verdicts.specs.declared.verdicts.Verdicts.{Verdicts}
-use Rattle.asked_verdicts.specs.Asked.{pair_of, IsAdmitted, IsTurnedDown}
+use Rattle.strategy_core.specs.Asked.{pair_of, IsAdmitted, IsTurnedDown}
 use Rattle.asked_verdicts.specs.Asks.{Asks}
 
 -- of these matches those up to the first that is admitted are asked, or all, if none is

@@ -5,7 +5,7 @@ use Rattle.std.specs.Str.{bytes_eq}
 use Rattle.indexmap.specs.IndexMap.{get_by}
 use Rattle.clauses.specs.declared.step.Step.{Step}
 use Rattle.asked_verdicts.specs.declared.stored.StoredLogs.{StoredLogs}
-use Rattle.asked_verdicts.specs.Asked.{Pair}
+use Rattle.strategy_core.specs.Asked.{Pair}
 
 -- a pair as tables have it
 abbrev pub Key : Type 0

@@ -1,9 +1,9 @@
 //! Verdicts that are asked for: each pair of a rule and a typing is decided once, when it is first asked for. A log
 //! that is stored for it is asked before there is a search.
 //!
-//! The definitions stand in `specs/`: `Asked` says which verdicts matches ask for, in which order pairs are first
-//! asked, and what a table of verdicts says; `Asks` what one search asks, and what is kept; `Stored` which log is
-//! stored for a pair; `Laws` what is asked again. `Parts` serves the private functions.
+//! The definitions stand in `specs/`: `Asks` says what one search asks, and what is kept; `Stored` which log is stored for
+//! a pair; `Laws` what is asked again. Which verdicts matches ask for stands in `Asked` of `strategy_core`. `Parts` serves
+//! the private functions.
 #![tactic(auto)]
 
 mod laws;

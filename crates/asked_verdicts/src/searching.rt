@@ -8,7 +8,7 @@ ghost use Rattle.verdict.specs.Limits.{most_conflicts};
 ghost use Rattle.rule_matches.specs.Ready.{AreReady};
 ghost use Rattle.rule_matches.specs.Roots.{AreByRoot};
 ghost use Rattle.rule_matches.specs.Matches.{IsMatchAmong, IsMatchInAnyOrder};
-ghost use Rattle.asked_verdicts.specs.Asked.{IsAdmitted, IsTurnedDown, pair_of};
+ghost use Rattle.strategy_core.specs.Asked.{IsAdmitted, IsTurnedDown, pair_of};
 ghost use Rattle.asked_verdicts.specs.Asks.{AreVerdicts, Asks, AsksAll, IsAnywhere};
 ghost use Rattle.asked_verdicts.specs.Parts.{AsksToPlace, IsInBlock};
 

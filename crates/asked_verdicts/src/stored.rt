@@ -2,7 +2,7 @@
 
 ghost use Rattle.std.specs.Prelude.{◌≡◌, ◌≢◌, None, Some, OnOk};
 ghost use Rattle.std.specs.Option.{option_copied};
-ghost use Rattle.asked_verdicts.specs.Asked.{Pair};
+ghost use Rattle.strategy_core.specs.Asked.{Pair};
 ghost use Rattle.asked_verdicts.specs.Stored.{log_of, pair_of_key};
 
 use crate::widths::widths_of;

@@ -8,7 +8,7 @@ ghost use Rattle.verdict.specs.Honest.{IsHonest};
 ghost use Rattle.verdict.specs.Limits.{most_conflicts};
 ghost use Rattle.verdict.specs.Proved.{IsUnrefutedBy};
 ghost use Rattle.verdict.specs.Table.{IsHonestRow};
-ghost use Rattle.asked_verdicts.specs.Asked.{IsAdmitted, IsTurnedDown, pair_in, pair_of};
+ghost use Rattle.strategy_core.specs.Asked.{IsAdmitted, IsTurnedDown, pair_in, pair_of};
 ghost use Rattle.asked_verdicts.specs.Asks.{AreVerdicts, Asks};
 ghost use Rattle.asked_verdicts.specs.Stored.{log_of};
 
@@ -20,7 +20,8 @@ use lists::List;
 use rule_core::{Rule, Typing};
 use rule_matches::Match;
 use std::alloc::{AllocError, Global};
-use verdict::{Row, Table, Verdict, decide, readmit};
+use verdict::{decide, readmit};
+use verdict_core::{Row, Table, Verdict};
 
 /// The verdicts that were asked for, each pair of a rule and a typing once, in the order in which they were first asked for.
 #[derive(Debug, Drop)]

@@ -1,5 +1,5 @@
 -- How large generated modules are.
-use Rattle.std.proofs.Common.{◌≡◌, ◌∙◌, ℕ, ◌*◌, List, [], ◌∷◌, length, map, ap, sym, refl, arith}
+use Rattle.std.proofs.Common.{◌≡◌, ◌∙◌, ℕ, ◌*◌, List, [], ◌∷◌, length, ap, sym, refl, arith}
 use Rattle.std.specs.Prelude.{All, sum, sum_by}
 use Rattle.std.proofs.lemmas.List.Elements.{All-head, All-tail}
 use Rattle.std.proofs.lemmas.List.Sums.{sum_by-cons, sum-map}
@@ -9,7 +9,7 @@ use Rattle.ir_core.specs.declared.function.Function.{Function}
 use Rattle.ir_core.specs.declared.function.Block.{Block}
 use Rattle.load_gen.specs.Generated.{generated}
 use Rattle.load_gen.specs.Laws.{IsOfTwenty, GeneratedEntriesAreOfTwenty, GeneratedEntriesAreCounted, GeneratedFunctionsAreSmall}
-use Rattle.strategy.specs.Countable.{ModuleIsCountable}
+use Rattle.strategy_core.specs.Countable.{ModuleIsCountable}
 use Rattle.load_text.specs.Load.{default_steps, instructions_of_entry, instructions_in}
 
 -- ---- how many instructions there are

@@ -5,11 +5,11 @@ use Rattle.ir_core.specs.declared.module.Entry.{Entry}
 use Rattle.ir_core.specs.declared.module.Entry.TheVariants as entries
 use Rattle.ir_core.specs.declared.function.Function.{Function}
 use Rattle.load_gen.specs.Generated.{generated}
-use Rattle.strategy.specs.PlainStrategy.{IsPlainStrategy}
+use Rattle.strategy_core.specs.PlainStrategy.{IsPlainStrategy}
 use Rattle.verdict.specs.Rule.{Rule}
 use Rattle.verdict.specs.Table.{IsHonestTable}
-use Rattle.verdict.specs.declared.verdict.Row.{Row}
-use Rattle.verdict.specs.declared.verdict.Verdict.TheVariants.{Admitted}
+use Rattle.verdict_core.specs.declared.verdicts.Row.{Row}
+use Rattle.verdict_core.specs.declared.verdicts.Verdict.TheVariants.{Admitted}
 use Rattle.load_text.specs.RuleText.{IsRuleText}
 
 -- the built-in rules, as a rule file

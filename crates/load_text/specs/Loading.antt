@@ -1,11 +1,11 @@
 -- What is made on the way to what `load` writes.
 use Rattle.std.specs.Prelude.{◌≡◌, ℕ, List, ◌++◌, All, codes}
 use Rattle.ir_core.specs.declared.module.Module.{Module}
-use Rattle.strategy.specs.declared.module.Done.{Done}
-use Rattle.strategy.specs.PlainStrategy.{IsPlainStrategy}
+use Rattle.strategy_core.specs.declared.done.Done.{Done}
+use Rattle.strategy_core.specs.PlainStrategy.{IsPlainStrategy}
 use Rattle.verdict.specs.Rule.{Rule}
 use Rattle.verdict.specs.Table.{IsHonestTable}
-use Rattle.verdict.specs.declared.verdict.Verdict.TheVariants.{Admitted}
+use Rattle.verdict_core.specs.declared.verdicts.Verdict.TheVariants.{Admitted}
 use Rattle.load_text.specs.Load.{built_in_text, count_line, default_conflicts, default_steps}
 use Rattle.load_text.specs.RuleText.{IsRuleText}
 

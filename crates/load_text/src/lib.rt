@@ -1,9 +1,10 @@
-//! What `load` writes of a number.
+//! The texts of `load`: the built-in rules, and the lines on what the plain strategy gives for a module.
 //!
-//! The definitions stand in `specs/`: `Load` says what is written, and `RuleText` which texts are rule files.
+//! The definitions stand in `specs/`: `Load` says what is written of a number, and `RuleText` which texts are rule files. `Loading` serves
+//! the functions of `load` above.
 #![tactic(auto)]
 
 mod counting;
 mod loading;
 
-pub use loading::{BUILT_IN, Loaded, load};
+pub use loading::{BUILT_IN, FUNCTIONS, Loaded, built_in_rules, lines};

@@ -7,12 +7,12 @@ use Rattle.ir_core.specs.declared.module.Entry.{Entry}
 use Rattle.ir_core.specs.declared.module.Entry.TheVariants as entries
 use Rattle.rule_core.specs.declared.rule.Rule.{Rule}
 use Rattle.rule_matches.specs.Ready.{AreReady}
-use Rattle.verdict.specs.declared.verdict.Row.{Row}
+use Rattle.verdict_core.specs.declared.verdicts.Row.{Row}
 use Rattle.ir_round_trip.specs.Laws.{CleanedFunctionsHaveForms}
 use Rattle.ir_text.specs.Forms.{FunctionHasForms, EntryHasForms}
-use Rattle.asked_verdicts.specs.Asked.{Pair}
-use Rattle.strategy.specs.PlainStrategy.{AreOptimised, none, kept, function}
-use Rattle.strategy.proofs.Refining.{PartLaws, IsKept, strategy_keeps}
+use Rattle.strategy_core.specs.Asked.{Pair}
+use Rattle.strategy_core.specs.PlainStrategy.{AreOptimised, none, kept, function}
+use Rattle.strategy_core.proofs.Refining.{PartLaws, IsKept, strategy_keeps}
 use Rattle.optimised_forms.specs.Laws.{OptimisedModulesHaveForms, RewrittenFunctionsHaveForms}
 use Rattle.optimised_forms.proofs.Numbers.{entry_forms, modules_fit}
 

@@ -5,14 +5,14 @@ use Rattle.ir_core.specs.declared.function.Function.{Function}
 use Rattle.ir_core.specs.declared.module.Module.{Module}
 use Rattle.rule_core.specs.Checks.{IsRule}
 use Rattle.rule_core.specs.declared.rule.Rule.{Rule}
-use Rattle.verdict.specs.declared.verdict.Row.{Row}
+use Rattle.verdict_core.specs.declared.verdicts.Row.{Row}
 use Rattle.bindings.specs.Match.{IsMatch}
 use Rattle.bindings.specs.declared.binding.Binding.{Binding}
 use Rattle.rewriter.specs.Applied.{IsRewritten}
 use Rattle.rule_matches.specs.Ready.{AreReady}
-use Rattle.strategy.specs.Countable.{ModuleIsCountable}
-use Rattle.strategy.specs.Laws.{ModuleNumbersFit}
-use Rattle.strategy.specs.PlainStrategy.{IsPlainStrategy}
+use Rattle.strategy_core.specs.Countable.{ModuleIsCountable}
+use Rattle.strategy_core.specs.Laws.{ModuleNumbersFit}
+use Rattle.strategy_core.specs.PlainStrategy.{IsPlainStrategy}
 use Rattle.ir_parse.specs.Text.{most_bytes}
 use Rattle.ir_reader.specs.Faults.{IsModuleText}
 use Rattle.ir_text.specs.Forms.{FunctionHasForms, ModuleHasForms}

@@ -16,9 +16,9 @@ use Rattle.rule_core.specs.Typing.{IsTyping}
 use Rattle.rule_typing.specs.declared.answer.Typings.TheVariants as answers
 use Rattle.rule_typing.specs.AllTypings.{IsAnswer}
 use Rattle.proof_text.specs.Texts.{proof_text}
-use Rattle.verdict.specs.declared.verdict.Row.{Row}
-use Rattle.verdict.specs.declared.verdict.Verdict.{Verdict}
-use Rattle.verdict.specs.declared.verdict.Verdict.TheVariants.{Admitted, Refuted, WitnessFails, Budget}
+use Rattle.verdict_core.specs.declared.verdicts.Row.{Row}
+use Rattle.verdict_core.specs.declared.verdicts.Verdict.{Verdict}
+use Rattle.verdict_core.specs.declared.verdicts.Verdict.TheVariants.{Admitted, Refuted, WitnessFails, Budget}
 use Rattle.verdict.specs.Findings.{Finding, Decided, TooMany, IsFinding, IsRowOf, rows_of, IsAdmitted}
 use Rattle.verdict.specs.Honest.{IsHonest}
 use Rattle.verdict.specs.Limits.{most_typings}

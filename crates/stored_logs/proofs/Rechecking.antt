@@ -13,9 +13,9 @@ use Rattle.clauses.specs.declared.step.Step.{Step}
 use Rattle.proof_text.specs.declared.proof.Proof.{Proof}
 use Rattle.proof_reader.specs.declared.proof.RuleProof.{RuleProof}
 use Rattle.proof_reader.specs.Reading.{IsProofOf, IsReadOf, IsTypedIn}
-use Rattle.verdict.specs.declared.verdict.Row.{Row}
-use Rattle.verdict.specs.declared.verdict.Verdict.{Verdict}
-use Rattle.verdict.specs.declared.verdict.Verdict.TheVariants.{Admitted}
+use Rattle.verdict_core.specs.declared.verdicts.Row.{Row}
+use Rattle.verdict_core.specs.declared.verdicts.Verdict.{Verdict}
+use Rattle.verdict_core.specs.declared.verdicts.Verdict.TheVariants.{Admitted}
 use Rattle.verdict.specs.Honest.{IsHonest}
 use Rattle.verdict.specs.Proved.{IsUnrefutedBy}
 use Rattle.verdict.specs.Table.{IsHonestRow, IsHonestTable, row_text, table_text}

@@ -3,8 +3,8 @@ use Rattle.std.specs.Prelude.{◌≡◌, ◌↔◌, ℕ, List, [], ◌∷◌, �
 use Rattle.std.specs.List.{AllZip, zip}
 use Rattle.rule_core.specs.declared.rule.Rule.{Rule}
 use Rattle.proof_text.specs.Texts.{proof_text}
-use Rattle.verdict.specs.declared.verdict.Row.{Row}
-use Rattle.verdict.specs.declared.verdict.Verdict.TheVariants.{Admitted}
+use Rattle.verdict_core.specs.declared.verdicts.Row.{Row}
+use Rattle.verdict_core.specs.declared.verdicts.Verdict.TheVariants.{Admitted}
 use Rattle.verdict.specs.Findings.{Finding, Decided, IsFinding, IsRowOf, rows_of, IsAdmitted}
 use Rattle.verdict.specs.Honest.{IsHonest}
 use Rattle.verdict.specs.Proved.{IsUnrefutedBy}

@@ -4,8 +4,8 @@ use Rattle.std.specs.List.{AllZip}
 use Rattle.rule_core.specs.declared.rule.Rule.{Rule}
 use Rattle.proof_text.specs.declared.proof.Proof.{Proof}
 use Rattle.proof_reader.specs.Faults.{IsTextOfGood}
-use Rattle.verdict.specs.declared.verdict.Row.{Row}
-use Rattle.verdict.specs.declared.verdict.Verdict.TheVariants.{Admitted}
+use Rattle.verdict_core.specs.declared.verdicts.Row.{Row}
+use Rattle.verdict_core.specs.declared.verdicts.Verdict.TheVariants.{Admitted}
 use Rattle.verdict.specs.Honest.{IsHonest}
 use Rattle.verdict.specs.Proved.{IsUnrefutedBy}
 use Rattle.verdict.specs.Table.{IsHonestTable, table_text}

@@ -6,9 +6,9 @@ use Rattle.clauses.specs.ClauseSet.{IsRefutation}
 use Rattle.rule_core.specs.declared.rule.Rule.{Rule}
 use Rattle.proof_text.specs.declared.proof.Proof.{Proof}
 use Rattle.proof_text.specs.Texts.{proof_text}
-use Rattle.verdict.specs.declared.verdict.Row.{Row}
-use Rattle.verdict.specs.declared.verdict.Verdict.{Verdict}
-use Rattle.verdict.specs.declared.verdict.Verdict.TheVariants.{Admitted, Refuted, WitnessFails, Budget}
+use Rattle.verdict_core.specs.declared.verdicts.Row.{Row}
+use Rattle.verdict_core.specs.declared.verdicts.Verdict.{Verdict}
+use Rattle.verdict_core.specs.declared.verdicts.Verdict.TheVariants.{Admitted, Refuted, WitnessFails, Budget}
 use Rattle.verdict.specs.Honest.{StandsForRule}
 use Rattle.stored_logs.specs.declared.refutation.Refutation.{Refutation}
 

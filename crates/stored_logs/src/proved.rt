@@ -20,7 +20,8 @@ use rule_core::{Rule, Typing};
 use rule_typing::{Typings, typings};
 use std::alloc::{AllocError, Global};
 use trimmed_logs::trimmed;
-use verdict::{MOST_TYPINGS, Row, Table, prove};
+use verdict::{MOST_TYPINGS, prove};
+use verdict_core::{Row, Table};
 
 /// What is found about a list of rules, and why those are valid that are admitted.
 #[derive(Debug, Drop)]

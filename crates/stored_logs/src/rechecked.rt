@@ -15,7 +15,8 @@ use lists::List;
 use proof_reader::{LogError, RuleProof, read_logs};
 use rule_core::Rule;
 use std::alloc::{AllocError, Global};
-use verdict::{Row, Table, push_verdict, readmit};
+use verdict::{push_verdict, readmit};
+use verdict_core::{Row, Table};
 
 /// What comes of the proofs in a text.
 #[derive(Debug, Drop)]

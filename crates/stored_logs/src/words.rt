@@ -5,7 +5,7 @@ ghost use Rattle.std.specs.Prelude.{◌≡◌, IfOk, ◌↔◌, IsTrue};
 use lists::{List, Text};
 use rule_core::Typing;
 use std::alloc::{AllocError, Global};
-use verdict::Verdict;
+use verdict_core::Verdict;
 
 /// A copy of a name.
 pub(crate) fn copied(alloc: Global, name: &[u8]) -> Result<Text, AllocError>

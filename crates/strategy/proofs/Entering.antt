@@ -18,15 +18,15 @@ use Rattle.rule_typing.specs.Classes.{IsClassified}
 use Rattle.rule_typing.specs.Faults.{HasNoFault}
 use Rattle.verdict.specs.Honest.{IsHonest}
 use Rattle.verdict.specs.Table.{IsHonestRow, IsHonestTable}
-use Rattle.verdict.specs.declared.verdict.Row.{Row}
-use Rattle.verdict.specs.declared.verdict.Verdict.{Verdict}
+use Rattle.verdict_core.specs.declared.verdicts.Row.{Row}
+use Rattle.verdict_core.specs.declared.verdicts.Verdict.{Verdict}
 use Rattle.strategy.specs.declared.module.Counts.{Counts}
 use Rattle.asked_verdicts.specs.declared.verdicts.Verdicts.{Verdicts}
-use Rattle.asked_verdicts.specs.Asked.{Pair, pair_in, AreFirstAsked}
-use Rattle.strategy.specs.Countable.{ModuleIsCountable}
+use Rattle.strategy_core.specs.Asked.{Pair, pair_in, AreFirstAsked}
+use Rattle.strategy_core.specs.Countable.{ModuleIsCountable}
 use Rattle.strategy.specs.Entries.{EntriesAreReady, OptimisesEntries, OptimisesEntry}
-use Rattle.strategy.specs.Laws.{AdmittedAreValid, ModuleNumbersFit}
-use Rattle.strategy.specs.PlainStrategy.{AreOptimised, none, kept, function, IsPlainStrategy}
+use Rattle.strategy_core.specs.Laws.{AdmittedAreValid, ModuleNumbersFit}
+use Rattle.strategy_core.specs.PlainStrategy.{AreOptimised, none, kept, function, IsPlainStrategy}
 use Rattle.asked_verdicts.specs.Asks.{AreVerdictsOn, Asks}
 use Rattle.strategy.specs.Searches.{OptimisesFunction}
 use Rattle.strategy.proofs.Growing.{entries_stay}

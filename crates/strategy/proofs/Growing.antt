@@ -4,11 +4,11 @@ use Rattle.std.specs.Prelude.{All, Any, Contains, MatchBool}
 use Rattle.ir_core.specs.declared.module.Entry.{Entry}
 use Rattle.ir_core.specs.declared.function.Function.{Function}
 use Rattle.rule_core.specs.declared.rule.Rule.{Rule}
-use Rattle.verdict.specs.declared.verdict.Row.{Row}
+use Rattle.verdict_core.specs.declared.verdicts.Row.{Row}
 use Rattle.rule_matches.specs.declared.matches.Match.{Match}
-use Rattle.asked_verdicts.specs.Asked.{Pair, IsAdmitted, IsTurnedDown}
+use Rattle.strategy_core.specs.Asked.{Pair, IsAdmitted, IsTurnedDown}
 use Rattle.asked_verdicts.proofs.Growing.{admitted_stays, all_turned_down_stay, any_admitted_stays}
-use Rattle.strategy.specs.PlainStrategy.{IsStep, ComesOf, itself, by_step, IsLastSearch, IsOptimised, AreOptimised, none, kept, function}
+use Rattle.strategy_core.specs.PlainStrategy.{IsStep, ComesOf, itself, by_step, IsLastSearch, IsOptimised, AreOptimised, none, kept, function}
 
 module _ (rules : List Rule) (table larger : List Row) (grows : (row : Row) → Contains table row → Contains larger row) where
   pub step_stays : (f new : Function) (asked : List Pair) → IsStep rules table f new asked → IsStep rules larger f new asked

@@ -1,6 +1,3 @@
-pub mod Numbers
-pub mod Refining
-pub mod Deciding
 pub mod Growing
 pub mod Sizes
 pub mod Stepping

@@ -6,7 +6,7 @@ use Rattle.ir_core.specs.Walks.{IsReached}
 use Rattle.ir_core.specs.declared.function.Block.{Block}
 use Rattle.ir_core.specs.declared.function.Function.{Function}
 use Rattle.rule_core.specs.declared.rule.Rule.{Rule}
-use Rattle.verdict.specs.declared.verdict.Row.{Row}
+use Rattle.verdict_core.specs.declared.verdicts.Row.{Row}
 use Rattle.rule_matches.specs.Matches.{AreMatchesInAnyOrder, IsAt}
 use Rattle.rule_matches.specs.Ready.{AreReady}
 use Rattle.draft.specs.declared.draft.Draft.{Draft}
@@ -18,8 +18,8 @@ use Rattle.draft.specs.Whole.{IsSettled}
 use Rattle.draft_steps.specs.Arranged.{arranged, row_of}
 use Rattle.draft_steps.specs.MatchLaws.{AreSourcesWithin, MatchesOfTheUntouched}
 use Rattle.draft_steps.proofs.Reaching.{itself}
-use Rattle.asked_verdicts.specs.Asked.{IsTurnedDown}
-use Rattle.strategy.specs.Countable.{IsCountable}
+use Rattle.strategy_core.specs.Asked.{IsTurnedDown}
+use Rattle.strategy_core.specs.Countable.{IsCountable}
 use Rattle.strategy.specs.Frontiers.{AreTurnedDownAt, AreTurnedDownBut, Nowhere}
 
 module _ (of_the_untouched : MatchesOfTheUntouched) (rules : List Rule) (ready : AreReady rules) (old new last : Draft) (touched : List Place) (depth : ℕ)

@@ -12,7 +12,7 @@ use Rattle.ir_core.specs.declared.function.Function.{Function}
 use Rattle.ir_meaning.proofs.Pieces.{contains_at, some_at}
 use Rattle.rule_core.specs.declared.rule.Rule.{Rule}
 use Rattle.rule_typing.proofs.Images.{from_map, get-map, map-map}
-use Rattle.verdict.specs.declared.verdict.Row.{Row}
+use Rattle.verdict_core.specs.declared.verdicts.Row.{Row}
 use Rattle.rule_matches.specs.declared.matches.Match.{Match}
 use Rattle.rule_matches.specs.Matches.{AreMatchesInAnyOrder, AreMatchesWhere, IsAt, IsMatchInAnyOrder}
 use Rattle.rule_matches.specs.Ready.{AreReady}
@@ -30,7 +30,7 @@ use Rattle.draft_steps.proofs.Places.{inst_on, number_at}
 use Rattle.draft_steps.proofs.Rows.{number_there}
 use Rattle.draft_steps.proofs.Arranged.{is_arranged}
 use Rattle.asked_verdicts.specs.declared.verdicts.Verdicts.{Verdicts}
-use Rattle.asked_verdicts.specs.Asked.{Pair, pair_of, IsTurnedDown}
+use Rattle.strategy_core.specs.Asked.{Pair, pair_of, IsTurnedDown}
 use Rattle.asked_verdicts.specs.Asks.{Asks, AsksAll, AsksUpTo, IsAnywhere}
 use Rattle.asked_verdicts.specs.Parts.{AsksToPlace}
 use Rattle.asked_verdicts.proofs.Growing.{all_turned_down_stay}

@@ -25,7 +25,7 @@ use Rattle.needed.specs.Cleaned.{IsCleaned}
 use Rattle.needed.proofs.Counting.{block_back as block_of_kept}
 use Rattle.rewriter.specs.Applied.{IsRewritten}
 use Rattle.rewriter.specs.Put.{class_width, insts_of_op, insts_put, rewrite_of}
-use Rattle.strategy.specs.Countable.{IsCountable}
+use Rattle.strategy_core.specs.Countable.{IsCountable}
 
 pub few_at : (P : Block → Type 0) (f : Function) (b : ℕ) (block : Block) → All P f.blocks → IsBlock f b block → P block
 few_at P f b block all at = All-contains P f.blocks block all (contains_at f.blocks b block at)

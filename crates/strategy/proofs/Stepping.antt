@@ -7,14 +7,14 @@ use Rattle.rule_core.specs.declared.rule.Rule.{Rule}
 use Rattle.ir_meaning.specs.HistoryLaws.{NumbersFit}
 use Rattle.needed.specs.Cleaned.{IsCleaned}
 use Rattle.rewriter.specs.Applied.{IsRewritten}
-use Rattle.verdict.specs.declared.verdict.Row.{Row}
+use Rattle.verdict_core.specs.declared.verdicts.Row.{Row}
 use Rattle.rule_matches.specs.declared.matches.Match.{Match}
 use Rattle.asked_verdicts.specs.declared.verdicts.Verdicts.{Verdicts}
-use Rattle.asked_verdicts.specs.Asked.{Pair, pair_of, IsAdmitted, IsTurnedDown}
-use Rattle.strategy.specs.Countable.{IsCountable}
+use Rattle.strategy_core.specs.Asked.{Pair, pair_of, IsAdmitted, IsTurnedDown}
+use Rattle.strategy_core.specs.Countable.{IsCountable}
 use Rattle.rule_matches.specs.Matches.{AreMatches, ComesBefore}
 use Rattle.rule_matches.proofs.Joining.{everywhere, same_where}
-use Rattle.strategy.specs.PlainStrategy.{IsStep, ComesOf, itself, by_step, IsLastSearch}
+use Rattle.strategy_core.specs.PlainStrategy.{IsStep, ComesOf, itself, by_step, IsLastSearch}
 use Rattle.asked_verdicts.specs.Asks.{Asks, AsksAll, AsksUpTo, IsAnywhere}
 use Rattle.strategy.specs.Searches.{OptimisesCleaned, OptimisesFunction, StepsOrEnds}
 use Rattle.strategy.proofs.Growing.{steps_stay}

@@ -4,7 +4,7 @@ use Rattle.ir_core.specs.declared.function.Function.{Function}
 use Rattle.rule_core.specs.declared.rule.Rule.{Rule}
 use Rattle.needed.specs.Cleaned.{IsCleaned}
 use Rattle.rewriter.specs.Applied.{IsRewritten}
-use Rattle.verdict.specs.declared.verdict.Row.{Row}
+use Rattle.verdict_core.specs.declared.verdicts.Row.{Row}
 use Rattle.rule_matches.specs.declared.matches.Match.{Match}
 use Rattle.rule_matches.specs.Matches.{AreMatchesInAnyOrder, IsAt}
 use Rattle.draft.specs.declared.draft.Draft.{Draft}
@@ -16,7 +16,7 @@ use Rattle.places.specs.Sets.{Rows, Has}
 use Rattle.draft.specs.Whole.{IsSettled}
 use Rattle.draft_steps.specs.MatchLaws.{AreSourcesWithin, placed_match}
 use Rattle.asked_verdicts.specs.declared.verdicts.Verdicts.{Verdicts}
-use Rattle.asked_verdicts.specs.Asked.{IsTurnedDown}
+use Rattle.strategy_core.specs.Asked.{IsTurnedDown}
 use Rattle.asked_verdicts.specs.Asks.{AsksAll, AsksUpTo, IsAnywhere}
 use Rattle.asked_verdicts.specs.Parts.{AsksToPlace}
 use Rattle.strategy.specs.declared.frontier.Frontier.{Frontier}

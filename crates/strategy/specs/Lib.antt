@@ -1,12 +1,8 @@
 pub use Rattle.ir_core.specs.Checks
 pub use Rattle.ir_core.specs.Refines
-pub use Rattle.asked_verdicts.specs.Asked
+pub use Rattle.strategy_core.specs.Asked
 pub use Rattle.rule_matches.specs.Matches
 pub use Rattle.rule_matches.specs.Ready
-pub mod PlainStrategy
-pub mod Decided
-pub mod Countable
-pub mod Laws
 pub mod Searches
 pub mod Entries
 pub mod Frontiers

@@ -4,9 +4,9 @@ use Rattle.ir_core.specs.declared.function.Function.{Function}
 use Rattle.rule_core.specs.declared.rule.Rule.{Rule}
 use Rattle.needed.specs.Cleaned.{IsCleaned}
 use Rattle.asked_verdicts.specs.declared.verdicts.Verdicts.{Verdicts}
-use Rattle.asked_verdicts.specs.Asked.{Pair}
+use Rattle.strategy_core.specs.Asked.{Pair}
 use Rattle.asked_verdicts.specs.Asks.{Asks}
-use Rattle.strategy.specs.PlainStrategy.{IsStep, IsLastSearch, IsOptimised}
+use Rattle.strategy_core.specs.PlainStrategy.{IsStep, IsLastSearch, IsOptimised}
 
 -- A step is made; or the function stays, and the search was its last, of which none is admitted, however many steps are left.
 abbrev pub StepsOrEnds : List Rule → ℕ → Function → Function → Verdicts → Verdicts → Bool → Type 0

@@ -5,7 +5,7 @@ ghost use Rattle.ir_core.specs.Blocks.{HasInst};
 ghost use Rattle.ir_core.specs.Checks.{MeetsChecks};
 ghost use Rattle.ir_meaning.specs.HistoryLaws.{NumbersFit};
 ghost use Rattle.verdict.specs.Limits.{most_conflicts};
-ghost use Rattle.verdict.specs.declared.verdict.Row.{Row as VerdictRow};
+ghost use Rattle.verdict_core.specs.declared.verdicts.Row.{Row as VerdictRow};
 ghost use Rattle.rule_matches.specs.Matches.{IsMatchAmong};
 ghost use Rattle.rule_matches.specs.Ready.{AreReady};
 ghost use Rattle.rule_matches.specs.Roots.{AreByRoot};
@@ -18,7 +18,7 @@ ghost use Rattle.readers.specs.Readers.{IsPlaceIn};
 ghost use Rattle.draft.specs.Whole.{IsSettled};
 ghost use Rattle.draft_steps.specs.MatchLaws.{AreSourcesWithin, placed_match};
 ghost use Rattle.asked_verdicts.specs.Asks.{AreVerdicts, AsksAll, IsAnywhere};
-ghost use Rattle.strategy.specs.Countable.{IsCountable};
+ghost use Rattle.strategy_core.specs.Countable.{IsCountable};
 ghost use Rattle.strategy.specs.Frontiers.{AreTurnedDownBut, AsksAt, IsFrontier, IsSteppedAt, LooksAt, Nowhere, PlaceOf, SearchesTo};
 ghost use Rattle.strategy.specs.Searches.{OptimisesCleaned, OptimisesFunction, StepsOrEnds};
 

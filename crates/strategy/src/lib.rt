@@ -1,17 +1,12 @@
-//! The plain strategy: what rules make of a module, function by function.
+//! What the plain strategy gives for a module: it is defined in `strategy_core`.
 //!
-//! The definitions stand in `specs/`: `PlainStrategy` says what the strategy gives for a module by its table (`Asked`, of
-//! `asked_verdicts`, says which verdicts are asked for, and what a table says), `Decided` that no match is left that it
-//! should have taken, `Countable` which modules are small enough, and `Laws` that what it gives may stand in the place of
-//! what was there. `Searches`, `Entries` and `Frontiers`, which says what is known of a draft between steps, serve the
-//! private functions.
+//! The definitions in `specs/` serve the private functions: `Searches` and `Entries` say what becomes of a function and of the entries of
+//! a module, and `Frontiers` what is known of a draft between steps.
 #![tactic(auto)]
 
 mod frontier;
-mod laws;
 mod module;
 mod steps;
 
 pub use asked_verdicts::StoredLogs;
-pub use laws::{every_match_left_is_decided, every_optimised_module_refines_the_old};
-pub use module::{Done, optimise};
+pub use module::optimise;

@@ -8,17 +8,16 @@ ghost use Rattle.rule_typing.specs.Classes.{IsClassified};
 ghost use Rattle.rule_typing.specs.Faults.{HasNoFault};
 ghost use Rattle.verdict.specs.Limits.{most_conflicts};
 ghost use Rattle.verdict.specs.Table.{IsHonestTable};
-ghost use Rattle.strategy.specs.Countable.{ModuleIsCountable};
-ghost use Rattle.strategy.specs.Decided.{MatchesAreDecided};
+ghost use Rattle.strategy_core.specs.Countable.{ModuleIsCountable};
+ghost use Rattle.strategy_core.specs.Decided.{MatchesAreDecided};
 ghost use Rattle.strategy.specs.Entries.{EntriesAreReady, EntryIsReady, OptimisesEntries, OptimisesEntry};
-ghost use Rattle.strategy.specs.Laws.{ModuleNumbersFit};
+ghost use Rattle.strategy_core.specs.Laws.{ModuleNumbersFit};
 ghost use Rattle.rule_matches.specs.Ready.{AreReady};
-ghost use Rattle.strategy.specs.PlainStrategy.{IsPlainStrategy};
+ghost use Rattle.strategy_core.specs.PlainStrategy.{IsPlainStrategy};
 ghost use Rattle.rule_matches.specs.Roots.{AreByRoot};
 ghost use Rattle.asked_verdicts.specs.Asks.{AreVerdicts};
 
 use crate::frontier::optimise_function;
-use crate::laws::{every_match_left_is_decided, every_optimised_module_refines_the_old};
 use crate::steps::{Bounds, Turns};
 use asked_verdicts::{StoredLogs, Verdicts};
 use ir_core::{Entry, Function, Module, copy_function};
@@ -26,19 +25,7 @@ use lists::List;
 use rule_core::Rule;
 use rule_matches::{Rules, RulesByRoot};
 use std::alloc::{AllocError, Global};
-use verdict::Table;
-
-/// A module that the plain strategy gives, the verdicts that it was given by, and what became of its functions.
-#[derive(Debug, Drop)]
-pub struct Done {
-    pub module: Module,
-    /// The verdicts in the order in which the strategy first asked for them, each pair of a rule and a typing once.
-    pub table: Table,
-    /// For each function in order, how often it was rewritten.
-    pub counts: List<u32>,
-    /// For each function in order, whether an admitted match was left when its steps were spent.
-    pub limited: List<bool>,
-}
+use strategy_core::{Done, every_match_left_is_decided, every_optimised_module_refines_the_old};
 
 /// What the plain strategy gives for a module: each function is cleaned, and then rewritten at its first admitted match and cleaned, again
 /// and again, until none is left or its steps are spent. A verdict is decided once, when it is first asked for: by the log that is stored

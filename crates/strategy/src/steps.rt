@@ -4,7 +4,7 @@ ghost use Rattle.std.specs.Prelude.{OnOk};
 ghost use Rattle.ir_core.specs.Checks.{MeetsChecks};
 ghost use Rattle.ir_meaning.specs.HistoryLaws.{NumbersFit};
 ghost use Rattle.needed.specs.Cleaned.{IsCleaned};
-ghost use Rattle.strategy.specs.Countable.{IsCountable};
+ghost use Rattle.strategy_core.specs.Countable.{IsCountable};
 
 use ir_core::Function;
 use needed::{clean, every_cleaned_function_refines_the_old, every_cleaned_number_was_there};

@@ -9,7 +9,8 @@ use rule_core::{Rule, Typing, run_source, run_target};
 use rule_typing::is_typing;
 use std::alloc::Global;
 use std::test::Fail;
-use verdict::{Verdict, decide};
+use verdict::decide;
+use verdict_core::Verdict;
 
 /// What a half of a rule does.
 #[derive(Clone, Copy, PartialEq, Debug)]

@@ -8,7 +8,8 @@ use rule_core::Rule;
 use rule_reader::read_rules;
 use std::alloc::Global;
 use std::test::Fail;
-use verdict::{Verdict, Verified, verify};
+use verdict::{Verified, verify};
+use verdict_core::Verdict;
 
 const RULES: &str = "Name: or-as-add-1
 %a = and i1 %x, %y

@@ -12,9 +12,9 @@ use Rattle.rule_core.specs.declared.rule.Rule.{Rule}
 use Rattle.rule_core.specs.Typing.{IsTyping}
 use Rattle.rule_typing.specs.declared.answer.Typings.TheVariants as answers
 use Rattle.rule_typing.specs.AllTypings.{IsAnswer}
-use Rattle.verdict.specs.declared.verdict.Row.{Row}
-use Rattle.verdict.specs.declared.verdict.Verdict.{Verdict}
-use Rattle.verdict.specs.declared.verdict.Verdict.TheVariants.{Admitted}
+use Rattle.verdict_core.specs.declared.verdicts.Row.{Row}
+use Rattle.verdict_core.specs.declared.verdicts.Verdict.{Verdict}
+use Rattle.verdict_core.specs.declared.verdicts.Verdict.TheVariants.{Admitted}
 use Rattle.verdict.specs.Honest.{IsHonest}
 use Rattle.verdict.specs.declared.verification.Verified.{Verified}
 use Rattle.verdict.specs.Texts.{verdict_text, too_many_text}

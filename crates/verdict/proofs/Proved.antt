@@ -3,8 +3,8 @@ use Rattle.std.proofs.Common.{◌≡◌, ◌↔◌, Bool, true, false, IsTrue, L
 use Rattle.clauses.specs.declared.cnf.Cnf.{Cnf}
 use Rattle.clauses.specs.declared.step.Step.{Step}
 use Rattle.clauses.specs.ClauseSet.{IsRefutation}
-use Rattle.verdict.specs.declared.verdict.Verdict.{Verdict}
-use Rattle.verdict.specs.declared.verdict.Verdict.TheVariants.{Admitted, Refuted, WitnessFails, Budget}
+use Rattle.verdict_core.specs.declared.verdicts.Verdict.{Verdict}
+use Rattle.verdict_core.specs.declared.verdicts.Verdict.TheVariants.{Admitted, Refuted, WitnessFails, Budget}
 use Rattle.verdict.specs.Proved.{IsUnrefutedBy, Keeps}
 
 pub not_refuted : (found : Bool) (R : Type 0) → (IsTrue found ↔ R) → found ≡ false → R → ⊥

@@ -1,7 +1,7 @@
 -- What is added as one rule is decided.
 use Rattle.std.specs.Prelude.{◌≡◌, ◌↔◌, ℕ, List, ◌++◌, map, IsTrue, All}
 use Rattle.rule_core.specs.declared.rule.Rule.{Rule}
-use Rattle.verdict.specs.declared.verdict.Row.{Row}
+use Rattle.verdict_core.specs.declared.verdicts.Row.{Row}
 use Rattle.verdict.specs.declared.verification.Verified.{Verified}
 use Rattle.verdict.specs.Findings.{Finding, Decided, IsFinding, IsRowOf, rows_of, finding_text, IsAdmitted}
 

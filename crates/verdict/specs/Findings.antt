@@ -5,8 +5,8 @@ use Rattle.rule_typing.specs.declared.answer.Typings.TheVariants as typings
 use Rattle.rule_typing.specs.Classes.{IsClassified}
 use Rattle.rule_typing.specs.AllTypings.{IsAnswer}
 use Rattle.rule_core.specs.Checks.{IsRule}
-use Rattle.verdict.specs.declared.verdict.Row.{Row}
-use Rattle.verdict.specs.declared.verdict.Verdict.TheVariants.{Admitted}
+use Rattle.verdict_core.specs.declared.verdicts.Row.{Row}
+use Rattle.verdict_core.specs.declared.verdicts.Verdict.TheVariants.{Admitted}
 use Rattle.verdict.specs.Honest.{IsHonest}
 use Rattle.verdict.specs.Limits.{most_typings}
 use Rattle.verdict.specs.Table.{rows_text}

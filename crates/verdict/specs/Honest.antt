@@ -11,9 +11,9 @@ use Rattle.blast_rule.specs.Inputs.{input_bits}
 use Rattle.blast_rule.specs.Settings.{setting_of}
 use Rattle.blast_rule.specs.Gates.{most_gates}
 use Rattle.blast_rule.specs.Parts.{Refutes}
-use Rattle.verdict.specs.declared.verdict.Verdict.{Verdict}
-use Rattle.verdict.specs.declared.verdict.Verdict.TheVariants.{Admitted, Refuted, WitnessFails, Budget}
-use Rattle.verdict.specs.declared.verdict.Tried.{Tried}
+use Rattle.verdict_core.specs.declared.verdicts.Verdict.{Verdict}
+use Rattle.verdict_core.specs.declared.verdicts.Verdict.TheVariants.{Admitted, Refuted, WitnessFails, Budget}
+use Rattle.verdict_core.specs.declared.verdicts.Tried.{Tried}
 
 -- what an example runs the halves on
 abbrev pub setting_in : Example → Setting

@@ -7,8 +7,8 @@ use Rattle.rule_core.specs.declared.rule.Rule.{Rule}
 use Rattle.rule_core.specs.Valid.{IsValid}
 use Rattle.verdict.specs.declared.decision.Attempt.{Attempt}
 use Rattle.verdict.specs.declared.decision.Attempt.TheVariants as attempts
-use Rattle.verdict.specs.declared.verdict.Verdict.{Verdict}
-use Rattle.verdict.specs.declared.verdict.Verdict.TheVariants.{Admitted, Refuted, WitnessFails, Budget}
+use Rattle.verdict_core.specs.declared.verdicts.Verdict.{Verdict}
+use Rattle.verdict_core.specs.declared.verdicts.Verdict.TheVariants.{Admitted, Refuted, WitnessFails, Budget}
 use Rattle.verdict.specs.Honest.{IsRefutedBy, IsHonestBudget}
 
 -- the log refutes the set where the rule is admitted, and else it is empty

@@ -2,7 +2,7 @@
 use Rattle.std.specs.Prelude.{◌≡◌, ℕ, List, [], flat_map, All, Some, slice_get}
 use Rattle.std.specs.Option.{option_map_or}
 use Rattle.rule_core.specs.declared.rule.Rule.{Rule}
-use Rattle.verdict.specs.declared.verdict.Row.{Row}
+use Rattle.verdict_core.specs.declared.verdicts.Row.{Row}
 use Rattle.verdict.specs.Honest.{IsHonest}
 use Rattle.verdict.specs.Texts.{verdict_text}
 

@@ -10,7 +10,6 @@ ghost use Rattle.verdict.specs.Honest.{IsHonest, IsRefutedBy, StandsForRule};
 ghost use Rattle.verdict.specs.Proved.{IsLogOf, IsUnrefutedBy, Keeps, IsAttempt};
 
 use crate::reading::{effect_read, words_read};
-use crate::verdict::{Tried, Verdict};
 use aig::{Aig, rests_tell_counts};
 use blast_rule::{
     blast_rule, gates_are_few, rules_without_counterexample_read_are_valid, setting_of,
@@ -24,6 +23,7 @@ use packed_log::{PackedLog, pack};
 use rule_core::{Example, Rule, Typing, every_rule_has_one_outcome};
 use rup_checker::check_refutation;
 use std::alloc::{AllocError, Global};
+use verdict_core::{Tried, Verdict};
 
 /// What a search over the clauses of a rule's counterexamples came to.
 #[derive(Drop)]

@@ -8,12 +8,10 @@ mod example;
 mod laws;
 mod reading;
 mod text;
-mod verdict;
 mod verification;
 mod words;
 
 pub use decision::{decide, prove, readmit};
 pub use laws::few_bits_are_decided;
 pub use text::{push_too_many, push_verdict};
-pub use verdict::{Row, Table, Tried, Verdict};
 pub use verification::{MOST_TYPINGS, Verified, verify};

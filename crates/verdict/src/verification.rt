@@ -8,13 +8,14 @@ ghost use Rattle.verdict.specs.Findings.{IsReadRule};
 ghost use Rattle.verdict.specs.Limits.{most_conflicts};
 ghost use Rattle.verdict.specs.Verified.{IsVerified};
 
+use crate::decide;
 use crate::text::{push_too_many, push_verdict};
-use crate::{Row, Table, Verdict, decide};
 use lists::List;
 use ops::Width;
 use rule_core::{Rule, Typing};
 use rule_typing::{Typings, typings};
 use std::alloc::{AllocError, Global};
+use verdict_core::{Row, Table, Verdict};
 
 /// How many typings of a rule are tried. Of a rule that has more, none is.
 pub const MOST_TYPINGS: u32 = 4096;

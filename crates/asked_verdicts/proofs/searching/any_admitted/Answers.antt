@@ -1,5 +1,5 @@
 use Rattle.std.proofs.Common.{map, arith}
-use Rattle.asked_verdicts.specs.Asked.{pair_of}
+use Rattle.strategy_core.specs.Asked.{pair_of}
 use Rattle.asked_verdicts.proofs.Parts.{next_block, no_block_asked, whole_function}
 use Rattle.asked_verdicts.proofs.Sequence.{still_verdicts}
 use Rattle.asked_verdicts.proofs.searching.any_admitted.Goals as goal

@@ -1,7 +1,7 @@
 -- the matches so far are asked, and it is told whether one of them is admitted
 use Rattle.std.proofs.Common.{map, take}
 use Rattle.std.specs.Prelude.{All, Any, MatchBool}
-use Rattle.asked_verdicts.specs.Asked.{pair_of, IsAdmitted, IsTurnedDown}
+use Rattle.strategy_core.specs.Asked.{pair_of, IsAdmitted, IsTurnedDown}
 use Rattle.asked_verdicts.specs.Asks.{Asks}
 use Rattle.asked_verdicts.proofs.searching.any_of.Given as goal
 

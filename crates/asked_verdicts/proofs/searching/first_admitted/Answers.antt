@@ -5,7 +5,7 @@ use Rattle.std.proofs.lemmas.List.{take_all}
 use Rattle.std.proofs.lemmas.Option.{slice_get_read}
 use Rattle.rule_matches.specs.declared.matches.Match.{Match}
 use Rattle.rule_matches.specs.Matches.{IsMatchInAnyOrder}
-use Rattle.asked_verdicts.specs.Asked.{pair_of, IsAdmitted, IsTurnedDown}
+use Rattle.strategy_core.specs.Asked.{pair_of, IsAdmitted, IsTurnedDown}
 use Rattle.asked_verdicts.specs.Asks.{Asks}
 use Rattle.asked_verdicts.proofs.Passing.{next_match, match_at, rule_within, rule_of, asks_more, still_turned_down, turned_down_more}
 use Rattle.asked_verdicts.proofs.Sequence.{still_verdicts}

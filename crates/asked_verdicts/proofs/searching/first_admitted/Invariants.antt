@@ -1,7 +1,7 @@
 -- the matches so far are asked, and turned down
 use Rattle.std.proofs.Common.{map, take}
 use Rattle.std.specs.Prelude.{All}
-use Rattle.asked_verdicts.specs.Asked.{pair_of, IsTurnedDown}
+use Rattle.strategy_core.specs.Asked.{pair_of, IsTurnedDown}
 use Rattle.asked_verdicts.specs.Asks.{Asks}
 use Rattle.asked_verdicts.proofs.searching.first_admitted.Given as goal
 

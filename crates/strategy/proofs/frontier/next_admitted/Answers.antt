@@ -2,7 +2,7 @@ use Rattle.std.proofs.Common.{map, subst}
 use Rattle.draft.specs.Drafts.{Stands}
 use Rattle.draft_steps.specs.Queues.{ComesNext, waiting_in}
 use Rattle.places.specs.Sets.{IsRemoved}
-use Rattle.asked_verdicts.specs.Asked.{pair_of}
+use Rattle.strategy_core.specs.Asked.{pair_of}
 use Rattle.asked_verdicts.proofs.Sequence.{still_verdicts}
 use Rattle.strategy.specs.Frontiers.{LooksAt}
 use Rattle.strategy.proofs.Searching.{IsNext, looked_found, looked_past, not_gone, searched}

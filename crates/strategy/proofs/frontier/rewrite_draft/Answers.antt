@@ -12,7 +12,7 @@ use Rattle.rule_matches.specs.declared.matches.Match.{Match}
 use Rattle.draft.specs.Drafts.{function_of}
 use Rattle.draft_steps.specs.MatchLaws.{placed_match}
 use Rattle.ir_core.specs.declared.function.Function.{Function}
-use Rattle.strategy.proofs.Numbers.{cleaned_numbers_fit}
+use Rattle.strategy_core.proofs.Numbers.{cleaned_numbers_fit}
 use Rattle.strategy.proofs.frontier.rewrite_draft.Goals as goal
 
 -- the rule that is read at the match's place is the one that matches

@@ -4,8 +4,8 @@ use Rattle.rule_core.specs.declared.rule.Rule.{Rule}
 use Rattle.rule_core.specs.declared.example.Example.{Example}
 use Rattle.rule_core.specs.Valid.{IsValid}
 use Rattle.blast_rule.specs.Inputs.{input_bits}
-use Rattle.verdict.specs.declared.verdict.Verdict.{Verdict}
-use Rattle.verdict.specs.declared.verdict.Verdict.TheVariants.{Admitted, Refuted, WitnessFails, Budget}
+use Rattle.verdict_core.specs.declared.verdicts.Verdict.{Verdict}
+use Rattle.verdict_core.specs.declared.verdicts.Verdict.TheVariants.{Admitted, Refuted, WitnessFails, Budget}
 use Rattle.verdict.specs.Honest.{IsHonest, IsRefutedBy, setting_in}
 use Rattle.verdict.proofs.laws.few_bits_are_decided.Goals as goal
 

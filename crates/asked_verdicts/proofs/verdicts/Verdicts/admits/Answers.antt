@@ -3,9 +3,9 @@ use Rattle.std.specs.Prelude.{slice_get}
 use Rattle.std.proofs.lemmas.List.{length-map}
 use Rattle.std.proofs.lemmas.Option.{slice_get_within}
 use Rattle.ir_meaning.proofs.Pieces.{some_at}
-use Rattle.verdict.specs.declared.verdict.Row.{Row}
+use Rattle.verdict_core.specs.declared.verdicts.Row.{Row}
 use Rattle.asked_verdicts.specs.declared.verdicts.Verdicts.{Verdicts}
-use Rattle.asked_verdicts.specs.Asked.{Pair, pair_in, pair_of}
+use Rattle.strategy_core.specs.Asked.{Pair, pair_in, pair_of}
 use Rattle.asked_verdicts.specs.Asks.{Asks}
 use Rattle.asked_verdicts.specs.Stored.{Key, pair_of_key}
 use Rattle.asked_verdicts.proofs.Storing.{key_eq}

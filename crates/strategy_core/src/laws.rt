@@ -1,6 +1,6 @@
 //! The laws of the plain strategy, each the contract of a function that does nothing.
 
-ghost use Rattle.strategy.specs.Laws.{StrategyDecides, StrategyMeetsChecks, StrategyNumbersFit, StrategyRefines};
+ghost use Rattle.strategy_core.specs.Laws.{StrategyDecides, StrategyMeetsChecks, StrategyNumbersFit, StrategyRefines};
 
 use ir_meaning::refinement_is_an_order;
 use needed::{every_cleaned_function_refines_the_old, every_cleaned_number_was_there};

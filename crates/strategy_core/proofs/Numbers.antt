@@ -1,6 +1,6 @@
 -- The numbers of a cleaned function are of their widths.
 use Rattle.needed.specs.Laws.{CleanedNumbersWereThere}
-use Rattle.strategy.specs.Laws.{CleanedNumbersFit}
+use Rattle.strategy_core.specs.Laws.{CleanedNumbersFit}
 
 pub cleaned_numbers_fit : CleanedNumbersWereThere → CleanedNumbersFit
 cleaned_numbers_fit were f g checks fit cleaned b k i r n is number =

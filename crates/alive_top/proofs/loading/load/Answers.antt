@@ -1,10 +1,10 @@
 use Rattle.std.proofs.Common.{◌≡◌, ◌∙◌, ℕ, ◌<◌, ◌^◌, ap, sym, subst, arith}
 use Rattle.ir_core.specs.Checks.{ModuleMeetsChecks}
-use Rattle.strategy.specs.Countable.{ModuleIsCountable}
-use Rattle.strategy.specs.Laws.{ModuleNumbersFit}
+use Rattle.strategy_core.specs.Countable.{ModuleIsCountable}
+use Rattle.strategy_core.specs.Laws.{ModuleNumbersFit}
 use Rattle.load_text.specs.Load.{default_steps, instructions_in, load_text}
 use Rattle.load_text.proofs.LoadLemmas.{generated_countable, generated_size}
-use Rattle.load_text.proofs.loading.load.Goals as goal
+use Rattle.alive_top.proofs.loading.load.Goals as goal
 
 pub optimised-requires-clause-checks : goal.optimised-requires-clause-checks
 optimised-requires-clause-checks c =

@@ -1,5 +1,5 @@
-use Rattle.strategy.proofs.Refining.{parts, strategy_refines, strategy_meets, strategy_fits}
-use Rattle.strategy.proofs.laws.every_optimised_module_refines_the_old.Goals as goal
+use Rattle.strategy_core.proofs.Refining.{parts, strategy_refines, strategy_meets, strategy_fits}
+use Rattle.strategy_core.proofs.laws.every_optimised_module_refines_the_old.Goals as goal
 
 pub returns-clause-refines : goal.returns-clause-refines
 returns-clause-refines c =

@@ -8,12 +8,12 @@ use Rattle.ir_meaning.proofs.Pieces.{place_in}
 use Rattle.ir_core.specs.declared.module.Entry.{Entry}
 use Rattle.ir_core.specs.declared.function.Function.{Function}
 use Rattle.rule_core.specs.declared.rule.Rule.{Rule}
-use Rattle.verdict.specs.declared.verdict.Row.{Row}
+use Rattle.verdict_core.specs.declared.verdicts.Row.{Row}
 use Rattle.rule_matches.specs.declared.matches.Match.{Match}
-use Rattle.asked_verdicts.specs.Asked.{Pair, pair_of, pair_in, IsAdmitted, IsTurnedDown}
-use Rattle.strategy.specs.PlainStrategy.{IsOptimised, AreOptimised, none, kept, function}
-use Rattle.strategy.specs.Decided.{IsDecided, function_in}
-use Rattle.strategy.specs.Laws.{StrategyDecides}
+use Rattle.strategy_core.specs.Asked.{Pair, pair_of, pair_in, IsAdmitted, IsTurnedDown}
+use Rattle.strategy_core.specs.PlainStrategy.{IsOptimised, AreOptimised, none, kept, function}
+use Rattle.strategy_core.specs.Decided.{IsDecided, function_in}
+use Rattle.strategy_core.specs.Laws.{StrategyDecides}
 use Rattle.std.specs.List.{AllZip, flat_map}
 
 if_not_limited : (P Q : Type 0) (limited : Bool) → MatchBool limited P Q → ¬ IsTrue limited → Q

@@ -13,16 +13,16 @@ use Rattle.ir_meaning.specs.HistoryLaws.{NumbersFit}
 use Rattle.ir_meaning.specs.Orders.{RefinementIsTransitive, RefinementIsReflexive}
 use Rattle.needed.specs.Cleaned.{IsCleaned}
 use Rattle.needed.specs.Laws.{CleanedFunctionsRefine, CleanedFunctionsMeetChecks, CleanedNumbersWereThere}
-use Rattle.verdict.specs.declared.verdict.Row.{Row}
+use Rattle.verdict_core.specs.declared.verdicts.Row.{Row}
 use Rattle.rewriter.specs.Applied.{IsRewritten}
 use Rattle.rewriter.specs.Laws.{RewrittenFunctionsRefine, RewrittenFunctionsMeetChecks, RewrittenNumbersFit}
 use Rattle.rule_matches.specs.declared.matches.Match.{Match}
-use Rattle.asked_verdicts.specs.Asked.{Pair, pair_of, pair_in, IsAdmitted}
+use Rattle.strategy_core.specs.Asked.{Pair, pair_of, pair_in, IsAdmitted}
 use Rattle.rule_matches.specs.Matches.{IsMatchAmong}
-use Rattle.strategy.specs.PlainStrategy.{IsStep, ComesOf, itself, by_step, IsOptimised, AreOptimised, none, kept, function, IsPlainStrategy}
-use Rattle.strategy.specs.Laws.{AdmittedAreValid, ModuleNumbersFit, CleanedNumbersFit, StrategyMeetsChecks, StrategyNumbersFit, StrategyRefines}
+use Rattle.strategy_core.specs.PlainStrategy.{IsStep, ComesOf, itself, by_step, IsOptimised, AreOptimised, none, kept, function, IsPlainStrategy}
+use Rattle.strategy_core.specs.Laws.{AdmittedAreValid, ModuleNumbersFit, CleanedNumbersFit, StrategyMeetsChecks, StrategyNumbersFit, StrategyRefines}
 use Rattle.rule_matches.specs.Ready.{AreReady}
-use Rattle.strategy.proofs.Numbers.{cleaned_numbers_fit}
+use Rattle.strategy_core.proofs.Numbers.{cleaned_numbers_fit}
 
 -- what is known of cleaning and of rewriting, each alone
 pub record PartLaws : Type 0 where

@@ -10,10 +10,10 @@ use Rattle.rule_core.specs.Valid.{IsValid}
 use Rattle.rule_matches.specs.Ready.{AreReady}
 use Rattle.ir_meaning.specs.HistoryLaws.{NumbersFit}
 use Rattle.needed.specs.Cleaned.{IsCleaned}
-use Rattle.verdict.specs.declared.verdict.Row.{Row}
-use Rattle.verdict.specs.declared.verdict.Verdict.TheVariants.{Admitted}
-use Rattle.strategy.specs.PlainStrategy.{IsPlainStrategy}
-use Rattle.strategy.specs.Decided.{MatchesAreDecided}
+use Rattle.verdict_core.specs.declared.verdicts.Row.{Row}
+use Rattle.verdict_core.specs.declared.verdicts.Verdict.TheVariants.{Admitted}
+use Rattle.strategy_core.specs.PlainStrategy.{IsPlainStrategy}
+use Rattle.strategy_core.specs.Decided.{MatchesAreDecided}
 
 -- a rule is valid wherever the table admits it
 abbrev pub AdmittedAreValid : List Rule → List Row → Type 0

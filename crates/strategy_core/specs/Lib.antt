@@ -1,0 +1,5 @@
+pub mod PlainStrategy
+pub mod Decided
+pub mod Countable
+pub mod Laws
+pub mod Asked

@@ -1,0 +1,17 @@
+//! What the plain strategy gives.
+
+use ir_core::Module;
+use lists::List;
+use verdict_core::Table;
+
+/// A module that the plain strategy gives, the verdicts that it was given by, and what became of its functions.
+#[derive(Debug, Drop)]
+pub struct Done {
+    pub module: Module,
+    /// The verdicts in the order in which the strategy first asked for them, each pair of a rule and a typing once.
+    pub table: Table,
+    /// For each function in order, how often it was rewritten.
+    pub counts: List<u32>,
+    /// For each function in order, whether an admitted match was left when its steps were spent.
+    pub limited: List<bool>,
+}
