@@ -9,8 +9,7 @@ use ir_printer::print_report;
 use rule_reader::Rule;
 use std::alloc::{AllocError, Global};
 use strategy_core::Done;
-use verdict::push_verdict;
-use verdict_core::Row;
+use verdict_core::{Row, push_verdict};
 
 /// Adds the text of a row's verdict on its rule.
 fn push_row(out: &mut Vec<u8>, rules: &[Rule], row: &Row) -> Result<(), AllocError>

@@ -19,7 +19,7 @@ use Rattle.verdict_core.specs.declared.verdicts.Verdict.TheVariants.{Admitted}
 use Rattle.verdict.specs.Honest.{IsHonest}
 use Rattle.verdict.specs.Proved.{IsUnrefutedBy}
 use Rattle.verdict.specs.Table.{IsHonestRow, IsHonestTable, row_text, table_text}
-use Rattle.verdict.specs.Texts.{verdict_text}
+use Rattle.verdict_core.specs.Texts.{verdict_text}
 use Rattle.stored_logs.specs.declared.rechecked.Rechecked.{Rechecked}
 use Rattle.stored_logs.specs.Additions.{AddsVerdict}
 use Rattle.stored_logs.specs.Rechecked.{IsVerdictOn, IsRechecked}

@@ -15,8 +15,8 @@ use lists::List;
 use proof_reader::{LogError, RuleProof, read_logs};
 use rule_core::Rule;
 use std::alloc::{AllocError, Global};
-use verdict::{push_verdict, readmit};
-use verdict_core::{Row, Table};
+use verdict::readmit;
+use verdict_core::{Row, Table, push_verdict};
 
 /// What comes of the proofs in a text.
 #[derive(Debug, Drop)]

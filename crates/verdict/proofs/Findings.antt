@@ -17,7 +17,7 @@ use Rattle.verdict_core.specs.declared.verdicts.Verdict.{Verdict}
 use Rattle.verdict_core.specs.declared.verdicts.Verdict.TheVariants.{Admitted}
 use Rattle.verdict.specs.Honest.{IsHonest}
 use Rattle.verdict.specs.declared.verification.Verified.{Verified}
-use Rattle.verdict.specs.Texts.{verdict_text, too_many_text}
+use Rattle.verdict_core.specs.Texts.{verdict_text, too_many_text}
 use Rattle.verdict.specs.Findings.{Finding, Decided, TooMany, IsFinding, IsRowOf, rows_of, finding_text, IsAdmitted}
 use Rattle.verdict.specs.Additions.{AddsRows, AddsRule}
 use Rattle.verdict.specs.Limits.{most_typings}

@@ -2,6 +2,5 @@ pub mod Chain
 pub mod Examples
 pub mod InputBits
 pub mod Widths
-pub mod Lines
 pub mod Proved
 pub mod Findings

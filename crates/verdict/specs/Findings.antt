@@ -10,7 +10,7 @@ use Rattle.verdict_core.specs.declared.verdicts.Verdict.TheVariants.{Admitted}
 use Rattle.verdict.specs.Honest.{IsHonest}
 use Rattle.verdict.specs.Limits.{most_typings}
 use Rattle.verdict.specs.Table.{rows_text}
-use Rattle.verdict.specs.Texts.{too_many_text}
+use Rattle.verdict_core.specs.Texts.{too_many_text}
 
 -- a rule as it is read: it meets the checks, and its classes are written
 pub record IsReadRule (rule : Rule) : Type 0 where

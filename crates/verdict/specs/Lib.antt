@@ -8,7 +8,6 @@ pub mod Honest
 pub mod Proved
 pub mod WideWords
 pub mod Laws
-pub mod Texts
 pub mod Findings
 pub mod Additions
 pub mod Verified

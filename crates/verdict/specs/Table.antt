@@ -4,7 +4,7 @@ use Rattle.std.specs.Option.{option_map_or}
 use Rattle.rule_core.specs.declared.rule.Rule.{Rule}
 use Rattle.verdict_core.specs.declared.verdicts.Row.{Row}
 use Rattle.verdict.specs.Honest.{IsHonest}
-use Rattle.verdict.specs.Texts.{verdict_text}
+use Rattle.verdict_core.specs.Texts.{verdict_text}
 
 -- the row is of one of these rules, and its verdict on it is honest
 pub record IsHonestRow (rules : List Rule) (conflicts : ℕ) (row : Row) : Type 0 where

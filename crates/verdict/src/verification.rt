@@ -9,13 +9,12 @@ ghost use Rattle.verdict.specs.Limits.{most_conflicts};
 ghost use Rattle.verdict.specs.Verified.{IsVerified};
 
 use crate::decide;
-use crate::text::{push_too_many, push_verdict};
 use lists::List;
 use ops::Width;
 use rule_core::{Rule, Typing};
 use rule_typing::{Typings, typings};
 use std::alloc::{AllocError, Global};
-use verdict_core::{Row, Table, Verdict};
+use verdict_core::{Row, Table, Verdict, push_too_many, push_verdict};
 
 /// How many typings of a rule are tried. Of a rule that has more, none is.
 pub const MOST_TYPINGS: u32 = 4096;

@@ -1,7 +1,7 @@
 use Rattle.std.proofs.Common.{◌++◌, codes, rules}
-use Rattle.verdict.specs.Texts.{line_text, inputs_text}
-use Rattle.verdict.proofs.Lines.{pair_more, pairs_end}
-use Rattle.verdict.proofs.example.push_inputs.Goals as goal
+use Rattle.verdict_core.specs.Texts.{line_text, inputs_text}
+use Rattle.verdict_core.proofs.Lines.{pair_more, pairs_end}
+use Rattle.verdict_core.proofs.example.push_inputs.Goals as goal
 
 pub loop-name-preserved : goal.loop-name-preserved
 unfolding inputs_text

@@ -1,8 +1,8 @@
 use Rattle.std.proofs.Common.{rules}
-use Rattle.verdict.specs.Texts.{line_text, constants_text}
+use Rattle.verdict_core.specs.Texts.{line_text, constants_text}
 use Rattle.ops.specs.declared.value.Value.TheVariants.{Bits}
-use Rattle.verdict.proofs.Lines.{pair_more, pairs_end}
-use Rattle.verdict.proofs.example.push_constants.Goals as goal
+use Rattle.verdict_core.proofs.Lines.{pair_more, pairs_end}
+use Rattle.verdict_core.proofs.example.push_constants.Goals as goal
 
 pub loop-name-preserved : goal.loop-name-preserved
 unfolding constants_text

@@ -1,10 +1,10 @@
 use Rattle.std.proofs.Common.{◌≡◌, ◌++◌}
 use Rattle.std.specs.Iterator.Adapters.{zip_first, zip_second}
 use Rattle.std.specs.Slice.Iter.{iter_rest}
-use Rattle.verdict.specs.Texts.{constants_text}
-use Rattle.verdict.proofs.example.push_constants.Given as goal
+use Rattle.verdict_core.specs.Texts.{inputs_text}
+use Rattle.verdict_core.proofs.example.push_inputs.Given as goal
 
 -- what is left of the two lists is still to be printed
 abbrev pub invariant-loop-name : goal.invariant-loop-name
 invariant-loop-name l =
-    l.out.items ++ constants_text (iter_rest (zip_first l.name-iterator)) (iter_rest (zip_second l.name-iterator)) ≡ l.fn.out.items ++ constants_text l.names l.numbers
+    l.out.items ++ inputs_text (iter_rest (zip_first l.name-iterator)) (iter_rest (zip_second l.name-iterator)) ≡ l.fn.out.items ++ inputs_text l.names l.values

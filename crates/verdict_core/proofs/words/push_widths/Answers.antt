@@ -1,7 +1,7 @@
 use Rattle.std.proofs.Common.{◌≡◌, ◌++◌, ℕ, decimal, ap, ◌∙◌}
-use Rattle.verdict.proofs.Lines.{first_width, next_width}
-use Rattle.verdict.proofs.words.push_widths.Goals as goal
-use Rattle.verdict.proofs.words.push_widths.Goals.{then-place-gt0+in_ok-push, else-place-gt0}
+use Rattle.verdict_core.proofs.Lines.{first_width, next_width}
+use Rattle.verdict_core.proofs.words.push_widths.Goals as goal
+use Rattle.verdict_core.proofs.words.push_widths.Goals.{then-place-gt0+in_ok-push, else-place-gt0}
 
 pub loop-place-preserved : goal.loop-place-preserved
 loop-place-preserved c =

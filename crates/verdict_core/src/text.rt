@@ -1,13 +1,13 @@
 //! The texts of verdicts.
 
 ghost use Rattle.std.specs.Prelude.{◌≡◌, ◌++◌, OnOk};
-ghost use Rattle.verdict.specs.Texts.{example_text, answer_text, verdict_text, too_many_text};
+ghost use Rattle.verdict_core.specs.Texts.{example_text, answer_text, verdict_text, too_many_text};
 
 use crate::example::push_example;
+use crate::verdicts::Verdict;
 use crate::words::push_widths;
 use rule_core::{Example, Rule, Typing};
 use std::alloc::AllocError;
-use verdict_core::Verdict;
 
 /// Adds the text of a verdict on the rule at a typing.
 #[tactic(auto, unfolding(crate::specs::Texts::verdict_text))]

@@ -1,7 +1,7 @@
 //! Prints counterexamples.
 
 ghost use Rattle.std.specs.Prelude.{◌≡◌, ◌++◌, OnOk};
-ghost use Rattle.verdict.specs.Texts.{line_text, inputs_text, constants_text, choices_text, half_text, example_text};
+ghost use Rattle.verdict_core.specs.Texts.{line_text, inputs_text, constants_text, choices_text, half_text, example_text};
 
 use crate::words::{push_effect, push_value};
 use itoa::Buffer;

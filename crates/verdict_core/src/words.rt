@@ -2,7 +2,7 @@
 
 ghost use Rattle.std.specs.Prelude.{◌≡◌, ◌++◌, OnOk, decimal, map};
 ghost use Rattle.std.specs.List.{join_with_byte};
-ghost use Rattle.verdict.specs.Texts.{value_text, effect_text};
+ghost use Rattle.verdict_core.specs.Texts.{value_text, effect_text};
 
 use itoa::Buffer;
 use ops::{Effect, Value, Width};

@@ -1,8 +1,8 @@
 use Rattle.std.proofs.Common.{◌≡◌, ◌+◌, ◌++◌, drop, decimal, flat_map}
 use Rattle.std.specs.List.{enumerate_from}
 use Rattle.ops.specs.declared.value.Value.TheVariants.{Bits}
-use Rattle.verdict.specs.Texts.{line_text, choices_text}
-use Rattle.verdict.proofs.example.push_choices.Given as goal
+use Rattle.verdict_core.specs.Texts.{line_text, choices_text}
+use Rattle.verdict_core.proofs.example.push_choices.Given as goal
 
 -- what is left of the list is still to be printed
 abbrev pub invariant-loop-place : goal.invariant-loop-place
