@@ -3,7 +3,7 @@ use Rattle.std.proofs.Common.{List}
 use Rattle.std.specs.Prelude.{All, Any, Contains}
 use Rattle.rule_core.specs.declared.rule.Rule.{Rule}
 use Rattle.verdict_core.specs.declared.verdicts.Row.{Row}
-use Rattle.rule_matches.specs.declared.matches.Match.{Match}
+use Rattle.bindings.specs.declared.rule_match.Match.{Match}
 use Rattle.strategy_core.specs.Asked.{IsAdmitted, IsTurnedDown}
 
 module _ (rules : List Rule) (table larger : List Row) (grows : (row : Row) → Contains table row → Contains larger row) where

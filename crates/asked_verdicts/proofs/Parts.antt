@@ -11,9 +11,9 @@ use Rattle.ir_core.specs.declared.function.Function.{Function}
 use Rattle.ir_meaning.proofs.Pieces.{contains_at}
 use Rattle.rule_core.specs.declared.rule.Rule.{Rule}
 use Rattle.rule_typing.proofs.Images.{Contains-map, from_map}
-use Rattle.rule_matches.specs.declared.matches.Match.{Match}
-use Rattle.rule_matches.specs.Matches.{AreMatchesWhere, ComesBefore, IsAt, IsMatchAmong}
-use Rattle.rule_matches.specs.Ready.{AreReady}
+use Rattle.bindings.specs.declared.rule_match.Match.{Match}
+use Rattle.bindings.specs.Matches.{AreMatchesWhere, ComesBefore, IsAt, IsMatchAmong}
+use Rattle.bindings.specs.Ready.{AreReady}
 use Rattle.rule_matches.proofs.Joining.{before_chosen, joined, joined_before, none_where, same_where}
 use Rattle.rule_matches.proofs.Rooting.{before_end, root_stands}
 use Rattle.asked_verdicts.specs.declared.verdicts.Verdicts.{Verdicts}

@@ -1,5 +1,5 @@
-pub use Rattle.rule_matches.specs.Matches
-pub use Rattle.rule_matches.specs.Ready
+pub use Rattle.bindings.specs.Matches
+pub use Rattle.bindings.specs.Ready
 pub mod Asks
 pub mod Parts
 pub mod Stored

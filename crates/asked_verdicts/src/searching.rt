@@ -5,18 +5,18 @@ ghost use Rattle.ir_core.specs.Checks.{MeetsChecks};
 ghost use Rattle.ir_core.specs.declared.function.Function.{Function as FunctionSearched};
 ghost use Rattle.bindings.specs.Facts.{AreFactsOf};
 ghost use Rattle.verdict.specs.Limits.{most_conflicts};
-ghost use Rattle.rule_matches.specs.Ready.{AreReady};
+ghost use Rattle.bindings.specs.Ready.{AreReady};
 ghost use Rattle.rule_matches.specs.Roots.{AreByRoot};
-ghost use Rattle.rule_matches.specs.Matches.{IsMatchAmong, IsMatchInAnyOrder};
+ghost use Rattle.bindings.specs.Matches.{IsMatchAmong, IsMatchInAnyOrder};
 ghost use Rattle.strategy_core.specs.Asked.{IsAdmitted, IsTurnedDown, pair_of};
 ghost use Rattle.asked_verdicts.specs.Asks.{AreVerdicts, Asks, AsksAll, IsAnywhere};
 ghost use Rattle.asked_verdicts.specs.Parts.{AsksToPlace, IsInBlock};
 
 use crate::verdicts::Verdicts;
-use bindings::FunctionFacts;
+use bindings::{FunctionFacts, Match};
 use ir_core::{Function, end_of};
 use rule_core::Rule;
-use rule_matches::{Match, Rules, matches_at};
+use rule_matches::{Rules, matches_at};
 use std::alloc::{AllocError, Global};
 
 /// The place of the first of some matches that is admitted. The verdicts of all up to it are asked for, and of all if there is none.

@@ -14,11 +14,11 @@ ghost use Rattle.asked_verdicts.specs.Stored.{log_of};
 
 use crate::stored::StoredLogs;
 use crate::widths::widths_of;
+use bindings::Match;
 use clauses::Log;
 use indexmap::IndexSet;
 use lists::List;
 use rule_core::{Rule, Typing};
-use rule_matches::Match;
 use std::alloc::{AllocError, Global};
 use verdict::{decide, readmit};
 use verdict_core::{Row, Table, Verdict};

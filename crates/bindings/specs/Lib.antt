@@ -7,3 +7,5 @@ pub mod Match
 pub mod Facts
 pub mod Checks
 pub mod Laws
+pub mod Matches
+pub mod Ready

@@ -2,7 +2,8 @@
 //!
 //! The definitions stand in `specs/`: `Match` says when a rule matches at an instruction with a binding, `Statements` which
 //! instructions its statements match, and `Operands` what its operands stand for; `Uses` of `use_counts` says how often a
-//! register is used. `Laws` says that temporaries stand before the root. `Facts` and `Checks` serve the code.
+//! register is used. `Matches` says which matches the rules of a file have in a function, and in which order; `Ready` what a
+//! rule that is read meets; `Laws` that temporaries stand before the root. `Facts` and `Checks` serve the code.
 #![tactic(auto)]
 
 mod binding;
@@ -13,6 +14,7 @@ mod laws;
 mod operation;
 mod promises;
 mod root;
+mod rule_match;
 mod standing;
 
 pub use binding::Binding;
@@ -23,3 +25,4 @@ pub use laws::{reads_of_a_block_stand_before, temporaries_stand_before_roots};
 pub use operation::{MOST_OPERANDS, operand_of};
 pub use promises::Promises;
 pub use root::is_root_operation;
+pub use rule_match::Match;

@@ -15,9 +15,9 @@ use Rattle.bindings.proofs.Roots.{in_any_order}
 use Rattle.bindings.specs.Laws.{TemporariesStandBefore}
 use Rattle.moved_matches.specs.Moved.{moved_binding}
 use Rattle.matcher.proofs.OneBinding.{matches_have_one_binding}
-use Rattle.rule_matches.specs.declared.matches.Match.{Match}
-use Rattle.rule_matches.specs.Matches.{AreMatchesInAnyOrder, AreMatchesWhere, ComesBefore, IsAt, IsMatchAmong, IsMatchInAnyOrder}
-use Rattle.rule_matches.specs.Ready.{AreReady}
+use Rattle.bindings.specs.declared.rule_match.Match.{Match}
+use Rattle.bindings.specs.Matches.{AreMatchesInAnyOrder, AreMatchesWhere, ComesBefore, IsAt, IsMatchAmong, IsMatchInAnyOrder}
+use Rattle.bindings.specs.Ready.{AreReady}
 use Rattle.rule_matches.proofs.Joining.{pairs_first, pairs_later}
 use Rattle.draft.specs.Drafts.{placed}
 use Rattle.places.specs.Orders.{place_in}

@@ -21,9 +21,9 @@ use Rattle.bindings.specs.Match.{MatchesInAnyOrder}
 use Rattle.bindings.specs.Statements.{IsSameOperation}
 use Rattle.bindings.specs.declared.binding.Binding.{Binding}
 use Rattle.bindings.proofs.Reading.{reads_at_inst, same_inst}
-use Rattle.rule_matches.specs.declared.matches.Match.{Match}
-use Rattle.rule_matches.specs.Matches.{AreMatchesInAnyOrder, ComesBefore, IsAt, IsMatchInAnyOrder}
-use Rattle.rule_matches.specs.Ready.{AreReady}
+use Rattle.bindings.specs.declared.rule_match.Match.{Match}
+use Rattle.bindings.specs.Matches.{AreMatchesInAnyOrder, ComesBefore, IsAt, IsMatchInAnyOrder}
+use Rattle.bindings.specs.Ready.{AreReady}
 use Rattle.draft_steps.proofs.Filtered.{Filtered, filtered}
 use Rattle.draft_steps.proofs.Rooted.{bound_there, each_come}
 use Rattle.draft_steps.proofs.Same.{match_too, same_reads}

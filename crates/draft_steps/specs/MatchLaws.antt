@@ -3,9 +3,9 @@ use Rattle.std.specs.Prelude.{◌≡◌, ◌↔◌, ◌≤◌, ℕ, suc, List, l
 use Rattle.ir_core.specs.Checks.{MeetsChecks}
 use Rattle.ir_core.specs.Walks.{IsReached}
 use Rattle.rule_core.specs.declared.rule.Rule.{Rule}
-use Rattle.rule_matches.specs.declared.matches.Match.{Match}
-use Rattle.rule_matches.specs.Matches.{AreMatchesInAnyOrder, AreMatchesWhere, IsAt}
-use Rattle.rule_matches.specs.Ready.{AreReady}
+use Rattle.bindings.specs.declared.rule_match.Match.{Match}
+use Rattle.bindings.specs.Matches.{AreMatchesInAnyOrder, AreMatchesWhere, IsAt}
+use Rattle.bindings.specs.Ready.{AreReady}
 use Rattle.draft.specs.declared.draft.Draft.{Draft}
 use Rattle.places.specs.declared.place.Place.{Place}
 use Rattle.draft.specs.Drafts.{AreTouched, Reaches, Stands, function_of, numbers_in, placed_binding, arena_of}

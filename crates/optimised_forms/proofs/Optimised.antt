@@ -6,7 +6,7 @@ use Rattle.ir_core.specs.declared.function.Function.{Function}
 use Rattle.ir_core.specs.declared.module.Entry.{Entry}
 use Rattle.ir_core.specs.declared.module.Entry.TheVariants as entries
 use Rattle.rule_core.specs.declared.rule.Rule.{Rule}
-use Rattle.rule_matches.specs.Ready.{AreReady}
+use Rattle.bindings.specs.Ready.{AreReady}
 use Rattle.verdict_core.specs.declared.verdicts.Row.{Row}
 use Rattle.ir_round_trip.specs.Laws.{CleanedFunctionsHaveForms}
 use Rattle.ir_text.specs.Forms.{FunctionHasForms, EntryHasForms}

@@ -9,7 +9,7 @@ use Rattle.verdict_core.specs.declared.verdicts.Row.{Row}
 use Rattle.bindings.specs.Match.{IsMatch}
 use Rattle.bindings.specs.declared.binding.Binding.{Binding}
 use Rattle.rewriter.specs.Applied.{IsRewritten}
-use Rattle.rule_matches.specs.Ready.{AreReady}
+use Rattle.bindings.specs.Ready.{AreReady}
 use Rattle.strategy_core.specs.Countable.{ModuleIsCountable}
 use Rattle.strategy_core.specs.Laws.{ModuleNumbersFit}
 use Rattle.strategy_core.specs.PlainStrategy.{IsPlainStrategy}

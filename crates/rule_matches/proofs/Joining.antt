@@ -10,8 +10,8 @@ use Rattle.ir_core.specs.Assigned.{IsBefore}
 use Rattle.ir_core.specs.declared.function.Function.{Function}
 use Rattle.rule_core.specs.declared.rule.Rule.{Rule}
 use Rattle.rule_core.proofs.Givens.{Contains-take}
-use Rattle.rule_matches.specs.declared.matches.Match.{Match}
-use Rattle.rule_matches.specs.Matches.{MatchesAmong, IsMatchAmong, ComesBefore, AreMatches, AreMatchesAmong, AreMatchesWhere}
+use Rattle.bindings.specs.declared.rule_match.Match.{Match}
+use Rattle.bindings.specs.Matches.{MatchesAmong, IsMatchAmong, ComesBefore, AreMatches, AreMatchesAmong, AreMatchesWhere}
 
 pub pairs_first : {X : Type 0} (R : X → X → Type 0) (x : X) (xs : List X) → AllPairs R (x ∷ xs) → All (R x) xs
 pairs_first R x xs h k d lt = h 0 (suc k) d (omega arith) (omega arith)

@@ -12,10 +12,10 @@ use Rattle.bindings.specs.Match.{MatchesInAnyOrder}
 use Rattle.bindings.specs.declared.binding.Binding.{Binding}
 use Rattle.matcher.proofs.OneBinding.{one_in_any_order}
 use Rattle.bindings.proofs.Reading.{same_inst}
-use Rattle.rule_matches.specs.declared.matches.Match.{Match}
+use Rattle.bindings.specs.declared.rule_match.Match.{Match}
 use Rattle.rule_matches.specs.Found.{IsOf}
-use Rattle.rule_matches.specs.Matches.{AreMatchesInAnyOrder, ComesBefore, IsAt, IsMatchInAnyOrder}
-use Rattle.rule_matches.specs.Ready.{AreReady}
+use Rattle.bindings.specs.Matches.{AreMatchesInAnyOrder, ComesBefore, IsAt, IsMatchInAnyOrder}
+use Rattle.bindings.specs.Ready.{AreReady}
 use Rattle.rule_matches.specs.Roots.{AreCandidates, kind_of_inst}
 use Rattle.rule_matches.proofs.Joining.{joined, none_where, one_where, same_where}
 use Rattle.rule_matches.proofs.Rooting.{root_stands}

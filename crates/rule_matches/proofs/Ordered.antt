@@ -6,9 +6,9 @@ use Rattle.ir_core.specs.declared.function.Function.{Function}
 use Rattle.rule_core.specs.declared.rule.Rule.{Rule}
 use Rattle.bindings.proofs.Roots as roots
 use Rattle.bindings.specs.Laws.{TemporariesStandBefore}
-use Rattle.rule_matches.specs.declared.matches.Match.{Match}
-use Rattle.rule_matches.specs.Matches.{AreMatchesInAnyOrder, AreMatchesWhere, IsMatchAmong, IsMatchInAnyOrder}
-use Rattle.rule_matches.specs.Ready.{AreReady}
+use Rattle.bindings.specs.declared.rule_match.Match.{Match}
+use Rattle.bindings.specs.Matches.{AreMatchesInAnyOrder, AreMatchesWhere, IsMatchAmong, IsMatchInAnyOrder}
+use Rattle.bindings.specs.Ready.{AreReady}
 
 pub in_any_order : (rules : List Rule) (f : Function) (m : Match) → IsMatchAmong rules f m → IsMatchInAnyOrder rules f m
 in_any_order rules f m is = record { rule = is.rule; is_rule = is.is_rule; matches = roots.in_any_order f m.binding.block m.binding.place is.rule m.binding is.matches }

@@ -5,8 +5,8 @@ use Rattle.std.proofs.lemmas.List.Elements.{All-contains}
 use Rattle.std.proofs.lemmas.Option.{same_Some, slice_get-get_or}
 use Rattle.ir_core.specs.declared.function.Function.{Function}
 use Rattle.rule_core.specs.declared.rule.Rule.{Rule}
-use Rattle.rule_matches.specs.declared.matches.Match.{Match}
-use Rattle.rule_matches.specs.Matches.{AreMatchesWhere, ComesBefore, IsMatchAmong}
+use Rattle.bindings.specs.declared.rule_match.Match.{Match}
+use Rattle.bindings.specs.Matches.{AreMatchesWhere, ComesBefore, IsMatchAmong}
 use Rattle.rule_matches.specs.Laws.{MatchesBeforeStandFirst}
 use Rattle.rule_matches.proofs.Joining.{before_chosen, not_both, pairs_first, pairs_later, same_where}
 

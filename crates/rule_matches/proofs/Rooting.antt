@@ -15,11 +15,11 @@ use Rattle.rule_core.specs.declared.rule.Op.TheVariants as rule_ops
 use Rattle.rule_core.specs.declared.rule.Rule.{Rule}
 use Rattle.rule_core.specs.declared.rule.Statement.{Statement}
 use Rattle.bindings.specs.Statements.{IsSameOperation, StatementMatches}
-use Rattle.rule_matches.specs.declared.matches.Match.{Match}
+use Rattle.bindings.specs.declared.rule_match.Match.{Match}
 use Rattle.rule_matches.specs.declared.roots.RootKind.{RootKind}
 use Rattle.rule_matches.specs.declared.roots.RootKind.TheVariants.{Binary, Compare, Unary, Select, Convert, Freeze}
-use Rattle.rule_matches.specs.Ready.{AreReady}
-use Rattle.rule_matches.specs.Matches.{MatchesAmong}
+use Rattle.bindings.specs.Ready.{AreReady}
+use Rattle.bindings.specs.Matches.{MatchesAmong}
 use Rattle.rule_matches.specs.Roots.{kind_of_statement, kind_of_inst, kind_of_root, HasRootKind}
 
 -- statements and instructions of one operation are of one kind

@@ -1,8 +1,7 @@
 //! Where the rules of a file match in a function, in the order in which a search comes to them.
 //!
-//! The definitions stand in `specs/`: `Matches` says which matches a function has, and in which order, `Ready` what a rule that is read
-//! meets, `Roots` which rules may match at an instruction, and `Laws` what holds of the order of matches. `Found` serves the private
-//! functions.
+//! `Matches` of `bindings` says which matches a function has, and in which order. The definitions in `specs/`: `Roots` says which rules may
+//! match at an instruction, and `Laws` what holds of the order of matches. `Found` serves the private functions.
 #![tactic(auto)]
 
 mod laws;
@@ -10,5 +9,5 @@ mod matches;
 mod roots;
 
 pub use laws::matches_before_stand_first;
-pub use matches::{Match, Rules, matches_at, matches_in_any_order};
+pub use matches::{Rules, matches_at, matches_in_any_order};
 pub use roots::{Group, RootKind, RulesByRoot};

@@ -5,26 +5,17 @@ ghost use Rattle.ir_core.specs.Blocks.{HasInst};
 ghost use Rattle.ir_core.specs.Checks.{IsInst, MeetsChecks};
 ghost use Rattle.bindings.specs.Facts.{AreFactsOf};
 ghost use Rattle.rule_matches.specs.Found.{IsOf};
-ghost use Rattle.rule_matches.specs.Ready.{AreReady};
-ghost use Rattle.rule_matches.specs.Matches.{AreMatchesInAnyOrder, AreMatchesWhere, IsAt};
+ghost use Rattle.bindings.specs.Ready.{AreReady};
+ghost use Rattle.bindings.specs.Matches.{AreMatchesInAnyOrder, AreMatchesWhere, IsAt};
 ghost use Rattle.rule_matches.specs.Roots.{AreByRoot};
 
 use crate::roots::RulesByRoot;
-use bindings::{Binding, FunctionFacts, temporaries_stand_before_roots};
+use bindings::{FunctionFacts, Match, temporaries_stand_before_roots};
 use ir_core::{Function, Inst};
 use lists::List;
 use matcher::match_in;
 use rule_core::Rule;
 use std::alloc::{AllocError, Global};
-
-/// One of the rules of a file, where it matches in a function.
-#[derive(Debug, Drop)]
-pub struct Match {
-    /// The place of the rule in its file, from 0.
-    pub rule: u32,
-    /// Where it matches, and what its names are bound to there.
-    pub binding: Binding,
-}
 
 /// The rules that are applied.
 #[derive(Clone, Copy)]

@@ -4,8 +4,8 @@ use Rattle.std.proofs.lemmas.Bool.{cases_lt}
 use Rattle.ir_core.specs.Reads.{end_of}
 use Rattle.ir_core.specs.declared.function.Function.{Function}
 use Rattle.rule_core.specs.declared.rule.Rule.{Rule}
-use Rattle.rule_matches.specs.Matches.{IsAt}
-use Rattle.rule_matches.specs.Ready.{AreReady}
+use Rattle.bindings.specs.Matches.{IsAt}
+use Rattle.bindings.specs.Ready.{AreReady}
 use Rattle.asked_verdicts.specs.declared.verdicts.Verdicts.{Verdicts}
 use Rattle.asked_verdicts.specs.Asks.{AsksAll, IsAnywhere}
 use Rattle.asked_verdicts.proofs.Parts.{IsPast, past_all, past_block, past_place}

@@ -13,7 +13,7 @@ use Rattle.ir_meaning.proofs.Pieces.{contains_at}
 use Rattle.rule_core.specs.Checks.{IsRule}
 use Rattle.rule_core.specs.Valid.{IsValid}
 use Rattle.rule_core.specs.declared.rule.Rule.{Rule}
-use Rattle.rule_matches.specs.Ready.{AreReady}
+use Rattle.bindings.specs.Ready.{AreReady}
 use Rattle.rule_typing.specs.Classes.{IsClassified}
 use Rattle.rule_typing.specs.Faults.{HasNoFault}
 use Rattle.verdict.specs.Honest.{IsHonest}

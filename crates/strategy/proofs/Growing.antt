@@ -5,7 +5,7 @@ use Rattle.ir_core.specs.declared.module.Entry.{Entry}
 use Rattle.ir_core.specs.declared.function.Function.{Function}
 use Rattle.rule_core.specs.declared.rule.Rule.{Rule}
 use Rattle.verdict_core.specs.declared.verdicts.Row.{Row}
-use Rattle.rule_matches.specs.declared.matches.Match.{Match}
+use Rattle.bindings.specs.declared.rule_match.Match.{Match}
 use Rattle.strategy_core.specs.Asked.{Pair, IsAdmitted, IsTurnedDown}
 use Rattle.asked_verdicts.proofs.Growing.{admitted_stays, all_turned_down_stay, any_admitted_stays}
 use Rattle.strategy_core.specs.PlainStrategy.{IsStep, ComesOf, itself, by_step, IsLastSearch, IsOptimised, AreOptimised, none, kept, function}

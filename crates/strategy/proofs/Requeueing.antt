@@ -7,8 +7,8 @@ use Rattle.ir_core.specs.declared.function.Block.{Block}
 use Rattle.ir_core.specs.declared.function.Function.{Function}
 use Rattle.rule_core.specs.declared.rule.Rule.{Rule}
 use Rattle.verdict_core.specs.declared.verdicts.Row.{Row}
-use Rattle.rule_matches.specs.Matches.{AreMatchesInAnyOrder, IsAt}
-use Rattle.rule_matches.specs.Ready.{AreReady}
+use Rattle.bindings.specs.Matches.{AreMatchesInAnyOrder, IsAt}
+use Rattle.bindings.specs.Ready.{AreReady}
 use Rattle.draft.specs.declared.draft.Draft.{Draft}
 use Rattle.places.specs.declared.place.Place.{Place}
 use Rattle.draft.specs.Drafts.{AreTouched, HasRoomFor, Reaches, Stands, numbers_of, arena_of, function_of}

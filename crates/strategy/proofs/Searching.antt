@@ -13,9 +13,9 @@ use Rattle.ir_meaning.proofs.Pieces.{contains_at, some_at}
 use Rattle.rule_core.specs.declared.rule.Rule.{Rule}
 use Rattle.rule_typing.proofs.Images.{from_map, get-map, map-map}
 use Rattle.verdict_core.specs.declared.verdicts.Row.{Row}
-use Rattle.rule_matches.specs.declared.matches.Match.{Match}
-use Rattle.rule_matches.specs.Matches.{AreMatchesInAnyOrder, AreMatchesWhere, IsAt, IsMatchInAnyOrder}
-use Rattle.rule_matches.specs.Ready.{AreReady}
+use Rattle.bindings.specs.declared.rule_match.Match.{Match}
+use Rattle.bindings.specs.Matches.{AreMatchesInAnyOrder, AreMatchesWhere, IsAt, IsMatchInAnyOrder}
+use Rattle.bindings.specs.Ready.{AreReady}
 use Rattle.rule_matches.proofs.Joining.{none_where}
 use Rattle.rule_matches.proofs.Rooting.{before_end}
 use Rattle.draft.specs.declared.draft.Draft.{Draft}

@@ -8,17 +8,17 @@ use Rattle.ir_meaning.specs.HistoryLaws.{NumbersFit}
 use Rattle.needed.specs.Cleaned.{IsCleaned}
 use Rattle.rewriter.specs.Applied.{IsRewritten}
 use Rattle.verdict_core.specs.declared.verdicts.Row.{Row}
-use Rattle.rule_matches.specs.declared.matches.Match.{Match}
+use Rattle.bindings.specs.declared.rule_match.Match.{Match}
 use Rattle.asked_verdicts.specs.declared.verdicts.Verdicts.{Verdicts}
 use Rattle.strategy_core.specs.Asked.{Pair, pair_of, IsAdmitted, IsTurnedDown}
 use Rattle.strategy_core.specs.Countable.{IsCountable}
-use Rattle.rule_matches.specs.Matches.{AreMatches, ComesBefore}
+use Rattle.bindings.specs.Matches.{AreMatches, ComesBefore}
 use Rattle.rule_matches.proofs.Joining.{everywhere, same_where}
 use Rattle.strategy_core.specs.PlainStrategy.{IsStep, ComesOf, itself, by_step, IsLastSearch}
 use Rattle.asked_verdicts.specs.Asks.{Asks, AsksAll, AsksUpTo, IsAnywhere}
 use Rattle.strategy.specs.Searches.{OptimisesCleaned, OptimisesFunction, StepsOrEnds}
 use Rattle.strategy.proofs.Growing.{steps_stay}
-use Rattle.rule_matches.specs.Ready.{AreReady}
+use Rattle.bindings.specs.Ready.{AreReady}
 use Rattle.strategy.proofs.Sizes.{cleaned_countable, rewritten_countable}
 use Rattle.asked_verdicts.proofs.Sequence.{asks_nothing, asks_both, row_stays}
 

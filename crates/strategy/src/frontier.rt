@@ -6,8 +6,8 @@ ghost use Rattle.ir_core.specs.Checks.{MeetsChecks};
 ghost use Rattle.ir_meaning.specs.HistoryLaws.{NumbersFit};
 ghost use Rattle.verdict.specs.Limits.{most_conflicts};
 ghost use Rattle.verdict_core.specs.declared.verdicts.Row.{Row as VerdictRow};
-ghost use Rattle.rule_matches.specs.Matches.{IsMatchAmong};
-ghost use Rattle.rule_matches.specs.Ready.{AreReady};
+ghost use Rattle.bindings.specs.Matches.{IsMatchAmong};
+ghost use Rattle.bindings.specs.Ready.{AreReady};
 ghost use Rattle.rule_matches.specs.Roots.{AreByRoot};
 ghost use Rattle.draft_steps.specs.Cleaning.{AllNeeded, IsClean};
 ghost use Rattle.draft.specs.Drafts.{AreTouched, HasRoomFor, arena_of, function_of, orders_of};
@@ -24,6 +24,7 @@ ghost use Rattle.strategy.specs.Searches.{OptimisesCleaned, OptimisesFunction, S
 
 use crate::steps::{Bounds, Turns, clean_checked};
 use asked_verdicts::{Verdicts, any_admitted, first_admitted};
+use bindings::Match;
 use draft::Draft;
 use draft_steps::{Queue, matches_of_the_arena, matches_of_the_untouched, orders_are_kept};
 use ir_core::Function;
@@ -31,7 +32,7 @@ use needed::{every_cleaned_function_refines_the_old, every_cleaned_number_was_th
 use places::Place;
 use rewriter::rewritten_functions_meet_checks;
 use rule_core::Rule;
-use rule_matches::{Match, Rules, matches_in_any_order};
+use rule_matches::{Rules, matches_in_any_order};
 use std::alloc::{AllocError, Global};
 
 /// A function that is rewritten, and where it may be.

@@ -12,7 +12,7 @@ ghost use Rattle.strategy_core.specs.Countable.{ModuleIsCountable};
 ghost use Rattle.strategy_core.specs.Decided.{MatchesAreDecided};
 ghost use Rattle.strategy.specs.Entries.{EntriesAreReady, EntryIsReady, OptimisesEntries, OptimisesEntry};
 ghost use Rattle.strategy_core.specs.Laws.{ModuleNumbersFit};
-ghost use Rattle.rule_matches.specs.Ready.{AreReady};
+ghost use Rattle.bindings.specs.Ready.{AreReady};
 ghost use Rattle.strategy_core.specs.PlainStrategy.{IsPlainStrategy};
 ghost use Rattle.rule_matches.specs.Roots.{AreByRoot};
 ghost use Rattle.asked_verdicts.specs.Asks.{AreVerdicts};

@@ -16,12 +16,12 @@ use Rattle.needed.specs.Laws.{CleanedFunctionsRefine, CleanedFunctionsMeetChecks
 use Rattle.verdict_core.specs.declared.verdicts.Row.{Row}
 use Rattle.rewriter.specs.Applied.{IsRewritten}
 use Rattle.rewriter.specs.Laws.{RewrittenFunctionsRefine, RewrittenFunctionsMeetChecks, RewrittenNumbersFit}
-use Rattle.rule_matches.specs.declared.matches.Match.{Match}
+use Rattle.bindings.specs.declared.rule_match.Match.{Match}
 use Rattle.strategy_core.specs.Asked.{Pair, pair_of, pair_in, IsAdmitted}
-use Rattle.rule_matches.specs.Matches.{IsMatchAmong}
+use Rattle.bindings.specs.Matches.{IsMatchAmong}
 use Rattle.strategy_core.specs.PlainStrategy.{IsStep, ComesOf, itself, by_step, IsOptimised, AreOptimised, none, kept, function, IsPlainStrategy}
 use Rattle.strategy_core.specs.Laws.{AdmittedAreValid, ModuleNumbersFit, CleanedNumbersFit, StrategyMeetsChecks, StrategyNumbersFit, StrategyRefines}
-use Rattle.rule_matches.specs.Ready.{AreReady}
+use Rattle.bindings.specs.Ready.{AreReady}
 use Rattle.strategy_core.proofs.Numbers.{cleaned_numbers_fit}
 
 -- what is known of cleaning and of rewriting, each alone

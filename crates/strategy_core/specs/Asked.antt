@@ -3,7 +3,7 @@ use Rattle.std.specs.Prelude.{◌≡◌, ◌≢◌, ◌↔◌, ℕ, List, Some, 
 use Rattle.verdict_core.specs.declared.verdicts.Row.{Row}
 use Rattle.verdict_core.specs.declared.verdicts.Verdict.{Verdict}
 use Rattle.verdict_core.specs.declared.verdicts.Verdict.TheVariants.{Admitted}
-use Rattle.rule_matches.specs.declared.matches.Match.{Match}
+use Rattle.bindings.specs.declared.rule_match.Match.{Match}
 
 -- a rule, by its place in the file, at a typing
 abbrev pub Pair : Type 0

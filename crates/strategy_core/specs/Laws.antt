@@ -7,7 +7,7 @@ use Rattle.ir_core.specs.Checks.{MeetsChecks, ModuleMeetsChecks}
 use Rattle.ir_core.specs.Refines.{ModuleRefines}
 use Rattle.rule_core.specs.declared.rule.Rule.{Rule}
 use Rattle.rule_core.specs.Valid.{IsValid}
-use Rattle.rule_matches.specs.Ready.{AreReady}
+use Rattle.bindings.specs.Ready.{AreReady}
 use Rattle.ir_meaning.specs.HistoryLaws.{NumbersFit}
 use Rattle.needed.specs.Cleaned.{IsCleaned}
 use Rattle.verdict_core.specs.declared.verdicts.Row.{Row}

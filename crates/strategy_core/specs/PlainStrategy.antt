@@ -12,8 +12,8 @@ use Rattle.rule_core.specs.declared.rule.Rule.{Rule}
 use Rattle.verdict_core.specs.declared.verdicts.Row.{Row}
 use Rattle.needed.specs.Cleaned.{IsCleaned}
 use Rattle.rewriter.specs.Applied.{IsRewritten}
-use Rattle.rule_matches.specs.declared.matches.Match.{Match}
-use Rattle.rule_matches.specs.Matches.{IsMatchAmong, AreMatches, AreMatchesBefore}
+use Rattle.bindings.specs.declared.rule_match.Match.{Match}
+use Rattle.bindings.specs.Matches.{IsMatchAmong, AreMatches, AreMatchesBefore}
 use Rattle.strategy_core.specs.Asked.{Pair, pair_of, pair_in, IsAdmitted, IsTurnedDown, AreFirstAsked}
 
 module _ (rules : List Rule) (table : List Row) where

@@ -1,5 +1,5 @@
 use Rattle.std.proofs.Common.{map, sym, subst, arith}
-use Rattle.rule_matches.specs.Matches.{AreMatchesWhere, IsAt}
+use Rattle.bindings.specs.Matches.{AreMatchesWhere, IsAt}
 use Rattle.strategy_core.specs.Asked.{pair_of}
 use Rattle.asked_verdicts.proofs.Parts.{asks_these, next_place, no_place_asked, whole_block}
 use Rattle.asked_verdicts.proofs.Sequence.{still_verdicts}

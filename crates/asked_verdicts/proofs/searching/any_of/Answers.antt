@@ -1,8 +1,8 @@
 use Rattle.std.proofs.Common.{◌≡◌, ◌+◌, List, ◌++◌, ◌∷◌, [], map, take, sym, subst, arith}
 use Rattle.std.specs.Prelude.{◌||◌, All, Any, MatchBool}
 use Rattle.std.proofs.lemmas.List.{take_all}
-use Rattle.rule_matches.specs.declared.matches.Match.{Match}
-use Rattle.rule_matches.specs.Matches.{IsMatchAmong}
+use Rattle.bindings.specs.declared.rule_match.Match.{Match}
+use Rattle.bindings.specs.Matches.{IsMatchAmong}
 use Rattle.strategy_core.specs.Asked.{pair_of, IsAdmitted, IsTurnedDown}
 use Rattle.asked_verdicts.specs.Asks.{Asks}
 use Rattle.asked_verdicts.proofs.Passing.{next_match, match_at, rule_within, rule_of, asks_more, any_more}

@@ -3,8 +3,8 @@ use Rattle.std.specs.Prelude.{All}
 use Rattle.std.proofs.lemmas.Bool.Decides.{when_true, when_false}
 use Rattle.std.proofs.lemmas.List.{take_all}
 use Rattle.std.proofs.lemmas.Option.{slice_get_read}
-use Rattle.rule_matches.specs.declared.matches.Match.{Match}
-use Rattle.rule_matches.specs.Matches.{IsMatchInAnyOrder}
+use Rattle.bindings.specs.declared.rule_match.Match.{Match}
+use Rattle.bindings.specs.Matches.{IsMatchInAnyOrder}
 use Rattle.strategy_core.specs.Asked.{pair_of, IsAdmitted, IsTurnedDown}
 use Rattle.asked_verdicts.specs.Asks.{Asks}
 use Rattle.asked_verdicts.proofs.Passing.{next_match, match_at, rule_within, rule_of, asks_more, still_turned_down, turned_down_more}

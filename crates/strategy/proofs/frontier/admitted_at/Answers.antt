@@ -5,8 +5,8 @@ use Rattle.ir_core.specs.Blocks.{HasInst}
 use Rattle.ir_core.specs.declared.function.Block.{Block}
 use Rattle.ir_core.specs.declared.function.Function.{Function}
 use Rattle.bindings.specs.Facts.{AreFactsOf}
-use Rattle.rule_matches.specs.declared.matches.Match.{Match}
-use Rattle.rule_matches.specs.Matches.{AreMatchesInAnyOrder, IsAt}
+use Rattle.bindings.specs.declared.rule_match.Match.{Match}
+use Rattle.bindings.specs.Matches.{AreMatchesInAnyOrder, IsAt}
 use Rattle.draft.specs.Drafts.{arena_of}
 use Rattle.draft.proofs.Wholeness.{counted_insts}
 use Rattle.asked_verdicts.specs.Parts.{AsksToPlace}

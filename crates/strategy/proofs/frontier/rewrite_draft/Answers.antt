@@ -6,9 +6,9 @@ use Rattle.rewriter.specs.Applied.{IsRewritten}
 use Rattle.rule_core.specs.Checks.{IsRule}
 use Rattle.rule_core.specs.declared.rule.Rule.{Rule}
 use Rattle.rule_typing.specs.Faults.{HasNoFault}
-use Rattle.rule_matches.specs.Matches.{IsMatchAmong}
-use Rattle.rule_matches.specs.Ready.{AreReady}
-use Rattle.rule_matches.specs.declared.matches.Match.{Match}
+use Rattle.bindings.specs.Matches.{IsMatchAmong}
+use Rattle.bindings.specs.Ready.{AreReady}
+use Rattle.bindings.specs.declared.rule_match.Match.{Match}
 use Rattle.draft.specs.Drafts.{function_of}
 use Rattle.draft_steps.specs.MatchLaws.{placed_match}
 use Rattle.ir_core.specs.declared.function.Function.{Function}
