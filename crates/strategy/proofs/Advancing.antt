@@ -6,9 +6,9 @@ use Rattle.ir_core.specs.declared.function.Function.{Function}
 use Rattle.rule_core.specs.declared.rule.Rule.{Rule}
 use Rattle.bindings.specs.Matches.{IsAt}
 use Rattle.bindings.specs.Ready.{AreReady}
-use Rattle.asked_verdicts.specs.declared.verdicts.Verdicts.{Verdicts}
-use Rattle.asked_verdicts.specs.Asks.{AsksAll, IsAnywhere}
-use Rattle.asked_verdicts.proofs.Parts.{IsPast, past_all, past_block, past_place}
+use Rattle.verdict.specs.declared.verdicts.Verdicts.{Verdicts}
+use Rattle.verdict.specs.Asks.{AsksAll, IsAnywhere}
+use Rattle.verdict.proofs.Parts.{IsPast, past_all, past_block, past_place}
 
 -- place j of block c comes before place k of block b
 abbrev pub IsPlaceBefore : ℕ → ℕ → ℕ → ℕ → Type 0

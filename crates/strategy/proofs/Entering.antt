@@ -21,16 +21,16 @@ use Rattle.verdict.specs.Table.{IsHonestRow, IsHonestTable}
 use Rattle.verdict_core.specs.declared.verdicts.Row.{Row}
 use Rattle.verdict_core.specs.declared.verdicts.Verdict.{Verdict}
 use Rattle.strategy.specs.declared.module.Counts.{Counts}
-use Rattle.asked_verdicts.specs.declared.verdicts.Verdicts.{Verdicts}
+use Rattle.verdict.specs.declared.verdicts.Verdicts.{Verdicts}
 use Rattle.strategy_core.specs.Asked.{Pair, pair_in, AreFirstAsked}
 use Rattle.strategy_core.specs.Countable.{ModuleIsCountable}
 use Rattle.strategy.specs.Entries.{EntriesAreReady, OptimisesEntries, OptimisesEntry}
 use Rattle.strategy_core.specs.Laws.{AdmittedAreValid, ModuleNumbersFit}
 use Rattle.strategy_core.specs.PlainStrategy.{AreOptimised, none, kept, function, IsPlainStrategy}
-use Rattle.asked_verdicts.specs.Asks.{AreVerdictsOn, Asks}
+use Rattle.verdict.specs.Asks.{AreVerdictsOn, Asks}
 use Rattle.strategy.specs.Searches.{OptimisesFunction}
 use Rattle.strategy.proofs.Growing.{entries_stay}
-use Rattle.asked_verdicts.proofs.Sequence.{asks_nothing, asks_both, row_stays}
+use Rattle.verdict.proofs.Sequence.{asks_nothing, asks_both, row_stays}
 
 -- before anything is asked
 pub nothing_asked : AreFirstAsked [] []

@@ -7,7 +7,7 @@ use Rattle.rule_core.specs.declared.rule.Rule.{Rule}
 use Rattle.verdict_core.specs.declared.verdicts.Row.{Row}
 use Rattle.bindings.specs.declared.rule_match.Match.{Match}
 use Rattle.strategy_core.specs.Asked.{Pair, IsAdmitted, IsTurnedDown}
-use Rattle.asked_verdicts.proofs.Growing.{admitted_stays, all_turned_down_stay, any_admitted_stays}
+use Rattle.verdict.proofs.Growing.{admitted_stays, all_turned_down_stay, any_admitted_stays}
 use Rattle.strategy_core.specs.PlainStrategy.{IsStep, ComesOf, itself, by_step, IsLastSearch, IsOptimised, AreOptimised, none, kept, function}
 
 module _ (rules : List Rule) (table larger : List Row) (grows : (row : Row) → Contains table row → Contains larger row) where

@@ -29,13 +29,13 @@ use Rattle.draft_steps.specs.MatchLaws.{MatchesOfTheArena, placed_match}
 use Rattle.draft_steps.proofs.Places.{inst_on, number_at}
 use Rattle.draft_steps.proofs.Rows.{number_there}
 use Rattle.draft_steps.proofs.Arranged.{is_arranged}
-use Rattle.asked_verdicts.specs.declared.verdicts.Verdicts.{Verdicts}
+use Rattle.verdict.specs.declared.verdicts.Verdicts.{Verdicts}
 use Rattle.strategy_core.specs.Asked.{Pair, pair_of, IsTurnedDown}
-use Rattle.asked_verdicts.specs.Asks.{Asks, AsksAll, AsksUpTo, IsAnywhere}
-use Rattle.asked_verdicts.specs.Parts.{AsksToPlace}
-use Rattle.asked_verdicts.proofs.Growing.{all_turned_down_stay}
-use Rattle.asked_verdicts.proofs.Parts.{IsPast, asks_again, asks_first, asks_these, nothing_past, past_first, past_place}
-use Rattle.asked_verdicts.proofs.Sequence.{row_stays}
+use Rattle.verdict.specs.Asks.{Asks, AsksAll, AsksUpTo, IsAnywhere}
+use Rattle.verdict.specs.Parts.{AsksToPlace}
+use Rattle.verdict.proofs.Growing.{all_turned_down_stay}
+use Rattle.verdict.proofs.Parts.{IsPast, asks_again, asks_first, asks_these, nothing_past, past_first, past_place}
+use Rattle.verdict.proofs.Sequence.{row_stays}
 use Rattle.strategy.specs.Frontiers.{AreTurnedDownAt, AreTurnedDownBut, AsksAt, LooksAt, Nowhere, PlaceOf, SearchesTo}
 use Rattle.strategy.proofs.Advancing.{IsPlaceBefore, come_through, come_to}
 

@@ -9,18 +9,18 @@ use Rattle.needed.specs.Cleaned.{IsCleaned}
 use Rattle.rewriter.specs.Applied.{IsRewritten}
 use Rattle.verdict_core.specs.declared.verdicts.Row.{Row}
 use Rattle.bindings.specs.declared.rule_match.Match.{Match}
-use Rattle.asked_verdicts.specs.declared.verdicts.Verdicts.{Verdicts}
+use Rattle.verdict.specs.declared.verdicts.Verdicts.{Verdicts}
 use Rattle.strategy_core.specs.Asked.{Pair, pair_of, IsAdmitted, IsTurnedDown}
 use Rattle.strategy_core.specs.Countable.{IsCountable}
 use Rattle.bindings.specs.Matches.{AreMatches, ComesBefore}
 use Rattle.rule_matches.proofs.Joining.{everywhere, same_where}
 use Rattle.strategy_core.specs.PlainStrategy.{IsStep, ComesOf, itself, by_step, IsLastSearch}
-use Rattle.asked_verdicts.specs.Asks.{Asks, AsksAll, AsksUpTo, IsAnywhere}
+use Rattle.verdict.specs.Asks.{Asks, AsksAll, AsksUpTo, IsAnywhere}
 use Rattle.strategy.specs.Searches.{OptimisesCleaned, OptimisesFunction, StepsOrEnds}
 use Rattle.strategy.proofs.Growing.{steps_stay}
 use Rattle.bindings.specs.Ready.{AreReady}
 use Rattle.strategy.proofs.Sizes.{cleaned_countable, rewritten_countable}
-use Rattle.asked_verdicts.proofs.Sequence.{asks_nothing, asks_both, row_stays}
+use Rattle.verdict.proofs.Sequence.{asks_nothing, asks_both, row_stays}
 
 module _ (rules : List Rule) (conflicts : ℕ) where
   -- the function is rewritten at the first admitted match, and cleaned

@@ -6,11 +6,11 @@ use Rattle.ir_core.specs.Checks.{MeetsChecks}
 use Rattle.rule_core.specs.declared.rule.Rule.{Rule}
 use Rattle.ir_meaning.specs.HistoryLaws.{NumbersFit}
 use Rattle.strategy.specs.declared.module.Counts.{Counts}
-use Rattle.asked_verdicts.specs.declared.verdicts.Verdicts.{Verdicts}
+use Rattle.verdict.specs.declared.verdicts.Verdicts.{Verdicts}
 use Rattle.strategy_core.specs.Asked.{Pair}
 use Rattle.strategy_core.specs.Countable.{IsCountable}
 use Rattle.strategy_core.specs.PlainStrategy.{AreOptimised}
-use Rattle.asked_verdicts.specs.Asks.{Asks}
+use Rattle.verdict.specs.Asks.{Asks}
 
 -- if the entry is a function, it meets its checks, its numbers are of their widths, and what stands in it is counted
 abbrev pub EntryIsReady : ℕ → Entry → Type 0

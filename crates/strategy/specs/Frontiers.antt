@@ -15,10 +15,10 @@ use Rattle.draft_steps.specs.Queues.{IsQueueOf, waiting_in}
 use Rattle.places.specs.Sets.{Rows, Has}
 use Rattle.draft.specs.Whole.{IsSettled}
 use Rattle.draft_steps.specs.MatchLaws.{AreSourcesWithin, placed_match}
-use Rattle.asked_verdicts.specs.declared.verdicts.Verdicts.{Verdicts}
+use Rattle.verdict.specs.declared.verdicts.Verdicts.{Verdicts}
 use Rattle.strategy_core.specs.Asked.{IsTurnedDown}
-use Rattle.asked_verdicts.specs.Asks.{AsksAll, AsksUpTo, IsAnywhere}
-use Rattle.asked_verdicts.specs.Parts.{AsksToPlace}
+use Rattle.verdict.specs.Asks.{AsksAll, AsksUpTo, IsAnywhere}
+use Rattle.verdict.specs.Parts.{AsksToPlace}
 use Rattle.strategy.specs.declared.frontier.Frontier.{Frontier}
 
 -- the matches at an instruction of an arena are turned down

@@ -15,17 +15,17 @@ ghost use Rattle.strategy_core.specs.Laws.{ModuleNumbersFit};
 ghost use Rattle.bindings.specs.Ready.{AreReady};
 ghost use Rattle.strategy_core.specs.PlainStrategy.{IsPlainStrategy};
 ghost use Rattle.rule_matches.specs.Roots.{AreByRoot};
-ghost use Rattle.asked_verdicts.specs.Asks.{AreVerdicts};
+ghost use Rattle.verdict.specs.Asks.{AreVerdicts};
 
 use crate::frontier::optimise_function;
 use crate::steps::{Bounds, Turns};
-use asked_verdicts::{StoredLogs, Verdicts};
 use ir_core::{Entry, Function, Module, copy_function};
 use lists::List;
 use rule_core::Rule;
 use rule_matches::{Rules, RulesByRoot};
 use std::alloc::{AllocError, Global};
 use strategy_core::{Done, every_match_left_is_decided, every_optimised_module_refines_the_old};
+use verdict::{StoredLogs, Verdicts};
 
 /// What the plain strategy gives for a module: each function is cleaned, and then rewritten at its first admitted match and cleaned, again
 /// and again, until none is left or its steps are spent. A verdict is decided once, when it is first asked for: by the log that is stored

@@ -13,3 +13,7 @@ pub mod Additions
 pub mod Verified
 pub mod Limits
 pub mod Table
+pub mod Asks
+pub mod Parts
+pub mod Stored
+pub mod AskedAgain

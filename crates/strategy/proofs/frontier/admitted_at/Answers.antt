@@ -9,7 +9,7 @@ use Rattle.bindings.specs.declared.rule_match.Match.{Match}
 use Rattle.bindings.specs.Matches.{AreMatchesInAnyOrder, IsAt}
 use Rattle.draft.specs.Drafts.{arena_of}
 use Rattle.draft.proofs.Wholeness.{counted_insts}
-use Rattle.asked_verdicts.specs.Parts.{AsksToPlace}
+use Rattle.verdict.specs.Parts.{AsksToPlace}
 use Rattle.strategy.proofs.frontier.admitted_at.Goals as goal
 use Rattle.strategy.proofs.frontier.admitted_at.Goals.{After-as_slice-matches, In-Some}
 

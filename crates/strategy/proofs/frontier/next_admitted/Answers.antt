@@ -3,7 +3,7 @@ use Rattle.draft.specs.Drafts.{Stands}
 use Rattle.draft_steps.specs.Queues.{ComesNext, waiting_in}
 use Rattle.places.specs.Sets.{IsRemoved}
 use Rattle.strategy_core.specs.Asked.{pair_of}
-use Rattle.asked_verdicts.proofs.Sequence.{still_verdicts}
+use Rattle.verdict.proofs.Sequence.{still_verdicts}
 use Rattle.strategy.specs.Frontiers.{LooksAt}
 use Rattle.strategy.proofs.Searching.{IsNext, looked_found, looked_past, not_gone, searched}
 use Rattle.strategy.proofs.frontier.next_admitted.Goals as goal

@@ -5,8 +5,8 @@ use Rattle.ir_core.specs.declared.function.Block.{Block}
 use Rattle.ir_core.specs.declared.function.Function.{Function}
 use Rattle.draft.specs.Drafts.{arena_of, function_of}
 use Rattle.places.specs.Orders.{none}
-use Rattle.asked_verdicts.specs.Asks.{AsksAll, IsAnywhere}
-use Rattle.asked_verdicts.proofs.Sequence.{still_verdicts}
+use Rattle.verdict.specs.Asks.{AsksAll, IsAnywhere}
+use Rattle.verdict.proofs.Sequence.{still_verdicts}
 use Rattle.strategy_core.specs.Countable.{IsCountable}
 use Rattle.strategy.specs.Searches.{StepsOrEnds}
 use Rattle.strategy.proofs.Requeueing.{few_numbers, room_at_first, room_for_fewer}

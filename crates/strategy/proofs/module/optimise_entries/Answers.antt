@@ -4,7 +4,7 @@ use Rattle.std.proofs.lemmas.Option.{slice_get_read}
 use Rattle.ir_core.specs.declared.module.Entry.{Entry}
 use Rattle.strategy.specs.Entries.{OptimisesEntries, OptimisesEntry}
 use Rattle.strategy.proofs.Entering.{none_entered, one_entered}
-use Rattle.asked_verdicts.proofs.Sequence.{still_verdicts}
+use Rattle.verdict.proofs.Sequence.{still_verdicts}
 use Rattle.strategy.proofs.module.optimise_entries.Goals as goal
 
 pub loop-entry-init : goal.loop-entry-init

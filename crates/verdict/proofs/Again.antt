@@ -1,0 +1,25 @@
+-- Pairs that are asked again.
+use Rattle.std.proofs.Common.{List, [], ◌∷◌, ◌++◌, append-nil, append_assoc, map, sym, subst}
+use Rattle.std.specs.Prelude.{All, Contains}
+use Rattle.std.proofs.lemmas.List.Elements.{All-head, All-tail}
+use Rattle.strategy_core.specs.Asked.{Pair, AreFirstAsked, pair_in}
+use Rattle.verdict.specs.AskedAgain.{PairsWithRowsChangeNothing}
+use Rattle.verdict.proofs.Asking.{asked_again}
+
+all_again : (asked pairs rows : List Pair) → AreFirstAsked asked rows → All (Contains rows) pairs → AreFirstAsked (asked ++ pairs) rows
+all_again asked [] rows first all = subst (λ (l : List Pair). AreFirstAsked l rows) (sym (append-nil asked)) first
+all_again asked (p ∷ pairs) rows first all =
+    let was_asked : Contains asked p = (first.same p).0 (All-head (Contains rows) p pairs all) in
+    subst (λ (l : List Pair). AreFirstAsked l rows) (append_assoc asked (p ∷ []) pairs)
+    (all_again (asked ++ p ∷ []) pairs rows (asked_again asked rows p first was_asked) (All-tail (Contains rows) p pairs all))
+
+pub rows_change_nothing : PairsWithRowsChangeNothing
+rows_change_nothing rules conflicts pairs verdicts all = record {
+  more = [];
+  rows = sym (append-nil verdicts.table);
+  asked = λ before h. record {
+    rows = all_again before pairs (map pair_in verdicts.table) h.rows all;
+    honest = h.honest;
+    pairs = h.pairs;
+  };
+}

@@ -1,0 +1,105 @@
+-- The verdicts that are kept, as one more pair is asked.
+use Rattle.std.proofs.Common.{◌≡◌, ℕ, zero, suc, Bool, true, false, not, List, [], ◌∷◌, ◌++◌, if◌then◌else◌, length, append-nil, map, Some, refl, sym, ap, subst, ◌∙◌}
+use Rattle.std.specs.Prelude.{◌||◌, ◌≢◌, slice_get, Contains, MatchBool}
+use Rattle.std.specs.List.{list_any}
+use Rattle.std.specs.Option.{option_map}
+use Rattle.std.proofs.lemmas.List.{map-append}
+use Rattle.std.proofs.lemmas.List.Elements.{All-append, All-cons, All-nil}
+use Rattle.std.proofs.lemmas.List.Folds.{Any-from_list_any}
+use Rattle.std.proofs.lemmas.Option.{same_Some, slice_get-map, slice_get_read}
+use Rattle.indexmap.specs.IndexSet.{insert_key}
+use Rattle.ir_meaning.proofs.Pieces.{place_in, contains_at}
+use Rattle.rule_core.specs.declared.rule.Rule.{Rule}
+use Rattle.verdict_core.specs.declared.verdicts.Row.{Row}
+use Rattle.verdict_core.specs.declared.verdicts.Verdict.TheVariants.{Admitted}
+use Rattle.verdict.specs.Table.{IsHonestRow, IsHonestTable}
+use Rattle.verdict.specs.declared.verdicts.Verdicts.{Verdicts}
+use Rattle.strategy_core.specs.Asked.{Pair, pair_in, HasVerdict, AreFirstAsked}
+use Rattle.verdict.specs.Asks.{Asks}
+use Rattle.verdict.specs.Stored.{Key, pair_of_key}
+use Rattle.verdict.proofs.Asking.{asked_again, asked_first}
+use Rattle.verdict.proofs.Storing.{key_eq, decided}
+
+not_first : (a b : Bool) → a ≡ true → (a || b) ≡ false → ⊥
+not_first true b is none = absurd cc
+not_first false b is none = absurd cc
+
+not_later : (a b : Bool) → (a || b) ≡ false → b ≡ false
+not_later true b none = absurd cc
+not_later false b none = none
+
+-- a key that the set lacks is of a pair that no key is of
+absent_at : (x : Key) (keys : List Key) (i : ℕ) → list_any (key_eq x) keys ≡ false → slice_get (map pair_of_key keys) i ≡ Some (pair_of_key x) → ⊥
+absent_at x [] i none at = absurd cc
+absent_at x (key ∷ keys) zero none at = not_first (key_eq x key) (list_any (key_eq x) keys) ((decided (pair_of_key x) key).1 (sym (same_Some (pair_of_key key) (pair_of_key x) at))) none
+absent_at x (key ∷ keys) (suc i) none at = absent_at x keys i (not_later (key_eq x key) (list_any (key_eq x) keys) none) at
+
+absent : (x : Key) (keys : List Key) → list_any (key_eq x) keys ≡ false → ¬ Contains (map pair_of_key keys) (pair_of_key x)
+absent x keys none has = (let at = place_in (map pair_of_key keys) (pair_of_key x) has in absent_at x keys at.0 none at.1)
+
+-- one that it has is of a pair that a key is of
+present : (x : Key) (keys : List Key) → list_any (key_eq x) keys ≡ true → Contains (map pair_of_key keys) (pair_of_key x)
+present x keys found =
+    let (k, key, within, at, is) = Any-from_list_any (key_eq x) keys found in
+    contains_at (map pair_of_key keys) k (pair_of_key x)
+    (slice_get-map pair_of_key keys k ∙ ap (option_map pair_of_key) (slice_get_read keys (length keys) k key refl within (sym at)) ∙ ap Some (sym ((decided (pair_of_key x) key).0 is)))
+
+-- what is stored at a place is of the pair
+pub stored : (x : Key) (keys : List Key) (table : List Row) (place : ℕ) → map pair_of_key keys ≡ map pair_in table
+    → ((key : Key) × (slice_get keys place ≡ Some key) × (key_eq x key ≡ true)) → slice_get (map pair_in table) place ≡ Some (pair_of_key x)
+stored x keys table place same (key, at, is) =
+    subst (λ l. slice_get l place ≡ Some (pair_of_key x)) same (slice_get-map pair_of_key keys place ∙ ap (option_map pair_of_key) at ∙ ap Some (sym ((decided (pair_of_key x) key).0 is)))
+
+-- whether a key is new says whether the set lacked it
+pub lacked : (found new : Bool) → new ≡ not found → new ≡ true → found ≡ false
+lacked true new is h = absurd cc
+lacked false new is h = refl
+
+pub had : (found new : Bool) → new ≡ not found → new ≡ false → found ≡ true
+had true new is h = refl
+had false new is h = absurd cc
+
+module _ (rules : List Rule) (conflicts : ℕ) (old new : Verdicts) (key : Key) where
+  -- a pair that is found adds no row
+  pub asked_found : new.table ≡ old.table → new.pairs.keys ≡ insert_key key_eq old.pairs.keys key → list_any (key_eq key) old.pairs.keys ≡ true
+      → Asks rules conflicts (pair_of_key key ∷ []) old new
+  asked_found table keys found =
+      let x = pair_of_key key in
+      let rows = map pair_in old.table in
+      let kept : new.pairs.keys ≡ old.pairs.keys = keys ∙ ap (λ (b : Bool). if b then old.pairs.keys else old.pairs.keys ++ key ∷ []) found in
+      record {
+        more = [];
+        rows = table ∙ sym (append-nil old.table);
+        asked = λ before h. record {
+          rows = subst (λ t. AreFirstAsked (before ++ x ∷ []) (map pair_in t)) (sym table) (asked_again before rows x h.rows ((h.rows.same x).0 (subst (λ l. Contains l x) h.pairs (present key old.pairs.keys found))));
+          honest = subst (IsHonestTable rules conflicts) (sym table) h.honest;
+          pairs = ap (map pair_of_key) kept ∙ h.pairs ∙ ap (map pair_in) (sym table);
+        };
+      }
+
+  -- one that is not adds its row
+  pub asked_new : (row : Row) → new.table ≡ old.table ++ row ∷ [] → new.pairs.keys ≡ insert_key key_eq old.pairs.keys key
+      → list_any (key_eq key) old.pairs.keys ≡ false → pair_in row ≡ pair_of_key key → IsHonestRow rules conflicts row → Asks rules conflicts (pair_of_key key ∷ []) old new
+  asked_new row table keys none is honest =
+      let x = pair_of_key key in
+      let rows = map pair_in old.table in
+      let added : new.pairs.keys ≡ old.pairs.keys ++ key ∷ [] = keys ∙ ap (λ (b : Bool). if b then old.pairs.keys else old.pairs.keys ++ key ∷ []) none in
+      let more : map pair_in new.table ≡ rows ++ x ∷ [] = ap (map pair_in) table ∙ map-append pair_in old.table (row ∷ []) ∙ ap (λ (p : Pair). rows ++ p ∷ []) is in
+      record {
+        more = row ∷ [];
+        rows = table;
+        asked = λ before h. record {
+          rows = subst (AreFirstAsked (before ++ x ∷ [])) (sym more) (asked_first before rows x h.rows (λ has. absent key old.pairs.keys none (subst (λ l. Contains l x) (sym h.pairs) ((h.rows.same x).1 has))));
+          honest = subst (IsHonestTable rules conflicts) (sym table) (All-append (IsHonestRow rules conflicts) old.table (row ∷ []) h.honest (All-cons (IsHonestRow rules conflicts) row [] honest (All-nil (IsHonestRow rules conflicts))));
+          pairs = ap (map pair_of_key) added ∙ map-append pair_of_key old.pairs.keys (key ∷ []) ∙ ap (λ (l : List Pair). l ++ x ∷ []) h.pairs ∙ sym more;
+        };
+      }
+
+pair_at : (table : List Row) (place : ℕ) (row : Row) (pair : Pair) → slice_get (map pair_in table) place ≡ Some pair → slice_get table place ≡ Some row → pair_in row ≡ pair
+pair_at table place row pair is at = same_Some (pair_in row) pair (sym (slice_get-map pair_in table place ∙ ap (option_map pair_in) at) ∙ is)
+
+-- the row at the place of a pair gives its verdict
+pub answered : (table : List Row) (place : ℕ) (row : Row) (pair : Pair) (admitted : Bool) → slice_get (map pair_in table) place ≡ Some pair → slice_get table place ≡ Some row
+    → MatchBool admitted (row.verdict ≡ Admitted) (row.verdict ≢ Admitted) → MatchBool admitted (HasVerdict table (λ v. v ≡ Admitted) pair) (HasVerdict table (λ v. v ≢ Admitted) pair)
+answered table place row pair true is at says = (row, contains_at table place row at, pair_at table place row pair is at, says)
+answered table place row pair false is at says = (row, contains_at table place row at, pair_at table place row pair is at, says)

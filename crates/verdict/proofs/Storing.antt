@@ -1,0 +1,35 @@
+-- The logs that are stored, as one more is.
+use Rattle.std.proofs.Common.{◌≡◌, ℕ, Bool, true, false, List, refl, sym, ap, ◌∙◌, nat_eq}
+use Rattle.std.specs.Prelude.{◌&&◌, ◌≢◌}
+use Rattle.std.specs.Bool.{Decides}
+use Rattle.std.specs.Map.{lookup, KeepsOthers}
+use Rattle.std.specs.Str.{bytes_eq}
+use Rattle.std.proofs.lemmas.Bool.Decides.{Decides-and, Decides-eqb, Decides-like}
+use Rattle.std.proofs.lemmas.Slice.Eq.{bytes_eq-Decides}
+use Rattle.strategy_core.specs.Asked.{Pair}
+use Rattle.verdict.specs.Stored.{Key, pair_of_key, is_key_of}
+
+-- how a table compares keys
+abbrev pub key_eq : Key → Key → Bool
+key_eq x y = nat_eq x.0 y.0 && bytes_eq x.1.items y.1.items
+
+pub decided : (p : Pair) (y : Key) → Decides (is_key_of p y) (p ≡ pair_of_key y)
+decided p y =
+    Decides-like (is_key_of p y) (λ h. ap (λ (n : ℕ). (n, p.1)) h.0 ∙ ap (λ (l : List ℕ). (y.0, l)) h.1) (λ e. (ap (λ (q : Pair). q.0) e, ap (λ (q : Pair). q.1) e))
+    (Decides-and (nat_eq p.0 y.0) (bytes_eq p.1 y.1.items) (Decides-eqb p.0 y.0) (bytes_eq-Decides p.1 y.1.items))
+
+-- what is no key of a pair is found out so
+not_key : (p : Pair) (y : Key) → ¬ (p ≡ pair_of_key y) → is_key_of p y ≡ false
+not_key p y other = by (is_key_of p y) refl
+  where
+    by : (b : Bool) → is_key_of p y ≡ b → b ≡ false
+    by true is = absurd (other ((decided p y).0 is))
+    by false is = refl
+
+-- what is stored for another pair than the key's stays
+pub others_stay : {X : Type 0} (key : Key) (old new : List (Key × X)) (p : Pair) → KeepsOthers key_eq (key_eq key) old new → p ≢ pair_of_key key
+    → lookup (is_key_of p) new ≡ lookup (is_key_of p) old
+unfolding KeepsOthers
+others_stay key old new p keeps other =
+    keeps (is_key_of p) (λ x y is. ap (λ (q : Pair). is_key_of q y) ((decided p x).0 is))
+    (λ k is. not_key p k (λ same. other (same ∙ sym ((decided (pair_of_key key) k).0 is))))

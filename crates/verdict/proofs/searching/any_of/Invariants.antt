@@ -1,0 +1,12 @@
+-- the matches so far are asked, and it is told whether one of them is admitted
+use Rattle.std.proofs.Common.{map, take}
+use Rattle.std.specs.Prelude.{All, Any, MatchBool}
+use Rattle.strategy_core.specs.Asked.{pair_of, IsAdmitted, IsTurnedDown}
+use Rattle.verdict.specs.Asks.{Asks}
+use Rattle.verdict.proofs.searching.any_of.Given as goal
+
+abbrev pub invariant-loop-asking : goal.invariant-loop-asking
+invariant-loop-asking l = record {
+  asks : Asks l.rules l.conflicts (map pair_of (take l.asking-index l.matches)) l.fn.verdicts l.verdicts;
+  answer : MatchBool l.any (Any (IsAdmitted l.verdicts.table) (take l.asking-index l.matches)) (All (IsTurnedDown l.verdicts.table) (take l.asking-index l.matches));
+}

@@ -1,0 +1,12 @@
+-- the matches so far are asked, and turned down
+use Rattle.std.proofs.Common.{map, take}
+use Rattle.std.specs.Prelude.{All}
+use Rattle.strategy_core.specs.Asked.{pair_of, IsTurnedDown}
+use Rattle.verdict.specs.Asks.{Asks}
+use Rattle.verdict.proofs.searching.first_admitted.Given as goal
+
+abbrev pub invariant-loop-place : goal.invariant-loop-place
+invariant-loop-place l = record {
+  asks : Asks l.rules l.conflicts (map pair_of (take l.place l.matches)) l.fn.verdicts l.verdicts;
+  turned_down : All (IsTurnedDown l.verdicts.table) (take l.place l.matches);
+}

@@ -1,0 +1,8 @@
+use Rattle.std.proofs.Common.{ℕ, List, ap, ◌∙◌}
+use Rattle.verdict.proofs.Storing.{others_stay}
+use Rattle.verdict.proofs.stored.StoredLogs.insert.Goals as goal
+
+pub returns-clause-others : goal.returns-clause-others
+returns-clause-others c = λ pair other.
+    others_stay (c.args.rule, c.in_ok-widths_of.field-0) c.args.self.now.logs.entries c.insert.new.self.entries pair c.in_ok-insert.ensures.updates.3
+    (λ is. other (is ∙ ap (λ (widths : List ℕ). (c.args.rule, widths)) c.in_ok-widths_of.ensures))

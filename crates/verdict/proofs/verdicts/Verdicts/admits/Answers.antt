@@ -1,0 +1,69 @@
+use Rattle.std.proofs.Common.{◌≡◌, ℕ, ◌<◌, true, List, [], ◌∷◌, length, map, Some, sym, ap, subst, ◌∙◌, arith}
+use Rattle.std.specs.Prelude.{slice_get}
+use Rattle.std.proofs.lemmas.List.{length-map}
+use Rattle.std.proofs.lemmas.Option.{slice_get_within}
+use Rattle.ir_meaning.proofs.Pieces.{some_at}
+use Rattle.verdict_core.specs.declared.verdicts.Row.{Row}
+use Rattle.verdict.specs.declared.verdicts.Verdicts.{Verdicts}
+use Rattle.strategy_core.specs.Asked.{Pair, pair_in, pair_of}
+use Rattle.verdict.specs.Asks.{Asks}
+use Rattle.verdict.specs.Stored.{Key, pair_of_key}
+use Rattle.verdict.proofs.Storing.{key_eq}
+use Rattle.verdict.proofs.Keeping.{stored, lacked, had, asked_found, asked_new, answered}
+use Rattle.verdict.proofs.verdicts.Verdicts.admits.Goals as goal
+use Rattle.verdict.proofs.verdicts.Verdicts.admits.Goals.{After-as_slice, then-is_new+in_ok-row+in_ok-push, else-is_new}
+
+abbrev key_of : (c : After-as_slice) → Key
+key_of c = (c.args.asking.now.rule, c.in_ok-widths_of.field-0)
+
+same_pair : (c : After-as_slice) → pair_of_key (key_of c) ≡ pair_of c.args.asking.now
+same_pair c = ap (λ (l : List ℕ). (c.args.asking.now.rule, l)) c.in_ok-widths_of.ensures
+
+same_keys : (c : After-as_slice) → c.if-is_new.self.pairs.keys ≡ c.insert_full.new.self.keys
+same_keys c = elim c.if-is_new.branch [
+  | then-is_new+in_ok-row+in_ok-push w ↦ ap (λ (v : Verdicts). v.pairs.keys) w.self-is
+  | else-is_new w ↦ ap (λ (v : Verdicts). v.pairs.keys) w.self-is
+]
+
+asked : (c : After-as_slice) → Asks c.args.rules.now c.args.conflicts (pair_of c.args.asking.now ∷ []) c.args.self.now c.if-is_new.self
+asked c =
+    let rules = c.args.rules.now in
+    let conflicts = c.args.conflicts in
+    let old = c.args.self.now in
+    let new = c.if-is_new.self in
+    let keys = same_keys c ∙ c.in_ok-place.ensures.keys in
+    subst (λ (p : Pair). Asks rules conflicts (p ∷ []) old new) (same_pair c)
+    (elim c.if-is_new.branch [
+      | then-is_new+in_ok-row+in_ok-push w ↦
+          asked_new rules conflicts old new (key_of c) w.in_ok-row.row (ap (λ (v : Verdicts). v.table) w.self-is ∙ w.in_ok-push.ensures.ok) keys (lacked _ _ c.in_ok-place.ensures.added w.if-is_new.true)
+          (w.in_ok-row.ensures.pair ∙ sym (same_pair c)) w.in_ok-row.ensures.honest
+      | else-is_new w ↦ asked_found rules conflicts old new (key_of c) (ap (λ (v : Verdicts). v.table) w.self-is) keys (had _ _ c.in_ok-place.ensures.added w.if-is_new.false)
+    ])
+
+pair_there : (c : After-as_slice) → slice_get (map pair_in c.if-is_new.self.table) c.in_ok-place.place ≡ Some (pair_of c.args.asking.now)
+pair_there c =
+    let place = c.in_ok-place.place in
+    let before = c.requires.verdicts in
+    let after = (asked c).asked before.0 before.1 in
+    let there = subst (λ (keys : List Key). (key : Key) × (slice_get keys place ≡ Some key) × (key_eq (key_of c) key ≡ true)) (sym (same_keys c)) c.in_ok-place.ensures.stored in
+    stored (key_of c) c.if-is_new.self.pairs.keys c.if-is_new.self.table place after.pairs there ∙ ap Some (same_pair c)
+
+within_table : (c : After-as_slice) → c.in_ok-place.place < length c.if-is_new.self.table
+within_table c =
+    let table = c.if-is_new.self.table in
+    omega (arith, slice_get_within (map pair_in table) c.in_ok-place.place (pair_of c.args.asking.now) (pair_there c), length-map table pair_in)
+
+pub is_admitted_at-requires : goal.is_admitted_at-requires
+is_admitted_at-requires c = (let d = (goal.at.is_admitted_at-requires c).After-as_slice in omega (arith, within_table d, ap length c.as_slice.ensures))
+
+pub returns-clause-asks : goal.returns-clause-asks
+returns-clause-asks c = asked (goal.at.returns-clause-asks c).After-as_slice
+
+pub returns-clause-answer : goal.returns-clause-answer
+returns-clause-answer c =
+    let d = (goal.at.returns-clause-answer c).After-as_slice in
+    let table = c.if-is_new.self.table in
+    let place = c.in_ok-place.place in
+    let row = some_at table place (within_table d) in
+    answered table place row.0 (pair_of c.args.asking.now) c.is_admitted_at.result (pair_there d) row.1
+    (c.is_admitted_at.ensures row.0 (subst (λ (l : List Row). slice_get l place ≡ Some row.0) (sym c.as_slice.ensures) row.1))

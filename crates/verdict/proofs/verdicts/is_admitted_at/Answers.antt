@@ -1,0 +1,12 @@
+use Rattle.std.proofs.Common.{◌≡◌, subst}
+use Rattle.std.specs.Prelude.{◌≢◌, MatchBool}
+use Rattle.std.proofs.lemmas.Option.{get_or_from_slice_get}
+use Rattle.verdict_core.specs.declared.verdicts.Row.{Row}
+use Rattle.verdict_core.specs.declared.verdicts.Verdict.TheVariants.{Admitted}
+use Rattle.verdict.proofs.verdicts.is_admitted_at.Goals as goal
+
+pub returns : goal.returns
+returns c =
+    λ row at.
+    let read = c.index-table-place.result in
+    subst (λ (r : Row). MatchBool c.is_admitted.result (r.verdict ≡ Admitted) (r.verdict ≢ Admitted)) (get_or_from_slice_get c.args.table.now c.args.place row read at) c.is_admitted.ensures

@@ -1,0 +1,50 @@
+-- The verdicts that are kept, and what one search asks.
+use Rattle.std.specs.Prelude.{◌≡◌, ℕ, Bool, List, [], ◌∷◌, ◌++◌, map, All, Any, MatchBool}
+use Rattle.ir_core.specs.declared.function.Function.{Function}
+use Rattle.rule_core.specs.declared.rule.Rule.{Rule}
+use Rattle.verdict_core.specs.declared.verdicts.Row.{Row}
+use Rattle.verdict.specs.Table.{IsHonestTable}
+use Rattle.bindings.specs.declared.rule_match.Match.{Match}
+use Rattle.bindings.specs.Matches.{IsMatchAmong, ComesBefore, AreMatchesWhere}
+use Rattle.verdict.specs.declared.verdicts.Verdicts.{Verdicts}
+use Rattle.strategy_core.specs.Asked.{Pair, pair_of, pair_in, IsAdmitted, IsTurnedDown, AreFirstAsked}
+
+-- Once these pairs were asked, the verdicts that are kept are honest ones on these, in the order in which they were first asked.
+pub record AreVerdictsOn (rules : List Rule) (conflicts : ℕ) (asked : List Pair) (verdicts : Verdicts) : Type 0 where
+  pub rows : AreFirstAsked asked (map pair_in verdicts.table)
+  pub honest : IsHonestTable rules conflicts verdicts.table
+  -- the pairs that are looked up are those of the rows, in their order
+  pub pairs : map (λ key. (key.0, key.1.items)) verdicts.pairs.keys ≡ map pair_in verdicts.table
+
+-- so they are once some pairs were asked
+abbrev pub AreVerdicts : List Rule → ℕ → Verdicts → Type 0
+AreVerdicts rules conflicts verdicts = (asked : List Pair) × AreVerdictsOn rules conflicts asked verdicts
+
+-- Whatever was asked before, these pairs are asked now; and the rows stay.
+pub record Asks (rules : List Rule) (conflicts : ℕ) (pairs : List Pair) (old new : Verdicts) : Type 0 where
+  pub more : List Row
+  pub rows : new.table ≡ old.table ++ more
+  pub asked : (before : List Pair) → AreVerdictsOn rules conflicts before old → AreVerdictsOn rules conflicts (before ++ pairs) new
+
+-- ---- a search through the matches of a function of which something holds
+
+-- any match of the function
+abbrev pub IsAnywhere : Match → Type 0
+IsAnywhere m = Unit {0}
+
+-- all are asked, in order, and it is told whether one of them is admitted
+pub record AsksAll (rules : List Rule) (conflicts : ℕ) (f : Function) (P : Match → Type 0) (old new : Verdicts) (any : Bool) : Type 0 where
+  pub matches : List Match
+  pub are_matches : AreMatchesWhere rules f P matches
+  pub asks : Asks rules conflicts (map pair_of matches) old new
+  pub answer : MatchBool any (Any (IsAdmitted new.table) matches) (All (IsTurnedDown new.table) matches)
+
+-- all that come before this one are asked, in order, and are turned down, and then this one, which is admitted
+pub record AsksUpTo (rules : List Rule) (conflicts : ℕ) (f : Function) (P : Match → Type 0) (old new : Verdicts) (chosen : Match) : Type 0 where
+  pub is_match : IsMatchAmong rules f chosen
+  pub holds : P chosen
+  pub passed : List Match
+  pub are_before : AreMatchesWhere rules f (λ m. P m × ComesBefore m chosen) passed
+  pub asks : Asks rules conflicts (map pair_of (passed ++ chosen ∷ [])) old new
+  pub turned_down : All (IsTurnedDown new.table) passed
+  pub admitted : IsAdmitted new.table chosen
