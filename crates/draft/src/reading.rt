@@ -2,6 +2,7 @@
 
 ghost use Rattle.std.specs.Prelude.{◌≡◌, ◌↔◌, Contains, IsTrue};
 ghost use Rattle.ir_core.specs.Checks.{IsKnown};
+ghost use Rattle.ir_core.specs.declared.operand.Register.{Register as Named};
 ghost use Rattle.readers.specs.Readers.{IsReader, IsPlaceIn, listed_for};
 ghost use Rattle.draft.specs.Whole.{IsWhole};
 ghost use Rattle.places.specs.declared.place.Place.{Place as Spot};
@@ -22,7 +23,7 @@ impl Draft {
         reads(&self.arena, place, register)
     }
 
-    /// Forgets what reads a register no more: then the places that are listed are those that read it.
+    /// Forgets what reads a register no more: then the places that are listed are those that read it. All else of the draft stays.
     pub fn trim_readers(&mut self, alloc: Global, register: Register)
         requires whole { IsWhole self.old }
         requires known { IsKnown self.old.arena (Operand.Register register) }
@@ -31,6 +32,8 @@ impl Draft {
         ensures orders { self.new.orders.items ≡ self.old.orders.items }
         ensures stand { self.new.stand.items ≡ self.old.stand.items }
         ensures fallen { self.new.fallen.items ≡ self.old.fallen.items }
+        ensures facts { self.new.facts ≡ self.old.facts }
+        ensures others { (r : Named) → ¬ (r ≡ register) → listed_for self.new.readers r ≡ listed_for self.old.readers r }
         ensures exact { (p : Spot) → Contains (listed_for self.new.readers register) p
             ↔ (IsPlaceIn self.new.arena p × IsReader self.new.arena register p) }
     {

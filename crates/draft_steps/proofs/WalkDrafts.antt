@@ -9,12 +9,12 @@ use Rattle.needed.proofs.Counting.{contains_at}
 use Rattle.draft.specs.Drafts.{Reaches}
 use Rattle.places.specs.Heaps.{nowhere, place_at}
 use Rattle.readers.specs.Readers.{IsReader}
-use Rattle.draft_steps.specs.Walks.{IsFurther, IsSameDraft, IsWalk, ReadersCame}
+use Rattle.draft_steps.specs.Walks.{IsFurther, IsSameDraft, IsWalk, ReadersCame, ReadsHere}
 use Rattle.draft.specs.Whole.{IsWhole}
 use Rattle.draft.specs.declared.draft.Draft.{Draft}
 use Rattle.places.specs.declared.place.Place.{Place}
 use Rattle.draft_steps.specs.declared.walk.Walk.{Walk}
-use Rattle.draft_steps.proofs.SameDrafts.{stays}
+use Rattle.draft_steps.proofs.SameDrafts.{stays, stood}
 
 pub same-itself : (d : Draft) → IsWhole d → IsSameDraft d d
 same-itself d whole = record { whole = whole; arena = refl; orders = refl; stand = refl; fallen = refl }
@@ -39,6 +39,10 @@ pub readers-by : (old new : Draft) (same : IsSameDraft old new) (w : Walk) (p : 
 readers-by old new same w p came n stands reads =
     let q : Place = record { block = p.block; number = n } in
     came n (stays old new same p.block n stands) (subst (λ (f : Function). IsReader f (registers.Result p.block p.number) q) (sym same.arena) reads)
+
+pub reads-by : (old new : Draft) (same : IsSameDraft old new) (p : Place) (b n : ℕ) → ReadsHere new p b n → ReadsHere old p b n
+reads-by old new same p b n (here, stands, reads) =
+    (here, stood old new same b n stands, subst (λ (f : Function). IsReader f (registers.Result p.block p.number) (record { block = b; number = n })) same.arena reads)
 
 pub place-further : (u v : Walk) (k : ℕ) → IsFurther u v → k < length u.found.items → place_at v.found.items k ≡ place_at u.found.items k
 place-further u v k further within = ap (λ (l : List Place). place_at l k) further.is ∙ get_or_append_left u.found.items further.more nowhere k within

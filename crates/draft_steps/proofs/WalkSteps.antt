@@ -1,12 +1,12 @@
 -- Walks that go on.
-use Rattle.std.proofs.Common.{◌≡◌, ℕ, inl, inr, [], ◌∷◌, ◌++◌, length, All, Contains, sym, ap, subst, ◌∙◌, append-nil, append_assoc}
-use Rattle.std.proofs.lemmas.List.Elements.{All-push, Contains-append_left, Contains-push}
+use Rattle.std.proofs.Common.{◌≡◌, ◌⊎◌, ℕ, inl, inr, [], ◌∷◌, ◌++◌, length, All, Contains, sym, ap, subst, ◌∙◌, append-nil, append_assoc}
+use Rattle.std.proofs.lemmas.List.Elements.{All-push, Contains-append_left, Contains-push, Contains-push_cases}
 use Rattle.ir_core.specs.Blocks.{HasInst}
 use Rattle.draft.specs.declared.draft.Draft.{Draft}
 use Rattle.places.specs.declared.place.Place.{Place}
 use Rattle.draft_steps.specs.declared.walk.Walk.{Walk}
 use Rattle.places.specs.Sets.{IsAdded}
-use Rattle.draft_steps.specs.Walks.{Came, IsFurther, IsWalk}
+use Rattle.draft_steps.specs.Walks.{Came, CameOnlyTo, IsFurther, IsWalk}
 
 pub further-same : (w : Walk) → IsFurther w w
 further-same w = record { more = []; is = sym (append-nil w.found.items) }
@@ -33,3 +33,22 @@ walk-more d old new p walk inst blocks added found = record {
     | inr had ↦ Contains-append_left old.found.items (p ∷ []) (record { block = b; number = n }) (walk.marked b n had)
   ]);
 }
+
+-- what two walks came to, one after the other
+pub only-twice : (IsSuch : ℕ → ℕ → Type 0) (u v w : Walk) → CameOnlyTo IsSuch u v → CameOnlyTo IsSuch v w → CameOnlyTo IsSuch u w
+only-twice IsSuch u v w one two b n came = elim (two b n came) [
+  | inl before ↦ one b n before
+  | inr such ↦ inr such
+]
+
+pub only-more : (IsSuch IsSuchToo : ℕ → ℕ → Type 0) (u v : Walk) → ((b n : ℕ) → IsSuch b n → IsSuchToo b n) → CameOnlyTo IsSuch u v → CameOnlyTo IsSuchToo u v
+only-more IsSuch IsSuchToo u v to only b n came = elim (only b n came) [
+  | inl before ↦ inl before
+  | inr such ↦ inr (to b n such)
+]
+
+pub only-pushed : (old new : Walk) (p : Place) (b n : ℕ) → new.found.items ≡ old.found.items ++ p ∷ [] → Came new b n → Came old b n ⊎ (p ≡ record { block = b; number = n })
+only-pushed old new p b n found came = elim (Contains-push_cases old.found.items p (record { block = b; number = n }) (subst (λ l. Contains l (record { block = b; number = n })) found came)) [
+  | inl before ↦ inl before
+  | inr is ↦ inr is
+]

@@ -1,11 +1,11 @@
 -- Walks from places to what reads them in their block.
-use Rattle.std.specs.Prelude.{◌≡◌, ℕ, ◌++◌, List, [], length, All, Contains}
+use Rattle.std.specs.Prelude.{◌≡◌, ◌⊎◌, ℕ, ◌++◌, List, [], length, All, Contains}
 use Rattle.draft.specs.declared.draft.Draft.{Draft}
 use Rattle.places.specs.declared.place.Place.{Place}
 use Rattle.draft_steps.specs.declared.walk.Walk.{Walk}
 use Rattle.ir_core.specs.Blocks.{HasInst}
 use Rattle.ir_core.specs.declared.operand.Register.TheVariants as registers
-use Rattle.draft.specs.Drafts.{Stands}
+use Rattle.draft.specs.Drafts.{Reaches, Stands}
 use Rattle.readers.specs.Readers.{IsReader}
 use Rattle.places.specs.Sets.{Has}
 use Rattle.draft.specs.Whole.{IsWhole}
@@ -42,3 +42,25 @@ pub record IsSameDraft (old new : Draft) : Type 0 where
 -- it came to what reads an instruction in its block and stands
 abbrev pub ReadersCame : Draft → Walk → Place → Type 0
 ReadersCame d w p = (n : ℕ) → Stands d p.block n → IsReader d.arena (registers.Result p.block p.number) (record { block = p.block; number = n }) → Came w p.block n
+
+-- what the new walk came to and the old one didn't is such a place
+abbrev pub CameOnlyTo : (ℕ → ℕ → Type 0) → Walk → Walk → Type 0
+CameOnlyTo IsSuch old new = (b n : ℕ) → Came new b n → Came old b n ⊎ IsSuch b n
+
+-- number n of block b stands at the place, or at one of the places
+abbrev pub StandsAt : Draft → Place → ℕ → ℕ → Type 0
+StandsAt d p b n = Stands d b n × (p ≡ record { block = b; number = n })
+
+abbrev pub StandsAtOneOf : Draft → List Place → ℕ → ℕ → Type 0
+StandsAtOneOf d places b n = Stands d b n × Contains places (record { block = b; number = n })
+
+-- number n of block b stands and reads the instruction at a place of the block, or at one of the places
+abbrev pub ReadsHere : Draft → Place → ℕ → ℕ → Type 0
+ReadsHere d p b n = (b ≡ p.block) × Stands d b n × IsReader d.arena (registers.Result p.block p.number) (record { block = b; number = n })
+
+abbrev pub ReadsOneOf : Draft → List Place → ℕ → ℕ → Type 0
+ReadsOneOf d places b n = (p : Place) × Contains places p × ReadsHere d p b n
+
+-- number n of block b stands and reaches one of the places through at most so many operands of its block
+abbrev pub ReachesOneOf : Draft → ℕ → List Place → ℕ → ℕ → Type 0
+ReachesOneOf d depth places b n = (p : Place) × Contains places p × (b ≡ p.block) × Stands d b n × Reaches d depth b n p.number

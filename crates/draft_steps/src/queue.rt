@@ -8,7 +8,7 @@ ghost use Rattle.draft_steps.specs.Queues.{ComesNext, IsQueueOf, Waits, size_of,
 ghost use Rattle.places.specs.Sets.{Has, IsAdded, IsRemoved};
 ghost use Rattle.places.specs.Waiting.{IsArranged};
 ghost use Rattle.readers.specs.Readers.{IsPlaceIn};
-ghost use Rattle.draft_steps.specs.Walks.{IsSameDraft};
+ghost use Rattle.draft_steps.specs.Walks.{IsSameDraft, ReachesOneOf};
 ghost use Rattle.draft.specs.Whole.{IsWhole, IsSettled};
 ghost use Rattle.places.specs.declared.place.Place.{Place as Spot};
 
@@ -101,6 +101,7 @@ impl Queue {
         ensures stay { OnOk result ((b n : ℕ) → Waits self.old b n → Waits self.new b n) }
         ensures reaching { OnOk result ((p : Spot) (n : ℕ) → Contains places.now p → Stands draft.old p.block n
             → Reaches draft.old depth p.block n p.number → Waits self.new p.block n) }
+        ensures only { OnOk result ((b n : ℕ) → Waits self.new b n → Waits self.old b n ⊎ ReachesOneOf draft.old depth places.now b n) }
     {
         self.walk.reach(alloc, draft, places, depth)?;
         insert_all(
@@ -120,6 +121,8 @@ fn insert_all(waiting: &mut Waiting, orders: &[Order], places: &[Place]) -> Resu
     ensures arranged { OnOk result (IsArranged orders.now waiting.new) }
     ensures stay { OnOk result ((b n : ℕ) → Has waiting.old.marks b n → Has waiting.new.marks b n) }
     ensures places { OnOk result (All (λ p. Has waiting.new.marks p.block p.number) places.now) }
+    ensures only { OnOk result ((b n : ℕ) → Has waiting.new.marks b n
+        → Has waiting.old.marks b n ⊎ Contains places.now (record { block = b; number = n })) }
 {
     for place in places {
         waiting.insert(orders, *place)?;

@@ -6,7 +6,7 @@ ghost use Rattle.draft.specs.Drafts.{Stands, Reaches};
 ghost use Rattle.places.specs.Heaps.{place_at};
 ghost use Rattle.readers.specs.Readers.{IsPlaceIn};
 ghost use Rattle.places.specs.Sets.{Has};
-ghost use Rattle.draft_steps.specs.Walks.{IsIdle, IsWalk, IsFurther, IsSameDraft, Came, ReadersCame};
+ghost use Rattle.draft_steps.specs.Walks.{IsIdle, IsWalk, IsFurther, IsSameDraft, Came, CameOnlyTo, ReachesOneOf, ReadersCame, ReadsHere, ReadsOneOf, StandsAt, StandsAtOneOf};
 ghost use Rattle.draft.specs.Whole.{IsWhole, IsSettled};
 ghost use Rattle.places.specs.declared.place.Place.{Place as Spot};
 
@@ -47,6 +47,7 @@ impl Walk {
         ensures walk { OnOk result (IsWalk draft.new self.new) }
         ensures reached { OnOk result ((p : Spot) (n : ℕ) → Contains places.now p → Stands draft.old p.block n
             → Reaches draft.old depth p.block n p.number → Came self.new p.block n) }
+        ensures only { OnOk result ((b n : ℕ) → Came self.new b n → ReachesOneOf draft.old depth places.now b n) }
     {
         self.come_to_all(draft, places)?;
         let mut next = 0;
@@ -76,6 +77,7 @@ impl Walk {
         ensures walk { OnOk result (IsWalk draft.now self.new) }
         ensures further { OnOk result (IsFurther self.old self.new) }
         ensures came { OnOk result ((p : Spot) → Contains places.now p → Stands draft.now p.block p.number → Came self.new p.block p.number) }
+        ensures only { OnOk result (CameOnlyTo (StandsAtOneOf draft.now places.now) self.old self.new) }
     {
         for place in places {
             self.come_to(draft, *place)?;
@@ -98,6 +100,7 @@ impl Walk {
         ensures walk { OnOk result (IsWalk draft.new self.new) }
         ensures further { OnOk result (IsFurther self.old self.new) }
         ensures came { OnOk result ((k : ℕ) → from ≤ k → k < end → ReadersCame draft.old self.new (place_at self.old.found.items k)) }
+        ensures only { OnOk result (CameOnlyTo (ReadsOneOf draft.old self.old.found.items) self.old self.new) }
     {
         for index in from..end {
             let place = self.found[index];
@@ -120,6 +123,7 @@ impl Walk {
         ensures walk { OnOk result (IsWalk draft.new self.new) }
         ensures further { OnOk result (IsFurther self.old self.new) }
         ensures came { OnOk result (ReadersCame draft.old self.new place) }
+        ensures only { OnOk result (CameOnlyTo (ReadsHere draft.old place) self.old self.new) }
     {
         let register = Register::Result(place.block, place.number);
         draft.trim_readers(alloc, register);
@@ -139,6 +143,7 @@ impl Walk {
         ensures walk { OnOk result (IsWalk draft.now self.new) }
         ensures further { OnOk result (IsFurther self.old self.new) }
         ensures came { OnOk result (Stands draft.now place.block place.number → Came self.new place.block place.number) }
+        ensures only { OnOk result (CameOnlyTo (StandsAt draft.now place) self.old self.new) }
     {
         if place.number != END && draft.stands(place) && !self.reached.has(place) {
             self.reached.insert(place)?;

@@ -33,7 +33,8 @@ impl Readers {
         requires blocks { length f.now.blocks < 2 ^ 32 }
         requires insts { All (λ b. length b.insts ≤ none) f.now.blocks }
         requires known { (b k i : ℕ) (r : Read) → IsRead f.now b k i r → IsKnown f.now r.operand }
-        ensures { IfOk result (AreReadersOf f.now) }
+        ensures readers { IfOk result (AreReadersOf f.now) }
+        ensures only { IfOk result (λ readers. (r : Named) (p : Spot) → Contains (listed_for readers r) p → IsReader f.now r p) }
     {
         let mut readers = Readers::none(alloc, f)?;
         for block in 0..f.blocks.len() as u32 {

@@ -1,9 +1,10 @@
-use Rattle.std.proofs.Common.{inl, inr, All, take, refl, subst, arith}
+use Rattle.std.proofs.Common.{ℕ, inl, inr, All, Contains, take, refl, subst, arith}
 use Rattle.std.proofs.lemmas.List.{take_all}
 use Rattle.std.proofs.lemmas.List.Elements.{All-get_or, All-more, All-weaker}
 use Rattle.places.specs.declared.place.Place.{Place}
 use Rattle.places.specs.Heaps.{IsNumbered, nowhere, place_at}
 use Rattle.places.specs.Sets.{Has}
+use Rattle.draft_steps.proofs.WalkDrafts.{place-among}
 use Rattle.draft_steps.proofs.queue.insert_all.Goals as goal
 
 pub insert-requires-clause-place : goal.insert-requires-clause-place
@@ -24,6 +25,11 @@ loop-place-preserved c =
       places = All-more (λ (q : Place). Has new q.block q.number) places index nowhere c.loop-place-test.true
           (All-weaker (λ (q : Place). Has old q.block q.number) (λ (q : Place). Has new q.block q.number) (λ q had. (added q.block q.number).1 (inr had)) (take index places) h.places)
           ((added p.block p.number).1 (inl (refl, refl)));
+      only = λ b n has. elim ((added b n).0 has) [
+        | inl (here, this) ↦ inr (subst (λ (k : ℕ). Contains places (record { block = k; number = n })) here
+            (subst (λ (m : ℕ). Contains places (record { block = p.block; number = m })) this (place-among places index c.loop-place-test.true)))
+        | inr had ↦ h.only b n had
+      ];
     }
 
 pub returns-clause-places : goal.returns-clause-places

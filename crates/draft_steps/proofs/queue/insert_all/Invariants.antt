@@ -1,4 +1,4 @@
-use Rattle.std.proofs.Common.{ℕ, All, take}
+use Rattle.std.proofs.Common.{◌⊎◌, ℕ, All, Contains, take}
 use Rattle.places.specs.Sets.{Has}
 use Rattle.places.specs.Waiting.{IsArranged}
 use Rattle.draft_steps.proofs.queue.insert_all.Given as goal
@@ -10,4 +10,5 @@ invariant-loop-place l =
       arranged : IsArranged l.orders l.waiting;
       stay : (b n : ℕ) → Has l.initial.waiting.marks b n → Has l.waiting.marks b n;
       places : All (λ p. Has l.waiting.marks p.block p.number) (take l.place-index l.places);
+      only : (b n : ℕ) → Has l.waiting.marks b n → Has l.initial.waiting.marks b n ⊎ Contains l.places (record { block = b; number = n });
     }

@@ -9,7 +9,7 @@ of-requires-2-clause-known c = c.requires.checks.formed.registers
 pub returns-clause-settled : goal.returns-clause-settled
 returns-clause-settled c =
     let d : Draft = record { arena = c.args.f; facts = c.in_ok-facts.facts; orders = c.in_ok-orders.orders; stand = c.in_ok-stand.stand; readers = c.in_ok-readers.readers; fallen = c.new.result } in
-    settled_at_first d c.requires.checks c.requires.blocks (few_of c.args.f c.requires.insts) c.in_ok-orders.ensures c.in_ok-stand.ensures c.in_ok-facts.ensures c.in_ok-readers.ensures c.new.ensures.items
+    settled_at_first d c.requires.checks c.requires.blocks (few_of c.args.f c.requires.insts) c.in_ok-orders.ensures c.in_ok-stand.ensures c.in_ok-facts.ensures c.in_ok-readers.ensures.readers c.new.ensures.items
 
 pub returns-clause-function : goal.returns-clause-function
 returns-clause-function c =

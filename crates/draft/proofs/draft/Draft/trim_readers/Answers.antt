@@ -1,4 +1,4 @@
-use Rattle.std.proofs.Common.{◌↔◌, List, Contains, subst}
+use Rattle.std.proofs.Common.{◌↔◌, ◌∙◌, List, Contains, subst}
 use Rattle.ir_core.specs.declared.operand.Operand.TheVariants as operands
 use Rattle.readers.specs.Counts.{operands_at}
 use Rattle.places.specs.declared.place.Place.{Place}
@@ -31,3 +31,6 @@ returns-clause-exact c =
     let kept = c.readers_among-listed.result in
     trimmed_exact d.arena c.args.register _ kept d.readers c.exchange-listed.new.self c.exchange.new.self c.requires.whole.readers c.exchange-listed.ensures.is c.exchange.ensures.is
     (λ p. subst (λ (l : List Place). Contains kept p ↔ (Contains l p × Contains (operands_at d.arena p) (operands.Register c.args.register))) c.exchange-listed.ensures.was (c.readers_among-listed.ensures p))
+
+pub returns-clause-others : goal.returns-clause-others
+returns-clause-others c = λ r apart. c.exchange.ensures.is.others r apart ∙ c.exchange-listed.ensures.is.others r apart

@@ -1,5 +1,5 @@
 -- What the walk came to is put in, and forgotten.
-use Rattle.std.proofs.Common.{All, Contains, sym, subst, ◌∙◌}
+use Rattle.std.proofs.Common.{inl, inr, All, Contains, sym, subst, ◌∙◌}
 use Rattle.std.proofs.lemmas.List.Elements.{All-contains}
 use Rattle.places.specs.declared.place.Place.{Place}
 use Rattle.places.specs.Heaps.{IsNumbered}
@@ -39,3 +39,9 @@ pub returns-clause-reaching : goal.returns-clause-reaching
 returns-clause-reaching c = λ p n there stands reaches.
     All-contains (λ (q : Place). Has c.insert_all.new.waiting.marks q.block q.number) c.as_slice-2.result.now (record { block = p.block; number = n }) c.in_ok-insert_all.ensures.places
     (subst (λ l. Contains l (record { block = p.block; number = n })) (sym c.as_slice-2.ensures.value) (c.in_ok-reach.ensures.reached p n there stands reaches))
+
+pub returns-clause-only : goal.returns-clause-only
+returns-clause-only c = λ b n waits. elim (c.in_ok-insert_all.ensures.only b n waits) [
+  | inl before ↦ inl before
+  | inr among ↦ inr (c.in_ok-reach.ensures.only b n (subst (λ l. Contains l (record { block = b; number = n })) c.as_slice-2.ensures.value among))
+]

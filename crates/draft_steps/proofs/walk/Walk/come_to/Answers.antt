@@ -1,8 +1,10 @@
-use Rattle.std.proofs.Common.{◌≡◌, true, arith}
+use Rattle.std.proofs.Common.{◌≡◌, inl, inr, true, subst, arith}
 use Rattle.std.proofs.lemmas.Bool.{iff_false}
 use Rattle.ir_core.specs.Blocks.{HasInst}
 use Rattle.draft.proofs.Wholeness.{few_insts, stands_there}
-use Rattle.draft_steps.proofs.WalkSteps.{walk-more}
+use Rattle.draft.specs.Drafts.{Stands}
+use Rattle.places.specs.declared.place.Place.{Place}
+use Rattle.draft_steps.proofs.WalkSteps.{only-pushed, walk-more}
 use Rattle.draft_steps.proofs.walk.Walk.come_to.Goals as goal
 use Rattle.draft_steps.proofs.walk.Walk.come_to.Goals.{else-place-ne-END-via-then-place-ne-END+then-stands+else-not-has, else-place-ne-END-via-then-place-ne-END+else-stands, else-place-ne-END-via-else-place-ne-END}
 
@@ -26,3 +28,14 @@ returns-else-place-ne-END-clause-came c = λ stands.
       | else-place-ne-END-via-then-place-ne-END+else-stands w ↦ absurd (iff_false w.stands.ensures w.if-stands.false stands)
       | else-place-ne-END-via-else-place-ne-END w ↦ absurd (let end = w.if-place-ne-END.false in omega arith)
     ]
+
+pub returns-in_ok-push-clause-only : goal.returns-in_ok-push-clause-only
+returns-in_ok-push-clause-only c = λ b n came.
+    let stands = c.stands.ensures.0 c.if-stands.true in
+    elim (only-pushed c.args.self.now (record { reached = c.insert.new.self; found = c.push.new.self }) c.args.place b n c.in_ok-push.ensures.items came) [
+      | inl before ↦ inl before
+      | inr is ↦ inr (subst (λ (p : Place). Stands c.args.draft.now p.block p.number) is stands, is)
+    ]
+
+pub returns-else-place-ne-END-clause-only : goal.returns-else-place-ne-END-clause-only
+returns-else-place-ne-END-clause-only c = λ b n came. inl came

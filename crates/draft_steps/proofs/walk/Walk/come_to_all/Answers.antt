@@ -1,4 +1,4 @@
-use Rattle.std.proofs.Common.{◌≡◌, inl, inr, subst, ◌∙◌, arith}
+use Rattle.std.proofs.Common.{◌≡◌, inl, inr, Contains, subst, ◌∙◌, arith}
 use Rattle.std.proofs.lemmas.Bool.{cases_eq}
 use Rattle.std.proofs.lemmas.List.{get_or_default}
 use Rattle.std.proofs.lemmas.List.Elements.{All-get_or}
@@ -6,8 +6,9 @@ use Rattle.places.specs.declared.place.Place.{Place}
 use Rattle.draft.specs.Drafts.{Stands}
 use Rattle.places.specs.Heaps.{nowhere, place_at}
 use Rattle.readers.specs.Readers.{IsPlaceIn}
-use Rattle.draft_steps.specs.Walks.{Came}
-use Rattle.draft_steps.proofs.WalkSteps.{came-further, further-same, further-twice}
+use Rattle.draft_steps.specs.Walks.{Came, StandsAt, StandsAtOneOf}
+use Rattle.draft_steps.proofs.WalkDrafts.{place-among}
+use Rattle.draft_steps.proofs.WalkSteps.{came-further, further-same, further-twice, only-more, only-twice}
 use Rattle.draft_steps.proofs.walk.Walk.come_to_all.Goals as goal
 
 pub come_to-requires-clause-place : goal.come_to-requires-clause-place
@@ -18,6 +19,7 @@ loop-place-init c = record {
   walk = c.requires.walk;
   further = further-same c.args.self.now;
   came = λ k below. absurd (omega arith);
+  only = λ b n came. inl came;
 }
 
 pub loop-place-preserved : goal.loop-place-preserved
@@ -29,6 +31,7 @@ loop-place-preserved c =
     let places = c.args.places.now in
     let index = c.loop-place.place-index in
     let on = c.in_ok-come_to.ensures.further in
+    let among = place-among places index c.loop-place-test.true in
     record {
       walk = c.in_ok-come_to.ensures.walk;
       further = further-twice c.args.self.now old new h.further on;
@@ -36,6 +39,8 @@ loop-place-preserved c =
         | inl e ↦ subst (λ i. Stands d (place_at places i).block (place_at places i).number → Came new (place_at places i).block (place_at places i).number) e c.in_ok-come_to.ensures.came
         | inr ne ↦ λ stands. came-further old new (place_at places k).block (place_at places k).number on (h.came k (omega arith) stands)
       ];
+      only = only-twice (StandsAtOneOf d places) c.args.self.now old new h.only
+          (only-more (StandsAt d (place_at places index)) (StandsAtOneOf d places) old new (λ b n at. (at.0, subst (Contains places) at.1 among)) c.in_ok-come_to.ensures.only);
     }
 
 pub returns-clause-came : goal.returns-clause-came

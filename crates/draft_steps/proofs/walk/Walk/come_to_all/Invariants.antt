@@ -1,7 +1,7 @@
 use Rattle.std.proofs.Common.{ℕ, ◌<◌}
 use Rattle.draft.specs.Drafts.{Stands}
 use Rattle.places.specs.Heaps.{place_at}
-use Rattle.draft_steps.specs.Walks.{Came, IsFurther, IsWalk}
+use Rattle.draft_steps.specs.Walks.{Came, CameOnlyTo, IsFurther, IsWalk, StandsAtOneOf}
 use Rattle.draft_steps.proofs.walk.Walk.come_to_all.Given as goal
 
 -- it came to the places before this one
@@ -11,4 +11,5 @@ invariant-loop-place l =
       walk : IsWalk l.draft l.self;
       further : IsFurther l.initial.self l.self;
       came : (k : ℕ) → k < l.place-index → Stands l.draft (place_at l.places k).block (place_at l.places k).number → Came l.self (place_at l.places k).block (place_at l.places k).number;
+      only : CameOnlyTo (StandsAtOneOf l.draft l.places) l.initial.self l.self;
     }

@@ -1,4 +1,4 @@
-use Rattle.std.proofs.Common.{◌≡◌, ℕ, ◌+◌, ◌<◌, inl, inr, List, Contains, length, refl, sym, subst, ◌∙◌, arith}
+use Rattle.std.proofs.Common.{◌≡◌, ℕ, ◌+◌, ◌<◌, inl, inr, List, Contains, length, refl, sym, ap, subst, ◌∙◌, arith}
 use Rattle.std.proofs.lemmas.Bool.{cases_eq}
 use Rattle.std.proofs.lemmas.List.{get_or_default}
 use Rattle.ir_core.specs.declared.function.Function.{Function}
@@ -6,13 +6,13 @@ use Rattle.ir_core.specs.declared.operand.Register.TheVariants as registers
 use Rattle.draft.specs.Drafts.{Stands}
 use Rattle.places.specs.Heaps.{nowhere, place_at}
 use Rattle.readers.specs.Readers.{IsPlaceIn, IsReader}
-use Rattle.draft_steps.specs.Walks.{Came, IsFurther, IsSameDraft, IsWalk}
+use Rattle.draft_steps.specs.Walks.{Came, CameOnlyTo, IsFurther, IsSameDraft, IsWalk, ReadsHere, StandsAt}
 use Rattle.draft.specs.declared.draft.Draft.{Draft}
 use Rattle.places.specs.declared.place.Place.{Place}
 use Rattle.draft_steps.specs.declared.walk.Walk.{Walk}
-use Rattle.draft_steps.proofs.SameDrafts.{stays}
+use Rattle.draft_steps.proofs.SameDrafts.{stays, stood}
 use Rattle.draft_steps.proofs.WalkDrafts.{place-among, walk-by}
-use Rattle.draft_steps.proofs.WalkSteps.{came-further, further-same, further-twice}
+use Rattle.draft_steps.proofs.WalkSteps.{came-further, further-same, further-twice, only-more, only-twice}
 use Rattle.draft.proofs.Wholeness.{stands_there}
 use Rattle.draft_steps.proofs.walk.Walk.come_to_readers.Goals as goal
 use Rattle.draft_steps.proofs.walk.Walk.come_to_readers.Goals.{then-reader-place+in_ok-come_to, else-reader-place}
@@ -27,6 +27,15 @@ one_more d b places was now index further so_far this k below = elim (cases_eq i
   | inl e ↦ subst (λ (i : ℕ). CameIn d b now (place_at places i)) e this
   | inr ne ↦ λ same stands. came-further was now (place_at places k).block (place_at places k).number further (so_far k (omega arith) same stands)
 ]
+
+-- what reads a register of the draft with fewer listed for it reads it
+reads_here : (old new : Draft) (same : IsSameDraft old new) (place p : Place) → p.block ≡ place.block → IsReader new.arena (registers.Result place.block place.number) p
+    → (b n : ℕ) → StandsAt new p b n → ReadsHere old place b n
+reads_here old new same place p here reads b n (stands, is) = (
+  sym (ap (λ (q : Place). q.block) is) ∙ here,
+  stood old new same b n stands,
+  subst (λ (q : Place). IsReader old.arena (registers.Result place.block place.number) q) is (subst (λ (f : Function). IsReader f (registers.Result place.block place.number) p) same.arena reads),
+)
 
 pub come_to-requires-clause-walk : goal.come_to-requires-clause-walk
 come_to-requires-clause-walk c = walk-by c.args.draft.now c.trim_readers.new.self c.loop-reader.self c.trim_readers.ensures.arena c.loop-reader.invariant.walk
@@ -46,6 +55,8 @@ loop-reader-preserved c =
     let l = c.loop-reader in
     let places : List Place = c.readers_of-reader-items.result.now in
     let p : Place = place_at places l.reader-index in
+    let within : l.reader-index < length places = omega arith in
+    let reads = ((trimmed.exact p).0 (subst (λ (ps : List Place). Contains ps p) c.readers_of-reader-items.ensures.listed (place-among places l.reader-index within))).1 in
     elim c.if-reader-place.branch [
       | then-reader-place+in_ok-come_to w ↦
           let on = w.in_ok-come_to.ensures in
@@ -55,6 +66,8 @@ loop-reader-preserved c =
             further = further-twice c.args.self.now l.self c.if-reader-place.self l.invariant.further further;
             came = one_more old c.args.place.block places l.self c.if-reader-place.self l.reader-index further l.invariant.came
                 (λ here stands. subst (λ (s : Walk). Came s p.block p.number) (sym w.self-is) (on.came (stays old new same p.block p.number stands)));
+            only = only-twice (ReadsHere old c.args.place) c.args.self.now l.self c.if-reader-place.self l.invariant.only (subst (CameOnlyTo (ReadsHere old c.args.place) l.self) (sym w.self-is)
+                (only-more (StandsAt new p) (ReadsHere old c.args.place) l.self w.come_to.new.self (reads_here old new same c.args.place p w.if-reader-place.true reads) on.only));
           }
       | else-reader-place w ↦
           let further : IsFurther l.self c.if-reader-place.self = subst (IsFurther l.self) (sym w.self-is) (further-same l.self) in
@@ -63,6 +76,7 @@ loop-reader-preserved c =
             further = further-twice c.args.self.now l.self c.if-reader-place.self l.invariant.further further;
             came = one_more old c.args.place.block places l.self c.if-reader-place.self l.reader-index further l.invariant.came
                 (λ here stands. absurd (w.if-reader-place.false here));
+            only = subst (CameOnlyTo (ReadsHere old c.args.place) c.args.self.now) (sym w.self-is) l.invariant.only;
           }
     ]
 

@@ -1,7 +1,7 @@
 use Rattle.std.proofs.Common.{◌≡◌, ℕ, ◌<◌}
 use Rattle.draft.specs.Drafts.{Stands}
 use Rattle.places.specs.Heaps.{place_at}
-use Rattle.draft_steps.specs.Walks.{Came, IsFurther, IsWalk}
+use Rattle.draft_steps.specs.Walks.{Came, CameOnlyTo, IsFurther, IsWalk, ReadsHere}
 use Rattle.draft_steps.proofs.walk.Walk.come_to_readers.Given as goal
 
 -- it came to the readers before this one that stand in the block
@@ -12,4 +12,5 @@ invariant-loop-reader l =
       further : IsFurther l.initial.self l.self;
       came : (k : ℕ) → k < l.reader-index → (place_at l.reader-items k).block ≡ l.fn.place.block → Stands l.fn.draft (place_at l.reader-items k).block (place_at l.reader-items k).number
           → Came l.self (place_at l.reader-items k).block (place_at l.reader-items k).number;
+      only : CameOnlyTo (ReadsHere l.fn.draft l.fn.place) l.initial.self l.self;
     }

@@ -1,13 +1,13 @@
-use Rattle.std.proofs.Common.{◌≡◌, ℕ, ◌<◌, ◌≤◌, inl, inr, length, length-append, sym, ap, subst, ◌∙◌, arith}
+use Rattle.std.proofs.Common.{◌≡◌, ℕ, ◌<◌, ◌≤◌, inl, inr, Contains, length, length-append, sym, ap, subst, ◌∙◌, arith}
 use Rattle.std.proofs.lemmas.Bool.{cases_eq}
 use Rattle.std.proofs.lemmas.List.{get_or_default}
 use Rattle.ir_core.specs.Blocks.{HasInst}
 use Rattle.places.specs.Heaps.{nowhere, place_at}
-use Rattle.draft_steps.specs.Walks.{IsFurther, ReadersCame}
+use Rattle.draft_steps.specs.Walks.{IsFurther, ReadersCame, ReadsHere, ReadsOneOf}
 use Rattle.places.specs.declared.place.Place.{Place}
 use Rattle.draft_steps.specs.declared.walk.Walk.{Walk}
-use Rattle.draft_steps.proofs.WalkDrafts.{place-further, readers-by, same-twice}
-use Rattle.draft_steps.proofs.WalkSteps.{came-further, further-twice}
+use Rattle.draft_steps.proofs.WalkDrafts.{place-among, place-further, readers-by, reads-by, same-twice}
+use Rattle.draft_steps.proofs.WalkSteps.{came-further, further-twice, only-more, only-twice}
 use Rattle.draft_steps.proofs.walk.Walk.follow.Goals as goal
 
 longer : (u v : Walk) → IsFurther u v → length u.found.items ≤ length v.found.items
@@ -31,6 +31,7 @@ loop-index-preserved c =
     let long = longer first l.self l.invariant.further in
     let place_is : c.index-place.result.now ≡ place_at first.found.items l.index =
     c.index-place.ensures ∙ get_or_default l.self.found.items l.index c.index-place.result.now nowhere (omega arith) ∙ place-further first l.self l.index l.invariant.further within in
+    let among : Contains first.found.items c.index-place.result.now = subst (Contains first.found.items) (sym place_is) (place-among first.found.items l.index within) in
     record {
       draft = same-twice old l.draft c.come_to_readers.new.draft l.invariant.draft on.draft;
       walk = on.walk;
@@ -40,4 +41,6 @@ loop-index-preserved c =
             (subst (ReadersCame old new) place_is (readers-by old l.draft l.invariant.draft new c.index-place.result.now on.came))
         | inr ne ↦ λ n stands reads. came-further l.self new (place_at first.found.items k).block n on.further (l.invariant.came k low (omega arith) n stands reads)
       ];
+      only = only-twice (ReadsOneOf old first.found.items) first l.self new l.invariant.only (only-more (ReadsHere l.draft c.index-place.result.now) (ReadsOneOf old first.found.items) l.self new
+          (λ b n reads. (c.index-place.result.now, among, reads-by old l.draft l.invariant.draft c.index-place.result.now b n reads)) on.only);
     }

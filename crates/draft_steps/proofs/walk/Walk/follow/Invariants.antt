@@ -1,6 +1,6 @@
 use Rattle.std.proofs.Common.{ℕ, ◌<◌, ◌≤◌}
 use Rattle.places.specs.Heaps.{place_at}
-use Rattle.draft_steps.specs.Walks.{IsFurther, IsSameDraft, IsWalk, ReadersCame}
+use Rattle.draft_steps.specs.Walks.{CameOnlyTo, IsFurther, IsSameDraft, IsWalk, ReadersCame, ReadsOneOf}
 use Rattle.draft_steps.proofs.walk.Walk.follow.Given as goal
 
 -- it came to what reads the places before this one
@@ -11,4 +11,5 @@ invariant-loop-index l =
       walk : IsWalk l.draft l.self;
       further : IsFurther l.initial.self l.self;
       came : (k : ℕ) → l.fn.from ≤ k → k < l.index → ReadersCame l.initial.draft l.self (place_at l.initial.self.found.items k);
+      only : CameOnlyTo (ReadsOneOf l.initial.draft l.initial.self.found.items) l.initial.self l.self;
     }

@@ -1,4 +1,4 @@
-use Rattle.std.proofs.Common.{◌≡◌, ℕ, suc, ◌+◌, ◌<◌, ◌≤◌, inl, inr, length, length-append, sym, ap, subst, ◌∙◌, arith}
+use Rattle.std.proofs.Common.{◌≡◌, ℕ, zero, suc, ◌+◌, ◌<◌, ◌≤◌, inl, inr, List, [], Contains, length, refl, length-append, sym, ap, subst, ◌∙◌, arith}
 use Rattle.std.proofs.lemmas.Bool.{cases_lt}
 use Rattle.std.proofs.lemmas.List.{get_or_default}
 use Rattle.ir_core.specs.declared.operand.Register.TheVariants as registers
@@ -6,14 +6,14 @@ use Rattle.needed.specs.Needed.{ReadsRegister}
 use Rattle.draft.specs.Drafts.{Reaches, Stands}
 use Rattle.places.specs.Heaps.{nowhere, place_at}
 use Rattle.readers.specs.Readers.{IsReader, arena_place}
-use Rattle.draft_steps.specs.Walks.{Came, IsFurther, IsSameDraft, ReadersCame}
+use Rattle.draft_steps.specs.Walks.{Came, CameOnlyTo, IsFurther, IsSameDraft, ReachesOneOf, ReadersCame, ReadsHere, ReadsOneOf}
 use Rattle.draft.specs.Whole.{IsSettled}
 use Rattle.draft.specs.declared.draft.Draft.{Draft}
 use Rattle.places.specs.declared.place.Place.{Place}
 use Rattle.draft_steps.specs.declared.walk.Walk.{Walk}
 use Rattle.readers.proofs.Reading.{arena_place_inst}
-use Rattle.draft_steps.proofs.WalkDrafts.{place-further, reaches-itself, readers-by, same-itself, same-twice}
-use Rattle.draft_steps.proofs.WalkSteps.{came-further}
+use Rattle.draft_steps.proofs.WalkDrafts.{place-further, reaches-itself, readers-by, reads-by, same-itself, same-twice}
+use Rattle.draft_steps.proofs.WalkSteps.{came-further, only-more}
 use Rattle.draft.proofs.Wholeness.{few_insts, stands_there}
 use Rattle.draft_steps.proofs.walk.Walk.reach.Goals as goal
 
@@ -48,6 +48,35 @@ reached_next d settled was now level b m further readers before n stands (inr (k
     let found : place_at now.found.items there.0 ≡ q = place-further was now there.0 further there.1 ∙ get_or_default was.found.items there.0 nowhere q there.1 ∙ there.2 in
     subst (ReadersCame d now) found (readers there.0 there.1) n stands reads
 
+none_there : (places : List Place) (p : Place) → places ≡ [] → ¬ Contains places p
+none_there places p none (k, within, is) = let size = ap length none in absurd (omega arith)
+
+reaches_more : (d : Draft) (depth b n m : ℕ) → Reaches d depth b n m → Reaches d (suc depth) b n m
+reaches_more d zero b n m same = inl same
+reaches_more d (suc depth) b n m (inl same) = inl same
+reaches_more d (suc depth) b n m (inr (k, i, r, stands, is_read, operand, rest)) = inr (k, i, r, stands, is_read, operand, reaches_more d depth b k m rest)
+
+-- what reads one that reaches a place reaches it through one operand more
+reads_reaches : (d : Draft) (settled : IsSettled d) (level : ℕ) (places : List Place) (p : Place) (b n : ℕ) → ReachesOneOf d level places p.block p.number → ReadsHere d p b n → ReachesOneOf d (suc level) places b n
+reads_reaches d settled level places p b n (q, among, same, stood, reaches) (here, stands, reads) =
+    let stands_here : Stands d p.block n = subst (λ (x : ℕ). Stands d x n) here stands in
+    let (block, at, within) = stands_there d settled.whole p.block n stands_here in
+    let few = few_insts d settled.whole p.block block at in
+    let reader : Place = record { block = p.block; number = n } in
+    let place : arena_place d.arena reader ≡ n = arena_place_inst d.arena reader (omega arith) in
+    let read : ReadsRegister d.arena p.block n (registers.Result p.block p.number) =
+    subst (λ (x : ℕ). ReadsRegister d.arena p.block x (registers.Result p.block p.number)) place
+    (subst (λ (x : ℕ). IsReader d.arena (registers.Result p.block p.number) (record { block = x; number = n })) here reads) in
+    subst (λ (x : ℕ). ReachesOneOf d (suc level) places x n) (sym here)
+    (q, among, same, stands_here, inr (p.number, read.operand, read.read, stands_here, read.is_read, read.reads, reaches))
+
+only_next : (d : Draft) (settled : IsSettled d) (level : ℕ) (places : List Place) (was now : Walk) → ((b n : ℕ) → Came was b n → ReachesOneOf d level places b n)
+    → CameOnlyTo (ReadsOneOf d was.found.items) was now → (b n : ℕ) → Came now b n → ReachesOneOf d (suc level) places b n
+only_next d settled level places was now before only b n came = elim (only b n came) [
+  | inl early ↦ let (q, among, same, stands, reaches) = before b n early in (q, among, same, stands, reaches_more d level b n q.number reaches)
+  | inr (p, among, reads) ↦ reads_reaches d settled level places p b n (before p.block p.number among) reads
+]
+
 pub loop-level-init : goal.loop-level-init
 loop-level-init c = record {
   draft = same-itself c.args.draft.now c.requires.settled.whole;
@@ -57,6 +86,10 @@ loop-level-init c = record {
   reached = λ p n there stands reaches.
       let same : n ≡ p.number = reaches in
       subst (λ (m : ℕ). Came c.come_to_all.new.self p.block m) (sym same) (c.in_ok-come_to_all.ensures.came p there (subst (Stands c.args.draft.now p.block) same stands));
+  only = λ b n came. elim (c.in_ok-come_to_all.ensures.only b n came) [
+    | inl before ↦ absurd (none_there c.args.self.now.found.items (record { block = b; number = n }) c.requires.idle.none before)
+    | inr (stands, among) ↦ (record { block = b; number = n }, among, refl, stands, refl)
+  ];
 }
 
 pub loop-level-preserved : goal.loop-level-preserved
@@ -73,6 +106,8 @@ loop-level-preserved c =
     let size = ap length on.further.is ∙ length-append l.self.found.items on.further.more in
     let readers : (k : ℕ) → k < length l.self.found.items → ReadersCame d now (place_at now.found.items k) =
     readers_next d l.draft inv.draft l.self now l.next (length l.self.found.items) on.further (omega arith) inv.next inv.read (λ k above below. on.came k above (omega arith)) in
+    let only = only-more (ReadsOneOf l.draft l.self.found.items) (ReadsOneOf d l.self.found.items) l.self now
+    (λ b n it. (it.0, it.1, reads-by d l.draft inv.draft it.0 b n it.2)) on.only in
     record {
       draft = same-twice d l.draft c.follow.new.draft inv.draft on.draft;
       walk = on.walk;
@@ -82,6 +117,9 @@ loop-level-preserved c =
           let one : l._level + 1 ≡ suc l._level = omega arith in
           reached_next d c.requires.settled l.self now l._level p.block p.number on.further readers (λ m m_stands m_reaches. inv.reached p m there m_stands m_reaches) n stands
           (subst (λ (k : ℕ). Reaches d k p.block n p.number) one reaches);
+      only = λ b n came.
+          let one : suc l._level ≡ l._level + 1 = omega arith in
+          subst (λ (k : ℕ). ReachesOneOf d k c.args.places.now b n) one (only_next d c.requires.settled l._level c.args.places.now l.self now inv.only only b n came);
     }
 
 pub returns-clause-reached : goal.returns-clause-reached
@@ -89,3 +127,9 @@ returns-clause-reached c = λ p n there stands reaches.
     let l = c.loop-level in
     let all : c.args.depth ≡ l._level = omega arith in
     l.invariant.reached p n there stands (subst (λ (k : ℕ). Reaches c.args.draft.now k p.block n p.number) all reaches)
+
+pub returns-clause-only : goal.returns-clause-only
+returns-clause-only c = λ b n came.
+    let l = c.loop-level in
+    let all : l._level ≡ c.args.depth = omega arith in
+    subst (λ (k : ℕ). ReachesOneOf c.args.draft.now k c.args.places.now b n) all (l.invariant.only b n came)

@@ -2,7 +2,7 @@ use Rattle.std.proofs.Common.{ℕ, ◌<◌, ◌≤◌, length, Contains}
 use Rattle.places.specs.declared.place.Place.{Place}
 use Rattle.draft.specs.Drafts.{Reaches, Stands}
 use Rattle.places.specs.Heaps.{place_at}
-use Rattle.draft_steps.specs.Walks.{Came, IsSameDraft, IsWalk, ReadersCame}
+use Rattle.draft_steps.specs.Walks.{Came, IsSameDraft, IsWalk, ReachesOneOf, ReadersCame}
 use Rattle.draft_steps.proofs.walk.Walk.reach.Given as goal
 
 -- it came to what reaches the places through so many operands, and to what reads all that it came to before the last level
@@ -14,4 +14,5 @@ invariant-loop-level l =
       next : l.next ≤ length l.self.found.items;
       read : (k : ℕ) → k < l.next → ReadersCame l.initial.draft l.self (place_at l.self.found.items k);
       reached : (p : Place) (n : ℕ) → Contains l.places p → Stands l.initial.draft p.block n → Reaches l.initial.draft l._level p.block n p.number → Came l.self p.block n;
+      only : (b n : ℕ) → Came l.self b n → ReachesOneOf l.initial.draft l._level l.places b n;
     }

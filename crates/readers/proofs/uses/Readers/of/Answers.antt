@@ -11,5 +11,8 @@ list_block-requires-clause-there c = c.loop-block.invariant.there
 pub loop-block-preserved : goal.loop-block-preserved
 loop-block-preserved c = one_before c.args.f.now c.loop-block.block c.loop-block.readers c.list_block.new.self c.loop-block.invariant c.in_ok-list_block.ensures.there c.in_ok-list_block.ensures.listed
 
-pub returns : goal.returns
-returns c = all_before c.args.f.now c.loop-block.block c.loop-block.readers (omega arith) c.loop-block.invariant
+pub returns-clause-readers : goal.returns-clause-readers
+returns-clause-readers c = all_before c.args.f.now c.loop-block.block c.loop-block.readers (omega arith) c.loop-block.invariant
+
+pub returns-clause-only : goal.returns-clause-only
+returns-clause-only c = λ r p there. ((c.loop-block.invariant.listed r p).0 there).2
