@@ -1,26 +1,18 @@
 //! Operations on words of three bits, decided by the search over the clauses of their graph.
-ghost use Rattle.std.specs.Prelude.{◌≤◌, length, IfOk};
+ghost use Rattle.std.specs.Prelude.{◌≡◌, ◌<◌, ◌≤◌, length, IfOk};
 ghost use Rattle.std.specs.List.{All};
 ghost use Rattle.circuits.specs.Circuit.{Keeps};
 
-use super::operations::{OPERATIONS, Operation, answer};
-use super::words::{bits, constant, word};
+use super::operations::{OPERATIONS, Operation, Question, answer};
+use super::words::{constant, word};
 use aig::Aig;
 use cdcl_log::{Found, search};
 use circuits::{Bits, Circuit, equal};
 use clauses::Cnf;
 use cnf_build::clauses_of;
 use std::alloc::{AllocError, Global};
+use std::process::Abort;
 use std::test::Fail;
-
-/// The numbers of two words of three bits, and what is claimed of them.
-#[derive(Clone, Copy, Debug)]
-struct Claim {
-    operation: Operation,
-    a: i64,
-    b: i64,
-    answer: u64,
-}
 
 /// The number of three bits in two's complement.
 fn signed(word: i64) -> i64 {
@@ -33,29 +25,28 @@ fn overflows(number: i64, least: i64, most: i64) -> i64 {
 }
 
 /// What whole-number arithmetic says, if it says something.
-fn answer_of(operation: Operation, a: i64, b: i64) -> Option<u64> {
+fn whole_number(operation: Operation, a: i64, b: i64) -> Option<i64> {
     let x = signed(a);
     let y = signed(b);
-    let number = match operation {
-        Operation::Product => a.wrapping_mul(b),
-        Operation::SumOverflows => overflows(a.wrapping_add(b), 0, 7),
-        Operation::SignedSumOverflows => overflows(x.wrapping_add(y), -4, 3),
-        Operation::DifferenceOverflows => overflows(a.wrapping_sub(b), 0, 7),
-        Operation::SignedDifferenceOverflows => overflows(x.wrapping_sub(y), -4, 3),
-        Operation::ProductOverflows => overflows(a.wrapping_mul(b), 0, 7),
-        Operation::SignedProductOverflows => overflows(x.wrapping_mul(y), -4, 3),
-        Operation::Quotient => a.checked_div(b)?,
-        Operation::Remainder => a.checked_rem(b)?,
-        Operation::SignedQuotient if x == -4 && y == -1 => return None,
-        Operation::SignedRemainder if x == -4 && y == -1 => return None,
-        Operation::SignedQuotient => x.checked_div(y)?,
-        Operation::SignedRemainder => x.checked_rem(y)?,
-    };
-    u64::try_from(number.rem_euclid(8)).ok()
+    match operation {
+        Operation::Product => Some(a.wrapping_mul(b)),
+        Operation::SumOverflows => Some(overflows(a.wrapping_add(b), 0, 7)),
+        Operation::SignedSumOverflows => Some(overflows(x.wrapping_add(y), -4, 3)),
+        Operation::DifferenceOverflows => Some(overflows(a.wrapping_sub(b), 0, 7)),
+        Operation::SignedDifferenceOverflows => Some(overflows(x.wrapping_sub(y), -4, 3)),
+        Operation::ProductOverflows => Some(overflows(a.wrapping_mul(b), 0, 7)),
+        Operation::SignedProductOverflows => Some(overflows(x.wrapping_mul(y), -4, 3)),
+        Operation::Quotient => a.checked_div(b),
+        Operation::Remainder => a.checked_rem(b),
+        Operation::SignedQuotient | Operation::SignedRemainder if x == -4 && y == -1 => None,
+        Operation::SignedQuotient => x.checked_div(y),
+        Operation::SignedRemainder => x.checked_rem(y),
+        Operation::Intrinsic(_) => None,
+    }
 }
 
 /// Whether a word has this number.
-pub(crate) fn is_number<C: Circuit>(
+fn is_number<C: Circuit>(
     alloc: Global,
     circuit: &mut C,
     word: &Bits<C::Literal>,
@@ -66,73 +57,169 @@ pub(crate) fn is_number<C: Circuit>(
     ensures own { IfOk result (λ same. C.has_literal circuit.new same) }
     ensures keeps { Keeps C.State circuit.old circuit.new }
 {
-    let values = bits(alloc, number, word.len())?;
-    let constant = constant(alloc, circuit, values.as_slice())?;
+    let constant = constant(alloc, circuit, number, word.len())?;
     equal(alloc, circuit, word, &constant)
 }
 
-/// Whether six inputs are the two words of a claim, and the claim holds; or, unless `holds`, another answer does.
-fn question<C: Circuit>(
+/// Whether the answer to two words is this number.
+fn is_answer<C: Circuit>(
     alloc: Global,
     circuit: &mut C,
-    claim: Claim,
+    operation: Operation,
+    a: &Bits<C::Literal>,
+    b: &Bits<C::Literal>,
+    number: u64,
+) -> Result<C::Literal, AllocError>
+    requires some { 0 < length a.now }
+    requires few { length a.now ≤ 64 }
+    requires same_width { length b.now ≡ length a.now }
+    requires own_a { All (C.has_literal circuit.old) a.now }
+    requires own_b { All (C.has_literal circuit.old) b.now }
+    ensures own { IfOk result (λ same. C.has_literal circuit.new same) }
+    ensures keeps { Keeps C.State circuit.old circuit.new }
+{
+    let answer = answer(alloc, circuit, operation, a, b)?;
+    is_number(alloc, circuit, &answer, number)
+}
+
+/// Whether two words are the numbers that are asked of.
+fn are_asked_of<C: Circuit>(
+    alloc: Global,
+    circuit: &mut C,
+    question: Question,
+    a: &Bits<C::Literal>,
+    b: &Bits<C::Literal>,
+) -> Result<C::Literal, AllocError>
+    requires few_a { length a.now ≤ 64 }
+    requires few_b { length b.now ≤ 64 }
+    requires own_a { All (C.has_literal circuit.old) a.now }
+    requires own_b { All (C.has_literal circuit.old) b.now }
+    ensures own { IfOk result (λ same. C.has_literal circuit.new same) }
+    ensures keeps { Keeps C.State circuit.old circuit.new }
+{
+    let a_is = is_number(alloc, circuit, a, question.a)?;
+    let b_is = is_number(alloc, circuit, b, question.b)?;
+    circuit.and(alloc, a_is, b_is)
+}
+
+/// Whether two words are those of a question, and the answer is this number; or, unless `holds`, is another.
+fn claim_of_words<C: Circuit>(
+    alloc: Global,
+    circuit: &mut C,
+    question: Question,
+    number: u64,
+    holds: bool,
+    a: &Bits<C::Literal>,
+    b: &Bits<C::Literal>,
+) -> Result<C::Literal, AllocError>
+    requires some { 0 < length a.now }
+    requires few { length a.now ≤ 64 }
+    requires same_width { length b.now ≡ length a.now }
+    requires own_a { All (C.has_literal circuit.old) a.now }
+    requires own_b { All (C.has_literal circuit.old) b.now }
+    ensures own { IfOk result (λ made. C.has_literal circuit.new made) }
+{
+    let asked = are_asked_of(alloc, circuit, question, a, b)?;
+    let agrees = is_answer(alloc, circuit, question.operation, a, b, number)?;
+    let claimed = if holds { agrees } else { circuit.not(agrees) };
+    circuit.and(alloc, asked, claimed)
+}
+
+/// The same of two words of inputs.
+fn claim<C: Circuit>(
+    alloc: Global,
+    circuit: &mut C,
+    question: Question,
+    number: u64,
     holds: bool,
 ) -> Result<C::Literal, AllocError>
-    ensures own { IfOk result (λ asked. C.has_literal circuit.new asked) }
+    requires some { 0 < question.width }
+    requires few { question.width ≤ 6 }
+    ensures own { IfOk result (λ made. C.has_literal circuit.new made) }
 {
-    let a = word(alloc, circuit, 3)?;
-    let b = word(alloc, circuit, 3)?;
-    let answer = answer(alloc, circuit, claim.operation, &a, &b)?;
-    let a_is = is_number(alloc, circuit, &a, claim.a.unsigned_abs())?;
-    let b_is = is_number(alloc, circuit, &b, claim.b.unsigned_abs())?;
-    let agrees = is_number(alloc, circuit, &answer, claim.answer)?;
-    let inputs_are = circuit.and(alloc, a_is, b_is)?;
-    let asked = if holds { agrees } else { circuit.not(agrees) };
-    circuit.and(alloc, inputs_are, asked)
+    let a = word(alloc, circuit, question.width)?;
+    let b = word(alloc, circuit, question.width)?;
+    claim_of_words(alloc, circuit, question, number, holds, &a, &b)
 }
 
-/// The clause set of a question, if its graph has six inputs and at most 300 gates.
-fn encoded(alloc: Global, claim: Claim, holds: bool) -> Result<Option<Cnf>, AllocError> {
-    let mut graph = Aig::new(alloc);
-    let root = question(alloc, &mut graph, claim, holds)?;
-    if graph.input_count() != 6 || graph.gates().len() > 300 {
+/// Whether a set has a model, where the search decides that.
+fn has_model(alloc: Global, set: &Cnf) -> Result<Option<bool>, AllocError> {
+    Ok(match search(alloc, set, 1000)? {
+        Found::Sat(_) => Some(true),
+        Found::Unsat(_) => Some(false),
+        Found::Limit(_) => None,
+    })
+}
+
+/// Whether a claim can be true, where the graph has the inputs of two words and at most 300 gates.
+fn decided_in(
+    alloc: Global,
+    graph: &mut Aig,
+    question: Question,
+    number: u64,
+    holds: bool,
+) -> Result<Option<bool>, AllocError>
+    requires some { 0 < question.width }
+    requires few { question.width ≤ 6 }
+{
+    let root = claim(alloc, graph, question, number, holds)?;
+    if graph.input_count() != 2 * question.width || graph.gates().len() > 300 {
         return Ok(None);
     }
-    Ok(Some(clauses_of(alloc, &graph, root)?))
+    let set = clauses_of(alloc, graph, root)?;
+    has_model(alloc, &set)
 }
 
-/// What the search finds of a question.
-fn decided(alloc: Global, claim: Claim, holds: bool) -> Result<Found, Fail> {
-    let set = encoded(alloc, claim, holds)?.ok_or("too many inputs or gates")?;
-    Ok(search(alloc, &set, 1000)?)
+/// Whether a claim can be true, by the clauses of a graph.
+fn decided(
+    alloc: Global,
+    question: Question,
+    number: u64,
+    holds: bool,
+) -> Result<Option<bool>, AllocError>
+    requires some { 0 < question.width }
+    requires few { question.width ≤ 6 }
+{
+    let mut graph = Aig::new(alloc);
+    decided_in(alloc, &mut graph, question, number, holds)
 }
 
-/// The claims of an operation about all words of three bits.
-fn claims(alloc: Global, operation: Operation) -> Result<Vec<Claim>, AllocError> {
-    let mut claims = Vec::new(alloc);
-    for setting in 0..64i64 {
-        let a = setting / 8;
-        let b = setting % 8;
-        if let Some(answer) = answer_of(operation, a, b) {
-            claims.push(Claim {
-                operation,
-                a,
-                b,
-                answer,
-            })?;
-        }
+/// Fails unless the search says that the answer can be no other number and, where that is asked, that it can be this one.
+pub(super) fn expect_decided(
+    rt: &impl Abort,
+    alloc: Global,
+    question: Question,
+    number: u64,
+    also_held: bool,
+) -> Result<(), AllocError>
+    requires some { 0 < question.width }
+    requires few { question.width ≤ 6 }
+{
+    let denied = decided(alloc, question, number, false)?;
+    assert!(rt; matches!(denied, Some(false)), "{question:?}");
+    if also_held {
+        let held = decided(alloc, question, number, true)?;
+        assert!(rt; matches!(held, Some(true)), "{question:?}");
     }
-    Ok(claims)
+    Ok(())
 }
 
 #[test]
 fn words_are_decided(rt: HostRuntime) -> Result<(), Fail> {
     for operation in &OPERATIONS {
-        for claim in claims(rt.alloc(), *operation)?.as_slice() {
-            let held = decided(rt.alloc(), *claim, true)?;
-            assert!(rt; matches!(&held, Found::Sat(_)), "{claim:?}");
-            let denied = decided(rt.alloc(), *claim, false)?;
-            assert!(rt; matches!(&denied, Found::Unsat(_)), "{claim:?}");
+        for setting in 0..64i64 {
+            let a = setting / 8;
+            let b = setting % 8;
+            let question = Question {
+                operation: *operation,
+                width: 3,
+                a: a.unsigned_abs(),
+                b: b.unsigned_abs(),
+            };
+            if let Some(number) = whole_number(*operation, a, b) {
+                let number = number.rem_euclid(8).unsigned_abs();
+                expect_decided(&rt, rt.alloc(), question, number, true)?;
+            }
         }
     }
     Ok(())

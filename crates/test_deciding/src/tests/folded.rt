@@ -132,7 +132,7 @@ fn pairs<C: Circuit>(
 }
 
 /// A formula, and how many gates its graph has.
-const GATES: [(Formula, usize); 14] = [
+static GATES: [(Formula, usize); 14] = [
     (Formula::AndTwice, 1),
     (Formula::XorOfNegations, 1),
     (Formula::MuxTurned, 1),
@@ -149,12 +149,22 @@ const GATES: [(Formula, usize); 14] = [
     (Formula::Resolution, 2),
 ];
 
+/// How many gates this graph has once it has made those of a formula.
+fn gate_count_in(alloc: Global, graph: &mut Aig, formula: Formula) -> Result<usize, AllocError> {
+    build(alloc, graph, formula)?;
+    Ok(graph.gates().len())
+}
+
+/// How many gates a graph makes of a formula.
+fn gate_count(alloc: Global, formula: Formula) -> Result<usize, AllocError> {
+    let mut graph = Aig::new(alloc);
+    gate_count_in(alloc, &mut graph, formula)
+}
+
 #[test]
 fn gates_are_folded(rt: HostRuntime) -> Result<(), Fail> {
-    for (formula, gates) in GATES {
-        let mut graph = Aig::new(rt.alloc());
-        build(rt.alloc(), &mut graph, formula)?;
-        assert_eq!(rt; graph.gates().len(), gates, "{formula:?}");
+    for (formula, gates) in &GATES {
+        assert_eq!(rt; gate_count(rt.alloc(), *formula)?, *gates, "{formula:?}");
     }
     Ok(())
 }

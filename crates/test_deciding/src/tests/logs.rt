@@ -1,7 +1,7 @@
 //! Small logs, of which it is seen by hand whether their steps follow; and logs that are packed.
 
-use super::repeated::{Clauses, clause, set};
-use clauses::{Log, Step};
+use super::repeated::{Clauses, clause, literal, set};
+use clauses::{Clause, Cnf, Log, Step};
 use lists::List;
 use packed_log::{pack, unpack};
 use rup_checker::{check, check_refutation};
@@ -12,16 +12,46 @@ use trimmed_logs::trimmed;
 /// The steps of a log, each with its literals and its hints.
 type Steps = &'static [(&'static [i16], &'static [u32])];
 
+/// A step of these literals and hints.
+fn step(alloc: Global, literals: &[i16], hints: &[u32]) -> Result<Step, AllocError> {
+    let clause = clause(alloc, literals)?;
+    let hints = List::from_vec(hints.to_vec(alloc)?);
+    Ok(Step { clause, hints })
+}
+
 /// The log of some steps.
-fn log(alloc: Global, steps: &[(&[i16], &[u32])]) -> Result<Log, AllocError> {
+fn log(alloc: Global, steps: Steps) -> Result<Log, AllocError> {
     let mut log = List::new(alloc);
     for (literals, hints) in steps {
-        log.push(Step {
-            clause: clause(alloc, literals)?,
-            hints: List::from_vec(hints.to_vec(alloc)?),
-        })?;
+        log.push(step(alloc, literals, hints)?)?;
     }
     Ok(log)
+}
+
+/// Whether a clause has these literals, in this order.
+fn has_literals(clause: &Clause, literals: &[i16]) -> bool {
+    if clause.len() != literals.len() {
+        return false;
+    }
+    for (found, number) in clause.as_slice().iter().zip(literals) {
+        if *found != literal(*number) {
+            return false;
+        }
+    }
+    true
+}
+
+/// Whether a log has these steps, in this order.
+fn has_steps(log: &Log, steps: Steps) -> bool {
+    if log.len() != steps.len() {
+        return false;
+    }
+    for (step, (literals, hints)) in log.as_slice().iter().zip(steps) {
+        if !has_literals(&step.clause, literals) || step.hints.as_slice() != *hints {
+            return false;
+        }
+    }
+    true
 }
 
 /// Two clauses that contradict one another.
@@ -31,7 +61,7 @@ const OPPOSED: Clauses = &[&[1], &[-1]];
 const FULL: Clauses = &[&[1, 2], &[1, -2], &[-1, 2], &[-1, -2]];
 
 /// Clauses, a log over them, whether each of its steps follows, and whether it refutes them.
-const CHECKED: [(Clauses, Steps, bool, bool); 11] = [
+static CHECKED: [(Clauses, Steps, bool, bool); 11] = [
     (&[&[]], &[(&[], &[0])], true, true),
     // the empty clause doesn't end this log
     (&[&[]], &[(&[], &[0]), (&[1], &[1])], true, false),
@@ -51,22 +81,56 @@ const CHECKED: [(Clauses, Steps, bool, bool); 11] = [
     (FULL, &[(&[], &[5, 2, 3]), (&[1], &[0, 1])], false, false),
 ];
 
+/// Whether each step of a log follows, and whether the log refutes the set.
+fn checked(alloc: Global, set: &Cnf, log: &Log) -> Result<(bool, bool), AllocError> {
+    let follows = check(alloc, set, log)?;
+    let refutes = check_refutation(alloc, set, log)?;
+    Ok((follows, refutes))
+}
+
+/// The same of the log of some steps.
+fn checked_steps(alloc: Global, set: &Cnf, steps: Steps) -> Result<(bool, bool), AllocError> {
+    let log = log(alloc, steps)?;
+    checked(alloc, set, &log)
+}
+
+/// Whether that is found of a set and the log of some steps.
+fn is_checked_so(
+    alloc: Global,
+    set: &Cnf,
+    steps: Steps,
+    follows: bool,
+    refutes: bool,
+) -> Result<bool, AllocError> {
+    let found = checked_steps(alloc, set, steps)?;
+    Ok(found.0 == follows && found.1 == refutes)
+}
+
+/// Whether that is found of some clauses, of which none has a variable above the second.
+fn are_checked_so(
+    alloc: Global,
+    clauses: Clauses,
+    steps: Steps,
+    follows: bool,
+    refutes: bool,
+) -> Result<bool, AllocError> {
+    match set(alloc, clauses, 2)? {
+        Some(set) => is_checked_so(alloc, &set, steps, follows, refutes),
+        None => Ok(false),
+    }
+}
+
 #[test]
 fn logs_follow_or_are_refused(rt: HostRuntime) -> Result<(), Fail> {
-    for (clauses, steps, follows, refutes) in CHECKED {
-        let set = set(rt.alloc(), clauses, 2)?;
-        let log = log(rt.alloc(), steps)?;
-        let found = (
-            check(rt.alloc(), &set, &log)?,
-            check_refutation(rt.alloc(), &set, &log)?,
-        );
-        assert_eq!(rt; found, (follows, refutes), "{clauses:?} {steps:?}");
+    for (row, (clauses, steps, follows, refutes)) in CHECKED.iter().enumerate() {
+        let is_so = are_checked_so(rt.alloc(), clauses, steps, *follows, *refutes)?;
+        assert!(rt; is_so, "row {row}");
     }
     Ok(())
 }
 
 /// Clauses, the steps of a log, and those that stay once it is trimmed.
-const TRIMMED: [(Clauses, Steps, Steps); 10] = [
+static TRIMMED: [(Clauses, Steps, Steps); 10] = [
     // nothing refutes these, and the logs stay as they are
     (OPPOSED, &[], &[]),
     (OPPOSED, &[(&[], &[0])], &[(&[], &[0])]),
@@ -123,20 +187,36 @@ const TRIMMED: [(Clauses, Steps, Steps); 10] = [
     ),
 ];
 
+/// Whether these steps stay of a log.
+fn is_trimmed_to(alloc: Global, set: &Cnf, steps: Steps, kept: Steps) -> Result<bool, AllocError> {
+    let found = trimmed(alloc, set, log(alloc, steps)?)?;
+    Ok(has_steps(&found, kept))
+}
+
+/// The same over some clauses, of which none has a variable above the third.
+fn are_trimmed_to(
+    alloc: Global,
+    clauses: Clauses,
+    steps: Steps,
+    kept: Steps,
+) -> Result<bool, AllocError> {
+    match set(alloc, clauses, 3)? {
+        Some(set) => is_trimmed_to(alloc, &set, steps, kept),
+        None => Ok(false),
+    }
+}
+
 #[test]
 fn logs_are_trimmed(rt: HostRuntime) -> Result<(), Fail> {
-    for (clauses, steps, kept) in TRIMMED {
-        let set = set(rt.alloc(), clauses, 3)?;
-        let found = trimmed(rt.alloc(), &set, log(rt.alloc(), steps)?)?;
-        let found = format!(in rt.alloc(); "{found:?}")?;
-        let kept = format!(in rt.alloc(); "{:?}", log(rt.alloc(), kept)?)?;
-        assert_eq!(rt; found, kept, "{clauses:?} {steps:?}");
+    for (row, (clauses, steps, kept)) in TRIMMED.iter().enumerate() {
+        let is_so = are_trimmed_to(rt.alloc(), clauses, steps, kept)?;
+        assert!(rt; is_so, "row {row}");
     }
     Ok(())
 }
 
 /// Logs with no steps, with no hints, and with hints that rise and fall by as much as fits one byte and more.
-const PACKED: [Steps; 4] = [
+static PACKED: [Steps; 4] = [
     &[],
     &[(&[], &[])],
     &[
@@ -150,17 +230,18 @@ const PACKED: [Steps; 4] = [
     ],
 ];
 
+/// Whether the log of these steps is read back once it is packed.
+fn is_read_back(alloc: Global, steps: Steps) -> Result<bool, AllocError> {
+    let log = log(alloc, steps)?;
+    let packed = pack(alloc, &log)?;
+    let read = unpack(alloc, &packed)?;
+    Ok(has_steps(&read, steps))
+}
+
 #[test]
 fn what_is_packed_is_read_back(rt: HostRuntime) -> Result<(), Fail> {
-    for steps in PACKED {
-        let packed = pack(rt.alloc(), &log(rt.alloc(), steps)?)?;
-        let read = unpack(rt.alloc(), &packed)?;
-        assert_eq!(rt; read.len(), steps.len());
-        for (step, (literals, hints)) in read.as_slice().iter().zip(steps) {
-            let clause = clause(rt.alloc(), literals)?;
-            assert_eq!(rt; step.clause.as_slice(), clause.as_slice());
-            assert_eq!(rt; step.hints.as_slice(), *hints);
-        }
+    for (row, steps) in PACKED.iter().enumerate() {
+        assert!(rt; is_read_back(rt.alloc(), steps)?, "row {row}");
     }
     Ok(())
 }

@@ -1,12 +1,13 @@
-//! Operations on two words, and the circuits that answer them.
+//! Operations on words, and the circuits that answer them.
 ghost use Rattle.std.specs.Prelude.{◌≡◌, ◌<◌, ◌≤◌, [], ◌∷◌, length, IfOk};
 ghost use Rattle.std.specs.List.{All};
 ghost use Rattle.circuits.specs.Circuit.{Keeps};
 
+use circ_counts::{count_ones, leading_zeros, trailing_zeros};
 use circ_muldiv::{
-    divide_signed, divide_unsigned, multiply, overflow_add, overflow_mul, overflow_sub,
+    absolute, divide_signed, divide_unsigned, multiply, overflow_add, overflow_mul, overflow_sub,
 };
-use circuits::{Bits, Circuit};
+use circuits::{Bits, Circuit, maximum, minimum};
 use lists::List;
 use std::alloc::{AllocError, Global};
 
@@ -25,9 +26,33 @@ pub(crate) enum Operation {
     Remainder,
     SignedQuotient,
     SignedRemainder,
+    Intrinsic(Intrinsic),
 }
 
-pub(crate) const OPERATIONS: [Operation; 11] = [
+/// What is asked of two words, or of the first alone.
+#[derive(Clone, Copy, Debug)]
+pub(crate) enum Intrinsic {
+    Minimum,
+    Maximum,
+    SignedMinimum,
+    SignedMaximum,
+    Absolute,
+    Ones,
+    LeadingZeros,
+    TrailingZeros,
+}
+
+/// An operation on two numbers of so many bits.
+#[derive(Clone, Copy, Debug)]
+pub(crate) struct Question {
+    pub(crate) operation: Operation,
+    pub(crate) width: usize,
+    pub(crate) a: u64,
+    pub(crate) b: u64,
+}
+
+/// All operations but the intrinsics.
+pub(crate) static OPERATIONS: [Operation; 11] = [
     Operation::Product,
     Operation::SumOverflows,
     Operation::SignedSumOverflows,
@@ -72,6 +97,7 @@ pub(crate) fn answer<C: Circuit>(
         Operation::Remainder => Ok(divide_unsigned(alloc, c, a, b)?.remainder),
         Operation::SignedQuotient => Ok(divide_signed(alloc, c, a, b)?.quotient),
         Operation::SignedRemainder => Ok(divide_signed(alloc, c, a, b)?.remainder),
+        Operation::Intrinsic(intrinsic) => intrinsic_answer(alloc, c, intrinsic, a, b),
         _ => {
             let overflows = overflow(alloc, c, operation, a, b)?;
             single(alloc, overflows)
@@ -101,5 +127,33 @@ fn overflow<C: Circuit>(
         Operation::SignedDifferenceOverflows => overflow_sub(alloc, c, a, b, true),
         Operation::ProductOverflows => overflow_mul(alloc, c, a, b, false),
         _ => overflow_mul(alloc, c, a, b, true),
+    }
+}
+
+/// The answer of the circuits of an intrinsic.
+fn intrinsic_answer<C: Circuit>(
+    alloc: Global,
+    c: &mut C,
+    intrinsic: Intrinsic,
+    a: &Bits<C::Literal>,
+    b: &Bits<C::Literal>,
+) -> Result<Bits<C::Literal>, AllocError>
+    requires width { 0 < length a.now }
+    requires same_width { length b.now ≡ length a.now }
+    requires own_a { All (C.has_literal c.old) a.now }
+    requires own_b { All (C.has_literal c.old) b.now }
+    ensures own { IfOk result (All (C.has_literal c.new)) }
+    ensures width { IfOk result (λ word. length word ≡ length a.now) }
+    ensures keeps { Keeps C.State c.old c.new }
+{
+    match intrinsic {
+        Intrinsic::Minimum => minimum(alloc, c, a, b, false),
+        Intrinsic::Maximum => maximum(alloc, c, a, b, false),
+        Intrinsic::SignedMinimum => minimum(alloc, c, a, b, true),
+        Intrinsic::SignedMaximum => maximum(alloc, c, a, b, true),
+        Intrinsic::Absolute => absolute(alloc, c, a),
+        Intrinsic::Ones => count_ones(alloc, c, a),
+        Intrinsic::LeadingZeros => leading_zeros(alloc, c, a),
+        Intrinsic::TrailingZeros => trailing_zeros(alloc, c, a),
     }
 }

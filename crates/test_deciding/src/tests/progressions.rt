@@ -1,15 +1,14 @@
 //! Numbers in two colours without arithmetic progressions of one colour, above twelve inputs.
 
-use super::repeated::clause;
+use super::repeated::{is_refuted, literal, set_of};
 use cdcl_log::{Found, search};
 use clauses::{Clause, Cnf};
 use lists::List;
-use rup_checker::check_refutation;
 use std::alloc::{AllocError, Global};
 use std::test::Fail;
 
 /// The first numbers, in red and blue with no red progression of so many terms and no blue one of so many.
-#[derive(Clone, Copy, Debug)]
+#[derive(Clone, Copy)]
 struct Colouring {
     numbers: i16,
     red: i16,
@@ -24,12 +23,12 @@ fn progression(
     terms: i16,
     sign: i16,
 ) -> Result<Clause, AllocError> {
-    let mut literals = Vec::new(alloc);
+    let mut clause = Clause::new(alloc);
     for term in 0..terms {
         let number = first.wrapping_add(step.wrapping_mul(term));
-        literals.push(sign.wrapping_mul(number))?;
+        clause.push(literal(sign.wrapping_mul(number)))?;
     }
-    clause(alloc, literals.as_slice())
+    Ok(clause)
 }
 
 /// Adds for each progression of so many terms that not all of them have the colour.
@@ -51,53 +50,77 @@ fn add_progressions(
     Ok(())
 }
 
-/// The set of a colouring: a number's variable is true where it is red.
-fn set_of(alloc: Global, colouring: Colouring) -> Result<Cnf, Fail> {
+/// The set of a colouring: a number's variable is true where it is red. It is `None` where a variable is above the count.
+fn colouring_set(alloc: Global, colouring: Colouring) -> Result<Option<Cnf>, AllocError> {
     let mut clauses = List::new(alloc);
     add_progressions(alloc, colouring.numbers, colouring.red, -1, &mut clauses)?;
     add_progressions(alloc, colouring.numbers, colouring.blue, 1, &mut clauses)?;
-    let count = u32::from(colouring.numbers.unsigned_abs());
-    let inputs = List::from_vec((1..=count).collect(alloc)?);
-    let set = Cnf::new(List::new(alloc), clauses, inputs, count);
-    Ok(set.ok_or("a variable is above the count")?)
+    set_of(alloc, clauses, u32::from(colouring.numbers.unsigned_abs()))
+}
+
+/// Whether one of the literals is true.
+fn has_true_literal(clause: &Clause, values: &[bool]) -> bool {
+    for literal in clause.as_slice() {
+        let place = literal.variable().wrapping_sub(1) as usize;
+        if values.get(place) == Some(&!literal.is_negated()) {
+            return true;
+        }
+    }
+    false
 }
 
 /// Whether each clause has a literal that is true.
 fn is_met(set: &Cnf, values: &[bool]) -> bool {
-    set.roots.as_slice().iter().all(|clause| {
-        clause.as_slice().iter().any(|literal| {
-            let place = literal.variable().wrapping_sub(1) as usize;
-            values.get(place) == Some(&!literal.is_negated())
-        })
-    })
+    for clause in set.roots.as_slice() {
+        if !has_true_literal(clause, values) {
+            return false;
+        }
+    }
+    true
+}
+
+/// Whether the search finds a model of the set.
+fn is_modelled(alloc: Global, set: &Cnf) -> Result<bool, AllocError> {
+    match search(alloc, set, 20000)? {
+        Found::Sat(values) => Ok(is_met(set, values.as_slice())),
+        _ => Ok(false),
+    }
+}
+
+/// Whether the search finds such a colouring.
+fn is_coloured(alloc: Global, colouring: Colouring) -> Result<bool, AllocError> {
+    match colouring_set(alloc, colouring)? {
+        Some(set) => is_modelled(alloc, &set),
+        None => Ok(false),
+    }
+}
+
+/// Whether the search finds that there is no such colouring, and its log is checked.
+fn is_excluded(alloc: Global, colouring: Colouring) -> Result<bool, AllocError> {
+    match colouring_set(alloc, colouring)? {
+        Some(set) => is_refuted(alloc, &set, 20000),
+        None => Ok(false),
+    }
 }
 
 /// The lengths of red and blue progressions, and the fewest numbers that have no such colouring: the numbers of
 /// van der Waerden.
-const FEWEST: [(i16, i16, i16); 4] = [(3, 4, 18), (3, 5, 22), (3, 6, 32), (4, 4, 35)];
+static FEWEST: [(i16, i16, i16); 4] = [(3, 4, 18), (3, 5, 22), (3, 6, 32), (4, 4, 35)];
 
 #[test]
-fn one_number_fewer_is_coloured(rt: HostRuntime) -> Result<(), Fail> {
-    for (red, blue, fewest) in FEWEST {
-        let numbers = fewest.wrapping_sub(1);
-        let set = set_of(rt.alloc(), Colouring { numbers, red, blue })?;
-        let Found::Sat(values) = search(rt.alloc(), &set, 20000)? else {
-            return Err("no model".into());
+fn so_many_numbers_are_refuted_and_one_fewer_is_coloured(rt: HostRuntime) -> Result<(), Fail> {
+    for (red, blue, fewest) in &FEWEST {
+        let all = Colouring {
+            numbers: *fewest,
+            red: *red,
+            blue: *blue,
         };
-        assert!(rt; is_met(&set, values.as_slice()), "{red} {blue}");
-    }
-    Ok(())
-}
-
-#[test]
-fn so_many_numbers_are_refuted(rt: HostRuntime) -> Result<(), Fail> {
-    for (red, blue, fewest) in FEWEST {
-        let numbers = fewest;
-        let set = set_of(rt.alloc(), Colouring { numbers, red, blue })?;
-        let Found::Unsat(log) = search(rt.alloc(), &set, 20000)? else {
-            return Err("not refuted".into());
+        let fewer = Colouring {
+            numbers: fewest.wrapping_sub(1),
+            ..all
         };
-        assert!(rt; check_refutation(rt.alloc(), &set, &log)?, "{red} {blue}");
+        assert!(rt; is_coloured(rt.alloc(), fewer)?, "{red} {blue}");
+        assert!(rt; is_excluded(rt.alloc(), all)?, "{red} {blue}");
     }
     Ok(())
 }

@@ -3,7 +3,6 @@ ghost use Rattle.std.specs.Prelude.{IfOk};
 
 use aig::Aig;
 use circuits::Circuit;
-use clauses::Cnf;
 use cnf_build::clauses_of;
 use std::alloc::{AllocError, Global};
 use std::test::Fail;
@@ -54,19 +53,25 @@ fn build<C: Circuit>(alloc: Global, circuit: &mut C, root: Root) -> Result<C::Li
     }
 }
 
-/// The root's clause set, if its graph has three inputs and at most three gates.
-fn encoded(alloc: Global, root: Root) -> Result<Option<Cnf>, AllocError> {
-    let mut aig = Aig::new(alloc);
-    let literal = build(alloc, &mut aig, root)?;
-    if aig.input_count() != 3 || aig.gates().len() > 3 {
+/// How many variables and clauses the root's set has, if this graph then has three inputs and at most three gates.
+fn sizes_in(alloc: Global, graph: &mut Aig, root: Root) -> Result<Option<(u32, u32)>, AllocError> {
+    let literal = build(alloc, graph, root)?;
+    if graph.input_count() != 3 || graph.gates().len() > 3 {
         return Ok(None);
     }
-    Ok(Some(clauses_of(alloc, &aig, literal)?))
+    let set = clauses_of(alloc, graph, literal)?;
+    Ok(Some((set.count, set.clause_count())))
+}
+
+/// How many variables and clauses the root's set has, if its graph has three inputs and at most three gates.
+fn sizes(alloc: Global, root: Root) -> Result<Option<(u32, u32)>, AllocError> {
+    let mut graph = Aig::new(alloc);
+    sizes_in(alloc, &mut graph, root)
 }
 
 /// A root, and how many variables and clauses its set has: variables for the inputs, for the gates that the root
 /// needs, and for the constant where it is used.
-const SIZES: [(Root, u32, u32); 8] = [
+static SIZES: [(Root, u32, u32); 8] = [
     (Root::And, 4, 4),
     (Root::Xor, 4, 5),
     (Root::Mux, 4, 5),
@@ -79,10 +84,9 @@ const SIZES: [(Root, u32, u32); 8] = [
 
 #[test]
 fn sets_name_only_what_is_needed(rt: HostRuntime) -> Result<(), Fail> {
-    for (root, variables, clauses) in SIZES {
-        let set = encoded(rt.alloc(), root)?.ok_or("too many inputs or gates")?;
-        assert_eq!(rt; set.count, variables, "{root:?}");
-        assert_eq!(rt; set.clause_count(), clauses, "{root:?}");
+    for (root, variables, clauses) in &SIZES {
+        let found = sizes(rt.alloc(), *root)?;
+        assert_eq!(rt; found, Some((*variables, *clauses)), "{root:?}");
     }
     Ok(())
 }

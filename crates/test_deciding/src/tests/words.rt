@@ -7,12 +7,29 @@ use circuits::{Bits, Circuit};
 use lists::List;
 use std::alloc::{AllocError, Global};
 
-/// The lowest bits of a number.
-pub(crate) fn bits(alloc: Global, number: u64, width: usize) -> Result<Vec<bool>, AllocError>
+/// Adds the lowest bits of a number, the lowest first.
+fn push_bits(bits: &mut Vec<bool>, number: u64, width: usize) -> Result<(), AllocError>
     requires { width ≤ 64 }
-    ensures { IfOk result (λ v. length v.items ≡ width) }
 {
-    (0..width).map(|i| number >> i & 1 == 1).collect(alloc)
+    for i in 0..width {
+        bits.push(number >> i & 1 == 1)?;
+    }
+    Ok(())
+}
+
+/// The inputs of which two words of a width have these numbers.
+pub(crate) fn inputs_of(
+    alloc: Global,
+    width: usize,
+    a: u64,
+    b: u64,
+) -> Result<Vec<bool>, AllocError>
+    requires { width ≤ 64 }
+{
+    let mut inputs = Vec::new(alloc);
+    push_bits(&mut inputs, a, width)?;
+    push_bits(&mut inputs, b, width)?;
+    Ok(inputs)
 }
 
 /// A word of the next inputs.
@@ -32,18 +49,20 @@ pub(crate) fn word<C: Circuit>(
     Ok(word)
 }
 
-/// The word of these constants.
+/// The constant word of a number's lowest bits.
 pub(crate) fn constant<C: Circuit>(
     alloc: Global,
     circuit: &C,
-    values: &[bool],
+    number: u64,
+    width: usize,
 ) -> Result<Bits<C::Literal>, AllocError>
+    requires { width ≤ 64 }
     ensures own { IfOk result (All (C.has_literal circuit.now)) }
-    ensures width { IfOk result (λ word. length word ≡ length values.now) }
+    ensures width { IfOk result (λ word. length word ≡ width) }
 {
     let mut word = List::new(alloc);
-    for value in values {
-        word.push(if *value {
+    for i in 0..width {
+        word.push(if number >> i & 1 == 1 {
             circuit.one()
         } else {
             circuit.zero()
@@ -54,7 +73,9 @@ pub(crate) fn constant<C: Circuit>(
 
 /// The number of the bits, the lowest first.
 pub(crate) fn number(bits: &[bool]) -> u64 {
-    bits.iter()
-        .rev()
-        .fold(0u64, |n, bit| n.wrapping_mul(2) | u64::from(*bit))
+    let mut number = 0u64;
+    for bit in bits.iter().rev() {
+        number = number.wrapping_mul(2) | u64::from(*bit);
+    }
+    number
 }
