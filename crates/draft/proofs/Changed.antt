@@ -14,11 +14,12 @@ use Rattle.needed.specs.Operands.{operands_of}
 use Rattle.use_counts.specs.declared.uses.Uses.{Uses}
 use Rattle.readers.specs.Changes.{gone, inst_changed, taken_out, with_block}
 use Rattle.readers.specs.Counts.{AreCounted, operands_at}
-use Rattle.draft.specs.Whole.{AreRowsOf, IsWhole}
+use Rattle.draft.specs.Whole.{AreRowsOf, HasNoPhi, IsWhole}
 use Rattle.draft.specs.declared.draft.Draft.{Draft}
 use Rattle.places.specs.declared.place.Place.{Place}
 use Rattle.readers.proofs.Changing.{changed_length}
 use Rattle.readers.proofs.Counting.{only_one}
+use Rattle.draft.proofs.Cycles.{no_cycles_stay, no_phi_changed}
 use Rattle.draft.proofs.Exchanging.{block_cases, inst_count, inst_differs, read_now, still_few}
 use Rattle.readers.proofs.Places.{AreFew, DiffersAt, IsListedToo, reads_known, still_facts, still_known, still_readers}
 use Rattle.draft.proofs.Wholeness.{all_known, few_insts, rows_less}
@@ -27,6 +28,7 @@ use Rattle.draft.proofs.Wholeness.{all_known, few_insts, rows_less}
 pub record IsRecounted (old new : Draft) (p : Place) : Type 0 where
   pub mid : Uses
   pub flow : new.facts.flow ≡ old.facts.flow
+  pub cycles : new.has_cycles ≡ old.has_cycles
   pub forgotten : AreCounted (operands_at old.arena p) mid old.facts.uses
   pub counted : AreCounted (operands_at new.arena p) mid new.facts.uses
   pub listed : IsListedToo p (operands_at new.arena p) old.readers new.readers
@@ -35,8 +37,9 @@ pub whole_changed : (old new : Draft) (p : Place) → IsWhole old → DiffersAt 
     → length new.arena.blocks ≡ length old.arena.blocks → length new.orders.items ≡ length old.orders.items → length new.stand.items ≡ length old.stand.items
     → ((b : ℕ) (block : Block) → IsBlock new.arena b block → AreRowsOf block (get_or new.orders.items b []) (get_or new.stand.items b []))
     → ((a : Operand) → Contains (operands_at new.arena p) a → IsKnown old.arena a)
+    → (HasNoPhi old.arena → HasNoPhi new.arena)
     → IsWhole new
-whole_changed old new p whole differs recounted few blocks orders stand rows known = record {
+whole_changed old new p whole differs recounted few blocks orders stand rows known no_phi = record {
   few = let few_blocks = whole.few in omega arith;
   ordered = orders ∙ whole.ordered ∙ sym blocks;
   marked = stand ∙ whole.marked ∙ sym blocks;
@@ -44,6 +47,7 @@ whole_changed old new p whole differs recounted few blocks orders stand rows kno
   known = reads_known new.arena few (still_known old.arena new.arena p differs (all_known old whole) known);
   facts = still_facts old.arena new.arena p differs old.facts new.facts recounted.mid whole.facts recounted.flow recounted.forgotten recounted.counted;
   readers = still_readers old.arena new.arena p differs old.readers new.readers whole.readers recounted.listed;
+  cycles = λ none. no_cycles_stay old.arena new.arena differs.flow no_phi (whole.cycles (sym recounted.cycles ∙ none));
 }
 
 -- ---- an instruction is changed
@@ -94,6 +98,7 @@ whole_taken_out old new b n block was whole at here arena orders stand recounted
       | inr (apart, before) ↦ subst (λ (marks : List Bool). AreRowsOf x (get_or old.orders.items c []) marks) (sym (get_or-set_other old.stand.items b c row [] apart)) (whole.rows c x before)
     ])))
     (reads_are_known old new b n gone whole block was at here arena (λ a there. poison_known old.arena a there))
+    (λ no_phi. subst HasNoPhi (sym arena) (no_phi_changed old.arena b block at no_phi n gone (λ i other phi. phi)))
   where
     poison_known : (f : Function) (a : Operand) → Contains (operands.Poison ∷ []) a → IsKnown f a
     poison_known f a there = subst (IsKnown f) (only_one operands.Poison a there) tt

@@ -1,6 +1,6 @@
 -- The draft of a function as it begins: each instruction stands, at the place of its number.
 use Rattle.std.proofs.Common.{◌≡◌, ℕ, zero, suc, ◌+◌, ◌<◌, ◌≤◌, ◌^◌, inl, inr, Bool, true, false, List, [], ◌∷◌, length, map, replicate, get_or, All, Some, refl, sym, ap, subst, ◌∙◌, arith}
-use Rattle.std.specs.Prelude.{Contains, slice_get, option_map}
+use Rattle.std.specs.Prelude.{Contains, IsFalse, slice_get, option_map}
 use Rattle.std.specs.List.{range_with_len}
 use Rattle.std.proofs.lemmas.List.{get_or-replicate, length-map, length-replicate}
 use Rattle.std.proofs.lemmas.List.FromFn.{get_or-range_with_len, length-range_with_len}
@@ -23,7 +23,7 @@ use Rattle.draft.specs.Drafts.{Stands, block_of, blocks_of, function_of, insts_o
 use Rattle.places.specs.Orders.{none, place_in}
 use Rattle.draft.specs.Placing.{IsOrdering}
 use Rattle.readers.specs.Readers.{AreReadersOf, IsPlaceIn, arena_place}
-use Rattle.draft.specs.Whole.{AreRowsOf, IsSettled}
+use Rattle.draft.specs.Whole.{AreRowsOf, HasNoCycles, IsSettled}
 use Rattle.draft.specs.declared.draft.Draft.{Draft}
 use Rattle.places.specs.declared.place.Place.{Place}
 use Rattle.readers.proofs.Changing.{known_has}
@@ -186,8 +186,8 @@ module _ (d : Draft) (checks : MeetsChecks d.arena) (few : length d.arena.blocks
       ap (λ (l : List Block). let f : Function = record { name = d.arena.name; before = d.arena.before; width = d.arena.width; parameters = d.arena.parameters; after = d.arena.after; blocks = l } in f)
       (ap (λ (rows : List (List ℕ)). blocks_of (placed rows) rows d.arena.blocks) all_numbers ∙ placed_itself d.arena known few_insts)
 
-  pub settled_at_first : AreFactsOf d.arena d.facts → AreReadersOf d.arena d.readers → d.fallen.items ≡ [] → IsSettled d
-  settled_at_first facts readers none_fell = record {
+  pub settled_at_first : AreFactsOf d.arena d.facts → AreReadersOf d.arena d.readers → (IsFalse d.has_cycles → HasNoCycles d.arena) → d.fallen.items ≡ [] → IsSettled d
+  settled_at_first facts readers cycles none_fell = record {
     whole = record {
       few = few;
       ordered = ap length orders ∙ length-map d.arena.blocks all_of;
@@ -199,6 +199,7 @@ module _ (d : Draft) (checks : MeetsChecks d.arena) (few : length d.arena.blocks
       known = checks.formed.registers;
       facts = facts;
       readers = readers;
+      cycles = cycles;
     };
     read_stands = λ b n p inside reads.
         stands_all b n (known_has d.arena b n (known p (operands.Register (registers.Result b n)) inside (reads_written d.arena p.block (arena_place d.arena p) (registers.Result b n) reads)));

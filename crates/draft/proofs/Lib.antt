@@ -6,6 +6,8 @@ pub mod Replacing
 pub mod Putting
 pub mod Standing
 pub mod Fresh
+pub mod Reached
+pub mod Cycles
 pub mod Changed
 pub mod Put
 pub mod Swapped

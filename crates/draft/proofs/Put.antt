@@ -6,7 +6,7 @@ use Rattle.std.proofs.lemmas.List.Elements.{All-contains}
 use Rattle.std.proofs.lemmas.Option.{slice_get_within}
 use Rattle.bindings.specs.Facts.{AreFactsOf}
 use Rattle.ir_core.specs.Blocks.{IsBlock}
-use Rattle.ir_core.specs.Checks.{IsKnown}
+use Rattle.ir_core.specs.Checks.{IsKnown, IsPhi}
 use Rattle.ir_core.specs.Reads.{Read, IsRead}
 use Rattle.ir_core.specs.declared.function.Block.{Block}
 use Rattle.ir_core.specs.declared.function.Function.{Function}
@@ -19,14 +19,15 @@ use Rattle.readers.specs.Changes.{inst_put, put_in}
 use Rattle.readers.specs.Counts.{AreCounted, operands_at}
 use Rattle.places.specs.Orders.{none, put_before}
 use Rattle.readers.specs.Readers.{AreListed, AreReadersOf}
-use Rattle.draft.specs.Whole.{AreRowsOf, IsWhole}
+use Rattle.draft.specs.Whole.{AreRowsOf, HasNoCycles, IsWhole}
 use Rattle.draft.specs.declared.draft.Draft.{Draft}
 use Rattle.places.specs.declared.place.Place.{Place}
 use Rattle.readers.specs.declared.uses.Readers.{Readers}
 use Rattle.readers.proofs.Changing.{changed_length, has_known}
+use Rattle.draft.proofs.Cycles.{no_cycles_stay, no_phi_put}
 use Rattle.draft.proofs.Exchanging.{block_cases}
 use Rattle.readers.proofs.Places.{AreFew, reads_known}
-use Rattle.draft.proofs.Putting.{count_kept, facts_put, few_put, known_put, list_kept, list_there, number_there, readers_put}
+use Rattle.draft.proofs.Putting.{count_kept, facts_put, few_put, flow_put, known_put, list_kept, list_there, number_there, readers_put}
 use Rattle.readers.proofs.Tables.{row_within}
 use Rattle.draft.proofs.Wholeness.{all_known, few_insts, rows_more}
 
@@ -36,6 +37,7 @@ pub record IsPut (old new : Draft) (b at : ℕ) (block : Block) (inst : Inst) : 
   pub orders : new.orders.items ≡ slice_set old.orders.items b (put_before (get_or old.orders.items b []) at (length block.insts))
   pub stand : new.stand.items ≡ slice_set old.stand.items b (get_or old.stand.items b [] ++ true ∷ [])
   pub flow : new.facts.flow ≡ old.facts.flow
+  pub cycles : new.has_cycles ≡ old.has_cycles
   pub uses : Uses
   pub use_parameters : uses.parameters ≡ old.facts.uses.parameters
   pub use_results : uses.results.items ≡ slice_set old.facts.uses.results.items b (get_or old.facts.uses.results.items b [] ++ 0 ∷ [])
@@ -58,8 +60,8 @@ all_below zero m below = omega arith
 all_below (suc n) m below = let last = below n (omega arith) in omega arith
 
 pub whole_put : (old new : Draft) (b at : ℕ) (block : Block) (inst : Inst) → IsWhole old → IsBlock old.arena b block → Contains (get_or old.orders.items b []) at → at < length block.insts
-    → length block.insts + 1 ≤ none → All (IsKnown old.arena) (operands_of inst.op) → IsPut old new b at block inst → IsWhole new
-whole_put old new b at block inst whole is_block there inside room known put =
+    → length block.insts + 1 ≤ none → All (IsKnown old.arena) (operands_of inst.op) → ¬ IsPhi inst.op → IsPut old new b at block inst → IsWhole new
+whole_put old new b at block inst whole is_block there inside room known no_phi put =
     let few = few_insts old whole in
     let n : ℕ = length block.insts in
     let p : Place = record { block = b; number = n } in
@@ -108,4 +110,6 @@ whole_put old new b at block inst whole is_block there inside room known put =
           (list_there old.readers put.readers b n list_within list_low put.reader_parameters put.reader_results)
           (list_kept old.readers put.readers b n list_within list_low put.reader_parameters put.reader_results)
           (subst (λ (f : Function). AreListed p (operands_at f p) put.readers new.readers) put.arena put.listed));
+      cycles = λ none. subst HasNoCycles (sym put.arena)
+          (no_cycles_stay old.arena f' (flow_put old.arena few b block is_block inst room) (λ phis. no_phi_put old.arena b block is_block phis inst no_phi) (whole.cycles (sym put.cycles ∙ none)));
     }

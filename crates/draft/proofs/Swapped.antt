@@ -21,11 +21,12 @@ use Rattle.readers.specs.Changes.{end_changed, inst_changed, instead, same_regis
 use Rattle.readers.specs.Counts.{operands_at}
 use Rattle.places.specs.Orders.{none}
 use Rattle.readers.specs.Readers.{AreReadersOf, IsPlaceIn, arena_place, listed_for}
-use Rattle.draft.specs.Whole.{AreRowsOf, IsWhole}
+use Rattle.draft.specs.Whole.{AreRowsOf, HasNoPhi, IsWhole}
 use Rattle.draft.specs.declared.draft.Draft.{Draft}
 use Rattle.places.specs.declared.place.Place.{Place}
 use Rattle.draft.proofs.Changed.{IsRecounted, block_of_new, blocks_count, differs, few, whole_changed}
 use Rattle.readers.proofs.Changing.{changed_length}
+use Rattle.draft.proofs.Cycles.{no_phi_changed, no_phi_end, no_phi_substituted}
 use Rattle.draft.proofs.Exchanging.{block_cases, end_differs, end_read_now, end_read_was, read_now, read_was, still_few}
 use Rattle.readers.proofs.Naming.{same_register_is}
 use Rattle.readers.proofs.Places.{AreFew, AreKnown, DiffersAt}
@@ -118,6 +119,7 @@ module _ (old new : Draft) (from : Register) (to : Operand) (b n : ℕ) (whole :
         | inr (apart, before) ↦ whole.rows c x before
       ])))
       (swapped_known old.arena from to place (operands_at new.arena place) inst_reads_now known (all_known old whole) inside)
+      (λ no_phi. subst HasNoPhi (sym arena) (no_phi_changed old.arena b block at no_phi n change (λ i other. no_phi_substituted (instead from to) i.op other)))
 
 -- ---- at a terminator
 
@@ -156,6 +158,7 @@ module _ (old new : Draft) (from : Register) (to : Operand) (b : ℕ) (whole : I
         | inr (apart, before) ↦ whole.rows c x before
       ])))
       (swapped_known old.arena from to end_place (operands_at new.arena end_place) end_reads_now known (all_known old whole) inside)
+      (λ no_phi. subst HasNoPhi (sym arena) (no_phi_end old.arena b block at no_phi swap_end))
     where
       end_rows : (x : Block) (order : List ℕ) (marks : List Bool) → AreRowsOf x order marks → AreRowsOf (end_changed swap_end x) order marks
       end_rows x order marks rows = record { few = rows.few; ordered = rows.ordered; marked = rows.marked; all = rows.all; ordering = rows.ordering; gone = rows.gone }

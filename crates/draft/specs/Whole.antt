@@ -1,9 +1,11 @@
 -- What the tables of a draft say of its arena.
-use Rattle.std.specs.Prelude.{◌≡◌, ℕ, ◌<◌, ◌≤◌, ◌^◌, Bool, false, List, [], length, Some, Contains, slice_get, slice_index_or}
+use Rattle.std.specs.Prelude.{◌≡◌, ℕ, ◌<◌, ◌≤◌, ◌^◌, Bool, false, IsFalse, List, [], length, Some, Contains, slice_get, slice_index_or}
 use Rattle.ir_core.specs.Blocks.{IsBlock}
-use Rattle.ir_core.specs.Checks.{IsKnown}
+use Rattle.ir_core.specs.Checks.{IsInst, IsKnown, IsPhi}
 use Rattle.ir_core.specs.Reads.{Read, IsRead}
+use Rattle.ir_core.specs.Walks.{IsReached}
 use Rattle.ir_core.specs.declared.function.Block.{Block}
+use Rattle.ir_core.specs.declared.function.Function.{Function}
 use Rattle.ir_core.specs.declared.instruction.Inst.{Inst}
 use Rattle.ir_core.specs.declared.instruction.Op.TheVariants.{Freeze}
 use Rattle.ir_core.specs.declared.operand.Operand.TheVariants as operands
@@ -25,6 +27,15 @@ pub record AreRowsOf (block : Block) (order : List ℕ) (stand : List Bool) : Ty
   pub ordering : IsOrdering (length block.insts) order
   pub gone : (n : ℕ) (inst : Inst) → slice_get block.insts n ≡ Some inst → slice_index_or stand n false ≡ false → inst.op ≡ Freeze operands.Poison
 
+-- there is no phi
+abbrev pub HasNoPhi : Function → Type 0
+HasNoPhi f = (b k : ℕ) (inst : Inst) → IsInst f b k inst → ¬ IsPhi inst.op
+
+-- Nor is there a block that isn't reached. So no register is read on a way that leads back to it.
+pub record HasNoCycles (f : Function) : Type 0 where
+  pub reached : (b : ℕ) → b < length f.blocks → IsReached f b
+  pub no_phi : HasNoPhi f
+
 -- The tables say what the arena is. What is read in it may have been taken out.
 pub record IsWhole (d : Draft) : Type 0 where
   pub few : length d.arena.blocks < 2 ^ 32
@@ -34,6 +45,7 @@ pub record IsWhole (d : Draft) : Type 0 where
   pub known : (b k i : ℕ) (r : Read) → IsRead d.arena b k i r → IsKnown d.arena r.operand
   pub facts : AreFactsOf d.arena d.facts
   pub readers : AreReadersOf d.arena d.readers
+  pub cycles : IsFalse d.has_cycles → HasNoCycles d.arena
 
 -- Between steps: what is read stands, and no register waits.
 pub record IsSettled (d : Draft) : Type 0 where

@@ -1,11 +1,13 @@
 //! A function whose instructions have numbers.
 
-ghost use Rattle.std.specs.Prelude.{◌≡◌, ◌+◌, ◌<◌, ◌≤◌, ◌^◌, ◌++◌, ◌∷◌, [], ◌↔◌, ℕ, length, map, replicate, true, false, All, Contains, IsTrue, IfOk, OnOk, Some, slice_get, slice_index_or, slice_set};
+ghost use Rattle.std.specs.Prelude.{◌≡◌, ◌+◌, ◌<◌, ◌≤◌, ◌^◌, ◌++◌, ◌∷◌, [], ◌↔◌, ℕ, length, map, replicate, true, false, All, Contains, IsFalse, IsTrue, IfOk, OnOk, Some, slice_get, slice_index_or, slice_set};
 ghost use Rattle.std.specs.List.{filter_map, range_with_len};
 ghost use Rattle.ir_core.specs.Blocks.{HasInst, IsBlock};
-ghost use Rattle.ir_core.specs.Checks.{MeetsChecks, IsKnown};
+ghost use Rattle.ir_core.specs.Checks.{MeetsChecks, IsKnown, IsPhi};
 ghost use Rattle.ir_core.specs.Reads.{end_of};
 ghost use Rattle.ir_core.specs.declared.function.Block.{Block as Written};
+ghost use Rattle.ir_core.specs.declared.instruction.Inst.{Inst as Instruction};
+ghost use Rattle.assigned_flow.specs.Successors.{successors_of};
 ghost use Rattle.bindings.specs.Facts.{AreFactsOf};
 ghost use Rattle.needed.specs.Operands.{operands_of};
 ghost use Rattle.readers.specs.Changes.{changed_at, gone, inst_changed, inst_put, put_in, taken_out, without};
@@ -14,8 +16,9 @@ ghost use Rattle.draft.specs.Drafts.{Stands, function_of, numbers_of, orders_of}
 ghost use Rattle.draft.specs.KeptOrders.{KeepsOrders};
 ghost use Rattle.places.specs.Orders.{none};
 ghost use Rattle.places.specs.Orders as numbers;
-ghost use Rattle.draft.specs.Whole.{IsWhole, IsSettled};
+ghost use Rattle.draft.specs.Whole.{HasNoCycles, IsWhole, IsSettled};
 
+use assigned_flow::Assigned;
 use bindings::FunctionFacts;
 use ir_core::{Block, Function, Inst, Op, Operand, Register};
 use lists::List;
@@ -39,6 +42,8 @@ pub struct Draft {
     pub readers: Readers,
     /// Registers that were read at a place that reads them no more, and those of instructions that came.
     pub fallen: Vec<Register>,
+    /// Whether a register may be read on a way that leads back to it: by a phi, or in a block that isn't reached.
+    pub has_cycles: bool,
 }
 
 impl Draft {
@@ -56,6 +61,7 @@ impl Draft {
         let orders = orders_of(alloc, &f)?;
         let stand = all_of(alloc, &f)?;
         let readers = Readers::of(alloc, &f)?;
+        let has_cycles = has_cycles(&f, &facts.flow);
         Ok(Draft {
             arena: f,
             facts,
@@ -63,6 +69,7 @@ impl Draft {
             stand,
             readers,
             fallen: Vec::new(alloc),
+            has_cycles,
         })
     }
 
@@ -107,12 +114,13 @@ impl Draft {
         self.stand[place.block as usize].as_slice()[place.number as usize]
     }
 
-    /// Puts an instruction before another, and gives its number.
+    /// Puts an instruction that is no phi before another, and gives its number.
     pub fn put_before(&mut self, alloc: Global, at: Place, inst: Inst) -> Result<Place, AllocError>
         requires whole { IsWhole self.old }
         requires at { Stands self.old at.block at.number }
         requires room { (block : Written) → IsBlock self.old.arena at.block block → length block.insts + 1 ≤ none }
         requires known { All (IsKnown self.old.arena) (operands_of inst.op) }
+        requires no_phi { ¬ IsPhi inst.op }
         ensures whole { OnOk result (IsWhole self.new) }
         ensures arena { OnOk result (self.new.arena ≡ put_in self.old.arena at.block inst) }
         ensures place { IfOk result (λ place. (place.block ≡ at.block) × (place.number ≡ end_of self.old.arena at.block)) }
@@ -237,4 +245,30 @@ fn all_of(alloc: Global, f: &Function) -> Result<Vec<List<bool>>, AllocError>
         rows.push(List::from_vec(vec![in alloc; true; block.insts.len()]?))?;
     }
     Ok(rows)
+}
+
+/// Whether a function has a phi, or a block that isn't reached.
+fn has_cycles(f: &Function, flow: &Assigned) -> bool
+    requires blocks { length f.now.blocks < 2 ^ 32 }
+    requires flow { flow.now ≡ successors_of f.now }
+    ensures { IsFalse result ↔ HasNoCycles f.now }
+{
+    for block in 0..f.blocks.len() as u32 {
+        if !flow.reached(block) || has_phi(&f.blocks.as_slice()[block as usize]) {
+            return true;
+        }
+    }
+    false
+}
+
+/// Whether a block has a phi.
+fn has_phi(block: &Block) -> bool
+    ensures { IsFalse result ↔ ((k : ℕ) (inst : Instruction) → slice_get block.now.insts k ≡ Some inst → ¬ IsPhi inst.op) }
+{
+    for inst in block.insts.as_slice() {
+        if matches!(inst.op, Op::Phi(_)) {
+            return true;
+        }
+    }
+    false
 }

@@ -69,11 +69,12 @@ returns-in-Register-clause-whole c =
     let from = c.args.swap.now.from in
     let to = c.args.swap.now.to in
     let mid : Draft = with_blocks old c.swap_at.new.blocks in
-    let new : Draft = record { arena = mid.arena; facts = record { flow = old.facts.flow; uses = c.count_reads.new.uses }; orders = old.orders; stand = old.stand; readers = c.list.new.self; fallen = old.fallen } in
+    let new : Draft = record { arena = mid.arena; facts = record { flow = old.facts.flow; uses = c.count_reads.new.uses }; orders = old.orders; stand = old.stand; readers = c.list.new.self; fallen = old.fallen; has_cycles = old.has_cycles } in
     let arena = swapped_arena old.arena c.swap_at.new.blocks p from to c.swap_at.ensures.end c.swap_at.ensures.inst in
     on_ok_weaker c.list.result (λ listed. whole_after old new from to p c.requires.whole c.requires.place arena c.requires.to refl refl (record {
       mid = c.forget_reads.new.uses;
       flow = refl;
+      cycles = refl;
       forgotten = c.forget_reads.ensures;
       counted = c.in_ok-count_reads.ensures;
       listed = one_listed p (operands_at new.arena p) c.in-Register.read old.readers c.list.new.self listed (λ r there.
@@ -90,11 +91,12 @@ returns-in_default-clause-whole c =
     let from = c.args.swap.now.from in
     let to = c.args.swap.now.to in
     let mid : Draft = with_blocks old c.swap_at.new.blocks in
-    let new : Draft = record { arena = mid.arena; facts = record { flow = old.facts.flow; uses = c.count_reads.new.uses }; orders = old.orders; stand = old.stand; readers = old.readers; fallen = old.fallen } in
+    let new : Draft = record { arena = mid.arena; facts = record { flow = old.facts.flow; uses = c.count_reads.new.uses }; orders = old.orders; stand = old.stand; readers = old.readers; fallen = old.fallen; has_cycles = old.has_cycles } in
     let arena = swapped_arena old.arena c.swap_at.new.blocks p from to c.swap_at.ensures.end c.swap_at.ensures.inst in
     whole_after old new from to p c.requires.whole c.requires.place arena c.requires.to refl refl (record {
       mid = c.forget_reads.new.uses;
       flow = refl;
+      cycles = refl;
       forgotten = c.forget_reads.ensures;
       counted = c.in_ok-count_reads.ensures;
       listed = all_listed p (operands_at new.arena p) old.readers (λ r there.

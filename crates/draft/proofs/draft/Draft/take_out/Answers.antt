@@ -41,13 +41,14 @@ returns-clause-whole c =
     let at = c.args.at in
     let whole = c.requires.whole in
     let (block, was, is_block, here) = inst_there old.arena at.block at.number c.requires.at in
-    let new : Draft = record { arena = (with_blocks old c.empty_inst.new.blocks).arena; facts = record { flow = old.facts.flow; uses = c.forget_reads.new.uses }; orders = old.orders; stand = c.clear_mark.new.stand; readers = old.readers; fallen = c.push_reads.new.fallen } in
+    let new : Draft = record { arena = (with_blocks old c.empty_inst.new.blocks).arena; facts = record { flow = old.facts.flow; uses = c.forget_reads.new.uses }; orders = old.orders; stand = c.clear_mark.new.stand; readers = old.readers; fallen = c.push_reads.new.fallen; has_cycles = old.has_cycles } in
     let arena = ap (λ (l : List Block). (with_blocks old l).arena) c.empty_inst.ensures in
     let nothing : operands_at new.arena at ≡ operands.Poison ∷ [] = reads old new at.block at.number gone whole block was is_block here arena in
     whole_taken_out old new at.block at.number block was whole is_block here arena refl c.clear_mark.ensures
     (record {
       mid = c.forget_reads.new.uses;
       flow = refl;
+      cycles = refl;
       forgotten = c.forget_reads.ensures;
       counted = subst (λ (l : List Operand). AreCounted l new.facts.uses new.facts.uses) (sym nothing) (counted_other new.facts.uses operands.Poison (λ r e. cc));
       listed = all_listed at (operands_at new.arena at) old.readers (λ r there.

@@ -23,6 +23,7 @@ returns-clause-whole c =
       facts = whole.facts;
       readers = trimmed_readers d.arena c.args.register _ kept d.readers c.exchange-listed.new.self c.exchange.new.self whole.readers c.exchange-listed.ensures.is c.exchange.ensures.is
           (λ p. subst (λ (l : List Place). Contains kept p ↔ (Contains l p × Contains (operands_at d.arena p) (operands.Register c.args.register))) c.exchange-listed.ensures.was (c.readers_among-listed.ensures p));
+      cycles = whole.cycles;
     }
 
 pub returns-clause-exact : goal.returns-clause-exact
