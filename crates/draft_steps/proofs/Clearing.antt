@@ -1,9 +1,10 @@
 -- When a draft is clean: all that is left of it is needed.
-use Rattle.std.proofs.Common.{◌≡◌, ℕ, ◌<◌, Bool, true, cond, inl, inr, List, [], ◌++◌, length, Option, None, Some, sym, ap, subst, ◌∙◌, arith}
+use Rattle.std.proofs.Common.{◌≡◌, ℕ, Bool, true, cond, inl, inr, List, [], ◌++◌, length, Option, None, Some, refl, sym, ap, subst, ◌∙◌, arith}
 use Rattle.std.specs.Prelude.{Contains, slice_get}
 use Rattle.std.proofs.lemmas.Bool.{cases_eq, eq-eqb, ne_eqb}
-use Rattle.std.proofs.lemmas.Option.{same_Some}
-use Rattle.ir_core.specs.Checks.{IsInst}
+use Rattle.std.proofs.lemmas.Option.{same_Some, slice_get_within}
+use Rattle.ir_core.specs.Blocks.{Names, targets_of}
+use Rattle.ir_core.specs.Checks.{IsInst, MeetsChecks}
 use Rattle.ir_core.specs.Reads.{end_of}
 use Rattle.ir_core.specs.declared.function.Block.{Block}
 use Rattle.ir_core.specs.declared.function.Function.{Function}
@@ -11,24 +12,30 @@ use Rattle.ir_core.specs.declared.instruction.Inst.{Inst}
 use Rattle.ir_core.specs.declared.operand.Operand.TheVariants as operands
 use Rattle.ir_core.specs.declared.operand.Register.{Register}
 use Rattle.ir_core.specs.declared.operand.Register.TheVariants as registers
+use Rattle.ir_core.specs.declared.terminator.Terminator.{Terminator}
+use Rattle.ir_meaning.proofs.Equations.{one_inst}
 use Rattle.ir_meaning.proofs.Pieces.{not_in_empty}
 use Rattle.needed.specs.Needed.{IsNeeded, by_end, by_inst, ReadsRegister}
 use Rattle.needed.specs.Operands.{operands_of}
-use Rattle.draft_steps.specs.Cleaning.{AreLeft, AreRead, HaveInsts, IsBlockLeft, IsCleaning, IsNeededWith, KeepsUses, ReadsGoUp}
-use Rattle.draft.specs.Drafts.{Stands, numbers_in, numbers_of, orders_of}
-use Rattle.places.specs.Orders.{none, place_in}
+use Rattle.draft_steps.specs.Cleaning.{AreLeft, AreRead, HaveInsts, IsBlockLeft, IsCleaning, IsNeededWith, KeepsUses, ReadsStand}
+use Rattle.draft.specs.Drafts.{Stands, function_of, numbers_in, numbers_of, orders_of}
+use Rattle.places.specs.Orders.{none}
 use Rattle.readers.specs.Readers.{IsReader}
-use Rattle.draft.specs.Whole.{IsWhole}
+use Rattle.draft.specs.Whole.{HasNoCycles, IsWhole}
 use Rattle.draft.specs.declared.draft.Draft.{Draft}
 use Rattle.places.specs.declared.place.Place.{Place}
 use Rattle.readers.proofs.Changing.{inst_there}
 use Rattle.draft_steps.proofs.Leaving.{left_row}
 use Rattle.draft_steps.proofs.Living.{needed_alone, needed_through}
+use Rattle.draft_steps.proofs.Needing.{AreRows}
+use Rattle.draft_steps.proofs.NoCycles.{IsAssignedAt, assigned_there, assigned_through, names_on, not_at_itself}
 use Rattle.draft_steps.proofs.PutAll.{append_none}
-use Rattle.draft_steps.proofs.RowPlaces.{is_in, kept_of}
+use Rattle.draft.proofs.Reached.{reached_along}
+use Rattle.draft_steps.proofs.RowPlaces.{kept_of}
 use Rattle.draft_steps.proofs.Starting.{cleaning_begins}
 use Rattle.draft_steps.proofs.Taking.{all_needed, cleaning_done, cleaning_dropping}
-use Rattle.draft_steps.proofs.WhoReads.{inst_reads_it, who}
+use Rattle.draft_steps.proofs.WhoReads.{InstReads, who}
+use Rattle.draft_steps.proofs.WholeRows.{whole_rows}
 use Rattle.draft.proofs.Wholeness.{stands_there}
 
 -- what a terminator reads is needed
@@ -70,7 +77,7 @@ module _ (old new : Draft) (whole : IsWhole old) (whole_now : IsWhole new) (root
       record { block = block; is_block = is_block; is_inst = left.kept n inst (was_kept b n stands).1 at.is_inst }
 
   -- and reads what it read
-  read_first : (b k : ℕ) (r : Register) → Stands new b k → ReadsRegister new.arena b k r → ReadsRegister old.arena b k r
+  read_first : (b k : ℕ) (r : Register) → Stands new b k → ReadsRegister new.arena b k r → (i : InstReads old.arena b k r) × IsInst new.arena b k i.inst
   read_first b k r stands h =
       elim (who new.arena b k r h) [
         | inr e ↦
@@ -80,19 +87,33 @@ module _ (old new : Draft) (whole : IsWhole old) (whole_now : IsWhole new) (root
             let last = e.last in
             absurd (omega arith)
         | inl i ↦
-            let (stood, kept) = was_kept b k stands in
-            let (block, inst, is_block, here) = inst_there old.arena b k (stands_there old whole b k stood) in
-            let left : IsBlockLeft (is.keep b) block i.block = block_kept (is.keep b) (slice_get old.arena.blocks b) (slice_get new.arena.blocks b) block i.block is_block i.is_block (is.is_left.blocks b) in
-            let same : i.inst ≡ inst = same_Some i.inst inst (sym i.is_inst ∙ left.kept k inst kept here) in
-            inst_reads_it old.arena b k block inst r is_block here (subst (λ (x : Inst). Contains (operands_of x.op) (operands.Register r)) same i.has)
+            let (block, inst, is_block, here) = inst_there old.arena b k (stands_there old whole b k (stood_first b k stands)) in
+            let now : IsInst new.arena b k inst = inst_left b k inst stands (record { block = block; is_block = is_block; is_inst = here }) in
+            let same : i.inst ≡ inst = one_inst new.arena b k i.inst inst (record { block = i.block; is_block = i.is_block; is_inst = i.is_inst }) now in
+            (record { block = block; is_block = is_block; inst = inst; is_inst = here; has = subst (λ (x : Inst). Contains (operands_of x.op) (operands.Register r)) same i.has }, now)
       ]
 
-  -- in a function of one block all that is read is needed
-  pub one_block_needed : length new.arena.blocks < 2 → ReadsGoUp old → AreRead new [] → (b n : ℕ) → Stands new b n → IsNeeded new.arena (registers.Result b n)
-  one_block_needed one up read =
-      all_needed new whole_now (λ b n. place_in (numbers_in old b) n) (λ b. length (numbers_in old b)) one
-      (λ b n stands. is_in (numbers_in old b) n (stood_first b n stands))
-      (λ b k n stands h. up b k n (stood_first b k stands) (read_first b k (registers.Result b n) stands h))
+  -- and each block names what it named
+  names_first : (b c : ℕ) → Names new.arena b c → Names old.arena b c
+  names_first b c (block, is_block, named) = by (slice_get old.arena.blocks b) (slice_get new.arena.blocks b) refl is_block (is.is_left.blocks b)
+    where
+      by : (o o' : Option Block) → slice_get old.arena.blocks b ≡ o → o' ≡ Some block → AreLeft (is.keep b) o o' → Names old.arena b c
+      by None None at at' left = absurd cc
+      by None (Some y) at at' left = absurd left
+      by (Some x) None at at' left = absurd cc
+      by (Some x) (Some y) at at' left =
+          let end : block.end ≡ x.end = ap (λ (z : Block). z.end) (sym (same_Some y block at')) ∙ left.end in
+          (x, at, subst (λ (t : Terminator). Contains (targets_of t) c) end named)
+
+  -- where there are no cycles all that is read is needed
+  pub needed_without_cycles : AreRows old.arena (numbers_of old) → MeetsChecks (function_of old) → HasNoCycles new.arena → AreRead new [] → (b n : ℕ) → Stands new b n → IsNeeded new.arena (registers.Result b n)
+  needed_without_cycles good checks none read =
+      all_needed new whole_now (IsAssignedAt old)
+      (λ p stands.
+      let (block, is_block, lt) = stands_there new whole_now p.0 p.1 stands in
+      not_at_itself old p (reached_along new.arena (function_of old) (λ b c named. names_on old good b c (names_first b c named)) p.0 (none.reached p.0 (slice_get_within new.arena.blocks p.0 block is_block))))
+      (assigned_through old)
+      (λ b n c k stands h. let (i, now) = read_first c k (registers.Result b n) stands h in assigned_there old good checks b n c k i (stood_first c k stands) (none.no_phi c k i.inst now))
       read
 
 -- what was clean and is cleaned again is clean
@@ -110,14 +131,12 @@ module _ (f : Function) (rows : List (List ℕ)) (old new : Draft) (whole : IsWh
 
 -- ---- a draft of which what nothing reads was taken out
 
-module _ (old mid : Draft) (whole : IsWhole old) (whole_mid : IsWhole mid) (orders : orders_of mid ≡ orders_of old) (used : List Register)
+module _ (old mid : Draft) (whole : IsWhole old) (whole_mid : IsWhole mid) (used : List Register)
     (is : IsCleaning old.arena (numbers_of old) mid.arena (numbers_of mid) used) where
-  -- is clean where it has one block
-  pub clean_by_order : length mid.arena.blocks < 2 → (length old.arena.blocks < 2 → ReadsGoUp old) → AreRead mid [] → IsCleaning old.arena (numbers_of old) mid.arena (numbers_of mid) []
-  clean_by_order few ordered read =
-      let size = ap length orders in
-      let few_before : length old.arena.blocks < 2 = omega (arith, few, size, whole.ordered, whole_mid.ordered) in
-      cleaning_done mid whole_mid old.arena (numbers_of old) used (λ b n among stands. one_block_needed old mid whole whole_mid used is few (ordered few_before) read b n stands) is
+  -- is clean where it has no cycles
+  pub clean_without_cycles : ReadsStand old → MeetsChecks (function_of old) → HasNoCycles mid.arena → AreRead mid [] → IsCleaning old.arena (numbers_of old) mid.arena (numbers_of mid) []
+  clean_without_cycles stand checks none read =
+      cleaning_done mid whole_mid old.arena (numbers_of old) used (λ b n among stands. needed_without_cycles old mid whole whole_mid used is (whole_rows old whole stand) checks none read b n stands) is
 
   -- and where what is still used is needed
   pub clean_by_uses : ((b n : ℕ) → Contains used (registers.Result b n) → Stands mid b n → IsNeeded mid.arena (registers.Result b n)) → IsCleaning old.arena (numbers_of old) mid.arena (numbers_of mid) []

@@ -18,7 +18,8 @@ pub mod Fallen
 pub mod Lessening
 pub mod Clearing
 pub mod ToEnds
-pub mod OneBlock
+pub mod FiniteOrder
+pub mod NoCycles
 pub mod MoreOften
 pub mod OneStep
 pub mod Touching

@@ -7,7 +7,8 @@ use Rattle.std.proofs.lemmas.List.{length-map}
 use Rattle.std.proofs.lemmas.List.Elements.{All-contains_itself, All-map, All-weaker, Contains-append_cases, Contains-append_left, Contains-append_right}
 use Rattle.std.proofs.lemmas.Option.{same_Some, slice_get-map, slice_get_within}
 use Rattle.ir_core.specs.Blocks.{HasInst, IsBlock}
-use Rattle.ir_core.specs.Checks.{IsInst, MeetsChecks}
+use Rattle.ir_core.specs.Checks.{IsInst, IsPhi, MeetsChecks}
+use Rattle.ir_core.specs.Names.{Name}
 use Rattle.ir_core.specs.Reads.{end_of}
 use Rattle.ir_core.specs.declared.function.Block.{Block}
 use Rattle.ir_core.specs.declared.function.Function.{Function}
@@ -33,12 +34,15 @@ use Rattle.rewriter.specs.Applied.{IsRewritten}
 use Rattle.rewriter.specs.Laws.{RewrittenFunctionsMeetChecks}
 use Rattle.rewriter.specs.Put as target
 use Rattle.rewriter.specs.Ready.{IsBound}
+use Rattle.rewriter.proofs.Matched.{computed_no_phi}
+use Rattle.rewriter.proofs.Placed.{all_aligned, put_from}
+use Rattle.rewriter.proofs.Putting.{put_is_computed, put_op}
 use Rattle.rewriter.proofs.Rooted.{is_bound, most_put}
 use Rattle.substitution.specs.Substitution.{Substitution, substituted_block, substituted_inst, substituted_operand}
 use Rattle.substitution.specs.declared.rewrite.Rewrite.{Rewrite}
 use Rattle.substitution.proofs.Pieces.{map_in}
 use Rattle.readers.specs.Changes.{gone, inst_changed, instead, replaced}
-use Rattle.draft_steps.specs.Cleaning.{AreRead, IsClean, IsCleaning, IsNeededWith, KeepsUses, ReadsGoUp, ends, reads, is_one}
+use Rattle.draft_steps.specs.Cleaning.{AreRead, IsClean, IsCleaning, IsNeededWith, KeepsUses, ends, reads, is_one}
 use Rattle.readers.specs.Counts.{operands_at, register_of, times_in_function}
 use Rattle.draft.specs.Drafts.{AreTouched, HasRoomFor, Stands, function_of, numbers_of, orders_of, placed, placed_binding}
 use Rattle.places.specs.Orders.{none}
@@ -56,7 +60,6 @@ use Rattle.draft_steps.proofs.Leaving.{function_at}
 use Rattle.draft_steps.proofs.MoreOften.{put_more_often, replaced_as_often}
 use Rattle.draft_steps.proofs.Needing.{AreRows}
 use Rattle.draft_steps.proofs.Numbered.{IsRootIn, not_own, put_known, put_stand, result_known, result_stands, root_in, rule_applied}
-use Rattle.draft_steps.proofs.OneBlock.{reads_go_up}
 use Rattle.readers.proofs.Places.{AreFew}
 use Rattle.draft_steps.proofs.PutAll.{with_has, with_inst}
 use Rattle.draft_steps.proofs.PutFor.{are_put}
@@ -82,6 +85,13 @@ there_too : (v : Rewrite) (n : ℕ) (sigma : Substitution) (d : ℕ) (o o' : Opt
 there_too v n sigma d None o' x e are = absurd cc
 there_too v n sigma d (Some z) None x e are = absurd are
 there_too v n sigma d (Some z) (Some y) x e are = (y, refl, subst (λ (u : Block). IsPutBlock v n sigma d u y) (same_Some z x e) are)
+
+-- rules put no phis
+put_no_phi : (rule : Rule) (m : Binding) (name : Name) (j : ℕ) (inst : Inst) → slice_get (target.rewrite_of rule m name).put j ≡ Some inst → ¬ IsPhi inst.op
+put_no_phi rule m name j inst at =
+    let p = put_from rule m name rule.target 0 (all_aligned rule m) j inst at in
+    let N : ℕ = target.class_width rule m p.statement.class in
+    subst (λ (x : Inst). ¬ IsPhi x.op) (sym p.is) (computed_no_phi (put_op rule m N p.statement.op) (put_is_computed rule m N p.statement.op p.kept))
 
 module _ (stands_before : ReadsStandBefore) (old : Draft) (settled : IsSettled old) (rule : Rule) (m : Binding) (checks : MeetsChecks (function_of old)) (is_rule : IsRule rule)
     (matches : IsMatch (function_of old) m.block (placed_binding old m).place rule (placed_binding old m)) where
@@ -123,9 +133,11 @@ module _ (stands_before : ReadsStandBefore) (old : Draft) (settled : IsSettled o
       }
 
   pub readable : (inst : Inst) → IsInst old.arena m.block m.place inst → MayPut old.arena m.block (target.rewrite_of rule (numbered old.arena m) inst.name).put
-  readable inst is = λ j i at.
-      All-weaker (Contains (operands_of i.op)) (MayRead old.arena m.block j) (λ a has. put_known stands_before rule old.arena (numbers_of old) good m checks is_rule matches inst.name root j i at a has) (operands_of i.op)
-      (All-contains_itself (operands_of i.op))
+  readable inst is = λ j i at. (
+    put_no_phi rule (numbered old.arena m) inst.name j i at,
+    All-weaker (Contains (operands_of i.op)) (MayRead old.arena m.block j) (λ a has. put_known stands_before rule old.arena (numbers_of old) good m checks is_rule matches inst.name root j i at a has) (operands_of i.op)
+        (All-contains_itself (operands_of i.op)),
+  )
 
   pub result_readable : (inst : Inst) → IsInst old.arena m.block m.place inst
       → MayRead old.arena m.block (length (target.rewrite_of rule (numbered old.arena m) inst.name).put) (target.rewrite_of rule (numbered old.arena m) inst.name).result
@@ -172,10 +184,8 @@ module _ (stands_before : ReadsStandBefore) (old : Draft) (settled : IsSettled o
         (subst (λ (l : List (List ℕ)). IsRewritten (function_of old) (placed_binding old m) rule (function_at Put l)) (sym put.numbers)
         (rule_applied stands_before rule old.arena (numbers_of old) good m checks is_rule matches root))
 
-    pub go_up : RewrittenFunctionsMeetChecks → HasNoFault rule → NumbersFit (function_of old) → length mid.arena.blocks < 2 → ReadsGoUp mid
-    go_up meets typed fit =
-        reads_go_up stands_before mid good_then
-        (meets (function_of old) (function_of mid) m.block (placed_binding old m).place rule (placed_binding old m) is_rule typed checks fit matches is_rewritten)
+    pub checks_then : RewrittenFunctionsMeetChecks → HasNoFault rule → NumbersFit (function_of old) → MeetsChecks (function_of mid)
+    checks_then meets typed fit = meets (function_of old) (function_of mid) m.block (placed_binding old m).place rule (placed_binding old m) is_rule typed checks fit matches is_rewritten
 
     fell_then : (r : Register) → Contains (map (λ number. registers.Result m.block number) (put_numbers old.arena w)
         ++ filter_map register_of (operands_at g (record { block = m.block; number = m.place }))) r → Contains mid.fallen.items r

@@ -1,11 +1,11 @@
 -- The function of an arena has what the arena has, each number at its place.
-use Rattle.std.proofs.Common.{◌≡◌, ◌⊎◌, inl, inr, ℕ, ◌<◌, List, [], ◌∷◌, length, map, Option, Some, refl, sym, ap, subst, ◌∙◌, arith}
+use Rattle.std.proofs.Common.{◌≡◌, ◌⊎◌, inl, inr, ℕ, ◌<◌, List, length, map, Option, Some, refl, sym, ap, subst, ◌∙◌, arith}
 use Rattle.std.specs.Prelude.{Contains, option_map, slice_get, unwrap_or}
 use Rattle.std.proofs.lemmas.Option.{same_Some, slice_get_cases, slice_get_within}
 use Rattle.ir_core.specs.Blocks.{IsBlock, Names, targets_of}
 use Rattle.ir_core.specs.Checks.{IsInst}
 use Rattle.ir_core.specs.Reads.{Read, end_of, reads_at}
-use Rattle.ir_core.specs.Walks.{IsReached, IsWalk}
+use Rattle.ir_core.specs.Walks.{IsReached}
 use Rattle.ir_core.specs.declared.function.Block.{Block}
 use Rattle.ir_core.specs.declared.function.Function.{Function}
 use Rattle.ir_core.specs.declared.instruction.Inst.{Inst}
@@ -23,6 +23,7 @@ use Rattle.draft.specs.Drafts.{block_of, insts_of, placed}
 use Rattle.places.specs.Orders.{place_in}
 use Rattle.draft_steps.specs.Arranged.{AreArranged, arranged, row_of}
 use Rattle.draft_steps.proofs.Once.{once_on}
+use Rattle.draft.proofs.Reached.{reached_along}
 use Rattle.draft_steps.proofs.Reading.{end_substituted, operands_read, read_cases, reads_substituted, targets_substituted}
 use Rattle.draft_steps.proofs.Rows.{as_many_insts, block_at, block_back, inst_at, inst_back, number_there}
 
@@ -66,21 +67,11 @@ module _ (arena : Function) (rows : List (List ℕ)) (are : AreArranged arena ro
       let named : Contains (targets_of (substituted_end to block.end)) c = subst (λ (x : Block). Contains (targets_of x.end) c) (sym same) h.2 in
       (block, at, subst (λ (l : List ℕ). Contains l c) (targets_substituted to block.end) named)
 
-  walk_on : (blocks : List ℕ) → IsWalk arena blocks → IsWalk F blocks
-  walk_on [] h = h
-  walk_on (b ∷ []) h = h
-  walk_on (c ∷ b ∷ before) h = (names_on b c h.0, walk_on (b ∷ before) h.1)
-
-  walk_back : (blocks : List ℕ) → IsWalk F blocks → IsWalk arena blocks
-  walk_back [] h = h
-  walk_back (b ∷ []) h = h
-  walk_back (c ∷ b ∷ before) h = (names_back b c h.0, walk_back (b ∷ before) h.1)
-
   pub reached_on : (b : ℕ) → IsReached arena b → IsReached F b
-  reached_on b h = (h.0, walk_on (b ∷ h.0) h.1)
+  reached_on = reached_along arena F names_on
 
   pub reached_back : (b : ℕ) → IsReached F b → IsReached arena b
-  reached_back b h = (h.0, walk_back (b ∷ h.0) h.1)
+  reached_back = reached_along F arena names_back
 
   -- a place before the end of a block is that of a number
   pub number_at : (b k : ℕ) → k < end_of F b → (n : ℕ) × (slice_get (row_of rows b) k ≡ Some n)

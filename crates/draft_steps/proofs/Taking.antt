@@ -1,5 +1,5 @@
 -- Cleaning a draft, step by step.
-use Rattle.std.proofs.Common.{◌≡◌, ℕ, zero, suc, ◌+◌, ◌<◌, ◌≤◌, ◌⊎◌, inl, inr, Bool, true, false, ◌↔◌, List, [], ◌∷◌, ◌++◌, length, get_or, refl, sym, ap, subst, ◌∙◌, arith}
+use Rattle.std.proofs.Common.{◌≡◌, ℕ, zero, suc, ◌<◌, ◌≤◌, ◌⊎◌, inl, inr, Bool, true, false, ◌↔◌, List, [], ◌∷◌, ◌++◌, length, map, get_or, refl, sym, ap, subst, ◌∙◌, arith}
 use Rattle.std.specs.Prelude.{Contains}
 use Rattle.std.specs.List.{filter_map}
 use Rattle.std.proofs.lemmas.Bool.{cases_Bool, cases_lt}
@@ -16,6 +16,7 @@ use Rattle.ir_core.specs.declared.instruction.Op.{Op}
 use Rattle.ir_meaning.proofs.Pieces.{cases_in, first_in, later_in, not_in_empty}
 use Rattle.needed.specs.Needed.{IsNeeded, by_end, by_inst, ReadsRegister}
 use Rattle.needed.specs.Operands.{operands_of}
+use Rattle.substitution.proofs.Pieces.{map_in}
 use Rattle.use_counts.specs.Uses.{IsNamedAt, IsUseCount}
 use Rattle.readers.specs.Changes.{changed_at, taken_out, without}
 use Rattle.draft_steps.specs.Cleaning.{AreRead, IsCleaning, IsNeededWith, ends, reads, is_one}
@@ -26,6 +27,7 @@ use Rattle.readers.specs.Readers.{arena_place}
 use Rattle.draft.specs.Whole.{IsWhole}
 use Rattle.draft.specs.declared.draft.Draft.{Draft}
 use Rattle.places.specs.declared.place.Place.{Place}
+use Rattle.draft_steps.proofs.FiniteOrder.{from_last}
 use Rattle.draft_steps.proofs.Needing.{reader_of}
 use Rattle.readers.proofs.Reading.{arena_place_inst, reads_written}
 use Rattle.draft.proofs.Rows.{marked}
@@ -33,6 +35,18 @@ use Rattle.draft_steps.proofs.Silencing.{cleaning_less}
 use Rattle.draft_steps.proofs.RowPlaces.{contained, in_or_out, is_in}
 use Rattle.draft_steps.proofs.WhoReads.{EndReads, InstReads, end_reads_it, who}
 use Rattle.draft.proofs.Wholeness.{marked_stands, stands_marked, stands_there}
+
+-- all numbers of some rows, each with its row
+abbrev all_in : List (List ℕ) → List (ℕ × ℕ)
+all_in [] = []
+all_in (row ∷ rows) = map (λ n. (0, n)) row ++ map (λ (p : ℕ × ℕ). (suc p.0, p.1)) (all_in rows)
+
+has_all : (rows : List (List ℕ)) (b n : ℕ) → Contains (get_or rows b []) n → Contains (all_in rows) (b, n)
+has_all [] b n has = absurd (not_in_empty n has)
+has_all (row ∷ rows) zero n has = Contains-append_left (map (λ n. (0, n)) row) (map (λ (p : ℕ × ℕ). (suc p.0, p.1)) (all_in rows)) (0, n) (map_in (λ n. (0, n)) row n has)
+has_all (row ∷ rows) (suc b) n has =
+    Contains-append_right (map (λ n. (0, n)) row) (map (λ (p : ℕ × ℕ). (suc p.0, p.1)) (all_in rows)) (suc b, n)
+    (map_in (λ (p : ℕ × ℕ). (suc p.0, p.1)) (all_in rows) (b, n) (has_all rows b n has))
 
 -- the register is of no instruction that stands
 abbrev pub IsGone : Draft → Register → Type 0
@@ -130,42 +144,33 @@ module _ (d : Draft) (whole : IsWhole d) where
                 subst (λ (k : ℕ). ¬ Stands d c k) number (subst (λ (x : ℕ). ¬ Stands d x n) block out))
           ]
 
-  -- where what reads an instruction has a higher rank, and each instruction is read, each is needed
-  module _ (rank : ℕ → ℕ → ℕ) (bound : ℕ → ℕ) (one : length d.arena.blocks < 2) (below : (b n : ℕ) → Stands d b n → rank b n < bound b)
-      (up : (b k n : ℕ) → Stands d b k → ReadsRegister d.arena b k (registers.Result b n) → rank b n < rank b k) (read : AreRead d []) where
-    first_block : (b : ℕ) → b < length d.arena.blocks → b ≡ 0
-    first_block b lt = omega arith
+  -- where each instruction is read, and comes in a strict order before what reads it, each is needed
+  module _ (Before : ℕ × ℕ → ℕ × ℕ → Type 0) (apart : (p : ℕ × ℕ) → Stands d p.0 p.1 → ¬ Before p p) (transitive : (p q r : ℕ × ℕ) → Before p q → Before q r → Before p r)
+      (up : (b n c k : ℕ) → Stands d c k → ReadsRegister d.arena c k (registers.Result b n) → Before (b, n) (c, k)) (read : AreRead d []) where
+    abbrev BeforeStanding : ℕ × ℕ → ℕ × ℕ → Type 0
+    BeforeStanding p q = Stands d q.0 q.1 × Before p q
 
-    from_behind : (left b n : ℕ) → Stands d b n → bound b ≤ rank b n + left → IsNeeded d.arena (registers.Result b n)
-    from_behind zero b n stands last = absurd (past (rank b n) (bound b) last (below b n stands))
-      where
-        past : (p l : ℕ) → l ≤ p + 0 → p < l → ⊥
-        past p l le lt = omega arith
-    from_behind (suc left) b n stands last =
-        elim (read b n stands) [
-          | inr waits ↦ absurd (not_in_empty (registers.Result b n) waits)
-          | inl (c, k, h) ↦ elim (who d.arena c k (registers.Result b n) h) [
-            | inr e ↦ by_end c (end_reads_there c k (registers.Result b n) e)
+    abbrev NeededThere : ℕ × ℕ → Type 0
+    NeededThere p = Stands d p.0 p.1 → IsNeeded d.arena (registers.Result p.0 p.1)
+
+    needed_through_readers : (p : ℕ × ℕ) → ((q : ℕ × ℕ) → BeforeStanding p q → NeededThere q) → NeededThere p
+    needed_through_readers p behind stands =
+        let r : Register = registers.Result p.0 p.1 in
+        elim (read p.0 p.1 stands) [
+          | inr waits ↦ absurd (not_in_empty r waits)
+          | inl (c, k, h) ↦ elim (who d.arena c k r h) [
+            | inr e ↦ by_end c (end_reads_there c k r e)
             | inl i ↦ elim (stands_or c k) [
-              | inr out ↦ absurd (gone_reads_nothing c k (registers.Result b n) out i)
-              | inl there ↦
-                  let (block, is_block, lt) = stands_there d whole b n stands in
-                  let same : c ≡ b = first_block c (slice_get_within d.arena.blocks c i.block i.is_block) ∙ sym (first_block b (slice_get_within d.arena.blocks b block is_block)) in
-                  let stands_too : Stands d b k = subst (λ (x : ℕ). Stands d x k) same there in
-                  let here : ReadsRegister d.arena b k (registers.Result b n) = subst (λ (x : ℕ). ReadsRegister d.arena x k (registers.Result b n)) same h in
-                  by_inst b k (from_behind left b k stands_too (more (rank b n) (rank b k) (bound b) left (up b k n stands_too here) last)) here
+              | inr out ↦ absurd (gone_reads_nothing c k r out i)
+              | inl there ↦ by_inst c k (behind (c, k) (there, up p.0 p.1 c k there h) there) h
             ]
           ]
         ]
-      where
-        more : (p q l left : ℕ) → p < q → l ≤ p + suc left → l ≤ q + left
-        more p q l left lt le = omega arith
 
     pub all_needed : (b n : ℕ) → Stands d b n → IsNeeded d.arena (registers.Result b n)
-    all_needed b n stands = from_behind (bound b) b n stands (by (rank b n) (bound b))
-      where
-        by : (p l : ℕ) → l ≤ p + l
-        by p l = omega arith
+    all_needed b n =
+        from_last BeforeStanding (λ p own. apart p own.0 own.1) (λ p q r one two. (two.0, transitive p q r one.1 two.1)) NeededThere needed_through_readers
+        (all_in (numbers_of d)) (λ p q behind. has_all (numbers_of d) q.0 q.1 behind.0) (b, n)
 
 -- ---- what nothing reads is taken out
 

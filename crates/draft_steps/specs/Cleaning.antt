@@ -1,5 +1,5 @@
 -- What is left of a draft while it is cleaned, and what is still to be looked at.
-use Rattle.std.specs.Prelude.{◌≡◌, ◌⊎◌, ◌<◌, ◌≤◌, ℕ, Bool, true, List, [], length, Option, None, Some, Contains, option_map, slice_get, slice_index_or, sum_by}
+use Rattle.std.specs.Prelude.{◌≡◌, ◌⊎◌, ◌≤◌, ℕ, Bool, true, List, [], length, Option, None, Some, Contains, option_map, slice_get, slice_index_or, sum_by}
 use Rattle.std.specs.List.{filter, filter_map}
 use Rattle.ir_core.specs.Blocks.{HasInst}
 use Rattle.ir_core.specs.Reads.{end_of}
@@ -11,8 +11,7 @@ use Rattle.ir_core.specs.declared.operand.Register.TheVariants as registers
 use Rattle.needed.specs.Needed.{IsNeeded, ReadsRegister}
 use Rattle.needed.specs.Operands.{operands_of}
 use Rattle.readers.specs.Counts.{register_of, times_in_function}
-use Rattle.draft.specs.Drafts.{Stands, numbers_in}
-use Rattle.places.specs.Orders.{place_in}
+use Rattle.draft.specs.Drafts.{Stands}
 use Rattle.draft.specs.declared.draft.Draft.{Draft}
 
 -- A register is needed, or it would be if these were.
@@ -70,9 +69,9 @@ HaveInsts d these = (b n : ℕ) → Contains these (registers.Result b n) → Ha
 abbrev pub AreRead : Draft → List Register → Type 0
 AreRead d waits = (b n : ℕ) → Stands d b n → ((c : ℕ) × (k : ℕ) × ReadsRegister d.arena c k (registers.Result b n)) ⊎ Contains waits (registers.Result b n)
 
--- what an instruction that stands reads of its own block stands before it
-abbrev pub ReadsGoUp : Draft → Type 0
-ReadsGoUp d = (b k n : ℕ) → Stands d b k → ReadsRegister d.arena b k (registers.Result b n) → place_in (numbers_in d b) n < place_in (numbers_in d b) k
+-- what is read stands
+abbrev pub ReadsStand : Draft → Type 0
+ReadsStand d = (b k c n : ℕ) → ReadsRegister d.arena b k (registers.Result c n) → Stands d c n
 
 -- all of the function is needed
 abbrev pub AllNeeded : Function → Type 0

@@ -1,12 +1,13 @@
 //! Cleaning drafts.
 
 ghost use Rattle.std.specs.Prelude.{◌≡◌, ◌+◌, ◌++◌, ◌∷◌, [], ◌↔◌, ◌⊎◌, ◌<◌, ℕ, List as Seq, length, Contains, IsTrue, IsFalse, false, slice_index_or, IfSome, IfNone, IfOk, OnOk};
+ghost use Rattle.ir_core.specs.Checks.{MeetsChecks};
 ghost use Rattle.ir_core.specs.declared.function.Function.{Function};
 ghost use Rattle.ir_core.specs.declared.operand.Operand.TheVariants as operands;
 ghost use Rattle.ir_core.specs.declared.operand.Register.{Register as Named};
 ghost use Rattle.needed.specs.Needed.{IsNeeded};
-ghost use Rattle.draft_steps.specs.Cleaning.{AreRead, HaveInsts, IsCleaning, IsNeededWith, KeepsUses, ReadsGoUp, registers_read};
-ghost use Rattle.draft.specs.Drafts.{Stands, numbers_of, orders_of};
+ghost use Rattle.draft_steps.specs.Cleaning.{AreRead, HaveInsts, IsCleaning, IsNeededWith, KeepsUses, ReadsStand, registers_read};
+ghost use Rattle.draft.specs.Drafts.{Stands, function_of, numbers_of, orders_of};
 ghost use Rattle.draft.specs.Whole.{IsWhole};
 
 use crate::leading::leads_to_a_terminator;
@@ -21,9 +22,9 @@ use use_counts::uses_of;
 
 /// Takes out what is needed no more since a rewrite, and gives the registers of which a use went and which are still used.
 ///
-/// What nothing reads goes, and with it what it alone read. In a function of one block all else is needed, since what reads an
-/// instruction stands behind it. In others what is left of a loop may read itself alone: there a walk from the terminators finds what is
-/// needed, but where each register that lost a use is seen to be.
+/// What nothing reads goes, and with it what it alone read. In a function without cycles all else is needed, since what reads an
+/// instruction leads to a terminator. In others what is left of a cycle may read itself alone: there a walk from the terminators finds
+/// what is needed, but where each register that lost a use is seen to be.
 pub(crate) fn clean_draft(
     alloc: Global,
     draft: &mut Draft,
@@ -33,7 +34,8 @@ pub(crate) fn clean_draft(
     requires waits { (b n : ℕ) → Stands draft.old b n → IsNeededWith draft.old.arena draft.old.fallen.items (Register.Result b n) }
     requires result { (r : Named) → rewritten.now.result ≡ operands.Register r → IsNeeded draft.old.arena r }
     requires read { AreRead draft.old draft.old.fallen.items }
-    requires ordered { length draft.old.arena.blocks < 2 → ReadsGoUp draft.old }
+    requires reads_stand { ReadsStand draft.old }
+    requires checks { MeetsChecks (function_of draft.old) }
     ensures whole { OnOk result (IsWhole draft.new) }
     ensures orders { OnOk result (orders_of draft.new ≡ orders_of draft.old) }
     ensures none_fell { OnOk result (draft.new.fallen.items ≡ []) }
@@ -43,7 +45,7 @@ pub(crate) fn clean_draft(
 {
     let mut used = Vec::new(alloc);
     take_unused(draft, &mut used)?;
-    if draft.blocks() > 1 && !are_needed(draft, rewritten, used.as_slice()) {
+    if draft.has_cycles && !are_needed(draft, rewritten, used.as_slice()) {
         take_unneeded(alloc, draft)?;
         take_unused(draft, &mut used)?;
     }

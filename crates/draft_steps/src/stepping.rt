@@ -32,8 +32,8 @@ use use_counts::uses_of;
 /// root's, and those of what came, of what reads something else, and of what is read by one operand alone since then. Some of them were
 /// taken out.
 ///
-/// It takes as many steps as the rule is long, places read the root, and instructions go; and where what lost a use may be read by a loop
-/// alone, as many as the arena is long.
+/// It takes as many steps as the rule is long, places read the root, and instructions go; and where what lost a use may be read by a
+/// cycle alone, as many as the arena is long.
 pub fn step(
     alloc: Global,
     draft: &mut Draft,

@@ -1,8 +1,8 @@
 -- Blocks are reached in what a draft becomes as in what it was.
-use Rattle.std.proofs.Common.{◌≡◌, ◌↔◌, ℕ, List, [], ◌∷◌, refl, sym, subst}
+use Rattle.std.proofs.Common.{◌≡◌, ◌↔◌, ℕ, List, refl, sym, subst}
 use Rattle.std.specs.Prelude.{Contains}
 use Rattle.ir_core.specs.Blocks.{IsBlock, Names, targets_of}
-use Rattle.ir_core.specs.Walks.{IsReached, IsWalk}
+use Rattle.ir_core.specs.Walks.{IsReached}
 use Rattle.ir_core.specs.declared.function.Block.{Block}
 use Rattle.ir_core.specs.declared.function.Function.{Function}
 use Rattle.ir_core.specs.declared.terminator.Terminator.{Terminator}
@@ -19,17 +19,8 @@ use Rattle.draft.specs.declared.draft.Draft.{Draft}
 use Rattle.draft.specs.Drafts.{function_of, numbers_of, arena_of}
 use Rattle.draft.specs.Whole.{IsSettled}
 use Rattle.draft_steps.proofs.Places.{reached_back, reached_on}
+use Rattle.draft.proofs.Reached.{reached_along}
 use Rattle.draft_steps.proofs.Arranged.{is_arranged}
-
--- a walk goes on where each block names what it named
-module _ (f g : Function) (on : (b c : ℕ) → Names f b c → Names g b c) where
-  walk_along : (blocks : List ℕ) → IsWalk f blocks → IsWalk g blocks
-  walk_along [] h = h
-  walk_along (b ∷ []) h = h
-  walk_along (c ∷ b ∷ before) h = (on b c h.0, walk_along (b ∷ before) h.1)
-
-  pub reached_along : (b : ℕ) → IsReached f b → IsReached g b
-  reached_along b h = (h.0, walk_along (b ∷ h.0) h.1)
 
 targets_moved : (kept : KeptMarks) (end : Terminator) → targets_of (moved_end kept end) ≡ targets_of end
 targets_moved kept (terminators.Return a) = refl

@@ -1,15 +1,15 @@
-use Rattle.std.proofs.Common.{◌≡◌, ◌<◌, List, [], ◌++◌, Contains, Vec, Global, length, refl, sym, ap, subst, ◌∙◌, arith}
+use Rattle.std.proofs.Common.{◌≡◌, List, [], ◌++◌, Contains, Vec, Global, refl, sym, ap, subst, ◌∙◌}
 use Rattle.ir_core.specs.declared.operand.Register.{Register}
 use Rattle.ir_core.specs.declared.operand.Register.TheVariants as registers
 use Rattle.ir_meaning.proofs.Pieces.{not_in_empty}
 use Rattle.draft_steps.specs.Cleaning.{HaveInsts, IsCleaning, KeepsUses}
 use Rattle.draft.specs.Drafts.{numbers_of}
 use Rattle.draft.specs.declared.draft.Draft.{Draft}
-use Rattle.draft_steps.proofs.Clearing.{IsMadeClean, clean_by_order, clean_by_uses, cleaned_again, cleaning_starts}
+use Rattle.draft_steps.proofs.Clearing.{IsMadeClean, clean_by_uses, clean_without_cycles, cleaned_again, cleaning_starts}
 use Rattle.draft_steps.proofs.PutAll.{append_none}
 use Rattle.draft.proofs.NumberedInsts.{insts-stay}
 use Rattle.draft_steps.proofs.cleaning.clean_draft.Goals as goal
-use Rattle.draft_steps.proofs.cleaning.clean_draft.Goals.{then-blocks-gt1+then-not-are_needed+in_ok-take_unneeded+in_ok-take_unused-2, else-blocks-gt1, else-blocks-gt1-via-then-blocks-gt1+else-not-are_needed, else-blocks-gt1-via-else-blocks-gt1}
+use Rattle.draft_steps.proofs.cleaning.clean_draft.Goals.{then-draft+then-not-are_needed+in_ok-take_unneeded+in_ok-take_unused-2, else-draft, else-draft-via-then-draft+else-not-are_needed, else-draft-via-else-draft}
 
 pub are_needed-requires-clause-result : goal.are_needed-requires-clause-result
 are_needed-requires-clause-result c = λ r is.
@@ -30,15 +30,15 @@ returns c =
     let have : HaveInsts one used = e.used (λ b n has. absurd (not_in_empty (registers.Result b n) (subst (λ (l : List Register). Contains l (registers.Result b n)) c.new-used.ensures.items has))) in
     let fell : d.fallen.items ≡ d.fallen.items ++ c.new-used.result.items = sym (append_none d.fallen.items) ∙ ap (λ (l : List Register). d.fallen.items ++ l) (sym c.new-used.ensures.items) in
     let reads : (was : Draft) → KeepsUses was d d.fallen.items → KeepsUses was one used = λ was keeps. e.reads was (subst (KeepsUses was d) fell keeps) in
-    let r : IsMadeClean d c.if-blocks-gt1.draft c.if-blocks-gt1.used.items =
-    elim c.if-blocks-gt1.branch [
-      | then-blocks-gt1+then-not-are_needed+in_ok-take_unneeded+in_ok-take_unused-2 w ↦
+    let r : IsMadeClean d c.if-draft.draft c.if-draft.used.items =
+    elim c.if-draft.branch [
+      | then-draft+then-not-are_needed+in_ok-take_unneeded+in_ok-take_unused-2 w ↦
           let two = w.take_unneeded.new.draft in
           let three = w.take_unused-then-not-are_needed.new.draft in
           let last = w.take_unused-then-not-are_needed.new.used.items in
           let t = w.in_ok-take_unneeded.ensures in
           let s = w.in_ok-take_unused-2.ensures in
-          subst (λ (x : Draft). IsMadeClean d x c.if-blocks-gt1.used.items) (sym w.draft-is)
+          subst (λ (x : Draft). IsMadeClean d x c.if-draft.used.items) (sym w.draft-is)
           (subst (λ (v : Vec Register Global). IsMadeClean d three v.items) (sym w.used-is) (record {
             whole = s.whole;
             orders = s.orders ∙ (t.orders ∙ e.orders);
@@ -47,17 +47,16 @@ returns c =
             have = s.used (λ b n has. insts-stay one two e.whole t.whole t.orders b n (have b n has));
             reads = λ was keeps. s.reads was (t.reads was used (subst (λ (l : List Register). KeepsUses was one (l ++ used)) (sym e.none_fell) (reads was keeps)));
           }))
-      | else-blocks-gt1 w ↦
+      | else-draft w ↦
           let cleaned : IsCleaning d.arena (numbers_of d) one.arena (numbers_of one) [] =
-          elim w.else-blocks-gt1.branch [
-            | else-blocks-gt1-via-then-blocks-gt1+else-not-are_needed v ↦
-                clean_by_uses d one c.requires.whole e.whole e.orders used is (λ b n among stands.
+          elim w.else-draft.branch [
+            | else-draft-via-then-draft+else-not-are_needed v ↦
+                clean_by_uses d one c.requires.whole e.whole used is (λ b n among stands.
                 v.if-not-are_needed.ensures refl b n (subst (λ (l : List Register). Contains l (registers.Result b n)) (sym v.as_slice.ensures.value) among) stands)
-            | else-blocks-gt1-via-else-blocks-gt1 v ↦
-                let few : length one.arena.blocks < 2 = let count = c.blocks-2.ensures in let least = v.if-blocks-gt1.false in omega arith in
-                clean_by_order d one c.requires.whole e.whole e.orders used is few c.requires.ordered (e.read c.requires.read)
+            | else-draft-via-else-draft v ↦
+                clean_without_cycles d one c.requires.whole e.whole used is c.requires.reads_stand c.requires.checks (e.whole.cycles v.if-draft.false) (e.read c.requires.read)
           ] in
-          subst (λ (x : Draft). IsMadeClean d x c.if-blocks-gt1.used.items) (sym w.draft-is)
+          subst (λ (x : Draft). IsMadeClean d x c.if-draft.used.items) (sym w.draft-is)
           (subst (λ (v : Vec Register Global). IsMadeClean d one v.items) (sym w.used-is) (record {
             whole = e.whole;
             orders = e.orders;

@@ -11,4 +11,5 @@ returns-clause-whole c =
       known = whole.known;
       facts = whole.facts;
       readers = whole.readers;
+      cycles = whole.cycles;
     }

@@ -7,7 +7,7 @@ use Rattle.readers.specs.Readers.{IsPlaceIn}
 use Rattle.places.specs.declared.place.Place.{Place}
 use Rattle.draft_steps.proofs.Room.{room_stays}
 use Rattle.draft_steps.proofs.Settled.{is_clean, is_cleaned, is_settled}
-use Rattle.draft_steps.proofs.OneStep.{are_read, are_touched, bound, go_up, good_then, is_rewritten, keeps_then, put_places, readable, replaced_places, result_is_needed, result_readable, room_then, root_inst, root_is, root_place, root_stands, waits}
+use Rattle.draft_steps.proofs.OneStep.{are_read, are_touched, bound, checks_then, good_then, is_rewritten, keeps_then, put_places, readable, replaced_places, result_is_needed, result_readable, room_then, root_inst, root_is, root_place, root_stands, waits}
 use Rattle.draft_steps.proofs.Touching.{all_among, put_among, replaced_among, root_among}
 use Rattle.draft_steps.proofs.stepping.step.Goals as goal
 
@@ -45,11 +45,17 @@ clean_draft-requires-clause-read c =
     let p = c.in_ok-rewritten.ensures.rewritten (root_inst c.reads_of_a_block_stand_before.ensures c.args.draft.now c.requires.settled c.args.rule.now c.args.binding.now c.requires.checks c.requires.rule c.requires.matches) r in
     are_read c.reads_of_a_block_stand_before.ensures c.args.draft.now c.requires.settled c.args.rule.now c.args.binding.now c.requires.checks c.requires.rule c.requires.matches c.rewrite_draft.new.draft c.in_ok-rewritten.ensures.whole c.in_ok-rewritten.rewritten p c.requires.clean
 
-pub clean_draft-requires-clause-ordered : goal.clean_draft-requires-clause-ordered
-clean_draft-requires-clause-ordered c =
+pub clean_draft-requires-clause-reads_stand : goal.clean_draft-requires-clause-reads_stand
+clean_draft-requires-clause-reads_stand c =
     let r = root_is c.reads_of_a_block_stand_before.ensures c.args.draft.now c.requires.settled c.args.rule.now c.args.binding.now c.requires.checks c.requires.rule c.requires.matches in
     let p = c.in_ok-rewritten.ensures.rewritten (root_inst c.reads_of_a_block_stand_before.ensures c.args.draft.now c.requires.settled c.args.rule.now c.args.binding.now c.requires.checks c.requires.rule c.requires.matches) r in
-    go_up c.reads_of_a_block_stand_before.ensures c.args.draft.now c.requires.settled c.args.rule.now c.args.binding.now c.requires.checks c.requires.rule c.requires.matches c.rewrite_draft.new.draft c.in_ok-rewritten.ensures.whole c.in_ok-rewritten.rewritten p c.rewritten_functions_meet_checks.ensures.checks c.requires.typed c.requires.numbers
+    (good_then c.reads_of_a_block_stand_before.ensures c.args.draft.now c.requires.settled c.args.rule.now c.args.binding.now c.requires.checks c.requires.rule c.requires.matches c.rewrite_draft.new.draft c.in_ok-rewritten.ensures.whole c.in_ok-rewritten.rewritten p).read
+
+pub clean_draft-requires-clause-checks : goal.clean_draft-requires-clause-checks
+clean_draft-requires-clause-checks c =
+    let r = root_is c.reads_of_a_block_stand_before.ensures c.args.draft.now c.requires.settled c.args.rule.now c.args.binding.now c.requires.checks c.requires.rule c.requires.matches in
+    let p = c.in_ok-rewritten.ensures.rewritten (root_inst c.reads_of_a_block_stand_before.ensures c.args.draft.now c.requires.settled c.args.rule.now c.args.binding.now c.requires.checks c.requires.rule c.requires.matches) r in
+    checks_then c.reads_of_a_block_stand_before.ensures c.args.draft.now c.requires.settled c.args.rule.now c.args.binding.now c.requires.checks c.requires.rule c.requires.matches c.rewrite_draft.new.draft c.in_ok-rewritten.ensures.whole c.in_ok-rewritten.rewritten p c.rewritten_functions_meet_checks.ensures.checks c.requires.typed c.requires.numbers
 
 pub returns-clause-settled : goal.returns-clause-settled
 returns-clause-settled c =
