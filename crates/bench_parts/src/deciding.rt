@@ -8,6 +8,7 @@ ghost use Rattle.std.specs.Prelude.{◌≤◌, IfOk, All};
 ghost use Rattle.rule_core.specs.Checks.{IsRule};
 ghost use Rattle.rule_core.specs.Typing.{IsTyping};
 ghost use Rattle.rule_typing.specs.Classes.{IsClassified};
+ghost use Rattle.cdcl_log.specs.Found.{most_conflicts};
 
 mod command;
 mod dimacs;
@@ -71,7 +72,7 @@ fn decide_rule(
 ) -> Result<(), Failure>
     requires rule { IsRule rule.now }
     requires classes { IsClassified rule.now }
-    requires limit { command.conflicts ≤ 1000000 }
+    requires limit { command.conflicts ≤ most_conflicts }
 {
     let file = command.folder.map(|folder| SetFile { folder, place });
     for typing in typings_of(rt, rule)?.as_slice() {
@@ -83,7 +84,7 @@ fn decide_rule(
 
 /// Decides the rules of the command's file.
 fn decide_rules(rt: HostRuntime, command: Command<'_>) -> Result<(), Failure>
-    requires { command.conflicts ≤ 1000000 }
+    requires { command.conflicts ≤ most_conflicts }
 {
     let mut place = 0usize;
     for rule in rules_of(rt, command.rules)?.as_slice() {

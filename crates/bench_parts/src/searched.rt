@@ -1,6 +1,7 @@
 //! The search of a set of clauses and the check of its log, measured.
 
 ghost use Rattle.std.specs.Prelude.{◌≤◌};
+ghost use Rattle.cdcl_log.specs.Found.{most_conflicts};
 
 use crate::failure::Failure;
 use cdcl_log::{Found, search_counted};
@@ -56,7 +57,7 @@ pub(crate) fn now(rt: &HostRuntime) -> Result<Instant, Failure> {
 
 /// Searches the set, and checks the log of a refutation.
 pub(crate) fn search_set(rt: &HostRuntime, set: &Cnf, limit: u32) -> Result<Searched, Failure>
-    requires { limit ≤ 1000000 }
+    requires { limit ≤ most_conflicts }
 {
     let start = now(rt)?;
     let mut propagations = 0;

@@ -1,7 +1,7 @@
 //! The search that the inputs of a set call for.
 
 ghost use Rattle.std.specs.Prelude.{◌≤◌, IfOk};
-ghost use Rattle.depth_first.specs.Found.{IsFound};
+ghost use Rattle.depth_first.specs.Found.{IsFound, most_conflicts};
 
 use crate::inputs::has_many_inputs;
 use clauses::Cnf;
@@ -16,7 +16,7 @@ use std::alloc::{AllocError, Global};
 ///
 /// The only error is want of memory.
 pub fn search(alloc: Global, cnf: &Cnf, limit: u32) -> Result<Found, AllocError>
-    requires { limit ≤ 1000000 }
+    requires { limit ≤ most_conflicts }
     ensures { IfOk result (IsFound cnf.now limit) }
 {
     let mut propagations = 0;
@@ -30,7 +30,7 @@ pub fn search_counted(
     limit: u32,
     propagations: &mut u64,
 ) -> Result<Found, AllocError>
-    requires { limit ≤ 1000000 }
+    requires { limit ≤ most_conflicts }
     ensures { IfOk result (IsFound cnf.now limit) }
 {
     if has_many_inputs(alloc, cnf)? {

@@ -8,6 +8,10 @@ use Rattle.clauses.specs.ClauseSet.{all_clauses, clauses_of_steps, LogFollows, L
 use Rattle.depth_first.specs.declared.found.Found.{Found}
 use Rattle.depth_first.specs.declared.found.Found.TheVariants.{Sat, Unsat, Limit}
 
+-- the most clauses that a search may be told to learn, so that clause numbers fit a `u32`
+abbrev pub most_conflicts : ℕ
+most_conflicts = 1000000
+
 -- a model: one value for each variable, and every clause is true
 pub record IsModel (set : Cnf) (values : List Bool) : Type 0 where
   pub each_variable : length values ≡ set.count

@@ -4,7 +4,7 @@ ghost use Rattle.std.specs.Prelude.{◌≡◌, ◌+◌, ◌^◌, ◌<◌, ◌≤
 ghost use Rattle.clauses.specs.Literal.{IsVariable};
 ghost use Rattle.clauses.specs.Propagation.{NamesFalse};
 ghost use Rattle.clauses.specs.ClauseSet.{all_clauses};
-ghost use Rattle.depth_first.specs.Found.{IsFound, distinct_count};
+ghost use Rattle.depth_first.specs.Found.{IsFound, distinct_count, most_conflicts};
 ghost use Rattle.depth_first.specs.TrailEntries.{literals, Grows, IsOpen, IsSet};
 ghost use Rattle.depth_first.specs.Propagated.{IsPropagatedUpTo};
 ghost use Rattle.depth_first.specs.DepthFirst.{InputsSet, IsNext};
@@ -114,7 +114,7 @@ fn may_give_up(last: Entry) -> bool
 ///
 /// The only error is want of memory.
 pub fn search(alloc: Global, cnf: &Cnf, limit: u32) -> Result<Found, AllocError>
-    requires limit { limit ≤ 1000000 }
+    requires limit { limit ≤ most_conflicts }
     requires few { distinct_count cnf.now.inputs ≤ 12 }
     ensures { IfOk result (IsFound cnf.now limit) }
 {

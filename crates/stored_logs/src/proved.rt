@@ -6,7 +6,7 @@ ghost use Rattle.rule_core.specs.Checks.{IsRule};
 ghost use Rattle.rule_core.specs.Typing.{IsTyping};
 ghost use Rattle.verdict.specs.Findings.{IsReadRule};
 ghost use Rattle.verdict.specs.Honest.{StandsForRule};
-ghost use Rattle.verdict.specs.Limits.{most_conflicts};
+ghost use Rattle.verdict.specs.Found.{most_conflicts};
 ghost use Rattle.stored_logs.specs.Additions.{AddsProof, AddsProved, AddsProvedRule};
 ghost use Rattle.stored_logs.specs.Proved.{IsProved};
 

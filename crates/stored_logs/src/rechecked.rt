@@ -6,7 +6,7 @@ ghost use Rattle.rule_core.specs.Checks.{AreDistinct};
 ghost use Rattle.proof_reader.specs.Faults.{IsFault};
 ghost use Rattle.proof_reader.specs.Reading.{IsTypedIn};
 ghost use Rattle.verdict.specs.Findings.{IsReadRule};
-ghost use Rattle.verdict.specs.Limits.{most_conflicts};
+ghost use Rattle.verdict.specs.Found.{most_conflicts};
 ghost use Rattle.stored_logs.specs.Additions.{AddsVerdict};
 ghost use Rattle.stored_logs.specs.Rechecked.{IsRechecked};
 

@@ -4,7 +4,3 @@ use Rattle.std.specs.Prelude.{ℕ}
 -- how many typings of a rule are tried; of a rule that has more, none is
 abbrev pub most_typings : ℕ
 most_typings = 4096
-
--- the most clauses that a search may be told to learn
-abbrev pub most_conflicts : ℕ
-most_conflicts = 1000000

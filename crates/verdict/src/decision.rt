@@ -2,7 +2,7 @@
 ghost use Rattle.std.specs.Prelude.{◌≤◌, ℕ, List as Seq, [], IfOk, OnOk};
 ghost use Rattle.clauses.specs.declared.cnf.Cnf.{Cnf as CnfOf};
 ghost use Rattle.clauses.specs.ClauseSet.{IsRefutation};
-ghost use Rattle.cdcl_log.specs.Found.{IsModel};
+ghost use Rattle.cdcl_log.specs.Found.{IsModel, most_conflicts};
 ghost use Rattle.rule_core.specs.Checks.{IsRule};
 ghost use Rattle.rule_core.specs.Typing.{IsTyping};
 ghost use Rattle.rule_core.specs.Valid.{IsValid};
@@ -49,7 +49,7 @@ pub fn decide(
 ) -> Result<Verdict, AllocError>
     requires rule { IsRule rule.now }
     requires typing { IsTyping rule.now typing.now }
-    requires limit { limit ≤ 1000000 }
+    requires limit { limit ≤ most_conflicts }
     ensures honest { IfOk result (IsHonest rule.now typing.now limit) }
 {
     let set = counterexample_clauses(alloc, rule, typing)?;
@@ -66,7 +66,7 @@ pub fn prove(
 ) -> Result<(Verdict, Cnf, Log), AllocError>
     requires rule { IsRule rule.now }
     requires typing { IsTyping rule.now typing.now }
-    requires limit { limit ≤ 1000000 }
+    requires limit { limit ≤ most_conflicts }
     ensures honest { IfOk result (λ x. IsHonest rule.now typing.now limit x.0) }
     ensures stands { IfOk result (λ x. StandsForRule rule.now typing.now x.1) }
     ensures log { IfOk result (λ x. IsLogOf x.0 x.1 x.2) }
@@ -93,7 +93,7 @@ pub fn readmit(
 ) -> Result<Verdict, AllocError>
     requires rule { IsRule rule.now }
     requires typing { IsTyping rule.now typing.now }
-    requires limit { limit ≤ 1000000 }
+    requires limit { limit ≤ most_conflicts }
     ensures honest { IfOk result (IsHonest rule.now typing.now limit) }
     ensures unrefuted { IfOk result (IsUnrefutedBy log.now) }
 {
@@ -115,7 +115,7 @@ fn verdict_by(
 ) -> Result<Verdict, AllocError>
     requires rule { IsRule rule.now }
     requires typing { IsTyping rule.now typing.now }
-    requires limit { limit ≤ 1000000 }
+    requires limit { limit ≤ most_conflicts }
     requires stands { StandsForRule rule.now typing.now set }
     ensures honest { IfOk result (IsHonest rule.now typing.now limit) }
     ensures keeps { IfOk result (Keeps set) }
@@ -137,7 +137,7 @@ fn searched(
 ) -> Result<Attempt, AllocError>
     requires rule { IsRule rule.now }
     requires typing { IsTyping rule.now typing.now }
-    requires limit { limit ≤ 1000000 }
+    requires limit { limit ≤ most_conflicts }
     requires stands { StandsForRule rule.now typing.now set.now }
     ensures { IfOk result (IsAttempt rule.now typing.now set.now limit) }
 {

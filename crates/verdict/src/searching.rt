@@ -4,7 +4,7 @@ ghost use Rattle.std.specs.Prelude.{◌<◌, ◌≤◌, ◌^◌, map, length, Al
 ghost use Rattle.ir_core.specs.Checks.{MeetsChecks};
 ghost use Rattle.ir_core.specs.declared.function.Function.{Function as FunctionSearched};
 ghost use Rattle.bindings.specs.Facts.{AreFactsOf};
-ghost use Rattle.verdict.specs.Limits.{most_conflicts};
+ghost use Rattle.cdcl_log.specs.Found.{most_conflicts};
 ghost use Rattle.bindings.specs.Ready.{AreReady};
 ghost use Rattle.rule_matches.specs.Roots.{AreByRoot};
 ghost use Rattle.bindings.specs.Matches.{IsMatchAmong, IsMatchInAnyOrder};

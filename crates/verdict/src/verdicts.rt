@@ -5,7 +5,7 @@ ghost use Rattle.std.specs.Option.{option_copied};
 ghost use Rattle.rule_core.specs.Checks.{IsRule};
 ghost use Rattle.rule_core.specs.Typing.{IsTyping};
 ghost use Rattle.verdict.specs.Honest.{IsHonest};
-ghost use Rattle.verdict.specs.Limits.{most_conflicts};
+ghost use Rattle.cdcl_log.specs.Found.{most_conflicts};
 ghost use Rattle.verdict.specs.Proved.{IsUnrefutedBy};
 ghost use Rattle.verdict.specs.Table.{IsHonestRow};
 ghost use Rattle.strategy_core.specs.Asked.{IsAdmitted, IsTurnedDown, pair_in, pair_of};

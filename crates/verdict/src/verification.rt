@@ -5,7 +5,7 @@ ghost use Rattle.rule_core.specs.Checks.{IsRule};
 ghost use Rattle.rule_core.specs.Typing.{IsTyping};
 ghost use Rattle.verdict.specs.Additions.{AddsRows, AddsRule};
 ghost use Rattle.verdict.specs.Findings.{IsReadRule};
-ghost use Rattle.verdict.specs.Limits.{most_conflicts};
+ghost use Rattle.cdcl_log.specs.Found.{most_conflicts};
 ghost use Rattle.verdict.specs.Verified.{IsVerified};
 
 use crate::decide;

@@ -1,6 +1,7 @@
 //! The words of the command line.
 
 ghost use Rattle.std.specs.Prelude.{◌≤◌, IfSome};
+ghost use Rattle.cdcl_log.specs.Found.{most_conflicts};
 
 /// The most clauses that a search may learn.
 const MOST_CONFLICTS: u32 = 1_000_000;
@@ -30,7 +31,7 @@ pub(super) struct Command<'a> {
 impl<'a> Command<'a> {
     /// What the words ask for.
     pub(super) fn of_words(words: &'a [String]) -> Option<Command<'a>>
-        ensures { IfSome result (λ command. command.conflicts ≤ 1000000) }
+        ensures { IfSome result (λ command. command.conflicts ≤ most_conflicts) }
     {
         let (rules, conflicts, line, folder) = match words {
             [rules, conflicts] => (rules, conflicts, Line::Measured, None),

@@ -4,6 +4,7 @@ ghost use Rattle.std.specs.Prelude.{◌≤◌};
 ghost use Rattle.aig.specs.Graph.{IsOwn};
 ghost use Rattle.rule_core.specs.Checks.{IsRule};
 ghost use Rattle.rule_core.specs.Typing.{IsTyping};
+ghost use Rattle.cdcl_log.specs.Found.{most_conflicts};
 
 use super::dimacs::{SetFile, write_set};
 use crate::failure::Failure;
@@ -122,7 +123,7 @@ pub(super) fn measure(
 ) -> Result<Measurement, Failure>
     requires rule { IsRule rule.now }
     requires typing { IsTyping rule.now typing.now }
-    requires limit { limit ≤ 1000000 }
+    requires limit { limit ≤ most_conflicts }
 {
     let start = now(rt)?;
     let Blasted { gates, set } = blast(rt, rule, typing)?;

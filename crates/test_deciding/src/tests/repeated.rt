@@ -1,6 +1,7 @@
 //! Clauses in which a literal stands twice, where it is one literal.
 
 ghost use Rattle.std.specs.Prelude.{◌≤◌};
+ghost use Rattle.cdcl_log.specs.Found.{most_conflicts};
 
 use cdcl_log::{Found, search};
 use clauses::{Clause, Cnf, Lit, Log, Step};
@@ -123,7 +124,7 @@ static SEARCHED: [Clauses; 3] = [
 
 /// Whether the search refutes a set, and its log is checked.
 pub(super) fn is_refuted(alloc: Global, set: &Cnf, conflicts: u32) -> Result<bool, AllocError>
-    requires { conflicts ≤ 1000000 }
+    requires { conflicts ≤ most_conflicts }
 {
     match search(alloc, set, conflicts)? {
         Found::Unsat(log) => check_refutation(alloc, set, &log),
