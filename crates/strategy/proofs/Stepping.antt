@@ -14,13 +14,25 @@ use Rattle.strategy_core.specs.Asked.{Pair, pair_of, IsAdmitted, IsTurnedDown}
 use Rattle.strategy_core.specs.Countable.{IsCountable}
 use Rattle.bindings.specs.Matches.{AreMatches, ComesBefore}
 use Rattle.rule_matches.proofs.Joining.{everywhere, same_where}
+use Rattle.rule_matches.specs.declared.matches.Rules.{Rules}
 use Rattle.strategy_core.specs.PlainStrategy.{IsStep, ComesOf, itself, by_step, IsLastSearch}
 use Rattle.verdict.specs.Asks.{Asks, AsksAll, AsksUpTo, IsAnywhere}
+use Rattle.strategy.specs.Asking.{MayAsk}
 use Rattle.strategy.specs.Searches.{OptimisesCleaned, OptimisesFunction, StepsOrEnds}
 use Rattle.strategy.proofs.Growing.{steps_stay}
 use Rattle.bindings.specs.Ready.{AreReady}
 use Rattle.strategy.proofs.Sizes.{cleaned_countable, rewritten_countable}
-use Rattle.verdict.proofs.Sequence.{asks_nothing, asks_both, row_stays}
+use Rattle.verdict.proofs.Sequence.{asks_nothing, asks_both, row_stays, still_verdicts}
+
+-- more may be asked for once some were
+pub still_may_ask : (rules : Rules) (limit : ℕ) (pairs : List Pair) (before after : Verdicts) → MayAsk rules limit before
+    → Asks rules.all.now limit pairs before after → MayAsk rules limit after
+still_may_ask rules limit pairs before after may asks = record {
+  ready = may.ready;
+  by_root = may.by_root;
+  conflicts = may.conflicts;
+  verdicts = still_verdicts rules.all.now limit pairs before after may.verdicts asks;
+}
 
 module _ (rules : List Rule) (conflicts : ℕ) where
   -- the function is rewritten at the first admitted match, and cleaned

@@ -4,11 +4,9 @@ ghost use Rattle.std.specs.Prelude.{◌≡◌, ◌<◌, ◌≤◌, ◌^◌, ℕ,
 ghost use Rattle.ir_core.specs.Blocks.{HasInst};
 ghost use Rattle.ir_core.specs.Checks.{MeetsChecks};
 ghost use Rattle.ir_meaning.specs.HistoryLaws.{NumbersFit};
-ghost use Rattle.verdict.specs.Limits.{most_conflicts};
 ghost use Rattle.verdict_core.specs.declared.verdicts.Row.{Row as VerdictRow};
 ghost use Rattle.bindings.specs.Matches.{IsMatchAmong};
 ghost use Rattle.bindings.specs.Ready.{AreReady};
-ghost use Rattle.rule_matches.specs.Roots.{AreByRoot};
 ghost use Rattle.draft_steps.specs.Cleaning.{AllNeeded, IsClean};
 ghost use Rattle.draft.specs.Drafts.{AreTouched, HasRoomFor, arena_of, function_of, orders_of};
 ghost use Rattle.draft.specs.KeptOrders.{KeepsOrders};
@@ -17,8 +15,9 @@ ghost use Rattle.draft_steps.specs.Queues.{IsQueueOf, waiting_in};
 ghost use Rattle.readers.specs.Readers.{IsPlaceIn};
 ghost use Rattle.draft.specs.Whole.{IsSettled};
 ghost use Rattle.draft_steps.specs.MatchLaws.{AreSourcesWithin, placed_match};
-ghost use Rattle.verdict.specs.Asks.{AreVerdicts, AsksAll, IsAnywhere};
+ghost use Rattle.verdict.specs.Asks.{AsksAll, IsAnywhere};
 ghost use Rattle.strategy_core.specs.Countable.{IsCountable};
+ghost use Rattle.strategy.specs.Asking.{MayAsk};
 ghost use Rattle.strategy.specs.Frontiers.{AreTurnedDownBut, AsksAt, IsFrontier, IsSteppedAt, LooksAt, Nowhere, PlaceOf, SearchesTo};
 ghost use Rattle.strategy.specs.Searches.{OptimisesCleaned, OptimisesFunction, StepsOrEnds};
 
@@ -58,10 +57,7 @@ pub(crate) fn optimise_function(
     requires checks { MeetsChecks f }
     requires numbers { NumbersFit f }
     requires countable { IsCountable bounds.steps f }
-    requires ready { AreReady rules.now.all.now }
-    requires by_root { AreByRoot rules.now.all.now rules.now.by_root.now }
-    requires conflicts { bounds.conflicts ≤ most_conflicts }
-    requires verdicts { AreVerdicts rules.now.all.now bounds.conflicts verdicts.old }
+    requires asks { MayAsk rules.now bounds.conflicts verdicts.old }
     ensures { IfOk result (λ made. OptimisesFunction rules.now.all.now bounds.conflicts bounds.steps f made.0 verdicts.old verdicts.new made.1.count made.1.limited) }
 {
     let mut cleaned = f;
@@ -82,10 +78,7 @@ fn optimise_cleaned(
     requires needed { AllNeeded f }
     requires numbers { NumbersFit f }
     requires countable { IsCountable bounds.steps f }
-    requires ready { AreReady rules.now.all.now }
-    requires by_root { AreByRoot rules.now.all.now rules.now.by_root.now }
-    requires conflicts { bounds.conflicts ≤ most_conflicts }
-    requires verdicts { AreVerdicts rules.now.all.now bounds.conflicts verdicts.old }
+    requires asks { MayAsk rules.now bounds.conflicts verdicts.old }
     ensures { IfOk result (λ made. OptimisesCleaned rules.now.all.now bounds.conflicts bounds.steps f made.0 verdicts.old verdicts.new made.1.count made.1.limited) }
 {
     if bounds.steps == 0 {
@@ -109,10 +102,7 @@ fn rewrite_cleaned(
     requires needed { AllNeeded f }
     requires numbers { NumbersFit f }
     requires countable { IsCountable bounds.steps f }
-    requires ready { AreReady rules.now.all.now }
-    requires by_root { AreByRoot rules.now.all.now rules.now.by_root.now }
-    requires conflicts { bounds.conflicts ≤ most_conflicts }
-    requires verdicts { AreVerdicts rules.now.all.now bounds.conflicts verdicts.old }
+    requires asks { MayAsk rules.now bounds.conflicts verdicts.old }
     ensures { IfOk result (λ made. OptimisesCleaned rules.now.all.now bounds.conflicts bounds.steps f made.0 verdicts.old verdicts.new made.1.count made.1.limited) }
 {
     let mut frontier = Frontier::of(alloc, f, rules.all)?;
@@ -144,10 +134,7 @@ fn search_last(
 ) -> Result<(Function, Turns), AllocError>
     requires checks { MeetsChecks f }
     requires countable { IsCountable 0 f }
-    requires ready { AreReady rules.now.all.now }
-    requires by_root { AreByRoot rules.now.all.now rules.now.by_root.now }
-    requires conflicts { bounds.conflicts ≤ most_conflicts }
-    requires verdicts { AreVerdicts rules.now.all.now bounds.conflicts verdicts.old }
+    requires asks { MayAsk rules.now bounds.conflicts verdicts.old }
     ensures function { IfOk result (λ made. made.0 ≡ f) }
     ensures count { IfOk result (λ made. made.1.count ≡ bounds.steps) }
     ensures asks { IfOk result (λ made. AsksAll rules.now.all.now bounds.conflicts f IsAnywhere verdicts.old verdicts.new made.1.limited) }
@@ -208,10 +195,7 @@ fn step(
     requires checks { MeetsChecks (function_of frontier.old.draft) }
     requires numbers { NumbersFit (function_of frontier.old.draft) }
     requires room { HasRoomFor 1 frontier.old.draft }
-    requires ready { AreReady rules.now.all.now }
-    requires by_root { AreByRoot rules.now.all.now rules.now.by_root.now }
-    requires conflicts { conflicts ≤ most_conflicts }
-    requires verdicts { AreVerdicts rules.now.all.now conflicts verdicts.old }
+    requires asks { MayAsk rules.now conflicts verdicts.old }
     ensures steps { IfOk result (StepsOrEnds rules.now.all.now conflicts (function_of frontier.old.draft) (function_of frontier.new.draft) verdicts.old verdicts.new) }
     ensures frontier { OnOk result (IsFrontier rules.now.all.now verdicts.new.table frontier.new) }
     ensures checks { OnOk result (MeetsChecks (function_of frontier.new.draft)) }
@@ -248,10 +232,7 @@ fn next_admitted(
     requires queue { IsQueueOf draft.now queue.old }
     requires turned_down { AreTurnedDownBut rules.now.all.now verdicts.old.table Nowhere draft.now (waiting_in queue.old) }
     requires checks { MeetsChecks (function_of draft.now) }
-    requires ready { AreReady rules.now.all.now }
-    requires by_root { AreByRoot rules.now.all.now rules.now.by_root.now }
-    requires conflicts { conflicts ≤ most_conflicts }
-    requires verdicts { AreVerdicts rules.now.all.now conflicts verdicts.old }
+    requires asks { MayAsk rules.now conflicts verdicts.old }
     ensures queue { OnOk result (IsQueueOf draft.now queue.new) }
     ensures found { IfOk result (SearchesTo rules.now.all.now conflicts draft.now (waiting_in queue.new) verdicts.old verdicts.new) }
 {
@@ -276,10 +257,7 @@ fn look_at(
 ) -> Result<Option<Match>, AllocError>
     requires settled { IsSettled draft.now }
     requires place { HasInst (arena_of draft.now) place.block place.number }
-    requires ready { AreReady rules.now.all.now }
-    requires by_root { AreByRoot rules.now.all.now rules.now.by_root.now }
-    requires conflicts { conflicts ≤ most_conflicts }
-    requires verdicts { AreVerdicts rules.now.all.now conflicts verdicts.old }
+    requires asks { MayAsk rules.now conflicts verdicts.old }
     ensures { IfOk result (LooksAt rules.now.all.now conflicts draft.now place verdicts.old verdicts.new) }
 {
     if !draft.stands(place) {
@@ -301,10 +279,7 @@ fn admitted_at(
 ) -> Result<Option<Match>, AllocError>
     requires settled { IsSettled draft.now }
     requires place { HasInst (arena_of draft.now) place.block place.number }
-    requires ready { AreReady rules.now.all.now }
-    requires by_root { AreByRoot rules.now.all.now rules.now.by_root.now }
-    requires conflicts { conflicts ≤ most_conflicts }
-    requires verdicts { AreVerdicts rules.now.all.now conflicts verdicts.old }
+    requires asks { MayAsk rules.now conflicts verdicts.old }
     ensures { IfOk result (AsksAt rules.now.all.now conflicts (arena_of draft.now) place.block place.number verdicts.old verdicts.new) }
 {
     let found = matches_in_any_order(

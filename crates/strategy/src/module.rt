@@ -6,16 +6,16 @@ ghost use Rattle.ir_core.specs.Refines.{ModuleRefines};
 ghost use Rattle.rule_core.specs.Checks.{IsRule};
 ghost use Rattle.rule_typing.specs.Classes.{IsClassified};
 ghost use Rattle.rule_typing.specs.Faults.{HasNoFault};
-ghost use Rattle.verdict.specs.Limits.{most_conflicts};
+ghost use Rattle.verdict.specs.Found.{most_conflicts};
 ghost use Rattle.verdict.specs.Table.{IsHonestTable};
 ghost use Rattle.strategy_core.specs.Countable.{ModuleIsCountable};
 ghost use Rattle.strategy_core.specs.Decided.{MatchesAreDecided};
+ghost use Rattle.strategy.specs.Asking.{MayAsk};
 ghost use Rattle.strategy.specs.Entries.{EntriesAreReady, EntryIsReady, OptimisesEntries, OptimisesEntry};
 ghost use Rattle.strategy_core.specs.Laws.{ModuleNumbersFit};
 ghost use Rattle.bindings.specs.Ready.{AreReady};
 ghost use Rattle.strategy_core.specs.PlainStrategy.{IsPlainStrategy};
 ghost use Rattle.rule_matches.specs.Roots.{AreByRoot};
-ghost use Rattle.verdict.specs.Asks.{AreVerdicts};
 
 use crate::frontier::optimise_function;
 use crate::steps::{Bounds, Turns};
@@ -139,10 +139,7 @@ fn optimise_entries(
     all: &mut Counts,
 ) -> Result<List<Entry>, AllocError>
     requires entries { EntriesAreReady bounds.steps entries.now }
-    requires ready { AreReady rules.now.all.now }
-    requires by_root { AreByRoot rules.now.all.now rules.now.by_root.now }
-    requires conflicts { bounds.conflicts ≤ most_conflicts }
-    requires verdicts { AreVerdicts rules.now.all.now bounds.conflicts verdicts.old }
+    requires asks { MayAsk rules.now bounds.conflicts verdicts.old }
     ensures { IfOk result (λ made. OptimisesEntries rules.now.all.now bounds.conflicts bounds.steps entries.now made verdicts.old verdicts.new all.old all.new) }
 {
     let mut made = List::new(alloc);
@@ -163,10 +160,7 @@ fn optimise_entry(
     all: &mut Counts,
 ) -> Result<Entry, AllocError>
     requires entry { EntryIsReady bounds.steps entry.now }
-    requires ready { AreReady rules.now.all.now }
-    requires by_root { AreByRoot rules.now.all.now rules.now.by_root.now }
-    requires conflicts { bounds.conflicts ≤ most_conflicts }
-    requires verdicts { AreVerdicts rules.now.all.now bounds.conflicts verdicts.old }
+    requires asks { MayAsk rules.now bounds.conflicts verdicts.old }
     ensures { IfOk result (λ optimised. OptimisesEntry rules.now.all.now bounds.conflicts bounds.steps entry.now optimised verdicts.old verdicts.new all.old all.new) }
 {
     match entry {
@@ -191,10 +185,7 @@ fn optimise_copy(
     all: &mut Counts,
 ) -> Result<Function, AllocError>
     requires entry { EntryIsReady bounds.steps (Entry.Function original.now) }
-    requires ready { AreReady rules.now.all.now }
-    requires by_root { AreByRoot rules.now.all.now rules.now.by_root.now }
-    requires conflicts { bounds.conflicts ≤ most_conflicts }
-    requires verdicts { AreVerdicts rules.now.all.now bounds.conflicts verdicts.old }
+    requires asks { MayAsk rules.now bounds.conflicts verdicts.old }
     ensures { IfOk result (λ made. OptimisesEntry rules.now.all.now bounds.conflicts bounds.steps (Entry.Function original.now) (Entry.Function made) verdicts.old verdicts.new all.old all.new) }
 {
     let f = copy_function(alloc, original)?;

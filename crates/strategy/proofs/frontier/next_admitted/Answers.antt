@@ -3,16 +3,16 @@ use Rattle.draft.specs.Drafts.{Stands}
 use Rattle.draft_steps.specs.Queues.{ComesNext, waiting_in}
 use Rattle.places.specs.Sets.{IsRemoved}
 use Rattle.strategy_core.specs.Asked.{pair_of}
-use Rattle.verdict.proofs.Sequence.{still_verdicts}
 use Rattle.strategy.specs.Frontiers.{LooksAt}
 use Rattle.strategy.proofs.Searching.{IsNext, looked_found, looked_past, not_gone, searched}
+use Rattle.strategy.proofs.Stepping.{still_may_ask}
 use Rattle.strategy.proofs.frontier.next_admitted.Goals as goal
 
 pub loop-place-init : goal.loop-place-init
 loop-place-init c = record {
   queue = c.requires.queue;
   others = c.requires.turned_down;
-  gone = not_gone c.matches_of_the_arena.ensures c.args.rules.now.all.now c.args.conflicts c.requires.ready c.args.draft.now c.requires.settled c.requires.checks c.args.verdicts.now (waiting_in c.args.queue.now);
+  gone = not_gone c.matches_of_the_arena.ensures c.args.rules.now.all.now c.args.conflicts c.requires.asks.ready c.args.draft.now c.requires.settled c.requires.checks c.args.verdicts.now (waiting_in c.args.queue.now);
 }
 
 pub take_first-requires-clause-whole : goal.take_first-requires-clause-whole
@@ -21,9 +21,9 @@ take_first-requires-clause-whole c = c.requires.settled.whole
 pub look_at-requires-clause-place : goal.look_at-requires-clause-place
 look_at-requires-clause-place c = (rw c.in-Some.is at c.take_first.ensures.first).inst
 
-pub look_at-requires-clause-verdicts : goal.look_at-requires-clause-verdicts
-look_at-requires-clause-verdicts c =
-    still_verdicts c.args.rules.now.all.now c.args.conflicts (map pair_of c.loop-place.invariant.gone.asked.matches) c.args.verdicts.now c.loop-place.verdicts c.requires.verdicts c.loop-place.invariant.gone.asked.asks
+pub look_at-requires-clause-asks : goal.look_at-requires-clause-asks
+look_at-requires-clause-asks c =
+    still_may_ask c.args.rules.now c.args.conflicts (map pair_of c.loop-place.invariant.gone.asked.matches) c.args.verdicts.now c.loop-place.verdicts c.requires.asks c.loop-place.invariant.gone.asked.asks
 
 pub returns-in-Some-found-clause-found : goal.returns-in-Some-found-clause-found
 returns-in-Some-found-clause-found c =
@@ -32,7 +32,7 @@ returns-in-Some-found-clause-found c =
     let removed : IsRemoved (waiting_in c.loop-place.queue) (waiting_in c.take_first.new.self) p = rw c.in-Some.is at c.take_first.ensures.removed in
     let first : ComesNext c.args.draft.now c.loop-place.queue p = rw c.in-Some.is at c.take_first.ensures.first in
     let next : Stands c.args.draft.now p.block p.number → IsNext c.args.draft.now (waiting_in c.loop-place.queue) p = λ stands. record { there = first.waits; none_before = first.none_before stands } in
-    looked_found c.matches_of_the_arena.ensures rules c.args.conflicts c.requires.ready c.args.draft.now c.requires.settled c.requires.checks c.args.verdicts.now
+    looked_found c.matches_of_the_arena.ensures rules c.args.conflicts c.requires.asks.ready c.args.draft.now c.requires.settled c.requires.checks c.args.verdicts.now
     c.loop-place.verdicts (waiting_in c.loop-place.queue) (waiting_in c.take_first.new.self) p c.loop-place.invariant.gone c.loop-place.invariant.others removed next c.look_at.new.verdicts c.in-Some-found.chosen
     (subst (LooksAt rules c.args.conflicts c.args.draft.now p c.loop-place.verdicts c.look_at.new.verdicts) c.in-Some-found.is c.in_ok-found.ensures)
 
@@ -43,7 +43,7 @@ loop-place-preserved c =
     let removed : IsRemoved (waiting_in c.loop-place.queue) (waiting_in c.take_first.new.self) p = rw c.in-Some.is at c.take_first.ensures.removed in
     let first : ComesNext c.args.draft.now c.loop-place.queue p = rw c.in-Some.is at c.take_first.ensures.first in
     let next : Stands c.args.draft.now p.block p.number → IsNext c.args.draft.now (waiting_in c.loop-place.queue) p = λ stands. record { there = first.waits; none_before = first.none_before stands } in
-    let on = looked_past c.matches_of_the_arena.ensures rules c.args.conflicts c.requires.ready c.args.draft.now c.requires.settled c.requires.checks c.args.verdicts.now
+    let on = looked_past c.matches_of_the_arena.ensures rules c.args.conflicts c.requires.asks.ready c.args.draft.now c.requires.settled c.requires.checks c.args.verdicts.now
     c.loop-place.verdicts (waiting_in c.loop-place.queue) (waiting_in c.take_first.new.self) p c.loop-place.invariant.gone c.loop-place.invariant.others removed next c.look_at.new.verdicts
     (subst (LooksAt rules c.args.conflicts c.args.draft.now p c.loop-place.verdicts c.look_at.new.verdicts) c.in_default-found.is c.in_ok-found.ensures) in
     record { queue = c.take_first.ensures.queue; others = on.1; gone = on.0 }
@@ -53,5 +53,5 @@ loop-place-smaller c = rw c.in-Some.is at c.take_first.ensures.fewer
 
 pub returns-clause-found : goal.returns-clause-found
 returns-clause-found c =
-    searched c.matches_of_the_arena.ensures c.args.rules.now.all.now c.args.conflicts c.requires.ready c.args.draft.now c.requires.settled c.requires.checks c.args.verdicts.now
+    searched c.matches_of_the_arena.ensures c.args.rules.now.all.now c.args.conflicts c.requires.asks.ready c.args.draft.now c.requires.settled c.requires.checks c.args.verdicts.now
     c.loop-place.verdicts (waiting_in c.loop-place.queue) (waiting_in c.take_first.new.self) c.loop-place.invariant.gone c.loop-place.invariant.others (rw c.in_default.is at c.take_first.ensures.none)

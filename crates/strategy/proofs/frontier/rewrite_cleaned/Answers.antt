@@ -6,12 +6,11 @@ use Rattle.ir_core.specs.declared.function.Function.{Function}
 use Rattle.draft.specs.Drafts.{arena_of, function_of}
 use Rattle.places.specs.Orders.{none}
 use Rattle.verdict.specs.Asks.{AsksAll, IsAnywhere}
-use Rattle.verdict.proofs.Sequence.{still_verdicts}
 use Rattle.strategy_core.specs.Countable.{IsCountable}
 use Rattle.strategy.specs.Searches.{StepsOrEnds}
 use Rattle.strategy.proofs.Requeueing.{few_numbers, room_at_first, room_for_fewer}
 use Rattle.strategy.proofs.Sizes.{countable_less}
-use Rattle.strategy.proofs.Stepping.{Along, ended, no_step_yet, one_step_more, spent}
+use Rattle.strategy.proofs.Stepping.{Along, ended, no_step_yet, one_step_more, spent, still_may_ask}
 use Rattle.strategy.proofs.frontier.rewrite_cleaned.Goals as goal
 
 pub of-requires-clause-insts : goal.of-requires-clause-insts
@@ -39,9 +38,9 @@ loop-count-init c =
 pub step-requires-clause-room : goal.step-requires-clause-room
 step-requires-clause-room c = room_for_fewer (c.args.bounds.steps - c.loop-count.count) 1 c.loop-count.frontier.draft (omega arith) c.loop-count.invariant.room
 
-pub step-requires-clause-verdicts : goal.step-requires-clause-verdicts
-step-requires-clause-verdicts c =
-    still_verdicts c.args.rules.now.all.now c.args.bounds.conflicts c.loop-count.invariant.along.pairs c.args.verdicts.now c.loop-count.verdicts c.requires.verdicts c.loop-count.invariant.along.asks
+pub step-requires-clause-asks : goal.step-requires-clause-asks
+step-requires-clause-asks c =
+    still_may_ask c.args.rules.now c.args.bounds.conflicts c.loop-count.invariant.along.pairs c.args.verdicts.now c.loop-count.verdicts c.requires.asks c.loop-count.invariant.along.asks
 
 pub returns-then-not-stepped : goal.returns-then-not-stepped
 returns-then-not-stepped c =
@@ -64,7 +63,7 @@ loop-count-preserved c =
     let stands : c.in_ok-stepped.stepped ≡ true = cc in
     let left = steps - (count + 1) in
     record {
-      along = one_step_more rules conflicts steps count c.args.f f g c.args.verdicts.now c.loop-count.verdicts c.step.new.verdicts (omega arith) c.requires.ready c.loop-count.invariant.along
+      along = one_step_more rules conflicts steps count c.args.f f g c.args.verdicts.now c.loop-count.verdicts c.step.new.verdicts (omega arith) c.requires.asks.ready c.loop-count.invariant.along
           (subst (StepsOrEnds rules conflicts f g c.loop-count.verdicts c.step.new.verdicts) stands c.in_ok-stepped.ensures.steps)
           c.in_ok-stepped.ensures.checks c.in_ok-stepped.ensures.numbers;
       frontier = c.in_ok-stepped.ensures.frontier;
@@ -78,9 +77,9 @@ pub search_last-requires-clause-countable : goal.search_last-requires-clause-cou
 search_last-requires-clause-countable c =
     subst (IsCountable 0) (sym c.in_ok-last-2.ensures) (countable_less (c.args.bounds.steps - c.loop-count.count) 0 (function_of c.loop-count.frontier.draft) (omega arith) c.loop-count.invariant.along.countable)
 
-pub search_last-requires-clause-verdicts : goal.search_last-requires-clause-verdicts
-search_last-requires-clause-verdicts c =
-    still_verdicts c.args.rules.now.all.now c.args.bounds.conflicts c.loop-count.invariant.along.pairs c.args.verdicts.now c.loop-count.verdicts c.requires.verdicts c.loop-count.invariant.along.asks
+pub search_last-requires-clause-asks : goal.search_last-requires-clause-asks
+search_last-requires-clause-asks c =
+    still_may_ask c.args.rules.now c.args.bounds.conflicts c.loop-count.invariant.along.pairs c.args.verdicts.now c.loop-count.verdicts c.requires.asks c.loop-count.invariant.along.asks
 
 pub returns : goal.returns
 returns c =

@@ -4,7 +4,7 @@ use Rattle.std.proofs.lemmas.Option.{slice_get_read}
 use Rattle.ir_core.specs.declared.module.Entry.{Entry}
 use Rattle.strategy.specs.Entries.{OptimisesEntries, OptimisesEntry}
 use Rattle.strategy.proofs.Entering.{none_entered, one_entered}
-use Rattle.verdict.proofs.Sequence.{still_verdicts}
+use Rattle.strategy.proofs.Stepping.{still_may_ask}
 use Rattle.strategy.proofs.module.optimise_entries.Goals as goal
 
 pub loop-entry-init : goal.loop-entry-init
@@ -17,9 +17,9 @@ optimise_entry-requires-clause-entry c =
     c.requires.entries c.loop-entry.entry-index c.entry-item.result
     (slice_get_read old (length old) c.loop-entry.entry-index c.entry-item.result refl c.loop-entry-test.true c.entry-item.is)
 
-pub optimise_entry-requires-clause-verdicts : goal.optimise_entry-requires-clause-verdicts
-optimise_entry-requires-clause-verdicts c =
-    still_verdicts c.args.rules.now.all.now c.args.bounds.conflicts c.loop-entry.invariant.pairs c.args.verdicts.now c.loop-entry.verdicts c.requires.verdicts c.loop-entry.invariant.asks
+pub optimise_entry-requires-clause-asks : goal.optimise_entry-requires-clause-asks
+optimise_entry-requires-clause-asks c =
+    still_may_ask c.args.rules.now c.args.bounds.conflicts c.loop-entry.invariant.pairs c.args.verdicts.now c.loop-entry.verdicts c.requires.asks c.loop-entry.invariant.asks
 
 pub loop-entry-preserved : goal.loop-entry-preserved
 loop-entry-preserved c =

@@ -8,9 +8,13 @@ use Rattle.strategy.proofs.module.plain_strategy.Goals as goal
 pub optimise_entries-requires-clause-entries : goal.optimise_entries-requires-clause-entries
 optimise_entries-requires-clause-entries c = subst (EntriesAreReady c.args.bounds.steps) (sym c.as_slice-read.ensures) c.requires.entries
 
-pub optimise_entries-requires-clause-verdicts : goal.optimise_entries-requires-clause-verdicts
-optimise_entries-requires-clause-verdicts c =
-    ([], no_verdicts c.args.rules.now.all.now c.args.bounds.conflicts c.new-verdicts.result c.new-verdicts.ensures.table c.new-verdicts.ensures.pairs)
+pub optimise_entries-requires-clause-asks : goal.optimise_entries-requires-clause-asks
+optimise_entries-requires-clause-asks c = record {
+  ready = c.requires.ready;
+  by_root = c.requires.by_root;
+  conflicts = c.requires.conflicts;
+  verdicts = ([], no_verdicts c.args.rules.now.all.now c.args.bounds.conflicts c.new-verdicts.result c.new-verdicts.ensures.table c.new-verdicts.ensures.pairs);
+}
 
 pub returns : goal.returns
 returns c =

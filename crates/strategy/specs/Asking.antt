@@ -1,0 +1,15 @@
+-- When verdicts may be asked for.
+use Rattle.std.specs.Prelude.{ℕ, ◌≤◌}
+use Rattle.bindings.specs.Ready.{AreReady}
+use Rattle.rule_matches.specs.Roots.{AreByRoot}
+use Rattle.rule_matches.specs.declared.matches.Rules.{Rules}
+use Rattle.verdict.specs.declared.verdicts.Verdicts.{Verdicts}
+use Rattle.verdict.specs.Asks.{AreVerdicts}
+use Rattle.verdict.specs.Found.{most_conflicts}
+
+-- the verdicts of these rules' matches may be asked for, by searches within this limit, where these are kept so far
+pub record MayAsk (rules : Rules) (limit : ℕ) (kept : Verdicts) : Type 0 where
+  pub ready : AreReady rules.all.now
+  pub by_root : AreByRoot rules.all.now rules.by_root.now
+  pub conflicts : limit ≤ most_conflicts
+  pub verdicts : AreVerdicts rules.all.now limit kept
