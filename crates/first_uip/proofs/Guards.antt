@@ -17,12 +17,13 @@ use Rattle.depth_first.proofs.HeldLists.{Consistent, held_cases, held_one, held_
 use Rattle.depth_first.proofs.Open.{IsPropagated-from_held, IsPropagated-from_different}
 use Rattle.depth_first.proofs.PropagationLemmas.{stands_cases}
 use Rattle.first_uip.specs.declared.watches.Watches.{Watches}
-use Rattle.first_uip.specs.declared.watches.Watched.{Watched}
-use Rattle.first_uip.specs.declared.watches.Watched.TheVariants.{Alone, Two}
-use Rattle.first_uip.specs.Watching.{watched_literals, numbers_of, IsListed, IsWatch, EachIsWatch, IsGuarded, EachGuarded, EachLevelGuarded, IsWatchingUpTo}
+use Rattle.first_uip.specs.declared.arena.Watched.{Watched}
+use Rattle.first_uip.specs.declared.arena.Watched.TheVariants.{Alone, Two}
+use Rattle.first_uip.specs.Watching.{watched_literals, numbers_of, IsListed, EachBlocked, IsWatch, EachIsWatch, IsGuarded, EachGuarded, EachLevelGuarded, IsWatchingUpTo}
 use Rattle.first_uip.specs.Looks.{WatchesBoth, MovesWatch, NamesSatisfied}
 use Rattle.first_uip.proofs.Sets.{slice_get-set_cases, kept_by_drop}
 use Rattle.first_uip.proofs.LookLemmas.{other_stands}
+use Rattle.first_uip.specs.Clauses.{clauses_in, watched_in}
 
 satisfied_more : (held all clause : List Lit) → HeldWithin held all → IsSatisfied held clause → IsSatisfied all clause
 satisfied_more held all clause more (l, stands, is) = (l, stands, more.each l is)
@@ -92,7 +93,7 @@ EachGuardedBut clauses watched numbers place seen held =
     (number : ℕ) (clause : List Lit) (w : Watched) → slice_get clauses number ≡ Some clause → slice_get watched number ≡ Some w →
     StandsFrom numbers place number ⊎ IsGuarded seen held clause w
 
-pub EachGuardedBut-start : (clauses : List (List Lit)) (watches : Watches) (entries : List Entry) (head : ℕ) (e : Entry) (falsified : Lit) → slice_get entries head ≡ Some e → falsified ≡ negation_of e.literal → IsListed watches → EachGuarded clauses watches.watched.items (literals (take head entries)) (literals entries) → EachGuardedBut clauses watches.watched.items (numbers_of watches falsified) 0 (literals (take (head + 1) entries)) (literals entries)
+pub EachGuardedBut-start : (clauses : List (List Lit)) (watches : Watches) (entries : List Entry) (head : ℕ) (e : Entry) (falsified : Lit) → slice_get entries head ≡ Some e → falsified ≡ negation_of e.literal → IsListed watches → EachGuarded clauses (watched_in watches.arena) (literals (take head entries)) (literals entries) → EachGuardedBut clauses (watched_in watches.arena) (numbers_of watches falsified) 0 (literals (take (head + 1) entries)) (literals entries)
 EachGuardedBut-start clauses watches entries head e falsified here is listed guarded number clause w at at' =
     elim (cases_Bool (is_held (watched_literals w) falsified)) [
       | inl watches_it ↦ inl (listed.each number w falsified at' watches_it)
@@ -232,20 +233,22 @@ pub slice_get_grown : (clauses : List (List Lit)) (old new : List Entry) (n : �
 slice_get_grown clauses old new n e g at = ap (λ es. slice_get es n) g.is ∙ slice_get_left old g.more n e at
 
 -- the state after a look at a clause that stays
-pub IsWatchingUpTo-stays : (clauses : List (List Lit)) (old new : Watches) (before after : List Entry) (head : ℕ) → head ≤ length before → Grows clauses before after → new.watched.items ≡ old.watched.items → IsListed new → IsWatchingUpTo clauses old before head → IsWatchingUpTo clauses new after head
-IsWatchingUpTo-stays clauses old new before after head within g same listed w =
+pub IsWatchingUpTo-stays : (clauses : List (List Lit)) (old new : Watches) (before after : List Entry) (head : ℕ) → head ≤ length before → Grows clauses before after → clauses_in new.arena ≡ clauses → watched_in new.arena ≡ watched_in old.arena → IsListed new → EachBlocked clauses new → IsWatchingUpTo clauses old before head → IsWatchingUpTo clauses new after head
+IsWatchingUpTo-stays clauses old new before after head within g unchanged same listed blocked w =
     record {
       watching =
           record {
+            same = unchanged;
+            blocked = blocked;
             count = ap length same ∙ w.watching.count;
             each = subst (EachIsWatch clauses) (sym same) w.watching.each;
             listed = listed;
-            levels = subst (λ ws. EachLevelGuarded clauses ws after) (sym same) (EachLevelGuarded-grown clauses old.watched.items before after g w.watching.levels);
+            levels = subst (λ ws. EachLevelGuarded clauses ws after) (sym same) (EachLevelGuarded-grown clauses (watched_in old.arena) before after g w.watching.levels);
           };
       guarded =
           subst (λ ws. EachGuarded clauses ws (literals (take head after)) (literals after)) (sym same)
-          (subst (λ es. EachGuarded clauses old.watched.items (literals es) (literals after)) (sym (take_grown clauses before after head g within))
-          (EachGuarded-grown clauses old.watched.items (literals (take head before)) (literals before) (literals after) (HeldWithin-grown clauses before after g) w.guarded));
+          (subst (λ es. EachGuarded clauses (watched_in old.arena) (literals es) (literals after)) (sym (take_grown clauses before after head g within))
+          (EachGuarded-grown clauses (watched_in old.arena) (literals (take head before)) (literals before) (literals after) (HeldWithin-grown clauses before after g) w.guarded));
     }
 
 -- The clause of this number doesn't watch the literal, or watches another one in its place.
@@ -272,15 +275,17 @@ leaves_unwatched clauses held old new number l closed within each (inr moves) w 
     ]
 
 -- the state after a look at a clause that leaves, and once its number is dropped
-pub IsWatchingUpTo-leaves : (clauses : List (List Lit)) (old new : Watches) (mid : List Watched) (entries : List Entry) (head number : ℕ) (l : Lit) → LeavesWatch clauses (literals entries) old.watched.items mid number l → new.watched.items ≡ mid → IsListed new → IsWatchingUpTo clauses old entries head → IsWatchingUpTo clauses new entries head
-IsWatchingUpTo-leaves clauses old new mid entries head number l (inl (same, none)) is listed w =
+pub IsWatchingUpTo-leaves : (clauses : List (List Lit)) (old new : Watches) (mid : List Watched) (entries : List Entry) (head number : ℕ) (l : Lit) → LeavesWatch clauses (literals entries) (watched_in old.arena) mid number l → clauses_in new.arena ≡ clauses → watched_in new.arena ≡ mid → IsListed new → EachBlocked clauses new → IsWatchingUpTo clauses old entries head → IsWatchingUpTo clauses new entries head
+IsWatchingUpTo-leaves clauses old new mid entries head number l (inl (same, none)) unchanged is listed blocked w =
     IsWatchingUpTo-same (is ∙ same)
   where
-    IsWatchingUpTo-same : new.watched.items ≡ old.watched.items → IsWatchingUpTo clauses new entries head
+    IsWatchingUpTo-same : watched_in new.arena ≡ watched_in old.arena → IsWatchingUpTo clauses new entries head
     IsWatchingUpTo-same all_same =
         record {
           watching =
               record {
+                same = unchanged;
+                blocked = blocked;
                 count = ap length all_same ∙ w.watching.count;
                 each = subst (EachIsWatch clauses) (sym all_same) w.watching.each;
                 listed = listed;
@@ -288,19 +293,21 @@ IsWatchingUpTo-leaves clauses old new mid entries head number l (inl (same, none
               };
           guarded = subst (λ ws. EachGuarded clauses ws (literals (take head entries)) (literals entries)) (sym all_same) w.guarded;
         }
-IsWatchingUpTo-leaves clauses old new mid entries head number l (inr moves) is listed w =
+IsWatchingUpTo-leaves clauses old new mid entries head number l (inr moves) unchanged is listed blocked w =
     let held = literals entries in
     record {
       watching =
           record {
-            count = ap length (is ∙ moves.after) ∙ length-set old.watched.items number (Two moves.moved moves.other) ∙ w.watching.count;
-            each = subst (EachIsWatch clauses) (sym is) (EachIsWatch-moved clauses held old.watched.items mid number l moves w.watching.each);
+            same = unchanged;
+            blocked = blocked;
+            count = ap length (is ∙ moves.after) ∙ length-set (watched_in old.arena) number (Two moves.moved moves.other) ∙ w.watching.count;
+            each = subst (EachIsWatch clauses) (sym is) (EachIsWatch-moved clauses held (watched_in old.arena) mid number l moves w.watching.each);
             listed = listed;
-            levels = subst (λ ws. EachLevelGuarded clauses ws entries) (sym is) (EachLevelGuarded-moved clauses entries old.watched.items mid number l moves w.watching.levels);
+            levels = subst (λ ws. EachLevelGuarded clauses ws entries) (sym is) (EachLevelGuarded-moved clauses entries (watched_in old.arena) mid number l moves w.watching.levels);
           };
       guarded =
           subst (λ ws. EachGuarded clauses ws (literals (take head entries)) held) (sym is)
-          (EachGuarded-moved clauses held old.watched.items mid number l moves (literals (take head entries)) held (record { each = λ m h. h }) (HeldWithin-take head entries) w.guarded);
+          (EachGuarded-moved clauses held (watched_in old.arena) mid number l moves (literals (take head entries)) held (record { each = λ m h. h }) (HeldWithin-take head entries) w.guarded);
     }
 
 -- and what is left to look at
@@ -324,5 +331,5 @@ IsWatchingUpTo-end clauses watches entries head past w =
     let same : take head entries ≡ take (length entries) entries = take_all head entries past ∙ sym (take_all (length entries) entries (omega arith)) in
     record {
       watching = w.watching;
-      guarded = subst (λ es. EachGuarded clauses watches.watched.items (literals es) (literals entries)) same w.guarded;
+      guarded = subst (λ es. EachGuarded clauses (watched_in watches.arena) (literals es) (literals entries)) same w.guarded;
     }

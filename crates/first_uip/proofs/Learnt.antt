@@ -22,13 +22,14 @@ use Rattle.depth_first.proofs.Open.{variable_within}
 use Rattle.depth_first.proofs.States.{LogFollows-push, LogIsNew-push, NoneEmpty-push}
 use Rattle.depth_first.specs.TrailEntries.{EachForced}
 use Rattle.first_uip.specs.declared.watches.Watches.{Watches}
-use Rattle.first_uip.specs.declared.watches.Watched.{Watched}
-use Rattle.first_uip.specs.declared.watches.Watched.TheVariants.{Alone, Two}
-use Rattle.first_uip.specs.Watching.{watched_literals, AddsNumbers, IsWatch, IsGuarded, IsWatching, IsWatchingUpTo}
+use Rattle.first_uip.specs.declared.arena.Watched.{Watched}
+use Rattle.first_uip.specs.declared.arena.Watched.TheVariants.{Alone, Two}
+use Rattle.first_uip.specs.Watching.{watched_literals, IsWatch, IsGuarded, IsWatching, IsWatchingUpTo}
 use Rattle.first_uip.specs.Conflict.{DecidedAt, IsAsserting, IsOther}
 use Rattle.first_uip.proofs.Guards.{guard_satisfied}
-use Rattle.first_uip.proofs.Additions.{IsWatchingUpTo-add, IsWatchingUpTo-push, IsWatchingUpTo-cut}
+use Rattle.first_uip.proofs.Additions.{IsAdded, IsWatchingUpTo-add, IsWatchingUpTo-push, IsWatchingUpTo-cut}
 use Rattle.first_uip.proofs.StartLemmas.{All-two}
+use Rattle.first_uip.specs.Clauses.{IsPair}
 
 -- what a learned clause watches
 abbrev pub IsWatchFor : Lit → Option Lit → Watched → Type 0
@@ -37,6 +38,10 @@ IsWatchFor u other w = MatchOption other (w ≡ Alone) (λ l. w ≡ Two u l)
 pub learnt_watch : (entries : List Entry) (jump : ℕ) (clause : List Lit) (u : Lit) (other : Option Lit) (w : Watched) → IsWatchFor u other w → IsAsserting entries jump clause u → IsOther entries jump clause u other → IsWatch clause w
 learnt_watch entries jump clause u None w is asserting another = subst (IsWatch clause) (sym is) tt
 learnt_watch entries jump clause u (Some o) w is asserting (stands, differs, kept) = subst (IsWatch clause) (sym is) (asserting.stands, stands, differs)
+
+pub watch_pair : (entries : List Entry) (jump : ℕ) (clause : List Lit) (u : Lit) (other : Option Lit) (w : Watched) → IsWatchFor u other w → IsOther entries jump clause u other → IsPair w
+watch_pair entries jump clause u None w is another = subst IsPair (sym is) tt
+watch_pair entries jump clause u (Some o) w is (stands, differs, kept) = subst IsPair (sym is) differs
 
 pub watch_within : (set : Cnf) (n : ℕ) (entries : List Entry) (jump : ℕ) (clause : List Lit) (u : Lit) (other : Option Lit) (w : Watched) → n ≡ set.count + 1 → IsWithin set.count clause → IsWatchFor u other w → IsAsserting entries jump clause u → IsOther entries jump clause u other → All (λ (l : Lit). l.variable < n) (watched_literals w)
 watch_within set n entries jump clause u None w room within is asserting another =
@@ -113,7 +118,7 @@ asserted_unit clauses clause entries jump number u is asserting =
           ]),
     )
 
-module _ (clauses : List (List Lit)) (clause : List Lit) (old new : Watches) (w : Watched) (entries : List Entry) (place jump : ℕ) (u : Lit) (other : Option Lit) (added : new.watched.items ≡ old.watched.items ++ w ∷ []) (listed : AddsNumbers old new (watched_literals w) (length old.watched.items)) (watch : IsWatchFor u other w) (asserting : IsAsserting entries jump clause u) (another : IsOther entries jump clause u other) (decided : DecidedAt entries place) (watching : IsWatching clauses old entries) where
+module _ (clauses : List (List Lit)) (clause : List Lit) (old new : Watches) (w : Watched) (entries : List Entry) (place jump : ℕ) (u : Lit) (other : Option Lit) (added : IsAdded old new clause w) (watch : IsWatchFor u other w) (asserting : IsAsserting entries jump clause u) (another : IsOther entries jump clause u other) (decided : DecidedAt entries place) (watching : IsWatching clauses old entries) where
   left : IsWatchingUpTo clauses old (take place entries) place
   left = IsWatchingUpTo-cut clauses old entries place decided.0 decided.1 decided.2 watching
 
@@ -128,7 +133,7 @@ module _ (clauses : List (List Lit)) (clause : List Lit) (old new : Watches) (w 
   learnt_left before =
       let first = take place entries in
       let same : take place first ≡ first = take_take_below place place entries (omega arith) in
-      IsWatchingUpTo-add clauses clause old new w first place added listed (learnt_watch entries jump clause u other w watch asserting another)
+      IsWatchingUpTo-add clauses clause old new w first place added (learnt_watch entries jump clause u other w watch asserting another)
       (λ k d at decides. levels (omega arith) k d at decides (literals (take k first)))
       (subst (λ es. IsGuarded (literals es) (literals first) clause w) (sym same) (learnt_level entries jump clause u other w watch asserting another place (literals first) before decided))
       left
@@ -142,7 +147,7 @@ module _ (clauses : List (List Lit)) (clause : List Lit) (old new : Watches) (w 
       let now_held : is_held (literals all) u ≡ true =
       ap (λ ls. is_held ls u) (literals-append first (e ∷ [])) ∙ ap (λ l. is_held (literals first ++ l ∷ []) u) is ∙ held_last (literals first) u in
       let satisfied : IsSatisfied (literals all) clause = (u, asserting.stands, now_held) in
-      IsWatchingUpTo-add clauses clause old new w all place added listed (learnt_watch entries jump clause u other w watch asserting another)
+      IsWatchingUpTo-add clauses clause old new w all place added (learnt_watch entries jump clause u other w watch asserting another)
       (λ k d at decides.
       elim (slice_get_push_cases first e k d at) [
         | inl before ↦

@@ -1,4 +1,7 @@
 pub mod Sets
+pub mod Replaced
+pub mod ArenaLemmas
+pub mod WatcherLists
 pub mod Listing
 pub mod LookLemmas
 pub mod Guards

@@ -1,5 +1,5 @@
 -- Lists of the clauses that watch a literal, step by step.
-use Rattle.std.proofs.Common.{◌≡◌, ℕ, ◌+◌, ◌<◌, true, false, [], ◌∷◌, ◌++◌, Some, length, set, sym, ap, ◌∙◌, arith, inl, inr, subst, length-append, length-set}
+use Rattle.std.proofs.Common.{◌≡◌, ℕ, ◌+◌, ◌<◌, ◌≤◌, true, false, List, [], ◌∷◌, ◌++◌, Some, length, set, sym, ap, ◌∙◌, arith, inl, inr, subst, length-append, length-set}
 use Rattle.std.specs.Prelude.{slice_get, ◌⊎◌}
 use Rattle.std.specs.List.{swap_remove}
 use Rattle.std.proofs.lemmas.Bool.{cases_Bool, true≢false}
@@ -10,11 +10,12 @@ use Rattle.depth_first.specs.Propagated.{StandsFrom}
 use Rattle.depth_first.proofs.Lists.{some_same, slice_get_left, slice_get_last, slice_get_push_cases, slice_get_below}
 use Rattle.depth_first.proofs.HeldLists.{held_cases, held_one, held_one_same, not_held_nil, held_right, held_left}
 use Rattle.first_uip.specs.declared.watches.Watches.{Watches}
-use Rattle.first_uip.specs.declared.watches.Watched.{Watched}
-use Rattle.first_uip.specs.declared.watches.Watched.TheVariants.{Two}
+use Rattle.first_uip.specs.declared.arena.Watched.{Watched}
+use Rattle.first_uip.specs.declared.arena.Watched.TheVariants.{Two}
 use Rattle.first_uip.specs.Watching.{watched_literals, numbers_of, AddsNumber, AddsNumbers, IsListed}
 use Rattle.first_uip.specs.Looks.{WatchesBoth}
 use Rattle.first_uip.proofs.Sets.{slice_get-set_cases, kept_by_drop, only_by_drop}
+use Rattle.first_uip.specs.Clauses.{watched_in}
 
 -- what the lists have for a literal after one number more
 grown : (old new : Watches) (l : Lit) (number : ℕ) → AddsNumber old new l number → (m : Lit) → is_same m l ≡ true → numbers_of new m ≡ numbers_of old m ++ number ∷ []
@@ -79,7 +80,7 @@ AddsNumbers-two old mid new a b number first second =
     }
 
 -- no clauses
-pub IsListed-none : (watches : Watches) → watches.watched.items ≡ [] → ((l : Lit) → numbers_of watches l ≡ []) → IsListed watches
+pub IsListed-none : (watches : Watches) → (watched_in watches.arena) ≡ [] → ((l : Lit) → numbers_of watches l ≡ []) → IsListed watches
 IsListed-none watches no_clauses none =
     record {
       each = λ number w l at h. let e : slice_get [] number ≡ Some w = sym (ap (λ ws. slice_get ws number) no_clauses) ∙ at in cc;
@@ -87,12 +88,12 @@ IsListed-none watches no_clauses none =
     }
 
 -- one clause more
-pub IsListed-add : (old new : Watches) (w : Watched) → IsListed old → new.watched.items ≡ old.watched.items ++ w ∷ [] → AddsNumbers old new (watched_literals w) (length old.watched.items) → IsListed new
+pub IsListed-add : (old new : Watches) (w : Watched) → IsListed old → (watched_in new.arena) ≡ (watched_in old.arena) ++ w ∷ [] → AddsNumbers old new (watched_literals w) (length (watched_in old.arena)) → IsListed new
 IsListed-add old new w listed is adds =
-    let size : length new.watched.items ≡ length old.watched.items + 1 = ap length is ∙ length-append old.watched.items (w ∷ []) in
+    let size : length (watched_in new.arena) ≡ length (watched_in old.arena) + 1 = ap length is ∙ length-append (watched_in old.arena) (w ∷ []) in
     record {
       each = λ number v l at h.
-          elim (slice_get_push_cases old.watched.items w number v (sym (ap (λ ws. slice_get ws number) is) ∙ at)) [
+          elim (slice_get_push_cases (watched_in old.arena) w number v (sym (ap (λ ws. slice_get ws number) is) ∙ at)) [
             | inl before ↦ let s = listed.each number v l before h in (s.0, s.1, adds.kept l s.0 number s.2)
             | inr (last, same) ↦
                 subst (λ n. StandsFrom (numbers_of new l) 0 n) (sym last)
@@ -110,15 +111,15 @@ other_watched w l other (inl is) = ap (λ v. is_held (watched_literals v) other)
 other_watched w l other (inr is) = ap (λ v. is_held (watched_literals v) other) is ∙ held_left (other ∷ []) (l ∷ []) other (held_one other)
 
 -- a clause watches another literal
-pub IsListed-rewatch : (old new : Watches) (number : ℕ) (w : Watched) (l moved other : Lit) → IsListed old → slice_get old.watched.items number ≡ Some w → WatchesBoth w l other → new.watched.items ≡ set old.watched.items number (Two moved other) → AddsNumber old new moved number → IsListed new
+pub IsListed-rewatch : (old new : Watches) (number : ℕ) (w : Watched) (l moved other : Lit) → IsListed old → slice_get (watched_in old.arena) number ≡ Some w → WatchesBoth w l other → (watched_in new.arena) ≡ set (watched_in old.arena) number (Two moved other) → AddsNumber old new moved number → IsListed new
 IsListed-rewatch old new number w l moved other listed before both is adds =
-    let within : number < length old.watched.items = slice_get_below old.watched.items number w before in
-    let size : length new.watched.items ≡ length old.watched.items = ap length is ∙ length-set old.watched.items number (Two moved other) in
+    let within : number < length (watched_in old.arena) = slice_get_below (watched_in old.arena) number w before in
+    let size : length (watched_in new.arena) ≡ length (watched_in old.arena) = ap length is ∙ length-set (watched_in old.arena) number (Two moved other) in
     let keep : (n : ℕ) (m : Lit) → StandsFrom (numbers_of old m) 0 n → StandsFrom (numbers_of new m) 0 n =
     λ n m s. (s.0, s.1, kept_one old new moved number adds m s.0 n s.2) in
     record {
       each = λ n v m at h.
-          elim (slice_get-set_cases old.watched.items number n (Two moved other) v within (sym (ap (λ ws. slice_get ws n) is) ∙ at)) [
+          elim (slice_get-set_cases (watched_in old.arena) number n (Two moved other) v within (sym (ap (λ ws. slice_get ws n) is) ∙ at)) [
             | inl (here, same) ↦
                 subst (λ k. StandsFrom (numbers_of new m) 0 k) (sym here)
                 (elim (held_cases (moved ∷ []) (other ∷ []) m (ap (λ x. is_held (watched_literals x) m) same ∙ h)) [
@@ -137,27 +138,29 @@ IsListed-rewatch old new number w l moved other listed before both is adds =
     }
 
 -- a number is dropped from the list of a literal that its clause doesn't watch
-pub IsListed-drop : (old new : Watches) (l : Lit) (place number : ℕ) → IsListed old → slice_get (numbers_of old l) place ≡ Some number → ((w : Watched) → slice_get old.watched.items number ≡ Some w → is_held (watched_literals w) l ≡ false) → new.watched.items ≡ old.watched.items → numbers_of new l ≡ swap_remove (numbers_of old l) place 0 → ((m : Lit) → is_same m l ≡ false → numbers_of new m ≡ numbers_of old m) → IsListed new
+pub IsListed-drop : (old new : Watches) (l : Lit) (place number : ℕ) → IsListed old → slice_get (numbers_of old l) place ≡ Some number → ((w : Watched) → slice_get (watched_in old.arena) number ≡ Some w → is_held (watched_literals w) l ≡ false) → (watched_in new.arena) ≡ (watched_in old.arena) → numbers_of new l ≡ swap_remove (numbers_of old l) place 0 → ((m : Lit) → is_same m l ≡ false → numbers_of new m ≡ numbers_of old m) → IsListed new
 IsListed-drop old new l place number listed here leaves watched drops others =
     let within : place < length (numbers_of old l) = slice_get_below (numbers_of old l) place number here in
     record {
       each = λ n w m at h.
-          let before : slice_get old.watched.items n ≡ Some w = sym (ap (λ ws. slice_get ws n) watched) ∙ at in
+          let before : slice_get (watched_in old.arena) n ≡ Some w = sym (ap (λ ws. slice_get ws n) watched) ∙ at in
           let s = listed.each n w m before h in
           elim (cases_Bool (is_same m l)) [
             | inl same ↦
                 let e : m ≡ l = is_same-true m l same in
-                let stood : slice_get (numbers_of old l) s.0 ≡ Some n = sym (ap (λ k. slice_get (numbers_of old k) s.0) e) ∙ s.2 in
+                let stood : slice_get (numbers_of old l) s.0 ≡ Some n = subst (λ k. slice_get (numbers_of old k) s.0 ≡ Some n) e s.2 in
                 let elsewhere : s.0 ≡ place → ⊥ =
                 λ q.
                 let numbers : number ≡ n = some_same number n (sym here ∙ sym (ap (slice_get (numbers_of old l)) q) ∙ stood) in
-                true≢false (sym (sym (ap (is_held (watched_literals w)) e) ∙ h) ∙ leaves w (ap (slice_get old.watched.items) numbers ∙ before)) in
-                let (j, past, there) = kept_by_drop (numbers_of old l) place within s.0 n elsewhere stood in
-                subst (λ k. StandsFrom (numbers_of new k) 0 n) (sym e) (j, omega arith, ap (λ ns. slice_get ns j) drops ∙ there)
+                true≢false (sym (sym (ap (is_held (watched_literals w)) e) ∙ h) ∙ leaves w (ap (slice_get (watched_in old.arena)) numbers ∙ before)) in
+                let (j, past, there) =
+                subst (λ (ns : List ℕ). (i : ℕ) × (place ≤ s.0 → place ≤ i) × (slice_get ns i ≡ Some n)) (sym drops)
+                (kept_by_drop (numbers_of old l) place within s.0 n elsewhere stood) in
+                subst (λ k. StandsFrom (numbers_of new k) 0 n) (sym e) (j, omega arith, there)
             | inr differ ↦ (s.0, s.1, ap (λ ns. slice_get ns s.0) (others m differ) ∙ s.2)
           ];
       known = λ m j n at.
-          let size : length new.watched.items ≡ length old.watched.items = ap length watched in
+          let size : length (watched_in new.arena) ≡ length (watched_in old.arena) = ap length watched in
           elim (cases_Bool (is_same m l)) [
             | inl same ↦
                 let e : m ≡ l = is_same-true m l same in

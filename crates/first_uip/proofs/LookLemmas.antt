@@ -1,21 +1,22 @@
 -- What a look at a clause rests on.
-use Rattle.std.proofs.Common.{◌≡◌, ℕ, true, false, List, Some, length, sym, ap, ◌∙◌, arith, inl, inr, subst}
-use Rattle.std.specs.Prelude.{slice_get, All}
+use Rattle.std.proofs.Common.{◌≡◌, ℕ, zero, suc, ◌<◌, true, false, List, [], ◌∷◌, Some, length, sym, ap, ◌∙◌, arith, inl, inr, subst}
+use Rattle.std.specs.Prelude.{slice_get, All, Contains}
 use Rattle.std.proofs.lemmas.Bool.{cases_Bool}
 use Rattle.std.proofs.lemmas.List.Elements.{All-contains}
-use Rattle.clauses.specs.declared.cnf.Cnf.{Cnf}
-use Rattle.clauses.specs.declared.step.Step.{Step}
-use Rattle.clauses.specs.Literal.{Lit, is_same, IsVariable}
+use Rattle.std.proofs.lemmas.Option.{get_or_from_slice_get}
+use Rattle.clauses.specs.Literal.{Lit, is_same, IsVariable, IsWithin, VariablesWithin}
 use Rattle.clauses.specs.Propagation.{IsUnit, IsFalsified, is_held, is_false}
-use Rattle.clauses.specs.ClauseSet.{LogFollows, clauses_with}
 use Rattle.clauses.proofs.Held.{is_same-true}
 use Rattle.clauses.proofs.Units.{Contains-from_held, falsified_from, differ}
-use Rattle.depth_first.proofs.Lists.{element_at, slice_get_below}
+use Rattle.depth_first.specs.declared.trail.Entry.{Entry}
+use Rattle.depth_first.proofs.Lists.{element_at, slice_get_below, some_same}
 use Rattle.depth_first.proofs.Open.{variable_within}
-use Rattle.depth_first.proofs.Involved.{with_within}
-use Rattle.first_uip.specs.declared.watches.Watched.{Watched}
-use Rattle.first_uip.specs.Watching.{IsWatch, EachIsWatch}
-use Rattle.first_uip.specs.Looks.{WatchesBoth}
+use Rattle.first_uip.specs.declared.arena.Watched.{Watched}
+use Rattle.first_uip.specs.declared.watchers.Watcher.{Watcher}
+use Rattle.first_uip.specs.declared.watches.Watches.{Watches}
+use Rattle.first_uip.specs.Clauses.{watched_in, numbers_in}
+use Rattle.first_uip.specs.Watching.{IsWatch, EachIsWatch, IsWatching, EachBlocked, KeepsOnly, watchers_of}
+use Rattle.first_uip.specs.Looks.{WatchesBoth, NamesSatisfied}
 
 -- of two watched literals the other stands in the clause, and differs
 pub other_stands : (clause : List Lit) (w : Watched) (l other : Lit) → IsWatch clause w → WatchesBoth w l other → (is_held clause other ≡ true) × ((other ≡ l) → ⊥)
@@ -26,14 +27,18 @@ pub this_stands : (clause : List Lit) (w : Watched) (l other : Lit) → IsWatch 
 this_stands clause w l other watch (inl is) = let (one, two, differ) = subst (IsWatch clause) is watch in one
 this_stands clause w l other watch (inr is) = let (one, two, differ) = subst (IsWatch clause) is watch in two
 
--- a literal of a clause of this number is of one of the set's variables
-pub literal_within : (set : Cnf) (log : List Step) (number : ℕ) (clause : List Lit) (l : Lit) → LogFollows set log → slice_get (clauses_with set log) number ≡ Some clause → is_held clause l ≡ true → IsVariable set.count l.variable
-literal_within set log number clause l follows at stands = variable_within set.count clause l (with_within set log number clause follows at) stands
+-- a clause of this number, and each literal of it, is of the variables
+pub clause_within : (count : ℕ) (clauses : List (List Lit)) (number : ℕ) (clause : List Lit) → VariablesWithin count clauses → slice_get clauses number ≡ Some clause → IsWithin count clause
+clause_within count clauses number clause within at =
+    subst (IsWithin count) (get_or_from_slice_get clauses number clause clause at) (within number clause (slice_get_below clauses number clause at))
 
-pub other_within : (set : Cnf) (log : List Step) (watched : List Watched) (number : ℕ) (w : Watched) (l other : Lit) → LogFollows set log → EachIsWatch (clauses_with set log) watched → length watched ≡ length (clauses_with set log) → slice_get watched number ≡ Some w → WatchesBoth w l other → IsVariable set.count other.variable
-other_within set log watched number w l other follows each count at both =
-    let (clause, there) = element_at (clauses_with set log) number (omega (arith, count, slice_get_below watched number w at)) in
-    literal_within set log number clause other follows there (other_stands clause w l other (each number clause w there at) both).0
+pub literal_within : (count : ℕ) (clauses : List (List Lit)) (number : ℕ) (clause : List Lit) (l : Lit) → VariablesWithin count clauses → slice_get clauses number ≡ Some clause → is_held clause l ≡ true → IsVariable count l.variable
+literal_within count clauses number clause l within at stands = variable_within count clause l (clause_within count clauses number clause within at) stands
+
+pub other_within : (count : ℕ) (clauses : List (List Lit)) (watched : List Watched) (number : ℕ) (w : Watched) (l other : Lit) → VariablesWithin count clauses → EachIsWatch clauses watched → length watched ≡ length clauses → slice_get watched number ≡ Some w → WatchesBoth w l other → IsVariable count other.variable
+other_within count clauses watched number w l other within each size at both =
+    let (clause, there) = element_at clauses number (omega (arith, size, slice_get_below watched number w at)) in
+    literal_within count clauses number clause other within there (other_stands clause w l other (each number clause w there at) both).0
 
 -- where all others are false, the other one is unit or false
 pub unit_if_open : (held clause : List Lit) (other : Lit) → is_held clause other ≡ true → All (λ m. (m ≡ other → ⊥) → is_false held m ≡ true) clause → is_false held other ≡ false → IsUnit held clause other
@@ -47,3 +52,36 @@ falsified_if_false held clause other others closed =
       | inl same ↦ ap (is_false held) (is_same-true m other same) ∙ closed
       | inr isnt ↦ All-contains (λ k. (k ≡ other → ⊥) → is_false held k ≡ true) clause m others (Contains-from_held clause m stands) (differ m other isnt)
     ])
+
+-- the number at a place is that of what stands there
+pub number_at : (watchers : List Watcher) (place : ℕ) (w : Watcher) → slice_get watchers place ≡ Some w → slice_get (numbers_in watchers) place ≡ Some w.number
+number_at [] place w at = cc
+number_at (v ∷ vs) zero w at = ap (λ (x : Watcher). Some x.number) (some_same v w at)
+number_at (v ∷ vs) (suc k) w at = number_at vs k w at
+
+-- each blocker stands in its clause if those that are new do
+pub EachBlocked-kept : (clauses : List (List Lit)) (old new : Watches) (IsNew : Watcher → Type 0) → EachBlocked clauses old → KeepsOnly old new IsNew → ((w : Watcher) (clause : List Lit) → IsNew w → slice_get clauses w.number ≡ Some clause → is_held clause w.blocker ≡ true) → EachBlocked clauses new
+EachBlocked-kept clauses old new IsNew blocked only stands l w clause inside at =
+    elim (only l w inside) [
+      | inl before ↦ blocked l w clause before at
+      | inr is ↦ stands w clause is at
+    ]
+
+pub EachBlocked-one : (clauses : List (List Lit)) (old new : Watches) (number : ℕ) (blocker : Lit) → EachBlocked clauses old → KeepsOnly old new (λ w. (w.number ≡ number) × (w.blocker ≡ blocker)) → ((clause : List Lit) → slice_get clauses number ≡ Some clause → is_held clause blocker ≡ true) → EachBlocked clauses new
+EachBlocked-one clauses old new number blocker blocked only stands =
+    EachBlocked-kept clauses old new (λ w. (w.number ≡ number) × (w.blocker ≡ blocker)) blocked only
+    (λ w clause is at. ap (is_held clause) is.1 ∙ stands clause (sym (ap (slice_get clauses) is.0) ∙ at))
+
+stands_at : {X : Type 0} (xs : List X) (place : ℕ) (x : X) → slice_get xs place ≡ Some x → Contains xs x
+stands_at xs place x at = (place, slice_get_below xs place x at, get_or_from_slice_get xs place x x at)
+
+-- where a blocker is held, its clause is satisfied
+pub satisfied_by_blocker : (clauses : List (List Lit)) (watches : Watches) (held : List Lit) (l : Lit) (place : ℕ) (w : Watcher) → EachBlocked clauses watches → slice_get (watchers_of watches l) place ≡ Some w → is_held held w.blocker ≡ true → NamesSatisfied clauses held w.number
+satisfied_by_blocker clauses watches held l place w blocked here is clause at =
+    (w.blocker, blocked l w clause (stands_at (watchers_of watches l) place w here) at, is)
+
+pub blocker_within : (count : ℕ) (clauses : List (List Lit)) (watches : Watches) (entries : List Entry) (l : Lit) (place : ℕ) (w : Watcher) → VariablesWithin count clauses → IsWatching clauses watches entries → slice_get (watchers_of watches l) place ≡ Some w → IsVariable count w.blocker.variable
+blocker_within count clauses watches entries l place w within watching here =
+    let known : w.number < length (watched_in watches.arena) = watching.listed.known l place w.number (number_at (watchers_of watches l) place w here) in
+    let (clause, there) = element_at clauses w.number (omega (arith, known, watching.count)) in
+    literal_within count clauses w.number clause w.blocker within there (watching.blocked l w clause (stands_at (watchers_of watches l) place w here) there)

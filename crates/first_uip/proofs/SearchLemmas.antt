@@ -1,11 +1,12 @@
 -- The steps of a search, and what its answers rest on.
-use Rattle.std.proofs.Common.{◌≡◌, ℕ, ◌+◌, ◌<◌, ◌≤◌, Bool, Option, true, false, List, [], ◌∷◌, ◌++◌, Some, None, length, take, drop, map, refl, sym, ap, ◌∙◌, arith, inl, inr, subst}
+use Rattle.std.proofs.Common.{◌≡◌, ℕ, ◌+◌, ◌-◌, ◌<◌, ◌≤◌, Bool, get_or, Option, true, false, List, [], ◌∷◌, ◌++◌, Some, None, length, take, drop, map, refl, sym, ap, ◌∙◌, arith, inl, inr, subst}
 use Rattle.std.specs.Prelude.{slice_get, unwrap_or, IfSome}
 use Rattle.std.proofs.lemmas.Bool.{cases_lt, true≢false}
 use Rattle.std.proofs.lemmas.List.{take_all, append-nil}
+use Rattle.std.proofs.lemmas.Option.{slice_get-get_or}
 use Rattle.clauses.specs.declared.cnf.Cnf.{Cnf}
 use Rattle.clauses.specs.declared.step.Step.{Step}
-use Rattle.clauses.specs.Literal.{Lit, IsVariable}
+use Rattle.clauses.specs.Literal.{Lit, IsVariable, VariablesWithin}
 use Rattle.clauses.specs.Propagation.{NamesUnit}
 use Rattle.clauses.specs.ClauseSet.{all_clauses, clauses_of_steps, clauses_with}
 use Rattle.clauses.proofs.Closed.{HeldWithin, IsClosed, not_UnitsRefute}
@@ -16,6 +17,7 @@ use Rattle.depth_first.specs.Found.{IsModel, IsHonestLimit, distinct_count}
 use Rattle.depth_first.specs.TrailEntries.{literals, decisions, is_decision, Grows, IsSet, IsTableOf, value_or_false}
 use Rattle.depth_first.specs.Propagated.{AllPropagated}
 use Rattle.depth_first.specs.DepthFirst.{IsCaused, EachCaused, IsLearned}
+use Rattle.depth_first.proofs.Involved.{with_within}
 use Rattle.depth_first.proofs.Lists.{slice_get_below, slice_get_cases, slice_get_push_cases, take_left, take_right}
 use Rattle.depth_first.proofs.HeldLists.{Consistent, Consistent-within, HeldWithin-take}
 use Rattle.depth_first.proofs.TrailTable.{Consistent-from_table}
@@ -29,6 +31,7 @@ use Rattle.first_uip.specs.Conflict.{DecidedAt, NoneDecided}
 use Rattle.first_uip.specs.Searching.{IsSearching}
 use Rattle.first_uip.proofs.Guards.{AllPropagated-from_guarded}
 use Rattle.first_uip.proofs.Additions.{IsWatchingUpTo-decide}
+use Rattle.first_uip.specs.Clauses.{clauses_in, watched_in}
 
 -- a trail without decisions
 pub no_decisions : (entries : List Entry) → NoneDecided entries 0 (length entries) → decisions entries ≡ []
@@ -70,16 +73,16 @@ pub closed_before : (clauses : List (List Lit)) (watches : Watches) (values : Li
 closed_before clauses watches values entries place table (e, at, decides) watching =
     let held = literals (take place entries) in
     let ok : Consistent held = Consistent-within held (literals entries) (HeldWithin-take place entries) (Consistent-from_table values entries table) in
-    closed_from_propagated clauses held (AllPropagated-from_guarded clauses watches.watched.items held ok watching.count watching.each (watching.levels place e at decides))
+    closed_from_propagated clauses held (AllPropagated-from_guarded clauses (watched_in watches.arena) held ok watching.count watching.each (watching.levels place e at decides))
 
 -- where all entries were seen and all variables are set there is a model
 pub model_found : (set : Cnf) (log : List Step) (watches : Watches) (values : List (Option Bool)) (entries : List Entry) → IsTableOf values entries → length values ≡ set.count + 1 → IsWatchingUpTo (clauses_with set log) watches entries (length entries) → ((n : ℕ) → IsVariable set.count n → IsSet (literals entries) n) → IsModel set (map value_or_false (drop 1 values))
 model_found set log watches values entries table size state all =
     let cs = clauses_with set log in
-    let guarded : EachGuarded cs watches.watched.items (literals entries) (literals entries) =
-    subst (λ es. EachGuarded cs watches.watched.items (literals es) (literals entries)) (take_all (length entries) entries (omega arith)) state.guarded in
+    let guarded : EachGuarded cs (watched_in watches.arena) (literals entries) (literals entries) =
+    subst (λ es. EachGuarded cs (watched_in watches.arena) (literals es) (literals entries)) (take_all (length entries) entries (omega arith)) state.guarded in
     let propagated : AllPropagated cs (literals entries) =
-    AllPropagated-from_guarded cs watches.watched.items (literals entries) (Consistent-from_table values entries table) state.watching.count state.watching.each guarded in
+    AllPropagated-from_guarded cs (watched_in watches.arena) (literals entries) (Consistent-from_table values entries table) state.watching.count state.watching.each guarded in
     IsModel-from_propagated set values entries table size (AllPropagated-left (all_clauses set) (clauses_of_steps log) (literals entries) propagated) all
 
 -- a conflict below a decision shows that units alone don't refute
@@ -127,6 +130,14 @@ IsSearching-start set log watches entries none g state =
       forced = subst (λ cs. EachForced cs entries) same (EachForced-grown (all_clauses set) [] entries g nothing);
       watching = subst (λ cs. IsWatchingUpTo cs watches entries 0) same state;
     }
+
+-- the variables of the clauses of the arena are the set's
+pub variables_within : (set : Cnf) (log : List Step) (watches : Watches) (entries : List Entry) (head n : ℕ) → n ≡ set.count + 1 → IsSearching set log watches entries head → VariablesWithin (n - 1) (clauses_in watches.arena)
+variables_within set log watches entries head n room state =
+    let cs = clauses_with set log in
+    let count : set.count ≡ n - 1 = omega (arith, room) in
+    subst (VariablesWithin (n - 1)) (sym state.watching.watching.same)
+    (subst (λ m. VariablesWithin m cs) count (λ k d below. with_within set log k (get_or cs k d) state.learned.follows (slice_get-get_or cs k d below)))
 
 -- where to jump to: the first decision, or where the conflict says
 pub first_or_jump : (entries : List Entry) (first : Option ℕ) (jump : ℕ) → DecidedAt entries jump → IfSome first (DecidedAt entries) → IfSome first (NoneDecided entries 0) → DecidedAt entries (unwrap_or first jump) × (unwrap_or first jump ≤ jump)

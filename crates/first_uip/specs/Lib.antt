@@ -2,6 +2,7 @@ pub use Rattle.clauses.specs.ClauseSet
 pub use Rattle.clauses.specs.Literal
 pub use Rattle.clauses.specs.Propagation
 pub use Rattle.depth_first.specs.Found
+pub mod Clauses
 pub mod Watching
 pub mod Looks
 pub mod Shapes

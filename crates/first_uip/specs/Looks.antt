@@ -5,8 +5,8 @@ use Rattle.clauses.specs.Propagation.{NamesFalse, is_held, is_false}
 use Rattle.depth_first.specs.declared.trail.Entry.{Entry}
 use Rattle.depth_first.specs.TrailEntries.{literals}
 use Rattle.depth_first.specs.DepthFirst.{IsSatisfied}
-use Rattle.first_uip.specs.declared.watches.Watched.{Watched}
-use Rattle.first_uip.specs.declared.watches.Watched.TheVariants.{Two}
+use Rattle.first_uip.specs.declared.arena.Watched.{Watched}
+use Rattle.first_uip.specs.declared.arena.Watched.TheVariants.{Two}
 use Rattle.first_uip.specs.declared.look.Look.{Look}
 use Rattle.first_uip.specs.declared.look.Look.TheVariants.{Stays, Leaves, Falsified}
 use Rattle.first_uip.specs.Watching.{watched_literals}

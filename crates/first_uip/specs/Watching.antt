@@ -1,5 +1,5 @@
 -- Watched literals: which clauses have to be looked at when a literal becomes false (Chaff).
-use Rattle.std.specs.Prelude.{◌≡◌, ℕ, ◌<◌, ◌++◌, ◌⊎◌, true, false, List, [], ◌∷◌, Some, if◌then◌else◌, length, take, slice_get, slice_index_or}
+use Rattle.std.specs.Prelude.{Contains, ◌≡◌, ℕ, ◌<◌, ◌++◌, ◌⊎◌, true, false, List, [], ◌∷◌, Some, if◌then◌else◌, length, take, slice_get, slice_index_or}
 use Rattle.clauses.specs.Literal.{Lit, is_same}
 use Rattle.clauses.specs.Propagation.{is_held, is_false}
 use Rattle.depth_first.specs.declared.trail.Entry.{Entry}
@@ -7,17 +7,23 @@ use Rattle.depth_first.specs.TrailEntries.{literals, is_decision}
 use Rattle.depth_first.specs.Propagated.{StandsFrom}
 use Rattle.depth_first.specs.DepthFirst.{IsSatisfied}
 use Rattle.first_uip.specs.declared.watches.Watches.{Watches}
-use Rattle.first_uip.specs.declared.watches.Watched.{Watched}
-use Rattle.first_uip.specs.declared.watches.Watched.TheVariants.{Alone, Two}
+use Rattle.first_uip.specs.declared.watchers.Watcher.{Watcher}
+use Rattle.first_uip.specs.declared.arena.Watched.{Watched}
+use Rattle.first_uip.specs.declared.arena.Watched.TheVariants.{Alone, Two}
+use Rattle.first_uip.specs.Clauses.{clauses_in, watched_in, numbers_in}
 
 -- the literals that a clause watches
 abbrev pub watched_literals : Watched → List Lit
 watched_literals Alone = []
 watched_literals (Two first second) = first ∷ second ∷ []
 
+-- what is kept for a literal
+abbrev pub watchers_of : Watches → Lit → List Watcher
+watchers_of watches l = slice_index_or (if l.negated then watches.negative.items else watches.positive.items) l.variable []
+
 -- the numbers that are kept for a literal
 abbrev pub numbers_of : Watches → Lit → List ℕ
-numbers_of watches l = slice_index_or (if l.negated then watches.negative.items else watches.positive.items) l.variable []
+numbers_of watches l = numbers_in (watchers_of watches l)
 
 -- there is a list for each literal of the variables below this number
 pub record CoversBelow (n : ℕ) (watches : Watches) : Type 0 where
@@ -35,10 +41,19 @@ pub record AddsNumbers (old new : Watches) (added : List Lit) (number : ℕ) : T
   pub listed : (l : Lit) → is_held added l ≡ true → StandsFrom (numbers_of new l) 0 number
   pub only : (l : Lit) (place n : ℕ) → slice_get (numbers_of new l) place ≡ Some n → (slice_get (numbers_of old l) place ≡ Some n) ⊎ (n ≡ number)
 
+-- nothing is kept but what was, and what is new
+abbrev pub KeepsOnly : Watches → Watches → (Watcher → Type 0) → Type 0
+KeepsOnly old new IsNew = (l : Lit) (w : Watcher) → Contains (watchers_of new l) w → Contains (watchers_of old l) w ⊎ IsNew w
+
+-- each blocker stands in its clause
+abbrev pub EachBlocked : List (List Lit) → Watches → Type 0
+EachBlocked clauses watches =
+    (l : Lit) (w : Watcher) (clause : List Lit) → Contains (watchers_of watches l) w → slice_get clauses w.number ≡ Some clause → is_held clause w.blocker ≡ true
+
 -- Each clause is listed for each literal that it watches, and no other numbers are listed than those of clauses.
 pub record IsListed (watches : Watches) : Type 0 where
-  pub each : (number : ℕ) (w : Watched) (l : Lit) → slice_get watches.watched.items number ≡ Some w → is_held (watched_literals w) l ≡ true → StandsFrom (numbers_of watches l) 0 number
-  pub known : (l : Lit) (place n : ℕ) → slice_get (numbers_of watches l) place ≡ Some n → n < length watches.watched.items
+  pub each : (number : ℕ) (w : Watched) (l : Lit) → slice_get (watched_in watches.arena) number ≡ Some w → is_held (watched_literals w) l ≡ true → StandsFrom (numbers_of watches l) 0 number
+  pub known : (l : Lit) (place n : ℕ) → slice_get (numbers_of watches l) place ≡ Some n → n < length (watched_in watches.arena)
 
 -- what a clause watches are two of its literals that differ, or nothing
 abbrev pub IsWatch : List Lit → Watched → Type 0
@@ -67,14 +82,16 @@ EachLevelGuarded clauses watched entries =
     (place : ℕ) (e : Entry) → slice_get entries place ≡ Some e → is_decision e.cause ≡ true →
     EachGuarded clauses watched (literals (take place entries)) (literals (take place entries))
 
--- The watches of some clauses: each has them, they are listed, and each level but the last is closed by them.
+-- The watches of the clauses of an arena: each has them, they are listed, and each level but the last is closed by them.
 pub record IsWatching (clauses : List (List Lit)) (watches : Watches) (entries : List Entry) : Type 0 where
-  pub count : length watches.watched.items ≡ length clauses
-  pub each : EachIsWatch clauses watches.watched.items
+  pub same : clauses_in watches.arena ≡ clauses
+  pub count : length (watched_in watches.arena) ≡ length clauses
+  pub each : EachIsWatch clauses (watched_in watches.arena)
   pub listed : IsListed watches
-  pub levels : EachLevelGuarded clauses watches.watched.items entries
+  pub blocked : EachBlocked clauses watches
+  pub levels : EachLevelGuarded clauses (watched_in watches.arena) entries
 
 -- the same, and the entries before the head were seen
 pub record IsWatchingUpTo (clauses : List (List Lit)) (watches : Watches) (entries : List Entry) (head : ℕ) : Type 0 where
   pub watching : IsWatching clauses watches entries
-  pub guarded : EachGuarded clauses watches.watched.items (literals (take head entries)) (literals entries)
+  pub guarded : EachGuarded clauses (watched_in watches.arena) (literals (take head entries)) (literals entries)

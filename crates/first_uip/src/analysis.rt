@@ -301,8 +301,7 @@ fn learned_of(
     })
 }
 
-/// What the conflict at a clause shows, where the last decision stands at `start`, the parts of the variables in it,
-/// and the entries on which it rests.
+/// What the conflict at a clause shows, where the last decision stands at `start`, and the entries on which it rests.
 pub(crate) fn analyse(
     alloc: Global,
     cnf: &Cnf,
@@ -311,7 +310,7 @@ pub(crate) fn analyse(
     places: &[usize],
     conflict: u32,
     start: usize,
-) -> Result<(Learned, Vec<Role>, Vec<Entry>), AllocError>
+) -> Result<(Learned, Vec<Entry>), AllocError>
     requires variables { length trail.now.values.items ≡ cnf.now.count + 1 }
     requires places { length places.now ≡ cnf.now.count + 1 }
     requires placed { IsPlaced places.now trail.now.entries.items (length trail.now.entries.items) }
@@ -325,8 +324,7 @@ pub(crate) fn analyse(
     ensures not_empty { IfOk result (λ all. all.0.step.clause ≡ [] → ⊥) }
     ensures asserting { IfOk result (λ all. IsAsserting trail.now.entries.items all.0.jump all.0.step.clause all.0.asserted) }
     ensures other { IfOk result (λ all. IsOther trail.now.entries.items all.0.jump all.0.step.clause all.0.asserted all.0.other) }
-    ensures roles { IfOk result (λ all. length all.1.items ≡ cnf.now.count + 1) }
-    ensures within { IfOk result (λ all. VariablesBelow (cnf.now.count + 1) all.2.items) }
+    ensures within { IfOk result (λ all. VariablesBelow (cnf.now.count + 1) all.1.items) }
 {
     let mut roles = no_parts(alloc, cnf.count)?;
     let mut implied = vec![in alloc; None; cnf.count as usize + 1]?;
@@ -346,5 +344,5 @@ pub(crate) fn analyse(
     let learned = learned_of(
         alloc, cnf, log, trail, &shown, &roles, conflict, start, point,
     )?;
-    Ok((learned, roles, shown))
+    Ok((learned, shown))
 }

@@ -2,18 +2,20 @@
 
 ghost use Rattle.std.specs.Prelude.{◌≡◌, ◌+◌, ◌^◌, ◌<◌, ◌≤◌, [], length, take, IfOk, MatchOption, OnOk};
 ghost use Rattle.clauses.specs.ClauseSet.{IsNew, StepFollows, clauses_with};
-ghost use Rattle.depth_first.specs.Found.{IsFound, distinct_count};
+ghost use Rattle.depth_first.specs.Found.{IsFound, distinct_count, most_conflicts};
 ghost use Rattle.depth_first.specs.DepthFirst.{IsLearned};
 ghost use Rattle.depth_first.specs.TrailEntries.{EachForced};
 ghost use Rattle.first_uip.specs.Watching.{CoversBelow, IsWatching, IsWatchingUpTo};
 ghost use Rattle.first_uip.specs.Conflict.{DecidedAt, IsAsserting, IsOther};
 
 use crate::analysis::{Learned, analyse, first_decision, last_decision};
+use crate::arena::Watched;
 use crate::blocks::note_places;
 use crate::policy::Policy;
 use crate::propagation::propagate;
+use crate::restarts::levels_of;
 use crate::start::add_clauses;
-use crate::watches::{Watched, Watches};
+use crate::watches::Watches;
 use clauses::{Cnf, Lit, Step};
 use depth_first::{Cause, Entry, Found, Trail, refutation};
 use lists::List;
@@ -66,9 +68,9 @@ fn learn(
         other,
         jump,
     } = learned;
-    let number = watches.watched.len() as u32;
+    let number = watches.arena.len() as u32;
     trail.cut(place);
-    watches.add(watch_of(asserted, other))?;
+    watches.add(step.clause.as_slice(), watch_of(asserted, other))?;
     log.push(step)?;
     if place == jump {
         trail.push(Entry {
@@ -84,7 +86,7 @@ fn learn(
 ///
 /// The only error is want of memory.
 pub fn search(alloc: Global, cnf: &Cnf, limit: u32) -> Result<Found, AllocError>
-    requires limit { limit ≤ 1000000 }
+    requires limit { limit ≤ most_conflicts }
     requires many { 12 < distinct_count cnf.now.inputs }
     ensures { IfOk result (IsFound cnf.now limit) }
 {
@@ -99,7 +101,7 @@ pub fn search_counted(
     limit: u32,
     propagations: &mut u64,
 ) -> Result<Found, AllocError>
-    requires limit { limit ≤ 1000000 }
+    requires limit { limit ≤ most_conflicts }
     requires many { 12 < distinct_count cnf.now.inputs }
     ensures { IfOk result (IsFound cnf.now limit) }
 {
@@ -115,8 +117,7 @@ pub fn search_counted(
     let mut noted = 0;
     let mut head = 0;
     loop {
-        let Some(conflict) = propagate(cnf, &log, &mut watches, &mut trail, head, propagations)?
-        else {
+        let Some(conflict) = propagate(&mut watches, &mut trail, head, propagations)? else {
             let Some(literal) = policy.decision(cnf, &trail) else {
                 return Ok(Found::Sat(trail.assignment(alloc)?));
             };
@@ -134,8 +135,9 @@ pub fn search_counted(
             return Ok(Found::Limit(List::from_vec(log)));
         }
         note_places(&trail, noted, &mut places, &mut levels);
-        let (learned, roles, shown) = analyse(alloc, cnf, &log, &trail, &places, conflict, start)?;
-        head = if policy.count_conflict(&shown, &roles, &levels) {
+        let (learned, shown) = analyse(alloc, cnf, &log, &trail, &places, conflict, start)?;
+        let spanned = levels_of(learned.step.clause.as_slice(), &levels);
+        head = if policy.count_conflict(&shown, spanned) {
             first_decision(&trail).unwrap_or(learned.jump)
         } else {
             learned.jump

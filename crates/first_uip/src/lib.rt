@@ -2,17 +2,18 @@
 #![tactic(auto)]
 
 mod analysis;
+mod arena;
 mod blocks;
 mod learning;
 mod look;
 mod minimisation;
-mod numbers;
 mod order;
 mod policy;
 mod propagation;
 mod restarts;
 mod roles;
 mod start;
+mod watchers;
 mod watches;
 
 pub use learning::{search, search_counted};

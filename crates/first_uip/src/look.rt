@@ -1,16 +1,17 @@
 //! Looking at a clause of which a watched literal became false.
 
-ghost use Rattle.std.specs.Prelude.{◌≡◌, ◌≢◌, ◌+◌, ◌-◌, ◌<◌, true, false, length, All, IfOk, IfSome, IfNone, MatchOption};
-ghost use Rattle.clauses.specs.Literal.{IsWithin};
+ghost use Rattle.std.specs.Prelude.{◌≡◌, ◌≢◌, ◌-◌, ◌<◌, true, false, length, All, IfOk, IfSome, IfNone, MatchOption};
+ghost use Rattle.clauses.specs.Literal.{IsWithin, VariablesWithin};
 ghost use Rattle.clauses.specs.Propagation.{is_held, is_false};
-ghost use Rattle.clauses.specs.ClauseSet.{LogFollows, clauses_with};
 ghost use Rattle.depth_first.specs.TrailEntries.{literals, Grows};
-ghost use Rattle.first_uip.specs.Watching.{CoversBelow, EachIsWatch, IsListed, watched_literals, numbers_of};
+ghost use Rattle.first_uip.specs.Clauses.{clauses_in, watched_in};
+ghost use Rattle.first_uip.specs.Watching.{CoversBelow, EachBlocked, EachIsWatch, IsListed, watched_literals, numbers_of};
 ghost use Rattle.first_uip.specs.Looks.{WatchesBoth, IsLook};
 
-use crate::watches::{Watched, Watches};
-use clauses::{Cnf, Lit, Step};
-use depth_first::{Cause, Entry, Trail, numbered};
+use crate::arena::Watched;
+use crate::watches::Watches;
+use clauses::Lit;
+use depth_first::{Cause, Entry, Trail};
 use std::alloc::AllocError;
 
 /// What came of a look at a clause.
@@ -60,35 +61,35 @@ fn watched_beside(watched: Watched, literal: Lit) -> Option<Lit>
 /// Looks at the clause of a number, of which this literal became false: it is satisfied by the other watched
 /// literal, watches another one instead, forces the other one, or all its literals are false.
 pub(crate) fn look_at(
-    cnf: &Cnf,
-    log: &[Step],
     watches: &mut Watches,
     trail: &mut Trail,
     number: u32,
     falsified: Lit,
 ) -> Result<Look, AllocError>
-    requires variables { length trail.old.values.items ≡ cnf.now.count + 1 }
-    requires follows { LogFollows cnf.now log.now }
-    requires covers { CoversBelow (cnf.now.count + 1) watches.old }
-    requires count { length watches.old.watched.items ≡ length (clauses_with cnf.now log.now) }
-    requires each { EachIsWatch (clauses_with cnf.now log.now) watches.old.watched.items }
+    requires covers { CoversBelow (length trail.old.values.items) watches.old }
+    requires variables { VariablesWithin (length trail.old.values.items - 1) (clauses_in watches.old.arena) }
+    requires count { length (watched_in watches.old.arena) ≡ length (clauses_in watches.old.arena) }
+    requires each { EachIsWatch (clauses_in watches.old.arena) (watched_in watches.old.arena) }
     requires listed { IsListed watches.old }
-    requires known { number < length watches.old.watched.items }
+    requires blocked { EachBlocked (clauses_in watches.old.arena) watches.old }
+    requires known { number < length (watched_in watches.old.arena) }
     requires falsified { is_false (literals trail.old.entries.items) falsified ≡ true }
     ensures same_variables { length trail.new.values.items ≡ length trail.old.values.items }
-    ensures covers { CoversBelow (cnf.now.count + 1) watches.new }
-    ensures grows { Grows (clauses_with cnf.now log.now) trail.old.entries.items trail.new.entries.items }
-    ensures look { IfOk result (IsLook (clauses_with cnf.now log.now) watches.old.watched.items watches.new.watched.items trail.old.entries.items trail.new.entries.items number falsified) }
+    ensures same_clauses { clauses_in watches.new.arena ≡ clauses_in watches.old.arena }
+    ensures covers { CoversBelow (length trail.old.values.items) watches.new }
+    ensures grows { Grows (clauses_in watches.old.arena) trail.old.entries.items trail.new.entries.items }
+    ensures look { IfOk result (IsLook (clauses_in watches.old.arena) (watched_in watches.old.arena) (watched_in watches.new.arena) trail.old.entries.items trail.new.entries.items number falsified) }
     ensures listed { IfOk result (λ _. IsListed watches.new) }
+    ensures blocked { IfOk result (λ _. EachBlocked (clauses_in watches.old.arena) watches.new) }
     ensures same_numbers { IfOk result (λ _. numbers_of watches.new falsified ≡ numbers_of watches.old falsified) }
 {
-    let Some(other) = watched_beside(watches.watched[number as usize], falsified) else {
+    let Some(other) = watched_beside(watches.arena.watched(number), falsified) else {
         return Ok(Look::Leaves);
     };
     if trail.holds(other) {
         return Ok(Look::Stays);
     }
-    if let Some(open) = other_open(trail, numbered(cnf, log, number), other) {
+    if let Some(open) = other_open(trail, watches.arena.clause(number), other) {
         watches.rewatch(number, open, other)?;
         return Ok(Look::Leaves);
     }

@@ -6,7 +6,6 @@ ghost use Rattle.depth_first.specs.TrailEntries.{literals, IsOpen, IsSet};
 
 use crate::order::Order;
 use crate::restarts::Restarts;
-use crate::roles::Role;
 use clauses::{Cnf, Lit};
 use depth_first::{Entry, Trail};
 use std::alloc::{AllocError, Global};
@@ -99,25 +98,14 @@ impl Policy {
 
     /// Counts a conflict, the entries on which it rests, and the levels that its clause spans; the answer is true where
     /// the search is to restart.
-    pub(crate) fn count_conflict(&mut self, shown: &[Entry], roles: &[Role], levels: &[u32]) -> bool
-        requires levels { length levels.now ≡ length self.old.negated.items }
-        requires within { VariablesBelow (length self.old.negated.items) shown.now }
-        requires roles { length roles.now ≡ length self.old.negated.items }
+    pub(crate) fn count_conflict(&mut self, shown: &[Entry], levels: u32) -> bool
+        requires { VariablesBelow (length self.old.negated.items) shown.now }
         ensures { length self.new.negated.items ≡ length self.old.negated.items }
     {
-        let mut spanned: u32 = 0;
-        // the last level that was counted; what stands before the first decision is of none
-        let mut last = 0;
         for entry in shown {
-            let variable = entry.literal.variable();
-            self.order.bump(variable);
-            let level = levels[variable as usize];
-            if level != last && roles[variable as usize] == Role::Kept {
-                spanned = spanned.saturating_add(1);
-                last = level;
-            }
+            self.order.bump(entry.literal.variable());
         }
         self.order.decay();
-        self.restarts.count_conflict(spanned)
+        self.restarts.count_conflict(levels)
     }
 }

@@ -1,5 +1,7 @@
 //! When to restart: where the clauses that were learned of late span more levels than those before (Glucose).
 
+use clauses::Lit;
+
 /// How many clauses the mean of late ones weighs, each less than the next.
 const LATE: u64 = 16;
 
@@ -16,6 +18,24 @@ pub(crate) struct Restarts {
     clauses: u64,
     /// The conflicts since the last restart.
     run: u32,
+}
+
+/// How many levels the literals of a clause span, which stand as in the trail.
+pub(crate) fn levels_of(clause: &[Lit], levels: &[u32]) -> u32 {
+    let mut spanned: u32 = 0;
+    // the last level that was counted; what stands before the first decision is of none
+    let mut last = 0;
+    for literal in clause {
+        let level = levels
+            .get(literal.variable() as usize)
+            .copied()
+            .unwrap_or(last);
+        if level != last {
+            spanned = spanned.saturating_add(1);
+            last = level;
+        }
+    }
+    spanned
 }
 
 impl Restarts {

@@ -8,7 +8,8 @@ ghost use Rattle.depth_first.specs.TrailEntries.{literals, Grows};
 ghost use Rattle.first_uip.specs.Watching.{CoversBelow, IsWatchingUpTo};
 ghost use Rattle.first_uip.specs.Shapes.{IsShape};
 
-use crate::watches::{Watched, Watches};
+use crate::arena::Watched;
+use crate::watches::Watches;
 use clauses::{Cnf, Lit};
 use depth_first::{Cause, Entry, Trail};
 use std::alloc::AllocError;
@@ -62,10 +63,11 @@ fn add_clause(
     ensures watching { IfOk result (λ good. OnTrue good (IsWatchingUpTo (take (number + 1) (all_clauses cnf.now)) watches.new trail.new.entries.items 0)) }
     ensures falsified { IfOk result (λ good. OnFalse good (NamesFalse (all_clauses cnf.now) (literals trail.new.entries.items) number)) }
 {
-    match shape_of(cnf.clause(number).as_slice()) {
+    let clause = cnf.clause(number).as_slice();
+    match shape_of(clause) {
         Shape::Empty => Ok(false),
         Shape::Several(first, second) => {
-            watches.add(Watched::Two(first, second))?;
+            watches.add(clause, Watched::Two(first, second))?;
             Ok(true)
         }
         Shape::One(literal) => hold(cnf, number, literal, watches, trail),
@@ -96,7 +98,7 @@ fn hold(
     if trail.holds(literal.negation()) {
         return Ok(false);
     }
-    watches.add(Watched::Alone)?;
+    watches.add(cnf.clause(number).as_slice(), Watched::Alone)?;
     if !trail.holds(literal) {
         trail.push(Entry {
             literal,

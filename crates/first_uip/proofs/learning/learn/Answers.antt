@@ -8,14 +8,21 @@ use Rattle.depth_first.specs.TrailEntries.{EachForced}
 use Rattle.depth_first.proofs.Lists.{slice_get_below, take_take_below, take_whole}
 use Rattle.depth_first.proofs.Open.{variable_within}
 use Rattle.depth_first.proofs.States.{clauses_with-push}
+use Rattle.first_uip.specs.Clauses.{clauses_in}
 use Rattle.first_uip.specs.Watching.{IsWatchingUpTo}
-use Rattle.first_uip.proofs.Learnt.{watch_within, IsLearned-push, EachForced-cut, EachForced-asserted, learnt_left, learnt_asserted}
+use Rattle.first_uip.proofs.Additions.{IsAdded}
+use Rattle.first_uip.proofs.Learnt.{watch_pair, watch_within, IsLearned-push, EachForced-cut, EachForced-asserted, learnt_left, learnt_asserted}
 use Rattle.first_uip.proofs.learning.learn.Goals as goal
 
 pub add-requires-clause-within : goal.add-requires-clause-within
 add-requires-clause-within c =
     let l = c.args.learned in
     watch_within c.args.cnf.now (length c.args.watches.now.positive.items) c.args.trail.now.entries.items l.jump l.step.clause l.asserted l.other c.watch_of.result c.requires.covers.positive c.requires.follows.0 c.watch_of.ensures c.requires.asserting c.requires.other
+
+pub add-requires-clause-pair : goal.add-requires-clause-pair
+add-requires-clause-pair c =
+    let l = c.args.learned in
+    watch_pair c.args.trail.now.entries.items l.jump l.step.clause l.asserted l.other c.watch_of.result c.watch_of.ensures c.requires.other
 
 pub push-requires-then-place-jump-clause-first : goal.push-requires-then-place-jump-clause-first
 push-requires-then-place-jump-clause-first c =
@@ -59,7 +66,7 @@ returns-in_ok-push-2-clause-forced c =
     let entries = c.args.trail.now.entries.items in
     let place = c.args.place in
     let e : Entry = record { literal = l.asserted; cause = Reason c.len-number.result } in
-    let number : c.len-number.result ≡ length cs = omega (arith, c.len-number.ensures, c.args.watches.now.watched.ok.0, c.requires.watching.count) in
+    let number : c.len-number.result ≡ length cs = c.len-number.ensures.watched ∙ c.requires.watching.count in
     let clauses : clauses_with set c.push.new.self.items ≡ cs ++ l.step.clause ∷ [] = ap (clauses_with set) c.in_ok-push.ensures.items ∙ clauses_with-push set log l.step in
     let after : c.push-then-place-jump.new.self.entries.items ≡ take place entries ++ e ∷ [] = c.in_ok-push-2.ensures.ok ∙ ap (λ es. es ++ e ∷ []) c.cut.ensures.entries in
     subst (λ ds. EachForced ds c.push-then-place-jump.new.self.entries.items) (sym clauses)
@@ -88,9 +95,17 @@ returns-in_ok-push-2-clause-watching c =
     let e : Entry = record { literal = l.asserted; cause = Reason c.len-number.result } in
     let clauses : clauses_with set c.push.new.self.items ≡ cs ++ l.step.clause ∷ [] = ap (clauses_with set) c.in_ok-push.ensures.items ∙ clauses_with-push set log l.step in
     let after : c.push-then-place-jump.new.self.entries.items ≡ take place entries ++ e ∷ [] = c.in_ok-push-2.ensures.ok ∙ ap (λ es. es ++ e ∷ []) c.cut.ensures.entries in
+    let ok = c.in_ok-add.ensures in
+    let added : IsAdded c.args.watches.now c.add.new.self l.step.clause c.watch_of.result =
+    record {
+      clauses = ok.clauses ∙ ap (λ ls. clauses_in c.args.watches.now.arena ++ ls ∷ []) c.as_slice.ensures;
+      watched = ok.watched;
+      listed = ok.listed;
+      only = ok.only;
+    } in
     subst (λ ds. IsWatchingUpTo ds c.add.new.self c.push-then-place-jump.new.self.entries.items place) (sym clauses)
     (subst (λ es. IsWatchingUpTo (cs ++ l.step.clause ∷ []) c.add.new.self es place) (sym after)
-    (learnt_asserted cs l.step.clause c.args.watches.now c.add.new.self c.watch_of.result entries place l.jump l.asserted l.other c.in_ok-add.ensures.watched c.in_ok-add.ensures.listed c.watch_of.ensures c.requires.asserting c.requires.other c.requires.decided c.requires.watching
+    (learnt_asserted cs l.step.clause c.args.watches.now c.add.new.self c.watch_of.result entries place l.jump l.asserted l.other added c.watch_of.ensures c.requires.asserting c.requires.other c.requires.decided c.requires.watching
     e c.if-place-jump.true refl refl))
 
 pub returns-else-place-jump-clause-watching : goal.returns-else-place-jump-clause-watching
@@ -102,7 +117,15 @@ returns-else-place-jump-clause-watching c =
     let entries = c.args.trail.now.entries.items in
     let place = c.args.place in
     let clauses : clauses_with set c.push.new.self.items ≡ cs ++ l.step.clause ∷ [] = ap (clauses_with set) c.in_ok-push.ensures.items ∙ clauses_with-push set log l.step in
+    let ok = c.in_ok-add.ensures in
+    let added : IsAdded c.args.watches.now c.add.new.self l.step.clause c.watch_of.result =
+    record {
+      clauses = ok.clauses ∙ ap (λ ls. clauses_in c.args.watches.now.arena ++ ls ∷ []) c.as_slice.ensures;
+      watched = ok.watched;
+      listed = ok.listed;
+      only = ok.only;
+    } in
     subst (λ ds. IsWatchingUpTo ds c.add.new.self c.cut.new.self.entries.items place) (sym clauses)
     (subst (λ es. IsWatchingUpTo (cs ++ l.step.clause ∷ []) c.add.new.self es place) (sym c.cut.ensures.entries)
-    (learnt_left cs l.step.clause c.args.watches.now c.add.new.self c.watch_of.result entries place l.jump l.asserted l.other c.in_ok-add.ensures.watched c.in_ok-add.ensures.listed c.watch_of.ensures c.requires.asserting c.requires.other c.requires.decided c.requires.watching
+    (learnt_left cs l.step.clause c.args.watches.now c.add.new.self c.watch_of.result entries place l.jump l.asserted l.other added c.watch_of.ensures c.requires.asserting c.requires.other c.requires.decided c.requires.watching
     (omega (arith, c.requires.within, c.if-place-jump.false))))

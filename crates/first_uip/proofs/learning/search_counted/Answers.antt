@@ -9,13 +9,14 @@ use Rattle.depth_first.specs.Found.{IsModel, IsHonestLimit}
 use Rattle.depth_first.specs.TrailEntries.{literals, Grows}
 use Rattle.depth_first.specs.TrailEntries.{EachForced}
 use Rattle.depth_first.proofs.SearchSteps.{EachCaused-start, no_decisions, IfNone_is}
-use Rattle.first_uip.specs.Watching.{IsWatching, IsWatchingUpTo}
+use Rattle.first_uip.specs.Clauses.{clauses_in}
+use Rattle.first_uip.specs.Watching.{CoversBelow, IsWatching, IsWatchingUpTo}
 use Rattle.first_uip.specs.Conflict.{DecidedAt}
 use Rattle.first_uip.specs.Searching.{IsSearching}
 use Rattle.first_uip.specs.Marks.{IsNoted, IsPlaced}
 use Rattle.first_uip.proofs.Noted.{IsNoted-append, IsNoted-cut, IsNoted-grows, written_back}
 use Rattle.first_uip.proofs.Measure.{less_after_conflict}
-use Rattle.first_uip.proofs.SearchLemmas.{no_decisions as none_decided_gives_none, EachCaused-from_forced, EachForced-grown, closed_before, model_found, limit_found, IsSearching-decided, IsSearching-start, first_or_jump}
+use Rattle.first_uip.proofs.SearchLemmas.{no_decisions as none_decided_gives_none, EachCaused-from_forced, EachForced-grown, closed_before, model_found, limit_found, variables_within, IsSearching-decided, IsSearching-start, first_or_jump}
 use Rattle.first_uip.proofs.learning.search_counted.Goals as goal
 use Rattle.first_uip.proofs.learning.search_counted.Goals.{then-count_conflict, else-count_conflict}
 
@@ -45,20 +46,37 @@ loop-places-init c =
       state = IsSearching-start set c.new-log.result.items watches entries c.new-log.ensures.items c.add_clauses.ensures.grown watching;
     }
 
-pub propagate-requires-clause-follows : goal.propagate-requires-clause-follows
-propagate-requires-clause-follows c =
-    subst (LogFollows c.args.cnf.now) (sym c.deref.ensures.value) c.loop-places.invariant.state.learned.follows
+pub propagate-requires-clause-covers : goal.propagate-requires-clause-covers
+propagate-requires-clause-covers c =
+    let inv = c.loop-places.invariant in
+    subst (λ n. CoversBelow n c.loop-places.watches) (sym inv.variables) inv.covers
+
+pub propagate-requires-clause-variables : goal.propagate-requires-clause-variables
+propagate-requires-clause-variables c =
+    let l = c.loop-places in
+    variables_within c.args.cnf.now l.log.items l.watches l.trail.entries.items l.head (length l.trail.values.items) l.invariant.variables l.invariant.state
+
+pub propagate-requires-clause-watching : goal.propagate-requires-clause-watching
+propagate-requires-clause-watching c =
+    let l = c.loop-places in
+    let watching = l.invariant.state.watching in
+    subst (λ cs. IsWatchingUpTo cs l.watches l.trail.entries.items l.head) (sym watching.watching.same) watching
 
 pub returns-in_default-decision : goal.returns-in_default-decision
 returns-in_default-decision c =
     let set = c.args.cnf.now in
+    let inv = c.loop-places.invariant in
+    let log = c.loop-places.log.items in
     let trail = c.propagate.new.trail in
     let entries = trail.entries.items in
     let watches = c.propagate.new.watches in
-    let seen : IsWatchingUpTo (clauses_with set c.deref.result.now) watches entries (length entries) =
-    IfNone_is c.in_ok-conflict-2.field-0 (IsWatchingUpTo (clauses_with set c.deref.result.now) watches entries (length entries)) c.in_default-2.is c.in_ok-conflict-2.ensures.seen in
+    let clauses = clauses_in c.loop-places.watches.arena in
+    let seen : IsWatchingUpTo clauses watches entries (length entries) =
+    IfNone_is c.in_ok-conflict-2.field-0 (IsWatchingUpTo clauses watches entries (length entries)) c.in_default-2.is c.in_ok-conflict-2.ensures.seen in
+    let seen_log : IsWatchingUpTo (clauses_with set log) watches entries (length entries) =
+    subst (λ cs. IsWatchingUpTo cs watches entries (length entries)) inv.state.watching.watching.same seen in
     subst (IsModel set) (sym c.in_ok-assignment.ensures)
-    (model_found set c.deref.result.now watches trail.values.items entries trail.table (c.propagate.ensures.same_variables ∙ c.loop-places.invariant.variables) seen c.in_default-decision.ensures.none)
+    (model_found set log watches trail.values.items entries trail.table (c.propagate.ensures.same_variables ∙ inv.variables) seen_log c.in_default-decision.ensures.none)
 
 pub loop-places-preserved-in_default-2 : goal.loop-places-preserved-in_default-2
 loop-places-preserved-in_default-2 c =
@@ -68,17 +86,18 @@ loop-places-preserved-in_default-2 c =
     let trail = c.propagate.new.trail in
     let entries = trail.entries.items in
     let watches = c.propagate.new.watches in
-    let seen : IsWatchingUpTo (clauses_with set c.deref.result.now) watches entries (length entries) =
-    IfNone_is c.in_ok-conflict-2.field-0 (IsWatchingUpTo (clauses_with set c.deref.result.now) watches entries (length entries)) c.in_default-2.is c.in_ok-conflict-2.ensures.seen in
+    let clauses = clauses_in c.loop-places.watches.arena in
+    let seen : IsWatchingUpTo clauses watches entries (length entries) =
+    IfNone_is c.in_ok-conflict-2.field-0 (IsWatchingUpTo clauses watches entries (length entries)) c.in_default-2.is c.in_ok-conflict-2.ensures.seen in
     let seen_log : IsWatchingUpTo (clauses_with set log) watches entries (length entries) =
-    subst (λ (steps : List Step). IsWatchingUpTo (clauses_with set steps) watches entries (length entries)) c.deref.ensures.value seen in
+    subst (λ cs. IsWatchingUpTo cs watches entries (length entries)) inv.state.watching.watching.same seen in
     let grows : Grows (clauses_with set log) c.loop-places.trail.entries.items entries =
-    subst (λ (steps : List Step). Grows (clauses_with set steps) c.loop-places.trail.entries.items entries) c.deref.ensures.value c.propagate.ensures.grows in
+    subst (λ cs. Grows cs c.loop-places.trail.entries.items entries) c.loop-places.invariant.state.watching.watching.same c.propagate.ensures.grows in
     let e : Entry = record { literal = c.in-Some-decision.literal; cause = InputDecision } in
     let head : c.len-head.result ≡ length entries = c.len-head.ensures ∙ trail.entries.ok.0 in
     record {
       variables = c.in_ok-push.ensures.variables ∙ c.propagate.ensures.same_variables ∙ inv.variables;
-      covers = c.propagate.ensures.covers;
+      covers = subst (λ n. CoversBelow n watches) inv.variables c.propagate.ensures.covers;
       levels = inv.levels;
       places = inv.places;
       noted =
@@ -99,7 +118,7 @@ refutation-requires-in_default-last_decision-clause-caused c =
     let log = c.loop-places.log.items in
     let entries = c.propagate.new.trail.entries.items in
     let grows : Grows (clauses_with set log) c.loop-places.trail.entries.items entries =
-    subst (λ (steps : List Step). Grows (clauses_with set steps) c.loop-places.trail.entries.items entries) c.deref.ensures.value c.propagate.ensures.grows in
+    subst (λ cs. Grows cs c.loop-places.trail.entries.items entries) c.loop-places.invariant.state.watching.watching.same c.propagate.ensures.grows in
     EachCaused-from_forced set log entries (EachForced-grown (clauses_with set log) c.loop-places.trail.entries.items entries grows c.loop-places.invariant.state.forced) c.in_default-last_decision.ensures.none
 
 pub refutation-requires-in_default-last_decision-clause-no_decisions : goal.refutation-requires-in_default-last_decision-clause-no_decisions
@@ -115,7 +134,7 @@ returns-then-len-limit c =
     let entries = trail.entries.items in
     let start = c.in-Some-last_decision.start in
     let watching : IsWatching (clauses_with set log) c.propagate.new.watches entries =
-    subst (λ (steps : List Step). IsWatching (clauses_with set steps) c.propagate.new.watches entries) c.deref.ensures.value c.in_ok-conflict-2.ensures.watching in
+    subst (λ cs. IsWatching cs c.propagate.new.watches entries) inv.state.watching.watching.same c.in_ok-conflict-2.ensures.watching in
     let closed : IsClosed (clauses_with set log) (literals (take start entries)) =
     closed_before (clauses_with set log) c.propagate.new.watches trail.values.items entries start trail.table c.in-Some-last_decision.ensures.last.decided watching in
     let exact : length log ≡ c.args.limit = omega (arith, inv.within, c.if-len-limit.true, c.len.ensures, c.loop-places.log.ok.0) in
@@ -124,7 +143,7 @@ returns-then-len-limit c =
 
 pub analyse-requires-clause-follows : goal.analyse-requires-clause-follows
 analyse-requires-clause-follows c =
-    subst (LogFollows c.args.cnf.now) (sym c.deref-in-loop-places.ensures.value) c.loop-places.invariant.state.learned.follows
+    subst (LogFollows c.args.cnf.now) (sym c.deref.ensures.value) c.loop-places.invariant.state.learned.follows
 
 pub analyse-requires-clause-forced : goal.analyse-requires-clause-forced
 analyse-requires-clause-forced c =
@@ -132,8 +151,8 @@ analyse-requires-clause-forced c =
     let log = c.loop-places.log.items in
     let entries = c.propagate.new.trail.entries.items in
     let grows : Grows (clauses_with set log) c.loop-places.trail.entries.items entries =
-    subst (λ (steps : List Step). Grows (clauses_with set steps) c.loop-places.trail.entries.items entries) c.deref.ensures.value c.propagate.ensures.grows in
-    subst (λ (steps : List Step). EachForced (clauses_with set steps) entries) (sym c.deref-in-loop-places.ensures.value)
+    subst (λ cs. Grows cs c.loop-places.trail.entries.items entries) c.loop-places.invariant.state.watching.watching.same c.propagate.ensures.grows in
+    subst (λ (steps : List Step). EachForced (clauses_with set steps) entries) (sym c.deref.ensures.value)
     (EachForced-grown (clauses_with set log) c.loop-places.trail.entries.items entries grows c.loop-places.invariant.state.forced)
 
 pub analyse-requires-clause-closed : goal.analyse-requires-clause-closed
@@ -141,11 +160,12 @@ analyse-requires-clause-closed c =
     let set = c.args.cnf.now in
     let trail = c.propagate.new.trail in
     let entries = trail.entries.items in
-    let steps = c.deref-in-loop-places.result.now in
-    let same : c.deref.result.now ≡ steps = c.deref.ensures.value ∙ sym c.deref-in-loop-places.ensures.value in
-    let watching : IsWatching (clauses_with set steps) c.propagate.new.watches entries =
-    subst (λ (ss : List Step). IsWatching (clauses_with set ss) c.propagate.new.watches entries) same c.in_ok-conflict-2.ensures.watching in
-    closed_before (clauses_with set steps) c.propagate.new.watches trail.values.items entries c.in-Some-last_decision.start trail.table c.in-Some-last_decision.ensures.last.decided watching
+    let log = c.loop-places.log.items in
+    let start = c.in-Some-last_decision.start in
+    let watching : IsWatching (clauses_with set log) c.propagate.new.watches entries =
+    subst (λ cs. IsWatching cs c.propagate.new.watches entries) c.loop-places.invariant.state.watching.watching.same c.in_ok-conflict-2.ensures.watching in
+    subst (λ (steps : List Step). IsClosed (clauses_with set steps) (literals (take start entries))) (sym c.deref.ensures.value)
+    (closed_before (clauses_with set log) c.propagate.new.watches trail.values.items entries start trail.table c.in-Some-last_decision.ensures.last.decided watching)
 
 pub learn-requires-clause-forced : goal.learn-requires-clause-forced
 learn-requires-clause-forced c =
@@ -153,16 +173,16 @@ learn-requires-clause-forced c =
     let log = c.loop-places.log.items in
     let entries = c.propagate.new.trail.entries.items in
     let grows : Grows (clauses_with set log) c.loop-places.trail.entries.items entries =
-    subst (λ (steps : List Step). Grows (clauses_with set steps) c.loop-places.trail.entries.items entries) c.deref.ensures.value c.propagate.ensures.grows in
+    subst (λ cs. Grows cs c.loop-places.trail.entries.items entries) c.loop-places.invariant.state.watching.watching.same c.propagate.ensures.grows in
     EachForced-grown (clauses_with set log) c.loop-places.trail.entries.items entries grows c.loop-places.invariant.state.forced
 
 pub learn-requires-clause-follows : goal.learn-requires-clause-follows
 learn-requires-clause-follows c =
-    subst (λ (steps : List Step). StepFollows c.args.cnf.now (clauses_with c.args.cnf.now steps) c.in_ok-learned.learned.step) c.deref-in-loop-places.ensures.value c.in_ok-learned.ensures.follows
+    subst (λ (steps : List Step). StepFollows c.args.cnf.now (clauses_with c.args.cnf.now steps) c.in_ok-learned.learned.step) c.deref.ensures.value c.in_ok-learned.ensures.follows
 
 pub learn-requires-clause-new : goal.learn-requires-clause-new
 learn-requires-clause-new c =
-    subst (λ (steps : List Step). IsNew (clauses_with c.args.cnf.now steps) c.in_ok-learned.learned.step.clause) c.deref-in-loop-places.ensures.value c.in_ok-learned.ensures.new
+    subst (λ (steps : List Step). IsNew (clauses_with c.args.cnf.now steps) c.in_ok-learned.learned.step.clause) c.deref.ensures.value c.in_ok-learned.ensures.new
 
 pub learn-requires-clause-decided : goal.learn-requires-clause-decided
 learn-requires-clause-decided c =
@@ -194,7 +214,7 @@ note_places-requires-clause-placed c =
     let log = c.loop-places.log.items in
     let entries = c.propagate.new.trail.entries.items in
     let grows : Grows (clauses_with set log) c.loop-places.trail.entries.items entries =
-    subst (λ (steps : List Step). Grows (clauses_with set steps) c.loop-places.trail.entries.items entries) c.deref.ensures.value c.propagate.ensures.grows in
+    subst (λ cs. Grows cs c.loop-places.trail.entries.items entries) c.loop-places.invariant.state.watching.watching.same c.propagate.ensures.grows in
     subst (λ ps. IsPlaced ps entries c.loop-places.noted) (sym c.deref_mut.ensures.value)
     (IsNoted-grows (clauses_with set log) c.loop-places.places.items c.loop-places.trail.entries.items entries c.loop-places.noted grows c.loop-places.invariant.noted).1
 
@@ -205,7 +225,7 @@ analyse-requires-clause-placed c =
     let size : c.loop-places.places.len ≡ length places =
     omega (arith, c.loop-places.places.ok.0, ap length c.deref_mut.ensures.value, c.note_places.auto.places) in
     let written = written_back c.loop-places.places.len places (drop (length places) c.loop-places.places.items) size in
-    subst (λ ps. IsPlaced ps entries (length entries)) (sym (c.deref-in-loop-places-2.ensures.value ∙ written)) c.note_places.ensures
+    subst (λ ps. IsPlaced ps entries (length entries)) (sym (c.deref-in-loop-places.ensures.value ∙ written)) c.note_places.ensures
 
 pub loop-places-preserved : goal.loop-places-preserved
 loop-places-preserved c =

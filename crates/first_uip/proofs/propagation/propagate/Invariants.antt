@@ -1,6 +1,6 @@
-use Rattle.std.proofs.Common.{◌≡◌, ◌+◌, ◌-◌, length}
-use Rattle.clauses.specs.ClauseSet.{clauses_with}
+use Rattle.std.proofs.Common.{◌≡◌, ◌-◌, length}
 use Rattle.depth_first.specs.TrailEntries.{Grows}
+use Rattle.first_uip.specs.Clauses.{clauses_in}
 use Rattle.first_uip.specs.Watching.{CoversBelow, IsWatchingUpTo}
 use Rattle.first_uip.proofs.propagation.propagate.Given as goal
 
@@ -8,9 +8,10 @@ abbrev pub invariant-loop-head : goal.invariant-loop-head
 invariant-loop-head l =
     record {
       same_variables : length l.trail.values.items ≡ length l.initial.trail.values.items;
-      covers : CoversBelow (l.cnf.count + 1) l.watches;
-      grows : Grows (clauses_with l.cnf l.log) l.initial.trail.entries.items l.trail.entries.items;
-      watching : IsWatchingUpTo (clauses_with l.cnf l.log) l.watches l.trail.entries.items l.head;
+      same_clauses : clauses_in l.watches.arena ≡ clauses_in l.initial.watches.arena;
+      covers : CoversBelow (length l.initial.trail.values.items) l.watches;
+      grows : Grows (clauses_in l.initial.watches.arena) l.initial.trail.entries.items l.trail.entries.items;
+      watching : IsWatchingUpTo (clauses_in l.initial.watches.arena) l.watches l.trail.entries.items l.head;
     }
 
 abbrev pub decreases-loop-head : goal.decreases-loop-head

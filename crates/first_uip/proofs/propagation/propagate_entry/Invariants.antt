@@ -1,6 +1,6 @@
 use Rattle.std.proofs.Common.{◌≡◌, ◌+◌, ◌-◌, length, take}
-use Rattle.clauses.specs.ClauseSet.{clauses_with}
 use Rattle.depth_first.specs.TrailEntries.{literals, Grows}
+use Rattle.first_uip.specs.Clauses.{clauses_in, watched_in}
 use Rattle.first_uip.specs.Watching.{CoversBelow, IsWatchingUpTo, numbers_of}
 use Rattle.first_uip.proofs.Guards.{EachGuardedBut}
 use Rattle.first_uip.proofs.propagation.propagate_entry.Given as goal
@@ -9,11 +9,12 @@ abbrev pub invariant-loop-place : goal.invariant-loop-place
 invariant-loop-place l =
     record {
       same_variables : length l.trail.values.items ≡ length l.initial.trail.values.items;
-      covers : CoversBelow (l.cnf.count + 1) l.watches;
-      grows : Grows (clauses_with l.cnf l.log) l.initial.trail.entries.items l.trail.entries.items;
-      watching : IsWatchingUpTo (clauses_with l.cnf l.log) l.watches l.trail.entries.items l.head;
+      same_clauses : clauses_in l.watches.arena ≡ clauses_in l.initial.watches.arena;
+      covers : CoversBelow (length l.initial.trail.values.items) l.watches;
+      grows : Grows (clauses_in l.initial.watches.arena) l.initial.trail.entries.items l.trail.entries.items;
+      watching : IsWatchingUpTo (clauses_in l.initial.watches.arena) l.watches l.trail.entries.items l.head;
       but :
-          EachGuardedBut (clauses_with l.cnf l.log) l.watches.watched.items (numbers_of l.watches l.falsified) l.place
+          EachGuardedBut (clauses_in l.initial.watches.arena) (watched_in l.watches.arena) (numbers_of l.watches l.falsified) l.place
           (literals (take (l.head + 1) l.trail.entries.items)) (literals l.trail.entries.items);
     }
 

@@ -1,4 +1,5 @@
-use Rattle.std.proofs.Common.{◌≡◌, suc, ◌+◌, ◌<◌, true, [], ◌∷◌, ◌++◌, length, take, sym, ap, ◌∙◌, subst, arith}
+use Rattle.std.proofs.Common.{◌≡◌, suc, ◌+◌, ◌<◌, true, [], ◌∷◌, ◌++◌, Some, length, take, sym, ap, ◌∙◌, subst, arith}
+use Rattle.std.specs.Prelude.{slice_get}
 use Rattle.std.proofs.lemmas.Bool.{true≢false}
 use Rattle.clauses.specs.Literal.{Lit}
 use Rattle.clauses.specs.ClauseSet.{all_clauses}
@@ -6,10 +7,10 @@ use Rattle.depth_first.proofs.Lists.{take_next}
 use Rattle.depth_first.proofs.Open.{variable_within}
 use Rattle.depth_first.proofs.Sets.{clause_within}
 use Rattle.first_uip.specs.declared.start.Shape.TheVariants.{Several}
-use Rattle.first_uip.specs.declared.watches.Watched.TheVariants.{Two}
+use Rattle.first_uip.specs.declared.arena.Watched.TheVariants.{Two}
 use Rattle.first_uip.specs.Watching.{IsWatchingUpTo}
 use Rattle.first_uip.specs.Shapes.{IsShape}
-use Rattle.first_uip.proofs.Additions.{IsWatchingUpTo-add}
+use Rattle.first_uip.proofs.Additions.{IsAdded, IsWatchingUpTo-add}
 use Rattle.first_uip.proofs.StartLemmas.{undecided, All-two}
 use Rattle.first_uip.proofs.start.add_clause.Goals as goal
 
@@ -19,7 +20,7 @@ add-requires-clause-within c =
     let clause = c.clause.result.now in
     let a = c.in-Several.first in
     let b = c.in-Several.second in
-    let shape : IsShape clause (Several a b) = subst (λ ls. IsShape ls (Several a b)) c.as_slice.ensures c.in-Several.ensures in
+    let shape : IsShape clause (Several a b) = subst (λ ls. IsShape ls (Several a b)) c.as_slice-clause.ensures c.in-Several.ensures in
     let within = clause_within set c.args.number clause c.clause.ensures in
     let room = c.requires.covers.positive in
     All-two (λ (l : Lit). l.variable < length c.args.watches.now.positive.items) a b
@@ -29,14 +30,17 @@ pub returns-in_ok-add-in-Several-clause-watching : goal.returns-in_ok-add-in-Sev
 returns-in_ok-add-in-Several-clause-watching c =
     let cs = all_clauses c.args.cnf.now in
     let entries = c.args.trail.now.entries.items in
-    let clause = c.clause.result.now in
+    let clause = c.as_slice-clause.result.now in
     let a = c.in-Several.first in
     let b = c.in-Several.second in
-    let shape : IsShape clause (Several a b) = subst (λ ls. IsShape ls (Several a b)) c.as_slice.ensures c.in-Several.ensures in
+    let ok = c.in_ok-add-in-Several.ensures in
+    let added : IsAdded c.args.watches.now c.add.new.self clause (Two a b) =
+    record { clauses = ok.clauses; watched = ok.watched; listed = ok.listed; only = ok.only } in
+    let at : slice_get cs c.args.number ≡ Some clause = c.clause.ensures ∙ ap Some (sym c.as_slice-clause.ensures) in
     let first = take c.args.number cs in
     let next : take (c.args.number + 1) cs ≡ first ++ clause ∷ [] =
-    let s : c.args.number + 1 ≡ suc c.args.number = omega arith in ap (λ n. take n cs) s ∙ take_next cs c.args.number clause c.clause.ensures in
+    let s : c.args.number + 1 ≡ suc c.args.number = omega arith in ap (λ n. take n cs) s ∙ take_next cs c.args.number clause at in
     subst (λ ds. IsWatchingUpTo ds c.add.new.self entries 0) (sym next)
-    (IsWatchingUpTo-add first clause c.args.watches.now c.add.new.self (Two a b) entries 0 c.in_ok-add-in-Several.ensures.watched c.in_ok-add-in-Several.ensures.listed shape
+    (IsWatchingUpTo-add first clause c.args.watches.now c.add.new.self (Two a b) entries 0 added c.in-Several.ensures
     (λ place f at decides. absurd (undecided cs entries c.requires.grown place f at decides))
     (λ closed. absurd (true≢false (sym closed)), λ closed. absurd (true≢false (sym closed))) c.requires.watching)

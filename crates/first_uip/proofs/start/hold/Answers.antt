@@ -8,9 +8,11 @@ use Rattle.depth_first.specs.TrailEntries.{literals, Grows}
 use Rattle.depth_first.specs.DepthFirst.{IsSatisfied}
 use Rattle.depth_first.proofs.HeldLists.{held_last, literals-append}
 use Rattle.depth_first.proofs.PropagationLemmas.{Grows-one, Grows-then}
-use Rattle.first_uip.specs.declared.watches.Watched.TheVariants.{Alone}
+use Rattle.first_uip.specs.declared.arena.Watched.TheVariants.{Alone}
+use Rattle.depth_first.proofs.Lists.{some_same}
+use Rattle.first_uip.specs.Clauses.{clauses_in}
 use Rattle.first_uip.specs.Watching.{IsWatchingUpTo}
-use Rattle.first_uip.proofs.Additions.{IsWatchingUpTo-add, IsWatchingUpTo-push}
+use Rattle.first_uip.proofs.Additions.{IsAdded, IsWatchingUpTo-add, IsWatchingUpTo-push}
 use Rattle.first_uip.proofs.StartLemmas.{IsAloneAt, IsAloneAt-from, alone_falsified, alone_unit, undecided}
 use Rattle.first_uip.proofs.start.hold.Goals as goal
 
@@ -67,9 +69,17 @@ returns-in_ok-push-clause-watching c =
     let unit : IsUnit held one.clause c.args.literal = alone_unit held one.clause c.args.literal one.stands one.only kept in
     let grown : Grows cs [] after = Grows-then cs [] entries after c.requires.grown (Grows-one cs entries e c.args.number refl (one.clause, one.at, unit)) in
     let first = take c.args.number cs in
+    let ok = c.in_ok-add.ensures in
+    let added : IsAdded c.args.watches.now c.add.new.self one.clause Alone =
+    record {
+      clauses = ok.clauses ∙ ap (λ ls. clauses_in c.args.watches.now.arena ++ ls ∷ []) (c.as_slice.ensures ∙ some_same c.clause.result.now one.clause (sym c.clause.ensures ∙ one.at));
+      watched = ok.watched;
+      listed = ok.listed;
+      only = ok.only;
+    } in
     let pushed : IsWatchingUpTo first c.args.watches.now after 0 = IsWatchingUpTo-push first c.args.watches.now entries e 0 (omega arith) refl c.requires.watching in
     subst (λ es. IsWatchingUpTo (take (c.args.number + 1) cs) c.add.new.self es 0) (sym c.in_ok-push.ensures.ok) (subst (λ ds. IsWatchingUpTo ds c.add.new.self after 0) (sym one.next)
-    (IsWatchingUpTo-add first one.clause c.args.watches.now c.add.new.self Alone after 0 c.in_ok-add.ensures.watched c.in_ok-add.ensures.listed tt
+    (IsWatchingUpTo-add first one.clause c.args.watches.now c.add.new.self Alone after 0 added tt
     (λ place f at decides. absurd (undecided cs after grown place f at decides)) satisfied pushed))
 
 pub returns-else-not-holds-clause-watching : goal.returns-else-not-holds-clause-watching
@@ -79,6 +89,14 @@ returns-else-not-holds-clause-watching c =
     let one = IsAloneAt-from c.args.cnf.now c.args.number c.args.literal c.requires.known c.requires.alone in
     let satisfied : IsSatisfied (literals entries) one.clause = (c.args.literal, one.stands, sym c.holds-2.ensures ∙ c.if-not-holds.false) in
     let first = take c.args.number cs in
+    let ok = c.in_ok-add.ensures in
+    let added : IsAdded c.args.watches.now c.add.new.self one.clause Alone =
+    record {
+      clauses = ok.clauses ∙ ap (λ ls. clauses_in c.args.watches.now.arena ++ ls ∷ []) (c.as_slice.ensures ∙ some_same c.clause.result.now one.clause (sym c.clause.ensures ∙ one.at));
+      watched = ok.watched;
+      listed = ok.listed;
+      only = ok.only;
+    } in
     subst (λ ds. IsWatchingUpTo ds c.add.new.self entries 0) (sym one.next)
-    (IsWatchingUpTo-add first one.clause c.args.watches.now c.add.new.self Alone entries 0 c.in_ok-add.ensures.watched c.in_ok-add.ensures.listed tt
+    (IsWatchingUpTo-add first one.clause c.args.watches.now c.add.new.self Alone entries 0 added tt
     (λ place f at decides. absurd (undecided cs entries c.requires.grown place f at decides)) satisfied c.requires.watching)

@@ -1,5 +1,5 @@
 use Rattle.std.proofs.Common.{◌≡◌, replicate, []}
-use Rattle.first_uip.proofs.watches.no_numbers.Given as goal
+use Rattle.first_uip.proofs.watches.no_watchers.Given as goal
 
 abbrev pub invariant-loop-i : goal.invariant-loop-i
 invariant-loop-i l = l.lists.items ≡ replicate l._i []

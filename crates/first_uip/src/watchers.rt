@@ -1,0 +1,70 @@
+//! Lists of the clauses that watch a literal, of which one is dropped in constant time.
+
+ghost use Rattle.std.specs.Prelude.{◌≡◌, ◌<◌, [], ◌∷◌, ◌++◌, length, OnOk, Contains};
+ghost use Rattle.std.specs.List.{swap_remove};
+
+use clauses::Lit;
+use std::alloc::{AllocError, Global};
+use std::marker::Model;
+
+/// A clause that is to be looked at when a literal becomes false.
+#[derive(Clone, Copy, Debug)]
+pub(crate) struct Watcher {
+    /// The number of the clause.
+    pub(crate) number: u32,
+    /// Another literal of the clause: where it is held, nothing is to be looked at (MiniSat).
+    pub(crate) blocker: Lit,
+}
+
+/// The clauses that are to be looked at when one literal becomes false.
+#[derive(Debug, Drop)]
+pub(crate) struct Watchers {
+    items: Vec<Watcher>,
+}
+
+impl Model for Watchers {
+    ghost use Rattle.std.specs.Prelude.{List};
+    ghost use Rattle.first_uip.specs.declared.watchers.Watcher.{Watcher};
+
+    ghost Value = { List Watcher };
+
+    ghost view = { λ w. w.items.items };
+}
+
+impl Watchers {
+    ghost use Rattle.first_uip.specs.declared.watchers.Watcher.{Watcher};
+    ghost use Rattle.first_uip.specs.Clauses.{numbers_in};
+
+    /// No clauses.
+    pub(crate) fn new(alloc: Global) -> Watchers
+        ensures { result ≡ [] }
+    {
+        Watchers {
+            items: Vec::new(alloc),
+        }
+    }
+
+    /// The clauses in order.
+    pub(crate) fn as_slice(&self) -> &[Watcher]
+        ensures { result.now ≡ self.now }
+    {
+        self.items.as_slice()
+    }
+
+    /// Adds a clause at the end.
+    pub(crate) fn push(&mut self, watcher: Watcher) -> Result<(), AllocError>
+        ensures { OnOk result (self.new ≡ self.old ++ watcher ∷ []) }
+    {
+        self.items.push(watcher)?;
+        Ok(())
+    }
+
+    /// Drops the one at a place; the last one comes to that place.
+    pub(crate) fn drop_at(&mut self, place: usize)
+        requires { place < length self.old }
+        ensures numbers { numbers_in self.new ≡ swap_remove (numbers_in self.old) place 0 }
+        ensures only { (w : Watcher) → Contains self.new w → Contains self.old w }
+    {
+        let _ = self.items.swap_remove(place);
+    }
+}
