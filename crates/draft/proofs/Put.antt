@@ -1,6 +1,6 @@
 -- A draft stays whole where an instruction is put before another.
 use Rattle.std.proofs.Common.{◌≡◌, inl, inr, ℕ, zero, suc, ◌+◌, ◌<◌, ◌≤◌, Bool, true, List, [], ◌∷◌, ◌++◌, length, get_or, slice_set, All, sym, ap, subst, ◌∙◌, arith, get_or-set_other, get_or-set_same}
-use Rattle.std.specs.Prelude.{Contains, slice_get}
+use Rattle.std.specs.Prelude.{Contains, IsFalse, slice_get}
 use Rattle.std.proofs.lemmas.List.{length-set}
 use Rattle.std.proofs.lemmas.List.Elements.{All-contains}
 use Rattle.std.proofs.lemmas.Option.{slice_get_within}
@@ -37,7 +37,7 @@ pub record IsPut (old new : Draft) (b at : ℕ) (block : Block) (inst : Inst) : 
   pub orders : new.orders.items ≡ slice_set old.orders.items b (put_before (get_or old.orders.items b []) at (length block.insts))
   pub stand : new.stand.items ≡ slice_set old.stand.items b (get_or old.stand.items b [] ++ true ∷ [])
   pub flow : new.facts.flow ≡ old.facts.flow
-  pub cycles : new.has_cycles ≡ old.has_cycles
+  pub cycles : IsFalse new.has_cycles → IsFalse old.has_cycles × ¬ IsPhi inst.op
   pub uses : Uses
   pub use_parameters : uses.parameters ≡ old.facts.uses.parameters
   pub use_results : uses.results.items ≡ slice_set old.facts.uses.results.items b (get_or old.facts.uses.results.items b [] ++ 0 ∷ [])
@@ -60,8 +60,8 @@ all_below zero m below = omega arith
 all_below (suc n) m below = let last = below n (omega arith) in omega arith
 
 pub whole_put : (old new : Draft) (b at : ℕ) (block : Block) (inst : Inst) → IsWhole old → IsBlock old.arena b block → Contains (get_or old.orders.items b []) at → at < length block.insts
-    → length block.insts + 1 ≤ none → All (IsKnown old.arena) (operands_of inst.op) → ¬ IsPhi inst.op → IsPut old new b at block inst → IsWhole new
-whole_put old new b at block inst whole is_block there inside room known no_phi put =
+    → length block.insts + 1 ≤ none → All (IsKnown old.arena) (operands_of inst.op) → IsPut old new b at block inst → IsWhole new
+whole_put old new b at block inst whole is_block there inside room known put =
     let few = few_insts old whole in
     let n : ℕ = length block.insts in
     let p : Place = record { block = b; number = n } in
@@ -110,6 +110,8 @@ whole_put old new b at block inst whole is_block there inside room known no_phi 
           (list_there old.readers put.readers b n list_within list_low put.reader_parameters put.reader_results)
           (list_kept old.readers put.readers b n list_within list_low put.reader_parameters put.reader_results)
           (subst (λ (f : Function). AreListed p (operands_at f p) put.readers new.readers) put.arena put.listed));
-      cycles = λ none. subst HasNoCycles (sym put.arena)
-          (no_cycles_stay old.arena f' (flow_put old.arena few b block is_block inst room) (λ phis. no_phi_put old.arena b block is_block phis inst no_phi) (whole.cycles (sym put.cycles ∙ none)));
+      cycles = λ none.
+          let (before, no_phi) = put.cycles none in
+          subst HasNoCycles (sym put.arena)
+          (no_cycles_stay old.arena f' (flow_put old.arena few b block is_block inst room) (λ phis. no_phi_put old.arena b block is_block phis inst no_phi) (whole.cycles before));
     }

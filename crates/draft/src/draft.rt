@@ -114,13 +114,12 @@ impl Draft {
         self.stand[place.block as usize].as_slice()[place.number as usize]
     }
 
-    /// Puts an instruction that is no phi before another, and gives its number.
+    /// Puts an instruction before another, and gives its number.
     pub fn put_before(&mut self, alloc: Global, at: Place, inst: Inst) -> Result<Place, AllocError>
         requires whole { IsWhole self.old }
         requires at { Stands self.old at.block at.number }
         requires room { (block : Written) → IsBlock self.old.arena at.block block → length block.insts + 1 ≤ none }
         requires known { All (IsKnown self.old.arena) (operands_of inst.op) }
-        requires no_phi { ¬ IsPhi inst.op }
         ensures whole { OnOk result (IsWhole self.new) }
         ensures arena { OnOk result (self.new.arena ≡ put_in self.old.arena at.block inst) }
         ensures place { IfOk result (λ place. (place.block ≡ at.block) × (place.number ≡ end_of self.old.arena at.block)) }
@@ -135,6 +134,7 @@ impl Draft {
             block: at.block,
             number,
         };
+        note_phi(&mut self.has_cycles, &inst);
         push_inst(&mut self.arena.blocks, at.block, inst)?;
         push_mark(&mut self.stand, at.block)?;
         push_count(&mut self.facts.uses, at.block)?;
@@ -174,6 +174,15 @@ fn put_in_order(orders: &mut Vec<Order>, at: Place) -> Result<u32, AllocError>
         (numbers.put_before (slice_index_or orders.old.items at.block []) at.number number)) }
 {
     orders[at.block as usize].put_before(at.number)
+}
+
+/// Notes that a register may be read on a way that leads back to it, where a phi comes.
+fn note_phi(has_cycles: &mut bool, inst: &Inst)
+    ensures { IsFalse has_cycles.new ↔ (IsFalse has_cycles.old × ¬ IsPhi inst.now.op) }
+{
+    if matches!(inst.op, Op::Phi(_)) {
+        *has_cycles = true;
+    }
 }
 
 /// Puts an instruction behind those of its block.

@@ -7,8 +7,7 @@ use Rattle.std.proofs.lemmas.List.{length-map}
 use Rattle.std.proofs.lemmas.List.Elements.{All-contains_itself, All-map, All-weaker, Contains-append_cases, Contains-append_left, Contains-append_right}
 use Rattle.std.proofs.lemmas.Option.{same_Some, slice_get-map, slice_get_within}
 use Rattle.ir_core.specs.Blocks.{HasInst, IsBlock}
-use Rattle.ir_core.specs.Checks.{IsInst, IsPhi, MeetsChecks}
-use Rattle.ir_core.specs.Names.{Name}
+use Rattle.ir_core.specs.Checks.{IsInst, MeetsChecks}
 use Rattle.ir_core.specs.Reads.{end_of}
 use Rattle.ir_core.specs.declared.function.Block.{Block}
 use Rattle.ir_core.specs.declared.function.Function.{Function}
@@ -34,9 +33,6 @@ use Rattle.rewriter.specs.Applied.{IsRewritten}
 use Rattle.rewriter.specs.Laws.{RewrittenFunctionsMeetChecks}
 use Rattle.rewriter.specs.Put as target
 use Rattle.rewriter.specs.Ready.{IsBound}
-use Rattle.rewriter.proofs.Matched.{computed_no_phi}
-use Rattle.rewriter.proofs.Placed.{all_aligned, put_from}
-use Rattle.rewriter.proofs.Putting.{put_is_computed, put_op}
 use Rattle.rewriter.proofs.Rooted.{is_bound, most_put}
 use Rattle.substitution.specs.Substitution.{Substitution, substituted_block, substituted_inst, substituted_operand}
 use Rattle.substitution.specs.declared.rewrite.Rewrite.{Rewrite}
@@ -86,13 +82,6 @@ there_too v n sigma d None o' x e are = absurd cc
 there_too v n sigma d (Some z) None x e are = absurd are
 there_too v n sigma d (Some z) (Some y) x e are = (y, refl, subst (λ (u : Block). IsPutBlock v n sigma d u y) (same_Some z x e) are)
 
--- rules put no phis
-put_no_phi : (rule : Rule) (m : Binding) (name : Name) (j : ℕ) (inst : Inst) → slice_get (target.rewrite_of rule m name).put j ≡ Some inst → ¬ IsPhi inst.op
-put_no_phi rule m name j inst at =
-    let p = put_from rule m name rule.target 0 (all_aligned rule m) j inst at in
-    let N : ℕ = target.class_width rule m p.statement.class in
-    subst (λ (x : Inst). ¬ IsPhi x.op) (sym p.is) (computed_no_phi (put_op rule m N p.statement.op) (put_is_computed rule m N p.statement.op p.kept))
-
 module _ (stands_before : ReadsStandBefore) (old : Draft) (settled : IsSettled old) (rule : Rule) (m : Binding) (checks : MeetsChecks (function_of old)) (is_rule : IsRule rule)
     (matches : IsMatch (function_of old) m.block (placed_binding old m).place rule (placed_binding old m)) where
   abbrev f : Function
@@ -133,11 +122,9 @@ module _ (stands_before : ReadsStandBefore) (old : Draft) (settled : IsSettled o
       }
 
   pub readable : (inst : Inst) → IsInst old.arena m.block m.place inst → MayPut old.arena m.block (target.rewrite_of rule (numbered old.arena m) inst.name).put
-  readable inst is = λ j i at. (
-    put_no_phi rule (numbered old.arena m) inst.name j i at,
-    All-weaker (Contains (operands_of i.op)) (MayRead old.arena m.block j) (λ a has. put_known stands_before rule old.arena (numbers_of old) good m checks is_rule matches inst.name root j i at a has) (operands_of i.op)
-        (All-contains_itself (operands_of i.op)),
-  )
+  readable inst is = λ j i at.
+      All-weaker (Contains (operands_of i.op)) (MayRead old.arena m.block j) (λ a has. put_known stands_before rule old.arena (numbers_of old) good m checks is_rule matches inst.name root j i at a has) (operands_of i.op)
+      (All-contains_itself (operands_of i.op))
 
   pub result_readable : (inst : Inst) → IsInst old.arena m.block m.place inst
       → MayRead old.arena m.block (length (target.rewrite_of rule (numbered old.arena m) inst.name).put) (target.rewrite_of rule (numbered old.arena m) inst.name).result

@@ -6,7 +6,7 @@ use Rattle.std.proofs.lemmas.Bool.{cases_eq}
 use Rattle.std.proofs.lemmas.List.{length-append}
 use Rattle.std.proofs.lemmas.List.Elements.{All-weaker}
 use Rattle.ir_core.specs.Blocks.{IsBlock}
-use Rattle.ir_core.specs.Checks.{IsInst, IsKnown, IsPhi}
+use Rattle.ir_core.specs.Checks.{IsInst, IsKnown}
 use Rattle.ir_core.specs.Reads.{end_of}
 use Rattle.ir_core.specs.declared.function.Block.{Block}
 use Rattle.ir_core.specs.declared.function.Function.{Function}
@@ -175,14 +175,11 @@ module _ (old mid : Draft) (at : Place) (done : List Inst) (given : List Place) 
     next_is : slice_get insts (length done) ≡ Some inst
     next_is = subst (λ (l : List Inst). slice_get l (length done) ≡ Some inst) all (get_right done (inst ∷ rest) 0 (length done) inst refl (omega arith))
 
-    pub next_no_phi : MayPut old.arena at.block insts → ¬ IsPhi inst.op
-    next_no_phi readable = (readable (length done) inst next_is).0
-
     pub next_known : MayPut old.arena at.block insts → All (IsKnown mid.arena) (operands_of inst.op)
     next_known readable =
         let (block, is_block, within) = stands_there old whole at.block at.number stands in
         subst (λ (f : Function). All (IsKnown f) (operands_of inst.op)) (sym put.arena)
-        (All-weaker (MayRead old.arena at.block (length done)) (IsKnown (with_put old.arena at.block done)) (with_known old.arena at.block block is_block done) (operands_of inst.op) (readable (length done) inst next_is).1)
+        (All-weaker (MayRead old.arena at.block (length done)) (IsKnown (with_put old.arena at.block done)) (with_known old.arena at.block block is_block done) (operands_of inst.op) (readable (length done) inst next_is))
 
   -- and one more is put
   pub put_more : (new : Draft) (inst : Inst) (place : Place) → IsWhole new → new.arena ≡ put_in mid.arena at.block inst

@@ -2,7 +2,7 @@
 -- register is put for it, and the root goes.
 use Rattle.std.specs.Prelude.{◌≡◌, ◌↔◌, ◌⊎◌, ℕ, ◌+◌, ◌<◌, List, [], ◌∷◌, ◌++◌, length, map, Some, All, Contains, slice_get}
 use Rattle.std.specs.List.{filter_map, range_with_len}
-use Rattle.ir_core.specs.Checks.{IsKnown, IsPhi}
+use Rattle.ir_core.specs.Checks.{IsKnown}
 use Rattle.ir_core.specs.Reads.{end_of}
 use Rattle.ir_core.specs.declared.function.Block.{Block}
 use Rattle.ir_core.specs.declared.function.Function.{Function}
@@ -47,9 +47,9 @@ put_numbers f w = range_with_len (end_of f w.block) (length w.put)
 abbrev pub MayRead : Function → ℕ → ℕ → Operand → Type 0
 MayRead f b j a = IsKnown f a ⊎ ((i : ℕ) × (i < j) × (a ≡ operands.Register (registers.Result b (end_of f b + i))))
 
--- what is put is no phi, and reads these
+-- what is put reads these
 abbrev pub MayPut : Function → ℕ → List Inst → Type 0
-MayPut f b put = (j : ℕ) (inst : Inst) → slice_get put j ≡ Some inst → ¬ IsPhi inst.op × All (MayRead f b j) (operands_of inst.op)
+MayPut f b put = (j : ℕ) (inst : Inst) → slice_get put j ≡ Some inst → All (MayRead f b j) (operands_of inst.op)
 
 -- the arena with what is put for instruction n of the block
 abbrev pub put_for : Function → Rewrite → ℕ → Function

@@ -3,7 +3,7 @@ use Rattle.std.proofs.lemmas.List.{nil_from_length}
 use Rattle.std.specs.Vec.Iter.{into_iter_items}
 use Rattle.ir_core.specs.declared.instruction.Inst.{Inst}
 use Rattle.places.specs.declared.place.Place.{Place}
-use Rattle.draft_steps.proofs.PutAll.{ArePut, append_none, next_known, next_no_phi, next_room, none_put, put_more, still_stands}
+use Rattle.draft_steps.proofs.PutAll.{ArePut, append_none, next_known, next_room, none_put, put_more, still_stands}
 use Rattle.draft_steps.proofs.rewriting.put_all.Goals as goal
 
 pub loop-inst-init : goal.loop-inst-init
@@ -27,12 +27,6 @@ pub put_before-requires-clause-known : goal.put_before-requires-clause-known
 put_before-requires-clause-known c =
     let l = c.loop-inst in
     next_known c.args.draft.now l.draft c.args.at l.yielded l.put.items c.requires.whole c.requires.at l.invariant.so_far c.args.insts.items (into_iter_items c.next.new.self) c.in-Some.inst
-    (rw (← c.in-Some.ensures.steps.0) l.invariant.left) c.requires.readable
-
-pub put_before-requires-clause-no_phi : goal.put_before-requires-clause-no_phi
-put_before-requires-clause-no_phi c =
-    let l = c.loop-inst in
-    next_no_phi c.args.draft.now l.draft c.args.at l.yielded l.put.items c.requires.whole c.requires.at l.invariant.so_far c.args.insts.items (into_iter_items c.next.new.self) c.in-Some.inst
     (rw (← c.in-Some.ensures.steps.0) l.invariant.left) c.requires.readable
 
 pub loop-inst-preserved : goal.loop-inst-preserved

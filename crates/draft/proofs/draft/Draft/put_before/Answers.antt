@@ -154,14 +154,14 @@ returns-clause-whole c =
     let n : ℕ = c.in_ok-number.number in
     let number_is : c.in_ok-number.number ≡ length block.insts = c.in_ok-number.ensures.number ∙ (c.requires.whole.rows b block at).ordered in
     let arena : Function = (with_blocks old c.push_inst.new.blocks).arena in
-    let new : Draft = record { arena = arena; facts = record { flow = old.facts.flow; uses = c.count_reads.new.uses }; orders = c.put_in_order.new.orders; stand = c.push_mark.new.stand; readers = c.list_reads.new.readers; fallen = c.push.new.self; has_cycles = old.has_cycles } in
-    whole_put old new b c.args.at.number block c.args.inst c.requires.whole at (stands_marked old c.requires.whole b block at c.args.at.number c.requires.at).0 inside (c.requires.room block at) c.requires.known c.requires.no_phi
+    let new : Draft = record { arena = arena; facts = record { flow = old.facts.flow; uses = c.count_reads.new.uses }; orders = c.put_in_order.new.orders; stand = c.push_mark.new.stand; readers = c.list_reads.new.readers; fallen = c.push.new.self; has_cycles = c.note_phi.new.has_cycles } in
+    whole_put old new b c.args.at.number block c.args.inst c.requires.whole at (stands_marked old c.requires.whole b block at c.args.at.number c.requires.at).0 inside (c.requires.room block at) c.requires.known
     (record {
       arena = ap (λ (l : List Block). (with_blocks old l).arena) c.in_ok-push_inst.ensures;
       orders = c.in_ok-number.ensures.orders ∙ ap (λ (m : ℕ). slice_set old.orders.items b (put_before (get_or old.orders.items b []) c.args.at.number m)) number_is;
       stand = c.in_ok-push_mark.ensures;
       flow = refl;
-      cycles = refl;
+      cycles = c.note_phi.ensures.0;
       uses = c.push_count.new.uses;
       use_parameters = c.in_ok-push_count.ensures.parameters;
       use_results = c.in_ok-push_count.ensures.results;
