@@ -2,6 +2,7 @@ pub mod Lists
 pub mod Options
 pub mod HeldLists
 pub mod TrailTable
+pub mod HeldTable
 pub mod Decisions
 pub mod Open
 pub mod Sets

@@ -11,7 +11,7 @@ use Rattle.depth_first.specs.TrailEntries.{literals, IsOpen, IsTableOf, EachFres
 use Rattle.depth_first.proofs.Lists.{slice_get_push_cases, slice_get_left, take_left, take_whole, slice_get_last}
 use Rattle.depth_first.proofs.HeldLists.{literals-append, open_not_held, Consistent}
 
-or-false : (b : Bool) → (b || false) ≡ b
+pub or-false : (b : Bool) → (b || false) ≡ b
 or-false true = refl
 or-false false = refl
 

@@ -2,7 +2,7 @@
 -- (Davis, Putnam, Logemann, Loveland).
 use Rattle.std.specs.Prelude.{◌≡◌, ℕ, ◌<◌, ◌≤◌, ◌++◌, Bool, true, false, not, List, [], ◌∷◌, Some, None, Option, if◌then◌else◌, map, filter, take, length, slice_get, slice_index_or, unwrap_or}
 use Rattle.std.specs.List.{filter_map, sum_by}
-use Rattle.clauses.specs.Literal.{Lit, negation_of, literal_of}
+use Rattle.clauses.specs.Literal.{Lit, code_of, negation_of, literal_of}
 use Rattle.clauses.specs.Propagation.{NamesUnit, is_held}
 use Rattle.depth_first.specs.declared.trail.Entry.{Entry}
 use Rattle.depth_first.specs.declared.trail.Cause.{Cause}
@@ -49,6 +49,10 @@ table_makes values l = value_makes (slice_index_or values l.variable None) l
 -- the table tells what the entries hold
 abbrev pub IsTableOf : List (Option Bool) → List Entry → Type 0
 IsTableOf values entries = (l : Lit) → is_held (literals entries) l ≡ table_makes values l
+
+-- The table of the literals, by their codes, tells what the entries hold.
+abbrev pub IsHeldTable : List Bool → List Entry → Type 0
+IsHeldTable held entries = (l : Lit) → is_held (literals entries) l ≡ slice_index_or held (code_of l) false
 
 -- each entry's variable is in the table and had no value before it
 abbrev pub EachFresh : List (Option Bool) → List Entry → Type 0

@@ -1,7 +1,8 @@
 //! What is held at a point of the search, and why.
 
-ghost use Rattle.std.specs.Prelude.{◌≡◌, ◌+◌, length};
-ghost use Rattle.depth_first.specs.TrailEntries.{IsTableOf, EachFresh, open_count};
+ghost use Rattle.std.specs.Prelude.{◌≡◌, ◌+◌, ◌*◌, length};
+ghost use Rattle.clauses.specs.Literal.{code_of};
+ghost use Rattle.depth_first.specs.TrailEntries.{IsTableOf, IsHeldTable, EachFresh, open_count};
 
 use crate::Assignment;
 use clauses::Lit;
@@ -26,15 +27,26 @@ pub struct Entry {
     pub cause: Cause,
 }
 
-/// The literals that are held, in the order in which they came, and the table of the variables' values.
+/// The literals that are held, in the order in which they came, and the tables of the variables' values and of what is held.
 #[derive(Debug, Drop)]
 pub struct Trail {
     pub entries: Vec<Entry>,
     /// The value of each variable that is set; place 0 belongs to none.
     pub values: Vec<Option<bool>>,
+    /// Whether each literal is held, by its code: twice the number of its variable, and one more where it is negated.
+    pub held: Vec<bool>,
     pub ghost table: { IsTableOf values.items entries.items },
+    pub ghost codes: { length held.items ≡ 2 * length values.items },
+    pub ghost marked: { IsHeldTable held.items entries.items },
     pub ghost fresh: { EachFresh values.items entries.items },
     pub ghost counted: { open_count values.items + length entries.items ≡ length values.items },
+}
+
+/// The code of a literal.
+fn code_of(literal: Lit) -> usize
+    ensures { result ≡ code_of literal }
+{
+    2 * literal.variable() as usize + usize::from(literal.is_negated())
 }
 
 impl Cause {
@@ -76,6 +88,7 @@ impl Trail {
         Ok(Trail {
             entries: Vec::new(alloc),
             values: vec![in alloc; None; count as usize + 1]?,
+            held: vec![in alloc; false; 2 * (count as usize + 1)]?,
         })
     }
 
@@ -93,10 +106,7 @@ impl Trail {
         requires { literal.variable < length self.now.values.items }
         ensures { result ≡ is_held (literals self.now.entries.items) literal }
     {
-        match self.values[literal.variable() as usize] {
-            Some(value) => { if literal.is_negated() { !value } else { value } }
-            None => false,
-        }
+        self.held[code_of(literal)]
     }
 
     /// The values of the variables from 1 on, where one that isn't set counts as false.
@@ -120,9 +130,11 @@ impl Trail {
         ensures variables { length self.new.values.items ≡ length self.old.values.items }
     {
         let place = entry.literal.variable() as usize;
+        let code = code_of(entry.literal);
         let value = !entry.literal.is_negated();
         self.entries.push(entry)?;
         self.values[place] = Some(value);
+        self.held[code] = true;
         Ok(())
     }
 
@@ -133,6 +145,7 @@ impl Trail {
     {
         if let Some(entry) = self.entries.pop() {
             self.values[entry.literal.variable() as usize] = None;
+            self.held[code_of(entry.literal)] = false;
         }
     }
 

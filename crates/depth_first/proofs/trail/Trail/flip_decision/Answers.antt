@@ -1,4 +1,4 @@
-use Rattle.std.proofs.Common.{◌≡◌, List, Some, length, take, ◌++◌, ◌∷◌, [], refl, sym, ap, ◌∙◌, subst}
+use Rattle.std.proofs.Common.{◌≡◌, ◌<◌, ◌≤◌, List, Some, length, take, ◌++◌, ◌∷◌, [], refl, sym, ap, ◌∙◌, subst}
 use Rattle.std.specs.Prelude.{slice_get}
 use Rattle.std.proofs.lemmas.Option.{slice_get_read}
 use Rattle.clauses.specs.Literal.{Lit, negation_of}
@@ -7,6 +7,21 @@ use Rattle.depth_first.specs.declared.trail.Cause.TheVariants.{Reason}
 use Rattle.depth_first.specs.TrailEntries.{IsOpen, literals}
 use Rattle.depth_first.proofs.Lists.{some_same}
 use Rattle.depth_first.proofs.trail.Trail.flip_decision.Goals as goal
+
+pub push-requires-clause-first : goal.push-requires-clause-first
+push-requires-clause-first c =
+    let entries = c.args.self.now.entries.items in
+    let e = c.index.result.now in
+    let at : slice_get entries c.args.place ≡ Some e = slice_get_read entries (length entries) c.args.place e refl c.requires c.index.ensures in
+    subst (λ (l : Lit). 1 ≤ l.variable) (sym c.negation-literal.ensures) (c.args.self.now.fresh c.args.place e at).0
+
+pub push-requires-clause-last : goal.push-requires-clause-last
+push-requires-clause-last c =
+    let entries = c.args.self.now.entries.items in
+    let e = c.index.result.now in
+    let at : slice_get entries c.args.place ≡ Some e = slice_get_read entries (length entries) c.args.place e refl c.requires c.index.ensures in
+    subst (λ (l : Lit). l.variable < length c.cut.new.self.values.items) (sym c.negation-literal.ensures)
+    (subst (λ n. e.literal.variable < n) (sym c.cut.ensures.variables) (c.args.self.now.fresh c.args.place e at).1)
 
 pub push-requires-clause-open : goal.push-requires-clause-open
 push-requires-clause-open c =
