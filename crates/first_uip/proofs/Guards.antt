@@ -1,5 +1,5 @@
 -- How far the entries were seen, look by look.
-use Rattle.std.proofs.Common.{◌≡◌, ℕ, suc, ◌+◌, ◌<◌, ◌≤◌, true, false, List, [], ◌∷◌, ◌++◌, Some, length, length-set, take, set, refl, sym, ap, ◌∙◌, arith, inl, inr, subst}
+use Rattle.std.proofs.Common.{◌≡◌, ℕ, suc, ◌+◌, ◌<◌, ◌≤◌, true, false, List, [], ◌∷◌, ◌++◌, Some, length, length-set, take, refl, sym, ap, ◌∙◌, arith, inl, inr, subst}
 use Rattle.std.specs.Prelude.{slice_get, ◌⊎◌}
 use Rattle.std.specs.List.{swap_remove}
 use Rattle.std.proofs.lemmas.Bool.{cases_Bool, cases_eq, true≢false, false_from_ne_true}
@@ -20,9 +20,9 @@ use Rattle.first_uip.specs.declared.watches.Watches.{Watches}
 use Rattle.first_uip.specs.declared.arena.Watched.{Watched}
 use Rattle.first_uip.specs.declared.arena.Watched.TheVariants.{Alone, Two}
 use Rattle.first_uip.specs.Watching.{watched_literals, numbers_of, IsListed, EachBlocked, IsWatch, EachIsWatch, IsGuarded, EachGuarded, EachLevelGuarded, IsWatchingUpTo}
-use Rattle.first_uip.specs.Looks.{WatchesBoth, MovesWatch, NamesSatisfied}
+use Rattle.first_uip.specs.Looks.{WatchesBoth, MovesWatch}
 use Rattle.first_uip.proofs.Sets.{slice_get-set_cases, kept_by_drop}
-use Rattle.first_uip.proofs.LookLemmas.{other_stands}
+use Rattle.first_uip.proofs.LookLemmas.{NamesSatisfied, other_stands}
 use Rattle.first_uip.specs.Clauses.{clauses_in, watched_in}
 
 satisfied_more : (held all clause : List Lit) → HeldWithin held all → IsSatisfied held clause → IsSatisfied all clause

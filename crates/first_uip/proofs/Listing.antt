@@ -79,6 +79,16 @@ AddsNumbers-two old mid new a b number first second =
           ];
     }
 
+-- where neither the lists nor what is watched changed
+pub IsListed-same : (old new : Watches) → IsListed old → watched_in new.arena ≡ watched_in old.arena → ((l : Lit) → numbers_of new l ≡ numbers_of old l) → IsListed new
+IsListed-same old new listed watched same =
+    record {
+      each = λ number w l at h.
+          subst (λ ns. StandsFrom ns 0 number) (sym (same l)) (listed.each number w l (sym (ap (λ ws. slice_get ws number) watched) ∙ at) h);
+      known = λ l place n at.
+          omega (arith, listed.known l place n (sym (ap (λ ns. slice_get ns place) (same l)) ∙ at), ap length watched);
+    }
+
 -- no clauses
 pub IsListed-none : (watches : Watches) → (watched_in watches.arena) ≡ [] → ((l : Lit) → numbers_of watches l ≡ []) → IsListed watches
 IsListed-none watches no_clauses none =

@@ -9,14 +9,15 @@ use Rattle.clauses.specs.Propagation.{IsUnit, IsFalsified, is_held, is_false}
 use Rattle.clauses.proofs.Held.{is_same-true}
 use Rattle.clauses.proofs.Units.{Contains-from_held, falsified_from, differ}
 use Rattle.depth_first.specs.declared.trail.Entry.{Entry}
+use Rattle.depth_first.specs.DepthFirst.{IsSatisfied}
 use Rattle.depth_first.proofs.Lists.{element_at, slice_get_below, some_same}
 use Rattle.depth_first.proofs.Open.{variable_within}
 use Rattle.first_uip.specs.declared.arena.Watched.{Watched}
 use Rattle.first_uip.specs.declared.watchers.Watcher.{Watcher}
 use Rattle.first_uip.specs.declared.watches.Watches.{Watches}
 use Rattle.first_uip.specs.Clauses.{watched_in, numbers_in}
-use Rattle.first_uip.specs.Watching.{IsWatch, EachIsWatch, IsWatching, EachBlocked, KeepsOnly, watchers_of}
-use Rattle.first_uip.specs.Looks.{WatchesBoth, NamesSatisfied}
+use Rattle.first_uip.specs.Watching.{IsWatch, EachIsWatch, IsWatching, EachBlocked, KeepsOnly, watchers_of, numbers_of}
+use Rattle.first_uip.specs.Looks.{WatchesBoth, NamesHeld}
 
 -- of two watched literals the other stands in the clause, and differs
 pub other_stands : (clause : List Lit) (w : Watched) (l other : Lit) → IsWatch clause w → WatchesBoth w l other → (is_held clause other ≡ true) × ((other ≡ l) → ⊥)
@@ -72,8 +73,21 @@ EachBlocked-one clauses old new number blocker blocked only stands =
     EachBlocked-kept clauses old new (λ w. (w.number ≡ number) × (w.blocker ≡ blocker)) blocked only
     (λ w clause is at. ap (is_held clause) is.1 ∙ stands clause (sym (ap (slice_get clauses) is.0) ∙ at))
 
+-- so they do where the one at a place has another literal of its clause
+pub EachBlocked-at : (clauses : List (List Lit)) (old new : Watches) (l : Lit) (place number : ℕ) (blocker : Lit) → EachBlocked clauses old → slice_get (numbers_of old l) place ≡ Some number → KeepsOnly old new (λ w. (slice_get (numbers_of old l) place ≡ Some w.number) × (w.blocker ≡ blocker)) → ((clause : List Lit) → slice_get clauses number ≡ Some clause → is_held clause blocker ≡ true) → EachBlocked clauses new
+EachBlocked-at clauses old new l place number blocker blocked here only stands =
+    EachBlocked-kept clauses old new (λ w. (slice_get (numbers_of old l) place ≡ Some w.number) × (w.blocker ≡ blocker)) blocked only
+    (λ w clause is at. ap (is_held clause) is.1 ∙ stands clause (ap (slice_get clauses) (some_same number w.number (sym here ∙ is.0)) ∙ at))
+
 stands_at : {X : Type 0} (xs : List X) (place : ℕ) (x : X) → slice_get xs place ≡ Some x → Contains xs x
 stands_at xs place x at = (place, slice_get_below xs place x at, get_or_from_slice_get xs place x x at)
+
+-- some literal of the clause of this number is held
+abbrev pub NamesSatisfied : List (List Lit) → List Lit → ℕ → Type 0
+NamesSatisfied clauses held number = (clause : List Lit) → slice_get clauses number ≡ Some clause → IsSatisfied held clause
+
+pub NamesSatisfied-by : (clauses : List (List Lit)) (held : List Lit) (number : ℕ) (l : Lit) → NamesHeld clauses held number l → NamesSatisfied clauses held number
+NamesSatisfied-by clauses held number l is clause at = let (stands, held_now) = is clause at in (l, stands, held_now)
 
 -- where a blocker is held, its clause is satisfied
 pub satisfied_by_blocker : (clauses : List (List Lit)) (watches : Watches) (held : List Lit) (l : Lit) (place : ℕ) (w : Watcher) → EachBlocked clauses watches → slice_get (watchers_of watches l) place ≡ Some w → is_held held w.blocker ≡ true → NamesSatisfied clauses held w.number

@@ -1,5 +1,5 @@
 -- The lists of watchers where one of them changed.
-use Rattle.std.proofs.Common.{◌≡◌, ◌≢◌, ℕ, ◌<◌, ◌⊎◌, Bool, true, false, List, [], ◌∷◌, ◌++◌, length, set, get_or, Contains, if◌then◌else◌, sym, ap, ◌∙◌, inl, inr, subst}
+use Rattle.std.proofs.Common.{◌≡◌, ◌≢◌, ℕ, ◌<◌, ◌⊎◌, Bool, true, false, List, [], ◌∷◌, ◌++◌, length, length-set, set, get_or, Contains, if◌then◌else◌, sym, ap, ◌∙◌, arith, inl, inr, subst}
 use Rattle.std.proofs.lemmas.Bool.{cases_eq}
 use Rattle.std.proofs.lemmas.List.{get_or-set_same, get_or-set_other}
 use Rattle.std.proofs.lemmas.List.Elements.{Contains-push_cases}
@@ -48,6 +48,14 @@ module _ (IsNew : Watcher → Type 0) where
   pub Keeps-push : (xs : List Watcher) (x : Watcher) → IsNew x → Keeps IsNew xs (xs ++ x ∷ [])
   Keeps-push xs x new w h =
       elim (Contains-push_cases xs x w h) [ inl there ↦ inl there | inr is ↦ inr (subst IsNew is new) ]
+
+  pub Keeps-set : (xs : List Watcher) (i : ℕ) (x : Watcher) → i < length xs → IsNew x → Keeps IsNew xs (set xs i x)
+  Keeps-set xs i x within new w (j, below, at) =
+      elim (cases_eq j i) [
+        | inl same ↦
+            inr (subst IsNew (sym (get_or-set_same xs i x w within) ∙ sym (ap (λ k. get_or (set xs i x) k w) same) ∙ at) new)
+        | inr differ ↦ inl (j, omega (arith, below, length-set xs i x), sym (get_or-set_other xs i j x w differ) ∙ at)
+      ]
 
   -- one step after another
   pub KeepsOnly-two : (IsFirst IsSecond : Watcher → Type 0) (old mid new : Watches) → ((w : Watcher) → IsFirst w → IsNew w) → ((w : Watcher) → IsSecond w → IsNew w) → KeepsOnly old mid IsFirst → KeepsOnly mid new IsSecond → KeepsOnly old new IsNew

@@ -4,7 +4,6 @@ use Rattle.clauses.specs.Literal.{Lit}
 use Rattle.clauses.specs.Propagation.{NamesFalse, is_held, is_false}
 use Rattle.depth_first.specs.declared.trail.Entry.{Entry}
 use Rattle.depth_first.specs.TrailEntries.{literals}
-use Rattle.depth_first.specs.DepthFirst.{IsSatisfied}
 use Rattle.first_uip.specs.declared.arena.Watched.{Watched}
 use Rattle.first_uip.specs.declared.arena.Watched.TheVariants.{Two}
 use Rattle.first_uip.specs.declared.look.Look.{Look}
@@ -27,12 +26,14 @@ pub record MovesWatch (clauses : List (List Lit)) (held : List Lit) (old new : L
   pub differs : (moved ≡ other) → ⊥
   pub not_false : is_false held moved ≡ false
 
-abbrev pub NamesSatisfied : List (List Lit) → List Lit → ℕ → Type 0
-NamesSatisfied clauses held number = (clause : List Lit) → slice_get clauses number ≡ Some clause → IsSatisfied held clause
+-- this literal stands in the clause of this number, and is held
+abbrev pub NamesHeld : List (List Lit) → List Lit → ℕ → Lit → Type 0
+NamesHeld clauses held number l =
+    (clause : List Lit) → slice_get clauses number ≡ Some clause → (is_held clause l ≡ true) × (is_held held l ≡ true)
 
 -- what came of a look at the clause of this number, of which the literal became false
 abbrev pub IsLook : List (List Lit) → List Watched → List Watched → List Entry → List Entry → ℕ → Lit → Look → Type 0
-IsLook clauses old new before after number l Stays = (new ≡ old) × NamesSatisfied clauses (literals after) number
+IsLook clauses old new before after number l (Stays other) = (new ≡ old) × NamesHeld clauses (literals after) number other
 IsLook clauses old new before after number l Leaves =
     (after ≡ before) × (((new ≡ old) × ((w : Watched) → slice_get old number ≡ Some w → is_held (watched_literals w) l ≡ false)) ⊎ MovesWatch clauses (literals before) old new number l)
 IsLook clauses old new before after number l Falsified = (new ≡ old) × NamesFalse clauses (literals after) number

@@ -16,8 +16,8 @@ use std::alloc::AllocError;
 
 /// What came of a look at a clause.
 pub(crate) enum Look {
-    /// It goes on watching the literal.
-    Stays,
+    /// It goes on watching the literal, and this other one that it watches is held.
+    Stays(Lit),
     /// It doesn't watch the literal.
     Leaves,
     /// All its literals are false.
@@ -87,7 +87,7 @@ pub(crate) fn look_at(
         return Ok(Look::Leaves);
     };
     if trail.holds(other) {
-        return Ok(Look::Stays);
+        return Ok(Look::Stays(other));
     }
     if let Some(open) = other_open(trail, watches.arena.clause(number), other) {
         watches.rewatch(number, open, other)?;
@@ -100,5 +100,5 @@ pub(crate) fn look_at(
         literal: other,
         cause: Cause::Reason(number),
     })?;
-    Ok(Look::Stays)
+    Ok(Look::Stays(other))
 }

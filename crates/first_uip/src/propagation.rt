@@ -39,7 +39,10 @@ fn propagate_entry(
             continue;
         }
         match look_at(watches, trail, watcher.number, falsified)? {
-            Look::Stays => place += 1,
+            Look::Stays(held) => {
+                watches.block(falsified, place, held);
+                place += 1;
+            }
             Look::Leaves => watches.drop_number(falsified, place),
             Look::Falsified => return Ok(Some(watcher.number)),
         }

@@ -1,6 +1,6 @@
 //! Lists of the clauses that watch a literal, of which one is dropped in constant time.
 
-ghost use Rattle.std.specs.Prelude.{◌≡◌, ◌<◌, [], ◌∷◌, ◌++◌, length, OnOk, Contains};
+ghost use Rattle.std.specs.Prelude.{◌≡◌, ◌<◌, ◌⊎◌, [], ◌∷◌, ◌++◌, Some, length, slice_get, OnOk, Contains};
 ghost use Rattle.std.specs.List.{swap_remove};
 
 use clauses::Lit;
@@ -66,5 +66,14 @@ impl Watchers {
         ensures only { (w : Watcher) → Contains self.new w → Contains self.old w }
     {
         let _ = self.items.swap_remove(place);
+    }
+
+    /// The one at a place has this blocker from now on.
+    pub(crate) fn block_at(&mut self, place: usize, blocker: Lit)
+        requires { place < length self.old }
+        ensures numbers { numbers_in self.new ≡ numbers_in self.old }
+        ensures only { (w : Watcher) → Contains self.new w → Contains self.old w ⊎ ((slice_get (numbers_in self.old) place ≡ Some w.number) × (w.blocker ≡ blocker)) }
+    {
+        self.items[place].blocker = blocker;
     }
 }

@@ -1,6 +1,6 @@
 //! Two watched literals a clause, and for each literal the clauses that watch it (Chaff).
 
-ghost use Rattle.std.specs.Prelude.{◌≡◌, ◌≢◌, ◌+◌, ◌<◌, ◌^◌, ◌++◌, ◌∷◌, ℕ, [], length, replicate, slice_set, slice_index_or, Contains, IfOk, OnOk};
+ghost use Rattle.std.specs.Prelude.{◌≡◌, ◌≢◌, ◌+◌, ◌<◌, ◌^◌, ◌⊎◌, ◌++◌, ◌∷◌, ℕ, [], Some, length, replicate, slice_get, slice_set, slice_index_or, Contains, IfOk, OnOk};
 ghost use Rattle.std.specs.List.{swap_remove};
 ghost use Rattle.first_uip.specs.Clauses.{numbers_in};
 ghost use Rattle.first_uip.specs.declared.watchers.Watcher.{Watcher as WatcherOf};
@@ -20,7 +20,7 @@ pub(crate) struct Watches {
 }
 
 impl Watches {
-    ghost use Rattle.std.specs.Prelude.{◌≡◌, ◌≢◌, ◌+◌, ◌<◌, ◌^◌, ◌++◌, ◌∷◌, [], true, false, length, slice_set, slice_index_or, All, IfOk, OnOk};
+    ghost use Rattle.std.specs.Prelude.{◌≡◌, ◌≢◌, ◌+◌, ◌<◌, ◌^◌, ◌++◌, ◌∷◌, [], Some, true, false, length, slice_get, slice_set, slice_index_or, All, IfOk, OnOk};
     ghost use Rattle.std.specs.List.{swap_remove};
     ghost use Rattle.clauses.specs.Literal.{Lit, is_same};
     ghost use Rattle.clauses.specs.Propagation.{is_held};
@@ -132,6 +132,24 @@ impl Watches {
             drop_at(&mut self.positive, literal.variable(), place);
         }
     }
+
+    /// The clause at a place of a literal's has this blocker from now on.
+    pub(crate) fn block(&mut self, literal: Lit, place: usize, blocker: Lit)
+        requires positive { literal.variable < length self.old.positive.items }
+        requires negative { literal.variable < length self.old.negative.items }
+        requires place { place < length (numbers_of self.old literal) }
+        ensures positive { length self.new.positive.items ≡ length self.old.positive.items }
+        ensures negative { length self.new.negative.items ≡ length self.old.negative.items }
+        ensures arena { self.new.arena ≡ self.old.arena }
+        ensures numbers { (m : Lit) → numbers_of self.new m ≡ numbers_of self.old m }
+        ensures only { KeepsOnly self.old self.new (λ w. (slice_get (numbers_of self.old literal) place ≡ Some w.number) × (w.blocker ≡ blocker)) }
+    {
+        if literal.is_negated() {
+            block_at(&mut self.negative, literal.variable(), place, blocker);
+        } else {
+            block_at(&mut self.positive, literal.variable(), place, blocker);
+        }
+    }
 }
 
 /// Adds a clause to the list of a variable.
@@ -153,6 +171,18 @@ fn drop_at(lists: &mut Vec<Watchers>, variable: u32, place: usize)
     ensures others { (n : ℕ) → n ≢ variable → slice_index_or lists.new.items n [] ≡ slice_index_or lists.old.items n [] }
 {
     lists[variable as usize].drop_at(place);
+}
+
+/// The clause at a place of the list of a variable has this blocker from now on.
+fn block_at(lists: &mut Vec<Watchers>, variable: u32, place: usize, blocker: Lit)
+    requires variable { variable < length lists.old.items }
+    requires place { place < length (slice_index_or lists.old.items variable []) }
+    ensures sizes { length lists.new.items ≡ length lists.old.items }
+    ensures numbers { numbers_in (slice_index_or lists.new.items variable []) ≡ numbers_in (slice_index_or lists.old.items variable []) }
+    ensures only { (w : WatcherOf) → Contains (slice_index_or lists.new.items variable []) w → Contains (slice_index_or lists.old.items variable []) w ⊎ ((slice_get (numbers_in (slice_index_or lists.old.items variable [])) place ≡ Some w.number) × (w.blocker ≡ blocker)) }
+    ensures others { (n : ℕ) → n ≢ variable → slice_index_or lists.new.items n [] ≡ slice_index_or lists.old.items n [] }
+{
+    lists[variable as usize].block_at(place, blocker);
 }
 
 /// An empty list for each number from 0 to `count`.

@@ -1,4 +1,4 @@
-use Rattle.std.proofs.Common.{◌≡◌, ◌-◌, true, false, [], ◌∷◌, Some, length, refl, sym, ap, ◌∙◌, subst, arith, inr}
+use Rattle.std.proofs.Common.{◌≡◌, ◌-◌, true, false, [], ◌∷◌, length, refl, sym, ap, ◌∙◌, subst, arith, inr}
 use Rattle.clauses.specs.Literal.{Lit}
 use Rattle.clauses.specs.Propagation.{IsUnit, is_held, is_false}
 use Rattle.depth_first.specs.declared.trail.Entry.{Entry}
@@ -23,7 +23,6 @@ pub returns-then-holds-clause-look : goal.returns-then-holds-clause-look
 returns-then-holds-clause-look c = (
   refl,
   λ clause there. (
-    c.in-Some.other,
     (other_stands clause c.watched.result c.args.falsified c.in-Some.other (c.requires.each c.args.number clause c.watched.result there c.watched.ensures) c.in-Some.ensures).0,
     sym c.holds.ensures ∙ c.if-holds.true,
   ),
@@ -110,7 +109,6 @@ returns-clause-look c =
     ∙ held_last (literals entries) c.in-Some.other in (
       refl,
       λ clause there. (
-        c.in-Some.other,
         (other_stands clause c.watched.result c.args.falsified c.in-Some.other (c.requires.each c.args.number clause c.watched.result there c.watched.ensures) c.in-Some.ensures).0,
         now_held,
       ),

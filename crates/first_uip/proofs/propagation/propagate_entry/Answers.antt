@@ -16,8 +16,8 @@ use Rattle.first_uip.specs.declared.look.Look.TheVariants.{Stays, Leaves, Falsif
 use Rattle.first_uip.specs.Clauses.{clauses_in, watched_in}
 use Rattle.first_uip.specs.Looks.{IsLook}
 use Rattle.first_uip.specs.Watching.{CoversBelow, EachBlocked, EachIsWatch, IsListed, IsWatchingUpTo, numbers_of, watchers_of}
-use Rattle.first_uip.proofs.Listing.{IsListed-drop}
-use Rattle.first_uip.proofs.LookLemmas.{EachBlocked-kept, blocker_within, number_at, satisfied_by_blocker}
+use Rattle.first_uip.proofs.Listing.{IsListed-drop, IsListed-same}
+use Rattle.first_uip.proofs.LookLemmas.{EachBlocked-at, EachBlocked-kept, NamesSatisfied-by, blocker_within, number_at, satisfied_by_blocker}
 use Rattle.first_uip.proofs.Guards.{EachGuardedBut, EachGuardedBut-start, EachGuardedBut-stays, EachGuardedBut-left, EachGuardedBut-end, IsWatchingUpTo-stays, IsWatchingUpTo-leaves, LeavesWatch, leaves_unwatched, slice_get_grown, take_grown, HeldWithin-grown}
 use Rattle.first_uip.proofs.propagation.propagate_entry.Goals as goal
 
@@ -137,8 +137,8 @@ look_at-requires-clause-falsified c =
     falsified_by c.loop-place.trail.entries.items c.args.head e c.negation-falsified.result
     (slice_get_grown (clauses_in c.args.watches.now.arena) entries c.loop-place.trail.entries.items c.args.head e c.loop-place.invariant.grows start) c.negation-falsified.ensures
 
-pub returns-in_err-look_at-clause-grows : goal.returns-in_err-look_at-clause-grows
-returns-in_err-look_at-clause-grows c =
+pub returns-in_err-held-clause-grows : goal.returns-in_err-held-clause-grows
+returns-in_err-held-clause-grows c =
     Grows-then _ _ _ _ c.loop-place.invariant.grows
     (subst (λ cs. Grows cs c.loop-place.trail.entries.items c.look_at.new.trail.entries.items) c.loop-place.invariant.same_clauses c.look_at.ensures.grows)
 
@@ -157,29 +157,38 @@ loop-place-preserved-in-Stays c =
     let inv = c.loop-place.invariant in
     let cs = clauses_in c.args.watches.now.arena in
     let old = c.loop-place.watches in
-    let new = c.look_at.new.watches in
+    let mid = c.look_at.new.watches in
+    let new = c.block.new.self in
+    let held = c.in-Stays.held in
     let before = c.loop-place.trail.entries.items in
     let after = c.look_at.new.trail.entries.items in
     let grows : Grows cs before after = subst (λ cs. Grows cs before after) inv.same_clauses c.look_at.ensures.grows in
-    let look : IsLook cs (watched_in old.arena) (watched_in new.arena) before after w.number l Stays =
-    subst (λ cs. IsLook cs (watched_in old.arena) (watched_in new.arena) before after w.number l Stays) inv.same_clauses
-    (subst (IsLook (clauses_in old.arena) (watched_in old.arena) (watched_in new.arena) before after w.number l) c.in-Stays.is c.in_ok-look_at.ensures.look) in
-    let blocked : EachBlocked cs new = subst (λ cs. EachBlocked cs new) inv.same_clauses c.in_ok-look_at.ensures.blocked in
+    let look : IsLook cs (watched_in old.arena) (watched_in mid.arena) before after w.number l (Stays held) =
+    subst (λ cs. IsLook cs (watched_in old.arena) (watched_in mid.arena) before after w.number l (Stays held)) inv.same_clauses
+    (subst (IsLook (clauses_in old.arena) (watched_in old.arena) (watched_in mid.arena) before after w.number l) c.in-Stays.is c.in_ok-held.ensures.look) in
     let at : slice_get (numbers_of old l) place ≡ Some w.number = number_at (watchers_of old l) place w here in
-    let unchanged : clauses_in new.arena ≡ cs = c.look_at.ensures.same_clauses ∙ inv.same_clauses in
+    let at_mid : slice_get (numbers_of mid l) place ≡ Some w.number = ap (λ ns. slice_get ns place) c.in_ok-held.ensures.same_numbers ∙ at in
+    let blocked : EachBlocked cs new =
+    EachBlocked-at cs mid new l place w.number held (subst (λ cs. EachBlocked cs mid) inv.same_clauses c.in_ok-held.ensures.blocked) at_mid
+    c.block.ensures.only (λ clause there. (look.1 clause there).0) in
+    let listed : IsListed new = IsListed-same mid new c.in_ok-held.ensures.listed (ap watched_in c.block.ensures.arena) c.block.ensures.numbers in
+    let watched : watched_in new.arena ≡ watched_in old.arena = ap watched_in c.block.ensures.arena ∙ look.0 in
+    let unchanged : clauses_in new.arena ≡ cs = ap clauses_in c.block.ensures.arena ∙ c.look_at.ensures.same_clauses ∙ inv.same_clauses in
+    let numbers : numbers_of new l ≡ numbers_of old l = c.block.ensures.numbers l ∙ c.in_ok-held.ensures.same_numbers in
     let seen_within : c.args.head + 1 ≤ length before = omega (arith, c.requires.within, Grows-length cs c.args.trail.now.entries.items before inv.grows) in
     let but : EachGuardedBut cs (watched_in old.arena) (numbers_of old l) (place + 1) (literals (take (c.args.head + 1) before)) (literals after) =
-    EachGuardedBut-stays cs (watched_in old.arena) (numbers_of old l) place w.number (literals (take (c.args.head + 1) before)) (literals before) (literals after) at (HeldWithin-grown cs before after grows) look.1 inv.but in
+    EachGuardedBut-stays cs (watched_in old.arena) (numbers_of old l) place w.number (literals (take (c.args.head + 1) before)) (literals before) (literals after) at (HeldWithin-grown cs before after grows)
+    (NamesSatisfied-by cs (literals after) w.number held look.1) inv.but in
     let covers = c.look_at.ensures.covers in
     record {
       same_variables = c.look_at.ensures.same_variables ∙ inv.same_variables;
       same_clauses = unchanged;
-      covers = record { positive = covers.positive ∙ inv.same_variables; negative = covers.negative ∙ inv.same_variables };
+      covers = record { positive = c.block.ensures.positive ∙ covers.positive ∙ inv.same_variables; negative = c.block.ensures.negative ∙ covers.negative ∙ inv.same_variables };
       grows = Grows-then _ _ _ _ inv.grows grows;
-      watching = IsWatchingUpTo-stays cs old new before after c.args.head (omega (arith, seen_within)) grows unchanged look.0 c.in_ok-look_at.ensures.listed blocked inv.watching;
+      watching = IsWatchingUpTo-stays cs old new before after c.args.head (omega (arith, seen_within)) grows unchanged watched listed blocked inv.watching;
       but =
-          subst (λ ns. EachGuardedBut cs (watched_in new.arena) ns (place + 1) (literals (take (c.args.head + 1) after)) (literals after)) (sym c.in_ok-look_at.ensures.same_numbers)
-          (subst (λ ws. EachGuardedBut cs ws (numbers_of old l) (place + 1) (literals (take (c.args.head + 1) after)) (literals after)) (sym look.0)
+          subst (λ ns. EachGuardedBut cs (watched_in new.arena) ns (place + 1) (literals (take (c.args.head + 1) after)) (literals after)) (sym numbers)
+          (subst (λ ws. EachGuardedBut cs ws (numbers_of old l) (place + 1) (literals (take (c.args.head + 1) after)) (literals after)) (sym watched)
           (subst (λ es. EachGuardedBut cs (watched_in old.arena) (numbers_of old l) (place + 1) (literals es) (literals after)) (sym (take_grown cs before after (c.args.head + 1) grows seen_within)) but));
     }
 
@@ -196,10 +205,10 @@ returns-in-Falsified-clause-watching c =
     let grows : Grows cs before after = subst (λ cs. Grows cs before after) inv.same_clauses c.look_at.ensures.grows in
     let look : IsLook cs (watched_in old.arena) (watched_in mid.arena) before after w.number l Falsified =
     subst (λ cs. IsLook cs (watched_in old.arena) (watched_in mid.arena) before after w.number l Falsified) inv.same_clauses
-    (subst (IsLook (clauses_in old.arena) (watched_in old.arena) (watched_in mid.arena) before after w.number l) c.in-Falsified.is c.in_ok-look_at.ensures.look) in
-    let blocked : EachBlocked cs mid = subst (λ cs. EachBlocked cs mid) inv.same_clauses c.in_ok-look_at.ensures.blocked in
+    (subst (IsLook (clauses_in old.arena) (watched_in old.arena) (watched_in mid.arena) before after w.number l) c.in-Falsified.is c.in_ok-held.ensures.look) in
+    let blocked : EachBlocked cs mid = subst (λ cs. EachBlocked cs mid) inv.same_clauses c.in_ok-held.ensures.blocked in
     let seen_within : c.args.head ≤ length before = omega (arith, c.requires.within, Grows-length cs c.args.trail.now.entries.items before inv.grows) in
-    (IsWatchingUpTo-stays cs old mid before after c.args.head seen_within grows (c.look_at.ensures.same_clauses ∙ inv.same_clauses) look.0 c.in_ok-look_at.ensures.listed blocked inv.watching).watching
+    (IsWatchingUpTo-stays cs old mid before after c.args.head seen_within grows (c.look_at.ensures.same_clauses ∙ inv.same_clauses) look.0 c.in_ok-held.ensures.listed blocked inv.watching).watching
 
 pub returns-in-Falsified-clause-falsified : goal.returns-in-Falsified-clause-falsified
 returns-in-Falsified-clause-falsified c =
@@ -214,7 +223,7 @@ returns-in-Falsified-clause-falsified c =
     let grows : Grows cs before after = subst (λ cs. Grows cs before after) inv.same_clauses c.look_at.ensures.grows in
     let look : IsLook cs (watched_in old.arena) (watched_in mid.arena) before after w.number l Falsified =
     subst (λ cs. IsLook cs (watched_in old.arena) (watched_in mid.arena) before after w.number l Falsified) inv.same_clauses
-    (subst (IsLook (clauses_in old.arena) (watched_in old.arena) (watched_in mid.arena) before after w.number l) c.in-Falsified.is c.in_ok-look_at.ensures.look) in
+    (subst (IsLook (clauses_in old.arena) (watched_in old.arena) (watched_in mid.arena) before after w.number l) c.in-Falsified.is c.in_ok-held.ensures.look) in
     look.1
 
 pub loop-place-preserved : goal.loop-place-preserved
@@ -233,8 +242,8 @@ loop-place-preserved c =
     let grows : Grows cs before after = subst (λ cs. Grows cs before after) inv.same_clauses c.look_at.ensures.grows in
     let look : IsLook cs (watched_in old.arena) (watched_in mid.arena) before after w.number l Leaves =
     subst (λ cs. IsLook cs (watched_in old.arena) (watched_in mid.arena) before after w.number l Leaves) inv.same_clauses
-    (subst (IsLook (clauses_in old.arena) (watched_in old.arena) (watched_in mid.arena) before after w.number l) c.in-Leaves.is c.in_ok-look_at.ensures.look) in
-    let blocked : EachBlocked cs mid = subst (λ cs. EachBlocked cs mid) inv.same_clauses c.in_ok-look_at.ensures.blocked in
+    (subst (IsLook (clauses_in old.arena) (watched_in old.arena) (watched_in mid.arena) before after w.number l) c.in-Leaves.is c.in_ok-held.ensures.look) in
+    let blocked : EachBlocked cs mid = subst (λ cs. EachBlocked cs mid) inv.same_clauses c.in_ok-held.ensures.blocked in
     let new = c.drop_number.new.self in
     let head = c.args.head in
     let same : after ≡ before = look.0 in
@@ -247,15 +256,15 @@ loop-place-preserved c =
     let closed : is_false (literals before) l ≡ true = falsified_by before head e l at is in
     let number : slice_get (numbers_of old l) place ≡ Some w.number = number_at (watchers_of old l) place w here in
     let known : w.number < length cs = omega (arith, inv.watching.watching.listed.known l place w.number number, inv.watching.watching.count) in
-    let number_mid : slice_get (numbers_of mid l) place ≡ Some w.number = ap (λ ns. slice_get ns place) c.in_ok-look_at.ensures.same_numbers ∙ number in
+    let number_mid : slice_get (numbers_of mid l) place ≡ Some w.number = ap (λ ns. slice_get ns place) c.in_ok-held.ensures.same_numbers ∙ number in
     let watched : watched_in new.arena ≡ watched_in mid.arena = ap watched_in c.drop_number.ensures.arena in
     let unchanged : clauses_in new.arena ≡ cs = ap clauses_in c.drop_number.ensures.arena ∙ c.look_at.ensures.same_clauses ∙ inv.same_clauses in
     let listed : IsListed new =
-    IsListed-drop mid new l place w.number c.in_ok-look_at.ensures.listed number_mid
+    IsListed-drop mid new l place w.number c.in_ok-held.ensures.listed number_mid
     (leaves_unwatched cs (literals before) (watched_in old.arena) (watched_in mid.arena) w.number l closed known inv.watching.watching.each leaves)
     watched c.drop_number.ensures.here c.drop_number.ensures.others in
     let drops : numbers_of new l ≡ swap_remove (numbers_of old l) place 0 =
-    c.drop_number.ensures.here ∙ ap (λ ns. swap_remove ns place 0) c.in_ok-look_at.ensures.same_numbers in
+    c.drop_number.ensures.here ∙ ap (λ ns. swap_remove ns place 0) c.in_ok-held.ensures.same_numbers in
     let watching : IsWatchingUpTo cs new before head =
     IsWatchingUpTo-leaves cs old new (watched_in mid.arena) before head w.number l leaves unchanged watched listed
     (EachBlocked-kept cs mid new (λ w. ⊥) blocked c.drop_number.ensures.only (λ w clause none there. absurd none)) inv.watching in
