@@ -6,7 +6,7 @@ use clauses::Lit;
 const LATE: u64 = 16;
 
 /// A run has at least so many conflicts.
-const SHORTEST: u32 = 10;
+const SHORTEST: u32 = 8;
 
 /// How many levels the learned clauses span.
 #[derive(Clone, Copy, Debug)]
