@@ -1,5 +1,6 @@
 -- What a parse by the program's definition says of the words.
 use Rattle.std.proofs.Common.{◌≡◌, Bool, true, false, List, [], ap, refl, sym, subst, ◌∙◌}
+use Rattle.std.specs.Fmt.{digits}
 use Rattle.clap.specs.Words.{App, HasMatchesOf, Text, fault_of, is_simple, is_simple_and_free, subcommand_of, subcommand_rows_of, takes}
 use Rattle.clap.specs.declared.error.kind.ErrorKind.{ErrorKind}
 use Rattle.clap.specs.declared.error.kind.ErrorKind.TheVariants.{OutOfMemory}
@@ -14,7 +15,7 @@ use Rattle.command_line.proofs.FaultFree.{no_fault_takes}
 
 module _ (a : App) (words : List Text) (is : a ≡ program) where
   pub taken_by : (is_simple_and_free a ≡ true → fault_of a words ≡ []) → are_taken words ≡ true
-  unfolding are_taken clap_on_literals
+  unfolding are_taken clap_on_literals digits
   taken_by h = no_fault_takes program words refl refl (ap (λ a. fault_of a words) (sym is) ∙ h (ap is_simple_and_free is))
 
   pub rows_by : (m : ArgMatches) → HasMatchesOf a words m → subcommand_rows_of m ≡ command_and_rows words

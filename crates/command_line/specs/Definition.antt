@@ -1,10 +1,10 @@
 -- The command line as `clap` sees its definition.
-use Rattle.std.specs.Prelude.{ℕ, true, false, [], ◌∷◌, Some, codes}
+use Rattle.std.specs.Prelude.{ℕ, true, false, [], ◌∷◌, Some, codes, decimal}
 use Rattle.clap.specs.Words.{App, Rule, Shape, Text, new_rule}
 use Rattle.clap.specs.Simple.{new_shape}
 use Rattle.clap.specs.declared.builder.action.ArgAction.TheVariants.{Append, SetTrue}
 use Rattle.clap.specs.declared.builder.value_parser.ValueParser.TheVariants.{Unsigned}
-use Rattle.command_line.specs.Limits.{most_conflicts, most_steps, most_blocks, most_number}
+use Rattle.command_line.specs.Limits.{most_conflicts, most_steps, most_blocks, most_number, default_conflicts, default_steps}
 
 -- an argument that has to be given: by its place, and not by an option
 abbrev pub required_argument : Text → Rule
@@ -44,10 +44,10 @@ abbrev pub widths_argument : Rule
 widths_argument = option_argument (codes "widths") (codes "1-8,16,32,64")
 
 abbrev pub conflicts_argument : Rule
-conflicts_argument = number_argument (codes "conflicts") most_conflicts (codes "20000")
+conflicts_argument = number_argument (codes "conflicts") most_conflicts (decimal default_conflicts)
 
 abbrev pub steps_argument : Rule
-steps_argument = number_argument (codes "steps") most_steps (codes "10000")
+steps_argument = number_argument (codes "steps") most_steps (decimal default_steps)
 
 abbrev pub name_argument : Rule
 name_argument = required_argument (codes "name")

@@ -3,9 +3,8 @@
 ghost use Rattle.std.specs.Prelude.{◌≡◌, true, false, IfOk, codes};
 ghost use Rattle.clap.specs.Words.{App, Shape, app_of, rule_of, with_rule, with_subcommand};
 ghost use Rattle.clap.specs.Simple.{new_shape};
-ghost use Rattle.command_line.specs.Definition.{required_argument, required_number, repeated_argument, optional_argument, option_argument, number_argument, flag_argument, verify_shape, optimise_shape, run_shape, load_shape, recheck_shape, program};
+ghost use Rattle.command_line.specs.Definition.{required_argument, required_number, repeated_argument, optional_argument, option_argument, number_argument, flag_argument, conflicts_argument, verify_shape, optimise_shape, run_shape, load_shape, recheck_shape, program};
 ghost use Rattle.command_line.specs.Leaf.{IsLeaf};
-ghost use Rattle.command_line.specs.Limits.{most_conflicts};
 
 use clap::builder::ValueParser;
 use clap::{Arg, ArgAction, Command};
@@ -22,6 +21,12 @@ const MOST_BLOCKS: u64 = 100_000_000;
 
 /// The greatest number of which a module is made.
 const MOST_NUMBER: u64 = 4_294_967_295;
+
+/// The most clauses that a search may learn where the words tell no number.
+pub const DEFAULT_CONFLICTS: u32 = 20_000;
+
+/// The most rewrites of a function where the words tell no number.
+pub const DEFAULT_STEPS: u32 = 10_000;
 
 /// An argument that has to be given, by its place.
 fn required_argument<'a>(alloc: Global, name: &'a str, shown: &'a str, help: &'a str) -> Arg<'a>
@@ -124,7 +129,7 @@ fn module_argument<'a>(alloc: Global) -> Arg<'a>
 }
 
 fn conflicts_argument<'a>(alloc: Global) -> Arg<'a>
-    ensures rule { rule_of result ≡ number_argument (codes "conflicts") most_conflicts (codes "20000") }
+    ensures rule { rule_of result ≡ conflicts_argument }
     ensures local { result.global ≡ false }
 {
     number_argument(

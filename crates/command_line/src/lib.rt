@@ -10,5 +10,6 @@ mod widths;
 pub use command::{
     Command, CommandError, OptimiseOptions, RecheckOptions, RunOptions, VerifyOptions,
 };
+pub use definition::{DEFAULT_CONFLICTS, DEFAULT_STEPS};
 pub use laws::words_say_one_command;
 pub use read::read_command;

@@ -1,10 +1,12 @@
 use Rattle.std.proofs.Common.{◌∙◌, [], ap, ap₂, codes}
+use Rattle.std.specs.Fmt.{digits}
 use Rattle.std.proofs.lemmas.Result.{IfOk-weaker}
 use Rattle.clap.specs.Simple.{new_shape}
 use Rattle.clap.specs.Words.{App, rule_of, with_rule}
 use Rattle.command_line.proofs.definition.optimise.Goals as goal
 
 pub returns : goal.returns
+unfolding digits
 returns c =
     let none : App = record { top = new_shape (codes "optimise"); subs = [] } in
     let first : App = with_rule none (rule_of c.rules_argument.result) in
