@@ -9,9 +9,11 @@ ghost use Rattle.strategy_core.specs.Countable.{ModuleIsCountable};
 ghost use Rattle.strategy_core.specs.Laws.{ModuleNumbersFit};
 ghost use Rattle.strategy_core.specs.PlainStrategy.{IsPlainStrategy};
 ghost use Rattle.verdict.specs.Table.{IsHonestTable};
-ghost use Rattle.load_text.specs.Load.{default_conflicts, default_steps, IsLoaded};
+ghost use Rattle.command_line.specs.Limits.{default_conflicts, default_steps};
+ghost use Rattle.load_text.specs.Load.{IsLoaded};
 ghost use Rattle.load_text.specs.Loading.{IsDoneByBuiltIn};
 
+use command_line::{DEFAULT_CONFLICTS, DEFAULT_STEPS};
 use ir_core::Module;
 use load_gen::generate;
 use load_text::{FUNCTIONS, Loaded, built_in_rules, lines};
@@ -20,12 +22,6 @@ use std::alloc::{AllocError, Global};
 use strategy::StoredLogs;
 use strategy_core::Done;
 use verdict_core::{Row, Verdict};
-
-/// The most clauses that a search may learn.
-const CONFLICTS: u32 = 20_000;
-
-/// The most rewrites of a function.
-const STEPS: u32 = 10_000;
 
 /// Whether each verdict is `Admitted`.
 fn are_admitted(table: &[Row]) -> bool
@@ -50,7 +46,7 @@ fn optimised_by(alloc: Global, module: &Module, rules: &[Rule]) -> Result<Done, 
     ensures admitted { IfOk result (λ done. All (λ row. row.verdict ≡ Verdict.Admitted) done.table) }
 {
     let logs = StoredLogs::new(alloc);
-    let done = strategy::optimise(alloc, module, rules, logs, CONFLICTS, STEPS)?;
+    let done = strategy::optimise(alloc, module, rules, logs, DEFAULT_CONFLICTS, DEFAULT_STEPS)?;
     if are_admitted(done.table.as_slice()) {
         Ok(done)
     } else {

@@ -10,7 +10,8 @@ use Rattle.ir_core.specs.declared.function.Block.{Block}
 use Rattle.load_gen.specs.Generated.{generated}
 use Rattle.load_gen.specs.Laws.{IsOfTwenty, GeneratedEntriesAreOfTwenty, GeneratedEntriesAreCounted, GeneratedFunctionsAreSmall}
 use Rattle.strategy_core.specs.Countable.{ModuleIsCountable}
-use Rattle.load_text.specs.Load.{default_steps, instructions_of_entry, instructions_in}
+use Rattle.command_line.specs.Limits.{default_steps}
+use Rattle.load_text.specs.Load.{instructions_of_entry, instructions_in}
 
 -- ---- how many instructions there are
 

@@ -10,6 +10,7 @@ use Rattle.verdict.specs.Rule.{Rule}
 use Rattle.verdict.specs.Table.{IsHonestTable}
 use Rattle.verdict_core.specs.declared.verdicts.Row.{Row}
 use Rattle.verdict_core.specs.declared.verdicts.Verdict.TheVariants.{Admitted}
+use Rattle.command_line.specs.Limits.{default_conflicts, default_steps}
 use Rattle.load_text.specs.RuleText.{IsRuleText}
 
 -- the built-in rules, as a rule file
@@ -22,13 +23,6 @@ built_in_text =
     ++ codes "\nName: sub-add\n%1 = sub %x, %y\n%r = add %1, %y\n=>\n%r = %x\n"
     ++ codes "\nName: not-add\n%1 = xor %x, -1\n%2 = add %1, C\n=>\n%2 = sub C-1, %x\n"
     ++ codes "\nName: mul-two\n%r = mul %x, 2\n=>\n%r = shl %x, 1\n"
-
--- the limits of `optimise` where the words tell none
-abbrev pub default_conflicts : ℕ
-default_conflicts = 20000
-
-abbrev pub default_steps : ℕ
-default_steps = 10000
 
 -- how many instructions a function and a module have, terminators not counted
 abbrev pub instructions_of : Function → ℕ

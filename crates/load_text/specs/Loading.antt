@@ -6,7 +6,8 @@ use Rattle.strategy_core.specs.PlainStrategy.{IsPlainStrategy}
 use Rattle.verdict.specs.Rule.{Rule}
 use Rattle.verdict.specs.Table.{IsHonestTable}
 use Rattle.verdict_core.specs.declared.verdicts.Verdict.TheVariants.{Admitted}
-use Rattle.load_text.specs.Load.{built_in_text, count_line, default_conflicts, default_steps}
+use Rattle.command_line.specs.Limits.{default_conflicts, default_steps}
+use Rattle.load_text.specs.Load.{built_in_text, count_line}
 use Rattle.load_text.specs.RuleText.{IsRuleText}
 
 -- what the plain strategy gives for a module by the built-in rules, each verdict of which is that the rule is valid

@@ -2,7 +2,8 @@ use Rattle.std.proofs.Common.{◌≡◌, ◌∙◌, ℕ, ◌<◌, ◌^◌, ap, s
 use Rattle.ir_core.specs.Checks.{ModuleMeetsChecks}
 use Rattle.strategy_core.specs.Countable.{ModuleIsCountable}
 use Rattle.strategy_core.specs.Laws.{ModuleNumbersFit}
-use Rattle.load_text.specs.Load.{default_steps, instructions_in, load_text}
+use Rattle.command_line.specs.Limits.{default_steps}
+use Rattle.load_text.specs.Load.{instructions_in, load_text}
 use Rattle.load_text.proofs.LoadLemmas.{generated_countable, generated_size}
 use Rattle.alive_top.proofs.loading.load.Goals as goal
 
