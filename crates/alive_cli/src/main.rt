@@ -1,4 +1,5 @@
-//! The program: its words, the files of the disk and the standard streams go to `alive`, and its status is the exit status.
+//! The program: its words, the files of the disk and the standard streams go to `alive`, and its status is the exit
+//! status.
 #![tactic(auto)]
 
 use alive_top::{Status, alive};

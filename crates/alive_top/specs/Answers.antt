@@ -28,7 +28,8 @@ ReadOf old new name P (Err (Module fault)) = ⊥
 ReadOf old new name P (Err Argument) = ⊥
 ReadOf old new name P (Err (Logs fault)) = ⊥
 
--- why a text that is taken may not fit what it is read with: it fits, or arguments do not fit it, or it has a fault beside rules
+-- why a text that is taken may not fit what it is read with: it fits, or arguments do not fit it, or it has a fault
+-- beside rules
 abbrev pub Fits : Hindrance → Type 0
 Fits refusal = ⊥
 

@@ -23,7 +23,8 @@ use Rattle.alive_top.specs.declared.status.Status.TheVariants.{Done}
 use Rattle.load_text.specs.RuleText.{IsRuleText}
 use Rattle.alive_top.specs.Task.{Task, Verify, Optimise, Run, Load, Recheck}
 
--- `verify` decided the rules of a text, handed back their verdicts and wrote the texts of them. All are admitted exactly with status 0.
+-- `verify` decided the rules of a text, handed back their verdicts and wrote the texts of them. All are admitted
+-- exactly with status 0.
 pub record HasVerified (text : List ℕ) (options : VerifyOptions) (out out' : SinkState) (ended : Ended) : Type 0 where
   pub rules : List Rule
   pub file : IsRuleText text rules
@@ -34,8 +35,8 @@ pub record HasVerified (text : List ℕ) (options : VerifyOptions) (out out' : S
   pub no_proofs : ended.proofs ≡ []
   pub all : (ended.status ≡ Done) ↔ IsTrue verified.all_admitted
 
--- `verify --logs` did the same, but wrote the text of the proofs of those that are admitted, and handed these back with the sets that they
--- refute.
+-- `verify --logs` did the same, but wrote the text of the proofs of those that are admitted, and handed these back with
+-- the sets that they refute.
 pub record HasProved (text : List ℕ) (options : VerifyOptions) (out out' : SinkState) (ended : Ended) : Type 0 where
   pub rules : List Rule
   pub file : IsRuleText text rules
@@ -46,8 +47,8 @@ pub record HasProved (text : List ℕ) (options : VerifyOptions) (out out' : Sin
   pub wrote : Appends out out' proved.text.items
   pub all : (ended.status ≡ Done) ↔ IsTrue proved.all_admitted
 
--- `recheck` decided what the proofs of another text are of, handed back the verdicts and wrote the texts of them. All are admitted exactly
--- with status 0.
+-- `recheck` decided what the proofs of another text are of, handed back the verdicts and wrote the texts of them. All
+-- are admitted exactly with status 0.
 pub record HasRechecked (text proofs : List ℕ) (options : RecheckOptions) (out out' : SinkState) (ended : Ended) : Type 0 where
   pub rules : List Rule
   pub file : IsRuleText text rules
@@ -58,8 +59,8 @@ pub record HasRechecked (text proofs : List ℕ) (options : RecheckOptions) (out
   pub no_proofs : ended.proofs ≡ []
   pub all : (ended.status ≡ Done) ↔ IsTrue rechecked.all_admitted
 
--- `optimise` wrote the module that may stand in the place of that of a text, by the rules of another text, and a report; and handed back
--- the verdicts.
+-- `optimise` wrote the module that may stand in the place of that of a text, by the rules of another text, and a
+-- report; and handed back the verdicts.
 pub record HasOptimised (text source : List ℕ) (options : OptimiseOptions) (out out' err err' : SinkState) (ended : Ended) : Type 0 where
   pub rules : List Rule
   pub file : IsRuleText text rules

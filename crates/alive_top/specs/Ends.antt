@@ -18,8 +18,8 @@ use Rattle.alive_top.specs.Texts.{AreTaken}
 use Rattle.alive_top.specs.Work.{Work, IsWorkOf}
 use Rattle.alive_top.specs.Written.{Took, WroteSome}
 
--- The work of the task was done: all its files were read and hold what they are read for, the table and the proofs are the work's, and
--- its text and report were written so.
+-- The work of the task was done: all its files were read and hold what they are read for, the table and the proofs are
+-- the work's, and its text and report were written so.
 pub record Worked (task : Task) (files files' : FilesState) (ended : Ended) (Wrote : Work → Type 0) : Type 0 where
   pub asks : AsksAll files files' (files_of task)
   pub texts : List (List ℕ)

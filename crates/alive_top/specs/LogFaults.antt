@@ -9,8 +9,8 @@ use Rattle.alive_top.specs.File.{Source}
 use Rattle.alive_top.specs.Taken.{Takes}
 use Rattle.alive_top.specs.Task.{Task, Optimise, Recheck}
 
--- the first text is that of rules, that of a module too where there is one, and this is the fault that the last, of proofs, has beside the
--- rules
+-- the first text is that of rules, that of a module too where there is one, and this is the fault that the last, of
+-- proofs, has beside the rules
 abbrev pub HasLogFault : Task → List (List ℕ) → Fault LogFaultKind → Type 0
 HasLogFault (Recheck file file' options) (rules ∷ proofs ∷ []) fault = (list : List Rule) × IsRuleText rules list × IsFault list proofs fault
 HasLogFault (Optimise file file' (Some logs) options) (rules ∷ source ∷ proofs ∷ []) fault =

@@ -22,8 +22,8 @@ pub record IsReady (m : Module) : Type 0 where
   pub forms : ModuleHasForms m
   pub countable : (steps : ℕ) → steps ≤ most_steps → ModuleIsCountable steps m
 
--- The module that `optimise` writes for the text of another by these rules, the table of verdicts by which it came to be, and for each
--- function how often it was rewritten and whether it is limited.
+-- The module that `optimise` writes for the text of another by these rules, the table of verdicts by which it came to
+-- be, and for each function how often it was rewritten and whether it is limited.
 pub record IsOptimised (rules : List Rule) (options : OptimiseOptions) (bytes : List ℕ) (new : Module) (table : List Row) (counts : List ℕ) (limited : List Bool) : Type 0 where
   pub read : Module
   pub source : IsModuleText bytes read

@@ -14,7 +14,8 @@ pub use Rattle.load_text.specs.RuleText.{IsRuleText}
 use Rattle.alive_top.specs.File.{FileKind, Rules, Source, Logs}
 use Rattle.error_lines.specs.Lines.{rules_line, module_line}
 
--- the text is taken: it is what its file is read for. What is wrong with proofs is told beside the rules, when all files are read
+-- the text is taken: it is what its file is read for. What is wrong with proofs is told beside the rules, when all
+-- files are read
 abbrev pub Takes : FileKind → List ℕ → Type 0
 Takes Rules text = (rules : List Rule) × IsRuleText text rules
 Takes Source text = (m : Module) × IsReadAs text m

@@ -6,7 +6,8 @@ use Rattle.alive_top.specs.File.{File, files_of, limit_of}
 use Rattle.alive_top.specs.Taken.{Takes}
 use Rattle.alive_top.specs.Task.{Task}
 
--- The text of a file is what is told under its name, where that is told; of more than the limit it is the first bytes, one over it.
+-- The text of a file is what is told under its name, where that is told; of more than the limit it is the first bytes,
+-- one over it.
 abbrev pub IsTextOf : FilesState → File → List ℕ → Type 0
 IsTextOf known file text = IfSome (known.told file.name) (λ told. text ≡ take (limit_of file.kind + 1) told)
 

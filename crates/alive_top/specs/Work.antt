@@ -24,7 +24,8 @@ use Rattle.alive_top.specs.declared.status.Status.TheVariants.{Done, NotAll}
 use Rattle.load_text.specs.RuleText.{IsRuleText}
 use Rattle.alive_top.specs.Task.{Task, Verify, Optimise, Run, Load, Recheck}
 
--- a text for the output, a report for the error stream, a table of verdicts, the proofs beside it, and the status once both are written
+-- a text for the output, a report for the error stream, a table of verdicts, the proofs beside it, and the status once
+-- both are written
 pub record Work : Type 0 where
   pub text : List ℕ
   pub report : List ℕ
@@ -42,7 +43,8 @@ pub record IsVerdictWork (rules : List Rule) (options : VerifyOptions) (work : W
   pub no_proofs : work.proofs ≡ []
   pub status : work.status ≡ (if verified.all_admitted then Done else NotAll)
 
--- With `--logs` the output is the text of the proofs of those that are admitted, and these are handed back with the sets that they refute.
+-- With `--logs` the output is the text of the proofs of those that are admitted, and these are handed back with the
+-- sets that they refute.
 pub record IsProofWork (rules : List Rule) (options : VerifyOptions) (work : Work) : Type 0 where
   pub proved : Proved
   pub right : IsProved rules options.widths options.conflicts proved
@@ -73,7 +75,8 @@ IsPrinted rules options source out report table = (length source ≤ most_bytes)
 abbrev pub HasProofs : List Rule → List ℕ → Type 0
 HasProofs rules text = (proofs : List Proof) × IsTextOfGood rules text proofs
 
--- `optimise` writes the module that may stand in the place of the one read, and a report. The verdicts that it asked for are the table.
+-- `optimise` writes the module that may stand in the place of the one read, and a report. The verdicts that it asked
+-- for are the table.
 pub record IsOptimiseWork (rules : List Rule) (options : OptimiseOptions) (source : List ℕ) (work : Work) : Type 0 where
   pub prints : IsPrinted rules options source work.text work.report work.table
   pub no_proofs : work.proofs ≡ []
@@ -87,7 +90,8 @@ pub record IsRunWork (source name : List ℕ) (arguments : List (List ℕ)) (opt
   pub no_proofs : work.proofs ≡ []
   pub status : work.status ≡ Done
 
--- `load` writes what comes of the module that is made of the number by the built-in rules. The verdicts that it asked for are the table.
+-- `load` writes what comes of the module that is made of the number by the built-in rules. The verdicts that it asked
+-- for are the table.
 pub record IsLoadWork (number : ℕ) (work : Work) : Type 0 where
   pub loaded : IsLoaded number work.text work.table
   pub report : work.report ≡ []

@@ -2,7 +2,8 @@
 
 ghost use Rattle.alive_top.specs.OutcomeLaws.{ModulesWrittenHaveOutcomes};
 
-/// Each function of a module that `optimise` writes has an outcome at all arguments, after any number of blocks entered.
+/// Each function of a module that `optimise` writes has an outcome at all arguments, after any number of blocks
+/// entered.
 pub fn every_module_written_has_outcomes()
     ensures { ModulesWrittenHaveOutcomes }
 {

@@ -66,11 +66,13 @@ fn optimised(alloc: Global, module: &Module) -> Result<Done, AllocError>
     Ok(done)
 }
 
-/// Generates the module of a number with 200 functions, rewrites it by the built-in rules as `optimise` does where the words tell no
-/// limits, and says how many instructions it had before and has after, how often functions were rewritten, and how many are limited.
+/// Generates the module of a number with 200 functions, rewrites it by the built-in rules as `optimise` does where the
+/// words tell no limits, and says how many instructions it had before and has after, how often functions were
+/// rewritten, and how many are limited.
 ///
-/// The only error is want of memory. Were a verdict another than `Admitted`, that would be answered so too. It doesn't come to that: at
-/// the widths that are generated, 3 to 5, no built-in rule has more than 12 bits of input, so that each is decided, and all are valid.
+/// The only error is want of memory. Were a verdict another than `Admitted`, that would be answered so too. It doesn't
+/// come to that: at the widths that are generated, 3 to 5, no built-in rule has more than 12 bits of input, so that
+/// each is decided, and all are valid.
 pub fn load(alloc: Global, number: u32) -> Result<Loaded, AllocError>
     ensures { IfOk result (λ loaded. IsLoaded number loaded.text.items loaded.table) }
 {

@@ -24,17 +24,18 @@ use verdict_core::Table;
 pub struct Optimised {
     /// The text of the module.
     pub out: Vec<u8>,
-    /// The texts of the verdicts in order, and then for each function how often it was rewritten and whether it is limited.
+    /// The texts of the verdicts in order, and then for each function how often it was rewritten and whether it is
+    /// limited.
     pub report: Vec<u8>,
     /// The verdicts in the order in which they were first asked for.
     pub table: Table,
 }
 
-/// What is written for the text of a module: what the plain strategy gives for it by rules that were read, and the report. What is
-/// written, however long, is the text of that module again.
+/// What is written for the text of a module: what the plain strategy gives for it by rules that were read, and the
+/// report. What is written, however long, is the text of that module again.
 ///
-/// `Refused` tells the text's first fault. Beside [`read_module`]'s and [`strategy::optimise`]'s it takes as many steps as the texts that
-/// are written have bytes.
+/// `Refused` tells the text's first fault. Beside [`read_module`]'s and [`strategy::optimise`]'s it takes as many steps
+/// as the texts that are written have bytes.
 pub fn optimise(
     alloc: Global,
     bytes: &[u8],

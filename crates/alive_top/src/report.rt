@@ -31,7 +31,8 @@ fn push_table(out: &mut Vec<u8>, rules: &[Rule], table: &[Row]) -> Result<(), Al
     Ok(())
 }
 
-/// The report on what the strategy gave by these rules: the texts of its verdicts in order, and then the line of each function.
+/// The report on what the strategy gave by these rules: the texts of its verdicts in order, and then the line of each
+/// function.
 ///
 /// The only error is want of memory.
 pub(crate) fn print_optimised(

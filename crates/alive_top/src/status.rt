@@ -55,8 +55,8 @@ impl Status {
 #[derive(Debug, Drop)]
 pub struct Ended {
     pub status: Status,
-    /// The verdicts that were decided, where the work was done: under `verify` and `recheck` in the order of rules and typings or of proofs,
-    /// and under `optimise` and `load` in the order in which they were first asked for.
+    /// The verdicts that were decided, where the work was done: under `verify` and `recheck` in the order of rules and
+    /// typings or of proofs, and under `optimise` and `load` in the order in which they were first asked for.
     pub table: Table,
     /// Under `verify --logs`, where the work was done, a refutation for each verdict that is `Admitted`, in order.
     pub proofs: Refutations,

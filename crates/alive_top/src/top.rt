@@ -162,22 +162,24 @@ fn run_words<F: Files, O: Sink, E: Sink>(
 
 /// Runs the command that the words name, of which the first is the program's own name.
 ///
-/// `verify RULES [--widths LIST] [--conflicts N] [--logs]` decides each rule of a file at each of its typings over the list of widths, and
-/// writes the verdicts to `out`. A verdict is `admitted` only where the rule is valid there, and a counterexample is one. With `--logs` it
-/// writes the proofs of the rules that are admitted in place of the verdicts.
+/// `verify RULES [--widths LIST] [--conflicts N] [--logs]` decides each rule of a file at each of its typings over the
+/// list of widths, and writes the verdicts to `out`. A verdict is `admitted` only where the rule is valid there, and a
+/// counterexample is one. With `--logs` it writes the proofs of the rules that are admitted in place of the verdicts.
 ///
-/// `recheck RULES LOGS [--conflicts N]` reads such proofs, and decides what they are of: by its log where that refutes the counterexamples,
-/// and else by a search.
+/// `recheck RULES LOGS [--conflicts N]` reads such proofs, and decides what they are of: by its log where that refutes
+/// the counterexamples, and else by a search.
 ///
-/// `optimise RULES MODULE [--conflicts N] [--steps N] [--logs LOGS]` reads both files and writes the module to `out`, each function rewritten by the
-/// rules where they match and are admitted, with its needed instructions alone; and to `err` the verdicts that it asked for, and how often
-/// each function was rewritten. What it writes may stand in the place of what it read. With `--logs LOGS` it reads proofs too, and a
-/// verdict is asked of the log that is stored for it before there is a search.
+/// `optimise RULES MODULE [--conflicts N] [--steps N] [--logs LOGS]` reads both files and writes the module to `out`,
+/// each function rewritten by the rules where they match and are admitted, with its needed instructions alone; and to
+/// `err` the verdicts that it asked for, and how often each function was rewritten. What it writes may stand in the
+/// place of what it read. With `--logs LOGS` it reads proofs too, and a verdict is asked of the log that is stored for
+/// it before there is a search.
 ///
-/// `run [--blocks N] MODULE NAME [ARG..]` runs a function of a module and writes what it returned, that its behaviour is undefined, or
-/// where it was after so many blocks.
+/// `run [--blocks N] MODULE NAME [ARG..]` runs a function of a module and writes what it returned, that its behaviour
+/// is undefined, or where it was after so many blocks.
 ///
-/// A rule file of more than 1 MiB, a module of more than 16 MiB and proofs of more than 64 MiB are refused. The status says how it ended.
+/// A rule file of more than 1 MiB, a module of more than 16 MiB and proofs of more than 64 MiB are refused. The status
+/// says how it ended.
 pub fn alive<F: Files, O: Sink, E: Sink>(
     alloc: Global,
     words: &Vec<String>,
@@ -190,10 +192,11 @@ pub fn alive<F: Files, O: Sink, E: Sink>(
     ensures ends { Ends (map string_bytes words.now.items) (F.state files.old) (F.state files.new)
         (O.state out.old) (O.state out.new) (E.state err.old) (E.state err.new) result }
 
-    // With status 0 or 1 the task was done on texts of its files, and all verdicts handed back are honest. `verify` wrote
-    // one for each rule and typing, or the proofs of those that are admitted, and `recheck` one for each proof: 0 says
-    // that all are. `optimise` wrote the module that the plain strategy gives by them, which may stand in the place of
-    // the one read, and a report; `run` an outcome of its function, and `load` five lines on a module of its number.
+    // With status 0 or 1 the task was done on texts of its files, and all verdicts handed back are honest. `verify`
+    // wrote one for each rule and typing, or the proofs of those that are admitted, and `recheck` one for each proof: 0
+    // says that all are. `optimise` wrote the module that the plain strategy gives by them, which may stand in the
+    // place of the one read, and a report; `run` an outcome of its function, and `load` five lines on a module of its
+    // number.
     ensures done { (task : Task) → Asks (map string_bytes words.now.items) task → IsDone result.status
         → OfSomeTexts (F.state files.old) task (λ texts. HasDone task texts
         (O.state out.old) (O.state out.new) (E.state err.old) (E.state err.new) result) }

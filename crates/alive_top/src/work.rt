@@ -27,7 +27,8 @@ use std::alloc::{AllocError, Global};
 use stored_logs::Refutations;
 use verdict_core::Table;
 
-/// What a command writes: a text for the output, and a report. Beside them the verdicts, the proofs, and the status once both are written.
+/// What a command writes: a text for the output, and a report. Beside them the verdicts, the proofs, and the status
+/// once both are written.
 #[derive(Drop)]
 pub(crate) struct Work {
     pub(crate) text: Vec<u8>,

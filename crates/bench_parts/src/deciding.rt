@@ -1,8 +1,9 @@
-//! Rules that are decided: the circuit of each, its clauses, the search and the check of its log. A line is printed of each.
+//! Rules that are decided: the circuit of each, its clauses, the search and the check of its log. A line is printed of
+//! each.
 //!
-//! The words are `RULES CONFLICTS`, a file of rules whose types are written and the most clauses that a search learns; `untimed` after
-//! them leaves all but the answers out, and `--dimacs FOLDER` has the clause set of each rule written to `FOLDER/PLACE.cnf`, by its
-//! place in the file, from 0.
+//! The words are `RULES CONFLICTS`, a file of rules whose types are written and the most clauses that a search learns;
+//! `untimed` after them leaves all but the answers out, and `--dimacs FOLDER` has the clause set of each rule written
+//! to `FOLDER/PLACE.cnf`, by its place in the file, from 0.
 
 ghost use Rattle.std.specs.Prelude.{◌≤◌, IfOk, All};
 ghost use Rattle.rule_core.specs.Checks.{IsRule};

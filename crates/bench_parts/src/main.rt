@@ -1,8 +1,9 @@
 //! Measures parts of the work: how modules are read, how sets of clauses are searched, and how rules are decided.
 //!
-//! Its words are `read MODULE`, `search SET [untimed]` or `verify RULES CONFLICTS [untimed | --dimacs FOLDER]`, of which the modules
-//! `reading`, `searching` and `deciding` say more. Without words it reads three modules that it makes, searches the set of 7 pigeons,
-//! and decides the rules of `rules.alive`, and tells no times. Its status is 0 unless it fails; then a line on the error stream says why.
+//! Its words are `read MODULE`, `search SET [untimed]` or `verify RULES CONFLICTS [untimed | --dimacs FOLDER]`, of
+//! which the modules `reading`, `searching` and `deciding` say more. Without words it reads three modules that it
+//! makes, searches the set of 7 pigeons, and decides the rules of `rules.alive`, and tells no times. Its status is 0
+//! unless it fails; then a line on the error stream says why.
 #![tactic(auto)]
 
 mod deciding;

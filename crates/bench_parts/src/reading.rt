@@ -1,7 +1,7 @@
 //! Modules of LLVM IR that are read, and how much they have.
 //!
-//! The word is the name of the module's file. Three modules are made: a chain of 20,000 blocks, a ring of 5,000 blocks that no run
-//! reaches, and a switch of 20,000 cases.
+//! The word is the name of the module's file. Three modules are made: a chain of 20,000 blocks, a ring of 5,000 blocks
+//! that no run reaches, and a switch of 20,000 cases.
 
 mod counts;
 mod made;

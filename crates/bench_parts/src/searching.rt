@@ -1,6 +1,7 @@
 //! Sets of clauses that are searched, and the checker of logs beside the search.
 //!
-//! The words are `random INPUTS CLAUSES SEED`, `pigeonhole PIGEONS` or `parity INPUTS SEED`, and `untimed` after them leaves the times out.
+//! The words are `random INPUTS CLAUSES SEED`, `pigeonhole PIGEONS` or `parity INPUTS SEED`, and `untimed` after them
+//! leaves the times out.
 
 mod clause_sets;
 mod command;

@@ -4,23 +4,11 @@ use Rattle.std.proofs.lemmas.Bool.{cases_eq}
 use Rattle.std.proofs.lemmas.List.{get_or-set_same, get_or-set_other}
 use Rattle.clauses.specs.Literal.{Lit, code_of, is_same}
 use Rattle.clauses.specs.Propagation.{is_held}
-use Rattle.clauses.proofs.Held.{is_same-self, is_same-true}
+use Rattle.clauses.proofs.Held.{is_same-self, is_same-true, same_code}
 use Rattle.depth_first.specs.declared.trail.Entry.{Entry}
 use Rattle.depth_first.specs.TrailEntries.{literals, IsHeldTable, IsOpen}
 use Rattle.depth_first.proofs.HeldLists.{open_not_held}
 use Rattle.depth_first.proofs.TrailTable.{held-push, or-false}
-
-same_parts : (n m : ℕ) (a b : Bool) → 2 * n + (if a then 1 else 0) ≡ 2 * m + (if b then 1 else 0) → (n ≡ m) × (a ≡ b)
-same_parts n m true true e = (omega (arith, e), refl)
-same_parts n m false false e = (omega (arith, e), refl)
-same_parts n m true false e = absurd (omega (arith, e))
-same_parts n m false true e = absurd (omega (arith, e))
-
--- literals of one code are the same
-same_code : (l m : Lit) → code_of l ≡ code_of m → l ≡ m
-same_code l m e =
-    let parts = same_parts l.variable m.variable l.negated m.negated e in
-    ap (λ n. record { variable = n; negated = l.negated }) parts.0 ∙ ap (λ b. record { variable = m.variable; negated = b }) parts.1
 
 not_true : (b : Bool) → (b ≡ true → ⊥) → b ≡ false
 not_true true h = absurd (h refl)

@@ -31,8 +31,8 @@ IsTouched entries from clause =
 abbrev pub StandsFrom : List ℕ → ℕ → ℕ → Type 0
 StandsFrom numbers from number = (place : ℕ) × (from ≤ place) × (slice_get numbers place ≡ Some number)
 
--- Propagation has come to the head: each clause is propagated, or an entry from the head on touched it. The entries from
--- the head on are the propagation queue.
+-- Propagation has come to the head: each clause is propagated, or an entry from the head on touched it. The entries
+-- from the head on are the propagation queue.
 abbrev pub IsPropagatedUpTo : List (List Lit) → List Entry → ℕ → Type 0
 IsPropagatedUpTo clauses entries head =
     (number : ℕ) (clause : List Lit) → slice_get clauses number ≡ Some clause →

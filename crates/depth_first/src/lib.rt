@@ -22,4 +22,4 @@ mod trail;
 pub use depth_first::search;
 pub use found::{Assignment, Found};
 pub use learned::{numbered, refutation};
-pub use trail::{Cause, Entry, Trail};
+pub use trail::{Cause, Entry, Trail, code_of};

@@ -27,13 +27,14 @@ pub struct Entry {
     pub cause: Cause,
 }
 
-/// The literals that are held, in the order in which they came, and the tables of the variables' values and of what is held.
+/// The literals that are held, in the order in which they came, and the tables of the variables' values and of what is
+/// held.
 #[derive(Debug, Drop)]
 pub struct Trail {
     pub entries: Vec<Entry>,
     /// The value of each variable that is set; place 0 belongs to none.
     pub values: Vec<Option<bool>>,
-    /// Whether each literal is held, by its code: twice the number of its variable, and one more where it is negated.
+    /// Whether each literal is held, by its code.
     pub held: Vec<bool>,
     pub ghost table: { IsTableOf values.items entries.items },
     pub ghost codes: { length held.items ≡ 2 * length values.items },
@@ -42,8 +43,9 @@ pub struct Trail {
     pub ghost counted: { open_count values.items + length entries.items ≡ length values.items },
 }
 
-/// The code of a literal.
-fn code_of(literal: Lit) -> usize
+/// The code of a literal, by which tables of literals have their places: twice the number of its variable, and one more
+/// where it is negated (MiniSat).
+pub fn code_of(literal: Lit) -> usize
     ensures { result ≡ code_of literal }
 {
     2 * literal.variable() as usize + usize::from(literal.is_negated())

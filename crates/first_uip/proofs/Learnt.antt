@@ -1,12 +1,12 @@
 -- The state after a conflict.
-use Rattle.std.proofs.Common.{◌≡◌, ℕ, ◌+◌, ◌<◌, ◌≤◌, true, false, List, [], ◌∷◌, ◌++◌, Option, Some, None, length, take, sym, ap, ◌∙◌, arith, inl, inr, subst}
+use Rattle.std.proofs.Common.{◌≡◌, ℕ, ◌+◌, ◌*◌, ◌<◌, ◌≤◌, true, false, List, [], ◌∷◌, ◌++◌, Option, Some, None, length, take, sym, ap, ◌∙◌, arith, inl, inr, subst}
 use Rattle.std.specs.Prelude.{slice_get, MatchOption, All}
 use Rattle.std.proofs.lemmas.Bool.{cases_Bool, true≢false}
 use Rattle.std.proofs.lemmas.List.{length-take-le}
 use Rattle.std.proofs.lemmas.List.Elements.{All-nil}
 use Rattle.clauses.specs.declared.cnf.Cnf.{Cnf}
 use Rattle.clauses.specs.declared.step.Step.{Step}
-use Rattle.clauses.specs.Literal.{Lit, is_same, IsWithin}
+use Rattle.clauses.specs.Literal.{Lit, code_of, is_same, IsWithin}
 use Rattle.clauses.specs.Propagation.{IsUnit, NamesUnit, is_held, is_false}
 use Rattle.clauses.specs.ClauseSet.{StepFollows, IsNew, clauses_with}
 use Rattle.clauses.proofs.Held.{is_same-true}
@@ -19,6 +19,7 @@ use Rattle.depth_first.specs.DepthFirst.{IsLearned, IsSatisfied}
 use Rattle.depth_first.proofs.Lists.{slice_get_below, slice_get_last, slice_get_left, slice_get_push_cases, slice_get_take, take_in_take, take_left, take_whole, take_take_below}
 use Rattle.depth_first.proofs.HeldLists.{HeldWithin-take, held_last, literals-append, open_within, open_not_false}
 use Rattle.depth_first.proofs.Open.{variable_within}
+use Rattle.depth_first.proofs.HeldTable.{code_within}
 use Rattle.depth_first.proofs.States.{LogFollows-push, LogIsNew-push, NoneEmpty-push}
 use Rattle.depth_first.specs.TrailEntries.{EachForced}
 use Rattle.first_uip.specs.declared.watches.Watches.{Watches}
@@ -43,12 +44,14 @@ pub watch_pair : (entries : List Entry) (jump : ℕ) (clause : List Lit) (u : Li
 watch_pair entries jump clause u None w is another = subst IsPair (sym is) tt
 watch_pair entries jump clause u (Some o) w is (stands, differs, kept) = subst IsPair (sym is) differs
 
-pub watch_within : (set : Cnf) (n : ℕ) (entries : List Entry) (jump : ℕ) (clause : List Lit) (u : Lit) (other : Option Lit) (w : Watched) → n ≡ set.count + 1 → IsWithin set.count clause → IsWatchFor u other w → IsAsserting entries jump clause u → IsOther entries jump clause u other → All (λ (l : Lit). l.variable < n) (watched_literals w)
-watch_within set n entries jump clause u None w room within is asserting another =
-    subst (λ v. All (λ (l : Lit). l.variable < n) (watched_literals v)) (sym is) (All-nil (λ (l : Lit). l.variable < n))
-watch_within set n entries jump clause u (Some o) w room within is asserting (stands, differs, kept) =
-    subst (λ v. All (λ (l : Lit). l.variable < n) (watched_literals v)) (sym is)
-    (All-two (λ (l : Lit). l.variable < n) u o (omega (arith, room, (variable_within set.count clause u within asserting.stands).1)) (omega (arith, room, (variable_within set.count clause o within stands).1)))
+pub watch_within : (set : Cnf) (size : ℕ) (entries : List Entry) (jump : ℕ) (clause : List Lit) (u : Lit) (other : Option Lit) (w : Watched) → size ≡ 2 * (set.count + 1) → IsWithin set.count clause → IsWatchFor u other w → IsAsserting entries jump clause u → IsOther entries jump clause u other → All (λ (l : Lit). code_of l < size) (watched_literals w)
+watch_within set size entries jump clause u None w room within is asserting another =
+    subst (λ v. All (λ (l : Lit). code_of l < size) (watched_literals v)) (sym is) (All-nil (λ (l : Lit). code_of l < size))
+watch_within set size entries jump clause u (Some o) w room within is asserting (stands, differs, kept) =
+    let fits : (l : Lit) → is_held clause l ≡ true → code_of l < size =
+    λ l h. code_within l (set.count + 1) size (omega (arith, (variable_within set.count clause l within h).1)) room in
+    subst (λ v. All (λ (l : Lit). code_of l < size) (watched_literals v)) (sym is)
+    (All-two (λ (l : Lit). code_of l < size) u o (fits u asserting.stands) (fits o stands))
 
 -- the asserted literal is open before any earlier decision too
 open_before : (entries : List Entry) (jump k : ℕ) (clause : List Lit) (u : Lit) → k ≤ jump → IsAsserting entries jump clause u → IsOpen (literals (take k entries)) u.variable

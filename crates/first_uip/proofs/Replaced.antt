@@ -1,5 +1,5 @@
 -- What is mapped from a list where one element is replaced, or dropped as the last takes its place.
-use Rattle.std.proofs.Common.{◌≡◌, ℕ, ◌-◌, ◌<◌, List, [], ◌∷◌, length, map, take, set, get_or, Contains, All, refl, sym, ap, ◌∙◌, arith}
+use Rattle.std.proofs.Common.{◌≡◌, ℕ, ◌-◌, ◌<◌, List, [], ◌∷◌, length, map, take, set, get_or, All, refl, sym, ap, ◌∙◌, arith}
 use Rattle.std.specs.List.{swap_remove}
 use Rattle.std.proofs.lemmas.List.{get_or-map, map-set, set-get_or, take-map, length-map}
 use Rattle.std.proofs.lemmas.List.Elements.{All-head, All-tail}

@@ -1,41 +1,34 @@
 -- The lists of watchers where one of them changed.
-use Rattle.std.proofs.Common.{◌≡◌, ◌≢◌, ℕ, ◌<◌, ◌⊎◌, Bool, true, false, List, [], ◌∷◌, ◌++◌, length, length-set, set, get_or, Contains, if◌then◌else◌, sym, ap, ◌∙◌, arith, inl, inr, subst}
-use Rattle.std.proofs.lemmas.Bool.{cases_eq}
+use Rattle.std.proofs.Common.{◌≡◌, ℕ, ◌<◌, ◌⊎◌, false, List, [], ◌∷◌, ◌++◌, length, length-set, set, get_or, Contains, sym, ap, ◌∙◌, arith, inl, inr, subst}
+use Rattle.std.proofs.lemmas.Bool.{cases_Bool, cases_eq, true≢false}
 use Rattle.std.proofs.lemmas.List.{get_or-set_same, get_or-set_other}
 use Rattle.std.proofs.lemmas.List.Elements.{Contains-push_cases}
-use Rattle.clauses.specs.Literal.{Lit}
+use Rattle.clauses.specs.Literal.{Lit, code_of, is_same}
+use Rattle.clauses.proofs.Held.{is_same-self, is_same-true, same_code}
 use Rattle.first_uip.specs.declared.watchers.Watcher.{Watcher}
 use Rattle.first_uip.specs.declared.watches.Watches.{Watches}
 use Rattle.first_uip.specs.Watching.{KeepsOnly}
 
--- what holds from the lists of before to those of now, if it holds where nothing changed
-module _ (P : List Watcher → List Watcher → Type 0) (same : (xs : List Watcher) → P xs xs) where
-  pub each_but : (old new : List (List Watcher)) (v : ℕ) → P (get_or old v []) (get_or new v []) → ((n : ℕ) → n ≢ v → get_or new n [] ≡ get_or old n []) → (n : ℕ) → P (get_or old n []) (get_or new n [])
-  each_but old new v here others n =
-      elim (cases_eq n v) [
-        | inl is ↦ subst (λ m. P (get_or old m []) (get_or new m [])) (sym is) here
-        | inr differ ↦ subst (P (get_or old n [])) (sym (others n differ)) (same (get_or old n []))
+-- the lists by codes, of which that of one literal changed
+module _ (old new : List (List Watcher)) (l : Lit) (changed : List Watcher) (within : code_of l < length old) (is : new ≡ set old (code_of l) changed) where
+  list_here : get_or new (code_of l) [] ≡ changed
+  list_here = ap (λ ls. get_or ls (code_of l) []) is ∙ get_or-set_same old (code_of l) changed [] within
+
+  list_elsewhere : (m : Lit) → is_same m l ≡ false → get_or new (code_of m) [] ≡ get_or old (code_of m) []
+  list_elsewhere m differ =
+      ap (λ ls. get_or ls (code_of m) []) is
+      ∙ get_or-set_other old (code_of l) (code_of m) changed []
+      (λ same. true≢false (sym (ap (λ x. is_same x l) (same_code m l same) ∙ is_same-self l) ∙ differ))
+
+  -- what holds of each list and itself, and of the one that changed, holds of each
+  pub each_list : (P : List Watcher → List Watcher → Type 0) → ((xs : List Watcher) → P xs xs) → P (get_or old (code_of l) []) changed → (m : Lit) → P (get_or old (code_of m) []) (get_or new (code_of m) [])
+  each_list P same here m =
+      elim (cases_Bool (is_same m l)) [
+        | inl one ↦
+            subst (λ k. P (get_or old (code_of k) []) (get_or new (code_of k) [])) (sym (is_same-true m l one))
+            (subst (P (get_or old (code_of l) [])) (sym list_here) here)
+        | inr differ ↦ subst (P (get_or old (code_of m) [])) (sym (list_elsewhere m differ)) (same (get_or old (code_of m) []))
       ]
-
-  pub each-set : (old new : List (List Watcher)) (v : ℕ) (xs : List Watcher) → v < length old → new ≡ set old v xs → P (get_or old v []) xs → (n : ℕ) → P (get_or old n []) (get_or new n [])
-  each-set old new v xs within is here =
-      each_but old new v
-      (subst (P (get_or old v [])) (sym (ap (λ ls. get_or ls v []) is ∙ get_or-set_same old v xs [] within)) here)
-      (λ n differ. ap (λ ls. get_or ls n []) is ∙ get_or-set_other old v n xs [] differ)
-
-  side : (b : Bool) (kept old new : List (List Watcher)) (v : ℕ) → ((n : ℕ) → P (get_or old n []) (get_or new n [])) → P (get_or (if b then old else kept) v []) (get_or (if b then new else kept) v [])
-  side true kept old new v each = each v
-  side false kept old new v each = same (get_or kept v [])
-
-  other_side : (b : Bool) (kept old new : List (List Watcher)) (v : ℕ) → ((n : ℕ) → P (get_or old n []) (get_or new n [])) → P (get_or (if b then kept else old) v []) (get_or (if b then kept else new) v [])
-  other_side true kept old new v each = same (get_or kept v [])
-  other_side false kept old new v each = each v
-
-  pub negative_changed : (kept old new : List (List Watcher)) → ((n : ℕ) → P (get_or old n []) (get_or new n [])) → (l : Lit) → P (get_or (if l.negated then old else kept) l.variable []) (get_or (if l.negated then new else kept) l.variable [])
-  negative_changed kept old new each l = side l.negated kept old new l.variable each
-
-  pub positive_changed : (kept old new : List (List Watcher)) → ((n : ℕ) → P (get_or old n []) (get_or new n [])) → (l : Lit) → P (get_or (if l.negated then kept else old) l.variable []) (get_or (if l.negated then kept else new) l.variable [])
-  positive_changed kept old new each l = other_side l.negated kept old new l.variable each
 
 -- one list has nothing but what it had, and what is new
 abbrev pub Keeps : (Watcher → Type 0) → List Watcher → List Watcher → Type 0

@@ -46,8 +46,8 @@ pub record Sees (clause : List Lit) (old new : List Role) : Type 0 where
 abbrev pub NamesSeen : List (List Lit) → List Role → ℕ → Type 0
 NamesSeen clauses roles number = (clause : List Lit) → slice_get clauses number ≡ Some clause → AllSeen roles clause
 
--- What the conflict rests on is seen: the variables of the clause that is false, and, at the entries from a place on that
--- are seen and not kept, those of their reasons.
+-- What the conflict rests on is seen: the variables of the clause that is false, and, at the entries from a place on
+-- that are seen and not kept, those of their reasons.
 pub record IsResolution (clauses : List (List Lit)) (entries : List Entry) (conflict from : ℕ) (roles : List Role) : Type 0 where
   pub falsified : NamesSeen clauses roles conflict
   pub reasons_too : (place : ℕ) (e : Entry) → from ≤ place → slice_get entries place ≡ Some e → is_seen (part_of roles e) ≡ true → is_kept (part_of roles e) ≡ false → (number : ℕ) × (e.cause ≡ Reason number) × NamesSeen clauses roles number
@@ -94,8 +94,8 @@ kept_entries roles entries = filter (λ (e : Entry). is_kept (part_of roles e)) 
 abbrev pub resolved_entries : List Role → List Entry → List Entry
 resolved_entries roles entries = filter (λ (e : Entry). is_resolved (part_of roles e)) entries
 
--- The parts in the end: what the conflict rests on is resolved, but for the implication point of the level that begins at
--- a decision, and entries before that, which may be kept.
+-- The parts in the end: what the conflict rests on is resolved, but for the implication point of the level that begins
+-- at a decision, and entries before that, which may be kept.
 pub record IsAnalysis (clauses : List (List Lit)) (entries : List Entry) (roles : List Role) (conflict start point : ℕ) : Type 0 where
   pub resolution : IsResolution clauses entries conflict 0 roles
   pub entry : Entry

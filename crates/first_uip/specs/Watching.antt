@@ -1,6 +1,6 @@
 -- Watched literals: which clauses have to be looked at when a literal becomes false (Chaff).
-use Rattle.std.specs.Prelude.{Contains, ◌≡◌, ℕ, ◌<◌, ◌++◌, ◌⊎◌, true, false, List, [], ◌∷◌, Some, if◌then◌else◌, length, take, slice_get, slice_index_or}
-use Rattle.clauses.specs.Literal.{Lit, is_same}
+use Rattle.std.specs.Prelude.{Contains, ◌≡◌, ℕ, ◌*◌, ◌<◌, ◌++◌, ◌⊎◌, true, false, List, [], ◌∷◌, Some, length, take, slice_get, slice_index_or}
+use Rattle.clauses.specs.Literal.{Lit, code_of, is_same}
 use Rattle.clauses.specs.Propagation.{is_held, is_false}
 use Rattle.depth_first.specs.declared.trail.Entry.{Entry}
 use Rattle.depth_first.specs.TrailEntries.{literals, is_decision}
@@ -19,16 +19,15 @@ watched_literals (Two first second) = first ∷ second ∷ []
 
 -- what is kept for a literal
 abbrev pub watchers_of : Watches → Lit → List Watcher
-watchers_of watches l = slice_index_or (if l.negated then watches.negative.items else watches.positive.items) l.variable []
+watchers_of watches l = slice_index_or watches.lists.items (code_of l) []
 
 -- the numbers that are kept for a literal
 abbrev pub numbers_of : Watches → Lit → List ℕ
 numbers_of watches l = numbers_in (watchers_of watches l)
 
 -- there is a list for each literal of the variables below this number
-pub record CoversBelow (n : ℕ) (watches : Watches) : Type 0 where
-  pub positive : length watches.positive.items ≡ n
-  pub negative : length watches.negative.items ≡ n
+abbrev pub CoversBelow : ℕ → Watches → Type 0
+CoversBelow n watches = length watches.lists.items ≡ 2 * n
 
 -- the lists after a number is added for one literal
 pub record AddsNumber (old new : Watches) (l : Lit) (number : ℕ) : Type 0 where
@@ -82,7 +81,8 @@ EachLevelGuarded clauses watched entries =
     (place : ℕ) (e : Entry) → slice_get entries place ≡ Some e → is_decision e.cause ≡ true →
     EachGuarded clauses watched (literals (take place entries)) (literals (take place entries))
 
--- The watches of the clauses of an arena: each has them, they are listed, and each level but the last is closed by them.
+-- The watches of the clauses of an arena: each has them, they are listed, and each level but the last is closed by
+-- them.
 pub record IsWatching (clauses : List (List Lit)) (watches : Watches) (entries : List Entry) : Type 0 where
   pub same : clauses_in watches.arena ≡ clauses
   pub count : length (watched_in watches.arena) ≡ length clauses

@@ -14,7 +14,8 @@ pub(crate) enum Watched {
     Two(Lit, Lit),
 }
 
-/// A clause: the two literals that it watches, or one twice where it watches none, and where its literals begin and end.
+/// A clause: the two literals that it watches, or one twice where it watches none, and where its literals begin and
+/// end.
 #[derive(Clone, Copy, Debug)]
 pub(crate) struct Header {
     first: Lit,

@@ -47,13 +47,12 @@ fn watched_beside(watched: Watched, literal: Lit) -> Option<Lit>
     match watched {
         Watched::Alone => None,
         Watched::Two(first, second) => {
-            if first == literal {
-                Some(second)
-            } else if second == literal {
-                Some(first)
+            let (one, other) = if first == literal {
+                (first, second)
             } else {
-                None
-            }
+                (second, first)
+            };
+            if one == literal { Some(other) } else { None }
         }
     }
 }

@@ -1,4 +1,5 @@
--- What `load` writes of a number: how large the generated module is, and what the plain strategy makes of it by the built-in rules.
+-- What `load` writes of a number: how large the generated module is, and what the plain strategy makes of it by the
+-- built-in rules.
 use Rattle.std.specs.Prelude.{◌≡◌, ℕ, Bool, List, length, ◌++◌, All, sum, sum_by, count_by, codes, decimal}
 use Rattle.ir_core.specs.declared.module.Module.{Module}
 use Rattle.ir_core.specs.declared.module.Entry.{Entry}
@@ -39,8 +40,8 @@ instructions_in m = sum_by instructions_of_entry m.entries
 abbrev pub count_line : List ℕ → ℕ → List ℕ
 count_line text n = text ++ decimal n ++ codes "\n"
 
--- The lines on a module with so many functions and instructions, on the one that the strategy gives for it, on how often its functions
--- were rewritten, and on how many of them are limited.
+-- The lines on a module with so many functions and instructions, on the one that the strategy gives for it, on how
+-- often its functions were rewritten, and on how many of them are limited.
 abbrev pub load_text : ℕ → ℕ → Module → List ℕ → List Bool → List ℕ
 load_text functions before new counts limited =
     count_line (codes "functions ") functions

@@ -1,5 +1,5 @@
-//! What is counted of a module and of what the strategy gives. Where no `usize` counts it, that is answered as for want of memory; no
-//! module that fits in memory has so much.
+//! What is counted of a module and of what the strategy gives. Where no `usize` counts it, that is answered as for want
+//! of memory; no module that fits in memory has so much.
 
 ghost use Rattle.std.specs.Prelude.{◌≡◌, ◌+◌, sum, count_by, IfOk};
 ghost use Rattle.load_text.specs.Load.{instructions_of, instructions_of_entry, instructions_in};

@@ -1,7 +1,7 @@
 //! The texts of `load`: the built-in rules, and the lines on what the plain strategy gives for a module.
 //!
-//! The definitions stand in `specs/`: `Load` says what is written of a number, and `RuleText` which texts are rule files. `Loading` serves
-//! the functions of `load` above.
+//! The definitions stand in `specs/`: `Load` says what is written of a number, and `RuleText` which texts are rule
+//! files. `Loading` serves the functions of `load` above.
 #![tactic(auto)]
 
 mod counting;

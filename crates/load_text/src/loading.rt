@@ -62,14 +62,15 @@ Name: mul-two
 /// What `load` writes, and the verdicts by which it came to be.
 #[derive(Debug, Drop)]
 pub struct Loaded {
-    /// Five lines: how many functions the generated module has, how many instructions before and after, how often functions were
-    /// rewritten, and how many are limited.
+    /// Five lines: how many functions the generated module has, how many instructions before and after, how often
+    /// functions were rewritten, and how many are limited.
     pub text: Vec<u8>,
     /// The verdicts in the order in which they were first asked for, all of them `Admitted`.
     pub table: Table,
 }
 
-/// The built-in rules. Were their text refused, that would be answered as for want of memory; the tests show that it isn't.
+/// The built-in rules. Were their text refused, that would be answered as for want of memory; the tests show that it
+/// isn't.
 pub fn built_in_rules(alloc: Global) -> Result<Vec<Rule>, AllocError>
     ensures text { IfOk result (λ rules. IsRuleText built_in_text rules.items) }
     ensures rules { IfOk result (λ rules. All IsRule rules.items) }

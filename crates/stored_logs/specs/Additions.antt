@@ -24,8 +24,8 @@ pub record AddsProof (rule : Rule) (typing : List ℕ) (old new : Proved) : Type
   pub table : new.table ≡ old.table
   pub all_admitted : new.all_admitted ≡ old.all_admitted
 
--- The rows of a finding about the rule are added, with a refutation for each that is admitted and the text of the proofs; and all stays
--- admitted only where the finding is.
+-- The rows of a finding about the rule are added, with a refutation for each that is admitted and the text of the
+-- proofs; and all stays admitted only where the finding is.
 pub record AddsProofs (rule : Rule) (finding : Finding) (old new : Proved) : Type 0 where
   pub more : List Refutation
   pub right : AllZip (λ row refutation. Refutes rule row.typing refutation) (admitted_in (rows_of finding)) more
@@ -47,7 +47,8 @@ pub record AddsProvedRule (widths : List ℕ) (conflicts place : ℕ) (rule : Ru
   pub right : IsFinding widths conflicts place rule finding
   pub added : AddsProofs rule finding old new
 
--- the verdict on what the proof is of, and its text, are added, and all stays admitted only where the verdict is `Admitted`
+-- the verdict on what the proof is of, and its text, are added, and all stays admitted only where the verdict is
+-- `Admitted`
 pub record AddsVerdict (rules : List Rule) (conflicts : ℕ) (proof : RuleProof) (old new : Rechecked) : Type 0 where
   pub rule : Rule
   pub is : slice_get rules proof.rule ≡ Some rule

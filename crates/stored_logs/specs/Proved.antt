@@ -7,8 +7,8 @@ use Rattle.verdict.specs.Table.{IsHonestTable}
 use Rattle.stored_logs.specs.declared.proved.Proved.{Proved}
 use Rattle.stored_logs.specs.Refutations.{AreRefutationsOf, proofs_text}
 
--- What is handed back is the findings: the table has their rows and is honest; a refutation stands beside each row that is admitted, and the
--- text is that of the proofs which these are; and all is admitted exactly where each finding is.
+-- What is handed back is the findings: the table has their rows and is honest; a refutation stands beside each row that
+-- is admitted, and the text is that of the proofs which these are; and all is admitted exactly where each finding is.
 pub record IsProved (rules : List Rule) (widths : List ℕ) (conflicts : ℕ) (proved : Proved) : Type 0 where
   pub findings : List Finding
   -- a right one for each rule, in order

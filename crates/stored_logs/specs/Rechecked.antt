@@ -11,8 +11,8 @@ use Rattle.verdict.specs.Proved.{IsUnrefutedBy}
 use Rattle.verdict.specs.Table.{IsHonestTable, table_text}
 use Rattle.stored_logs.specs.declared.rechecked.Rechecked.{Rechecked}
 
--- The row is of the rule that the proof names, at the proof's widths, and its verdict is honest; a set that a `Budget` keeps is not
--- refuted by the proof's log.
+-- The row is of the rule that the proof names, at the proof's widths, and its verdict is honest; a set that a `Budget`
+-- keeps is not refuted by the proof's log.
 pub record IsVerdictOn (rules : List Rule) (conflicts : ℕ) (proof : Proof) (row : Row) : Type 0 where
   pub rule : Rule
   pub is : slice_get rules row.rule ≡ Some rule

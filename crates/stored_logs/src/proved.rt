@@ -26,7 +26,8 @@ use verdict_core::{Row, Table};
 /// What is found about a list of rules, and why those are valid that are admitted.
 #[derive(Debug, Drop)]
 pub struct Proved {
-    /// A row for each rule in order and each of its typings in order. A rule that has more than `MOST_TYPINGS` has none.
+    /// A row for each rule in order and each of its typings in order. A rule that has more than `MOST_TYPINGS` has
+    /// none.
     pub table: Table,
     /// A refutation for each row whose verdict is `Admitted`, in order.
     pub refutations: Refutations,
@@ -36,8 +37,8 @@ pub struct Proved {
     pub all_admitted: bool,
 }
 
-/// Decides rules as `verdict::verify` does, and writes in place of the verdicts the proofs of those that are admitted. The only error is
-/// want of memory.
+/// Decides rules as `verdict::verify` does, and writes in place of the verdicts the proofs of those that are admitted.
+/// The only error is want of memory.
 pub fn prove_rules(
     alloc: Global,
     rules: &[Rule],

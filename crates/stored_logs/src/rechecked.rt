@@ -29,8 +29,8 @@ pub struct Rechecked {
     pub all_admitted: bool,
 }
 
-/// Decides what the proofs in a text are of: a rule that a log proves is admitted by it, and else a search decides, which gives up once it
-/// has learned so many clauses.
+/// Decides what the proofs in a text are of: a rule that a log proves is admitted by it, and else a search decides,
+/// which gives up once it has learned so many clauses.
 pub fn recheck(
     alloc: Global,
     rules: &[Rule],

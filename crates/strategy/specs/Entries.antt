@@ -21,7 +21,8 @@ EntryIsReady steps (entries.Function f) = MeetsChecks f × NumbersFit f × IsCou
 abbrev pub EntriesAreReady : ℕ → List Entry → Type 0
 EntriesAreReady steps entries = (place : ℕ) (e : Entry) → slice_get entries place ≡ Some e → EntryIsReady steps e
 
--- The new entries stand in the place of the old ones. Of each that is a function its count is added, and whether it is limited.
+-- The new entries stand in the place of the old ones. Of each that is a function its count is added, and whether it is
+-- limited.
 pub record OptimisesEntries (rules : List Rule) (conflicts steps : ℕ) (old new : List Entry) (before after : Verdicts) (all all' : Counts) : Type 0 where
   pub pairs : List Pair
   pub counts : List ℕ

@@ -56,8 +56,8 @@ abbrev pub LooksAt : List Rule → ℕ → Draft → Place → Verdicts → Verd
 LooksAt rules conflicts d p old new found = (Stands d p.block p.number × AsksAt rules conflicts (arena_of d) p.block p.number old new found)
     ⊎ (¬ Stands d p.block p.number × (found ≡ None) × (new ≡ old))
 
--- A search through the draft's function asks up to the first match that is admitted, which names numbers of the draft, or all if none is.
--- After it all is turned down but for what waits, and that match.
+-- A search through the draft's function asks up to the first match that is admitted, which names numbers of the draft,
+-- or all if none is. After it all is turned down but for what waits, and that match.
 abbrev pub SearchesTo : List Rule → ℕ → Draft → Rows → Verdicts → Verdicts → Option Match → Type 0
 SearchesTo rules conflicts d waiting old new None = AsksAll rules conflicts (function_of d) IsAnywhere old new false
     × AreTurnedDownBut rules new.table Nowhere d waiting

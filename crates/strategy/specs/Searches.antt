@@ -8,7 +8,8 @@ use Rattle.strategy_core.specs.Asked.{Pair}
 use Rattle.verdict.specs.Asks.{Asks}
 use Rattle.strategy_core.specs.PlainStrategy.{IsStep, IsLastSearch, IsOptimised}
 
--- A step is made; or the function stays, and the search was its last, of which none is admitted, however many steps are left.
+-- A step is made; or the function stays, and the search was its last, of which none is admitted, however many steps are
+-- left.
 abbrev pub StepsOrEnds : List Rule → ℕ → Function → Function → Verdicts → Verdicts → Bool → Type 0
 StepsOrEnds rules conflicts f new old verdicts true = (pairs : List Pair) × Asks rules conflicts pairs old verdicts × IsStep rules verdicts.table f new pairs
 StepsOrEnds rules conflicts f new old verdicts false = (pairs : List Pair) × Asks rules conflicts pairs old verdicts × (new ≡ f)

@@ -182,8 +182,8 @@ fn depth_of(rules: &[Rule]) -> usize
     depth
 }
 
-/// Rewrites the function at its first admitted match, and cleans it. It is false if there is none; then the verdicts of all its matches were
-/// asked for.
+/// Rewrites the function at its first admitted match, and cleans it. It is false if there is none; then the verdicts of
+/// all its matches were asked for.
 fn step(
     alloc: Global,
     frontier: &mut Frontier,
@@ -217,7 +217,8 @@ fn step(
     Ok(true)
 }
 
-/// The first match of a draft that is admitted. The verdicts of all matches up to it are asked for, and of all matches if there is none.
+/// The first match of a draft that is admitted. The verdicts of all matches up to it are asked for, and of all matches
+/// if there is none.
 ///
 /// What doesn't wait was turned down before.
 fn next_admitted(
@@ -267,8 +268,8 @@ fn look_at(
     Ok(found)
 }
 
-/// The first match at an instruction of a draft that is admitted. The verdicts of all matches there up to it are asked for, and of all if
-/// there is none.
+/// The first match at an instruction of a draft that is admitted. The verdicts of all matches there up to it are asked
+/// for, and of all if there is none.
 fn admitted_at(
     alloc: Global,
     draft: &Draft,

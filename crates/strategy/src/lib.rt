@@ -1,7 +1,8 @@
 //! What the plain strategy gives for a module: it is defined in `strategy_core`.
 //!
-//! The definitions in `specs/` serve the private functions: `Asking` says when verdicts may be asked for, `Searches` and `Entries` what
-//! becomes of a function and of the entries of a module, and `Frontiers` what is known of a draft between steps.
+//! The definitions in `specs/` serve the private functions: `Asking` says when verdicts may be asked for, `Searches`
+//! and `Entries` what becomes of a function and of the entries of a module, and `Frontiers` what is known of a draft
+//! between steps.
 #![tactic(auto)]
 
 mod frontier;

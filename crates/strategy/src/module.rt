@@ -27,13 +27,14 @@ use std::alloc::{AllocError, Global};
 use strategy_core::{Done, every_match_left_is_decided, every_optimised_module_refines_the_old};
 use verdict::{StoredLogs, Verdicts};
 
-/// What the plain strategy gives for a module: each function is cleaned, and then rewritten at its first admitted match and cleaned, again
-/// and again, until none is left or its steps are spent. A verdict is decided once, when it is first asked for: by the log that is stored
-/// for its pair, or else by a search that may learn `conflicts` clauses. The module that it gives may stand in the place of the old one,
-/// whatever the logs are.
+/// What the plain strategy gives for a module: each function is cleaned, and then rewritten at its first admitted match
+/// and cleaned, again and again, until none is left or its steps are spent. A verdict is decided once, when it is first
+/// asked for: by the log that is stored for its pair, or else by a search that may learn `conflicts` clauses. The
+/// module that it gives may stand in the place of the old one, whatever the logs are.
 ///
-/// Each search goes through the matches in order of place, and looks where one may have come since the search before. At each instruction
-/// the rules are tried whose root is of its kind, in the order of the file. The only error is want of memory.
+/// Each search goes through the matches in order of place, and looks where one may have come since the search before.
+/// At each instruction the rules are tried whose root is of its kind, in the order of the file. The only error is want
+/// of memory.
 pub fn optimise(
     alloc: Global,
     module: &Module,

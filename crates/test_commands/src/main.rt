@@ -1,9 +1,10 @@
 //! Runs whole commands: on the files of the library of rules, and over files and sinks in memory.
 //!
-//! Without words it decides each file of the library, so that a rule that goes wrong changes a line, and then runs the loop in memory.
-//! Its words are those of a command, which runs over files and sinks in memory, so that each of its allocations can be refused in turn.
-//! What it leaves is written to the standard streams, and its status is the exit status. Where there is no memory for the words, the
-//! files and the sinks the status is 11, and where the streams can't be written it is 10: no command ends so.
+//! Without words it decides each file of the library, so that a rule that goes wrong changes a line, and then runs the
+//! loop in memory. Its words are those of a command, which runs over files and sinks in memory, so that each of its
+//! allocations can be refused in turn. What it leaves is written to the standard streams, and its status is the exit
+//! status. Where there is no memory for the words, the files and the sinks the status is 11, and where the streams
+//! can't be written it is 10: no command ends so.
 #![tactic(auto)]
 
 mod library;

@@ -1,5 +1,6 @@
-//! Rules with constants, preconditions, constant terms and `undef`. Those with a counterexample were worked out by hand, and have one
-//! alone; the verdicts on the others are those of a program apart from this one, which enumerated their settings.
+//! Rules with constants, preconditions, constant terms and `undef`. Those with a counterexample were worked out by
+//! hand, and have one alone; the verdicts on the others are those of a program apart from this one, which enumerated
+//! their settings.
 
 use crate::tests::{verified, widths};
 use std::test::Fail;

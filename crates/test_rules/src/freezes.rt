@@ -3,8 +3,8 @@
 use crate::tests::{verified, widths};
 use std::test::Fail;
 
-/// A rule of version 2, the least and the greatest of the widths, and the lines of the verdicts; where a rule has more than one
-/// counterexample, those before it.
+/// A rule of version 2, the least and the greatest of the widths, and the lines of the verdicts; where a rule has more
+/// than one counterexample, those before it.
 const ROWS: [(&str, u32, u32, &str); 16] = [
     (
         "Name: sel-freeze\n%r = select %c, %y, false\n=>\n%f = freeze %y\n%r = and %c, %f\n",

@@ -1,12 +1,12 @@
-//! Rules of one statement over each opcode and flag. Their classes and verdicts were worked out by hand, and a program apart from this
-//! one enumerated their settings: each refuted rule has one counterexample.
+//! Rules of one statement over each opcode and flag. Their classes and verdicts were worked out by hand, and a program
+//! apart from this one enumerated their settings: each refuted rule has one counterexample.
 
 use crate::tests::{verified, widths};
 use std::alloc::Global;
 use std::test::Fail;
 
-// The lines of rules that are admitted at each typing of widths from 1 to 4: all of one class; a result of one bit; a condition of one
-// bit; a result narrower than its operand, and one that is wider.
+// The lines of rules that are admitted at each typing of widths from 1 to 4: all of one class; a result of one bit; a
+// condition of one bit; a result narrower than its operand, and one that is wider.
 const ONE: &str = "r [1]: admitted\nr [2]: admitted\nr [3]: admitted\nr [4]: admitted\n";
 
 const COMPARED: &str =

@@ -1,4 +1,5 @@
-//! Preconditions and constant terms as they are read, at constants of eight bits. What they come to was worked out by hand.
+//! Preconditions and constant terms as they are read, at constants of eight bits. What they come to was worked out by
+//! hand.
 ghost use Rattle.std.specs.Prelude.{◌<◌, ◌↔◌, length, IsTrue, IfOk, All};
 ghost use Rattle.ops.specs.Value.{IsValueOf};
 ghost use Rattle.verdict.specs.Findings.{IsReadRule};

@@ -1,12 +1,12 @@
-//! Rule files at and past the limits of nodes and nesting, and words that are told as `Syntax`: the kind and the line of the first fault,
-//! worked out by hand.
+//! Rule files at and past the limits of nodes and nesting, and words that are told as `Syntax`: the kind and the line
+//! of the first fault, worked out by hand.
 
 use rule_reader::{RuleError, RuleFault, RuleFaultKind, read_rules};
 use std::alloc::Global;
 use std::test::Fail;
 
-/// How many comparisons of two numbers `Pre:` has, the text behind them, and the line and the kind of the first fault. They are three
-/// nodes each, and each `&&` between two is one.
+/// How many comparisons of two numbers `Pre:` has, the text behind them, and the line and the kind of the first fault.
+/// They are three nodes each, and each `&&` between two is one.
 const ROWS: [(u32, &str, usize, &str); 23] = [
     // behind 256 nodes
     (64, "\n%t = trunc %x\n%u = true\n", 4, "LeftOut"),

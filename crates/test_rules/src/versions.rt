@@ -1,4 +1,5 @@
-//! Lines that say versions, and what is refused of freezes: the kind and the line of the first fault, worked out by hand.
+//! Lines that say versions, and what is refused of freezes: the kind and the line of the first fault, worked out by
+//! hand.
 
 use rule_reader::{RuleError, RuleFault, RuleFaultKind, read_rules};
 use std::alloc::Global;

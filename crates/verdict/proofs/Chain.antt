@@ -1,4 +1,5 @@
--- From a clause set that stands for the counterexamples of a rule to what its models and its refutations say of the rule.
+-- From a clause set that stands for the counterexamples of a rule to what its models and its refutations say of the
+-- rule.
 use Rattle.std.proofs.Common.{◌≡◌, ◌↔◌, ℕ, ◌+◌, ◌-◌, ◌≤◌, ◌<◌, Bool, List, length, take, sym, ◌∙◌, subst, arith, inl, inr}
 use Rattle.std.specs.Prelude.{Result, Ok, Err, IfOk}
 use Rattle.std.proofs.Math.Seq.{take-length}

@@ -9,7 +9,8 @@ use Rattle.bindings.specs.Matches.{IsMatchAmong, ComesBefore, AreMatchesWhere}
 use Rattle.verdict.specs.declared.verdicts.Verdicts.{Verdicts}
 use Rattle.strategy_core.specs.Asked.{Pair, pair_of, pair_in, IsAdmitted, IsTurnedDown, AreFirstAsked}
 
--- Once these pairs were asked, the verdicts that are kept are honest ones on these, in the order in which they were first asked.
+-- Once these pairs were asked, the verdicts that are kept are honest ones on these, in the order in which they were
+-- first asked.
 pub record AreVerdictsOn (rules : List Rule) (conflicts : ℕ) (asked : List Pair) (verdicts : Verdicts) : Type 0 where
   pub rows : AreFirstAsked asked (map pair_in verdicts.table)
   pub honest : IsHonestTable rules conflicts verdicts.table

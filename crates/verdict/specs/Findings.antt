@@ -27,8 +27,8 @@ pub record IsRowOf (conflicts place : ℕ) (rule : Rule) (row : Row) : Type 0 wh
   pub of_rule : row.rule ≡ place
   pub honest : IsHonest rule row.typing conflicts row.verdict
 
--- The finding is right of the rule at this place: the rows are at all its typings over the widths, in order; or there are more than
--- `most_typings` of these.
+-- The finding is right of the rule at this place: the rows are at all its typings over the widths, in order; or there
+-- are more than `most_typings` of these.
 abbrev pub IsFinding : List ℕ → ℕ → ℕ → Rule → Finding → Type 0
 IsFinding widths conflicts place rule (Decided rows) =
     IsAnswer rule widths most_typings (typings.All (map (λ row. row.typing) rows)) × All (IsRowOf conflicts place rule) rows

@@ -19,7 +19,8 @@ use Rattle.verdict_core.specs.declared.verdicts.Tried.{Tried}
 abbrev pub setting_in : Example → Setting
 setting_in example = record { inputs = example.inputs; constants = example.constants; target_choices = example.target_undefs }
 
--- The example is a counterexample: with what `Wit:` gives for the source's choices there, and the effects of both halves.
+-- The example is a counterexample: with what `Wit:` gives for the source's choices there, and the effects of both
+-- halves.
 abbrev pub IsRefutedBy : Rule → List ℕ → Example → Type 0
 IsRefutedBy rule typing example = IsCounterexample rule typing (setting_in example) example.source_undefs example.source example.target
 
@@ -27,15 +28,16 @@ IsRefutedBy rule typing example = IsCounterexample rule typing (setting_in examp
 abbrev pub HasSourceChoice : Rule → Type 0
 HasSourceChoice rule = 0 < length (choices_among rule.source)
 
--- The set stands for the counterexamples of the rule at the typing: its inputs are the bits of a setting, it stands for the
--- test that these are read as a counterexample, and beside them it has at most a variable for each gate and one more.
+-- The set stands for the counterexamples of the rule at the typing: its inputs are the bits of a setting, it stands for
+-- the test that these are read as a counterexample, and beside them it has at most a variable for each gate and one
+-- more.
 pub record StandsForRule (rule : Rule) (typing : List ℕ) (set : Cnf) : Type 0 where
   pub inputs : length set.inputs ≡ input_bits rule typing
   pub test : StandsFor set (λ values. Refutes rule typing (setting_of rule typing values))
   pub variables : set.count ≤ input_bits rule typing + most_gates rule typing + 1
 
--- A setting has too many bits to try all; what was tried stands for the rule, and the search for a model of it learned so many
--- clauses, each new, and came to no end.
+-- A setting has too many bits to try all; what was tried stands for the rule, and the search for a model of it learned
+-- so many clauses, each new, and came to no end.
 pub record IsHonestBudget (rule : Rule) (typing : List ℕ) (limit : ℕ) (tried : Tried) : Type 0 where
   pub many_bits : 12 < input_bits rule typing
   pub stands : StandsForRule rule typing tried.set

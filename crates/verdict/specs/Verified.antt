@@ -6,8 +6,8 @@ use Rattle.verdict.specs.declared.verification.Verified.{Verified}
 use Rattle.verdict.specs.Table.{IsHonestTable}
 use Rattle.verdict.specs.Findings.{Finding, IsFinding, rows_of, finding_text, IsAdmitted}
 
--- What is handed back is the findings: the table has their rows and is honest, and the text is theirs, each rule's in order; and all
--- is admitted exactly where each of them is.
+-- What is handed back is the findings: the table has their rows and is honest, and the text is theirs, each rule's in
+-- order; and all is admitted exactly where each of them is.
 pub record IsVerified (rules : List Rule) (widths : List ℕ) (conflicts : ℕ) (verified : Verified) : Type 0 where
   pub findings : List Finding
   -- a right one for each rule, in order

@@ -2,8 +2,8 @@
 
 ghost use Rattle.verdict.specs.AskedAgain.{PairsWithRowsChangeNothing};
 
-/// Where pairs have rows they may be asked without a change: so a search that passes over matches that were asked before asks what one
-/// asks that comes by them.
+/// Where pairs have rows they may be asked without a change: so a search that passes over matches that were asked
+/// before asks what one asks that comes by them.
 pub fn pairs_with_rows_change_nothing()
     ensures { PairsWithRowsChangeNothing }
 {}

@@ -36,11 +36,11 @@ enum Attempt {
     Limit(PackedLog),
 }
 
-/// Decides whether the rule is valid at the typing, by a search for a counterexample that may learn `limit` clauses, beside the empty
-/// one that ends a refutation. The only error is want of memory.
+/// Decides whether the rule is valid at the typing, by a search for a counterexample that may learn `limit` clauses,
+/// beside the empty one that ends a refutation. The only error is want of memory.
 ///
-/// A rule of at most 12 input bits is decided at every limit. (An input of width N has N + 1 input bits; a constant, and an `undef` or
-/// a freeze of the target, has N.)
+/// A rule of at most 12 input bits is decided at every limit. (An input of width N has N + 1 input bits; a constant,
+/// and an `undef` or a freeze of the target, has N.)
 pub fn decide(
     alloc: Global,
     rule: &Rule,
@@ -56,8 +56,8 @@ pub fn decide(
     verdict_by(alloc, rule, typing, set, limit)
 }
 
-/// Decides as `decide` does, and gives beside the verdict a set of clauses that stands for the counterexamples of the rule and, where
-/// the rule is admitted, a log that refutes the set. Else the log is empty.
+/// Decides as `decide` does, and gives beside the verdict a set of clauses that stands for the counterexamples of the
+/// rule and, where the rule is admitted, a log that refutes the set. Else the log is empty.
 pub fn prove(
     alloc: Global,
     rule: &Rule,
@@ -82,8 +82,9 @@ pub fn prove(
     }
 }
 
-/// Decides as `decide` does, but without a search where the log refutes the clauses that stand for the counterexamples of the rule.
-/// Any log may be given: one with a literal of an unknown variable, or with a hint that names no earlier clause, refutes nothing.
+/// Decides as `decide` does, but without a search where the log refutes the clauses that stand for the counterexamples
+/// of the rule. Any log may be given: one with a literal of an unknown variable, or with a hint that names no earlier
+/// clause, refutes nothing.
 pub fn readmit(
     alloc: Global,
     rule: &Rule,
@@ -164,7 +165,8 @@ fn counterexample_clauses(alloc: Global, rule: &Rule, typing: &Typing) -> Result
     clauses_of(alloc, &graph, made.bad)
 }
 
-/// What is said of a rule that the example refutes. Where the source has an `undef` or a freeze, another number for it might do.
+/// What is said of a rule that the example refutes. Where the source has an `undef` or a freeze, another number for it
+/// might do.
 fn refusal(rule: &Rule, example: Example) -> Verdict
     requires { IsRule rule.now }
     ensures honest { (typing : Seq ℕ) (limit : ℕ) → IsRefutedBy rule.now typing example → IsHonest rule.now typing limit result }
@@ -178,8 +180,8 @@ fn refusal(rule: &Rule, example: Example) -> Verdict
     }
 }
 
-/// The counterexample that a model of the rule's clauses shows. The rule's circuit is built once more on the inputs' values, where
-/// each literal is its own value: so it gives what `Wit:` chooses, and both effects.
+/// The counterexample that a model of the rule's clauses shows. The rule's circuit is built once more on the inputs'
+/// values, where each literal is its own value: so it gives what `Wit:` chooses, and both effects.
 fn example_of(
     alloc: Global,
     rule: &Rule,

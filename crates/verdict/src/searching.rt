@@ -1,4 +1,5 @@
-//! Searches through some matches, and through those of a function, place by place: no matches are held but those at one instruction.
+//! Searches through some matches, and through those of a function, place by place: no matches are held but those at one
+//! instruction.
 
 ghost use Rattle.std.specs.Prelude.{◌<◌, ◌≤◌, ◌^◌, map, length, All, Any, MatchBool, IfOk, OnOk};
 ghost use Rattle.ir_core.specs.Checks.{MeetsChecks};
@@ -19,7 +20,8 @@ use rule_core::Rule;
 use rule_matches::{Rules, matches_at};
 use std::alloc::{AllocError, Global};
 
-/// The place of the first of some matches that is admitted. The verdicts of all up to it are asked for, and of all if there is none.
+/// The place of the first of some matches that is admitted. The verdicts of all up to it are asked for, and of all if
+/// there is none.
 pub fn first_admitted(
     alloc: Global,
     rules: &[Rule],

@@ -23,7 +23,8 @@ use rule_core::{Rule, Typing};
 use std::alloc::{AllocError, Global};
 use verdict_core::{Row, Table, Verdict};
 
-/// The verdicts that were asked for, each pair of a rule and a typing once, in the order in which they were first asked for.
+/// The verdicts that were asked for, each pair of a rule and a typing once, in the order in which they were first asked
+/// for.
 #[derive(Debug, Drop)]
 pub struct Verdicts {
     pub table: Table,
@@ -47,8 +48,8 @@ impl Verdicts {
         }
     }
 
-    /// Whether the verdict that a match asks for is `Admitted`. It is decided now if it was not asked for before. Where memory is refused
-    /// the verdicts are of no more use.
+    /// Whether the verdict that a match asks for is `Admitted`. It is decided now if it was not asked for before. Where
+    /// memory is refused the verdicts are of no more use.
     pub fn admits(
         &mut self,
         alloc: Global,

@@ -22,7 +22,8 @@ pub const MOST_TYPINGS: u32 = 4096;
 /// What is found about a list of rules.
 #[derive(Debug, Drop)]
 pub struct Verified {
-    /// A row for each rule in order and each of its typings in order. A rule that has more than `MOST_TYPINGS` has none.
+    /// A row for each rule in order and each of its typings in order. A rule that has more than `MOST_TYPINGS` has
+    /// none.
     pub table: Table,
     /// The texts of the verdicts in order. Of a rule that has more than `MOST_TYPINGS` typings it says that.
     pub text: Vec<u8>,
@@ -30,8 +31,8 @@ pub struct Verified {
     pub all_admitted: bool,
 }
 
-/// Decides each rule, in order, at each of its typings over a list of widths, in lexicographic order, and prints the verdicts. A
-/// search gives up once it has learned so many clauses. The only error is want of memory.
+/// Decides each rule, in order, at each of its typings over a list of widths, in lexicographic order, and prints the
+/// verdicts. A search gives up once it has learned so many clauses. The only error is want of memory.
 pub fn verify(
     alloc: Global,
     rules: &[Rule],

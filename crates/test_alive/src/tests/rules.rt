@@ -1,4 +1,5 @@
-//! Rules that `verify` decides, and the lines that it prints. Where there are two counterexamples, either may be printed.
+//! Rules that `verify` decides, and the lines that it prints. Where there are two counterexamples, either may be
+//! printed.
 
 use super::*;
 

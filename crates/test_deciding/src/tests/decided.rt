@@ -184,7 +184,8 @@ fn decided(
     decided_in(alloc, &mut graph, question, number, holds)
 }
 
-/// Fails unless the search says that the answer can be no other number and, where that is asked, that it can be this one.
+/// Fails unless the search says that the answer can be no other number and, where that is asked, that it can be this
+/// one.
 pub(super) fn expect_decided(
     rt: &impl Abort,
     alloc: Global,

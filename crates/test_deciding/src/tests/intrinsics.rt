@@ -1,5 +1,5 @@
-//! The circuits of the integer intrinsics at all short operands and at the edges of wide ones, by evaluation, in a graph and in its
-//! clauses.
+//! The circuits of the integer intrinsics at all short operands and at the edges of wide ones, by evaluation, in a
+//! graph and in its clauses.
 ghost use Rattle.std.specs.Prelude.{◌≤◌};
 
 use super::decided::expect_decided;
@@ -28,7 +28,8 @@ fn signed(width: usize, number: u64) -> i64
     number.wrapping_shl(above).cast_signed().wrapping_shr(above)
 }
 
-/// How many bits are set, and how many are clear above the highest that is set and below the lowest, counted one by one.
+/// How many bits are set, and how many are clear above the highest that is set and below the lowest, counted one by
+/// one.
 fn counts(width: usize, number: u64) -> [u64; 3]
     requires { width ≤ 64 }
 {
@@ -67,7 +68,8 @@ fn expected(intrinsic: Intrinsic, width: usize, a: u64, b: u64) -> u64
     }
 }
 
-/// Fails unless each intrinsic at two numbers gives what is expected, by evaluation and, where that is asked, in a graph.
+/// Fails unless each intrinsic at two numbers gives what is expected, by evaluation and, where that is asked, in a
+/// graph.
 fn agree(
     rt: &impl Abort,
     alloc: Global,

@@ -50,7 +50,8 @@ fn add_progressions(
     Ok(())
 }
 
-/// The set of a colouring: a number's variable is true where it is red. It is `None` where a variable is above the count.
+/// The set of a colouring: a number's variable is true where it is red. It is `None` where a variable is above the
+/// count.
 fn colouring_set(alloc: Global, colouring: Colouring) -> Result<Option<Cnf>, AllocError> {
     let mut clauses = List::new(alloc);
     add_progressions(alloc, colouring.numbers, colouring.red, -1, &mut clauses)?;

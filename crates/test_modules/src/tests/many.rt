@@ -1,4 +1,5 @@
-//! Modules that have more than 2^16 of what is counted: instructions of a block, blocks, parameters, cases, entries of a phi, functions.
+//! Modules that have more than 2^16 of what is counted: instructions of a block, blocks, parameters, cases, entries of
+//! a phi, functions.
 
 use alive_top::{OptimiseOptions, optimise, run};
 use std::alloc::{AllocError, Global};

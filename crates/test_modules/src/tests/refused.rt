@@ -25,8 +25,8 @@ fn name(kind: &IrFaultKind) -> &'static str {
     }
 }
 
-/// The beginning of texts, and what stands behind it in each, with the line and the kind of its first fault. A word that is left out is
-/// told, and a register that is not assigned, with its block.
+/// The beginning of texts, and what stands behind it in each, with the line and the kind of its first fault. A word
+/// that is left out is told, and a register that is not assigned, with its block.
 pub(super) type Refused = (&'static str, &'static [(&'static str, &'static str)]);
 
 const TOKENS: [Refused; 3] = [

@@ -1,4 +1,4 @@
-use Rattle.std.proofs.Common.{◌≡◌, ◌+◌, false, [], ◌∷◌, ◌++◌, length, take, refl, sym, ap, ◌∙◌, subst, arith}
+use Rattle.std.proofs.Common.{◌≡◌, [], ◌∷◌, ◌++◌, length, take, refl, sym, ap, ◌∙◌, subst, arith}
 use Rattle.std.proofs.lemmas.List.{length-take-le}
 use Rattle.clauses.specs.ClauseSet.{clauses_with}
 use Rattle.depth_first.specs.declared.trail.Entry.{Entry}
@@ -17,7 +17,7 @@ use Rattle.first_uip.proofs.learning.learn.Goals as goal
 pub add-requires-clause-within : goal.add-requires-clause-within
 add-requires-clause-within c =
     let l = c.args.learned in
-    watch_within c.args.cnf.now (length c.args.watches.now.positive.items) c.args.trail.now.entries.items l.jump l.step.clause l.asserted l.other c.watch_of.result c.requires.covers.positive c.requires.follows.0 c.watch_of.ensures c.requires.asserting c.requires.other
+    watch_within c.args.cnf.now (length c.args.watches.now.lists.items) c.args.trail.now.entries.items l.jump l.step.clause l.asserted l.other c.watch_of.result c.requires.covers c.requires.follows.0 c.watch_of.ensures c.requires.asserting c.requires.other
 
 pub add-requires-clause-pair : goal.add-requires-clause-pair
 add-requires-clause-pair c =

@@ -5,6 +5,7 @@ use Rattle.depth_first.specs.declared.trail.Entry.{Entry}
 use Rattle.depth_first.specs.declared.trail.Cause.TheVariants.{Reason}
 use Rattle.depth_first.specs.TrailEntries.{literals, Grows}
 use Rattle.depth_first.proofs.Lists.{some_same}
+use Rattle.depth_first.proofs.HeldTable.{code_within}
 use Rattle.depth_first.proofs.HeldLists.{held_last, literals-append}
 use Rattle.depth_first.proofs.PropagationLemmas.{Grows-one}
 use Rattle.first_uip.specs.Clauses.{clauses_in, watched_in}
@@ -32,15 +33,12 @@ pub other_open-requires : goal.other_open-requires
 other_open-requires c =
     clause_within (length c.args.trail.now.values.items - 1) (clauses_in c.args.watches.now.arena) c.args.number c.clause.result.now c.requires.variables c.clause.ensures
 
-pub rewatch-requires-clause-positive : goal.rewatch-requires-clause-positive
-rewatch-requires-clause-positive c =
-    let within = literal_within (length c.args.trail.now.values.items - 1) (clauses_in c.args.watches.now.arena) c.args.number c.clause.result.now c.in-Some-other_open.open c.requires.variables c.clause.ensures c.in-Some-other_open.ensures.stands in
-    omega (arith, within.0, within.1, c.requires.covers.positive)
-
-pub rewatch-requires-clause-negative : goal.rewatch-requires-clause-negative
-rewatch-requires-clause-negative c =
-    let within = literal_within (length c.args.trail.now.values.items - 1) (clauses_in c.args.watches.now.arena) c.args.number c.clause.result.now c.in-Some-other_open.open c.requires.variables c.clause.ensures c.in-Some-other_open.ensures.stands in
-    omega (arith, within.0, within.1, c.requires.covers.negative)
+pub rewatch-requires-clause-within : goal.rewatch-requires-clause-within
+rewatch-requires-clause-within c =
+    let n = length c.args.trail.now.values.items in
+    let l = c.in-Some-other_open.open in
+    let within = literal_within (n - 1) (clauses_in c.args.watches.now.arena) c.args.number c.clause.result.now l c.requires.variables c.clause.ensures c.in-Some-other_open.ensures.stands in
+    code_within l n (length c.args.watches.now.lists.items) (omega (arith, within.0, within.1)) c.requires.covers
 
 pub returns-in-Some-other_open-clause-look : goal.returns-in-Some-other_open-clause-look
 returns-in-Some-other_open-clause-look c =

@@ -1,4 +1,4 @@
-use Rattle.std.proofs.Common.{◌≡◌, ℕ, List, ◌+◌, ◌-◌, ◌<◌, ◌≤◌, true, Some, length, take, get_or, refl, sym, ap, ◌∙◌, subst, arith}
+use Rattle.std.proofs.Common.{◌≡◌, ℕ, List, ◌+◌, ◌*◌, ◌-◌, ◌<◌, ◌≤◌, true, Some, length, take, get_or, refl, sym, ap, ◌∙◌, subst, arith}
 use Rattle.std.specs.Prelude.{slice_get}
 use Rattle.std.specs.List.{swap_remove}
 use Rattle.std.proofs.lemmas.List.{length-map}
@@ -8,6 +8,7 @@ use Rattle.clauses.specs.Propagation.{is_held, is_false}
 use Rattle.clauses.proofs.Held.{negation-negation}
 use Rattle.depth_first.specs.declared.trail.Entry.{Entry}
 use Rattle.depth_first.specs.TrailEntries.{literals, Grows}
+use Rattle.depth_first.proofs.HeldTable.{code_within}
 use Rattle.depth_first.proofs.HeldLists.{literal_at}
 use Rattle.depth_first.proofs.PropagationLemmas.{Grows-none, Grows-then, Grows-length}
 use Rattle.first_uip.specs.declared.watchers.Watcher.{Watcher}
@@ -42,19 +43,13 @@ loop-place-init c =
           c.requires.watching.watching.listed c.requires.watching.guarded;
     }
 
-pub of-requires-clause-positive : goal.of-requires-clause-positive
-of-requires-clause-positive c =
+pub of-requires : goal.of-requires
+of-requires c =
     let entries = c.args.trail.now.entries.items in
     let e : Entry = c.index.result.now in
     let start : slice_get entries c.args.head ≡ Some e = slice_get_read entries (length entries) c.args.head e refl c.requires.within c.index.ensures in
-    omega (arith, (c.args.trail.now.fresh c.args.head e start).1, c.loop-place.invariant.covers.positive, ap (λ (l : Lit). l.variable) c.negation-falsified.ensures)
-
-pub of-requires-clause-negative : goal.of-requires-clause-negative
-of-requires-clause-negative c =
-    let entries = c.args.trail.now.entries.items in
-    let e : Entry = c.index.result.now in
-    let start : slice_get entries c.args.head ≡ Some e = slice_get_read entries (length entries) c.args.head e refl c.requires.within c.index.ensures in
-    omega (arith, (c.args.trail.now.fresh c.args.head e start).1, c.loop-place.invariant.covers.negative, ap (λ (l : Lit). l.variable) c.negation-falsified.ensures)
+    code_within c.negation-falsified.result (length c.args.trail.now.values.items) (length c.loop-place.watches.lists.items)
+    (omega (arith, (c.args.trail.now.fresh c.args.head e start).1, ap (λ (l : Lit). l.variable) c.negation-falsified.ensures)) c.loop-place.invariant.covers
 
 pub holds-requires : goal.holds-requires
 holds-requires c =
@@ -183,7 +178,7 @@ loop-place-preserved-in-Stays c =
     record {
       same_variables = c.look_at.ensures.same_variables ∙ inv.same_variables;
       same_clauses = unchanged;
-      covers = record { positive = c.block.ensures.positive ∙ covers.positive ∙ inv.same_variables; negative = c.block.ensures.negative ∙ covers.negative ∙ inv.same_variables };
+      covers = c.block.ensures.count ∙ covers ∙ ap (λ n. 2 * n) inv.same_variables;
       grows = Grows-then _ _ _ _ inv.grows grows;
       watching = IsWatchingUpTo-stays cs old new before after c.args.head (omega (arith, seen_within)) grows unchanged watched listed blocked inv.watching;
       but =
@@ -274,7 +269,7 @@ loop-place-preserved c =
     record {
       same_variables = c.look_at.ensures.same_variables ∙ inv.same_variables;
       same_clauses = unchanged;
-      covers = record { positive = c.drop_number.ensures.positive ∙ covers.positive ∙ inv.same_variables; negative = c.drop_number.ensures.negative ∙ covers.negative ∙ inv.same_variables };
+      covers = c.drop_number.ensures.count ∙ covers ∙ ap (λ n. 2 * n) inv.same_variables;
       grows = Grows-then _ _ _ _ inv.grows grows;
       watching = subst (λ es. IsWatchingUpTo cs new es head) (sym same) watching;
       but =

@@ -1,9 +1,10 @@
-use Rattle.std.proofs.Common.{◌≡◌, suc, ◌+◌, ◌<◌, true, [], ◌∷◌, ◌++◌, Some, length, take, sym, ap, ◌∙◌, subst, arith}
+use Rattle.std.proofs.Common.{◌≡◌, suc, ◌+◌, ◌<◌, [], ◌∷◌, ◌++◌, Some, length, take, sym, ap, ◌∙◌, subst, arith}
 use Rattle.std.specs.Prelude.{slice_get}
 use Rattle.std.proofs.lemmas.Bool.{true≢false}
-use Rattle.clauses.specs.Literal.{Lit}
+use Rattle.clauses.specs.Literal.{Lit, code_of}
 use Rattle.clauses.specs.ClauseSet.{all_clauses}
 use Rattle.depth_first.proofs.Lists.{take_next}
+use Rattle.depth_first.proofs.HeldTable.{code_within}
 use Rattle.depth_first.proofs.Open.{variable_within}
 use Rattle.depth_first.proofs.Sets.{clause_within}
 use Rattle.first_uip.specs.declared.start.Shape.TheVariants.{Several}
@@ -22,9 +23,11 @@ add-requires-clause-within c =
     let b = c.in-Several.second in
     let shape : IsShape clause (Several a b) = subst (λ ls. IsShape ls (Several a b)) c.as_slice-clause.ensures c.in-Several.ensures in
     let within = clause_within set c.args.number clause c.clause.ensures in
-    let room = c.requires.covers.positive in
-    All-two (λ (l : Lit). l.variable < length c.args.watches.now.positive.items) a b
-    (omega (arith, (variable_within set.count clause a within shape.0).1, room)) (omega (arith, (variable_within set.count clause b within shape.1).1, room))
+    let n = set.count + 1 in
+    let size = length c.args.watches.now.lists.items in
+    All-two (λ (l : Lit). code_of l < size) a b
+    (code_within a n size (omega (arith, (variable_within set.count clause a within shape.0).1)) c.requires.covers)
+    (code_within b n size (omega (arith, (variable_within set.count clause b within shape.1).1)) c.requires.covers)
 
 pub returns-in_ok-add-in-Several-clause-watching : goal.returns-in_ok-add-in-Several-clause-watching
 returns-in_ok-add-in-Several-clause-watching c =

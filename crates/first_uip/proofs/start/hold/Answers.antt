@@ -1,4 +1,4 @@
-use Rattle.std.proofs.Common.{◌≡◌, ◌+◌, true, false, [], ◌∷◌, ◌++◌, take, refl, sym, ap, ◌∙◌, subst, arith, not}
+use Rattle.std.proofs.Common.{◌≡◌, ◌+◌, true, false, [], ◌∷◌, ◌++◌, take, refl, sym, ap, ◌∙◌, subst, arith}
 use Rattle.clauses.specs.Literal.{Lit}
 use Rattle.clauses.specs.Propagation.{IsUnit, is_held, is_false}
 use Rattle.clauses.specs.ClauseSet.{all_clauses}
@@ -13,7 +13,7 @@ use Rattle.depth_first.proofs.Lists.{some_same}
 use Rattle.first_uip.specs.Clauses.{clauses_in}
 use Rattle.first_uip.specs.Watching.{IsWatchingUpTo}
 use Rattle.first_uip.proofs.Additions.{IsAdded, IsWatchingUpTo-add, IsWatchingUpTo-push}
-use Rattle.first_uip.proofs.StartLemmas.{IsAloneAt, IsAloneAt-from, alone_falsified, alone_unit, undecided}
+use Rattle.first_uip.proofs.StartLemmas.{IsAloneAt-from, alone_falsified, alone_unit, undecided}
 use Rattle.first_uip.proofs.start.hold.Goals as goal
 
 pub holds-requires : goal.holds-requires

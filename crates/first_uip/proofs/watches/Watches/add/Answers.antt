@@ -13,7 +13,7 @@ use Rattle.first_uip.proofs.watches.Watches.add.Goals.{in-Two+in_ok-add_number+i
 pub returns-clause-listed : goal.returns-clause-listed
 returns-clause-listed c =
     let old = c.args.self.now in
-    let new : Watches → Watches = λ (v : Watches). record { arena = c.push.new.self; positive = v.positive; negative = v.negative } in
+    let new : Watches → Watches = λ (v : Watches). record { arena = c.push.new.self; lists = v.lists } in
     let number : c.len-number.result ≡ length (watched_in old.arena) = c.len-number.ensures.watched in
     elim c.match-watched.branch [
       | in-Two+in_ok-add_number+in_ok-add_number-2 w ↦

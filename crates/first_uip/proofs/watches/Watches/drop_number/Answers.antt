@@ -1,21 +1,19 @@
-use Rattle.std.proofs.Common.{inl}
+use Rattle.std.proofs.Common.{◌≡◌, [], set, get_or, ap, ◌∙◌, subst, inl}
+use Rattle.std.proofs.lemmas.List.{get_or_default}
+use Rattle.clauses.specs.Literal.{code_of}
 use Rattle.first_uip.specs.declared.watchers.Watcher.{Watcher}
-use Rattle.first_uip.proofs.WatcherLists.{Keeps, Keeps-self, each_but, negative_changed, positive_changed}
+use Rattle.first_uip.proofs.WatcherLists.{Keeps, Keeps-self, each_list}
 use Rattle.first_uip.proofs.watches.Watches.drop_number.Goals as goal
 
-pub returns-then-is_negated-clause-only : goal.returns-then-is_negated-clause-only
-returns-then-is_negated-clause-only c =
-    let old = c.args.self.now in
-    let new = c.drop_at.new.lists.items in
+pub returns-clause-only : goal.returns-clause-only
+returns-clause-only c =
+    let lists = c.args.self.now.lists.items in
+    let code = code_of c.args.literal in
+    let before = c.index_mut.result.now in
+    let after = c.drop_at.new.self in
     let IsNew : Watcher → Type 0 = λ w. ⊥ in
-    negative_changed (Keeps IsNew) (Keeps-self IsNew) old.positive.items old.negative.items new
-    (each_but (Keeps IsNew) (Keeps-self IsNew) old.negative.items new c.variable.result (λ w h. inl (c.drop_at.ensures.only w h)) c.drop_at.ensures.others)
-
-pub returns-else-is_negated-clause-only : goal.returns-else-is_negated-clause-only
-returns-else-is_negated-clause-only c =
-    let old = c.args.self.now in
-    let new = c.drop_at-else-is_negated.new.lists.items in
-    let IsNew : Watcher → Type 0 = λ w. ⊥ in
-    positive_changed (Keeps IsNew) (Keeps-self IsNew) old.negative.items old.positive.items new
-    (each_but (Keeps IsNew) (Keeps-self IsNew) old.positive.items new c.variable-else-is_negated.result
-    (λ w h. inl (c.drop_at-else-is_negated.ensures.only w h)) c.drop_at-else-is_negated.ensures.others)
+    let is : before ≡ get_or lists code [] =
+    c.index_mut.ensures.value ∙ ap (λ n. get_or lists n before) c.code_of.ensures ∙ get_or_default lists code before [] c.requires.within in
+    each_list lists (set lists c.code_of.result after) c.args.literal after c.requires.within (ap (λ n. set lists n after) c.code_of.ensures)
+    (Keeps IsNew) (Keeps-self IsNew)
+    (subst (λ ws. Keeps IsNew ws after) is (λ w h. inl (c.drop_at.ensures.only w h)))
