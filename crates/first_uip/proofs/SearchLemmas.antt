@@ -1,7 +1,7 @@
 -- The steps of a search, and what its answers rest on.
-use Rattle.std.proofs.Common.{◌≡◌, ℕ, ◌+◌, ◌-◌, ◌<◌, ◌≤◌, Bool, get_or, Option, true, false, List, [], ◌∷◌, ◌++◌, Some, None, length, take, drop, map, refl, sym, ap, ◌∙◌, arith, inl, inr, subst}
-use Rattle.std.specs.Prelude.{slice_get, unwrap_or, IfSome}
-use Rattle.std.proofs.lemmas.Bool.{cases_lt, true≢false}
+use Rattle.std.proofs.Common.{◌≡◌, ℕ, ◌+◌, ◌-◌, ◌<◌, Bool, get_or, Option, false, List, [], ◌∷◌, ◌++◌, Some, length, take, drop, map, refl, sym, ap, ◌∙◌, arith, inl, inr, subst}
+use Rattle.std.specs.Prelude.{slice_get}
+use Rattle.std.proofs.lemmas.Bool.{true≢false}
 use Rattle.std.proofs.lemmas.List.{take_all, append-nil}
 use Rattle.std.proofs.lemmas.Option.{slice_get-get_or}
 use Rattle.clauses.specs.declared.cnf.Cnf.{Cnf}
@@ -9,7 +9,7 @@ use Rattle.clauses.specs.declared.step.Step.{Step}
 use Rattle.clauses.specs.Literal.{Lit, IsVariable, VariablesWithin}
 use Rattle.clauses.specs.Propagation.{NamesUnit}
 use Rattle.clauses.specs.ClauseSet.{all_clauses, clauses_of_steps, clauses_with}
-use Rattle.clauses.proofs.Closed.{HeldWithin, IsClosed, not_UnitsRefute}
+use Rattle.clauses.proofs.Closed.{IsClosed, not_UnitsRefute}
 use Rattle.depth_first.specs.declared.trail.Entry.{Entry}
 use Rattle.depth_first.specs.declared.trail.Cause.{Cause}
 use Rattle.depth_first.specs.declared.trail.Cause.TheVariants.{InputDecision, NonInputDecision, Reason}
@@ -138,11 +138,3 @@ variables_within set log watches entries head n room state =
     let count : set.count ≡ n - 1 = omega (arith, room) in
     subst (VariablesWithin (n - 1)) (sym state.watching.watching.same)
     (subst (λ m. VariablesWithin m cs) count (λ k d below. with_within set log k (get_or cs k d) state.learned.follows (slice_get-get_or cs k d below)))
-
--- where to jump to: the first decision, or where the conflict says
-pub first_or_jump : (entries : List Entry) (first : Option ℕ) (jump : ℕ) → DecidedAt entries jump → IfSome first (DecidedAt entries) → IfSome first (NoneDecided entries 0) → DecidedAt entries (unwrap_or first jump) × (unwrap_or first jump ≤ jump)
-first_or_jump entries None jump decided at none = (decided, omega arith)
-first_or_jump entries (Some place) jump (e, there, decides) at none = (
-  at,
-  elim (cases_lt jump place) [ inl before ↦ absurd (true≢false (sym decides ∙ none jump e (omega arith) before there)) | inr later ↦ later ],
-)

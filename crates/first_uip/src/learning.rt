@@ -8,7 +8,7 @@ ghost use Rattle.depth_first.specs.TrailEntries.{EachForced};
 ghost use Rattle.first_uip.specs.Watching.{CoversBelow, IsWatching, IsWatchingUpTo};
 ghost use Rattle.first_uip.specs.Conflict.{DecidedAt, IsAsserting, IsOther};
 
-use crate::analysis::{Learned, analyse, first_decision, last_decision};
+use crate::analysis::{Learned, analyse, last_decision};
 use crate::arena::Watched;
 use crate::blocks::note_places;
 use crate::policy::Policy;
@@ -138,7 +138,7 @@ pub fn search_counted(
         let (learned, shown) = analyse(alloc, cnf, &log, &trail, &places, conflict, start)?;
         let spanned = levels_of(learned.step.clause.as_slice(), &levels);
         head = if policy.count_conflict(&shown, spanned) {
-            first_decision(&trail).unwrap_or(learned.jump)
+            policy.restart_place(&trail, &places, learned.jump)?
         } else {
             learned.jump
         };

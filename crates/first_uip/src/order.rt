@@ -142,23 +142,50 @@ impl Order {
         Ok(())
     }
 
+    /// The most active variable of the heap.
+    pub(crate) fn first(&self) -> Option<u32>
+        ensures some { IfSome result (λ _. 0 < length self.now.heap.items) }
+        ensures first { IfSome result (λ variable. 0 < variable) }
+        ensures last { IfSome result (λ variable. variable < length self.now.activities.items) }
+    {
+        if self.heap.is_empty() {
+            return None;
+        }
+        Some(self.heap[0])
+    }
+
     /// Takes the most active variable out of the heap.
+    pub(crate) fn drop_first(&mut self)
+        requires { 0 < length self.old.heap.items }
+        ensures variables { length self.new.activities.items ≡ length self.old.activities.items }
+        ensures shorter { length self.new.heap.items + 1 ≡ length self.old.heap.items }
+    {
+        let _ = self.heap.swap_remove(0);
+        if !self.heap.is_empty() {
+            let moved = self.heap[0];
+            self.places[moved as usize] = 0;
+            self.sink(0);
+        }
+    }
+
+    /// Takes the most active variable out of the heap, and tells it.
     pub(crate) fn pop(&mut self) -> Option<u32>
         ensures variables { length self.new.activities.items ≡ length self.old.activities.items }
         ensures first { IfSome result (λ variable. 0 < variable) }
         ensures last { IfSome result (λ variable. variable < length self.old.activities.items) }
         ensures shorter { IfSome result (λ _. length self.new.heap.items + 1 ≡ length self.old.heap.items) }
     {
-        if self.heap.is_empty() {
-            return None;
-        }
-        let first = self.heap.swap_remove(0);
-        if !self.heap.is_empty() {
-            let moved = self.heap[0];
-            self.places[moved as usize] = 0;
-            self.sink(0);
-        }
+        let first = self.first()?;
+        self.drop_first();
         Some(first)
+    }
+
+    /// Whether the first variable is less active than the second.
+    pub(crate) fn is_less_active(&self, one: u32, other: u32) -> bool
+        requires one { one < length self.now.activities.items }
+        requires other { other < length self.now.activities.items }
+    {
+        self.activities[one as usize] < self.activities[other as usize]
     }
 
     /// The variable gains activity.

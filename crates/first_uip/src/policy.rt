@@ -35,10 +35,11 @@ fn open_variable(cnf: &Cnf, trail: &Trail) -> Option<u32>
 }
 
 impl Policy {
-    ghost use Rattle.std.specs.Prelude.{◌≡◌, ◌+◌, ◌<◌, ℕ, length, IfOk, IfSome, IfNone};
+    ghost use Rattle.std.specs.Prelude.{◌≡◌, ◌+◌, ◌<◌, ◌≤◌, ℕ, length, IfOk, IfSome, IfNone};
     ghost use Rattle.clauses.specs.Literal.{IsVariable};
     ghost use Rattle.depth_first.specs.TrailEntries.{literals, IsOpen, IsSet};
     ghost use Rattle.first_uip.specs.Shown.{VariablesBelow};
+    ghost use Rattle.first_uip.specs.Conflict.{DecidedAt};
 
     /// Nothing is learned yet.
     pub(crate) fn new(alloc: Global, cnf: &Cnf) -> Result<Policy, AllocError>
@@ -94,6 +95,53 @@ impl Policy {
             self.order.insert(literal.variable())?;
         }
         Ok(())
+    }
+
+    /// Where a restart goes back to, at most to the place `jump` of a decision: to the first decision on a variable
+    /// that is less active than the next one to be decided. Those before it would come again (van der Tak, Ramos and
+    /// Heule, "Reusing the assignment trail in CDCL solvers").
+    pub(crate) fn restart_place(
+        &mut self,
+        trail: &Trail,
+        places: &[usize],
+        jump: usize,
+    ) -> Result<usize, AllocError>
+        requires variables { length trail.now.values.items ≡ length self.old.negated.items }
+        requires places { length places.now ≡ length self.old.negated.items }
+        requires decided { DecidedAt trail.now.entries.items jump }
+        ensures sizes { length self.new.negated.items ≡ length self.old.negated.items }
+        ensures decided { IfOk result (DecidedAt trail.now.entries.items) }
+        ensures within { IfOk result (λ place. place ≤ jump) }
+    {
+        self.release(trail, jump)?;
+        let Some(next) = self.next_variable(trail, places, jump) else {
+            return Ok(jump);
+        };
+        for place in 0..jump {
+            let entry = trail.entries[place];
+            if entry.cause.is_decision()
+                && self.order.is_less_active(entry.literal.variable(), next)
+            {
+                return Ok(place);
+            }
+        }
+        Ok(jump)
+    }
+
+    /// The most active variable of those in the order that are open once the entries from a place on are taken back.
+    fn next_variable(&mut self, trail: &Trail, places: &[usize], start: usize) -> Option<u32>
+        requires variables { length trail.now.values.items ≡ length self.old.negated.items }
+        requires places { length places.now ≡ length self.old.negated.items }
+        ensures sizes { length self.new.negated.items ≡ length self.old.negated.items }
+        ensures last { IfSome result (λ n. n < length self.old.negated.items) }
+    {
+        while let Some(variable) = self.order.first() {
+            if trail.value(variable).is_none() || places[variable as usize] >= start {
+                return Some(variable);
+            }
+            self.order.drop_first();
+        }
+        None
     }
 
     /// Counts a conflict, the entries on which it rests, and the levels that its clause spans; the answer is true where

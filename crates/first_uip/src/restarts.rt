@@ -3,10 +3,10 @@
 use clauses::Lit;
 
 /// How many clauses the mean of late ones weighs, each less than the next.
-const LATE: u64 = 16;
+const LATE: u64 = 32;
 
 /// A run has at least so many conflicts.
-const SHORTEST: u32 = 8;
+const SHORTEST: u32 = 16;
 
 /// How many levels the learned clauses span.
 #[derive(Clone, Copy, Debug)]
@@ -50,7 +50,7 @@ impl Restarts {
     }
 
     /// Counts a conflict, whose clause spans so many levels; the answer is true where it ends a run: the late mean is
-    /// more than a tenth above the mean of all.
+    /// more than a fifth above the mean of all.
     pub(crate) fn count_conflict(&mut self, levels: u32) -> bool {
         let scaled = u64::from(levels) << 16;
         self.late = (self.late - self.late / LATE).saturating_add(scaled / LATE);
@@ -64,10 +64,10 @@ impl Restarts {
         true
     }
 
-    /// Whether the mean of late clauses is more than a tenth above that of all.
+    /// Whether the mean of late clauses is more than a fifth above that of all.
     fn are_late_higher(&self) -> bool {
-        let late = self.late.saturating_mul(self.clauses).saturating_mul(10);
-        let all = self.total.saturating_mul(11) << 16;
+        let late = self.late.saturating_mul(self.clauses).saturating_mul(5);
+        let all = self.total.saturating_mul(6) << 16;
         late > all
     }
 }

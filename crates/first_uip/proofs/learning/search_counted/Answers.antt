@@ -1,5 +1,4 @@
-use Rattle.std.proofs.Common.{rules, ◌≡◌, List, ◌+◌, ◌≤◌, [], ◌∷◌, ◌++◌, Some, length, take, drop, refl, sym, ap, ◌∙◌, subst, arith}
-use Rattle.std.specs.Prelude.{unwrap_or}
+use Rattle.std.proofs.Common.{rules, ◌≡◌, List, ◌+◌, ◌≤◌, [], ◌∷◌, ◌++◌, length, take, drop, refl, sym, ap, ◌∙◌, subst, arith}
 use Rattle.clauses.specs.ClauseSet.{IsNew, LogFollows, StepFollows, all_clauses, clauses_with}
 use Rattle.clauses.specs.declared.step.Step.{Step}
 use Rattle.clauses.proofs.Closed.{IsClosed}
@@ -16,9 +15,9 @@ use Rattle.first_uip.specs.Searching.{IsSearching}
 use Rattle.first_uip.specs.Marks.{IsNoted, IsPlaced}
 use Rattle.first_uip.proofs.Noted.{IsNoted-append, IsNoted-cut, IsNoted-grows, written_back}
 use Rattle.first_uip.proofs.Measure.{less_after_conflict}
-use Rattle.first_uip.proofs.SearchLemmas.{no_decisions as none_decided_gives_none, EachCaused-from_forced, EachForced-grown, closed_before, model_found, limit_found, variables_within, IsSearching-decided, IsSearching-start, first_or_jump}
+use Rattle.first_uip.proofs.SearchLemmas.{no_decisions as none_decided_gives_none, EachCaused-from_forced, EachForced-grown, closed_before, model_found, limit_found, variables_within, IsSearching-decided, IsSearching-start}
 use Rattle.first_uip.proofs.learning.search_counted.Goals as goal
-use Rattle.first_uip.proofs.learning.search_counted.Goals.{then-count_conflict, else-count_conflict}
+use Rattle.first_uip.proofs.learning.search_counted.Goals.{then-count_conflict+in_ok-head, else-count_conflict}
 
 pub refutation-requires-clause-caused : goal.refutation-requires-clause-caused
 refutation-requires-clause-caused c =
@@ -190,9 +189,7 @@ learn-requires-clause-decided c =
     let jump = c.in_ok-learned.learned.jump in
     let decided : DecidedAt entries jump = c.in_ok-learned.ensures.asserting.decided in
     elim c.if-count_conflict.branch [
-      | then-count_conflict w ↦
-          subst (DecidedAt entries) (sym (w.head-is ∙ w.unwrap_or-head.ensures))
-          (first_or_jump entries w.first_decision.result jump decided w.first_decision.ensures.decided w.first_decision.ensures.earlier).0
+      | then-count_conflict+in_ok-head w ↦ subst (DecidedAt entries) (sym w.head-is) w.in_ok-head.ensures.decided
       | else-count_conflict w ↦ subst (DecidedAt entries) (sym w.head-is) decided
     ]
 
@@ -202,9 +199,7 @@ learn-requires-clause-within c =
     let jump = c.in_ok-learned.learned.jump in
     let decided : DecidedAt entries jump = c.in_ok-learned.ensures.asserting.decided in
     elim c.if-count_conflict.branch [
-      | then-count_conflict w ↦
-          subst (λ n. n ≤ jump) (sym (w.head-is ∙ w.unwrap_or-head.ensures))
-          (first_or_jump entries w.first_decision.result jump decided w.first_decision.ensures.decided w.first_decision.ensures.earlier).1
+      | then-count_conflict+in_ok-head w ↦ subst (λ n. n ≤ jump) (sym w.head-is) w.in_ok-head.ensures.within
       | else-count_conflict w ↦ omega (arith, w.head-is)
     ]
 
@@ -237,9 +232,7 @@ loop-places-preserved c =
     let decided_jump : DecidedAt entries jump = c.in_ok-learned.ensures.asserting.decided in
     let decided : DecidedAt entries head =
     elim c.if-count_conflict.branch [
-      | then-count_conflict w ↦
-          subst (DecidedAt entries) (sym (w.head-is ∙ w.unwrap_or-head.ensures))
-          (first_or_jump entries w.first_decision.result jump decided_jump w.first_decision.ensures.decided w.first_decision.ensures.earlier).0
+      | then-count_conflict+in_ok-head w ↦ subst (DecidedAt entries) (sym w.head-is) w.in_ok-head.ensures.decided
       | else-count_conflict w ↦ subst (DecidedAt entries) (sym w.head-is) decided_jump
     ] in
     let places = c.note_places.new.places in
