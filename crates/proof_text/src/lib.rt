@@ -19,6 +19,3 @@ pub use laws::{texts_have_one_reading, what_is_written_is_read};
 pub use proof::Proof;
 pub use read::{MOST_BYTES, read_proofs};
 pub use write::{push_proof, write_proofs};
-
-#[cfg(test)]
-mod tests;

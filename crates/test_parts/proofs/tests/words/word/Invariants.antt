@@ -1,0 +1,9 @@
+use Rattle.std.proofs.Common.{◌≡◌, length}
+use Rattle.std.specs.List.{All}
+use Rattle.circuits.specs.Circuit.{Keeps}
+use Rattle.test_parts.proofs.tests.words.word.Given as goal
+
+abbrev pub invariant-loop-i : goal.invariant-loop-i
+invariant-loop-i g l =
+    let m = g.C.State in
+    Keeps m l.initial.circuit l.circuit × All (m.has_literal l.circuit) l.word × (length l.word ≡ l._i)

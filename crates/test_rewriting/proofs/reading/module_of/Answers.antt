@@ -1,4 +1,0 @@
-use Rattle.test_rewriting.proofs.reading.module_of.Goals as goal
-
-pub returns-in-Ok-clause-forms : goal.returns-in-Ok-clause-forms
-returns-in-Ok-clause-forms c = c.in-Ok.ensures.forms

@@ -1,5 +1,0 @@
-use Rattle.test_rules.proofs.Reading.{read_rules}
-use Rattle.test_rules.proofs.tests.rules_of.Goals as goal
-
-pub returns-in-Ok : goal.returns-in-Ok
-returns-in-Ok c = read_rules c.in-Ok.rules.items c.in-Ok.ensures.rules c.in-Ok.ensures.classes

@@ -1,0 +1,404 @@
+//! Where rules match in functions, with which bindings, and where they don't.
+
+ghost use Rattle.test_texts.specs.Ready.{FunctionIsReady, RuleIsReady};
+
+use super::reading::{
+    ADD_ZERO, MUL_TWO, NOT_ADD, NOT_ADD_ONCE, SEL_INC, ZEXT_TWICE, function_of, match_there,
+    rule_of,
+};
+use bindings::Binding;
+use ir_core::{Function, Operand, Register, end_of};
+use rule_core::Rule;
+use std::alloc::Global;
+use std::test::Fail;
+
+/// What an input is bound to.
+enum Given {
+    Register(Register),
+    Number(u64),
+    Poison,
+}
+
+/// A match: its block and place, the places of its statements' instructions, what its inputs and constants are bound to, and the
+/// widths of its classes.
+struct Match {
+    at: (u32, u32),
+    statements: &'static [u32],
+    inputs: &'static [Given],
+    constants: &'static [u64],
+    widths: &'static [u32],
+}
+
+/// A rule, a function, and all matches there, in the order of the text.
+struct Row {
+    rule: &'static str,
+    function: &'static str,
+    matches: &'static [Match],
+}
+
+const A: Given = Given::Register(Register::Parameter(0));
+
+const B: Given = Given::Register(Register::Parameter(1));
+
+const AND_ONES: &str = "Name: and-ones\n%r = and %x, -1\n=>\n%r = %x\n";
+
+const XOR_SELF: &str = "Name: xor-self\n%r = xor %x, %x\n=>\n%r = 0\n";
+
+const AND_UNDEF: &str = "Name: and-undef\nWit: 0\n%r = and %x, undef\n=>\n%r = 0\n";
+
+const MET: &str =
+    "Name: met\n%c = icmp eq %x, C\n%r = select %c, %y, C\n=>\n%r = select %c, %y, %x\n";
+
+const ROWS: [Row; 27] = [
+    Row {
+        rule: NOT_ADD,
+        function: "define i4 @f(i4 %a) { %1 = xor i4 %a, -1 %2 = add i4 %1, 5 ret i4 %2 }",
+        matches: &[Match {
+            at: (0, 1),
+            statements: &[0, 1],
+            inputs: &[A],
+            constants: &[5],
+            widths: &[4],
+        }],
+    },
+    // In a loop, where the input is a phi.
+    Row {
+        rule: MUL_TWO,
+        function: "define i8 @f(i8 %n) { entry: br label %l l: %i = phi i8 [ 0, %entry ], [ %k, %l ] %k = mul i8 %i, 2
+%c = icmp ult i8 %k, %n br i1 %c, label %l, label %out out: ret i8 %k }",
+        matches: &[Match {
+            at: (1, 1),
+            statements: &[1],
+            inputs: &[Given::Register(Register::Result(1, 0))],
+            constants: &[],
+            widths: &[8],
+        }],
+    },
+    // Behind the phis of a loop, of which it reads one; the root is read in another block.
+    Row {
+        rule: ADD_ZERO,
+        function: "define i8 @swap(i8 %n) { entry: br label %loop loop: %a = phi i8 [ 1, %entry ], [ %b, %loop ]
+%b = phi i8 [ 2, %entry ], [ %a, %loop ] %i = phi i8 [ 0, %entry ], [ %j, %loop ] %r = add i8 %i, 0 %j = add i8 %i, 1
+%c = icmp ult i8 %j, %n br i1 %c, label %loop, label %exit exit: ret i8 %r }",
+        matches: &[Match {
+            at: (1, 3),
+            statements: &[3],
+            inputs: &[Given::Register(Register::Result(1, 2))],
+            constants: &[],
+            widths: &[8],
+        }],
+    },
+    Row {
+        rule: SEL_INC,
+        function: "define i4 @f(i1 %c, i4 %a) { %t = add i4 %a, 1 %r = select i1 %c, i4 %a, i4 %t ret i4 %r }",
+        matches: &[Match {
+            at: (0, 1),
+            statements: &[0, 1],
+            inputs: &[B, A],
+            constants: &[],
+            widths: &[4, 1],
+        }],
+    },
+    // A flag too many under a temporary that the target reads.
+    Row {
+        rule: SEL_INC,
+        function: "define i4 @f(i1 %c, i4 %a) { %t = add nsw i4 %a, 1 %r = select i1 %c, i4 %a, i4 %t ret i4 %r }",
+        matches: &[],
+    },
+    // A flag too many where the target reads no temporary.
+    Row {
+        rule: NOT_ADD,
+        function: "define i4 @f(i4 %a) { %1 = xor i4 %a, -1 %2 = add nuw nsw i4 %1, 5 ret i4 %2 }",
+        matches: &[Match {
+            at: (0, 1),
+            statements: &[0, 1],
+            inputs: &[A],
+            constants: &[5],
+            widths: &[4],
+        }],
+    },
+    // A flag too few.
+    Row {
+        rule: "Name: nsw\n%r = add nsw %x, 1\n=>\n%r = sub nsw %x, -1\n",
+        function: "define i8 @f(i8 %a) { %1 = add nuw i8 %a, 1 %2 = add nuw nsw i8 %1, 1 ret i8 %2 }",
+        matches: &[Match {
+            at: (0, 1),
+            statements: &[1],
+            inputs: &[Given::Register(Register::Result(0, 0))],
+            constants: &[],
+            widths: &[8],
+        }],
+    },
+    // One use: named twice, by two instructions.
+    Row {
+        rule: NOT_ADD_ONCE,
+        function: "define i4 @g(i4 %a) { %1 = xor i4 %a, -1 %2 = add i4 %1, 5 %3 = and i4 %1, %2 ret i4 %3 }",
+        matches: &[],
+    },
+    Row {
+        rule: NOT_ADD,
+        function: "define i4 @g(i4 %a) { %1 = xor i4 %a, -1 %2 = add i4 %1, 5 %3 = and i4 %1, %2 ret i4 %3 }",
+        matches: &[Match {
+            at: (0, 1),
+            statements: &[0, 1],
+            inputs: &[A],
+            constants: &[5],
+            widths: &[4],
+        }],
+    },
+    Row {
+        rule: NOT_ADD_ONCE,
+        function: "define i4 @g(i4 %a) { %1 = xor i4 %a, -1 %2 = add i4 %1, 5 %3 = and i4 %2, %2 ret i4 %3 }",
+        matches: &[Match {
+            at: (0, 1),
+            statements: &[0, 1],
+            inputs: &[A],
+            constants: &[5],
+            widths: &[4],
+        }],
+    },
+    // Named twice by one instruction, and once more in a block that isn't reached.
+    Row {
+        rule: "Name: twice\nPre: hasOneUse(%t)\n%t = xor %x, -1\n%r = add %t, %t\n=>\n%r = mul %t, 2\n",
+        function: "define i4 @g(i4 %a) { %1 = xor i4 %a, -1 %2 = add i4 %1, %1 ret i4 %2 }",
+        matches: &[],
+    },
+    Row {
+        rule: NOT_ADD_ONCE,
+        function: "define i4 @g(i4 %a) { %x = xor i4 %a, -1 %y = add i4 %x, 5 ret i4 %y b: ret i4 %x }",
+        matches: &[],
+    },
+    // A temporary in another block.
+    Row {
+        rule: NOT_ADD,
+        function: "define i4 @f(i4 %a) { %x = xor i4 %a, -1 br label %b b: %y = add i4 %x, 5 ret i4 %y }",
+        matches: &[],
+    },
+    // `undef` for an input, and for a constant.
+    Row {
+        rule: ADD_ZERO,
+        function: "define i4 @f() { %x = add i4 undef, 0 ret i4 %x }",
+        matches: &[],
+    },
+    Row {
+        rule: NOT_ADD,
+        function: "define i4 @f(i4 %a) { %x = xor i4 %a, -1 %y = add i4 %x, undef ret i4 %y }",
+        matches: &[],
+    },
+    // `undef` for `undef`.
+    Row {
+        rule: AND_UNDEF,
+        function: "define i4 @f(i4 %a) { %x = and i4 %a, undef %y = and i4 %x, 0 ret i4 %y }",
+        matches: &[Match {
+            at: (0, 0),
+            statements: &[0],
+            inputs: &[A],
+            constants: &[],
+            widths: &[4],
+        }],
+    },
+    // -1 is 255 at i8, and isn't at i16.
+    Row {
+        rule: AND_ONES,
+        function: "define i8 @f(i8 %a) { %x = and i8 %a, 255 ret i8 %x }",
+        matches: &[Match {
+            at: (0, 0),
+            statements: &[0],
+            inputs: &[A],
+            constants: &[],
+            widths: &[8],
+        }],
+    },
+    Row {
+        rule: AND_ONES,
+        function: "define i16 @f(i16 %a) { %x = and i16 %a, 255 ret i16 %x }",
+        matches: &[],
+    },
+    // Two operands `poison` are equal, and so are two equal numbers.
+    Row {
+        rule: XOR_SELF,
+        function: "define i4 @f(i4 %a) { %x = xor i4 poison, poison %y = xor i4 3, 3 %z = xor i4 %a, %x ret i4 %z }",
+        matches: &[
+            Match {
+                at: (0, 0),
+                statements: &[0],
+                inputs: &[Given::Poison],
+                constants: &[],
+                widths: &[4],
+            },
+            Match {
+                at: (0, 1),
+                statements: &[1],
+                inputs: &[Given::Number(3)],
+                constants: &[],
+                widths: &[4],
+            },
+        ],
+    },
+    // A literal in place of a register isn't looked through, and operands aren't commuted.
+    Row {
+        rule: ADD_ZERO,
+        function: "define i4 @f(i4 %a) { %x = add i4 0, %a ret i4 %x }",
+        matches: &[],
+    },
+    // A constant that is met at two numbers, and at one.
+    Row {
+        rule: "Name: and-and\n%t = and %x, C\n%r = and %t, C\n=>\n%r = and %x, C\n",
+        function: "define i4 @f(i4 %a) { %x = and i4 %a, 3 %y = and i4 %x, 5 %z = and i4 %y, 5 ret i4 %z }",
+        matches: &[Match {
+            at: (0, 2),
+            statements: &[1, 2],
+            inputs: &[Given::Register(Register::Result(0, 0))],
+            constants: &[5],
+            widths: &[4],
+        }],
+    },
+    // A constant that is met at one width, and at two.
+    Row {
+        rule: MET,
+        function: "define i8 @f(i8 %a, i8 %b) { %c = icmp eq i8 %a, 7 %x = select i1 %c, i8 %b, i8 7 ret i8 %x }",
+        matches: &[Match {
+            at: (0, 1),
+            statements: &[0, 1],
+            inputs: &[A, B],
+            constants: &[7],
+            widths: &[1, 8],
+        }],
+    },
+    Row {
+        rule: MET,
+        function: "define i16 @f(i8 %a, i16 %b) { %c = icmp eq i8 %a, 7 %x = select i1 %c, i16 %b, i16 7 ret i16 %x }",
+        matches: &[],
+    },
+    // The precondition is false.
+    Row {
+        rule: "Name: mul-pow\n%r = mul %x, C\n=>\n%r = shl %x, log2(C)\n",
+        function: "define i8 @f(i8 %a) { %x = mul i8 %a, 6 %y = mul i8 %x, 8 ret i8 %y }",
+        matches: &[Match {
+            at: (0, 1),
+            statements: &[1],
+            inputs: &[Given::Register(Register::Result(0, 0))],
+            constants: &[8],
+            widths: &[8],
+        }],
+    },
+    // Casts, and a width that the target alone has.
+    Row {
+        rule: ZEXT_TWICE,
+        function: "define i32 @f(i8 %a) { %x = zext i8 %a to i16 %y = zext i16 %x to i32 %z = sext i16 %x to i32 ret i32 %y }",
+        matches: &[Match {
+            at: (0, 1),
+            statements: &[0, 1],
+            inputs: &[A],
+            constants: &[],
+            widths: &[16, 8, 32],
+        }],
+    },
+    Row {
+        rule: "Name: add-same\n%r = add %x, %x\n=>\n%c = icmp eq i3 0, 0\n%r = select %c, %x, %x\n",
+        function: "define i8 @f(i8 %a) { %x = add i8 %a, %a ret i8 %x }",
+        matches: &[Match {
+            at: (0, 0),
+            statements: &[0],
+            inputs: &[A],
+            constants: &[],
+            widths: &[8, 1, 3],
+        }],
+    },
+    // A root in a block that isn't reached.
+    Row {
+        rule: ADD_ZERO,
+        function: "define i8 @f() { ret i8 0 b: %a = add i8 %a, 0 ret i8 %a }",
+        matches: &[],
+    },
+];
+
+/// Adds the bindings with which a rule matches in a block, in order.
+fn push_in_block(
+    alloc: Global,
+    f: &Function,
+    block: u32,
+    rule: &Rule,
+    found: &mut Vec<Binding>,
+) -> Result<(), Fail>
+    requires function { FunctionIsReady f.now }
+    requires rule { RuleIsReady rule.now }
+{
+    for place in 0..end_of(f, block) {
+        if let Some(binding) = match_there(alloc, f, block, place, rule)? {
+            found.push(binding)?;
+        }
+    }
+    Ok(())
+}
+
+/// The bindings with which a rule matches in a function, block by block.
+fn matches_of(alloc: Global, rule: &str, function: &str) -> Result<Vec<Binding>, Fail> {
+    let rule = rule_of(alloc, rule)?;
+    let f = function_of(alloc, function)?;
+    let mut found = Vec::new(alloc);
+    for block in 0..f.blocks.len() as u32 {
+        push_in_block(alloc, &f, block, &rule, &mut found)?;
+    }
+    Ok(found)
+}
+
+/// Whether an input is bound to this.
+fn is_given(operand: &Operand, given: &Given) -> bool {
+    match (operand, given) {
+        (Operand::Register(register), Given::Register(other)) => register == other,
+        (Operand::Number(word), Given::Number(number)) => word.number() == *number,
+        (Operand::Poison, Given::Poison) => true,
+        _ => false,
+    }
+}
+
+/// Whether a binding is this match.
+fn is_this(binding: &Binding, expected: &Match) -> bool {
+    let statements = binding.statements.as_slice().iter();
+    let constants = binding.constants.as_slice().iter();
+    let widths = binding.typing.as_slice().iter();
+    (binding.block, binding.place) == expected.at
+        && statements.len() == expected.statements.len()
+        && statements
+            .zip(expected.statements)
+            .all(|(r, place)| *r == Register::Result(expected.at.0, *place))
+        && binding.inputs.len() == expected.inputs.len()
+        && binding
+            .inputs
+            .as_slice()
+            .iter()
+            .zip(expected.inputs)
+            .all(|(o, given)| is_given(o, given))
+        && constants.len() == expected.constants.len()
+        && constants
+            .zip(expected.constants)
+            .all(|(word, number)| word.number() == *number)
+        && widths.len() == expected.widths.len()
+        && widths
+            .zip(expected.widths)
+            .all(|(width, bits)| width.bits() == *bits)
+}
+
+/// Whether the bindings are these matches, in order.
+fn are_these(found: &[Binding], expected: &[Match]) -> bool {
+    found.len() == expected.len()
+        && found
+            .iter()
+            .zip(expected)
+            .all(|(binding, expected)| is_this(binding, expected))
+}
+
+#[test]
+fn rules_match_where_they_should(rt: HostRuntime) -> Result<(), Fail> {
+    for row in &ROWS {
+        let found = matches_of(rt.alloc(), row.rule, row.function)?;
+        assert!(rt;
+            are_these(found.as_slice(), row.matches),
+            "{}{}\n{found:?}",
+            row.rule,
+            row.function
+        );
+    }
+    Ok(())
+}

@@ -1,0 +1,83 @@
+//! Rules with one counterexample, at which both halves are run. What they do was worked out by hand.
+ghost use Rattle.verdict.specs.Findings.{IsReadRule};
+
+use super::classes::only_rule;
+use super::verdicts::widths;
+use lists::List;
+use ops::{Effect, Value};
+use rule_core::{Rule, Typing, run_source, run_target};
+use rule_typing::is_typing;
+use std::alloc::Global;
+use std::test::Fail;
+use verdict::decide;
+use verdict_core::Verdict;
+
+/// What a half of a rule does.
+#[derive(Clone, Copy, PartialEq, Debug)]
+enum Does {
+    Undefined,
+    Poison,
+    Gives(u64),
+}
+
+/// A rule of one class, its width, and what the source and the target do.
+const ROWS: [(&str, u32, Does, Does); 3] = [
+    // no amount of 1 is below the width
+    (
+        "Name: add-self\n%r = add nsw %x, %x\n=>\n%r = shl nsw %x, 1\n",
+        1,
+        Does::Gives(0),
+        Does::Poison,
+    ),
+    // 7 shifted by 2 is -4, which divided by -4 is 1
+    (
+        "Name: shl-sdiv\nPre: C1 == 2 && C2 == -4 && C2 % (1<<C1) == 0\n%s = shl nsw %X, C1\n%r = sdiv %s, C2\n=>\n%r = sdiv %X, C2/(1<<C1)\n",
+        3,
+        Does::Gives(1),
+        Does::Gives(7),
+    ),
+    (
+        "Name: r\n%r = and i1 1, C\n=>\n%r = udiv i1 1, C\n",
+        1,
+        Does::Gives(0),
+        Does::Undefined,
+    ),
+];
+
+fn seen(effect: &Effect) -> Does {
+    match effect {
+        Effect::Undefined => Does::Undefined,
+        Effect::Gives(Value::Poison) => Does::Poison,
+        Effect::Gives(Value::Bits(word)) => Does::Gives(word.number()),
+    }
+}
+
+/// What the source and the target do at the counterexample that refutes the rule.
+#[tactic(auto, using(crate::proofs::Choices::no_source_choices))]
+fn halves(alloc: Global, rule: &Rule, typing: &Typing) -> Result<(Does, Does), Fail>
+    requires { IsReadRule rule.now }
+{
+    if !is_typing(rule, typing) {
+        return Err("no typing")?;
+    }
+    let Verdict::Refuted(example) = decide(alloc, rule, typing, 0)? else {
+        return Err("no counterexample")?;
+    };
+    let none = List::new(alloc);
+    let (inputs, constants) = (&example.inputs, &example.constants);
+    let source = run_source(alloc, rule, typing, inputs, constants, &none)?;
+    let undefs = &example.target_undefs;
+    let target = run_target(alloc, rule, typing, inputs, constants, undefs)?;
+    Ok((seen(&source), seen(&target)))
+}
+
+#[test]
+fn halves_have_their_effects(rt: HostRuntime) -> Result<(), Fail> {
+    for (text, bits, source, target) in ROWS {
+        let typing = widths(rt.alloc(), bits, bits)?;
+        let rule = only_rule(rt.alloc(), text.as_bytes())?;
+        let found = halves(rt.alloc(), &rule, &typing)?;
+        assert_eq!(rt; found, (source, target), "{text}");
+    }
+    Ok(())
+}
