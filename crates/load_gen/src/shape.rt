@@ -1,6 +1,6 @@
 //! A generated function.
 
-ghost use Rattle.std.specs.Prelude.{◌≡◌, ◌≤◌, ◌∷◌, [], IfOk, OnOk};
+ghost use Rattle.std.specs.Prelude.{◌≡◌, ◌≤◌, ◌∷◌, [], ◌++◌, codes, IfOk, OnOk};
 ghost use Rattle.ir_core.specs.declared.instruction.Op.TheVariants.{Phi};
 ghost use Rattle.load_gen.specs.Draws.{next_state};
 ghost use Rattle.load_gen.specs.Generated.{function, blocks, loop_insts, parameter, fixed, state_after, width};
@@ -34,16 +34,26 @@ pub(crate) fn function(alloc: Global, draws: &mut Draws, place: u32) -> Result<F
     ensures state { OnOk result (draws.new.state ≡ state_after (next_state draws.old.state) 16) }
 {
     let width = drawn_width(draws);
-    let a = parameter(alloc, width, b"a")?;
-    let b = parameter(alloc, width, b"b")?;
+    let blocks = blocks(alloc, draws, width)?;
+    let parameters = parameters(alloc, width)?;
+    let name = numbered(alloc, b"f", place)?;
     Ok(Function {
-        name: numbered(alloc, b"f", place)?,
+        name,
         before: List::new(alloc),
         width,
-        parameters: List::from_vec(vec![in alloc; a, b]?),
+        parameters,
         after: List::new(alloc),
-        blocks: blocks(alloc, draws, width)?,
+        blocks,
     })
+}
+
+/// The parameters `%a` and `%b`.
+fn parameters(alloc: Global, width: Width) -> Result<List<Parameter>, AllocError>
+    ensures { IfOk result (λ made. made ≡ parameter width (codes "a") ∷ parameter width (codes "b") ∷ []) }
+{
+    let a = parameter(alloc, width, b"a")?;
+    let b = parameter(alloc, width, b"b")?;
+    Ok(List::from_vec(vec![in alloc; a, b]?))
 }
 
 /// The width of what the function computes with.
@@ -97,17 +107,40 @@ fn loop_insts(alloc: Global, draws: &mut Draws, width: Width) -> Result<List<Ins
 {
     let a = Operand::Register(Register::Parameter(0));
     let b = Operand::Register(Register::Parameter(1));
-    let counter = phi(alloc, number(width, 0), in_loop(NEXT))?;
-    let previous = phi(alloc, a, in_loop(LAST_DRAWN))?;
-    let next = binary(Opcode::Add, in_loop(COUNTER), number(width, 1));
-    let condition = Op::Compare(Pred::Ult, false, width, in_loop(COUNTER), b);
     let mut insts = List::new(alloc);
-    insts.push(inst(name(alloc, b"i")?, width, counter))?;
-    insts.push(inst(name(alloc, b"p")?, width, previous))?;
+    push_named(
+        alloc,
+        &mut insts,
+        b"i",
+        width,
+        phi(alloc, number(width, 0), in_loop(NEXT))?,
+    )?;
+    push_named(
+        alloc,
+        &mut insts,
+        b"p",
+        width,
+        phi(alloc, a, in_loop(LAST_DRAWN))?,
+    )?;
     push_drawn(alloc, draws, width, &mut insts)?;
-    insts.push(inst(name(alloc, b"next")?, width, next))?;
-    insts.push(inst(name(alloc, b"c")?, Width::ONE, condition))?;
+    let next = binary(Opcode::Add, in_loop(COUNTER), number(width, 1));
+    push_named(alloc, &mut insts, b"next", width, next)?;
+    let condition = Op::Compare(Pred::Ult, false, width, in_loop(COUNTER), b);
+    push_named(alloc, &mut insts, b"c", Width::ONE, condition)?;
     Ok(insts)
+}
+
+/// Adds an instruction of this name.
+fn push_named(
+    alloc: Global,
+    insts: &mut List<Inst>,
+    text: &[u8],
+    width: Width,
+    op: Op,
+) -> Result<(), AllocError>
+    ensures { OnOk result (insts.new ≡ insts.old ++ fixed text.now width op ∷ []) }
+{
+    insts.push(inst(name(alloc, text)?, width, op))
 }
 
 /// What is one operand where the loop is entered, and another where it goes round.

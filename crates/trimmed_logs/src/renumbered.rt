@@ -1,6 +1,6 @@
 //! The steps that are kept, as a log of their own.
 
-ghost use Rattle.std.specs.Prelude.{◌≤◌, length, All, Contains, IfOk};
+ghost use Rattle.std.specs.Prelude.{◌≡◌, ◌≤◌, length, All, Contains, IfOk};
 ghost use Rattle.clauses.specs.ClauseSet.{clauses_of_steps};
 
 use clauses::{Clause, Log, Step};
@@ -34,16 +34,29 @@ pub(crate) fn renumbered(
         let Some(old) = log.get(step.place) else {
             return Ok(steps);
         };
-        steps.push(Step {
-            clause: Clause::from_slice(alloc, old.clause.as_slice())?,
-            hints: numbered_anew(alloc, &step.hints, &numbers, first)?,
-        })?;
+        steps.push(step_anew(alloc, old, &step.hints, &numbers, first)?)?;
         if let Some(number) = numbers.get_mut(step.place) {
             *number = next;
         }
         next = next.wrapping_add(1);
     }
     Ok(steps)
+}
+
+/// The step with these hints in place of its own, numbered anew.
+fn step_anew(
+    alloc: Global,
+    old: &Step,
+    hints: &[u32],
+    numbers: &[u32],
+    first: u32,
+) -> Result<Step, AllocError>
+    ensures clause { IfOk result (λ step. step.clause ≡ old.now.clause) }
+{
+    Ok(Step {
+        clause: Clause::from_slice(alloc, old.clause.as_slice())?,
+        hints: numbered_anew(alloc, hints, numbers, first)?,
+    })
 }
 
 /// The hints by the numbers that clauses have now: those below `first` are the set's, and stay.

@@ -1,7 +1,9 @@
-use Rattle.std.proofs.Common.{◌≡◌, ◌+◌, length, map, ap, ◌∙◌}
+use Rattle.std.proofs.Common.{◌≡◌, ◌+◌, length, map, ap, ◌∙◌, arith}
+use Rattle.std.specs.Prelude.{filter}
+use Rattle.std.proofs.lemmas.Result.{IfOk-weaker}
 use Rattle.std.proofs.lemmas.List.{length-replicate}
 use Rattle.circuits.specs.Gates.{stages}
-use Rattle.circuits.specs.Word.{number}
+use Rattle.circuits.specs.Word.{number, number_of, bit}
 use Rattle.circuits.proofs.Words.{number-all_zero}
 use Rattle.circ_counts.proofs.Counted.{digits-hold, digits-few}
 use Rattle.circ_counts.proofs.ones.count_ones.Goals as goal
@@ -22,3 +24,14 @@ extend-requires-clause-wider g c =
     let digits : c.digit_count.result ≡ stages (length c.args.a.now + 1) = c.digit_count.ensures ∙ ap (λ n. stages (n + 1)) c.len.ensures in
     let width : length c.in_ok-count.count ≡ stages (length c.args.a.now + 1) = c.in_ok-count.ensures.width ∙ ap length (c.as_slice-2.ensures ∙ c.in_ok-zeros.ensures) ∙ length-replicate c.digit_count.result c.zero-zero.result ∙ digits in
     rw (width, c.len-2.ensures) (digits-few (length c.args.a.now))
+
+pub returns-clause-number : goal.returns-clause-number
+returns-clause-number g c =
+    let m = g.C.State in
+    let kept = c.counted.ensures.adds.keeps in
+    IfOk-weaker c.extend.result _ _ (λ made known inputs admitted.
+    let z : bit (m.value c.counted.new.c inputs c.zero-zero.result) ≡ 0 = ap bit (kept.values inputs _ admitted c.zero-zero.ensures.own ∙ c.zero-zero.ensures.value inputs admitted) in
+    let e = rw z at (known inputs (kept.admitted inputs admitted)) in
+    let first : number_of (m.value c.extend.new.c inputs) made ≡ number_of (m.value c.counted.new.c inputs) c.in_ok-count.count = omega (arith, e) in
+    first ∙ c.in_ok-count.ensures.number inputs admitted ∙ ap (λ w. length (filter (m.value c.args.c.now inputs) w)) c.as_slice.ensures)
+    c.extend.ensures.number

@@ -12,8 +12,8 @@ loop-step-preserved c =
     let log = c.args.log.now in
     let old = c.in-Some.old.now in
     let steps = c.loop-step.steps in
-    let step : Step = record { clause = c.in_ok-from_slice.field-0; hints = c.in_ok-numbered_anew.field-0 } in
-    let copied : old.clause ≡ step.clause = sym (c.in_ok-from_slice.ensures ∙ c.as_slice.ensures) in
+    let step : Step = c.in_ok-step_anew.field-0 in
+    let copied : old.clause ≡ step.clause = sym c.in_ok-step_anew.ensures.clause in
     let found = c.in-Some.ensures.lookup in
     let pushed : c.push.new.self ≡ steps ++ step ∷ [] = c.in_ok-push.ensures.ok in
     rw pushed record {
