@@ -45,3 +45,7 @@ Adds-weaken adds fewer = record { inputs = adds.inputs; gates = omega arith; kee
 -- an element of a word that is the circuit's
 pub own_at : {L : Type 0} (P : L → Type 0) (a : List L) (i : ℕ) (x : L) → All P a → i < length a → x ≡ get_or a i x → P x
 own_at P a i x own below e = subst P (sym e) (own i x below)
+
+-- where nothing was added yet
+pub Adds-none : {C L : Type 0} {state : Ghosts C L} {now : C} {n : ℕ} → Adds state now now n
+Adds-none = Adds-weaken Adds-refl (omega arith)

@@ -2,8 +2,10 @@
 use Rattle.std.proofs.Common.{◌≡◌, ℕ, zero, suc, ◌+◌, ◌-◌, ◌*◌, ◌/◌, ◌%◌, ◌^◌, ◌<◌, ◌≤◌, Bool, true, false, nat_lt, if◌then◌else◌, List, [], ◌∷◌, ◌++◌, map, length, take, drop, get_or, replicate, refl, sym, ap, subst, ◌∙◌, ⊎_elim, arith, length-append, length-drop}
 use Rattle.std.proofs.lemmas.Bool.{cases_lt}
 use Rattle.std.proofs.lemmas.List.{take-take, drop-map, take-append-le, take-replicate, take-map, drop-drop, drop-append-le, drop-replicate, length-take-le, take-append-drop, length-map, length-replicate, replicate-append-replicate, append_assoc, map-append}
+use Rattle.std.proofs.lemmas.List.Elements.{All-append, All-replicate, All-take, All-drop}
 use Rattle.std.proofs.lemmas.Nat.{div-mul-add}
 use Rattle.std.proofs.Math.Seq.{drop-append-add, take-append-add}
+use Rattle.std.specs.List.{All}
 use Rattle.circuits.specs.declared.shift.Direction.{Direction}
 use Rattle.circuits.specs.declared.shift.Direction.TheVariants.{Up, Down}
 use Rattle.circuits.specs.Move.{moved}
@@ -13,6 +15,10 @@ use Rattle.circuits.proofs.Words.{number-append, number-take, number-zeros, numb
 pub length-moved : {L : Type 0} (direction : Direction) (fill : L) (s : ℕ) (word : List L) → length (moved direction fill s word) ≡ length word
 length-moved Up fill s word = length-take-le (length word) (replicate s fill ++ word) (omega (arith, length-append (replicate s fill) word))
 length-moved Down fill s word = length-drop s (word ++ replicate s fill) ∙ omega (arith, length-append word (replicate s fill), length-replicate s fill)
+
+pub All-moved : {L : Type 0} (P : L → Type 0) (direction : Direction) (fill : L) (s : ℕ) (word : List L) → P fill → All P word → All P (moved direction fill s word)
+All-moved P Up fill s word own_fill own = All-take P (length word) (replicate s fill ++ word) (All-append P (replicate s fill) word (All-replicate P s fill own_fill) own)
+All-moved P Down fill s word own_fill own = All-drop P s (word ++ replicate s fill) (All-append P word (replicate s fill) own (All-replicate P s fill own_fill))
 
 map-moved : {L : Type 0} (value : L → Bool) (direction : Direction) (fill : L) (s : ℕ) (word : List L) → map value (moved direction fill s word) ≡ moved direction (value fill) s (map value word)
 map-moved value Up fill s word = rw (← take-map value (length word) (replicate s fill ++ word), map-append value (replicate s fill) word, map-replicate value s fill, length-map word value) refl

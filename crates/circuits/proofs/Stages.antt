@@ -1,10 +1,10 @@
 -- How many stages a shift has.
-use Rattle.std.proofs.Common.{◌≡◌, ℕ, zero, suc, ◌+◌, ◌*◌, ◌%◌, ◌^◌, min, List, length, take, drop, length-drop, ◌<◌, ◌≤◌, true, false, nat_lt, if◌then◌else◌, ap, ◌∙◌, ⊎_elim, arith, add-one}
+use Rattle.std.proofs.Common.{◌≡◌, ℕ, zero, suc, ◌+◌, ◌-◌, ◌*◌, ◌%◌, ◌^◌, min, List, length, take, drop, length-drop, ◌<◌, ◌≤◌, true, false, nat_lt, if◌then◌else◌, ap, ◌∙◌, ⊎_elim, arith, add-one}
 use Rattle.std.proofs.lemmas.Bool.{cases_lt}
 use Rattle.std.proofs.Math.Nat.{pow-succ', mul-le-mul_left, mod-eq_of_lt}
 use Rattle.std.proofs.lemmas.List.{length-take-le}
 use Rattle.std.proofs.Math.Pow.{pow_mono}
-use Rattle.circuits.specs.Gates.{stages}
+use Rattle.circuits.specs.Gates.{shift_gates, stages}
 
 pub doubled : (k : ℕ) → 2 ^ (k + 1) ≡ 2 * 2 ^ k
 doubled k = ap (λ n. 2 ^ n) (add-one k) ∙ pow-succ' 2 k
@@ -90,3 +90,20 @@ stage_reach n low amount low_is far =
 -- the gates of one stage more
 pub stage_gates : (n i k : ℕ) → i < k → n * i + n ≤ n * k
 stage_gates n i k h = let more : i + 1 ≤ k = omega arith in omega (arith, mul-le-mul_left n more)
+
+-- the gates of a shift: of its stages, and of what the amount's higher bits add
+module _ {L : Type 0} (n low : ℕ) (amount : List L) (low_is : low ≡ min (stages n) (length amount)) where
+  pub near_width : length (take low amount) ≡ low
+  near_width = length-take-le low amount (omega arith)
+
+  pub far_width : length (take (length amount - low) (drop low amount)) ≡ length amount - low
+  far_width = length-take-le (length amount - low) (drop low amount) (omega (arith, length-drop low amount))
+
+  pub near_few : length (take low amount) ≤ stages n
+  near_few = rw near_width (omega arith)
+
+  pub near_gates : n * length (take low amount) ≤ shift_gates n (length amount)
+  near_gates = rw (near_width, low_is) (omega arith)
+
+  pub whole_gates : n * length (take low amount) + (length (take (length amount - low) (drop low amount)) + n) ≤ shift_gates n (length amount)
+  whole_gates = rw (near_width, far_width, low_is) (omega arith)

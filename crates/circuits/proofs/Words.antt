@@ -118,6 +118,11 @@ pub take_select : {L : Type 0} (value : L → Bool) (b : Bool) (on off : List L)
 take_select value true on off i x y in_on in_off at_x at_y = map_take_more value on i x in_on at_x
 take_select value false on off i x y in_on in_off at_x at_y = map_take_more value off i y in_off at_y
 
+-- all bits of a choice of two words
+pub take_select_all : {L : Type 0} (value : L → Bool) (b : Bool) (on off : List L) (i : ℕ) → length on ≤ i → length off ≤ i → take i (if b then map value on else map value off) ≡ (if b then map value on else map value off)
+take_select_all value true on off i all_on all_off = take_all i (map value on) (omega (arith, length-map on value))
+take_select_all value false on off i all_on all_off = take_all i (map value off) (omega (arith, length-map off value))
+
 any_step : (b : Bool) (n : ℕ) → (b || nat_lt 0 n) ≡ nat_lt 0 (bit b + 2 * n)
 any_step true n = grind (arith, nat_tests)
 any_step false n = grind (arith, nat_tests)

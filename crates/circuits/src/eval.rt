@@ -10,7 +10,7 @@ use std::marker::Model;
 
 /// A circuit that keeps no gates: with the values of its inputs given, each literal is its own value, and each truth value is a
 /// literal. An input or a gate takes no memory.
-#[derive(Debug, Drop)]
+#[derive(Drop)]
 pub struct EvalCircuit {
     inputs: List<bool>,
     made: usize,

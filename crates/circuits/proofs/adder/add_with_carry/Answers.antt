@@ -1,4 +1,5 @@
 use Rattle.std.proofs.Common.{◌<◌, length, arith}
+use Rattle.circuits.proofs.Kept.{own_at, Adds-trans, Adds-weaken}
 use Rattle.circuits.proofs.Chain.{chain_step, chain_end}
 use Rattle.circuits.proofs.adder.add_with_carry.Goals as goal
 
@@ -11,3 +12,22 @@ loop-i-preserved g c =
 
 pub returns-clause-number : goal.returns-clause-number
 returns-clause-number g c = chain_end c.loop-i.invariant (omega arith) (omega arith)
+
+pub full_adder-requires-clause-own_a : goal.full_adder-requires-clause-own_a
+full_adder-requires-clause-own_a g c =
+    let inside : c.loop-i.i < length c.args.a.now = omega arith in
+    c.loop-i.invariant.adds.keeps.literals c.index-a-i.result (own_at (g.C.State.has_literal c.args.c.now) c.args.a.now c.loop-i.i c.index-a-i.result c.requires.own_a inside c.index-a-i.is)
+
+pub full_adder-requires-clause-own_b : goal.full_adder-requires-clause-own_b
+full_adder-requires-clause-own_b g c =
+    let inside : c.loop-i.i < length c.args.b.now = omega arith in
+    c.loop-i.invariant.adds.keeps.literals c.index-b-i.result (own_at (g.C.State.has_literal c.args.c.now) c.args.b.now c.loop-i.i c.index-b-i.result c.requires.own_b inside c.index-b-i.is)
+
+pub returns-in_err-sum-clause-adds : goal.returns-in_err-sum-clause-adds
+returns-in_err-sum-clause-adds g c = Adds-weaken (Adds-trans c.loop-i.invariant.adds c.full_adder.ensures.adds) (omega arith)
+
+pub returns-in_err-push-clause-adds : goal.returns-in_err-push-clause-adds
+returns-in_err-push-clause-adds g c = Adds-weaken (Adds-trans c.loop-i.invariant.adds c.full_adder.ensures.adds) (omega arith)
+
+pub returns-clause-adds : goal.returns-clause-adds
+returns-clause-adds g c = Adds-weaken c.loop-i.invariant.adds (omega arith)

@@ -1,6 +1,8 @@
-use Rattle.std.proofs.Common.{length, map, ap, ◌∙◌}
+use Rattle.std.proofs.Common.{length, map, sym, ap, subst, ◌∙◌, arith}
+use Rattle.std.specs.List.{All}
 use Rattle.std.proofs.lemmas.List.{length-map}
 use Rattle.circuits.specs.Word.{number_of}
+use Rattle.circuits.proofs.Kept.{Adds-none, Adds-weaken}
 use Rattle.circuits.proofs.Words.{number-sub, sum_remainder}
 use Rattle.circuits.proofs.arithmetic.sub.Goals as goal
 
@@ -13,3 +15,25 @@ returns-clause-number g c inputs admitted =
     (length-map c.args.b.now value ∙ c.requires.same_width)
     (sum_remainder _ (length c.args.a.now) _ _ (length-map c.in_ok-sum.sum.bits (g.C.State.value c.add_with_carry.new.c inputs) ∙ c.in_ok-sum.ensures.width ∙ ap length c.as_slice-2.ensures)
     (rw (c.as_slice-2.ensures, c.as_slice-3.ensures) at (c.in_ok-sum.ensures.number inputs admitted)))
+
+pub inverted-requires : goal.inverted-requires
+inverted-requires g c = subst (All (g.C.State.has_literal c.args.c.now)) (sym c.as_slice.ensures) c.requires.own_b
+
+pub add_with_carry-requires-clause-same_width : goal.add_with_carry-requires-clause-same_width
+add_with_carry-requires-clause-same_width g c =
+    ap length c.as_slice-3.ensures ∙ c.in_ok-complement.ensures.width ∙ ap length c.as_slice.ensures ∙ c.requires.same_width ∙ sym (ap length c.as_slice-2.ensures)
+
+pub add_with_carry-requires-clause-own_a : goal.add_with_carry-requires-clause-own_a
+add_with_carry-requires-clause-own_a g c = subst (All (g.C.State.has_literal c.args.c.now)) (sym c.as_slice-2.ensures) c.requires.own_a
+
+pub add_with_carry-requires-clause-own_b : goal.add_with_carry-requires-clause-own_b
+add_with_carry-requires-clause-own_b g c = subst (All (g.C.State.has_literal c.args.c.now)) (sym c.as_slice-3.ensures) c.in_ok-complement.ensures.own
+
+pub returns-in_err-complement-clause-adds : goal.returns-in_err-complement-clause-adds
+returns-in_err-complement-clause-adds g c = Adds-none
+
+pub returns-in_err-sum-clause-adds : goal.returns-in_err-sum-clause-adds
+returns-in_err-sum-clause-adds g c = Adds-weaken c.add_with_carry.ensures.adds (omega (arith, ap length c.as_slice-2.ensures))
+
+pub returns-clause-adds : goal.returns-clause-adds
+returns-clause-adds g c = Adds-weaken c.add_with_carry.ensures.adds (omega (arith, ap length c.as_slice-2.ensures))

@@ -1,5 +1,7 @@
-use Rattle.std.proofs.Common.{◌∙◌}
+use Rattle.std.proofs.Common.{length, sym, ap, subst, ◌∙◌, arith}
+use Rattle.std.specs.List.{All}
 use Rattle.std.proofs.lemmas.Result.{IfOk-weaker}
+use Rattle.circuits.proofs.Kept.{Adds-none, Adds-weaken}
 use Rattle.circuits.proofs.Signed.{less_raised}
 use Rattle.circuits.proofs.compare.less_signed.Goals as goal
 
@@ -11,3 +13,22 @@ returns-clause-value g c =
     (rw c.as_slice.ensures at (c.in_ok-raised_a.ensures.number inputs admitted))
     (rw c.as_slice-2.ensures at (c.in_ok-raised_b.ensures.number inputs admitted)))
     c.less_unsigned.ensures.value
+
+pub raised-requires-clause-own : goal.raised-requires-clause-own
+raised-requires-clause-own g c = subst (All (g.C.State.has_literal c.args.c.now)) (sym c.as_slice.ensures) c.requires.own_a
+
+pub raised-requires-2-clause-own : goal.raised-requires-2-clause-own
+raised-requires-2-clause-own g c = subst (All (g.C.State.has_literal c.args.c.now)) (sym c.as_slice-2.ensures) c.requires.own_b
+
+pub less_unsigned-requires-clause-same_width : goal.less_unsigned-requires-clause-same_width
+less_unsigned-requires-clause-same_width g c =
+    c.in_ok-raised_b.ensures.width ∙ ap length c.as_slice-2.ensures ∙ c.requires.same_width ∙ sym (c.in_ok-raised_a.ensures.width ∙ ap length c.as_slice.ensures)
+
+pub returns-in_err-raised_a-clause-adds : goal.returns-in_err-raised_a-clause-adds
+returns-in_err-raised_a-clause-adds g c = Adds-none
+
+pub returns-in_err-raised_b-clause-adds : goal.returns-in_err-raised_b-clause-adds
+returns-in_err-raised_b-clause-adds g c = Adds-none
+
+pub returns-clause-adds : goal.returns-clause-adds
+returns-clause-adds g c = Adds-weaken c.less_unsigned.ensures.adds (omega (arith, c.in_ok-raised_a.ensures.width, ap length c.as_slice.ensures))

@@ -1,7 +1,8 @@
-use Rattle.std.proofs.Common.{map, ap, ◌∙◌}
+use Rattle.std.proofs.Common.{length, map, sym, ap, subst, ◌∙◌, arith}
+use Rattle.std.specs.List.{All}
 use Rattle.std.proofs.lemmas.Result.{IfOk-weaker}
 use Rattle.circuits.proofs.Chosen.{chosen}
-use Rattle.circuits.proofs.Kept.{map-kept}
+use Rattle.circuits.proofs.Kept.{All-kept, map-kept, Adds-trans, Adds-weaken}
 use Rattle.circuits.proofs.extreme.maximum.Goals as goal
 
 pub returns-clause-number : goal.returns-clause-number
@@ -14,3 +15,23 @@ returns-clause-number g c =
     (ap (map (now inputs)) c.as_slice.ensures ∙ map-kept keeps inputs admitted c.args.b.now c.requires.own_b)
     (ap (map (now inputs)) c.as_slice-2.ensures ∙ map-kept keeps inputs admitted c.args.a.now c.requires.own_a))
     c.select.ensures.values
+
+pub select-requires-clause-same_width : goal.select-requires-clause-same_width
+select-requires-clause-same_width g c = ap length c.as_slice-2.ensures ∙ sym (ap length c.as_slice.ensures ∙ c.requires.same_width)
+
+pub select-requires-clause-own_yes : goal.select-requires-clause-own_yes
+select-requires-clause-own_yes g c =
+    subst (All (g.C.State.has_literal c.less.new.c)) (sym c.as_slice.ensures) (All-kept c.less.ensures.adds.keeps c.args.b.now c.requires.own_b)
+
+pub select-requires-clause-own_no : goal.select-requires-clause-own_no
+select-requires-clause-own_no g c =
+    subst (All (g.C.State.has_literal c.less.new.c)) (sym c.as_slice-2.ensures) (All-kept c.less.ensures.adds.keeps c.args.a.now c.requires.own_a)
+
+pub returns-in_err-a_is_less-clause-adds : goal.returns-in_err-a_is_less-clause-adds
+returns-in_err-a_is_less-clause-adds g c = Adds-weaken c.less.ensures.adds (omega arith)
+
+pub returns-clause-width : goal.returns-clause-width
+returns-clause-width g c = IfOk-weaker c.select.result _ _ (λ word known. known ∙ ap length c.as_slice.ensures ∙ c.requires.same_width) c.select.ensures.width
+
+pub returns-clause-adds : goal.returns-clause-adds
+returns-clause-adds g c = Adds-weaken (Adds-trans c.less.ensures.adds c.select.ensures.adds) (omega (arith, ap length c.as_slice.ensures, c.requires.same_width))

@@ -1,7 +1,12 @@
-use Rattle.std.proofs.Common.{◌≡◌, ◌^◌, ◌<◌, ◌≤◌, length, ◌∙◌, ap, arith}
+use Rattle.std.proofs.Common.{◌≡◌, ◌^◌, ◌<◌, ◌≤◌, length, map, ◌∙◌, ap, sym, subst, arith}
+use Rattle.std.specs.List.{All}
+use Rattle.std.proofs.Math.Nat.{mul-le-mul_left}
+use Rattle.std.proofs.lemmas.List.{take_all}
+use Rattle.circuits.specs.Move.{moved}
+use Rattle.circuits.specs.Word.{number_of}
 use Rattle.circuits.proofs.Kept.{Adds-trans, Adds-weaken, own_at}
 use Rattle.circuits.proofs.Stages.{stage_inside, stage_place, stage_distance, stage_gates}
-use Rattle.circuits.proofs.Shifts.{moved_more}
+use Rattle.circuits.proofs.Shifts.{All-moved, moved_more}
 use Rattle.circuits.proofs.shift.by_stages.Goals as goal
 
 pub overflow_shl-i : goal.overflow_shl-i
@@ -42,3 +47,37 @@ returns-in_err-word-clause-adds g c =
     let more = stage_gates (length c.args.a.now) c.loop-i.i (length c.args.amount.now) c.loop-i-test.true in
     let slice_width : length c.as_slice-in-loop-i.result.now ≡ length c.args.a.now = ap length c.as_slice-in-loop-i.ensures ∙ c.in_ok-further.ensures.width ∙ ap length c.as_slice.ensures ∙ c.loop-i.invariant.2 in
     Adds-weaken (Adds-trans c.loop-i.invariant.0 c.select.ensures.adds) (omega arith)
+
+pub select-requires-clause-same_width : goal.select-requires-clause-same_width
+select-requires-clause-same_width g c =
+    ap length c.as_slice-in-loop-i-2.ensures ∙ sym (ap length c.as_slice-in-loop-i.ensures ∙ c.in_ok-further.ensures.width ∙ ap length c.as_slice.ensures)
+
+pub select-requires-clause-own_condition : goal.select-requires-clause-own_condition
+select-requires-clause-own_condition g c =
+    c.loop-i.invariant.0.keeps.literals c.index-amount-i.result (own_at (g.C.State.has_literal c.args.c.now) c.args.amount.now c.loop-i.i c.index-amount-i.result c.requires.own_amount c.loop-i-test.true c.index-amount-i.is)
+
+pub select-requires-clause-own_yes : goal.select-requires-clause-own_yes
+select-requires-clause-own_yes g c =
+    let P = g.C.State.has_literal c.loop-i.c in
+    let own : All P c.as_slice.result.now = subst (All P) (sym c.as_slice.ensures) c.loop-i.invariant.1 in
+    subst (All P) (sym (c.as_slice-in-loop-i.ensures ∙ c.in_ok-further.ensures.bits))
+    (All-moved P c.args.direction c.args.fill _ c.as_slice.result.now (c.loop-i.invariant.0.keeps.literals c.args.fill c.requires.own_fill) own)
+
+pub select-requires-clause-own_no : goal.select-requires-clause-own_no
+select-requires-clause-own_no g c = subst (All (g.C.State.has_literal c.loop-i.c)) (sym c.as_slice-in-loop-i-2.ensures) c.loop-i.invariant.1
+
+pub returns-in_err-further-clause-adds : goal.returns-in_err-further-clause-adds
+returns-in_err-further-clause-adds g c =
+    let inside : c.loop-i.i ≤ length c.args.amount.now = omega arith in
+    Adds-weaken c.loop-i.invariant.0 (mul-le-mul_left (length c.args.a.now) inside)
+
+pub returns-clause-values : goal.returns-clause-values
+returns-clause-values g c inputs admitted =
+    let value = g.C.State.value c.args.c.now inputs in
+    c.loop-i.invariant.3 inputs admitted
+    ∙ ap (λ bits. moved c.args.direction (value c.args.fill) (number_of value bits) (map value c.args.a.now)) (take_all c.loop-i.i c.args.amount.now (omega arith))
+
+pub returns-clause-adds : goal.returns-clause-adds
+returns-clause-adds g c =
+    let inside : c.loop-i.i ≤ length c.args.amount.now = omega arith in
+    Adds-weaken c.loop-i.invariant.0 (mul-le-mul_left (length c.args.a.now) inside)

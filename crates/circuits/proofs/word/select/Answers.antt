@@ -1,8 +1,8 @@
 use Rattle.std.proofs.Common.{◌<◌, length, ◌∷◌, [], ◌+◌, ◌∙◌, ap, sym, arith}
 use Rattle.std.proofs.lemmas.List.{map-append, length_push}
 use Rattle.std.proofs.lemmas.List.Elements.{All-push}
-use Rattle.circuits.proofs.Kept.{Adds-trans, All-kept, map-kept, own_at}
-use Rattle.circuits.proofs.Words.{take_select}
+use Rattle.circuits.proofs.Kept.{Adds-trans, Adds-weaken, All-kept, map-kept, own_at}
+use Rattle.circuits.proofs.Words.{take_select, take_select_all}
 use Rattle.circuits.proofs.word.select.Goals as goal
 
 pub loop-i-preserved : goal.loop-i-preserved
@@ -24,3 +24,30 @@ loop-i-preserved g c =
           rw (c.in_ok-push.ensures.ok, map-append (m.value c.mux.new.self inputs) c.loop-i.word (c.in_ok-bit.bit ∷ []), word_kept, before.3 inputs admitted, c.in_ok-bit.ensures.value inputs now_admitted, condition_kept, yes_kept, no_kept)
           (sym (take_select (m.value c.args.c.now inputs) (m.value c.args.c.now inputs c.args.condition) c.args.yes.now c.args.no.now c.loop-i.i c.index-yes-i.result c.index-no-i.result in_yes in_no c.index-yes-i.is c.index-no-i.is)),
     )
+
+pub mux-requires-clause-own_condition : goal.mux-requires-clause-own_condition
+mux-requires-clause-own_condition g c = c.loop-i.invariant.0.keeps.literals c.args.condition c.requires.own_condition
+
+pub mux-requires-clause-own_yes : goal.mux-requires-clause-own_yes
+mux-requires-clause-own_yes g c =
+    let inside : c.loop-i.i < length c.args.yes.now = omega arith in
+    c.loop-i.invariant.0.keeps.literals c.index-yes-i.result (own_at (g.C.State.has_literal c.args.c.now) c.args.yes.now c.loop-i.i c.index-yes-i.result c.requires.own_yes inside c.index-yes-i.is)
+
+pub mux-requires-clause-own_no : goal.mux-requires-clause-own_no
+mux-requires-clause-own_no g c =
+    let inside : c.loop-i.i < length c.args.no.now = omega arith in
+    c.loop-i.invariant.0.keeps.literals c.index-no-i.result (own_at (g.C.State.has_literal c.args.c.now) c.args.no.now c.loop-i.i c.index-no-i.result c.requires.own_no inside c.index-no-i.is)
+
+pub returns-in_err-bit-clause-adds : goal.returns-in_err-bit-clause-adds
+returns-in_err-bit-clause-adds g c = Adds-weaken (Adds-trans c.loop-i.invariant.0 c.mux.ensures.adds) (omega arith)
+
+pub returns-in_err-push-clause-adds : goal.returns-in_err-push-clause-adds
+returns-in_err-push-clause-adds g c = Adds-weaken (Adds-trans c.loop-i.invariant.0 c.mux.ensures.adds) (omega arith)
+
+pub returns-clause-values : goal.returns-clause-values
+returns-clause-values g c inputs admitted =
+    let value = g.C.State.value c.args.c.now inputs in
+    c.loop-i.invariant.3 inputs admitted ∙ take_select_all value (value c.args.condition) c.args.yes.now c.args.no.now c.loop-i.i (omega arith) (omega arith)
+
+pub returns-clause-adds : goal.returns-clause-adds
+returns-clause-adds g c = Adds-weaken c.loop-i.invariant.0 (omega arith)
