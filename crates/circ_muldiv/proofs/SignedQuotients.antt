@@ -56,37 +56,41 @@ size_some p n true below some none =
     omega arith
 size_some p n false below some none = some none
 
--- over words: the absolute values, their quotient and remainder, and whether the signs differ
-module _ {L : Type 0} (v0 v1 v2 v3 : L → Bool) (a b size_a size_b : List L) (x y : L) (some : 0 < length a) (same_width : length b ≡ length a) (at_x : x ≡ get_or a (length a - 1) x) (at_y : y ≡ get_or b (length b - 1) y) (b_kept : map v1 b ≡ map v0 b) (size_a_kept : map v2 size_a ≡ map v1 size_a) (size_a_is : number (map v1 size_a) ≡ unsigned_abs (signed (length a) (number (map v0 a)))) (size_b_is : number (map v2 size_b) ≡ unsigned_abs (signed (length b) (number (map v1 b)))) where
+-- over words: the absolute values, and what they are divided by
+module _ {L : Type 0} (v0 v1 v2 : L → Bool) (a b size_a size_b : List L) (some : 0 < length a) (same_width : length b ≡ length a) (b_kept : map v1 b ≡ map v0 b) (size_a_kept : map v2 size_a ≡ map v1 size_a) (size_a_is : number (map v1 size_a) ≡ unsigned_abs (signed (length a) (number (map v0 a)))) (size_b_is : number (map v2 size_b) ≡ unsigned_abs (signed (length b) (number (map v1 b)))) where
   size_of_a : number (map v2 size_a) ≡ unsigned_abs (signed (length a) (number (map v0 a)))
   size_of_a = ap number size_a_kept ∙ size_a_is
 
   size_of_b : number (map v2 size_b) ≡ unsigned_abs (signed (length a) (number (map v0 b)))
   size_of_b = size_b_is ∙ ap (λ w. unsigned_abs (signed (length b) (number w))) b_kept ∙ ap (λ n. unsigned_abs (signed n (number (map v0 b)))) same_width
 
-  below_b : number (map v0 b) < 2 ^ length a
-  below_b = subst (λ n. number (map v0 b) < 2 ^ n) same_width (number_below v0 b)
-
-  sign_of_b : v0 y ≡ nat_le (2 ^ (length a - 1)) (number (map v0 b))
-  sign_of_b = highest_bit v0 b y (omega arith) at_y ∙ ap (λ n. nat_le (2 ^ (n - 1)) (number (map v0 b))) same_width
-
   pub divisor_some : number (map v0 b) ≢ 0 → number (map v2 size_b) ≢ 0
   divisor_some nonzero none =
-      size_some (2 ^ length a) (number (map v0 b)) (v0 y) below_b nonzero (magnitude_is (length a) (number (map v0 b)) (v0 y) some below_b sign_of_b ∙ sym size_of_b ∙ none)
+      let below : number (map v0 b) < 2 ^ length a = subst (λ n. number (map v0 b) < 2 ^ n) same_width (number_below v0 b) in
+      let negative = nat_le (2 ^ (length a - 1)) (number (map v0 b)) in
+      size_some (2 ^ length a) (number (map v0 b)) negative below nonzero (magnitude_is (length a) (number (map v0 b)) negative some below refl ∙ sym size_of_b ∙ none)
 
-  pub quotient_value : (v4 v5 v6 : L → Bool) (divided made : List L) (differ : L) → length divided ≡ length a → v3 x ≡ v0 x → v3 y ≡ v0 y → v4 differ ≡ xor (v3 x) (v3 y) → map v4 divided ≡ map v3 divided → number (map v3 divided) ≡ number (map v2 size_a) / number (map v2 size_b) → number (map v5 made) ≡ (if v4 differ then (2 ^ length divided - number (map v4 divided)) % 2 ^ length divided else number (map v4 divided)) → map v6 made ≡ map v5 made → number (map v6 made) ≡ residue (length a) (quotient (signed (length a) (number (map v0 a))) (signed (length a) (number (map v0 b))))
-  quotient_value v4 v5 v6 divided made differ width x_kept y_kept differ_is divided_kept divided_is made_is made_kept =
+  pub absolute_quotient : (n : ℕ) → n ≡ number (map v2 size_a) / number (map v2 size_b) → n ≡ unsigned_abs (signed (length a) (number (map v0 a))) / unsigned_abs (signed (length a) (number (map v0 b)))
+  absolute_quotient n is = is ∙ ap (λ k. k / number (map v2 size_b)) size_of_a ∙ ap (λ k. unsigned_abs (signed (length a) (number (map v0 a))) / k) size_of_b
+
+  pub absolute_remainder : (n : ℕ) → n ≡ number (map v2 size_a) % number (map v2 size_b) → n ≡ unsigned_abs (signed (length a) (number (map v0 a))) % unsigned_abs (signed (length a) (number (map v0 b)))
+  absolute_remainder n is = is ∙ ap (λ k. k % number (map v2 size_b)) size_of_a ∙ ap (λ k. unsigned_abs (signed (length a) (number (map v0 a))) % k) size_of_b
+
+-- the quotient and the remainder of the absolute values, and whether the signs differ
+module _ {L : Type 0} (v0 v3 : L → Bool) (a b : List L) (x : L) (some : 0 < length a) (at_x : x ≡ get_or a (length a - 1) x) where
+  pub quotient_value : (v4 v5 v6 : L → Bool) (divided made : List L) (y differ : L) → length b ≡ length a → y ≡ get_or b (length b - 1) y → length divided ≡ length a → v3 x ≡ v0 x → v3 y ≡ v0 y → v4 differ ≡ xor (v3 x) (v3 y) → map v4 divided ≡ map v3 divided → number (map v3 divided) ≡ unsigned_abs (signed (length a) (number (map v0 a))) / unsigned_abs (signed (length a) (number (map v0 b))) → number (map v5 made) ≡ (if v4 differ then (2 ^ length divided - number (map v4 divided)) % 2 ^ length divided else number (map v4 divided)) → map v6 made ≡ map v5 made → number (map v6 made) ≡ residue (length a) (quotient (signed (length a) (number (map v0 a))) (signed (length a) (number (map v0 b))))
+  quotient_value v4 v5 v6 divided made y differ same_width at_y width x_kept y_kept differ_is divided_kept is made_is made_kept =
       let below : number (map v3 divided) < 2 ^ length a = subst (λ n. number (map v3 divided) < 2 ^ n) width (number_below v3 divided) in
-      let is : number (map v3 divided) ≡ unsigned_abs (signed (length a) (number (map v0 a))) / unsigned_abs (signed (length a) (number (map v0 b))) = divided_is ∙ rw (size_of_a, size_of_b) refl in
+      let below_b : number (map v0 b) < 2 ^ length a = subst (λ n. number (map v0 b) < 2 ^ n) same_width (number_below v0 b) in
+      let sign_of_b : v0 y ≡ nat_le (2 ^ (length a - 1)) (number (map v0 b)) = highest_bit v0 b y (omega arith) at_y ∙ ap (λ n. nat_le (2 ^ (n - 1)) (number (map v0 b))) same_width in
       ap number made_kept ∙ made_is
       ∙ rw (differ_is, x_kept, y_kept, width, divided_kept) (signed_quotient (length a) (number (map v0 a)) (number (map v0 b)) (number (map v3 divided)) (v0 x) (v0 y) some (number_below v0 a) below_b below (highest_bit v0 a x some at_x) sign_of_b is)
 
-  pub remainder_value : (v5 v6 : L → Bool) (divided made : List L) (z : L) → length divided ≡ length a → z ≡ get_or a (length a - 1) z → v5 z ≡ v0 z → map v5 divided ≡ map v3 divided → number (map v3 divided) ≡ number (map v2 size_a) % number (map v2 size_b) → number (map v6 made) ≡ (if v5 z then (2 ^ length divided - number (map v5 divided)) % 2 ^ length divided else number (map v5 divided)) → number (map v6 made) ≡ residue (length a) (division.remainder (signed (length a) (number (map v0 a))) (signed (length a) (number (map v0 b))))
-  remainder_value v5 v6 divided made z width at_z z_kept divided_kept divided_is made_is =
+  pub remainder_value : (v5 v6 : L → Bool) (divided made : List L) → length divided ≡ length a → v5 x ≡ v0 x → map v5 divided ≡ map v3 divided → number (map v3 divided) ≡ unsigned_abs (signed (length a) (number (map v0 a))) % unsigned_abs (signed (length a) (number (map v0 b))) → number (map v6 made) ≡ (if v5 x then (2 ^ length divided - number (map v5 divided)) % 2 ^ length divided else number (map v5 divided)) → number (map v6 made) ≡ residue (length a) (division.remainder (signed (length a) (number (map v0 a))) (signed (length a) (number (map v0 b))))
+  remainder_value v5 v6 divided made width x_kept divided_kept is made_is =
       let below : number (map v3 divided) < 2 ^ length a = subst (λ n. number (map v3 divided) < 2 ^ n) width (number_below v3 divided) in
-      let is : number (map v3 divided) ≡ unsigned_abs (signed (length a) (number (map v0 a))) % unsigned_abs (signed (length a) (number (map v0 b))) = divided_is ∙ rw (size_of_a, size_of_b) refl in
       made_is
-      ∙ rw (z_kept, width, divided_kept) (signed_remainder (length a) (number (map v0 a)) (number (map v0 b)) (number (map v3 divided)) (v0 z) some (number_below v0 a) below (highest_bit v0 a z some at_z) is)
+      ∙ rw (x_kept, width, divided_kept) (signed_remainder (length a) (number (map v0 a)) (number (map v0 b)) (number (map v3 divided)) (v0 x) some (number_below v0 a) below (highest_bit v0 a x some at_x) is)
 
 chosen_number : (b : Bool) (yes no : List Bool) → number (if b then yes else no) ≡ (if b then number yes else number no)
 chosen_number true on off = refl

@@ -52,8 +52,8 @@ pub fn divide_unsigned<C: Circuit>(
     let mut remainder = repeated(alloc, c.zero(), dividend.len())?;
     for i in (0..dividend.len()).rev() {
         let step = divide_step(alloc, c, dividend[i], remainder.as_slice(), b.as_slice())?;
-        quotient.push(step.fits)?;
         remainder = step.remainder;
+        quotient.push(step.fits)?;
     }
     // the quotient's bits were found from the highest down
     quotient.reverse();

@@ -77,9 +77,9 @@ pub(crate) fn multiply_with_overflow<C: Circuit>(
     for i in 1..a.len() {
         let digit = b[i];
         let row = add_row(alloc, c, bits.as_slice(), a, digit, i)?;
+        bits = row.bits;
         overflow = loses(alloc, c, overflow, row.carry, digit, past)?;
         past = or(alloc, c, past, a[top - i])?;
-        bits = row.bits;
     }
     Ok(Product { bits, overflow })
 }

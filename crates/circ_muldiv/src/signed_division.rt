@@ -1,9 +1,9 @@
 //! Quotients and remainders of words that are read as signed.
-ghost use Rattle.std.specs.Prelude.{◌≡◌, ◌≢◌, ◌-◌, ◌%◌, ◌^◌, ◌<◌, Bool, if◌then◌else◌, List as Seq, length, IfOk};
+ghost use Rattle.std.specs.Prelude.{◌≡◌, ◌≢◌, ◌+◌, ◌-◌, ◌*◌, ◌/◌, ◌%◌, ◌^◌, ◌<◌, unsigned_abs, Bool, if◌then◌else◌, List as Seq, length, IfOk};
 ghost use Rattle.std.specs.List.{All};
 ghost use Rattle.circuits.specs.Circuit.{Adds};
 ghost use Rattle.circuits.specs.Word.{number_of, signed};
-ghost use Rattle.circ_muldiv.specs.Gates.{absolute_gates, signed_division_gates};
+ghost use Rattle.circ_muldiv.specs.Gates.{absolute_gates, division_gates, signed_division_gates};
 ghost use Rattle.circ_muldiv.specs.Division.{quotient, remainder, residue};
 
 use crate::division::{Divided, divide_unsigned};
@@ -41,9 +41,7 @@ pub fn divide_signed<C: Circuit>(
     ensures adds { Adds C.State c.old c.new
         (signed_division_gates (length a.now)) }
 {
-    let absolute_a = absolute(alloc, c, a)?;
-    let absolute_b = absolute(alloc, c, b)?;
-    let divided = divide_unsigned(alloc, c, &absolute_a, &absolute_b)?;
+    let divided = divide_absolute(alloc, c, a, b)?;
     let sign_a = sign(a);
     let sign_b = sign(b);
     let differ = c.xor(alloc, sign_a, sign_b)?;
@@ -53,6 +51,39 @@ pub fn divide_signed<C: Circuit>(
         quotient,
         remainder,
     })
+}
+
+/// The quotient and the remainder of the absolute values of two such words.
+fn divide_absolute<C: Circuit>(
+    alloc: Global,
+    c: &mut C,
+    a: &Bits<C::Literal>,
+    b: &Bits<C::Literal>,
+) -> Result<Divided<C::Literal>, AllocError>
+    requires width { 0 < length a.now }
+    requires same_width { length b.now ≡ length a.now }
+    requires own_a { All (C.has_literal c.old) a.now }
+    requires own_b { All (C.has_literal c.old) b.now }
+    ensures own_quotient { IfOk result (λ divided. All (C.has_literal c.new) divided.quotient) }
+    ensures own_remainder { IfOk result (λ divided. All (C.has_literal c.new) divided.remainder) }
+    ensures quotient_width { IfOk result (λ divided. length divided.quotient ≡ length a.now) }
+    ensures remainder_width { IfOk result (λ divided. length divided.remainder ≡ length a.now) }
+    ensures quotient { IfOk result (λ divided. (inputs : Seq Bool) → C.admits c.old inputs →
+        number_of (C.value c.old inputs) b.now ≢ 0 →
+        number_of (C.value c.new inputs) divided.quotient
+        ≡ unsigned_abs (signed (length a.now) (number_of (C.value c.old inputs) a.now))
+        / unsigned_abs (signed (length a.now) (number_of (C.value c.old inputs) b.now))) }
+    ensures remainder { IfOk result (λ divided. (inputs : Seq Bool) → C.admits c.old inputs →
+        number_of (C.value c.old inputs) b.now ≢ 0 →
+        number_of (C.value c.new inputs) divided.remainder
+        ≡ unsigned_abs (signed (length a.now) (number_of (C.value c.old inputs) a.now))
+        % unsigned_abs (signed (length a.now) (number_of (C.value c.old inputs) b.now))) }
+    ensures adds { Adds C.State c.old c.new
+        (2 * absolute_gates (length a.now) + division_gates (length a.now)) }
+{
+    let absolute_a = absolute(alloc, c, a)?;
+    let absolute_b = absolute(alloc, c, b)?;
+    divide_unsigned(alloc, c, &absolute_a, &absolute_b)
 }
 
 /// The negation of a word, modulo 2^N, where `negative` is true, and else the word.

@@ -1,9 +1,11 @@
-use Rattle.std.proofs.Common.{◌≡◌, ℕ, ◌≤◌, ◌+◌, List, length, take, ◌∷◌, sym, ap, ◌∙◌, arith}
+use Rattle.std.proofs.Common.{◌≡◌, ℕ, ◌≤◌, ◌+◌, List, length, take, ◌∷◌, sym, ap, subst, ◌∙◌, arith}
+use Rattle.std.specs.List.{All}
+use Rattle.std.proofs.lemmas.List.Elements.{All-cons, All-take}
 use Rattle.std.proofs.lemmas.List.{length-take-le}
 use Rattle.circuits.specs.declared.state.State.{Ghosts}
 use Rattle.circuits.specs.Circuit.{Adds}
 use Rattle.circuits.specs.Gates.{adder_gates, select_gates}
-use Rattle.circuits.proofs.Kept.{map-kept, Adds-refl, Adds-trans, Adds-weaken}
+use Rattle.circuits.proofs.Kept.{All-kept, map-kept, Adds-refl, Adds-trans, Adds-weaken}
 use Rattle.circ_muldiv.specs.Gates.{division_step_gates}
 use Rattle.circ_muldiv.proofs.Quotients.{step_left}
 use Rattle.circ_muldiv.proofs.division.divide_step.Goals as goal
@@ -44,3 +46,40 @@ returns-clause-adds g c = step_adds (length c.args.divisor.now) c.in_ok-less.ens
 
 pub returns-in_err-longer-clause-adds : goal.returns-in_err-longer-clause-adds
 returns-in_err-longer-clause-adds g c = Adds-weaken Adds-refl (omega arith)
+
+pub difference-requires-clause-own_longer : goal.difference-requires-clause-own_longer
+difference-requires-clause-own_longer g c =
+    let P = g.C.State.has_literal c.args.c.now in
+    subst (All P) (sym (c.as_slice.ensures ∙ c.in_ok-longer.ensures)) (All-cons P c.args.digit c.args.remainder.now c.requires.own_digit c.requires.own_remainder)
+
+pub select-requires-clause-own_yes : goal.select-requires-clause-own_yes
+select-requires-clause-own_yes g c =
+    let P = g.C.State.has_literal c.difference.new.c in
+    All-take P (length c.args.divisor.now) c.as_slice-2.result.now (subst (All P) (sym c.as_slice-2.ensures) c.in_ok-less.ensures.own_bits)
+
+pub select-requires-clause-own_no : goal.select-requires-clause-own_no
+select-requires-clause-own_no g c =
+    let P = g.C.State.has_literal c.args.c.now in
+    let Q = g.C.State.has_literal c.difference.new.c in
+    let digit = c.args.digit in
+    let higher = c.args.remainder.now in
+    let own : All Q (digit ∷ higher) = All-kept c.difference.ensures.adds.keeps (digit ∷ higher) (All-cons P digit higher c.requires.own_digit c.requires.own_remainder) in
+    All-take Q (length c.args.divisor.now) c.as_slice-3.result.now (subst (All Q) (sym (c.as_slice-3.ensures ∙ c.in_ok-longer.ensures)) own)
+
+pub difference-requires-clause-width : goal.difference-requires-clause-width
+difference-requires-clause-width g c = omega (arith, ap length (c.as_slice.ensures ∙ c.in_ok-longer.ensures), c.requires.same_width)
+
+pub select-requires-clause-same_width : goal.select-requires-clause-same_width
+select-requires-clause-same_width g c =
+    let n = length c.args.divisor.now in
+    let bits : length c.as_slice-2.result.now ≡ length c.args.divisor.now + 1 = ap length c.as_slice-2.ensures ∙ c.in_ok-less.ensures.width in
+    let longer : length c.as_slice-3.result.now ≡ length c.args.divisor.now + 1 = omega (arith, ap length (c.as_slice-3.ensures ∙ c.in_ok-longer.ensures), c.requires.same_width) in
+    length-take-le n c.as_slice-3.result.now (omega arith) ∙ sym (length-take-le n c.as_slice-2.result.now (omega arith))
+
+pub returns-clause-own_fits : goal.returns-clause-own_fits
+returns-clause-own_fits g c = c.select.ensures.adds.keeps.literals c.in_ok-less.less.carry c.in_ok-less.ensures.own_carry
+
+pub returns-clause-width : goal.returns-clause-width
+returns-clause-width g c =
+    let bits : length c.as_slice-2.result.now ≡ length c.args.divisor.now + 1 = ap length c.as_slice-2.ensures ∙ c.in_ok-less.ensures.width in
+    c.in_ok-remainder.ensures.width ∙ length-take-le (length c.args.divisor.now) c.as_slice-2.result.now (omega arith)

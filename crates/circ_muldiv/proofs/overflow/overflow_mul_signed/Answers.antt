@@ -1,7 +1,8 @@
-use Rattle.std.proofs.Common.{true, ◌<◌, ◌≤◌, ◌-◌, ◌+◌, length, ap, ◌∙◌, arith}
+use Rattle.std.proofs.Common.{true, ◌<◌, ◌≤◌, ◌-◌, ◌+◌, length, sym, ap, subst, ◌∙◌, arith}
+use Rattle.std.specs.List.{All}
 use Rattle.std.proofs.lemmas.Result.{IfOk-weaker}
 use Rattle.circuits.specs.Gates.{comparison_gates}
-use Rattle.circuits.proofs.Kept.{own_at, map-kept, Keeps-trans, Adds-trans, Adds-weaken}
+use Rattle.circuits.proofs.Kept.{own_at, All-kept, map-kept, Keeps-trans, Adds-trans, Adds-weaken}
 use Rattle.circ_muldiv.specs.Gates.{absolute_gates, product_gates, overflow_mul_gates}
 use Rattle.circ_muldiv.proofs.OverflowTests.{product_exceeds_limit}
 use Rattle.circ_muldiv.proofs.overflow.overflow_mul_signed.Goals as goal
@@ -84,3 +85,40 @@ returns-in_err-exceeds-clause-adds g c =
     let width = c.in_ok-greatest.ensures.width ∙ c.len.ensures in
     let few : absolute_gates (length c.args.a.now) + absolute_gates (length c.args.b.now) + product_gates (length c.as_slice.result.now) + 1 + comparison_gates (length c.in_ok-greatest.greatest) ≤ overflow_mul_gates true (length c.args.a.now) = rw (width_a, width, c.requires.same_width) (omega arith) in
     Adds-weaken (Adds-trans (Adds-trans (Adds-trans (Adds-trans c.absolute.ensures.adds c.absolute-2.ensures.adds) c.multiply_with_overflow.ensures.adds) c.xor.ensures.adds) c.less_unsigned.ensures.adds) few
+
+pub absolute-requires-2-clause-own : goal.absolute-requires-2-clause-own
+absolute-requires-2-clause-own g c = All-kept c.absolute.ensures.adds.keeps c.args.b.now c.requires.own_b
+
+pub multiply_with_overflow-requires-clause-same_width : goal.multiply_with_overflow-requires-clause-same_width
+multiply_with_overflow-requires-clause-same_width g c =
+    ap length c.as_slice-2.ensures ∙ c.in_ok-absolute_b.ensures.width ∙ c.requires.same_width ∙ sym (ap length c.as_slice.ensures ∙ c.in_ok-absolute_a.ensures.width)
+
+pub multiply_with_overflow-requires-clause-own_a : goal.multiply_with_overflow-requires-clause-own_a
+multiply_with_overflow-requires-clause-own_a g c =
+    subst (All (g.C.State.has_literal c.absolute-2.new.c)) (sym c.as_slice.ensures) (All-kept c.absolute-2.ensures.adds.keeps c.in_ok-absolute_a.absolute_a c.in_ok-absolute_a.ensures.own)
+
+pub multiply_with_overflow-requires-clause-own_b : goal.multiply_with_overflow-requires-clause-own_b
+multiply_with_overflow-requires-clause-own_b g c = subst (All (g.C.State.has_literal c.absolute-2.new.c)) (sym c.as_slice-2.ensures) c.in_ok-absolute_b.ensures.own
+
+pub xor-requires-clause-own_a : goal.xor-requires-clause-own_a
+xor-requires-clause-own_a g c =
+    let inside : length c.args.a.now - 1 < length c.args.a.now = omega arith in
+    (Keeps-trans (Keeps-trans c.absolute.ensures.adds.keeps c.absolute-2.ensures.adds.keeps) c.multiply_with_overflow.ensures.adds.keeps).literals c.sign.result
+    (own_at (g.C.State.has_literal c.args.c.now) c.args.a.now (length c.args.a.now - 1) c.sign.result c.requires.own_a inside c.sign.ensures)
+
+pub xor-requires-clause-own_b : goal.xor-requires-clause-own_b
+xor-requires-clause-own_b g c =
+    let inside : length c.args.b.now - 1 < length c.args.b.now = omega arith in
+    (Keeps-trans (Keeps-trans c.absolute.ensures.adds.keeps c.absolute-2.ensures.adds.keeps) c.multiply_with_overflow.ensures.adds.keeps).literals c.sign-2.result
+    (own_at (g.C.State.has_literal c.args.c.now) c.args.b.now (length c.args.b.now - 1) c.sign-2.result c.requires.own_b inside c.sign-2.ensures)
+
+pub less_unsigned-requires-clause-same_width : goal.less_unsigned-requires-clause-same_width
+less_unsigned-requires-clause-same_width g c =
+    c.in_ok-product.ensures.width ∙ ap length c.as_slice.ensures ∙ c.in_ok-absolute_a.ensures.width ∙ sym (c.in_ok-greatest.ensures.width ∙ c.len.ensures)
+
+pub less_unsigned-requires-clause-own_b : goal.less_unsigned-requires-clause-own_b
+less_unsigned-requires-clause-own_b g c = All-kept c.xor.ensures.adds.keeps c.in_ok-product.product.bits c.in_ok-product.ensures.own_bits
+
+pub or-requires-clause-own_a : goal.or-requires-clause-own_a
+or-requires-clause-own_a g c =
+    (Keeps-trans c.xor.ensures.adds.keeps c.less_unsigned.ensures.adds.keeps).literals c.in_ok-product.product.overflow c.in_ok-product.ensures.own_overflow
