@@ -1,6 +1,7 @@
 -- Words that are read as a number.
-use Rattle.std.proofs.Common.{◌≡◌, ℕ, ◌+◌, ◌/◌, ◌%◌, ◌<◌, ◌≤◌, List, [], ◌∷◌, ◌++◌, sym, ap, subst, ◌∙◌, append_assoc, arith}
-use Rattle.std.proofs.lemmas.List.{append-nil}
+use Rattle.std.proofs.Common.{◌≡◌, ℕ, zero, suc, ◌+◌, ◌-◌, ◌*◌, ◌/◌, ◌%◌, ◌<◌, ◌≤◌, List, [], ◌∷◌, ◌++◌, take, drop, get_or, length, All, refl, sym, ap, subst, ◌∙◌, append_assoc, arith}
+use Rattle.std.proofs.lemmas.List.{append-nil, drop_all, drop_more}
+use Rattle.std.proofs.lemmas.List.Elements.{All-head, All-tail}
 use Rattle.std.proofs.lemmas.Bool.Decides.{nat_tests}
 use Rattle.packed_log.specs.Numbers.{first_number, behind_number}
 use Rattle.packed_log.specs.Words.{Adds, IsNumber}
@@ -33,3 +34,64 @@ byte_more number rest old new newer h large is = record {
 pub byte_last : (number rest : ℕ) (old new newer : List ℕ) → NumberSoFar number rest old new → rest < 128 → newer ≡ new ++ rest ∷ [] → Adds (IsNumber number) old newer
 byte_last number rest old new newer h small is =
     (h.word ++ rest ∷ [], is ∙ ap (λ (k : List ℕ). k ++ rest ∷ []) h.is ∙ append_assoc old h.word _, h.then _ (last_byte rest small))
+
+-- numbers that are read byte by byte, from the last byte on
+
+first_more : (byte : ℕ) (bytes : List ℕ) → 128 ≤ byte → first_number (byte ∷ bytes) ≡ (byte - 128) + 128 * first_number bytes
+first_more byte bytes more = grind (arith, nat_tests)
+
+first_last : (byte : ℕ) (bytes : List ℕ) → byte < 128 → first_number (byte ∷ bytes) ≡ byte
+first_last byte bytes last = grind (arith, nat_tests)
+
+behind_more : (byte : ℕ) (bytes : List ℕ) → 128 ≤ byte → behind_number (byte ∷ bytes) ≡ behind_number bytes
+behind_more byte bytes more = grind (arith, nat_tests)
+
+behind_last : (byte : ℕ) (bytes : List ℕ) → byte < 128 → behind_number (byte ∷ bytes) ≡ bytes
+behind_last byte bytes last = grind (arith, nat_tests)
+
+-- a byte that says that more follow
+pub first_of_more : (bytes : List ℕ) (place : ℕ) → place < length bytes → 128 ≤ get_or bytes place 0 → first_number (drop place bytes) ≡ (get_or bytes place 0 - 128) + 128 * first_number (drop (place + 1) bytes)
+first_of_more bytes place within more =
+    ap first_number (drop_more bytes place 0 within) ∙ first_more (get_or bytes place 0) (drop (place + 1) bytes) more
+
+-- the last byte of a number, or none
+pub first_of_last : (bytes : List ℕ) (count : ℕ) → All (λ byte. byte < 128) (take 1 (drop count bytes)) → first_number (drop count bytes) ≡ get_or bytes count 0
+first_of_last [] zero last = refl
+first_of_last [] (suc count) last = refl
+first_of_last (byte ∷ bytes) zero last = first_last byte bytes (All-head (λ b. b < 128) byte [] last)
+first_of_last (byte ∷ bytes) (suc count) last = first_of_last bytes count last
+
+pub more_at : (bytes : List ℕ) (place count : ℕ) → place < count → count ≤ length bytes → All (λ byte. 128 ≤ byte) (take count bytes) → 128 ≤ get_or bytes place 0
+more_at [] place zero below within more = absurd (omega (arith, below))
+more_at [] place (suc count) below within more = absurd (omega (arith, within))
+more_at (byte ∷ bytes) place zero below within more = absurd (omega (arith, below))
+more_at (byte ∷ bytes) zero (suc count) below within more = All-head (λ b. 128 ≤ b) byte (take count bytes) more
+more_at (byte ∷ bytes) (suc place) (suc count) below within more =
+    more_at bytes place count (omega (arith, below)) (omega (arith, within)) (All-tail (λ b. 128 ≤ b) byte (take count bytes) more)
+
+-- what the later bytes of a number are read as is no more
+pub first_number-later : (bytes : List ℕ) (place count : ℕ) → place ≤ count → All (λ byte. 128 ≤ byte) (take count bytes) → first_number (drop place bytes) ≤ first_number bytes
+first_number-later bytes zero count le more = omega arith
+first_number-later [] (suc place) count le more = omega arith
+first_number-later (byte ∷ bytes) (suc place) zero le more = absurd (omega (arith, le))
+first_number-later (byte ∷ bytes) (suc place) (suc count) le more =
+    let rest = first_number-later bytes place count (omega (arith, le)) (All-tail (λ b. 128 ≤ b) byte (take count bytes) more) in
+    omega (arith, rest, first_more byte bytes (All-head (λ b. 128 ≤ b) byte (take count bytes) more))
+
+pub behind_number-leading : (bytes : List ℕ) (count : ℕ) → All (λ byte. 128 ≤ byte) (take count bytes) → All (λ byte. byte < 128) (take 1 (drop count bytes)) → behind_number bytes ≡ drop (count + 1) bytes
+behind_number-leading [] zero more last = refl
+behind_number-leading [] (suc count) more last = sym (drop_all (suc count + 1) [] (omega arith))
+behind_number-leading (byte ∷ bytes) zero more last = behind_last byte bytes (All-head (λ b. b < 128) byte [] last)
+behind_number-leading (byte ∷ bytes) (suc count) more last =
+    let next : suc (count + 1) ≡ suc count + 1 = omega arith in
+    behind_more byte bytes (All-head (λ b. 128 ≤ b) byte (take count bytes) more)
+    ∙ behind_number-leading bytes count (All-tail (λ b. 128 ≤ b) byte (take count bytes) more) last
+    ∙ ap (λ n. drop n (byte ∷ bytes)) next
+
+-- one byte before those that were read
+pub byte_before : (bytes : List ℕ) (place count number : ℕ) → 0 < place → place ≤ count → count ≤ length bytes → All (λ byte. 128 ≤ byte) (take count bytes) → number ≡ first_number (drop place bytes) → 128 * number + (get_or bytes (place - 1) 0 - 128) ≡ first_number (drop (place - 1) bytes)
+byte_before bytes place count number first le within more is =
+    let k = place - 1 in
+    let same : place ≡ k + 1 = omega (arith, first) in
+    let number_is : number ≡ first_number (drop (k + 1) bytes) = is ∙ ap (λ j. first_number (drop j bytes)) same in
+    omega (arith, number_is, first_of_more bytes k (omega (arith, first, le, within)) (more_at bytes k count (omega (arith, first, le)) within more))

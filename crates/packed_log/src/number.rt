@@ -1,6 +1,6 @@
 //! Numbers of variable length (LEB128).
 
-ghost use Rattle.std.specs.Prelude.{◌≡◌, ◌^◌, ◌<◌, OnOk};
+ghost use Rattle.std.specs.Prelude.{◌≡◌, ◌^◌, ◌<◌, ◌≤◌, length, take, drop, All, OnOk};
 ghost use Rattle.packed_log.specs.Numbers.{first_number, behind_number};
 ghost use Rattle.packed_log.specs.Words.{Adds, IsNumber};
 
@@ -19,18 +19,45 @@ pub(crate) fn push_number(bytes: &mut Vec<u8>, number: u64) -> Result<(), AllocE
     Ok(())
 }
 
+/// How many bytes at the start say that more of the number follow.
+fn leading(bytes: &[u8]) -> usize
+    ensures within { result ≤ length bytes.now }
+    ensures more { All (λ byte. 128 ≤ byte) (take result bytes.now) }
+    ensures stops { All (λ byte. byte < 128) (take 1 (drop result bytes.now)) }
+{
+    let mut count = 0;
+    while count < bytes.len() && bytes[count] >= 128 {
+        count += 1;
+    }
+    count
+}
+
+/// The number that the bytes begin with, where so many of them say that more follow.
+fn number_at(bytes: &[u8], count: usize) -> u64
+    requires few { first_number bytes.now < 2 ^ 64 }
+    requires within { count ≤ length bytes.now }
+    requires more { All (λ byte. 128 ≤ byte) (take count bytes.now) }
+    requires stops { All (λ byte. byte < 128) (take 1 (drop count bytes.now)) }
+    ensures { result ≡ first_number bytes.now }
+{
+    let mut number = match bytes.get(count) {
+        None => 0,
+        Some(last) => u64::from(*last),
+    };
+    for place in (0..count).rev() {
+        number = 128 * number + u64::from(bytes[place] - 128);
+    }
+    number
+}
+
 /// The number that the bytes begin with; goes behind it. A number that was pushed has ten bytes at most.
 pub(crate) fn take_number(rest: &mut &[u8]) -> u64
     requires { first_number rest.old.now < 2 ^ 64 }
     ensures number { result ≡ first_number rest.old.now }
     ensures behind { rest.new.now ≡ behind_number rest.old.now }
 {
-    let [byte, behind @ ..] = *rest else {
-        return 0;
-    };
-    *rest = behind;
-    if *byte < 128 {
-        return u64::from(*byte);
-    }
-    u64::from(*byte - 128) + 128 * take_number(rest)
+    let bytes = *rest;
+    let count = leading(bytes);
+    *rest = &bytes[bytes.len().min(count + 1)..];
+    number_at(bytes, count)
 }
