@@ -21,6 +21,7 @@ use Rattle.cnf_build.specs.NeededGates.{NeededMarks, IsMarked, IsCovered, IsOper
 use Rattle.cnf_build.specs.Names.{Names, variable_of, lit_of, definition_of, with_constant, with_gate, HasDefinition, NamesFirst}
 use Rattle.cnf_build.proofs.OneDefinition.{IsOperandOf}
 use Rattle.cnf_build.proofs.DefinitionLists.{Solves, Solves-at}
+use Rattle.cnf_build.proofs.SetLemmas.{length-clauses_from-push}
 use Rattle.cnf_build.proofs.Standing.{IsAsked, IsSound}
 
 slice_get-push_old : {A : Type 0} (xs : List A) (y x : A) (k : ℕ) → slice_get xs k ≡ Some x → slice_get (xs ++ y ∷ []) k ≡ Some x
@@ -78,6 +79,7 @@ NamesFirst-start inputs all marks true is =
     record {
       length_numbers = refl;
       length_definitions = omega arith;
+      few_clauses = λ n. omega arith;
       one_defined = λ _. (0, omega arith, refl);
       gates_defined = λ k gate below. absurd (omega arith);
       only_marked = λ j below. (One, is, omega arith, tt);
@@ -92,6 +94,7 @@ NamesFirst-start inputs all marks false is =
     record {
       length_numbers = refl;
       length_definitions = omega arith;
+      few_clauses = λ n. omega arith;
       one_defined = λ one. absurd (true≢false (sym one ∙ is));
       gates_defined = λ k gate below. absurd (omega arith);
       only_marked = λ j below. absurd (omega arith);
@@ -185,6 +188,7 @@ module _ (all : List Gate) (marks : NeededMarks) (k : ℕ) (names : Names) (gate
       record {
         length_numbers = omega arith;
         length_definitions = omega arith;
+        few_clauses = λ i. omega (arith, f.few_clauses i);
         one_defined = λ one. older_defined more ds kept One definitions.One tt (f.one_defined one);
         gates_defined = λ i g below at' is.
             elim (cases_lt i k) [
@@ -223,6 +227,7 @@ module _ (all : List Gate) (marks : NeededMarks) (k : ℕ) (names : Names) (gate
       record {
         length_numbers = omega arith;
         length_definitions = omega arith;
+        few_clauses = λ i. omega (arith, f.few_clauses i, length-clauses_from-push i names.definitions own);
         one_defined = λ one. older_defined more ds kept One definitions.One tt (f.one_defined one);
         gates_defined = λ i g below at' is'.
             elim (cases_lt i k) [

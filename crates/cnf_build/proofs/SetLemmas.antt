@@ -1,5 +1,5 @@
 -- The variables and the number of the clauses of definitions.
-use Rattle.std.proofs.Common.{◌≡◌, ℕ, ◌+◌, ◌*◌, ◌≤◌, List, [], ◌∷◌, length, get_or, All, EachIndex, slice_index, ◌∙◌, arith, length-append}
+use Rattle.std.proofs.Common.{◌≡◌, ℕ, ◌+◌, ◌*◌, ◌≤◌, List, [], ◌∷◌, ◌++◌, length, get_or, All, EachIndex, slice_index, ◌∙◌, arith, length-append}
 use Rattle.std.proofs.lemmas.Option.{slice_get_within}
 use Rattle.std.proofs.lemmas.List.{get_or_default}
 use Rattle.std.proofs.lemmas.List.Elements.{All-nil, All-cons}
@@ -39,3 +39,13 @@ pub length-clauses_from : (n : ℕ) (ds : List Definition) → length (clauses_f
 length-clauses_from n [] = omega arith
 length-clauses_from n (d ∷ ds) =
     omega (arith, length-append (clauses_of_definition n d) (clauses_from (n + 1) ds), length-clauses_of_definition n d, length-clauses_from (n + 1) ds)
+
+pub length-clauses_from-push : (n : ℕ) (ds : List Definition) (d : Definition) → length (clauses_from n (ds ++ d ∷ [])) ≤ length (clauses_from n ds) + 4
+length-clauses_from-push n [] d = omega (arith, length-append (clauses_of_definition n d) [], length-clauses_of_definition n d)
+length-clauses_from-push n (e ∷ ds) d =
+    omega (
+      arith,
+      length-append (clauses_of_definition n e) (clauses_from (n + 1) ds),
+      length-append (clauses_of_definition n e) (clauses_from (n + 1) (ds ++ d ∷ [])),
+      length-clauses_from-push (n + 1) ds d,
+    )

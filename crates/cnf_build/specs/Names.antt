@@ -1,5 +1,5 @@
 -- Variables for the constant and the gates that are marked, after those of the inputs.
-use Rattle.std.specs.Prelude.{◌≡◌, ℕ, ◌+◌, ◌<◌, ◌≤◌, Bool, true, false, List, [], ◌∷◌, ◌++◌, length, Some, slice_get, slice_index}
+use Rattle.std.specs.Prelude.{◌≡◌, ℕ, ◌+◌, ◌*◌, ◌<◌, ◌≤◌, Bool, true, false, List, [], ◌∷◌, ◌++◌, length, Some, slice_get, slice_index}
 use Rattle.clauses.specs.Literal.{Lit}
 use Rattle.aig.specs.declared.literal.Node.{Node}
 use Rattle.aig.specs.declared.literal.Node.TheVariants.{One, Input, Output}
@@ -9,7 +9,7 @@ use Rattle.aig.specs.declared.gate.Gate.TheVariants as gates
 use Rattle.aig.specs.Graph.{IsAmong}
 use Rattle.cnf_build.specs.declared.definition.Definition.{Definition}
 use Rattle.cnf_build.specs.declared.definition.Definition.TheVariants as definitions
-use Rattle.cnf_build.specs.Definitions.{AreOverSmaller}
+use Rattle.cnf_build.specs.Definitions.{AreOverSmaller, clauses_from}
 use Rattle.cnf_build.specs.NeededGates.{NeededMarks, IsMarked}
 
 -- how many inputs there are, a number for each gate, and definitions of the variables after the inputs, in order
@@ -59,6 +59,7 @@ HasDefinition names node d =
 pub record NamesFirst (all : List Gate) (marks : NeededMarks) (count : ℕ) (names : Names) : Type 0 where
   pub length_numbers : length names.numbers ≡ count
   pub length_definitions : length names.definitions ≤ count + 1
+  pub few_clauses : (n : ℕ) → length (clauses_from n names.definitions) ≤ 4 * count + 1
   pub one_defined : marks.one ≡ true → HasDefinition names One definitions.One
   pub gates_defined :
       (k : ℕ) (gate : Gate) → k < count → slice_get all k ≡ Some gate → IsMarked marks (Output k) →

@@ -1,5 +1,5 @@
 //! The clause set of a root, put together from names and clauses.
-ghost use Rattle.std.specs.Prelude.{◌≡◌, true, ◌+◌, ◌^◌, ◌<◌, ◌≤◌, [], ◌∷◌, length, IfOk, All, EachIndex, slice_index};
+ghost use Rattle.std.specs.Prelude.{◌≡◌, true, ◌+◌, ◌*◌, ◌^◌, ◌<◌, ◌≤◌, [], ◌∷◌, length, IfOk, All, EachIndex, slice_index};
 ghost use Rattle.aig.specs.Graph.{IsOwn, value_of};
 ghost use Rattle.clauses.specs.Literal.{IsVariable};
 ghost use Rattle.clauses.specs.Settings.{StandsFor};
@@ -31,6 +31,10 @@ pub fn clauses_of(alloc: Global, aig: &Aig, root: Literal) -> Result<Cnf, AllocE
     // One variable at most for each input and gate, and one for the constant.
     ensures count { IfOk result (λ set. set.count ≤ aig.now.inputs + length aig.now.gates + 1) }
     ensures inputs { IfOk result (λ set. length set.inputs ≡ aig.now.inputs) }
+
+    // Four clauses at most for each gate, and one for the constant.
+    ensures gates { IfOk result (λ set. length set.gates ≤ 4 * length aig.now.gates + 1) }
+    ensures root { IfOk result (λ set. length set.roots ≡ 1) }
 {
     let gates = aig.gates();
     let inputs = aig.input_count() as u32;

@@ -1,4 +1,4 @@
-use Rattle.std.proofs.Common.{◌≡◌, ◌+◌, All, subst, sym, ◌∙◌, slice_get, Some}
+use Rattle.std.proofs.Common.{◌≡◌, ◌+◌, ◌*◌, ◌≤◌, All, length, subst, sym, ap, ◌∙◌, slice_get, Some, arith}
 use Rattle.std.proofs.lemmas.Result.{IfOk-weaker}
 use Rattle.cnf_build.specs.Definitions.{clauses_from, NamesOnce}
 use Rattle.cnf_build.proofs.MarksLemmas.{OperandsBelow-from_OperandsAmong}
@@ -33,4 +33,18 @@ returns-clause-once c =
     c.gates-gates.result.now c.gates-gates.ensures.gates c.in_ok-needed.ensures c.in_ok-naming.ensures.named
     (c.in_ok-naming.ensures.inputs ∙ c.input_count-inputs.ensures) c.input_count-inputs.result c.input_count-inputs.ensures
     c.definitions.result.now c.definitions.ensures c.literal.result c.literal.ensures c.gates-gates.ensures.proper))
+    c.encode.ensures.gates
+
+pub returns-clause-gates : goal.returns-clause-gates
+returns-clause-gates c =
+    let n = c.input_count-inputs.result + 1 in
+    IfOk-weaker c.encode.result (λ set. set.gates ≡ clauses_from n c.definitions.result.now) (λ set. length set.gates ≤ 4 * length c.args.aig.now.gates + 1)
+    (λ set is.
+    omega (
+      arith,
+      ap length is,
+      ap (λ ds. length (clauses_from n ds)) c.definitions.ensures,
+      c.in_ok-naming.ensures.named.few_clauses n,
+      ap length c.gates-gates.ensures.gates,
+    ))
     c.encode.ensures.gates
