@@ -5,6 +5,8 @@ use Rattle.std.specs.Io.KnownBytes.{Appends}
 pub record StreamSinkState : Type 0 where
   -- what the stream holds, where it tells that, as one in memory
   pub contents : Option (List ℕ)
+  -- how many puts there were, failed ones among them; it stands still at 2 ^ 64 - 1
+  pub puts : ℕ
   pub faults : ℕ
 
 -- A stream that tells what it holds has gained a prefix of the piece, maybe all of it.

@@ -71,6 +71,13 @@ impl MemorySink {
         self.written.as_slice()
     }
 
+    /// How many puts there were, failed ones among them.
+    pub fn puts(&self) -> u64
+        ensures { result ≡ self.now.puts }
+    {
+        self.puts
+    }
+
     /// How many faults there were.
     pub fn faults(&self) -> u64
         ensures { result ≡ self.now.faults }
@@ -97,7 +104,7 @@ fn front(bytes: &[u8], most: usize) -> &[u8]
 }
 
 impl Sink for MemorySink {
-    ghost state = { λ sink. record { written = Some sink.written; faults = sink.faults } };
+    ghost state = { λ sink. record { written = Some sink.written; puts = Some sink.puts; faults = sink.faults } };
 
     fn put(&mut self, piece: &[u8]) -> Result<(), Failed>
         ensures ok { OnOk result (self.new ≡ took self.old piece.now) }

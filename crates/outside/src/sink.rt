@@ -10,7 +10,7 @@ use crate::errors::Failed;
 ///
 /// A piece may fail to be written, and that is told by a count of faults that never falls.
 pub trait Sink {
-    /// The bytes written so far, where they are told, and the count of faults.
+    /// The bytes written so far and the count of puts, where they are told, and the count of faults.
     ghost state: { Self → SinkState };
 
     /// Writes a piece: all of it, or at a fault a prefix. It takes no memory.

@@ -1,6 +1,6 @@
 //! A stream as a sink.
 
-ghost use Rattle.std.specs.Prelude.{◌≡◌, ◌≤◌, None, OnOk, OnErr};
+ghost use Rattle.std.specs.Prelude.{◌≡◌, ◌≤◌, None, Some, OnOk, OnErr};
 ghost use Rattle.std.specs.Io.KnownBytes.{Appends as Gains};
 ghost use Rattle.outside.specs.Faults.{raised, Rose};
 ghost use Rattle.outside.specs.StreamSink.{GainsPrefix};
@@ -16,6 +16,7 @@ use std::marker::Model;
 #[derive(Debug, Drop)]
 pub struct StreamSink<W: Write> {
     stream: W,
+    puts: u64,
     faults: u64,
 }
 
@@ -24,15 +25,26 @@ impl<W: Write> Model for StreamSink<W> {
 
     ghost Value = { StreamSinkState };
 
-    ghost view = { λ sink. record { contents = W.contents sink.stream; faults = sink.faults } };
+    ghost view = { λ sink. record { contents = W.contents sink.stream; puts = sink.puts; faults = sink.faults } };
 }
 
 impl<W: Write> StreamSink<W> {
-    /// A sink over a stream, with no faults yet.
+    /// A sink over a stream, with no puts and no faults yet.
     pub fn new(stream: W) -> Self
-        ensures { result ≡ record { contents = W.contents stream; faults = 0 } }
+        ensures { result ≡ record { contents = W.contents stream; puts = 0; faults = 0 } }
     {
-        StreamSink { stream, faults: 0 }
+        StreamSink {
+            stream,
+            puts: 0,
+            faults: 0,
+        }
+    }
+
+    /// How many puts there were, failed ones among them.
+    pub fn puts(&self) -> u64
+        ensures { result ≡ self.now.puts }
+    {
+        self.puts
     }
 
     /// How many faults there were.
@@ -59,7 +71,7 @@ fn write_piece<W: Write>(stream: &mut W, piece: &[u8]) -> Result<(), Failed>
 }
 
 impl<W: Write> Sink for StreamSink<W> {
-    ghost state = { λ sink. record { written = None; faults = sink.faults } };
+    ghost state = { λ sink. record { written = None; puts = Some sink.puts; faults = sink.faults } };
 
     fn put(&mut self, piece: &[u8]) -> Result<(), Failed>
         // A stream that tells what it holds, as one in memory, has gained exactly the piece.
@@ -70,7 +82,9 @@ impl<W: Write> Sink for StreamSink<W> {
         ensures failed { OnErr result (Rose self.old.faults self.new.faults) }
         ensures no_fault { OnOk result (self.new.faults ≡ self.old.faults) }
         ensures fault { OnErr result (self.new.faults ≡ raised self.old.faults) }
+        ensures one_put { self.new.puts ≡ raised self.old.puts }
     {
+        self.puts = self.puts.saturating_add(1);
         let answer = write_piece(&mut self.stream, piece);
         if answer.is_err() {
             self.faults = self.faults.saturating_add(1);
