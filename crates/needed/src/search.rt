@@ -1,4 +1,4 @@
-//! Which instructions are needed: a walk from the terminators.
+//! Which instructions are needed: a walk from the terminators, which marks each instruction that it finds to be needed.
 
 ghost use Rattle.std.specs.Prelude.{◌≡◌, [], ◌∷◌, ℕ, length, All, IfOk, OnOk, map};
 ghost use Rattle.ir_core.specs.Checks.{IsKnown};
@@ -22,7 +22,7 @@ pub(crate) struct Search {
 }
 
 impl Search {
-    /// KeptMarks the instruction whose result the register is.
+    /// Marks the instruction whose result the register is.
     fn mark_register(&mut self, numbers: &Numbers, register: Register) -> Result<(), AllocError>
         requires { IsNumbered numbers.now.firsts.items (length self.old.marks.items) (Operand.Register register) }
         ensures { OnOk result (
@@ -38,7 +38,7 @@ impl Search {
         Ok(())
     }
 
-    /// KeptMarks the instruction whose result an operand reads.
+    /// Marks the instruction whose result an operand reads.
     fn mark(&mut self, numbers: &Numbers, operand: Operand) -> Result<(), AllocError>
         requires { IsNumbered numbers.now.firsts.items (length self.old.marks.items) operand }
         ensures { OnOk result (Marked numbers.now.firsts.items (operand ∷ []) self.old self.new) }
@@ -49,7 +49,7 @@ impl Search {
         }
     }
 
-    /// KeptMarks the instructions whose results these operands read.
+    /// Marks the instructions whose results these operands read.
     fn mark_all(&mut self, numbers: &Numbers, operands: &[Operand]) -> Result<(), AllocError>
         requires { All (IsNumbered numbers.now.firsts.items (length self.old.marks.items)) operands.now }
         ensures { OnOk result (Marked numbers.now.firsts.items operands.now self.old self.new) }
@@ -60,7 +60,7 @@ impl Search {
         Ok(())
     }
 
-    /// KeptMarks the instructions whose results the operands of these entries read.
+    /// Marks the instructions whose results the operands of these entries read.
     fn mark_entries(
         &mut self,
         numbers: &Numbers,
@@ -76,7 +76,7 @@ impl Search {
         Ok(())
     }
 
-    /// KeptMarks the instructions whose results an instruction reads.
+    /// Marks the instructions whose results an instruction reads.
     fn mark_op(&mut self, numbers: &Numbers, op: &Op) -> Result<(), AllocError>
         requires { All (IsNumbered numbers.now.firsts.items (length self.old.marks.items)) (operands_of op.now) }
         ensures { OnOk result (
@@ -95,7 +95,7 @@ impl Search {
         }
     }
 
-    /// KeptMarks the instructions whose results a terminator reads.
+    /// Marks the instructions whose results a terminator reads.
     fn mark_end(&mut self, numbers: &Numbers, end: &Terminator) -> Result<(), AllocError>
         requires { All (IsNumbered numbers.now.firsts.items (length self.old.marks.items)) (operands_at_end end.now) }
         ensures { OnOk result (
