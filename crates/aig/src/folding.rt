@@ -51,7 +51,7 @@ pub(crate) fn folded_xor(a: Literal, b: Literal) -> Option<Literal>
 }
 
 /// What a choice between two literals by a third comes to.
-#[derive(Clone, Copy, Debug)]
+#[derive(Clone, Copy)]
 pub(crate) enum Choice {
     /// A literal that is there.
     Known(Literal),

@@ -5,7 +5,7 @@ ghost use Rattle.aig.specs.Gate.{ordered_and, ordered_xor};
 use crate::literal::Literal;
 
 /// A gate with its operands, and its value by theirs.
-#[derive(Clone, Copy, Debug, PartialEq, Eq, Hash)]
+#[derive(Clone, Copy, PartialEq, Eq, Hash)]
 pub enum Gate {
     /// Both of two literals.
     And(Literal, Literal),

@@ -12,7 +12,7 @@ use std::marker::Model;
 /// which are older than it. It has values under every list of inputs.
 ///
 /// It makes no gate that comes to a literal by its operands alone, and none a second time.
-#[derive(Debug, Drop)]
+#[derive(Drop)]
 pub struct Aig {
     inputs: usize,
     gates: IndexSet<Gate>,

@@ -9,7 +9,7 @@ pub(crate) const LIMIT: usize = (1 << 30) - 1;
 
 /// What a literal names. Inputs and gates are numbered apart, each from 0 in the order in which
 /// they were made.
-#[derive(Clone, Copy, Debug, PartialEq, Eq)]
+#[derive(Clone, Copy, PartialEq, Eq)]
 pub enum Node {
     /// The constant that is true.
     One,
@@ -23,7 +23,7 @@ pub enum Node {
 ///
 /// It is kept as a code: twice the place of its node, and one more where it is negated. The
 /// constant has the place 0, the inputs have the odd places, and the gates the even ones from 2 on.
-#[derive(Clone, Copy, Debug, PartialEq, Eq, Hash)]
+#[derive(Clone, Copy, PartialEq, Eq, Hash)]
 pub struct Literal {
     code: u32,
 }

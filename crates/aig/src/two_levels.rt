@@ -10,7 +10,7 @@ use crate::gate::Gate;
 use crate::literal::Literal;
 
 /// What a literal is of two others, if its node is the gate of both of them.
-#[derive(Clone, Copy, Debug)]
+#[derive(Clone, Copy)]
 pub(crate) enum Parts {
     /// Both of two literals.
     Both(Literal, Literal),
