@@ -1,16 +1,14 @@
 -- Hints move by move, and where the literals stand that they make hold.
 use Rattle.std.specs.Prelude.{◌==◌}
-use Rattle.std.proofs.Common.{◌≡◌, ℕ, ◌<◌, true, false, List, [], ◌∷◌, ◌++◌, get_or, length, sym, ap, ◌∙◌, arith, inl, inr, subst, length-append}
-use Rattle.std.proofs.lemmas.Bool.{cases_Bool, true≢false, eq-eqb}
-use Rattle.std.proofs.lemmas.List.{get_or_append_left}
+use Rattle.std.proofs.Common.{◌≡◌, ℕ, true, List, [], ◌∷◌, ◌++◌, get_or, ap, ◌∙◌, subst}
+use Rattle.std.proofs.lemmas.Bool.{eq-eqb}
 use Rattle.std.proofs.lemmas.List.Elements.{All-contains}
 use Rattle.std.proofs.lemmas.List.Folds.{list_any_at}
 use Rattle.std.proofs.lemmas.Option.{slice_get_within, get_or_from_slice_get}
-use Rattle.clauses.specs.Literal.{Lit, IsVariable, IsWithin, VariablesWithin, is_same}
+use Rattle.clauses.specs.Literal.{Lit, IsVariable, IsWithin, VariablesWithin}
 use Rattle.clauses.specs.Propagation.{HintsRefute, NamesUnit}
-use Rattle.clauses.proofs.Held.{is_same-true}
 use Rattle.clauses.proofs.Derivations.{HintsRefute-move, NamesUnit-same}
-use Rattle.rup_checker.specs.Table.{stands_in, stands_in_some}
+use Rattle.rup_checker.specs.Table.{stands_in}
 
 -- a number that makes no literal hold is no move
 pub no_move : (clauses : List (List Lit)) (held : List Lit) (number : ℕ) (rest : List ℕ) (last : ℕ) → ((l : Lit) → ¬ (NamesUnit clauses held number l)) → ¬ (HintsRefute clauses held (number ∷ (rest ++ last ∷ [])))
@@ -42,19 +40,3 @@ unit_within count clauses held number l within (clause, at, unit) =
     let here : IsWithin count clause =
     subst (IsWithin count) (get_or_from_slice_get clauses number clause clause at) (within number clause (slice_get_within clauses number clause at)) in
     All-contains (λ m. IsVariable count m.variable) clause l here unit.stands
-
--- a variable that stands in none of the hints' clauses isn't one that a move holds
-pub move_elsewhere : (clauses : List (List Lit)) (held : List Lit) (hints moves : List ℕ) (last place : ℕ) (l m : Lit) → hints ≡ moves ++ last ∷ [] → place < length moves → NamesUnit clauses held (get_or moves place 0) l → stands_in_some clauses hints m.variable ≡ false → is_same m l ≡ false
-move_elsewhere clauses held hints moves last place l m whole within unit none =
-    elim (cases_Bool (is_same m l)) [
-      | inr differs ↦ differs
-      | inl same ↦
-          let number : get_or hints place 0 ≡ get_or moves place 0 =
-          ap (λ ns. get_or ns place 0) whole ∙ get_or_append_left moves (last ∷ []) 0 place within in
-          let stands : stands_in m.variable (get_or clauses (get_or hints place 0) []) ≡ true =
-          ap (λ n. stands_in m.variable (get_or clauses n [])) number
-          ∙ ap (λ (k : Lit). stands_in k.variable (get_or clauses (get_or moves place 0) [])) (is_same-true m l same)
-          ∙ unit_stands clauses held (get_or moves place 0) l unit in
-          let inside : place < length hints = omega (arith, ap length whole, length-append moves (last ∷ [])) in
-          absurd (true≢false (sym (list_any_at (λ n. stands_in m.variable (get_or clauses n [])) hints place 0 inside stands) ∙ none))
-    ]

@@ -1,3 +1,4 @@
 pub mod TableLemmas
 pub mod HintLemmas
+pub mod UsedLemmas
 pub mod LogLemmas

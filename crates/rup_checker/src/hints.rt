@@ -1,17 +1,18 @@
 //! The test of a step's hints: all but the last are moves of unit propagation, and the last names
 //! a clause that is then false.
-ghost use Rattle.std.specs.Prelude.{◌≡◌, ◌↔◌, ◌&&◌, ◌<◌, IsTrue, List, false, not, length, MatchOption};
+ghost use Rattle.std.specs.Prelude.{◌≡◌, ◌==◌, ◌↔◌, ◌&&◌, ◌<◌, ◌≤◌, ℕ, IsTrue, List, [], true, false, not, length, slice_index_or, Contains, MatchOption};
 ghost use Rattle.clauses.specs.Literal.{Lit as Literal, VariablesWithin};
 ghost use Rattle.clauses.specs.Propagation.{HintsRefute, NamesFalse, NamesUnit, negations_of};
 ghost use Rattle.clauses.specs.ClauseSet.{clauses_with};
-ghost use Rattle.rup_checker.specs.Table.{Represents, table_holds, stands_in_some};
+ghost use Rattle.rup_checker.specs.Table.{Accounted, Represents, stands_in, table_holds, used_in};
 
 use crate::open_literals::{OpenLiterals, open_literals_of};
-use crate::table::{Held, hold, release};
+use crate::table::{Entry, hold, release};
+use crate::used::{is_used, mark, take_mark};
 use clauses::{Cnf, Lit, Step, clause_in};
 
 /// The literal that the clause of the number makes hold, where all its others are false.
-fn unit_named(cnf: &Cnf, earlier: &[Step], number: u32, table: &[Held]) -> Option<Lit>
+fn unit_named(cnf: &Cnf, earlier: &[Step], number: u32, table: &[Entry]) -> Option<Lit>
     requires within { VariablesWithin cnf.now.count (clauses_with cnf.now earlier.now) }
     requires room { cnf.now.count < length table.now }
     ensures { (held : List Literal) → Represents table.now held
@@ -26,7 +27,7 @@ fn unit_named(cnf: &Cnf, earlier: &[Step], number: u32, table: &[Held]) -> Optio
 }
 
 /// Whether the number names a clause with all literals false.
-fn names_false(cnf: &Cnf, earlier: &[Step], number: u32, table: &[Held]) -> bool
+fn names_false(cnf: &Cnf, earlier: &[Step], number: u32, table: &[Entry]) -> bool
     requires within { VariablesWithin cnf.now.count (clauses_with cnf.now earlier.now) }
     requires room { cnf.now.count < length table.now }
     ensures { (held : List Literal) → Represents table.now held
@@ -42,40 +43,75 @@ fn names_false(cnf: &Cnf, earlier: &[Step], number: u32, table: &[Held]) -> bool
 }
 
 /// Whether the hints of a step refute the negations of its clause's literals, which are held. It
-/// holds the literals that the hints' clauses make hold.
-pub(crate) fn hints_refute(cnf: &Cnf, earlier: &[Step], step: &Step, table: &mut [Held]) -> bool
+/// holds the literals that the hints' clauses make hold, and marks these clauses.
+pub(crate) fn hints_refute(
+    cnf: &Cnf,
+    earlier: &[Step],
+    step: &Step,
+    table: &mut [Entry],
+    used: &mut [Entry],
+) -> bool
     requires within { VariablesWithin cnf.now.count (clauses_with cnf.now earlier.now) }
     requires room { cnf.now.count < length table.old }
+    requires clause_room { length (clauses_with cnf.now earlier.now) ≤ length used.old }
     requires negated { Represents table.old (negations_of step.now.clause) }
+    requires unused { (number : ℕ) → used_in used.old number ≡ false }
     ensures refute { IsTrue result
         ↔ HintsRefute (clauses_with cnf.now earlier.now) (negations_of step.now.clause) step.now.hints }
-    ensures kept { (l : Literal)
-        → stands_in_some (clauses_with cnf.now earlier.now) step.now.hints l.variable ≡ false
-        → table_holds table.new l ≡ table_holds table.old l }
+    ensures accounted { Accounted (clauses_with cnf.now earlier.now) step.now.clause table.new used.new }
+    ensures marked { (number : ℕ) → used_in used.new number ≡ true → Contains step.now.hints number }
 {
     let Some((last, moves)) = step.hints.as_slice().split_last() else {
         return false;
     };
     for number in moves {
+        if is_used(used, *number) {
+            continue;
+        }
         let Some(literal) = unit_named(cnf, earlier, *number, table) else {
             return false;
         };
         hold(table, literal);
+        mark(used, *number);
     }
     names_false(cnf, earlier, *last, table)
 }
 
-/// Holds no literal of a variable that stands in a clause of one of the numbers any more.
-pub(crate) fn release_named(cnf: &Cnf, earlier: &[Step], numbers: &[u32], table: &mut [Held])
+/// Takes the mark of the clause of the number away. Where it had one, no literal of a variable that
+/// stands in it is held any more.
+fn release_marked(cnf: &Cnf, earlier: &[Step], number: u32, table: &mut [Entry], used: &mut [Entry])
     requires within { VariablesWithin cnf.now.count (clauses_with cnf.now earlier.now) }
     requires room { cnf.now.count < length table.old }
-    ensures { (l : Literal) → table_holds table.new l
-        ≡ (table_holds table.old l
-        && not (stands_in_some (clauses_with cnf.now earlier.now) numbers.now l.variable)) }
+    ensures taken { (n : ℕ) → used_in used.new n ≡ (used_in used.old n && not (n == number)) }
+    ensures released { (l : Literal) → table_holds table.new l
+        ≡ (table_holds table.old l && not (used_in used.old number
+        && stands_in l.variable (slice_index_or (clauses_with cnf.now earlier.now) number []))) }
 {
-    for number in numbers {
-        if let Some(clause) = clause_in(cnf, earlier, *number) {
-            release(table, clause.as_slice());
-        }
+    if !take_mark(used, number) {
+        return;
+    }
+    if let Some(clause) = clause_in(cnf, earlier, number) {
+        release(table, clause.as_slice());
+    }
+}
+
+/// Takes the marks of the step's hints away, and holds no literal of their clauses any more but of
+/// variables of the step's clause.
+pub(crate) fn release_hinted(
+    cnf: &Cnf,
+    earlier: &[Step],
+    step: &Step,
+    table: &mut [Entry],
+    used: &mut [Entry],
+)
+    requires within { VariablesWithin cnf.now.count (clauses_with cnf.now earlier.now) }
+    requires room { cnf.now.count < length table.old }
+    requires accounted { Accounted (clauses_with cnf.now earlier.now) step.now.clause table.old used.old }
+    requires marked { (number : ℕ) → used_in used.old number ≡ true → Contains step.now.hints number }
+    ensures own { (l : Literal) → table_holds table.new l ≡ true → stands_in l.variable step.now.clause ≡ true }
+    ensures unused { (number : ℕ) → used_in used.new number ≡ false }
+{
+    for number in step.hints.as_slice() {
+        release_marked(cnf, earlier, *number, table, used);
     }
 }

@@ -1,11 +1,12 @@
 //! An exact checker of logs by reverse unit propagation: it says yes exactly where each step of a
-//! log follows from the clauses of a set and the steps before it. One table of the variables is
-//! taken at the start of a check, and no memory after it.
+//! log follows from the clauses of a set and the steps before it. One table of the variables and the
+//! clauses is taken at the start of a check, and no memory after it.
 #![tactic(auto)]
 
 mod checker;
 mod hints;
 mod open_literals;
 mod table;
+mod used;
 
 pub use checker::{check, check_refutation};

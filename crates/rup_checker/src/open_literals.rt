@@ -4,7 +4,7 @@ ghost use Rattle.clauses.specs.Literal.{Lit as Literal};
 ghost use Rattle.rup_checker.specs.Table.{Represents};
 ghost use Rattle.rup_checker.specs.OpenLiterals.{Counts};
 
-use crate::table::{Held, is_false};
+use crate::table::{Entry, is_false};
 use clauses::Lit;
 
 /// The open literals of a clause, as far as unit propagation asks. A literal that stands in it
@@ -17,7 +17,7 @@ pub(crate) enum OpenLiterals {
 }
 
 /// Counts the open literals of a clause. It stops where a second one differs from the first.
-pub(crate) fn open_literals_of(table: &[Held], clause: &[Lit]) -> OpenLiterals
+pub(crate) fn open_literals_of(table: &[Entry], clause: &[Lit]) -> OpenLiterals
     requires { All (λ l. l.variable < length table.now) clause.now }
     ensures { (held : List Literal) → Represents table.now held → Counts result held clause.now }
 {

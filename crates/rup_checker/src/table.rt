@@ -1,5 +1,5 @@
-//! The table of the variables: which literals are held. It has an entry for each number up to the
-//! count of variables, at the place of that number.
+//! The table: which literals are held. Its first part has an entry for each number up to the count
+//! of variables, at the place of that number, and the other one for each clause (`used`).
 ghost use Rattle.std.specs.Prelude.{◌≡◌, ◌&&◌, ◌||◌, ◌<◌, not, [], length, All};
 ghost use Rattle.clauses.specs.Literal.{Lit as Literal, is_same, negation_of};
 ghost use Rattle.clauses.specs.Propagation.{negations_of};
@@ -7,37 +7,41 @@ ghost use Rattle.rup_checker.specs.Table.{Represents, table_holds, stands_in};
 
 use clauses::Lit;
 
-/// Which literals of one variable are held. Both are where a clause with a variable and its
-/// negation is negated.
+/// What is known of one variable or of one clause.
 #[derive(Clone, Copy, Debug)]
-pub(crate) struct Held {
+pub(crate) struct Entry {
+    /// Whether the variable's literals are held. Both are where a clause with a variable and its
+    /// negation is negated.
     pub(crate) positive: bool,
     pub(crate) negative: bool,
+    /// Whether a hint of the step has named the clause.
+    pub(crate) used: bool,
 }
 
-impl Held {
-    /// Neither literal is held.
-    pub(crate) const NEITHER: Held = Held {
+impl Entry {
+    /// Neither literal is held, and the clause isn't used.
+    pub(crate) const BLANK: Entry = Entry {
         positive: false,
         negative: false,
+        used: false,
     };
 }
 
 /// Whether the literal is false, that is, its negation is held.
-pub(crate) fn is_false(table: &[Held], literal: Lit) -> bool
+pub(crate) fn is_false(table: &[Entry], literal: Lit) -> bool
     requires { literal.variable < length table.now }
     ensures { result ≡ table_holds table.now (negation_of literal) }
 {
-    let held = table[literal.variable() as usize];
+    let entry = table[literal.variable() as usize];
     if literal.is_negated() {
-        held.positive
+        entry.positive
     } else {
-        held.negative
+        entry.negative
     }
 }
 
 /// Holds a literal.
-pub(crate) fn hold(table: &mut [Held], literal: Lit)
+pub(crate) fn hold(table: &mut [Entry], literal: Lit)
     requires { literal.variable < length table.old }
     ensures { (l : Literal) → table_holds table.new l ≡ (is_same l literal || table_holds table.old l) }
 {
@@ -50,7 +54,7 @@ pub(crate) fn hold(table: &mut [Held], literal: Lit)
 }
 
 /// Holds the negation of each literal of a clause, where nothing was held.
-pub(crate) fn hold_negations(table: &mut [Held], clause: &[Lit])
+pub(crate) fn hold_negations(table: &mut [Entry], clause: &[Lit])
     requires blank { Represents table.old [] }
     requires room { All (λ l. l.variable < length table.old) clause.now }
     ensures { Represents table.new (negations_of clause.now) }
@@ -61,12 +65,12 @@ pub(crate) fn hold_negations(table: &mut [Held], clause: &[Lit])
 }
 
 /// Holds no literal of a variable that stands in the clause any more.
-pub(crate) fn release(table: &mut [Held], clause: &[Lit])
+pub(crate) fn release(table: &mut [Entry], clause: &[Lit])
     requires { All (λ l. l.variable < length table.old) clause.now }
     ensures { (l : Literal) → table_holds table.new l
         ≡ (table_holds table.old l && not (stands_in l.variable clause.now)) }
 {
     for literal in clause {
-        table[literal.variable() as usize] = Held::NEITHER;
+        table[literal.variable() as usize] = Entry::BLANK;
     }
 }

@@ -17,6 +17,7 @@ loop-place-preserved c =
       follows = FollowsBefore-more set log place step at follows c.loop-place.invariant.follows;
       within = within_more set log place step at follows c.loop-place.invariant.within;
       blank = c.if-not-step_follows.ensures.blank;
+      unused = c.if-not-step_follows.ensures.unused;
     }
 
 pub returns : goal.returns

@@ -1,16 +1,17 @@
-use Rattle.std.proofs.Common.{◌≡◌, ℕ, ◌<◌, [], Some}
+use Rattle.std.proofs.Common.{◌≡◌, ℕ, ◌<◌, false, [], Some}
 use Rattle.std.specs.Prelude.{slice_get}
 use Rattle.clauses.specs.declared.step.Step.{Step}
 use Rattle.clauses.specs.Literal.{VariablesWithin}
 use Rattle.clauses.specs.ClauseSet.{StepFollows, clauses_before}
-use Rattle.rup_checker.specs.Table.{Represents}
+use Rattle.rup_checker.specs.Table.{Represents, used_in}
 use Rattle.rup_checker.proofs.checker.log_follows.Given as goal
 
--- each step before this one follows, and the table holds nothing
+-- each step before this one follows, and the table holds nothing and marks nothing
 abbrev pub invariant-loop-place : goal.invariant-loop-place
 invariant-loop-place l =
     record {
       follows : (k : ℕ) (step : Step) → k < l.place → slice_get l.log k ≡ Some step → StepFollows l.cnf (clauses_before l.cnf l.log k) step;
       within : VariablesWithin l.cnf.count (clauses_before l.cnf l.log l.place);
       blank : Represents l.table [];
+      unused : (number : ℕ) → used_in l.used number ≡ false;
     }

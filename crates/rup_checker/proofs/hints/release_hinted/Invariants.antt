@@ -1,0 +1,13 @@
+use Rattle.std.proofs.Common.{◌≡◌, ℕ, true, drop}
+use Rattle.std.specs.Prelude.{Contains}
+use Rattle.clauses.specs.ClauseSet.{clauses_with}
+use Rattle.rup_checker.specs.Table.{Accounted, used_in}
+use Rattle.rup_checker.proofs.hints.release_hinted.Given as goal
+
+-- what is held is of variables of the step's clause or of marked clauses, which hints to come name
+abbrev pub invariant-loop-number : goal.invariant-loop-number
+invariant-loop-number l =
+    record {
+      accounted : Accounted (clauses_with l.cnf l.earlier) l.step.clause l.table l.used;
+      marked : (number : ℕ) → used_in l.used number ≡ true → Contains (drop l.number-index l.step.hints) number;
+    }
