@@ -21,7 +21,7 @@ import tempfile
 
 # What a proof takes of memory, at most.
 ROOM = 3 << 30
-# With more jobs than these a check ends no sooner.
+# The most jobs of one check, which is what the gate gives one.
 MOST_JOBS = 4
 # How commands of the toolchain are called.
 TALKS = {
