@@ -138,12 +138,12 @@ class Proofs:
             return
         self.order.end(crate)
         so_far = f"{len(self.order.proved)} of {len(self.order.uses)} crates are proved ({crate})"
-        self.say(f"{so_far}, {self.order.minutes_left()} minutes of a processor are left")
+        self.say(f"{so_far}; minutes of a processor left: {self.order.minutes_left()}")
 
     def begin(self, at_once):
         done, total = len(self.order.proved), len(self.order.uses)
         self.say(f"the program is proved before it runs: {total} crates, of which {done} are, {at_once} at a time")
-        self.say(f"{self.order.minutes_left()} minutes of a processor are left, by the times in docs/BENCH.md")
+        self.say(f"minutes of a processor left, by the times in docs/BENCH.md: {self.order.minutes_left()}")
 
     def by_calls(self, rt):
         """Proves the crates below the program as `rt all check` does each, and returns whether all are proved."""
