@@ -1,6 +1,6 @@
 -- Rows of marks: none, one more, and a mark that is put.
 use Rattle.std.proofs.Common.{◌≡◌, ℕ, zero, suc, ◌<◌, Bool, true, List, [], ◌∷◌, ◌++◌, length, get_or, set, Some, refl, subst, arith}
-use Rattle.std.specs.Prelude.{slice_get, ◌↔◌}
+use Rattle.std.specs.Prelude.{slice_get}
 use Rattle.places.specs.Sets.{Rows, Has}
 
 -- one more row without marks
@@ -15,10 +15,6 @@ none_more rows none b n h = none b n (subst (λ row. slice_get row n ≡ Some tr
 
 pub none_has : (b n : ℕ) → ¬ Has [] b n
 none_has b n h = absurd cc
-
--- the marks of a row are those of another
-abbrev pub SameMarks : List Bool → List Bool → Type 0
-SameMarks old new = (n : ℕ) → (slice_get new n ≡ Some true) ↔ (slice_get old n ≡ Some true)
 
 mark_here : (row : List Bool) (i : ℕ) → i < length row → slice_get (set row i true) i ≡ Some true
 mark_here [] i lt = absurd (omega arith)

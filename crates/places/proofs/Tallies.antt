@@ -10,7 +10,7 @@ use Rattle.std.proofs.lemmas.List.Sorted.{sum_by_pushed, sum_by_popped, Contains
 use Rattle.places.specs.declared.place.Place.{Place}
 use Rattle.places.specs.Heaps.{ComesBefore}
 use Rattle.places.specs.Waiting.{tally, AreMarked, IsFirst}
-use Rattle.places.specs.Sets.{Rows, Has, IsPlace, IsAdded, IsRemoved}
+use Rattle.places.specs.Sets.{Rows, Has, IsPlace, IsAdded, IsRemoved, IsSameSet}
 use Rattle.places.proofs.Members.{contains_first, contains_later, contains_tail, contains_none}
 
 abbrev pub counts : ℕ → ℕ → Place → ℕ
@@ -88,6 +88,12 @@ marked-pushed old new heap more p h free added moved = record {
       let none = counts-other p b n (λ is. absent ((added b n).1 (inl is))) in
       let before = h.only b n (λ had. absent ((added b n).1 (inr had))) in
       omega arith);
+}
+
+pub marked-same : (old new : Rows) (heap : List Place) → AreMarked old heap → IsSameSet old new → AreMarked new heap
+marked-same old new heap h same = record {
+  once = λ b n has. h.once b n ((same b n).0 has);
+  only = λ b n absent. h.only b n (λ had. absent ((same b n).1 had));
 }
 
 pub marked-popped : (old new : Rows) (heap rest : List Place) (p : Place) → AreMarked old heap → IsRemoved old new p → IsPermutation heap (p ∷ rest) → AreMarked new rest

@@ -13,6 +13,10 @@ Has rows b n = slice_get (slice_index_or rows b []) n ≡ Some true
 abbrev pub IsPlace : Place → ℕ → ℕ → Type 0
 IsPlace p b n = (p.block ≡ b) × (p.number ≡ n)
 
+-- the same places are in both
+abbrev pub IsSameSet : Rows → Rows → Type 0
+IsSameSet old new = (b n : ℕ) → Has new b n ↔ Has old b n
+
 -- one place is in the set, and all else is as it was
 abbrev pub IsAdded : Rows → Rows → Place → Type 0
 IsAdded old new p = (b n : ℕ) → Has new b n ↔ (IsPlace p b n ⊎ Has old b n)
@@ -20,6 +24,10 @@ IsAdded old new p = (b n : ℕ) → Has new b n ↔ (IsPlace p b n ⊎ Has old b
 -- one place is not, and all else is as it was
 abbrev pub IsRemoved : Rows → Rows → Place → Type 0
 IsRemoved old new p = (b n : ℕ) → Has new b n ↔ (¬ IsPlace p b n × Has old b n)
+
+-- the same numbers are in both rows
+abbrev pub AreSameMarks : List Bool → List Bool → Type 0
+AreSameMarks old new = (n : ℕ) → (slice_get new n ≡ Some true) ↔ (slice_get old n ≡ Some true)
 
 -- of the numbers of a row one is in the set, and all else is as it was
 abbrev pub IsMarkedIn : List Bool → List Bool → ℕ → Type 0

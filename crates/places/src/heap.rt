@@ -1,12 +1,11 @@
 //! Places in a heap, of which none comes before the one above it: below the one at a place stand those at twice that place and one or two more.
 
-ghost use Rattle.std.specs.Prelude.{◌≡◌, ◌+◌, ◌*◌, ◌<◌, ◌≤◌, ◌↔◌, [], ◌∷◌, length, All, IsTrue, IfSome, IfNone, OnOk};
+ghost use Rattle.std.specs.Prelude.{◌≡◌, ◌+◌, ◌*◌, ◌<◌, ◌≤◌, ◌↔◌, [], ◌∷◌, length, All, IsTrue, IfSome, IfNone, vec_len, vec_capacity};
 ghost use Rattle.std.specs.List.Sorted.{IsPermutation};
 ghost use Rattle.places.specs.Heaps.{IsNumbered, ComesBefore, IsHeap, IsRising, IsSinking, IsLeastBelow, rank_at};
 
 use crate::order::Order;
 use crate::place::Place;
-use std::alloc::AllocError;
 
 /// Whether the first comes before the second: those too that were taken out keep their order.
 pub(crate) fn comes_before(orders: &[Order], one: Place, other: Place) -> bool
@@ -20,17 +19,17 @@ pub(crate) fn comes_before(orders: &[Order], one: Place, other: Place) -> bool
     orders[one.block as usize].is_before(one.number, other.number)
 }
 
-/// Puts a place into the heap.
-pub(crate) fn push(orders: &[Order], heap: &mut Vec<Place>, place: Place) -> Result<(), AllocError>
+/// Puts a place into the heap, which has room for it.
+pub(crate) fn push(orders: &[Order], heap: &mut Vec<Place>, place: Place)
     requires place { IsNumbered orders.now place }
     requires heap { IsHeap orders.now heap.old.items }
-    ensures heap { OnOk result (IsHeap orders.now heap.new.items) }
-    ensures pushed { OnOk result (IsPermutation (place ∷ heap.old.items) heap.new.items) }
+    requires room { vec_len heap.old < vec_capacity heap.old }
+    ensures heap { IsHeap orders.now heap.new.items }
+    ensures pushed { IsPermutation (place ∷ heap.old.items) heap.new.items }
 {
-    heap.push(place)?;
+    heap.push_reserved(place);
     let last = heap.len() - 1;
     rise(orders, heap.as_mut_slice(), last);
-    Ok(())
 }
 
 /// Takes the first place out.

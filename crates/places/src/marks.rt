@@ -1,7 +1,7 @@
 //! Sets of places.
 
-ghost use Rattle.std.specs.Prelude.{◌≡◌, ◌<◌, ◌↔◌, ℕ, length, IsTrue, IfOk, OnOk};
-ghost use Rattle.places.specs.Sets.{Has, IsAdded, IsRemoved, IsMarkedIn};
+ghost use Rattle.std.specs.Prelude.{◌≡◌, ◌<◌, ◌↔◌, ℕ, length, IsTrue, IfOk, OnOk, OnErr};
+ghost use Rattle.places.specs.Sets.{AreSameMarks, Has, IsAdded, IsRemoved, IsMarkedIn, IsSameSet};
 
 use crate::place::Place;
 use lists::List;
@@ -51,11 +51,12 @@ impl Marks {
         }
     }
 
-    /// Puts a place into the set.
+    /// Puts a place into the set. Where memory is refused the set is as it was.
     pub fn insert(&mut self, place: Place) -> Result<(), AllocError>
         requires { place.block < length self.old }
         ensures blocks { length self.new ≡ length self.old }
         ensures added { OnOk result (IsAdded self.old self.new place) }
+        ensures refused { OnErr result (IsSameSet self.old self.new) }
     {
         mark_in(&mut self.rows[place.block as usize], place.number)
     }
@@ -74,7 +75,8 @@ impl Marks {
 
 /// Marks a number in a row.
 fn mark_in(row: &mut List<bool>, number: u32) -> Result<(), AllocError>
-    ensures { OnOk result (IsMarkedIn row.old row.new number) }
+    ensures marked { OnOk result (IsMarkedIn row.old row.new number) }
+    ensures refused { OnErr result (AreSameMarks row.old row.new) }
 {
     while row.len() <= number as usize {
         row.push(false)?;

@@ -1,8 +1,8 @@
 //! Places that wait to be taken out in their order.
 
-ghost use Rattle.std.specs.Prelude.{◌≡◌, ◌<◌, ℕ, [], length, IfOk, OnOk, IfSome, IfNone};
+ghost use Rattle.std.specs.Prelude.{◌≡◌, ◌<◌, ℕ, [], length, IfOk, OnOk, OnErr, IfSome, IfNone};
 ghost use Rattle.places.specs.Heaps.{IsNumbered};
-ghost use Rattle.places.specs.Sets.{Has, IsAdded, IsRemoved};
+ghost use Rattle.places.specs.Sets.{Has, IsAdded, IsRemoved, IsSameSet};
 ghost use Rattle.places.specs.Waiting.{IsArranged, IsFirst};
 
 use crate::heap;
@@ -10,14 +10,23 @@ use crate::marks::Marks;
 use crate::order::Order;
 use crate::place::Place;
 use std::alloc::{AllocError, Global};
+use std::marker::Model;
 
 /// Places that wait, each once.
 #[derive(Drop)]
 pub struct Waiting {
     /// Which places wait.
-    pub marks: Marks,
+    marks: Marks,
     /// The same places, of which none comes before the one above it.
-    pub heap: Vec<Place>,
+    heap: Vec<Place>,
+}
+
+impl Model for Waiting {
+    ghost use Rattle.places.specs.Waiting.{WaitingPlaces};
+
+    ghost Value = { WaitingPlaces };
+
+    ghost view = { λ w. record { marks = w.marks; heap = w.heap.items } };
 }
 
 impl Waiting {
@@ -25,7 +34,7 @@ impl Waiting {
     pub fn none(alloc: Global, blocks: u32) -> Result<Waiting, AllocError>
         ensures blocks { IfOk result (λ waiting. length waiting.marks ≡ blocks) }
         ensures marks { IfOk result (λ waiting. (b n : ℕ) → ¬ Has waiting.marks b n) }
-        ensures heap { IfOk result (λ waiting. waiting.heap.items ≡ []) }
+        ensures heap { IfOk result (λ waiting. waiting.heap ≡ []) }
     {
         Ok(Waiting {
             marks: Marks::none(alloc, blocks)?,
@@ -33,18 +42,21 @@ impl Waiting {
         })
     }
 
-    /// Puts a place in, where it isn't there.
+    /// Puts a place in, where it isn't there. It takes its memory first: refused, the same places wait.
     pub fn insert(&mut self, orders: &[Order], place: Place) -> Result<(), AllocError>
         requires arranged { IsArranged orders.now self.old }
         requires place { IsNumbered orders.now place }
-        ensures arranged { OnOk result (IsArranged orders.now self.new) }
+        ensures arranged { IsArranged orders.now self.new }
         ensures added { OnOk result (IsAdded self.old.marks self.new.marks place) }
+        ensures marks { OnErr result (IsSameSet self.old.marks self.new.marks) }
+        ensures heap { OnErr result (self.new.heap ≡ self.old.heap) }
     {
         if self.marks.has(place) {
             return Ok(());
         }
+        self.heap.reserve(1)?;
         self.marks.insert(place)?;
-        heap::push(orders, &mut self.heap, place)?;
+        heap::push(orders, &mut self.heap, place);
         Ok(())
     }
 
@@ -54,7 +66,7 @@ impl Waiting {
         ensures arranged { IsArranged orders.now self.new }
         ensures first { IfSome result (IsFirst orders.now self.old.marks) }
         ensures removed { IfSome result (IsRemoved self.old.marks self.new.marks) }
-        ensures fewer { IfSome result (λ place. length self.new.heap.items < length self.old.heap.items) }
+        ensures fewer { IfSome result (λ place. length self.new.heap < length self.old.heap) }
         ensures none { IfNone result ((b n : ℕ) → ¬ Has self.old.marks b n) }
         ensures kept { IfNone result (self.new.marks ≡ self.old.marks) }
     {

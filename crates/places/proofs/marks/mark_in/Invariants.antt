@@ -1,9 +1,9 @@
 use Rattle.std.proofs.Common.{◌+◌, ◌-◌, length}
-use Rattle.places.proofs.MarkLemmas.{SameMarks}
+use Rattle.places.specs.Sets.{AreSameMarks}
 use Rattle.places.proofs.marks.mark_in.Given as goal
 
 abbrev pub invariant-loop-row : goal.invariant-loop-row
-invariant-loop-row l = SameMarks l.fn.row l.row
+invariant-loop-row l = AreSameMarks l.fn.row l.row
 
 abbrev pub decreases-loop-row : goal.decreases-loop-row
 decreases-loop-row l = l.number + 1 - length l.row
