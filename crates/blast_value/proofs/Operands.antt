@@ -1,5 +1,7 @@
 -- The operands that an instruction takes, from their widths.
-use Rattle.std.proofs.Common.{◌≡◌, ℕ, Bool, true, false, if◌then◌else◌, List, [], ◌∷◌, get_or, refl}
+use Rattle.std.proofs.Common.{◌≡◌, ◌<◌, ℕ, Bool, true, false, if◌then◌else◌, List, [], ◌∷◌, get_or, length, refl, sym, ap, subst, ◌∙◌}
+use Rattle.std.proofs.lemmas.List.{length-map}
+use Rattle.std.proofs.Math.ListN.{get_or-map}
 use Rattle.ops.specs.declared.value.Value.TheVariants.{Poison}
 use Rattle.ops.specs.declared.comparison.Pred.{Pred}
 use Rattle.ops.specs.declared.opcode.Flags.{Flags}
@@ -10,6 +12,14 @@ use Rattle.ops.specs.Comparison.{comparison}
 use Rattle.ops.specs.Conversion.{conversion}
 use Rattle.blast_value.specs.declared.held.Held.{Held}
 use Rattle.blast_value.specs.Effect.{widths_of}
+
+-- an operand is there where a width is, and has that width
+pub operand_there : {L : Type 0} (operands : List (Held L)) (widths : List ℕ) (n : ℕ) → widths_of operands ≡ widths → n < length widths → n < length operands
+operand_there operands widths n is = subst (λ m. n < m) (sym (ap length is) ∙ length-map operands (λ (h : Held _). length h.bits))
+
+pub operand_width : {L : Type 0} (operands : List (Held L)) (widths : List ℕ) (n : ℕ) (x : Held L) → widths_of operands ≡ widths → x ≡ get_or operands n x → length x.bits ≡ get_or widths n (length x.bits)
+operand_width operands widths n x is at =
+    ap (λ (h : Held _). length h.bits) at ∙ sym (get_or-map (λ (h : Held _). length h.bits) operands n x) ∙ ap (λ ws. get_or ws n (length x.bits)) is
 
 pub one_operand : {L : Type 0} (operands : List (Held L)) (k : ℕ) (x : Held L) → widths_of operands ≡ k ∷ [] → x ≡ get_or operands 0 x → operands ≡ x ∷ []
 one_operand [] k x widths at_x = cc

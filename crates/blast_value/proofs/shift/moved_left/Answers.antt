@@ -1,11 +1,81 @@
-use Rattle.std.proofs.Common.{◌<◌, ◌≤◌, ◌+◌, ◌^◌, subst, ◌∙◌, length, arith}
+use Rattle.std.proofs.Common.{◌<◌, ◌≤◌, ◌+◌, ◌^◌, sym, subst, ◌∙◌, length, arith}
 use Rattle.circuits.specs.Word.{number_of}
 use Rattle.circuits.specs.Gates.{comparison_gates, equality_gates, shift_gates}
-use Rattle.circuits.proofs.Kept.{map-kept, Keeps-trans, Adds-trans, Adds-weaken}
+use Rattle.circuits.proofs.Kept.{All-kept, map-kept, Keeps-trans, Adds-trans, Adds-weaken}
 use Rattle.circ_muldiv.proofs.OverflowTests.{number_below}
 use Rattle.blast_value.specs.Gates.{left_gates}
 use Rattle.blast_value.proofs.Moves.{left_value}
 use Rattle.blast_value.proofs.shift.moved_left.Goals as goal
+
+pub is_too_far-requires-clause-width : goal.is_too_far-requires-clause-width
+is_too_far-requires-clause-width g c = c.requires.width_b
+
+pub is_too_far-requires-clause-own : goal.is_too_far-requires-clause-own
+is_too_far-requires-clause-own g c = c.requires.own_b
+
+pub shift_left-requires-clause-own_a : goal.shift_left-requires-clause-own_a
+shift_left-requires-clause-own_a g c = All-kept c.is_too_far.ensures.adds.keeps c.args.a.now c.requires.own_a
+
+pub shift_left-requires-clause-own_amount : goal.shift_left-requires-clause-own_amount
+shift_left-requires-clause-own_amount g c = All-kept c.is_too_far.ensures.adds.keeps c.args.b.now c.requires.own_b
+
+pub loses-requires-clause-some : goal.loses-requires-clause-some
+loses-requires-clause-some g c = rw c.requires.width_a (omega arith)
+
+pub loses-requires-clause-width : goal.loses-requires-clause-width
+loses-requires-clause-width g c = c.in_ok-bits.ensures.width
+
+pub loses-requires-clause-width_amount : goal.loses-requires-clause-width_amount
+loses-requires-clause-width_amount g c = c.requires.width_b ∙ sym c.requires.width_a
+
+pub loses-requires-clause-own_before : goal.loses-requires-clause-own_before
+loses-requires-clause-own_before g c = All-kept (Keeps-trans c.is_too_far.ensures.adds.keeps c.shift_left.ensures.adds.keeps) c.args.a.now c.requires.own_a
+
+pub loses-requires-clause-own_shifted : goal.loses-requires-clause-own_shifted
+loses-requires-clause-own_shifted g c = c.in_ok-bits.ensures.own
+
+pub loses-requires-clause-own_amount : goal.loses-requires-clause-own_amount
+loses-requires-clause-own_amount g c = All-kept (Keeps-trans c.is_too_far.ensures.adds.keeps c.shift_left.ensures.adds.keeps) c.args.b.now c.requires.own_b
+
+pub loses-requires-2-clause-some : goal.loses-requires-2-clause-some
+loses-requires-2-clause-some g c = rw c.requires.width_a (omega arith)
+
+pub loses-requires-2-clause-width : goal.loses-requires-2-clause-width
+loses-requires-2-clause-width g c = c.in_ok-bits.ensures.width
+
+pub loses-requires-2-clause-width_amount : goal.loses-requires-2-clause-width_amount
+loses-requires-2-clause-width_amount g c = c.requires.width_b ∙ sym c.requires.width_a
+
+pub loses-requires-2-clause-own_before : goal.loses-requires-2-clause-own_before
+loses-requires-2-clause-own_before g c = All-kept (Keeps-trans (Keeps-trans c.is_too_far.ensures.adds.keeps c.shift_left.ensures.adds.keeps) c.loses.ensures.adds.keeps) c.args.a.now c.requires.own_a
+
+pub loses-requires-2-clause-own_shifted : goal.loses-requires-2-clause-own_shifted
+loses-requires-2-clause-own_shifted g c = All-kept c.loses.ensures.adds.keeps c.in_ok-bits.bits c.in_ok-bits.ensures.own
+
+pub loses-requires-2-clause-own_amount : goal.loses-requires-2-clause-own_amount
+loses-requires-2-clause-own_amount g c = All-kept (Keeps-trans (Keeps-trans c.is_too_far.ensures.adds.keeps c.shift_left.ensures.adds.keeps) c.loses.ensures.adds.keeps) c.args.b.now c.requires.own_b
+
+pub or-requires-clause-own_a : goal.or-requires-clause-own_a
+or-requires-clause-own_a g c = c.loses-2.ensures.adds.keeps.literals c.in_ok-wraps.wraps c.in_ok-wraps.ensures.own
+
+pub or-requires-clause-own_b : goal.or-requires-clause-own_b
+or-requires-clause-own_b g c = c.in_ok-wraps_signed.ensures.own
+
+pub or-requires-2-clause-own_a : goal.or-requires-2-clause-own_a
+or-requires-2-clause-own_a g c =
+    let to_or = Keeps-trans (Keeps-trans c.shift_left.ensures.adds.keeps c.loses.ensures.adds.keeps) (Keeps-trans c.loses-2.ensures.adds.keeps c.or.ensures.adds.keeps) in
+    to_or.literals c.in_ok-is_far.is_far c.in_ok-is_far.ensures.own
+
+pub or-requires-2-clause-own_b : goal.or-requires-2-clause-own_b
+or-requires-2-clause-own_b g c = c.in_ok-breaks.ensures.own
+
+pub returns-clause-width : goal.returns-clause-width
+returns-clause-width g c = c.in_ok-bits.ensures.width ∙ c.requires.width_a
+
+pub returns-clause-own : goal.returns-clause-own
+returns-clause-own g c =
+    let keeps = Keeps-trans (Keeps-trans c.loses.ensures.adds.keeps c.loses-2.ensures.adds.keeps) (Keeps-trans c.or.ensures.adds.keeps c.or-2.ensures.adds.keeps) in
+    record { bits = All-kept keeps c.in_ok-bits.bits c.in_ok-bits.ensures.own; poison = c.in_ok-poison.ensures.own }
 
 pub returns-clause-value : goal.returns-clause-value
 returns-clause-value g c inputs admitted =
