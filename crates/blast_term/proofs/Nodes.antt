@@ -15,12 +15,12 @@ use Rattle.rule_core.specs.declared.rule.Node.TheVariants as nodes
 use Rattle.rule_core.specs.Run.{value_of}
 use Rattle.rule_core.specs.Terms.{Meanings, number_at, number_or_zero, value_at, function_value, node_gives, term_value}
 use Rattle.blast_value.specs.declared.held.Held.{Held}
-use Rattle.blast_value.specs.Effect.{held_value}
+use Rattle.blast_value.specs.Effect.{held_value, IsOwn}
 use Rattle.blast_value.specs.Words.{number_held, word_value}
 use Rattle.blast_term.specs.declared.scope.Scope.{Scope}
-use Rattle.blast_term.specs.Scope.{held_at, seen}
+use Rattle.blast_term.specs.Scope.{held_at, seen, ScopeIsOwn}
 use Rattle.blast_term.specs.Terms.{HasWord, MeansNames}
-use Rattle.blast_term.proofs.Turns.{value_there}
+use Rattle.blast_term.proofs.Turns.{value_there, own_from_get}
 
 -- the width of a word that is read
 pub width_of_word : {L : Type 0} (words : List (List L)) (k N : ℕ) (word : List L) → HasWord words k N → slice_get words k ≡ Some word → length word ≡ N
@@ -28,6 +28,12 @@ width_of_word words k N word has at = ap length (same_Some word has.0 (sym at �
 
 pub width_of_register : {L : Type 0} (scope : Scope L) (r : Register) (N : ℕ) (h : Held L) → (held : Held L) × (held_at scope r ≡ Some held) × (length held.bits ≡ N) → held_at scope r ≡ Some h → length h.bits ≡ N
 width_of_register scope r N h has at = ap (λ (x : Held _). length x.bits) (same_Some h has.0 (sym at ∙ has.1)) ∙ has.2
+
+-- the literals of a register are a circuit's where those of its scope are
+pub register_own : {L : Type 0} (has_literal : L → Type 0) (scope : Scope L) (r : Register) (h : Held L) → ScopeIsOwn has_literal scope → held_at scope r ≡ Some h → IsOwn has_literal h
+register_own has_literal scope (registers.Input k) h own at = own_from_get (IsOwn has_literal) scope.inputs.now k h own.inputs at
+register_own has_literal scope (registers.Source k) h own at = own_from_get (IsOwn has_literal) scope.source.now k h own.source at
+register_own has_literal scope (registers.Target k) h own at = own_from_get (IsOwn has_literal) scope.target.now k h own.target at
 
 word_read : {L : Type 0} (value : L → Bool) (words : List (List L)) (numbers : List Number) (k : ℕ) (word : List L) → numbers ≡ map (number_held value) words → slice_get words k ≡ Some word → word_value value word ≡ number_at numbers k
 word_read value words numbers k word is at =

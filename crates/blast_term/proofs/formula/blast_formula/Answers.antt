@@ -5,8 +5,57 @@ use Rattle.blast_value.specs.Effect.{widths_of, IsOwn}
 use Rattle.blast_term.specs.Gates.{comparing_gates, power_test_gates, sign_test_gates, formula_gates}
 use Rattle.blast_term.specs.Terms.{FormulaIsHeld}
 use Rattle.blast_term.proofs.Formulas.{width_read, compare-holds, power-holds, sign-holds, not-holds, and-holds, or-holds}
-use Rattle.blast_term.proofs.Turns.{own_from_get, width_chosen}
+use Rattle.blast_term.proofs.Turns.{own_from_get, held_there, width_chosen}
 use Rattle.blast_term.proofs.formula.blast_formula.Goals as goal
+
+pub at-requires : goal.at-requires
+at-requires g c =
+    let need = subst (FormulaIsHeld (widths_of c.args.terms.now) (length c.args.before.now)) c.in-Compare.is c.requires.ready in
+    held_there c.args.terms.now c.in-Compare.a need.0 need.2
+
+pub at-requires-in-Compare : goal.at-requires-in-Compare
+at-requires-in-Compare g c =
+    let need = subst (FormulaIsHeld (widths_of c.args.terms.now) (length c.args.before.now)) c.in-Compare.is c.requires.ready in
+    held_there c.args.terms.now c.in-Compare.b need.0 need.3
+
+pub at-requires-in-IsPowerOfTwo : goal.at-requires-in-IsPowerOfTwo
+at-requires-in-IsPowerOfTwo g c =
+    let need = subst (FormulaIsHeld (widths_of c.args.terms.now) (length c.args.before.now)) c.in-IsPowerOfTwo.is c.requires.ready in
+    held_there c.args.terms.now c.in-IsPowerOfTwo.a need.0 need.3
+
+pub at-requires-in-IsSignBit : goal.at-requires-in-IsSignBit
+at-requires-in-IsSignBit g c =
+    let need = subst (FormulaIsHeld (widths_of c.args.terms.now) (length c.args.before.now)) c.in-IsSignBit.is c.requires.ready in
+    held_there c.args.terms.now c.in-IsSignBit.a need.0 need.3
+
+pub at-requires-in-Not : goal.at-requires-in-Not
+at-requires-in-Not g c =
+    let need = subst (FormulaIsHeld (widths_of c.args.terms.now) (length c.args.before.now)) c.in-Not.is c.requires.ready in
+    need
+
+pub at-requires-in-And : goal.at-requires-in-And
+at-requires-in-And g c =
+    let need = subst (FormulaIsHeld (widths_of c.args.terms.now) (length c.args.before.now)) c.in-And.is c.requires.ready in
+    need.0
+
+pub at-requires-in-And-2 : goal.at-requires-in-And-2
+at-requires-in-And-2 g c =
+    let need = subst (FormulaIsHeld (widths_of c.args.terms.now) (length c.args.before.now)) c.in-And.is c.requires.ready in
+    need.1
+
+pub at-requires-in-Or : goal.at-requires-in-Or
+at-requires-in-Or g c =
+    let need = subst (FormulaIsHeld (widths_of c.args.terms.now) (length c.args.before.now)) c.in-Or.is c.requires.ready in
+    need.0
+
+pub at-requires-in-Or-2 : goal.at-requires-in-Or-2
+at-requires-in-Or-2 g c =
+    let need = subst (FormulaIsHeld (widths_of c.args.terms.now) (length c.args.before.now)) c.in-Or.is c.requires.ready in
+    need.1
+
+pub not-requires : goal.not-requires
+not-requires g c =
+    own_from_get (g.C.State.has_literal c.args.c.now) c.args.before.now c.in-Not.a c.at-in-Not.result.now c.requires.own_before c.at-in-Not.ensures
 
 pub blast_compares-requires-clause-some : goal.blast_compares-requires-clause-some
 blast_compares-requires-clause-some g c =

@@ -1,4 +1,5 @@
-use Rattle.std.proofs.Common.{◌≡◌, ℕ, ◌*◌, ◌^◌, ◌<◌, ◌≤◌, ◌∙◌, if◌then◌else◌, Some, None, length, map, take, not, ◌&&◌, ap, subst, arith}
+use Rattle.std.proofs.Common.{◌≡◌, ℕ, ◌*◌, ◌^◌, ◌<◌, ◌≤◌, ◌∙◌, if◌then◌else◌, Some, None, length, map, take, not, ◌&&◌, ap, sym, subst, arith}
+use Rattle.std.proofs.lemmas.Nat.{pow_pos}
 use Rattle.std.proofs.lemmas.List.{length-map, length-take, take_all}
 use Rattle.circuits.specs.declared.state.State.{Ghosts}
 use Rattle.circuits.specs.Circuit.{Adds}
@@ -13,6 +14,46 @@ use Rattle.blast_term.proofs.power.place.Goals as goal
 -- a turn that isn't finished
 turn_within : {C L : Type 0} {state : Ghosts C L} {start now next : C} {i n width : ℕ} → Adds state start now (8 * i) → Adds state now next n → i < width → n ≤ 8 → Adds state start next (power_gates width)
 turn_within before turn inside few = Adds-weaken (Adds-trans before turn) (omega arith)
+
+pub constant-requires : goal.constant-requires
+constant-requires g c = pow_pos c.args.width
+
+pub select-requires-clause-same_width : goal.select-requires-clause-same_width
+select-requires-clause-same_width g c =
+    rw (c.as_slice.ensures, c.as_slice-in-loop-i.ensures) (c.loop-i.invariant.4 ∙ sym c.in_ok-here.ensures.width)
+
+pub select-requires-clause-own_condition : goal.select-requires-clause-own_condition
+select-requires-clause-own_condition g c =
+    c.loop-i.invariant.0.keeps.literals c.index-word-i.result
+    (own_at (g.C.State.has_literal c.args.c.now) c.args.word.now c.loop-i.i c.index-word-i.result c.requires.own c.loop-i-test.true c.index-word-i.is)
+
+pub select-requires-clause-own_yes : goal.select-requires-clause-own_yes
+select-requires-clause-own_yes g c = rw c.as_slice.ensures c.in_ok-here.ensures.own
+
+pub select-requires-clause-own_no : goal.select-requires-clause-own_no
+select-requires-clause-own_no g c = rw c.as_slice-in-loop-i.ensures c.loop-i.invariant.3
+
+pub mux-requires-clause-own_condition : goal.mux-requires-clause-own_condition
+mux-requires-clause-own_condition g c =
+    (Keeps-trans c.loop-i.invariant.0.keeps c.select.ensures.adds.keeps).literals c.index-word-i.result
+    (own_at (g.C.State.has_literal c.args.c.now) c.args.word.now c.loop-i.i c.index-word-i.result c.requires.own c.loop-i-test.true c.index-word-i.is)
+
+pub mux-requires-clause-own_yes : goal.mux-requires-clause-own_yes
+mux-requires-clause-own_yes g c = c.select.ensures.adds.keeps.literals c.loop-i.none c.loop-i.invariant.1
+
+pub mux-requires-clause-own_no : goal.mux-requires-clause-own_no
+mux-requires-clause-own_no g c = c.select.ensures.adds.keeps.literals c.loop-i.one c.loop-i.invariant.2
+
+pub not-requires : goal.not-requires
+not-requires g c =
+    (Keeps-trans c.loop-i.invariant.0.keeps (Keeps-trans c.select.ensures.adds.keeps c.mux.ensures.adds.keeps)).literals c.index-word-i.result
+    (own_at (g.C.State.has_literal c.args.c.now) c.args.word.now c.loop-i.i c.index-word-i.result c.requires.own c.loop-i-test.true c.index-word-i.is)
+
+pub and-requires-clause-own_a : goal.and-requires-clause-own_a
+and-requires-clause-own_a g c = (Keeps-trans c.select.ensures.adds.keeps c.mux.ensures.adds.keeps).literals c.loop-i.none c.loop-i.invariant.1
+
+pub and-requires-clause-own_b : goal.and-requires-clause-own_b
+and-requires-clause-own_b g c = c.not.ensures.own
 
 pub returns-in_err-bits-clause-adds : goal.returns-in_err-bits-clause-adds
 returns-in_err-bits-clause-adds g c = Adds-weaken Adds-refl (omega arith)

@@ -1,15 +1,87 @@
-use Rattle.std.proofs.Common.{◌≤◌, ◌+◌, ◌∙◌, ap, subst, map, length, arith}
+use Rattle.std.proofs.Common.{◌≤◌, ◌+◌, ◌∙◌, ap, sym, subst, map, length, refl, arith}
 use Rattle.std.specs.Prelude.{slice_index}
+use Rattle.std.specs.List.{All}
+use Rattle.std.proofs.lemmas.Option.{slice_get_within}
 use Rattle.std.proofs.lemmas.Result.{IfOk-weaker}
 use Rattle.circuits.specs.Gates.{select_gates}
 use Rattle.circuits.proofs.Kept.{Adds-refl, Adds-weaken}
-use Rattle.blast_value.specs.Effect.{held_value, widths_of}
+use Rattle.blast_value.specs.Effect.{held_value, widths_of, IsOwn}
 use Rattle.blast_value.specs.Gates.{opcode_gates}
 use Rattle.blast_term.specs.Gates.{function_gates, term_gates}
 use Rattle.blast_term.specs.Terms.{NodeIsHeld}
-use Rattle.blast_term.proofs.Nodes.{width_of_word, width_of_register, constant-value, choice-value, register-value, unary-value}
-use Rattle.blast_term.proofs.Turns.{binary-value}
+use Rattle.blast_term.proofs.Nodes.{width_of_word, width_of_register, register_own, constant-value, choice-value, register-value, unary-value}
+use Rattle.blast_term.proofs.Formulas.{width_read}
+use Rattle.blast_term.proofs.Turns.{binary-value, own_from_get, held_there}
 use Rattle.blast_term.proofs.term.blast_term.Goals as goal
+
+pub at-requires : goal.at-requires
+at-requires g c =
+    let need = subst (NodeIsHeld c.args.typing.now c.args.scope (widths_of c.args.before.now) (slice_index c.args.typing.now c.args.term.class)) c.in-Constant.is c.requires.ready.1 in
+    slice_get_within c.args.scope.constants.now c.in-Constant.k need.0 need.1
+
+pub of_word-requires : goal.of_word-requires
+of_word-requires g c =
+    own_from_get (All (g.C.State.has_literal c.args.c.now)) c.args.scope.constants.now c.in-Constant.k c.at.result.now c.requires.own.constants c.at.ensures
+
+pub at-requires-in-Choice : goal.at-requires-in-Choice
+at-requires-in-Choice g c =
+    let need = subst (NodeIsHeld c.args.typing.now c.args.scope (widths_of c.args.before.now) (slice_index c.args.typing.now c.args.term.class)) c.in-Choice.is c.requires.ready.1 in
+    slice_get_within c.args.scope.choices.now c.in-Choice.k need.0 need.1
+
+pub of_word-requires-in-Choice : goal.of_word-requires-in-Choice
+of_word-requires-in-Choice g c =
+    own_from_get (All (g.C.State.has_literal c.args.c.now)) c.args.scope.choices.now c.in-Choice.k c.at-in-Choice.result.now c.requires.own.choices c.at-in-Choice.ensures
+
+pub register_held-requires : goal.register_held-requires
+register_held-requires g c =
+    let need = subst (NodeIsHeld c.args.typing.now c.args.scope (widths_of c.args.before.now) (slice_index c.args.typing.now c.args.term.class)) c.in-Register.is c.requires.ready.1 in
+    rw need.1 refl
+
+pub of_register-requires : goal.of_register-requires
+of_register-requires g c =
+    register_own (g.C.State.has_literal c.args.c.now) c.args.scope c.in-Register.register c.register_held.result.now c.requires.own c.register_held.ensures
+
+pub at-requires-in-Unary : goal.at-requires-in-Unary
+at-requires-in-Unary g c =
+    let need = subst (NodeIsHeld c.args.typing.now c.args.scope (widths_of c.args.before.now) (slice_index c.args.typing.now c.args.term.class)) c.in-Unary.is c.requires.ready.1 in
+    held_there c.args.before.now c.in-Unary.operand (slice_index c.args.typing.now c.args.term.class) need
+
+pub blast_function-requires-clause-width : goal.blast_function-requires-clause-width
+blast_function-requires-clause-width g c =
+    let need = subst (NodeIsHeld c.args.typing.now c.args.scope (widths_of c.args.before.now) (slice_index c.args.typing.now c.args.term.class)) c.in-Unary.is c.requires.ready.1 in
+    width_read c.args.before.now c.in-Unary.operand (slice_index c.args.typing.now c.args.term.class) c.at-in-Unary.result.now need c.at-in-Unary.ensures ∙ sym c.width_of-width.ensures
+
+pub blast_function-requires-clause-own : goal.blast_function-requires-clause-own
+blast_function-requires-clause-own g c =
+    own_from_get (IsOwn (g.C.State.has_literal c.args.c.now)) c.args.before.now c.in-Unary.operand c.at-in-Unary.result.now c.requires.own_before c.at-in-Unary.ensures
+
+pub at-requires-in-Binary : goal.at-requires-in-Binary
+at-requires-in-Binary g c =
+    let need = subst (NodeIsHeld c.args.typing.now c.args.scope (widths_of c.args.before.now) (slice_index c.args.typing.now c.args.term.class)) c.in-Binary.is c.requires.ready.1 in
+    held_there c.args.before.now c.in-Binary.left (slice_index c.args.typing.now c.args.term.class) need.0
+
+pub blast_operator-requires-clause-width_left : goal.blast_operator-requires-clause-width_left
+blast_operator-requires-clause-width_left g c =
+    let need = subst (NodeIsHeld c.args.typing.now c.args.scope (widths_of c.args.before.now) (slice_index c.args.typing.now c.args.term.class)) c.in-Binary.is c.requires.ready.1 in
+    width_read c.args.before.now c.in-Binary.left (slice_index c.args.typing.now c.args.term.class) c.at-in-Binary.result.now need.0 c.at-in-Binary.ensures ∙ sym c.width_of-width.ensures
+
+pub blast_operator-requires-clause-own_left : goal.blast_operator-requires-clause-own_left
+blast_operator-requires-clause-own_left g c =
+    own_from_get (IsOwn (g.C.State.has_literal c.args.c.now)) c.args.before.now c.in-Binary.left c.at-in-Binary.result.now c.requires.own_before c.at-in-Binary.ensures
+
+pub at-requires-in-Binary-2 : goal.at-requires-in-Binary-2
+at-requires-in-Binary-2 g c =
+    let need = subst (NodeIsHeld c.args.typing.now c.args.scope (widths_of c.args.before.now) (slice_index c.args.typing.now c.args.term.class)) c.in-Binary.is c.requires.ready.1 in
+    held_there c.args.before.now c.in-Binary.right (slice_index c.args.typing.now c.args.term.class) need.1
+
+pub blast_operator-requires-clause-width_right : goal.blast_operator-requires-clause-width_right
+blast_operator-requires-clause-width_right g c =
+    let need = subst (NodeIsHeld c.args.typing.now c.args.scope (widths_of c.args.before.now) (slice_index c.args.typing.now c.args.term.class)) c.in-Binary.is c.requires.ready.1 in
+    width_read c.args.before.now c.in-Binary.right (slice_index c.args.typing.now c.args.term.class) c.at-in-Binary-2.result.now need.1 c.at-in-Binary-2.ensures ∙ sym c.width_of-width.ensures
+
+pub blast_operator-requires-clause-own_right : goal.blast_operator-requires-clause-own_right
+blast_operator-requires-clause-own_right g c =
+    own_from_get (IsOwn (g.C.State.has_literal c.args.c.now)) c.args.before.now c.in-Binary.right c.at-in-Binary-2.result.now c.requires.own_before c.at-in-Binary-2.ensures
 
 pub returns-in-Constant-clause-value : goal.returns-in-Constant-clause-value
 returns-in-Constant-clause-value g c = IfOk-weaker c.of_word.result _ _ (λ made known inputs names admitted means.
