@@ -62,7 +62,7 @@ argument_at-is tokens x e =
     read_as (λ y. SpellsArgument y.0 tokens y.1) (record { width = a.0.0; operand = c.0.0 }, c.0.1) x c.2
     (a.0.1, type_at-is tokens a.0 a.1, (b.0.1, inner_items_at-is a.0.1 b.0 b.1, operand_at-is a.0.0 b.0.1 c.0 c.1))
 
-truth_word-is : (width line : ℕ) (word : List ℕ) (found : Option RawValue) (rest : List Placed) (x : RawOperand × List Placed) → truth_in word ≡ found → truth_of_word line found rest ≡ Ok x → SpellsCaseValue width x.0 ((line, Word word) ∷ rest) x.1
+truth_word-is : (width line : ℕ) (word : List ℕ) (found : Option RawValue) (rest : List Placed) (x : RawOperand × List Placed) → truth_in word ≡ found → truth_of_word line word found rest ≡ Ok x → SpellsCaseValue width x.0 ((line, Word word) ∷ rest) x.1
 truth_word-is width line word (Some value) rest x is e =
     let truth = truth_in-is word value is in
     read_as (λ y. SpellsCaseValue width y.0 ((line, Word word) ∷ rest) y.1) (record { line = line; value = value }, rest) x e (truth.0, (Word word, truth.1 width, refl))

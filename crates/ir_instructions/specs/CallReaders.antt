@@ -10,6 +10,7 @@ use Rattle.ir_tokens.specs.declared.called.Identifier.TheVariants.{Named, Number
 use Rattle.ir_tokens.specs.Identifiers.{identifier_of}
 use Rattle.ir_tokens.specs.Numbers.{constant_of}
 use Rattle.ir_tokens.specs.Tokens.{Placed, KeptGroup, Word, Number, Function, Group, Quoted, Mark}
+use Rattle.ir_tokens.specs.declared.fault.IrFaultKind.{IrFaultKind}
 use Rattle.ir_tokens.specs.declared.fault.IrFaultKind.TheVariants.{Syntax, LeftOut}
 use Rattle.ir_tokens.specs.declared.raw.RawArguments.{RawArguments}
 use Rattle.ir_tokens.specs.declared.raw.RawArguments.TheVariants as arguments
@@ -48,14 +49,19 @@ argument_at = do
   operand ← operand_at width
   done (record { width = width; operand = operand })
 
--- a truth value: a number, `true` or `false`, and nothing else fits
-abbrev pub truth_of_word : ℕ → Option RawValue → Reader RawOperand
-truth_of_word line (Some value) rest = Ok (record { line = line; value = value }, rest)
-truth_of_word line None rest = Err (fault line Syntax)
+-- Why a word is no truth value: what stands directly before the end of an argument has to be its value, and a word that
+-- stands elsewhere, and is no item, is left out.
+abbrev pub no_truth_kind : List ℕ → List Placed → IrFaultKind
+no_truth_kind word rest = if ends_argument rest then Syntax else LeftOut word
+
+-- a truth value: a number, `true` or `false`
+abbrev pub truth_of_word : ℕ → List ℕ → Option RawValue → Reader RawOperand
+truth_of_word line word (Some value) rest = Ok (record { line = line; value = value }, rest)
+truth_of_word line word None rest = Err (fault line (no_truth_kind word rest))
 
 unfoldable pub truth_value_at : ℕ → Reader RawOperand
 truth_value_at width ((line, Number digits) ∷ rest) = given (number_value line (constant_of digits width)) rest
-truth_value_at width ((line, Word word) ∷ rest) = truth_of_word line (truth_in word) rest
+truth_value_at width ((line, Word word) ∷ rest) = truth_of_word line word (truth_in word) rest
 truth_value_at width tokens = Err (unexpected places.Fixed tokens)
 
 unfoldable pub truth_argument_at : Reader TypedOperand

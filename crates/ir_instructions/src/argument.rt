@@ -2,18 +2,20 @@
 
 ghost use Rattle.std.specs.Prelude.{◌≡◌};
 ghost use Rattle.ir_tokens.specs.SeenTokens.{seen};
-ghost use Rattle.refusal.specs.Refusals.{Gives};
+ghost use Rattle.refusal.specs.Refusals.{Gives, Refuses};
 ghost use Rattle.ir_instructions.specs.CallReaders as parsing;
+ghost use Rattle.ir_instructions.specs.Readers as readers;
 
 use crate::item::{begins_item, item};
 use crate::operand::{integer_type, number, operand};
 use crate::part::{Part, each};
-use crate::place::{fault, misplaced};
+use crate::place::{left_out, misplaced};
 use crate::token::is_mark;
 use crate::word::truth_of;
 use ir_tokens::{IrError, IrFaultKind, Placed, RawOperand, Token, TypedOperand};
 use lists::{List, Text};
 use ops::Width;
+use refusal::refused;
 use std::alloc::Global;
 
 /// Whether an argument ends before the first token.
@@ -67,9 +69,25 @@ pub(crate) fn argument(alloc: Global, tokens: &mut &[Placed<'_>]) -> Result<Type
     Ok(TypedOperand { width, operand })
 }
 
-/// A truth value: a number, `true` or `false`. Nothing else fits.
+/// The fault of a word that is no truth value, where one is expected. What stands directly before the end of an
+/// argument has to be its value; elsewhere the word is none that may be an item either.
+fn no_truth(alloc: Global, line: usize, word: &[u8], rest: &[Placed<'_>]) -> IrError
+    ensures { Refuses result (readers.fault line (parsing.no_truth_kind word.now (seen rest.now))) }
+{
+    if ends_argument(rest) {
+        refused(line, IrFaultKind::Syntax)
+    } else {
+        left_out(alloc, line, word)
+    }
+}
+
+/// A truth value: a number, `true` or `false`.
 #[tactic(auto, unfolding(crate::specs::CallReaders::truth_value_at))]
-fn truth_value(width: Width, tokens: &mut &[Placed<'_>]) -> Result<RawOperand, IrError>
+fn truth_value(
+    alloc: Global,
+    width: Width,
+    tokens: &mut &[Placed<'_>],
+) -> Result<RawOperand, IrError>
     ensures { Gives (λ x. (x, seen tokens.new.now)) result (parsing.truth_value_at width (seen tokens.old.now)) }
 {
     match *tokens {
@@ -83,7 +101,7 @@ fn truth_value(width: Width, tokens: &mut &[Placed<'_>]) -> Result<RawOperand, I
                     *tokens = rest;
                     Ok(RawOperand { line: *line, value })
                 }
-                None => Err(fault(*line, IrFaultKind::Syntax).into()),
+                None => Err(no_truth(alloc, *line, word, rest)),
             },
             _ => Err(misplaced(*tokens).into()),
         },
@@ -101,6 +119,6 @@ pub(crate) fn truth_argument(
 {
     let width = integer_type(alloc, tokens)?;
     inner_items(alloc, tokens)?;
-    let operand = truth_value(width, tokens)?;
+    let operand = truth_value(alloc, width, tokens)?;
     Ok(TypedOperand { width, operand })
 }

@@ -12,11 +12,13 @@ use Rattle.ir_tokens.specs.declared.raw.RawOperand.{RawOperand}
 use Rattle.ir_tokens.specs.declared.raw.RawValue.{RawValue}
 use Rattle.ir_tokens.specs.declared.raw.RawValue.TheVariants as values
 use Rattle.ir_tokens.specs.declared.raw.TypedOperand.{TypedOperand}
+use Rattle.refusal.specs.declared.fault.Fault.{Fault}
+use Rattle.ir_tokens.specs.declared.fault.IrFaultKind.{IrFaultKind}
 use Rattle.ir_tokens.specs.declared.fault.IrFaultKind.TheVariants.{Syntax, LeftOut}
 use Rattle.ir_instructions.specs.declared.place.Place.TheVariants as places
 use Rattle.ir_instructions.specs.declared.intrinsic.Intrinsic.{Intrinsic}
 use Rattle.ir_instructions.specs.declared.intrinsic.Intrinsic.TheVariants as intrinsics
-use Rattle.ir_instructions.specs.CallReaders.{begins_inner_item, inner_items_at, argument_at, truth_value_at, truth_argument_at, further_truth_at, truth_at, two_arguments_at, one_argument_at, arguments_at}
+use Rattle.ir_instructions.specs.CallReaders.{begins_inner_item, ends_argument, inner_items_at, argument_at, no_truth_kind, truth_value_at, truth_argument_at, further_truth_at, truth_at, two_arguments_at, one_argument_at, arguments_at}
 use Rattle.ir_instructions.specs.Grammar.{SpellsOperand, IsValueToken}
 use Rattle.ir_instructions.specs.ItemReaders.{begins_item, item_at}
 use Rattle.ir_instructions.specs.Items.{is_item_word}
@@ -35,10 +37,10 @@ use Rattle.ir_viable_prefixes.specs.Misfits as nouns
 use Rattle.ir_viable_prefixes.proofs.Choices.{same-good}
 use Rattle.ir_viable_prefixes.proofs.FlagRuns.{NoFlag, NoFlagLast, ReadsApart}
 use Rattle.ir_viable_prefixes.proofs.Items.{choice_left, fixed_left, syntax_left, one_more}
-use Rattle.ir_viable_prefixes.proofs.Outcomes.{Again, Follow, Anything, Fit, RefusesAt, RefusesEach, Bad, a_truth, no_truth, of_truth, Reasons, Takes, takes, refuses, outcome_map, Good, done-good, ◌then◌}
+use Rattle.ir_viable_prefixes.proofs.Outcomes.{Again, Follow, Anything, Fit, RefusesAt, RefusesEach, Bad, a_truth, no_truth, of_truth, Reasons, Takes, takes, refuses, refuses_by, outcome_map, Good, done-good, ◌then◌}
 use Rattle.ir_viable_prefixes.proofs.Reasons.{a_type, like_word, word_reason, fixed_reason, choice_reason}
 use Rattle.ir_viable_prefixes.proofs.TokenReaders.{no_number, operand_no_type, type_is_no_truth, other_bad, types_bad, mark-good, type-good}
-use Rattle.ir_viable_prefixes.proofs.Values.{In, IsValue, IsNone, operands, truths, ReadsValue, no_item, last, value_end, none_end, fit_truth, fit_group, ValueWhy, value_outcome}
+use Rattle.ir_viable_prefixes.proofs.Values.{In, IsValue, IsNone, IsNoneBy, operands, truths, ReadsValue, none_before, no_item, last, value_end, none_end, fit_truth, fit_group, ValueWhy, value_outcome}
 
 -- ---- values
 
@@ -74,7 +76,7 @@ truth_reads width = record {
   shorter = λ tokens x is. let s = truth_value_at-is width tokens x is in omega (arith, ap length s.1.2);
 }
   where
-    by : (w : List ℕ) (value : Option RawValue) → truth_in w ≡ value → IsValue (truth_value_at width) (Word w) ⊎ IsNone (truth_value_at width) (Word w) Syntax
+    by : (w : List ℕ) (value : Option RawValue) → truth_in w ≡ value → IsValue (truth_value_at width) (Word w) ⊎ IsNoneBy (truth_value_at width) (Word w) (no_truth_kind w)
     by w (Some value) h = inl (λ line. (record { line = line; value = value }, λ more. rw h refl))
     by w None h = inr (λ line more. rw h refl)
 
@@ -144,22 +146,46 @@ truth_alone width items l (Group text) none = absurd cc
 truth_alone width items l (Quoted text) none = absurd cc
 truth_alone width items l (Word w) none = by (truth_in w) refl
   where
+    types : (v : List ℕ) (n : ℕ) → IsTypeWord v n → RefusesEach (In (truth_value_at width) items) (Word v)
+    types v n is line more = (fault line (no_truth_kind v more), no_item (truth_value_at width) items (line, Word v) more (type_is_no_item v n is) ∙ rw (type_is_no_truth v n is) refl)
+
     by : (value : Option RawValue) → truth_in w ≡ value → Takes (In (truth_value_at width) items) (ValueWhy (truth_value_at width) width (truth_reads width) items) l (Word w)
     by (Some value) h = takes (record { line = l; value = value }) refl (λ more. no_item (truth_value_at width) items (l, Word w) more none ∙ rw h refl)
-    by None h =
-        refuses (fault l Syntax) (
-          inr (of_truth l w (fit_group (truth_value_at width) width (truth_reads width) items) (value_end (truth_value_at width) width (truth_reads width) items a_truth (λ line. (record { line = line; value = values.True }, λ more. refl)))
-              (none_end (truth_value_at width) width (truth_reads width) items (Word w) no_truth Syntax (like_word tt w (codes "undef") (nouns.value 1 values.Undef refl)) (λ line more. refl))),
-          λ left. absurd (syntax_left left),
+    by None h = refuses_by (λ more. of more (ends_argument more) refl)
+      where
+        at_end : IsNoneBy (truth_value_at width) no_truth (no_truth_kind (codes "undef"))
+        at_end line more = refl
+
+        of : (more : List Placed) (ends : Bool) → ends_argument more ≡ ends
+            → (e : Fault IrFaultKind) × ValueWhy (truth_value_at width) width (truth_reads width) items [] (l, Word w) e × (In (truth_value_at width) items ((l, Word w) ∷ more) ≡ Err e)
+        of more true last_end = (
+          fault l Syntax,
+          (
+            inr (of_truth l w (fit_group (truth_value_at width) width (truth_reads width) items) (value_end (truth_value_at width) width (truth_reads width) items a_truth (λ line. (record { line = line; value = values.True }, λ ts. refl)))
+                (none_end (truth_value_at width) width (truth_reads width) items (Word w) no_truth Syntax (like_word tt w (codes "undef") (nouns.value 1 values.Undef refl)) (none_before (truth_value_at width) (codes "undef") at_end))),
+            λ left. absurd (syntax_left left),
+          ),
+          no_item (truth_value_at width) items (l, Word w) more none ∙ rw (h, last_end) refl,
         )
-        (λ more. no_item (truth_value_at width) items (l, Word w) more none ∙ rw h refl)
+        of more false going = (
+          fault l (LeftOut w),
+          (
+            inl (
+              refl,
+              word_reason (Fit Anything (In (truth_value_at width) items) EndsArgument []) (Bad (Unit {0}) (In (truth_value_at width) items) []) (Again Anything (In (truth_value_at width) items) EndsArgument []) (RefusesAt (In (truth_value_at width) items) []) w (codes "true") (nouns.value 1 values.True refl)
+                  (fit_truth (truth_value_at width) width (truth_reads width) items) (λ u ws. types_bad (In (truth_value_at width) items) types ws),
+            ),
+            λ left. no_flag w none,
+          ),
+          no_item (truth_value_at width) items (l, Word w) more none ∙ rw (h, going) refl,
+        )
 truth_alone width items l t none =
     refuses (fault l (misfit places.Fixed t)) (
       inl (
         refl,
         fixed_reason (Fit Anything (In (truth_value_at width) items) EndsArgument []) (Bad (Unit {0}) (In (truth_value_at width) items) []) (Again Anything (In (truth_value_at width) items) EndsArgument []) (RefusesAt (In (truth_value_at width) items) []) t (
           λ u like. other_bad (In (truth_value_at width) items) refl
-              (λ v n is line more. (fault line Syntax, no_item (truth_value_at width) items (line, Word v) more (type_is_no_item v n is) ∙ rw (type_is_no_truth v n is) refl))
+              (λ v n is line more. (fault line (no_truth_kind v more), no_item (truth_value_at width) items (line, Word v) more (type_is_no_item v n is) ∙ rw (type_is_no_truth v n is) refl))
               (λ f line more. (fault line (misfit places.Fixed (Function f)), no_item (truth_value_at width) items (line, Function f) more refl)) (λ digits n is. absurd (no_number t digits refl is)) like,
           λ begins. inl (fit_group (truth_value_at width) width (truth_reads width) items),
         ),

@@ -169,9 +169,12 @@ transfer {A} test asks b R S agree U U' Z voiced opens D E F records V W within 
   behind = o.behind;
   there = o.there;
   refused = λ more.
-      agree (o.front ++ o.token ∷ more)
-      (same_test test asks o.front o.token.0 o.token.0 o.token.1 more o.behind ∙ subst (λ (ts : List Placed). test ts ≡ b) o.there next)
-      ∙ o.refused more;
+      let r = o.refused more in (
+        r.0,
+        agree (o.front ++ o.token ∷ more)
+            (same_test test asks o.front o.token.0 o.token.0 o.token.1 more o.behind ∙ subst (λ (ts : List Placed). test ts ≡ b) o.there next)
+            ∙ r.1,
+      );
   completes = completes o.front o.there o.completes;
   why = lift o.front o.token o.behind o.there e o.why;
   new = λ left. new_here (o.new left);

@@ -194,7 +194,7 @@ module _ {A : Type 0} (x : A) (line : ℕ) (some_line : line ≢ 0) where
         subst (OutcomeIf (Unit {0}) E (Closing x) NotComma (Unit {0}) (Reasons E (Closing x) NotComma) (Behind (items ++ next ∷ rest))) (sym (agree rest ∙ no_late x line next rest none))
         (prefixed (Closing x) (Ending x) (Unit {0}) E NotComma (λ u. Unit {0}) (line, a_close) items next rest reads (Unit {0}) (Reasons Anything (Ending x) NotComma) (Reasons E (Closing x) NotComma)
         (λ front t tail there found why. reasons_behind (Closing x) (Ending x) (Unit {0}) E NotComma (λ u. Unit {0}) (line, a_close) items next rest reads front t tail there found why)
-        (λ found o left. absurd (ending_nothing x (next ∷ rest) found (ap (Ending x) o.there ∙ o.refused o.behind) left)) (Ending x (next ∷ rest)) refl ((ending-good x).outcome (next ∷ rest) e))
+        (λ found is o left. absurd (ending_nothing x (next ∷ rest) found is left)) (Ending x (next ∷ rest)) refl ((ending-good x).outcome (next ∷ rest) e))
       where
         reads : Prefixed (Closing x) (Ending x) NotComma (λ u. Unit {0}) (line, a_close) items next rest
         reads = record {
@@ -268,7 +268,7 @@ module _ {A : Type 0} (x : A) (line : ℕ) (some_line : line ≢ 0) where
           token = (j, t);
           behind = rest;
           there = ap Behind (sym (append_assoc items ((l, Quoted key) ∷ (k, Mark m) ∷ []) ((j, t) ∷ rest)));
-          refused = λ more. regrouped ((j, t) ∷ more) ∙ refused j t none more;
+          refused = λ more. (fault j (misfit places.Fixed t), regrouped ((j, t) ∷ more) ∙ refused j t none more);
           completes = (
             x,
             (line, Quoted (codes "\"\"")) ∷ an_attachment [],

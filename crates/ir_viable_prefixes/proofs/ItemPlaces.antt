@@ -16,7 +16,7 @@ use Rattle.ir_instructions.proofs.Steps.{ok_is}
 use Rattle.ir_viable_prefixes.specs.Calls.{EndsArgument}
 use Rattle.ir_viable_prefixes.proofs.Closed.{Closes}
 use Rattle.ir_viable_prefixes.proofs.NoGroups.{Free, not_free, Groupless}
-use Rattle.ir_viable_prefixes.proofs.Outcomes.{Follow, Next, Ended, StopsBefore, stops, stops_same, Completes, CompletesBegun, Sample, sample_both, a_truth, Why, Reasons, ReasonsIf, OutcomeIf, GoodIf, GoodOpen, done-good}
+use Rattle.ir_viable_prefixes.proofs.Outcomes.{Follow, Next, Ended, StopsBefore, stops, stops_same, Completes, CompletesBegun, Sample, sample_both, RefusesPlaced, a_truth, Why, Reasons, ReasonsIf, OutcomeIf, GoodIf, GoodOpen, done-good}
 use Rattle.ir_viable_prefixes.proofs.Repeats.{Steps, loop_sample, one_step}
 use Rattle.ir_viable_prefixes.proofs.Values.{ReadsValue}
 
@@ -103,7 +103,7 @@ Whole text front = front ++ the_group text ∷ the_end ∷ []
 -- the reader reads up to the end, or nothing before that is refused whatever stands behind it
 pub record Goes {A : Type 0} (text : List ℕ) (R : Reader A) (front : List Placed) : Type 0 where
   pub read : (x : A × List Placed) → R (Whole text front) ≡ Ok x → x.1 ≡ the_end ∷ []
-  pub refused : (found : Fault IrFaultKind) (first : List Placed) (t : Placed) (behind : List Placed) → Whole text front ≡ first ++ t ∷ behind → ((more : List Placed) → R (first ++ t ∷ more) ≡ Err found) → behind ≡ []
+  pub refused : (first : List Placed) (t : Placed) (behind : List Placed) → Whole text front ≡ first ++ t ∷ behind → RefusesPlaced R first t → behind ≡ []
 
 -- where it does, items are read
 abbrev pub Places : {A : Type 0} → List ℕ → Reader A → Follow → Type 0
@@ -114,25 +114,29 @@ places_same {A} {F} {R} {S} text same r front e goes =
     place_moved R S F front front (λ ts. same (front ++ ts))
     (r front e (record {
       read = λ x is. goes.read x (same (Whole text front) ∙ is);
-      refused = λ found first t behind there refused. goes.refused found first t behind there (λ more. same (first ++ t ∷ more) ∙ refused more);
+      refused = λ first t behind there refused. goes.refused first t behind there (λ more. let r = refused more in (r.0, same (first ++ t ∷ more) ∙ r.1));
     }))
 
 -- a reader that refuses the group does not read on at once
 pub none_at_once : {A : Type 0} (text : List ℕ) (R : Reader A) (found : Fault IrFaultKind) → ((more : List Placed) → R (the_group text ∷ more) ≡ Err found) → Goes text R [] → ⊥
-none_at_once text R found refused goes = let none : the_end ∷ [] ≡ [] = goes.refused found [] (the_group text) (the_end ∷ []) refl refused in cc
+none_at_once text R found refused goes = let none : the_end ∷ [] ≡ [] = goes.refused [] (the_group text) (the_end ∷ []) refl (λ more. (found, refused more)) in cc
 
 -- nor does one that leaves it, where the next one doesn't
 pub none_left : {A B : Type 0} (text : List ℕ) (R : Reader A) (S : A → Reader B) (x : A) → ((more : List Placed) → R (the_group text ∷ more) ≡ Ok (x, the_group text ∷ more)) → (Goes text (S x) [] → ⊥) → Goes text (R >>= S) [] → ⊥
-none_left text R S x left none goes = none (record { read = λ y is. goes.read y (rw (left (the_end ∷ [])) is); refused = λ found first t behind there refused. by found first t behind there refused })
+none_left text R S x left none goes = none (record { read = λ y is. goes.read y (rw (left (the_end ∷ [])) is); refused = λ first t behind there refused. by first t behind there refused })
   where
-    by : (found : Fault IrFaultKind) (first : List Placed) (t : Placed) (behind : List Placed) → Whole text [] ≡ first ++ t ∷ behind → ((more : List Placed) → S x (first ++ t ∷ more) ≡ Err found) → behind ≡ []
-    by found [] t behind there refused =
+    by : (first : List Placed) (t : Placed) (behind : List Placed) → Whole text [] ≡ first ++ t ∷ behind → RefusesPlaced (S x) first t → behind ≡ []
+    by [] t behind there refused =
         let same : the_group text ≡ t = cc in
-        goes.refused found [] t behind there (λ more. subst (λ (u : Placed). (R >>= S) (u ∷ more) ≡ Err found) same (rw (left more) (subst (λ (u : Placed). S x (u ∷ more) ≡ Err found) (sym same) (refused more))))
-    by found (u ∷ first) t behind there refused =
+        goes.refused [] t behind there
+        (λ more.
+        let r = refused more in (r.0, subst (λ (u : Placed). (R >>= S) (u ∷ more) ≡ Err r.0) same (rw (left more) (subst (λ (u : Placed). S x (u ∷ more) ≡ Err r.0) (sym same) r.1))))
+    by (u ∷ first) t behind there refused =
         let same : the_group text ≡ u = cc in
-        goes.refused found (u ∷ first) t behind there
-        (λ more. subst (λ (v : Placed). (R >>= S) (v ∷ (first ++ t ∷ more)) ≡ Err found) same (rw (left (first ++ t ∷ more)) (subst (λ (v : Placed). S x (v ∷ (first ++ t ∷ more)) ≡ Err found) (sym same) (refused more))))
+        goes.refused (u ∷ first) t behind there
+        (λ more.
+        let r = refused more in
+        (r.0, subst (λ (v : Placed). (R >>= S) (v ∷ (first ++ t ∷ more)) ≡ Err r.0) same (rw (left (first ++ t ∷ more)) (subst (λ (v : Placed). S x (v ∷ (first ++ t ∷ more)) ≡ Err r.0) (sym same) r.1))))
 
 -- ---- one reader behind another
 
@@ -158,9 +162,11 @@ left_of text (v ∷ front) (u ∷ first) rest same e = by (left_of text front fi
 goes_behind : {A B : Type 0} (text : List ℕ) (R : Reader A) (S : A → Reader B) (front first f : List Placed) (x : A) → R (Whole text front) ≡ Ok (x, Whole text f) → Whole text front ≡ first ++ Whole text f → StopsBefore R first x (Whole text f) → Goes text (R >>= S) front → Goes text (S x) f
 goes_behind text R S front first f x is whole stopped goes = record {
   read = λ y read. goes.read y (rw is read);
-  refused = λ found a t behind same refused.
-      goes.refused found (first ++ a) t behind (whole ∙ ap (λ (ts : List Placed). first ++ ts) same ∙ sym (append_assoc first a (t ∷ behind)))
-      (λ more. rw (append_assoc first a (t ∷ more), stops R first x (a ++ t ∷ more) (stops_same R first x a t behind more (subst (StopsBefore R first x) same stopped))) (refused more));
+  refused = λ a t behind same refused.
+      goes.refused (first ++ a) t behind (whole ∙ ap (λ (ts : List Placed). first ++ ts) same ∙ sym (append_assoc first a (t ∷ behind)))
+      (λ more.
+      let r = refused more in
+      (r.0, rw (append_assoc first a (t ∷ more), stops R first x (a ++ t ∷ more) (stops_same R first x a t behind more (subst (StopsBefore R first x) same stopped))) r.1));
 }
 
 abbrev the_read : {A : Type 0} → Read A → Read A
@@ -169,7 +175,7 @@ the_read r = r
 -- What the reader makes of tokens: it reads some whatever stands further behind, or refuses the token behind a front that may be completed.
 pub data Fares {A : Type 0} (R : Reader A) (F : Follow) (tokens : List Placed) : Type 0 where
   reads : (x : A) (front rest : List Placed) → R tokens ≡ Ok (x, rest) → tokens ≡ front ++ rest → Ended rest → StopsBefore R front x rest → Fares R F tokens
-  fails : (found : Fault IrFaultKind) (front : List Placed) (t : Placed) (behind : List Placed) → R tokens ≡ Err found → tokens ≡ front ++ t ∷ behind → ((more : List Placed) → R (front ++ t ∷ more) ≡ Err found) → CompletesBegun R F front → Fares R F tokens
+  fails : (found : Fault IrFaultKind) (front : List Placed) (t : Placed) (behind : List Placed) → R tokens ≡ Err found → tokens ≡ front ++ t ∷ behind → RefusesPlaced R front t → CompletesBegun R F front → Fares R F tokens
 
 abbrev pub Faring : {A : Type 0} → Reader A → Follow → Type 0
 Faring R F = (tokens : List Placed) → Ended tokens → Fares R F tokens
@@ -196,7 +202,7 @@ then_goes {A} {B} {D} {F} text R S front (reads x taken rest is there ended stop
     by (inl last) =
         first (record {
           read = λ y read. let same : rest ≡ y.1 = let both : the_read (Ok (x, rest)) ≡ Ok y = sym is ∙ read in ap (λ (p : A × List Placed). p.1) (ok_is (x, rest) y both) in sym same ∙ last;
-          refused = λ found a t behind same refused. let both : the_read (Ok (x, rest)) ≡ Err found = sym is ∙ ap R same ∙ refused behind in absurd cc;
+          refused = λ a t behind same refused. let r = refused behind in let both : the_read (Ok (x, rest)) ≡ Err r.0 = sym is ∙ ap R same ∙ r.1 in absurd cc;
         })
     by (inr (f, same, whole)) =
         let read : R (Whole text front) ≡ Ok (x, Whole text f) = is ∙ ap (λ (ts : List Placed). the_read (Ok (x, ts))) whole in
@@ -205,7 +211,7 @@ then_goes {A} {B} {D} {F} text R S front (reads x taken rest is there ended stop
 then_goes text R S front (fails found taken t behind is there refused completes) goes first second =
     first (record {
       read = λ y read. let both : the_read (Err found) ≡ Ok y = sym is ∙ read in absurd cc;
-      refused = λ other a u rest same refused_too. goes.refused other a u rest same (λ more. rw (refused_too more) refl);
+      refused = λ a u rest same refused_too. goes.refused a u rest same (λ more. let r = refused_too more in (r.0, rw r.1 refl));
     })
 
 -- the second reader does not read on at once, or the first reads what it reads whatever stands behind it
@@ -272,7 +278,7 @@ Through {A} text R front = (x : A) × (more : List Placed) × (rest : List Place
 pub goes_through : {A : Type 0} {F : Follow} (text : List ℕ) (R : Reader A) (front : List Placed) → Fares R F (Whole text front) → Goes text R front → (u : Token) → F u → Through text R front
 goes_through text R front (reads x taken rest is there ended stopped) goes u follows = (x, [], the_end ∷ [], is ∙ ap (λ (ts : List Placed). the_read (Ok (x, ts))) (goes.read (x, rest) is))
 goes_through {A} {F} text R front (fails found taken t behind is there refused completes) goes u follows =
-    let none : behind ≡ [] = goes.refused found taken t behind there refused in
+    let none : behind ≡ [] = goes.refused taken t behind there refused in
     let whole : (front ++ the_group text ∷ []) ++ the_end ∷ [] ≡ taken ++ t ∷ [] =
     append_assoc front (the_group text ∷ []) (the_end ∷ []) ∙ there ∙ ap (λ (ts : List Placed). taken ++ t ∷ ts) none in
     let same = (last_is (front ++ the_group text ∷ []) taken the_end t whole).0 in
@@ -297,7 +303,7 @@ places_none {R = R} text outcome r u follows front e goes = absurd (no_through t
 pub goes_begun : {A : Type 0} (text : List ℕ) (R S : Reader A) (v : Placed) (front : List Placed) → ((tokens : List Placed) → S (v ∷ tokens) ≡ R (v ∷ tokens)) → Goes text S (v ∷ front) → Goes text R (v ∷ front)
 goes_begun text R S v front agree goes = record {
   read = λ x is. goes.read x (agree (front ++ the_group text ∷ the_end ∷ []) ∙ is);
-  refused = λ found first t behind same refused. goes.refused found first t behind same (λ more. at first t behind same more ∙ refused more);
+  refused = λ first t behind same refused. goes.refused first t behind same (λ more. let r = refused more in (r.0, at first t behind same more ∙ r.1));
 }
   where
     at : (first : List Placed) (t : Placed) (behind : List Placed) → Whole text (v ∷ front) ≡ first ++ t ∷ behind → (more : List Placed) → S (first ++ t ∷ more) ≡ R (first ++ t ∷ more)

@@ -409,7 +409,7 @@ behind_apart items = both_apart parsing.no_word_at (λ u. done items) no_word_ap
 behind_outcome : (items : List (List ℕ)) (tokens : List Placed) → Ended tokens → OutcomeIf ⊥ FollowsItems (Behind items) FollowsLast (Unit {0}) IsWordFirst tokens (Behind items tokens)
 unfolding parsing.no_word_at
 behind_outcome items [] e = absurd e
-behind_outcome items ((line, Word w) ∷ rest) e = record { front = []; token = (line, Word w); behind = rest; there = refl; refused = λ more. refl; completes = tt; why = (refl, w, refl, refl, refl); new = λ left. inl (none_repeated (Word w)) }
+behind_outcome items ((line, Word w) ∷ rest) e = record { front = []; token = (line, Word w); behind = rest; there = refl; refused = λ more. (fault line (LeftOut w), refl); completes = tt; why = (refl, w, refl, refl, refl); new = λ left. inl (none_repeated (Word w)) }
 behind_outcome items ((line, t) ∷ rest) e = record { front = []; there = refl; ended = e; stopped = λ more. refl; follows = λ u f more. let s = no_word_stops u f.1 0 more in rw s refl; completes = tt; nothing = λ none u f. f.0; halts = λ u like. behind_halts items refl like; records = λ begins. inr (λ ending more. inr (fault 0 (LeftOut (ending_word ending)), refl)); groups = λ end begins text more. inl refl; words = λ none u like. like_other refl like }
 
 abbrev three : List Placed → Token → IrFaultKind → List Placed × Token × IrFaultKind

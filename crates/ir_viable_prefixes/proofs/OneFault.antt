@@ -1,5 +1,6 @@
 -- Of tokens that do not fit, one fault is told: that of the first, of which one fault is said.
 use Rattle.std.proofs.Common.{◌≡◌, ℕ, List, [], ◌∷◌, ◌++◌, refl, sym, ap, subst, ◌∙◌, ◌⊎◌, inl, inr, append_assoc}
+use Rattle.std.proofs.lemmas.List.{append_cancel_left}
 use Rattle.ir_tokens.specs.Tokens.{Placed}
 use Rattle.refusal.specs.declared.fault.Fault.{Fault}
 use Rattle.ir_tokens.specs.declared.fault.IrFaultKind.{IrFaultKind}
@@ -26,14 +27,22 @@ places (v ∷ front) (w ∷ other) t u behind rest same = by (places front other
     by (inr (inl (between, is))) = inr (inl (between, ap (λ (x : Placed). x ∷ other) (sym heads) ∙ ap (λ (ts : List Placed). v ∷ ts) is))
     by (inr (inr (between, is))) = inr (inr (between, ap (λ (x : Placed). x ∷ front) heads ∙ ap (λ (ts : List Placed). w ∷ ts) is))
 
+-- behind equal tokens the others are equal
+behind_same : (front other : List Placed) (t u : Placed) (behind rest : List Placed) → front ≡ other → t ≡ u → front ++ t ∷ behind ≡ other ++ u ∷ rest → behind ≡ rest
+behind_same front other t u behind rest fronts tokens same =
+    tail_is t behind rest (append_cancel_left front (t ∷ behind) (t ∷ rest) (same ∙ ap (λ (f : List Placed). f ++ u ∷ rest) (sym fronts) ∙ ap (λ (v : Placed). front ++ v ∷ rest) (sym tokens)))
+  where
+    tail_is : (t : Placed) (a b : List Placed) → t ∷ a ≡ t ∷ b → a ≡ b
+    tail_is t a b both = cc
+
 -- what does not fit stands before nothing that does
 no_later : (front other : List Placed) (t : Placed) (between : List Placed) → other ≡ front ++ t ∷ between → Fits other → ¬ Fits (front ++ t ∷ []) → ⊥
 no_later front other t between is fits misfit = misfit (begun_fits (front ++ t ∷ []) between (subst Fits (is ∙ sym (append_assoc front (t ∷ []) between)) fits))
 
-one_said : (front : List Placed) (t : Placed) (a b : Fault IrFaultKind) → IsTold front t a → IsTold front t b → a ≡ b
-one_said front t a b first second = by first.said second.said
+one_said : (front : List Placed) (t : Placed) (behind : List Placed) (a b : Fault IrFaultKind) → IsTold front t behind a → IsTold front t behind b → a ≡ b
+one_said front t behind a b first second = by first.said second.said
   where
-    by : IsSaid front t a → IsSaid front t b → a ≡ b
+    by : IsSaid front t behind a → IsSaid front t behind b → a ≡ b
     by (in_call told) said = sym (second.alone a told)
     by said (in_call told) = first.alone b told
     by (of_token line kind one none) (of_token other_line other_kind other_one other_none) = ap (λ (n : ℕ). fault n a.kind) (line ∙ sym other_line) ∙ ap (fault b.line) (one b.kind other_kind)
@@ -44,4 +53,9 @@ one_fault tokens found other x y = by (places x.front y.front x.token y.token x.
     by : Places x.front x.token y.front y.token → found ≡ other
     by (inr (inl (between, is))) = absurd (no_later x.front y.front x.token between is y.fits x.misfit)
     by (inr (inr (between, is))) = absurd (no_later y.front x.front y.token between is x.fits y.misfit)
-    by (inl (fronts, tokens_are)) = one_said y.front y.token found other (subst (λ (f : List Placed). IsTold f y.token found) fronts (subst (λ (t : Placed). IsTold x.front t found) tokens_are x.told)) y.told
+    by (inl (fronts, tokens_are)) =
+        let rest : x.behind ≡ y.behind = behind_same x.front y.front x.token y.token x.behind y.behind fronts tokens_are (sym x.stands ∙ y.stands) in
+        let told : IsTold y.front y.token y.behind found =
+        subst (λ (f : List Placed). IsTold f y.token y.behind found) fronts
+        (subst (λ (t : Placed). IsTold x.front t y.behind found) tokens_are (subst (λ (ts : List Placed). IsTold x.front x.token ts found) rest x.told)) in
+        one_said y.front y.token y.behind found other told y.told

@@ -203,7 +203,7 @@ pub record IsRefused {A : Type 0} (V : Type 0) (R : Reader A) (F : Follow) (W : 
   pub token : Placed
   pub behind : List Placed
   pub there : tokens ≡ front ++ token ∷ behind
-  pub refused : (more : List Placed) → R (front ++ token ∷ more) ≡ Err found
+  pub refused : RefusesPlaced R front token
   pub completes : CompletesBegun R F front
   pub why : W front token found
   -- what is left out repeats no flag
@@ -234,6 +234,8 @@ Good E R F = GoodIf (Unit {0}) E R F (Unit {0})
 pub data Takes {A : Type 0} (R : Reader A) (W : Why) (line : ℕ) (t : Token) : Type 0 where
   takes : (x : A) → is_last t ≡ false → ((more : List Placed) → R ((line, t) ∷ more) ≡ Ok (x, more)) → Takes R W line t
   refuses : (found : Fault IrFaultKind) → W [] (line, t) found → ((more : List Placed) → R ((line, t) ∷ more) ≡ Err found) → Takes R W line t
+  -- for a reason that what stands behind decides
+  refuses_by : ((more : List Placed) → (e : Fault IrFaultKind) × W [] (line, t) e × (R ((line, t) ∷ more) ≡ Err e)) → Takes R W line t
 
 -- a token that it takes by itself
 pub fits_alone : {A : Type 0} (E : Follow) (R : Reader A) (F : Follow) (t : Token) (x : A) → E t → ((more : List Placed) → R ((0, t) ∷ more) ≡ Ok (x, more)) → Fit E R F [] t
@@ -259,7 +261,11 @@ taken V E R F W Y line t rest e (takes x going h) =
       words = λ none. absurd cc;
     })
 taken V E R F W Y line t rest e (refuses found why h) =
-    subst (OutcomeIf V E R F W Y ((line, t) ∷ rest)) (sym (h rest)) (record { front = []; token = (line, t); behind = rest; there = refl; refused = h; completes = tt; why = why; new = λ left. inl (none_repeated t) })
+    subst (OutcomeIf V E R F W Y ((line, t) ∷ rest)) (sym (h rest)) (record { front = []; token = (line, t); behind = rest; there = refl; refused = λ more. (found, h more); completes = tt; why = why; new = λ left. inl (none_repeated t) })
+taken V E R F W Y line t rest e (refuses_by h) =
+    let here = h rest in
+    subst (OutcomeIf V E R F W Y ((line, t) ∷ rest)) (sym here.2)
+    (record { front = []; token = (line, t); behind = rest; there = refl; refused = λ more. let r = h more in (r.0, r.2); completes = tt; why = here.1; new = λ left. inl (none_repeated t) })
 
 pub token_outcome : {A : Type 0} (V : Type 0) (E : Follow) (R : Reader A) (F : Follow) (W : Type 0) (Y : Why) → ((line : ℕ) (t : Token) → Takes R Y line t) → (tokens : List Placed) → Ended tokens → OutcomeIf V E R F W Y tokens (R tokens)
 token_outcome V E R F W Y one [] e = absurd e
@@ -284,6 +290,7 @@ token_apart R Y flags one ((line, t) ∷ rest) x is = by (one line t)
     by : Takes R Y line t → (front : List Placed) × ((line, t) ∷ rest ≡ front ++ x.1) × Parted front x.1
     by (takes y going h) = read_as (λ z. (front : List Placed) × ((line, t) ∷ rest ≡ front ++ z.1) × Parted front z.1) (y, rest) x (sym (h rest) ∙ is) ((line, t) ∷ [], refl, inl (no_flag y h))
     by (refuses found why h) = let both : the_read (Err found) ≡ Ok x = sym (h rest) ∙ is in absurd cc
+    by (refuses_by h) = let r = h rest in let both : the_read (Err r.0) ≡ Ok x = sym r.2 ∙ is in absurd cc
 
 pub one_token : {A : Type 0} {V : Type 0} {E : Follow} {R : Reader A} {F : Follow} {W : Type 0} → SampleToken E R → TakesNoFlag R → ((line : ℕ) (t : Token) → Takes R (ReasonsIf V E R F) line t) → GoodIf V E R F W
 one_token some flags one = record { sample = (some.2, (0, some.0) ∷ [], λ tokens next. (some.3 tokens, some.1)); outcome = token_outcome _ _ _ _ _ _ one; apart = token_apart _ _ flags one }
@@ -318,6 +325,7 @@ token_or_none {A} {E} {R} {F} x none_at enters flags one = record {
         of : MayTake R (Reasons E R F) x line t → (front : List Placed) × ((line, t) ∷ rest ≡ front ++ y.1) × Parted front y.1
         of (may_take (takes z going h)) = read_as (λ z. (front : List Placed) × ((line, t) ∷ rest ≡ front ++ z.1) × Parted front z.1) (z, rest) y (sym (h rest) ∙ is) ((line, t) ∷ [], refl, inl (no_flag z h))
         of (may_take (refuses found why h)) = let both : the_read (Err found) ≡ Ok y = sym (h rest) ∙ is in absurd cc
+        of (may_take (refuses_by h)) = let r = h rest in let both : the_read (Err r.0) ≡ Ok y = sym r.2 ∙ is in absurd cc
         of (leaves h k j) = read_as (λ z. (front : List Placed) × ((line, t) ∷ rest ≡ front ++ z.1) × Parted front z.1) (x, (line, t) ∷ rest) y (sym (h line rest) ∙ is) ([], refl, inl tt)
 
     outcome : (tokens : List Placed) → Ended tokens → Outcome E R F (Reasons E R F) tokens (R tokens)
@@ -560,7 +568,7 @@ first_refuses {T = T} {F = F} {G = G} R S s tokens found o why = record {
   token = o.token;
   behind = o.behind;
   there = o.there;
-  refused = λ more. rw (o.refused more) refl;
+  refused = λ more. let r = o.refused more in (r.0, rw r.1 refl);
   completes = completes_first F G R S s o.front o.completes;
   why = why;
   new = λ left. by (o.new left);
@@ -577,7 +585,9 @@ second_refuses {G = G} R S s tokens x found o p why new = record {
   token = p.token;
   behind = p.behind;
   there = o.there ∙ ap (λ (ts : List Placed). o.front ++ ts) p.there ∙ sym (append_assoc o.front p.front (p.token ∷ p.behind));
-  refused = λ more. rw (append_assoc o.front p.front (p.token ∷ more), stops R o.front x.0 (p.front ++ p.token ∷ more) (stops_same R o.front x.0 p.front p.token p.behind more (subst (StopsBefore R o.front x.0) p.there o.stopped))) (p.refused more);
+  refused = λ more.
+      let r = p.refused more in
+      (r.0, rw (append_assoc o.front p.front (p.token ∷ more), stops R o.front x.0 (p.front ++ p.token ∷ more) (stops_same R o.front x.0 p.front p.token p.behind more (subst (StopsBefore R o.front x.0) p.there o.stopped))) r.1);
   completes = completes_both G R S s tokens x o p.front (p.token ∷ p.behind) p.there p.completes;
   why = why;
   new = new;

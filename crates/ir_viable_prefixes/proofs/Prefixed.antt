@@ -190,7 +190,7 @@ module _ {A : Type 0} (R S : Reader A) (V : Type 0) (E F Own : Follow) (first : 
   empty (v ∷ front) tail there none = absurd cc
 
   pub prefixed : (W : Type 0) (X Y : Why) → ((front : List Placed) (t : Placed) (tail : List Placed) → next ∷ rest ≡ front ++ t ∷ tail → (found : Fault IrFaultKind) → X front t found → Y (Behind front) t found)
-      → ((found : Fault IrFaultKind) → (o : IsRefused (Unit {0}) S F X (next ∷ rest) found) → IsLeft found.kind → New V R (Behind o.front) o.token.1)
+      → ((found : Fault IrFaultKind) → S (next ∷ rest) ≡ Err found → (o : IsRefused (Unit {0}) S F X (next ∷ rest) found) → IsLeft found.kind → New V R (Behind o.front) o.token.1)
       → (r : Read A) → S (next ∷ rest) ≡ r → OutcomeIf (Unit {0}) Anything S F W X (next ∷ rest) r → OutcomeIf V E R F W Y (first ∷ (others ++ next ∷ rest)) r
   prefixed W X Y lift new (Ok x) is o = record {
     front = Behind o.front;
@@ -210,8 +210,8 @@ module _ {A : Type 0} (R S : Reader A) (V : Type 0) (E F Own : Follow) (first : 
     token = o.token;
     behind = o.behind;
     there = ap (λ (ts : List Placed). first ∷ (others ++ ts)) o.there ∙ ap (λ (ts : List Placed). first ∷ ts) (sym (append_assoc others o.front (o.token ∷ o.behind)));
-    refused = λ more. at o.front o.token o.behind o.there more ∙ o.refused more;
+    refused = λ more. let r = o.refused more in (r.0, at o.front o.token o.behind o.there more ∙ r.1);
     completes = completes_behind o.front (o.token ∷ o.behind) o.there o.completes;
     why = lift o.front o.token o.behind o.there e o.why;
-    new = new e o;
+    new = new e is o;
   }

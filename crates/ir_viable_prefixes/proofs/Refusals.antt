@@ -51,7 +51,7 @@ use Rattle.ir_viable_prefixes.proofs.OneKind.{EndsHaveNoNumbers, one_kind}
 use Rattle.ir_viable_prefixes.proofs.Statements.{no_record}
 use Rattle.ir_viable_prefixes.proofs.TextEnds.{UpTo, ended_before, is_left_out, refused_at_end, types_refused_at_end, numbers_refused_at_end, functions_refused_at_end}
 use Rattle.ir_viable_prefixes.proofs.TokenReaders.{i8}
-use Rattle.ir_viable_prefixes.proofs.Told.{CalleeAlone, told_alone, alone, begun_fits}
+use Rattle.ir_viable_prefixes.proofs.Told.{CalleeAlone, told_alone, truth_stands, alone, begun_fits}
 
 -- a mark of a text stands on a line from 1 on
 mark_line : (kind : TokenKind) (bytes text : List ℕ) (start mark : ℕ) → token_of kind bytes ≡ Mark mark → line_at kind text start ≢ 0
@@ -303,12 +303,17 @@ placed_misfits law front u refused (more, m, spelled) =
     let refusal : module_of ((front ++ u ∷ []) ++ more) ≡ Err r.0 = ap module_from (ap entries_at (append_assoc front (u ∷ []) more) ∙ r.1) in
     let both : the_module (Ok m) ≡ Err r.0 = sym read ∙ refusal in absurd cc
 
-call_is : ModulesAreReadAsSpelled → (front : List Placed) {t : Placed} {found : Fault IrFaultKind} → InCall (Unit {0}) Anything entries_at EndsText front t found → IsToldInCall front t found
-call_is law front (of_callee line at written one stands fit bad) =
+call_is : ModulesAreReadAsSpelled → (front behind : List Placed) {t : Placed} {found : Fault IrFaultKind} → InCall (Unit {0}) Anything entries_at EndsText front t found → Ended (front ++ t ∷ behind) → ¬ Fits (front ++ t ∷ [])
+    → entries_at (front ++ t ∷ behind) ≡ Err found → IsToldInCall front behind t found
+call_is law front behind (of_callee line at written one stands fit bad) e unfit is =
     calls.callee line at written (record { one = one; fits = token_fits law front (Function one) fit; alone = callee_is law front (Function written) bad }) stands
-call_is law front (of_value before line value end kind same ends none item fit why) =
+call_is law front behind (of_value before line value end kind same ends none item fit why) e unfit is =
     calls.value before line value end kind same ends (λ other is. placed_misfits law front other (none other is)) (codes "#0", token_fits law before a_group item) (value_fits law before a_truth fit) (no_value_is law before why)
-call_is law front (of_truth line w item fit bad) = calls.truth line w (codes "#0", token_fits law front a_group item) (value_fits law front a_truth fit) (no_value_fits law front (Word w) no_truth bad)
+call_is law front behind (of_truth line w item fit bad) e unfit is =
+    let attributes : AttributesFit front = (codes "#0", token_fits law front a_group item) in
+    let truth = value_fits law front a_truth fit in
+    let no_undef = no_value_fits law front (Word w) no_truth bad in
+    calls.truth line w attributes truth no_undef (truth_stands law front line w behind e attributes unfit truth no_undef is)
 
 -- where the text may end no function fits
 abbrev EndsHaveNoFunctions : List Placed → Type 0
@@ -334,34 +339,22 @@ no_callee front t Syntax ends told written is c = told.function written c.one is
 no_callee front t kind ends told written is c = absurd told
 
 -- what is said of the token by itself
-by_token : ModulesAreReadAsSpelled → (front : List Placed) (t : Placed) (found : Fault IrFaultKind) → EndsHaveNoNumbers front → EndsHaveNoFunctions front → found.line ≡ t.0 → IsMisfit front t.1 found.kind → IsSaid front t found × CalleeAlone front t found
-by_token law front t found numbers functions line told =
+by_token : ModulesAreReadAsSpelled → (front : List Placed) (t : Placed) (behind : List Placed) (found : Fault IrFaultKind) → EndsHaveNoNumbers front → EndsHaveNoFunctions front → found.line ≡ t.0 → IsMisfit front t.1 found.kind → IsSaid front t behind found × CalleeAlone front t found
+by_token law front t behind found numbers functions line told =
     let none = no_callee front t.1 found.kind functions told in
     (of_token line told (λ other h. one_kind front t.1 numbers found.kind other told h) none, λ l at written is callee stands. absurd (none written (ap (λ (p : Placed). p.1) is) callee))
 
 -- ---- what is told
 
-said_is : ModulesAreReadAsSpelled → (front : List Placed) (t : Placed) (found : Fault IrFaultKind) → EndsLeaveOut front t.1 found.kind → EndsHaveNoTypes front → EndsHaveNoNumbers front → EndsHaveNoFunctions front → (IsLeft found.kind → ¬ IsRepeated front t.1) → OrEnds Anything entries_at EndsText front t found
-    → IsSaid front t found × CalleeAlone front t found
-said_is law front t found ends types numbers functions new (inl (end, line, kind)) =
+said_is : ModulesAreReadAsSpelled → (front : List Placed) (t : Placed) (behind : List Placed) (found : Fault IrFaultKind) → Ended (front ++ t ∷ behind) → ¬ Fits (front ++ t ∷ []) → entries_at (front ++ t ∷ behind) ≡ Err found → EndsLeaveOut front t.1 found.kind → EndsHaveNoTypes front → EndsHaveNoNumbers front → EndsHaveNoFunctions front → (IsLeft found.kind → ¬ IsRepeated front t.1) → OrEnds Anything entries_at EndsText front t found
+    → IsSaid front t behind found × CalleeAlone front t found
+said_is law front t behind found e unfit is ends types numbers functions new (inl (end, line, kind)) =
     let told : IsMisfit front t.1 found.kind = subst (IsMisfit front t.1) (sym kind) (entry_is front t.1 (end_fits law front end) types (subst (λ (k : IrFaultKind). IsLeft k → ¬ IsRepeated front t.1) kind new)) in
-    by_token law front t found numbers functions line told
-said_is law front t found ends types numbers functions new (inr (inl (line, why))) = by_token law front t found numbers functions line (reason_is law front t.1 found.kind ends new why)
-said_is law front t found ends types numbers functions new (inr (inr call)) = let told = call_is law front call in (in_call told, told_alone front t found told)
+    by_token law front t behind found numbers functions line told
+said_is law front t behind found e unfit is ends types numbers functions new (inr (inl (line, why))) = by_token law front t behind found numbers functions line (reason_is law front t.1 found.kind ends new why)
+said_is law front t behind found e unfit is ends types numbers functions new (inr (inr call)) = let told = call_is law front behind call e unfit is in (in_call told, told_alone front behind t found told)
 
 -- ---- where a fault stands
-
--- what is refused whatever stands behind does not fit
-refused_misfits : ModulesAreReadAsSpelled → (front : List Placed) (t : Placed) (found : Fault IrFaultKind) → ((more : List Placed) → entries_at (front ++ t ∷ more) ≡ Err found) → ¬ Fits (front ++ t ∷ [])
-refused_misfits law front t found refused (more, m, spelled) =
-    let read : module_of ((front ++ t ∷ []) ++ more) ≡ Ok m = (law ((front ++ t ∷ []) ++ more) m).1 spelled in
-    let same : (front ++ t ∷ []) ++ more ≡ front ++ t ∷ more = append_assoc front (t ∷ []) more in
-    let refusal : module_of (front ++ t ∷ more) ≡ Err found = ap module_from (refused more) in
-    let both : the_result (Ok m) ≡ Err found = sym read ∙ ap module_of same ∙ refusal in
-    absurd cc
-  where
-    the_result : Result RawModule (Fault IrFaultKind) → Result RawModule (Fault IrFaultKind)
-    the_result r = r
 
 -- what fits with the end behind it is read up to there
 read_up_to : ModulesAreReadAsSpelled → (front : List Placed) (ends : FitsBehind front End) → Ended (UpTo front 0) → (x : List RawEntry × List Placed) × (entries_at (UpTo front 0) ≡ Ok x)
@@ -372,14 +365,15 @@ read_up_to law front (more, m, spelled) e = by (entries_at (UpTo front 0)) refl 
     by (Err f) is o =
         let read : module_of (UpTo front 0 ++ more) ≡ Ok m = (law (UpTo front 0 ++ more) m).1 spelled in
         let same : UpTo front 0 ++ more ≡ o.front ++ o.token ∷ (o.behind ++ more) = ap (λ (ts : List Placed). ts ++ more) o.there ∙ append_assoc o.front (o.token ∷ o.behind) more in
-        let refusal : module_of (o.front ++ o.token ∷ (o.behind ++ more)) ≡ Err f = ap module_from (o.refused (o.behind ++ more)) in
-        let both : the_module (Ok m) ≡ Err f = sym read ∙ ap module_of same ∙ refusal in absurd cc
+        let r = o.refused (o.behind ++ more) in
+        let refusal : module_of (o.front ++ o.token ∷ (o.behind ++ more)) ≡ Err r.0 = ap module_from r.1 in
+        let both : the_module (Ok m) ≡ Err r.0 = sym read ∙ ap module_of same ∙ refusal in absurd cc
 
-ends_leave_out : ModulesAreReadAsSpelled → (tokens : List Placed) (found : Fault IrFaultKind) → Ended tokens → (o : IsRefused (Unit {0}) entries_at EndsText (OrEnds Anything entries_at EndsText) tokens found) → EndsLeaveOut o.front o.token.1 found.kind
-ends_leave_out law tokens found e o goes ends =
+ends_leave_out : ModulesAreReadAsSpelled → (tokens : List Placed) (found : Fault IrFaultKind) → Ended tokens → entries_at tokens ≡ Err found → (o : IsRefused (Unit {0}) entries_at EndsText (OrEnds Anything entries_at EndsText) tokens found) → EndsLeaveOut o.front o.token.1 found.kind
+ends_leave_out law tokens found e is o goes ends =
     let ended : Ended (UpTo o.front 0) = ended_before o.front o.token o.behind (subst Ended o.there e) 0 in
     let r = read_up_to law o.front ends ended in
-    (refused_at_end o.front 0 o.token r.0 found ended r.1 goes o.refused).1
+    (refused_at_end o.front 0 o.token o.behind r.0 found ended r.1 goes o.refused (ap entries_at (sym o.there) ∙ is)).1
 
 ends_have_no_types : ModulesAreReadAsSpelled → (tokens : List Placed) (found : Fault IrFaultKind) → Ended tokens → (o : IsRefused (Unit {0}) entries_at EndsText (OrEnds Anything entries_at EndsText) tokens found) → EndsHaveNoTypes o.front
 ends_have_no_types law tokens found e o ends (w, width, is, fits) =
@@ -399,27 +393,37 @@ ends_have_no_functions law tokens found e o ends written fits =
     let r = read_up_to law o.front ends ended in
     bad_misfits law o.front (Function written) (functions_refused_at_end o.front 0 r.0 ended r.1 written) fits
 
-first_misfit : ModulesAreReadAsSpelled → (tokens : List Placed) (found : Fault IrFaultKind) → Ended tokens → IsRefused (Unit {0}) entries_at EndsText (OrEnds Anything entries_at EndsText) tokens found → IsFirstMisfit tokens found
-first_misfit law tokens found e o = record {
+first_misfit : ModulesAreReadAsSpelled → (tokens : List Placed) (found : Fault IrFaultKind) → Ended tokens → entries_at tokens ≡ Err found → IsRefused (Unit {0}) entries_at EndsText (OrEnds Anything entries_at EndsText) tokens found → IsFirstMisfit tokens found
+first_misfit law tokens found e is o = record {
   front = o.front;
   token = o.token;
   behind = o.behind;
   stands = o.there;
   fits = front_fits law o.front o.completes;
-  misfit = refused_misfits law o.front o.token found o.refused;
+  misfit = unfit;
   told = record {
     said = said.0;
-    alone = alone law o.front o.token o.behind found (subst Ended o.there e) (front_fits law o.front o.completes) (refused_misfits law o.front o.token found o.refused) o.refused said.1;
+    alone = alone law o.front o.token o.behind found (subst Ended o.there e) (front_fits law o.front o.completes) unfit here said.1;
   };
 }
   where
-    said : IsSaid o.front o.token found × CalleeAlone o.front o.token found
-    said = said_is law o.front o.token found (ends_leave_out law tokens found e o) (ends_have_no_types law tokens found e o) (ends_have_no_numbers law tokens found e o) (ends_have_no_functions law tokens found e o) (λ left. no_repeat law o.front o.token.1 (o.new left)) o.why
+    unfit : ¬ Fits (o.front ++ o.token ∷ [])
+    unfit = placed_misfits law o.front o.token o.refused
 
-refused_at : ModulesAreReadAsSpelled → (tokens : List Placed) (found : Fault IrFaultKind) (r : Read (List RawEntry)) → module_from r ≡ Err found → Ended tokens → Outcome Anything entries_at EndsText (OrEnds Anything entries_at EndsText) tokens r → IsFirstMisfit tokens found
-refused_at law tokens found (Ok x) is ended o = absurd cc
-refused_at law tokens found (Err e) is ended o = first_misfit law tokens found ended (subst (IsRefused (Unit {0}) entries_at EndsText (OrEnds Anything entries_at EndsText) tokens) (err_is e found is) o)
+    here : entries_at (o.front ++ o.token ∷ o.behind) ≡ Err found
+    here = ap entries_at (sym o.there) ∙ is
+
+    said : IsSaid o.front o.token o.behind found × CalleeAlone o.front o.token found
+    said = said_is law o.front o.token o.behind found (subst Ended o.there e) unfit here (ends_leave_out law tokens found e is o) (ends_have_no_types law tokens found e o) (ends_have_no_numbers law tokens found e o) (ends_have_no_functions law tokens found e o) (λ left. no_repeat law o.front o.token.1 (o.new left)) o.why
+
+refused_at : ModulesAreReadAsSpelled → (tokens : List Placed) (found : Fault IrFaultKind) (r : Read (List RawEntry)) → entries_at tokens ≡ r → module_from r ≡ Err found → Ended tokens → Outcome Anything entries_at EndsText (OrEnds Anything entries_at EndsText) tokens r → IsFirstMisfit tokens found
+refused_at law tokens found (Ok x) read is ended o = absurd cc
+refused_at law tokens found (Err e) read is ended o =
+    first_misfit law tokens found ended (read ∙ ap the_refusal (err_is e found is)) (subst (IsRefused (Unit {0}) entries_at EndsText (OrEnds Anything entries_at EndsText) tokens) (err_is e found is) o)
   where
+    the_refusal : Fault IrFaultKind → Read (List RawEntry)
+    the_refusal f = Err f
+
     err_is : (a b : Fault IrFaultKind) → module_from (Err a) ≡ Err b → a ≡ b
     err_is a b same = cc
 
@@ -427,7 +431,7 @@ refused : ModulesAreReadAsSpelled → TextsHaveOneListOfTokens → (text : List 
 refused law one text tokens found within are (too_long more same) = absurd (omega arith)
 refused law one text tokens found within are (misfit less others are_others is_refused) =
     let same : module_of tokens ≡ Err found = ap module_of (one.one text tokens others are are_others) ∙ is_refused in
-    refused_at law tokens found (entries_at tokens) same (tokens_end are) (entries_outcome tokens (tokens_end are))
+    refused_at law tokens found (entries_at tokens) refl same (tokens_end are) (entries_outcome tokens (tokens_end are))
 
 read : ModulesAreReadAsSpelled → TextsHaveOneListOfTokens → (text : List ℕ) (tokens : List Placed) (found : Fault IrFaultKind) → length text ≤ most_bytes → AreTokens text tokens → Fits tokens → ¬ IsTextFault text found
 read law one text tokens found within are all_fit fault =

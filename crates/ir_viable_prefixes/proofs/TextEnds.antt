@@ -16,7 +16,7 @@ use Rattle.ir_instructions.proofs.Loops.{repeat-done}
 use Rattle.ir_instructions.proofs.Steps.{ok_is}
 use Rattle.ir_parse.specs.ModuleReaders as parsing
 use Rattle.ir_viable_prefixes.proofs.Entries.{entry_token_at, behind_entry, same_entry, IsFirst, entry_token_takes, behind_entry-good, Begins, OrFirst, Loop, entry_steps, another_outcome, another-closes}
-use Rattle.ir_viable_prefixes.proofs.Outcomes.{Anything, Ended, RefusesAt, IsReadIf, Outcome, Takes, takes, refuses}
+use Rattle.ir_viable_prefixes.proofs.Outcomes.{Anything, Ended, RefusesAt, RefusesPlaced, IsReadIf, Outcome, Takes, takes, refuses, refuses_by}
 use Rattle.ir_viable_prefixes.proofs.Repeats.{one_step}
 
 -- ---- lists that end with the end
@@ -117,13 +117,20 @@ fault_is : (f g : Fault IrFaultKind) → the_fault f ≡ the_fault g → f ≡ g
 fault_is f g same = cc
 
 -- behind entries, what begins no entry is refused as such
-pub begins_none : (a : List RawEntry) (line : ℕ) (t : Token) (found : Fault IrFaultKind) → is_last t ≡ false → ((more : List Placed) → Loop a ((line, t) ∷ more) ≡ Err found) → (found.line ≡ line) × (found.kind ≡ misfit places.Entry t)
-begins_none a line t found goes refused = by (entry_token_takes line t)
+pub begins_none : (a : List RawEntry) (line : ℕ) (t : Token) (behind : List Placed) (found : Fault IrFaultKind) → is_last t ≡ false → ((more : List Placed) → (e : Fault IrFaultKind) × (Loop a ((line, t) ∷ more) ≡ Err e)) → Loop a ((line, t) ∷ behind) ≡ Err found
+    → (found.line ≡ line) × (found.kind ≡ misfit places.Entry t)
+begins_none a line t behind found goes refused is = by (entry_token_takes line t)
   where
     read : (more : List Placed) → Loop a ((line, t) ∷ more) ≡ goes_on (goes_on (goes_on (entry_token_at ((line, t) ∷ more)) behind_entry) (λ x. done (a ++ x ∷ []))) Loop
     read more =
         step a (line, t) more goes
         ∙ ap (λ (r : Read RawEntry). goes_on (goes_on r (λ x. done (a ++ x ∷ []))) Loop) (same_entry ((line, t) ∷ more))
+
+    of : (given : Fault IrFaultKind) → IsFirst [] (line, t) given → entry_token_at ((line, t) ∷ behind) ≡ Err given → (found.line ≡ line) × (found.kind ≡ misfit places.Entry t)
+    of given why h =
+        let failed : Loop a ((line, t) ∷ behind) ≡ Err given = read behind ∙ rw h refl in
+        let same : found ≡ given = fault_is found given (sym is ∙ failed) in
+        (ap (λ (f : Fault IrFaultKind). f.line) same ∙ why.1, ap (λ (f : Fault IrFaultKind). f.kind) same ∙ why.2)
 
     by : Takes entry_token_at IsFirst line t → (found.line ≡ line) × (found.kind ≡ misfit places.Entry t)
     by (takes x going_on h) =
@@ -132,11 +139,10 @@ begins_none a line t found goes refused = by (entry_token_takes line t)
         let entry : behind_entry x (s.1 ++ end) ≡ Ok (s.0, end) = (s.2 end tt).0 in
         let done_here : Loop (a ++ s.0 ∷ []) end ≡ Ok (a ++ s.0 ∷ [], end) = repeat-done parsing.begins_entry One (a ++ s.0 ∷ []) end refl in
         let all : Loop a ((line, t) ∷ (s.1 ++ end)) ≡ Ok (a ++ s.0 ∷ [], end) = read (s.1 ++ end) ∙ rw (h (s.1 ++ end), entry) done_here in
-        let both : the_fault found ≡ Ok (a ++ s.0 ∷ [], end) = sym (refused (s.1 ++ end)) ∙ all in absurd cc
-    by (refuses given why h) =
-        let failed : Loop a ((line, t) ∷ []) ≡ Err given = read [] ∙ rw (h []) refl in
-        let same : found ≡ given = fault_is found given (sym (refused []) ∙ failed) in
-        (ap (λ (f : Fault IrFaultKind). f.line) same ∙ why.1, ap (λ (f : Fault IrFaultKind). f.kind) same ∙ why.2)
+        let r = refused (s.1 ++ end) in
+        let both : the_fault r.0 ≡ Ok (a ++ s.0 ∷ [], end) = sym r.1 ∙ all in absurd cc
+    by (refuses given why h) = of given why (h behind)
+    by (refuses_by h) = let r = h behind in of r.0 r.1 r.2
 
 -- no such token is refused as what nothing else is
 pub is_left_out : (t : Token) → is_last t ≡ false → Syntax ≡ misfit places.Entry t → ⊥
@@ -147,11 +153,12 @@ is_left_out Bad_token goes is = absurd cc
 is_left_out t goes is = absurd cc
 
 -- a token that is refused where the text may end
-pub refused_at_end : (front : List Placed) (l : ℕ) (t : Placed) (x : List RawEntry × List Placed) (found : Fault IrFaultKind) → Ended (UpTo front l) → parsing.entries_at (UpTo front l) ≡ Ok x → is_last t.1 ≡ false
-    → ((more : List Placed) → parsing.entries_at (front ++ t ∷ more) ≡ Err found) → (found.line ≡ t.0) × (found.kind ≡ misfit places.Entry t.1)
+pub refused_at_end : (front : List Placed) (l : ℕ) (t : Placed) (behind : List Placed) (x : List RawEntry × List Placed) (found : Fault IrFaultKind) → Ended (UpTo front l) → parsing.entries_at (UpTo front l) ≡ Ok x → is_last t.1 ≡ false
+    → RefusesPlaced parsing.entries_at front t → parsing.entries_at (front ++ t ∷ behind) ≡ Err found → (found.line ≡ t.0) × (found.kind ≡ misfit places.Entry t.1)
 unfolding parsing.entries_at
-refused_at_end front l t x found e read goes refused =
-    begins_none x.0 t.0 t.1 found goes (λ more. sym (others_follow (suc (length front)) [] front l x (omega arith) e read t more) ∙ refused more)
+refused_at_end front l t behind x found e read goes refused is =
+    let follows : (more : List Placed) → Loop x.0 (t ∷ more) ≡ parsing.entries_at (front ++ t ∷ more) = λ more. sym (others_follow (suc (length front)) [] front l x (omega arith) e read t more) in
+    begins_none x.0 t.0 t.1 behind found goes (λ more. let r = refused more in (r.0, follows more ∙ r.1)) (follows behind ∙ is)
 
 -- no type begins an entry
 no_type_begins : (a : List RawEntry) (line : ℕ) (w : List ℕ) (width : ℕ) → IsTypeWord w width → (more : List Placed) → (e : Fault IrFaultKind) × (Loop a ((line, Word w) ∷ more) ≡ Err e)

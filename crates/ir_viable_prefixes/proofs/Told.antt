@@ -12,7 +12,7 @@ use Rattle.refusal.specs.declared.fault.Fault.{Fault}
 use Rattle.ir_tokens.specs.declared.fault.IrFaultKind.{IrFaultKind}
 use Rattle.ir_tokens.specs.declared.fault.IrFaultKind.TheVariants.{Syntax, LeftOut, ConstRange}
 use Rattle.ir_instructions.specs.CallGrammar.{Items}
-use Rattle.ir_instructions.specs.CallReaders.{ends_argument}
+use Rattle.ir_instructions.specs.CallReaders.{ends_argument, no_truth_kind}
 use Rattle.ir_instructions.specs.ItemGrammar.{SpellsItem, MayFollowItem, of_word, of_word_and_group, of_number, of_group, of_quoted, of_key_and_value}
 use Rattle.ir_instructions.specs.ItemReaders.{begins_item}
 use Rattle.ir_instructions.specs.Items.{is_item_word}
@@ -26,15 +26,15 @@ use Rattle.ir_instructions.proofs.Loops.{repeat-is}
 use Rattle.ir_parse.specs.Grammar.{SpellsModule}
 use Rattle.ir_parse.specs.Laws.{ModulesAreReadAsSpelled}
 use Rattle.ir_parse.specs.ModuleReaders as parsing
-use Rattle.ir_viable_prefixes.specs.Calls.{BeginsCall, plain, tail, no_tail, CallStands, CalleeFits, EndsArgument, comma, close, ValueFits, IsNoValue, IsToldInCall}
+use Rattle.ir_viable_prefixes.specs.Calls.{BeginsCall, plain, tail, no_tail, CallStands, CalleeFits, EndsArgument, comma, close, BeginsWithEnd, ValueFits, IsNoValue, IsToldInCall}
 use Rattle.ir_viable_prefixes.specs.Calls as calls
-use Rattle.ir_viable_prefixes.specs.Fits.{Fits, FitsBehind}
+use Rattle.ir_viable_prefixes.specs.Fits.{Fits, FitsBehind, AttributesFit}
 use Rattle.ir_viable_prefixes.proofs.Entries.{EndsText, OrEnds, entries_outcome}
 use Rattle.ir_viable_prefixes.proofs.FunctionPlaces.{entries_places}
 use Rattle.ir_viable_prefixes.proofs.ItemPlaces.{RefusesEnds, ReadsEnds, Argument, IsPlace, header, parameter, argument, the_group, the_end, Whole, Goes, left_of}
-use Rattle.ir_viable_prefixes.proofs.Outcomes.{Next, Anything, Ended, a_truth, no_truth, Outcome}
+use Rattle.ir_viable_prefixes.proofs.Outcomes.{Next, Anything, Ended, RefusesPlaced, a_truth, no_truth, Outcome}
 use Rattle.ir_viable_prefixes.proofs.Prefixed.{is_plain}
-use Rattle.ir_viable_prefixes.proofs.Values.{IsValue, IsNone, operands, truths, WordsOf, ReadsValue, ends_next}
+use Rattle.ir_viable_prefixes.proofs.Values.{IsValue, IsNone, IsNoneBy, IsNoneLast, operands, truths, WordsOf, ReadsValue, ends_next, none_before, end_is}
 
 -- ---- what is read fits
 
@@ -94,7 +94,7 @@ behind_group (v ∷ front) (w ∷ first) g e t u behind same =
 goes_there : ModulesAreReadAsSpelled → (text : List ℕ) (front : List Placed) → FitsBehind front (Group text) → Ended (Whole text front) → Goes text parsing.entries_at front
 goes_there law text front fits e = record {
   read = λ x is. by (parsing.entries_at (Whole text front)) refl (entries_outcome (Whole text front) e) x is;
-  refused = λ found first t behind same refused. last found first t behind same refused;
+  refused = last;
 }
   where
     the_read : Read (List RawEntry) → Read (List RawEntry)
@@ -108,12 +108,12 @@ goes_there law text front fits e = record {
         of (inl ended) = ended
         of (inr (f, same, whole)) = absurd (entries_end text f (subst Ended whole o.ended) (subst (λ (ts : List Placed). parsing.begins_entry ts ≡ false) whole (none_begins (Whole text front) y is)))
 
-    last : (found : Fault IrFaultKind) (first : List Placed) (t : Placed) (behind : List Placed) → Whole text front ≡ first ++ t ∷ behind → ((more : List Placed) → parsing.entries_at (first ++ t ∷ more) ≡ Err found) → behind ≡ []
-    last found first t [] same refused = refl
-    last found first t (u ∷ behind) same refused =
+    last : (first : List Placed) (t : Placed) (behind : List Placed) → Whole text front ≡ first ++ t ∷ behind → RefusesPlaced parsing.entries_at first t → behind ≡ []
+    last first t [] same refused = refl
+    last first t (u ∷ behind) same refused =
         let (others, there) = behind_group front first (the_group text) the_end t u behind same in
         let whole : Fits ((first ++ t ∷ []) ++ others) = subst Fits (there ∙ sym (append_assoc first (t ∷ []) others)) fits in
-        absurd (unfit law (first ++ t ∷ []) (λ more. (found, ap parsing.entries_at (append_assoc first (t ∷ []) more) ∙ refused more)) (begun_fits (first ++ t ∷ []) others whole))
+        absurd (unfit law (first ++ t ∷ []) (λ more. let r = refused more in (r.0, ap parsing.entries_at (append_assoc first (t ∷ []) more) ∙ r.1)) (begun_fits (first ++ t ∷ []) others whole))
 
 -- ---- values
 
@@ -165,8 +165,8 @@ module _ (law : ModulesAreReadAsSpelled) (front : List Placed) (Q : Reader RawOp
   value_ends_fit l t is value = let x = value l in ends_fit ((l, t) ∷ []) x.0 (λ ts ends. value_read l t ts is ends ∙ ap (λ (r : Read RawOperand). goes_on r a.rest) (x.1 ts))
 
   -- what is no value is refused on its line
-  none_found : (l : ℕ) (t : Token) (end : Placed) (more : List Placed) (kind : IrFaultKind) → is_plain t ≡ true → EndsArgument end.1 → IsNone Q t kind → parsing.entries_at (front ++ (l, t) ∷ end ∷ more) ≡ Err (fault l kind)
-  none_found l t end more kind is ends none = value_read l t (end ∷ more) is ends ∙ ap (λ (r : Read RawOperand). goes_on r a.rest) (none l (end ∷ more))
+  none_found : (l : ℕ) (t : Token) (end : Placed) (more : List Placed) (kind : IrFaultKind) → is_plain t ≡ true → EndsArgument end.1 → IsNoneLast Q t kind → parsing.entries_at (front ++ (l, t) ∷ end ∷ more) ≡ Err (fault l kind)
+  none_found l t end more kind is ends none = value_read l t (end ∷ more) is ends ∙ ap (λ (r : Read RawOperand). goes_on r a.rest) (none l (end ∷ more) ends)
 
   -- where no end of an argument fits behind the token
   abbrev NoEnd : ℕ → Token → Type 0
@@ -175,7 +175,7 @@ module _ (law : ModulesAreReadAsSpelled) (front : List Placed) (Q : Reader RawOp
   no_value : (l : ℕ) (t : Token) → is_plain t ≡ true → NoEnd l t → ¬ IsValue Q t
   no_value l t is none value = let (end, ends, fits) = value_ends_fit l t is value in none end ends (subst Fits (sym (append_assoc front ((l, t) ∷ []) (end ∷ []))) fits)
 
-  undef_fits : IsNone Q no_truth Syntax → ¬ ValueFits front no_truth
+  undef_fits : IsNoneLast Q no_truth Syntax → ¬ ValueFits front no_truth
   undef_fits none (end, ends, fits) =
       unfit law (front ++ (0, no_truth) ∷ end ∷ []) (λ more. (fault 0 Syntax, ap parsing.entries_at (append_assoc front ((0, no_truth) ∷ end ∷ []) more) ∙ none_found 0 no_truth end more Syntax refl ends none)) fits
 
@@ -185,30 +185,30 @@ module _ (law : ModulesAreReadAsSpelled) (front : List Placed) (Q : Reader RawOp
     where
       by : (number : Option Numeral) → constant_of digits width ≡ number → parsing.entries_at (front ++ (l, Number digits) ∷ end ∷ more) ≡ Err (fault l ConstRange)
       by (Some n) h = absurd (no_value l (Number digits) refl none (q.number digits n h))
-      by None h = none_found l (Number digits) end more ConstRange refl ends (q.no_number digits h)
+      by None h = none_found l (Number digits) end more ConstRange refl ends (λ line ts last_end. q.no_number digits h line ts)
   value_found l end more ends none (calls.word w fits) = by q.words
     where
       of : IsValue Q (Word w) ⊎ IsNone Q (Word w) (LeftOut w) → parsing.entries_at (front ++ (l, Word w) ∷ end ∷ more) ≡ Err (fault l (LeftOut w))
       of (inl value) = absurd (no_value l (Word w) refl none value)
-      of (inr refused) = none_found l (Word w) end more (LeftOut w) refl ends refused
+      of (inr refused) = none_found l (Word w) end more (LeftOut w) refl ends (λ line ts last_end. refused line ts)
 
       by : WordsOf Q → parsing.entries_at (front ++ (l, Word w) ∷ end ∷ more) ≡ Err (fault l (LeftOut w))
       by (operands undef words) = of (words w)
-      by (truths undef words) = absurd (undef_fits undef fits)
+      by (truths undef words) = absurd (undef_fits (none_before Q (codes "undef") undef) fits)
   value_found l end more ends none (calls.truth w misfits) = by q.words
     where
-      of : IsValue Q (Word w) ⊎ IsNone Q (Word w) Syntax → parsing.entries_at (front ++ (l, Word w) ∷ end ∷ more) ≡ Err (fault l Syntax)
+      of : IsValue Q (Word w) ⊎ IsNoneBy Q (Word w) (no_truth_kind w) → parsing.entries_at (front ++ (l, Word w) ∷ end ∷ more) ≡ Err (fault l Syntax)
       of (inl value) = absurd (no_value l (Word w) refl none value)
-      of (inr refused) = none_found l (Word w) end more Syntax refl ends refused
+      of (inr refused) = none_found l (Word w) end more Syntax refl ends (none_before Q w refused)
 
       by : WordsOf Q → parsing.entries_at (front ++ (l, Word w) ∷ end ∷ more) ≡ Err (fault l Syntax)
       by (operands undef words) = absurd (misfits (value_ends_fit 0 no_truth refl undef))
       by (truths undef words) = of (words w)
-  value_found l end more ends none (calls.group text) = none_found l (Group text) end more Syntax refl ends (q.group text)
-  value_found l end more ends none (calls.quoted text) = none_found l (Quoted text) end more Syntax refl ends (q.quoted text)
+  value_found l end more ends none (calls.group text) = none_found l (Group text) end more Syntax refl ends (λ line ts last_end. q.group text line ts)
+  value_found l end more ends none (calls.quoted text) = none_found l (Quoted text) end more Syntax refl ends (λ line ts last_end. q.quoted text line ts)
 
   -- and so is what is told of a word that does not fit where a truth value is expected
-  truth_found : (l : ℕ) (w : List ℕ) (more : List Placed) → ¬ Fits (front ++ (l, Word w) ∷ []) → ¬ ValueFits front no_truth → parsing.entries_at (front ++ (l, Word w) ∷ more) ≡ Err (fault l Syntax)
+  truth_found : (l : ℕ) (w : List ℕ) (more : List Placed) → ¬ Fits (front ++ (l, Word w) ∷ []) → ¬ ValueFits front no_truth → parsing.entries_at (front ++ (l, Word w) ∷ more) ≡ Err (fault l (no_truth_kind w more))
   truth_found l w more misfit no_undef = by q.words
     where
       fits_none : (rest : List Placed) → ¬ Fits (front ++ (l, Word w) ∷ rest)
@@ -226,12 +226,12 @@ module _ (law : ModulesAreReadAsSpelled) (front : List Placed) (Q : Reader RawOp
           ∙ ap (λ (r : Read RawOperand). goes_on r a.rest) (x.1 ts)) in
           fits_none ((0, a_truth) ∷ c.0 ∷ []) c.2
 
-      of : (b : Bool) → is_item_word w ≡ b → IsValue Q (Word w) ⊎ IsNone Q (Word w) Syntax → parsing.entries_at (front ++ (l, Word w) ∷ more) ≡ Err (fault l Syntax)
+      of : (b : Bool) → is_item_word w ≡ b → IsValue Q (Word w) ⊎ IsNoneBy Q (Word w) (no_truth_kind w) → parsing.entries_at (front ++ (l, Word w) ∷ more) ≡ Err (fault l (no_truth_kind w more))
       of true h found = absurd (item h)
       of false h (inl is) = absurd (value is)
       of false h (inr none) = a.reads [] ((l, Word w) ∷ more) ((l, Word w) ∷ more) refl (rw h refl) refl tt ∙ ap (λ (r : Read RawOperand). goes_on r a.rest) (none l more)
 
-      by : WordsOf Q → parsing.entries_at (front ++ (l, Word w) ∷ more) ≡ Err (fault l Syntax)
+      by : WordsOf Q → parsing.entries_at (front ++ (l, Word w) ∷ more) ≡ Err (fault l (no_truth_kind w more))
       by (operands undef words) = absurd (no_undef (value_ends_fit 0 no_truth refl undef))
       by (truths undef words) = of (is_item_word w) refl (words w)
 
@@ -269,7 +269,7 @@ value_told law before l last end more kind (parameter words reads) fits ends non
         (subst (λ (t : Token). Fits (before ++ (l, t) ∷ [])) is fits)
 value_told law before l last end more kind (argument Q width q a) fits ends none truth why = value_found law before Q width q a l end more ends none why
 
-truth_told : ModulesAreReadAsSpelled → (front : List Placed) (l : ℕ) (w : List ℕ) (more : List Placed) → IsPlace parsing.entries_at EndsText front → ¬ Fits (front ++ (l, Word w) ∷ []) → ValueFits front a_truth → ¬ ValueFits front no_truth → parsing.entries_at (front ++ (l, Word w) ∷ more) ≡ Err (fault l Syntax)
+truth_told : ModulesAreReadAsSpelled → (front : List Placed) (l : ℕ) (w : List ℕ) (more : List Placed) → IsPlace parsing.entries_at EndsText front → ¬ Fits (front ++ (l, Word w) ∷ []) → ValueFits front a_truth → ¬ ValueFits front no_truth → parsing.entries_at (front ++ (l, Word w) ∷ more) ≡ Err (fault l (no_truth_kind w more))
 truth_told law front l w more (header refused) misfit truth no_undef = absurd (no_truth_fits law front refused truth)
 truth_told law front l w more (parameter words reads) misfit truth no_undef = absurd (no_undef ((0, Mark marks.comma), comma, item_end_fits law front reads (0, no_truth) undef_is_item))
 truth_told law front l w more (argument Q width q a) misfit truth no_undef = truth_found law front Q width q a l w more misfit no_undef
@@ -374,17 +374,17 @@ function_no_end : {t : Token} → EndsArgument t → (written : List ℕ) → t 
 function_no_end comma written is = cc
 function_no_end close written is = cc
 
-callee_alone : (front : List Placed) {t : Placed} {found : Fault IrFaultKind} → IsToldInCall front t found → (line at : ℕ) (written : List ℕ) → t ≡ (at, Function written) → CallStands line front → found ≡ fault line (LeftOut (codes "call"))
-callee_alone front (calls.callee l a w fits stands) line at written is stood = ap (λ (n : ℕ). fault n (LeftOut (codes "call"))) (calls_stand_once front l line stands stood)
-callee_alone front (calls.value before l last end kind same ends none item fits why) line at written is stood = absurd (function_no_end ends written (ap (λ (p : Placed). p.1) is))
-callee_alone front (calls.truth l word item fits none) line at written is stood = let both : Word word ≡ Function written = ap (λ (p : Placed). p.1) is in absurd cc
+callee_alone : (front behind : List Placed) {t : Placed} {found : Fault IrFaultKind} → IsToldInCall front behind t found → (line at : ℕ) (written : List ℕ) → t ≡ (at, Function written) → CallStands line front → found ≡ fault line (LeftOut (codes "call"))
+callee_alone front behind (calls.callee l a w fits stands) line at written is stood = ap (λ (n : ℕ). fault n (LeftOut (codes "call"))) (calls_stand_once front l line stands stood)
+callee_alone front behind (calls.value before l last end kind same ends none item fits why) line at written is stood = absurd (function_no_end ends written (ap (λ (p : Placed). p.1) is))
+callee_alone front behind (calls.truth l word item fits none ends) line at written is stood = let both : Word word ≡ Function written = ap (λ (p : Placed). p.1) is in absurd cc
 
 -- what is told of a callee by the token itself, or in a call, is what stands there
 abbrev pub CalleeAlone : List Placed → Placed → Fault IrFaultKind → Type 0
 CalleeAlone front t found = (line at : ℕ) (written : List ℕ) → t ≡ (at, Function written) → CalleeFits front → CallStands line front → found ≡ fault line (LeftOut (codes "call"))
 
-pub told_alone : (front : List Placed) (t : Placed) (found : Fault IrFaultKind) → IsToldInCall front t found → CalleeAlone front t found
-told_alone front t found told line at written is callee stands = callee_alone front told line at written is stands
+pub told_alone : (front behind : List Placed) (t : Placed) (found : Fault IrFaultKind) → IsToldInCall front behind t found → CalleeAlone front t found
+told_alone front behind t found told line at written is callee stands = callee_alone front behind told line at written is stands
 
 err_is : (a b : Fault IrFaultKind) (r : Read (List RawEntry)) → r ≡ Err a → r ≡ Err b → a ≡ b
 err_is a b r one two = of a b (sym one ∙ two)
@@ -395,21 +395,43 @@ err_is a b r one two = of a b (sym one ∙ two)
     of : (a b : Fault IrFaultKind) → the_fault a ≡ the_fault b → a ≡ b
     of a b same = cc
 
-alone_of : ModulesAreReadAsSpelled → (front : List Placed) {t : Placed} {other : Fault IrFaultKind} → IsToldInCall front t other → (behind : List Placed) (found : Fault IrFaultKind) → Ended (front ++ t ∷ behind) → Fits front → ¬ Fits (front ++ t ∷ [])
-    → ((more : List Placed) → parsing.entries_at (front ++ t ∷ more) ≡ Err found) → CalleeAlone front t found → found ≡ other
-alone_of law front (calls.callee line at written callee_fits stands) behind found e fits misfit refused callee = callee line at written refl callee_fits stands
-alone_of law front (calls.value before line last end kind same ends none (text, item) truth why) behind found e fits misfit refused callee =
+-- a word that is Syntax where a truth value is expected stands before the end of its argument
+begins_with_end : (behind : List Placed) → ends_argument behind ≡ true → BeginsWithEnd behind
+begins_with_end [] ends = absurd cc
+begins_with_end ((l, t) ∷ more) ends = ((l, t), more, refl, end_is l t more ends)
+
+pub truth_stands : ModulesAreReadAsSpelled → (front : List Placed) (l : ℕ) (w : List ℕ) (behind : List Placed) → Ended (front ++ (l, Word w) ∷ behind) → AttributesFit front → ¬ Fits (front ++ (l, Word w) ∷ []) → ValueFits front a_truth → ¬ ValueFits front no_truth
+    → parsing.entries_at (front ++ (l, Word w) ∷ behind) ≡ Err (fault l Syntax) → BeginsWithEnd behind
+truth_stands law front l w behind e (text, item) misfit truth no_undef is = by (ends_argument behind) refl
+  where
+    ended : Ended (Whole text front)
+    ended = ended_whole text front (l, Word w) behind e
+
+    told : parsing.entries_at (front ++ (l, Word w) ∷ behind) ≡ Err (fault l (no_truth_kind w behind))
+    told = truth_told law front l w behind (entries_places text front ended (goes_there law text front item ended)) misfit truth no_undef
+
+    by : (b : Bool) → ends_argument behind ≡ b → BeginsWithEnd behind
+    by true h = begins_with_end behind h
+    by false h =
+        let same : fault l Syntax ≡ fault l (LeftOut w) = err_is (fault l Syntax) (fault l (LeftOut w)) (parsing.entries_at (front ++ (l, Word w) ∷ behind)) is (told ∙ rw h refl) in
+        let kinds : Syntax ≡ LeftOut w = ap (λ (f : Fault IrFaultKind). f.kind) same in absurd cc
+
+alone_of : ModulesAreReadAsSpelled → (front behind : List Placed) {t : Placed} {other : Fault IrFaultKind} → IsToldInCall front behind t other → (found : Fault IrFaultKind) → Ended (front ++ t ∷ behind) → Fits front → ¬ Fits (front ++ t ∷ [])
+    → parsing.entries_at (front ++ t ∷ behind) ≡ Err found → CalleeAlone front t found → found ≡ other
+alone_of law front behind (calls.callee line at written callee_fits stands) found e fits misfit is callee = callee line at written refl callee_fits stands
+alone_of law front behind (calls.value before line last end kind same ends none (text, item) truth why) found e fits misfit is callee =
     let whole : front ++ end ∷ behind ≡ before ++ (line, last) ∷ end ∷ behind = ap (λ (ts : List Placed). ts ++ end ∷ behind) same ∙ append_assoc before ((line, last) ∷ []) (end ∷ behind) in
     let ended : Ended (Whole text before) = ended_whole text before (line, last) (end ∷ behind) (subst Ended whole e) in
     let place = entries_places text before ended (goes_there law text before item ended) in
-    err_is found (fault line kind) (parsing.entries_at (before ++ (line, last) ∷ end ∷ [])) (ap parsing.entries_at (sym (append_assoc before ((line, last) ∷ []) (end ∷ [])) ∙ ap (λ (ts : List Placed). ts ++ end ∷ []) (sym same)) ∙ refused [])
-    (value_told law before line last end [] kind place (subst Fits same fits) ends (λ u is fit. none u is (subst (λ (ts : List Placed). Fits (ts ++ u ∷ [])) (sym same) fit)) truth why)
-alone_of law front (calls.truth line word (text, item) truth no_undef) behind found e fits misfit refused callee =
+    err_is found (fault line kind) (parsing.entries_at (before ++ (line, last) ∷ end ∷ behind)) (ap parsing.entries_at (sym whole) ∙ is)
+    (value_told law before line last end behind kind place (subst Fits same fits) ends (λ u other fit. none u other (subst (λ (ts : List Placed). Fits (ts ++ u ∷ [])) (sym same) fit)) truth why)
+alone_of law front behind (calls.truth line word (text, item) truth no_undef (end, more, stands, ends)) found e fits misfit is callee =
     let ended : Ended (Whole text front) = ended_whole text front (line, Word word) behind e in
     let place = entries_places text front ended (goes_there law text front item ended) in
-    err_is found (fault line Syntax) (parsing.entries_at (front ++ (line, Word word) ∷ [])) (refused []) (truth_told law front line word [] place misfit truth no_undef)
+    let at_end : ends_argument behind ≡ true = subst (λ (ts : List Placed). ends_argument ts ≡ true) (sym stands) (ends_next (end ∷ more) ends) in
+    err_is found (fault line Syntax) (parsing.entries_at (front ++ (line, Word word) ∷ behind)) is (truth_told law front line word behind place misfit truth no_undef ∙ rw at_end refl)
 
 -- where a fault is told in a call, it is what is found
-pub alone : ModulesAreReadAsSpelled → (front : List Placed) (t : Placed) (behind : List Placed) (found : Fault IrFaultKind) → Ended (front ++ t ∷ behind) → Fits front → ¬ Fits (front ++ t ∷ []) → ((more : List Placed) → parsing.entries_at (front ++ t ∷ more) ≡ Err found)
-    → CalleeAlone front t found → (other : Fault IrFaultKind) → IsToldInCall front t other → found ≡ other
-alone law front t behind found e fits misfit refused callee other told = alone_of law front told behind found e fits misfit refused callee
+pub alone : ModulesAreReadAsSpelled → (front : List Placed) (t : Placed) (behind : List Placed) (found : Fault IrFaultKind) → Ended (front ++ t ∷ behind) → Fits front → ¬ Fits (front ++ t ∷ []) → parsing.entries_at (front ++ t ∷ behind) ≡ Err found
+    → CalleeAlone front t found → (other : Fault IrFaultKind) → IsToldInCall front behind t other → found ≡ other
+alone law front t behind found e fits misfit is callee other told = alone_of law front behind told found e fits misfit is callee

@@ -11,7 +11,7 @@ use Rattle.ir_tokens.specs.declared.raw.RawOperand.{RawOperand}
 use Rattle.refusal.specs.declared.fault.Fault.{Fault}
 use Rattle.ir_tokens.specs.declared.fault.IrFaultKind.{IrFaultKind}
 use Rattle.ir_tokens.specs.declared.fault.IrFaultKind.TheVariants.{Syntax, LeftOut, ConstRange}
-use Rattle.ir_instructions.specs.CallReaders.{begins_inner_item, ends_argument}
+use Rattle.ir_instructions.specs.CallReaders.{begins_inner_item, ends_argument, no_truth_kind}
 use Rattle.ir_instructions.specs.ItemReaders.{begins_item, item_at, word_item_at, quoted_item_at, quoted_value_at}
 use Rattle.ir_instructions.specs.declared.place.Place.TheVariants as places
 use Rattle.ir_instructions.specs.Keywords.{ending_word}
@@ -40,14 +40,21 @@ In Q items = each_at begins_inner_item item_at items >>= λ before. Q
 abbrev pub IsValue : Reader RawOperand → Token → Type 0
 IsValue Q t = (line : ℕ) → (x : RawOperand) × ((more : List Placed) → Q ((line, t) ∷ more) ≡ Ok (x, more))
 
--- it refuses the token
-abbrev pub IsNone : Reader RawOperand → Token → IrFaultKind → Type 0
-IsNone Q t kind = (line : ℕ) (more : List Placed) → Q ((line, t) ∷ more) ≡ Err (fault line kind)
+-- it refuses the token, for a kind of reason that what stands behind may decide
+abbrev pub IsNoneBy : Reader RawOperand → Token → (List Placed → IrFaultKind) → Type 0
+IsNoneBy Q t kind = (line : ℕ) (more : List Placed) → Q ((line, t) ∷ more) ≡ Err (fault line (kind more))
 
--- a word that is no value is left out, or where a truth value is expected nothing else
+abbrev pub IsNone : Reader RawOperand → Token → IrFaultKind → Type 0
+IsNone Q t kind = IsNoneBy Q t (λ more. kind)
+
+-- the same where an argument ends behind it
+abbrev pub IsNoneLast : Reader RawOperand → Token → IrFaultKind → Type 0
+IsNoneLast Q t kind = (line : ℕ) (more : List Placed) → Next EndsArgument more → Q ((line, t) ∷ more) ≡ Err (fault line kind)
+
+-- a word that is no value is left out, or where a truth value is expected and an argument ends behind it, nothing else
 pub data WordsOf (Q : Reader RawOperand) : Type 0 where
   operands : IsValue Q no_truth → ((w : List ℕ) → IsValue Q (Word w) ⊎ IsNone Q (Word w) (LeftOut w)) → WordsOf Q
-  truths : IsNone Q no_truth Syntax → ((w : List ℕ) → IsValue Q (Word w) ⊎ IsNone Q (Word w) Syntax) → WordsOf Q
+  truths : IsNoneBy Q no_truth (no_truth_kind (codes "undef")) → ((w : List ℕ) → IsValue Q (Word w) ⊎ IsNoneBy Q (Word w) (no_truth_kind w)) → WordsOf Q
 
 -- What the reader makes of tokens that may be items, where they stand last; each token that is none it takes or refuses by itself.
 pub record ReadsValue (Q : Reader RawOperand) (width : ℕ) : Type 0 where
@@ -71,6 +78,10 @@ ends_next ((l, t) ∷ tokens) ends = by ends
     by : {u : Token} → EndsArgument u → ends_argument ((l, u) ∷ tokens) ≡ true
     by comma = refl
     by close = refl
+
+-- a word that is no truth value is Syntax before the end of an argument
+pub none_before : (Q : Reader RawOperand) (w : List ℕ) → IsNoneBy Q (Word w) (no_truth_kind w) → IsNoneLast Q (Word w) Syntax
+none_before Q w none line more ends = none line more ∙ rw (ends_next more ends) refl
 
 module _ (Q : Reader RawOperand) where
   -- where no item is next, the value is
@@ -143,7 +154,7 @@ ends_no_flag ends flag is = let mark : is_marked (Word (flag_keyword flag)) ≡ 
 is_one : (b : Bool) → b ≡ true → b ≡ false → ⊥
 is_one b holds fails = cc
 
-end_is : (l : ℕ) (t : Token) (more : List Placed) → ends_argument ((l, t) ∷ more) ≡ true → EndsArgument t
+pub end_is : (l : ℕ) (t : Token) (more : List Placed) → ends_argument ((l, t) ∷ more) ≡ true → EndsArgument t
 end_is l (Mark m) more ends = by (eqb m marks.comma) (eqb m marks.close_paren) refl refl ends
   where
     by : (b c : Bool) → eqb m marks.comma ≡ b → eqb m marks.close_paren ≡ c → (b || c) ≡ true → EndsArgument (Mark m)
@@ -199,8 +210,8 @@ module _ (Q : Reader RawOperand) (width : ℕ) (q : ReadsValue Q width) where
   pub value_end : (items : List (List ℕ)) (v : Token) → IsValue Q v → FitsEnd Anything (In Q items) EndsArgument [] v
   value_end items v value = let x = value 0 in ((x.0, [], λ ts ends. (last Q items (0, v) ts ends ∙ x.1 ts, ends)), λ none. tt)
 
-  pub none_end : (items : List (List ℕ)) (t v : Token) (kind : IrFaultKind) → Like (Unit {0}) t v → IsNone Q v kind → RefusesEnd (Unit {0}) (In Q items) [] t v
-  none_end items t v kind like none = (λ end more ends. (fault 0 kind, last Q items (0, v) (end ∷ more) ends ∙ none 0 (end ∷ more)), λ empty. like)
+  pub none_end : (items : List (List ℕ)) (t v : Token) (kind : IrFaultKind) → Like (Unit {0}) t v → IsNoneLast Q v kind → RefusesEnd (Unit {0}) (In Q items) [] t v
+  none_end items t v kind like none = (λ end more ends. (fault 0 kind, last Q items (0, v) (end ∷ more) ends ∙ none 0 (end ∷ more) ends), λ empty. like)
 
   pub fit_truth : (items : List (List ℕ)) → Fit Anything (In Q items) EndsArgument [] a_truth
   fit_truth items = let v = value_end items a_truth q.truth in ((v.0.0, v.0.1, λ ts ends. (v.0.2 ts ends).0), λ none. tt)
@@ -237,20 +248,20 @@ module _ (Q : Reader RawOperand) (width : ℕ) (q : ReadsValue Q width) where
         words = λ none. absurd cc;
       })
 
-  none_last : (items : List (List ℕ)) (l : ℕ) (t : Token) (k : ℕ) (u : Token) (rest : List Placed) (kind : IrFaultKind) → EndsArgument u → IsNone Q t kind → NoValue (Unit {0}) Anything (In Q items) EndsArgument [] t kind
+  none_last : (items : List (List ℕ)) (l : ℕ) (t : Token) (k : ℕ) (u : Token) (rest : List Placed) (kind : IrFaultKind) → EndsArgument u → IsNoneLast Q t kind → NoValue (Unit {0}) Anything (In Q items) EndsArgument [] t kind
       → (item : List ℕ) → begins_item ((l, t) ∷ []) ≡ true → ((more : List Placed) → item_at ((l, t) ∷ (0, a_truth) ∷ more) ≡ Ok (item, (0, a_truth) ∷ more))
       → OutcomeIf (Unit {0}) Anything (In Q items) EndsArgument (Unit {0}) (ValueWhy items) ((l, t) ∷ (k, u) ∷ rest) (In Q items ((l, t) ∷ (k, u) ∷ rest))
   none_last items l t k u rest kind ends none no_value item begins one =
-      subst (OutcomeIf (Unit {0}) Anything (In Q items) EndsArgument (Unit {0}) (ValueWhy items) ((l, t) ∷ (k, u) ∷ rest)) (sym (last Q items (l, t) ((k, u) ∷ rest) ends ∙ none l ((k, u) ∷ rest)))
+      subst (OutcomeIf (Unit {0}) Anything (In Q items) EndsArgument (Unit {0}) (ValueWhy items) ((l, t) ∷ (k, u) ∷ rest)) (sym (last Q items (l, t) ((k, u) ∷ rest) ends ∙ none l ((k, u) ∷ rest) ends))
       (record {
         front = (l, t) ∷ [];
         token = (k, u);
         behind = rest;
         there = refl;
-        refused = λ more. last Q items (l, t) ((k, u) ∷ more) ends ∙ none l ((k, u) ∷ more);
+        refused = λ more. (fault l kind, last Q items (l, t) ((k, u) ∷ more) ends ∙ none l ((k, u) ∷ more) ends);
         completes = completion (items ++ item ∷ []) items (l, t) [] (λ more. behind Q items ((l, t) ∷ (0, a_truth) ∷ more) (item, (0, a_truth) ∷ more) (rw (same_item l t ((0, a_truth) ∷ more) [] ∙ begins) refl) (one more));
         why = (
-          inr (of_value [] l t (k, u) kind refl ends (λ other is more. (fault l kind, last Q items (l, t) (other ∷ more) is ∙ none l (other ∷ more))) (fit_group items) (value_end items a_truth q.truth) no_value),
+          inr (of_value [] l t (k, u) kind refl ends (λ other is more. (fault l kind, last Q items (l, t) (other ∷ more) is ∙ none l (other ∷ more) is)) (fit_group items) (value_end items a_truth q.truth) no_value),
           λ left. ends_no_flag ends,
         );
         new = λ left. inl (λ again. ends_no_flag ends again.2.2 (again.1 ∙ ap Word again.2.5));
@@ -269,22 +280,23 @@ module _ (Q : Reader RawOperand) (width : ℕ) (q : ReadsValue Q width) where
         where
           of : IsValue Q (Word w) ⊎ IsNone Q (Word w) (LeftOut w) → OutcomeIf (Unit {0}) Anything (In Q items) EndsArgument (Unit {0}) (ValueWhy items) ((l, Word w) ∷ (k, u) ∷ rest) (In Q items ((l, Word w) ∷ (k, u) ∷ rest))
           of (inl value) = value_last items l (Word w) k u rest e ends value
-          of (inr none) = none_last items l (Word w) k u rest (LeftOut w) ends none (no_word w (value_end items no_truth undef)) w begins (λ more. refl)
+          of (inr none) = none_last items l (Word w) k u rest (LeftOut w) ends (λ line more last_end. none line more) (no_word w (value_end items no_truth undef)) w begins (λ more. refl)
       by (truths undef others) = of (others w)
         where
-          of : IsValue Q (Word w) ⊎ IsNone Q (Word w) Syntax → OutcomeIf (Unit {0}) Anything (In Q items) EndsArgument (Unit {0}) (ValueWhy items) ((l, Word w) ∷ (k, u) ∷ rest) (In Q items ((l, Word w) ∷ (k, u) ∷ rest))
+          of : IsValue Q (Word w) ⊎ IsNoneBy Q (Word w) (no_truth_kind w) → OutcomeIf (Unit {0}) Anything (In Q items) EndsArgument (Unit {0}) (ValueWhy items) ((l, Word w) ∷ (k, u) ∷ rest) (In Q items ((l, Word w) ∷ (k, u) ∷ rest))
           of (inl value) = value_last items l (Word w) k u rest e ends value
           of (inr none) =
-              none_last items l (Word w) k u rest Syntax ends none (no_truth_value w (none_end items (Word w) no_truth Syntax (like_word tt w (codes "undef") (nouns.value 1 values.Undef refl)) undef)) w begins (λ more. refl)
+              none_last items l (Word w) k u rest Syntax ends (none_before Q w none)
+              (no_truth_value w (none_end items (Word w) no_truth Syntax (like_word tt w (codes "undef") (nouns.value 1 values.Undef refl)) (none_before Q (codes "undef") undef))) w begins (λ more. refl)
   last_outcome items l (Number digits) k u rest e ends begins = by (constant_of digits width) refl
     where
       by : (n : Option Numeral) → constant_of digits width ≡ n → OutcomeIf (Unit {0}) Anything (In Q items) EndsArgument (Unit {0}) (ValueWhy items) ((l, Number digits) ∷ (k, u) ∷ rest) (In Q items ((l, Number digits) ∷ (k, u) ∷ rest))
       by (Some n) h = value_last items l (Number digits) k u rest e ends (q.number digits n h)
       by None h =
-          none_last items l (Number digits) k u rest ConstRange ends (q.no_number digits h)
-          (no_number digits width h (λ other n is. value_end items (Number other) (q.number other n is)) (λ other is. none_end items (Number digits) (Number other) ConstRange (like_number digits other) (q.no_number other is))) digits refl (λ more. refl)
-  last_outcome items l (Group text) k u rest e ends begins = none_last items l (Group text) k u rest Syntax ends (q.group text) (no_group text) text refl (λ more. refl)
-  last_outcome items l (Quoted text) k u rest e ends begins = none_last items l (Quoted text) k u rest Syntax ends (q.quoted text) (no_quoted text) text refl (λ more. refl)
+          none_last items l (Number digits) k u rest ConstRange ends (λ line more last_end. q.no_number digits h line more)
+          (no_number digits width h (λ other n is. value_end items (Number other) (q.number other n is)) (λ other is. none_end items (Number digits) (Number other) ConstRange (like_number digits other) (λ line more last_end. q.no_number other is line more))) digits refl (λ more. refl)
+  last_outcome items l (Group text) k u rest e ends begins = none_last items l (Group text) k u rest Syntax ends (λ line more last_end. q.group text line more) (no_group text) text refl (λ more. refl)
+  last_outcome items l (Quoted text) k u rest e ends begins = none_last items l (Quoted text) k u rest Syntax ends (λ line more last_end. q.quoted text line more) (no_quoted text) text refl (λ more. refl)
   last_outcome items l t k u rest e ends begins = absurd cc
 
   -- ---- an item first
@@ -299,7 +311,7 @@ module _ (Q : Reader RawOperand) (width : ℕ) (q : ReadsValue Q width) where
       subst (OutcomeIf (Unit {0}) Anything (In Q items) EndsArgument (Unit {0}) (ValueWhy items) (first ∷ (others ++ next ∷ rest))) (sym (agree rest))
       (prefixed (In Q items) (In Q next_items) (Unit {0}) Anything EndsArgument plain first others next rest reads (Unit {0}) (ValueWhy next_items) (ValueWhy items)
       (λ front t tail there found why. (reasons_behind (In Q items) (In Q next_items) (Unit {0}) Anything EndsArgument plain first others next rest reads front t tail there found why.0, why.1))
-      (λ found r left. inl (λ again. r.why.1 left again.2.2 (again.1 ∙ ap Word again.2.5))) (In Q next_items (next ∷ rest)) refl o)
+      (λ found is r left. inl (λ again. r.why.1 left again.2.2 (again.1 ∙ ap Word again.2.5))) (In Q next_items (next ∷ rest)) refl o)
     where
       plain : Follow
       plain u = is_plain u ≡ true
@@ -381,7 +393,7 @@ module _ (Q : Reader RawOperand) (width : ℕ) (q : ReadsValue Q width) where
           token = (j, t);
           behind = rest;
           there = refl;
-          refused = refused j t none;
+          refused = λ more. (fault j (misfit places.Fixed t), refused j t none more);
           completes = (
             x.0,
             (0, Quoted (codes "\"\"")) ∷ (0, a_truth) ∷ [],

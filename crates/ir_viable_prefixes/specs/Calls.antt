@@ -45,6 +45,10 @@ pub data EndsArgument : Token → Type 0 where
   comma : EndsArgument (Mark marks.comma)
   close : EndsArgument (Mark marks.close_paren)
 
+-- the end of an argument stands first
+abbrev pub BeginsWithEnd : List Placed → Type 0
+BeginsWithEnd behind = (end : Placed) × (more : List Placed) × (behind ≡ end ∷ more) × EndsArgument end.1
+
 -- the value fits, and behind it the end of an argument
 abbrev pub ValueFits : List Placed → Token → Type 0
 ValueFits front value = (end : Placed) × EndsArgument end.1 × Fits (front ++ (own_line, value) ∷ end ∷ [])
@@ -59,15 +63,15 @@ pub data IsNoValue (front : List Placed) : Token → IrFaultKind → Type 0 wher
   group : (text : List ℕ) → IsNoValue front (Group text) Syntax
   quoted : (text : List ℕ) → IsNoValue front (Quoted text) Syntax
 
--- What a fault tells of a token on a line that does not fit behind these.
-pub data IsToldInCall (front : List Placed) : Placed → Fault IrFaultKind → Type 0 where
+-- What a fault tells of a token on a line that does not fit between these.
+pub data IsToldInCall (front : List Placed) (behind : List Placed) : Placed → Fault IrFaultKind → Type 0 where
   -- a function that is no intrinsic: the word `call` is left out
   callee : (line at : ℕ) (written : List ℕ) → CalleeFits front → CallStands line front
-      → IsToldInCall front (at, Function written) (record { line = line; kind = LeftOut (codes "call") })
+      → IsToldInCall front behind (at, Function written) (record { line = line; kind = LeftOut (codes "call") })
   -- the end of an argument, behind what is no value where items and values stand: no other end fits either
   value : (before : List Placed) (line : ℕ) (last : Token) (end : Placed) (kind : IrFaultKind) → front ≡ before ++ (line, last) ∷ [] → EndsArgument end.1
       → ((other : Placed) → EndsArgument other.1 → ¬ Fits (front ++ other ∷ [])) → AttributesFit before → ValueFits before (Word (codes "true")) → IsNoValue before last kind
-      → IsToldInCall front end (record { line = line; kind = kind })
-  -- a word that is no item, where items and a truth value stand
-  truth : (line : ℕ) (word : List ℕ) → AttributesFit front → ValueFits front (Word (codes "true")) → ¬ ValueFits front (Word (codes "undef"))
-      → IsToldInCall front (line, Word word) (record { line = line; kind = Syntax })
+      → IsToldInCall front behind end (record { line = line; kind = kind })
+  -- a word that is no item, where items and a truth value stand, directly before the end of the argument
+  truth : (line : ℕ) (word : List ℕ) → AttributesFit front → ValueFits front (Word (codes "true")) → ¬ ValueFits front (Word (codes "undef")) → BeginsWithEnd behind
+      → IsToldInCall front behind (line, Word word) (record { line = line; kind = Syntax })

@@ -9,17 +9,17 @@ use Rattle.ir_viable_prefixes.specs.Fits.{Fits}
 use Rattle.ir_viable_prefixes.specs.Calls.{CalleeFits, IsToldInCall}
 use Rattle.ir_viable_prefixes.specs.Misfits.{IsMisfit}
 
--- What a fault says of a token that does not fit behind these: on its line why it does not, where no other kind says so too, and it is
+-- What a fault says of a token that does not fit between these: on its line why it does not, where no other kind says so too, and it is
 -- no callee; or, in a call of an intrinsic, what is wrong with its callee or with a value.
-pub data IsSaid (front : List Placed) (token : Placed) (found : Fault IrFaultKind) : Type 0 where
+pub data IsSaid (front : List Placed) (token : Placed) (behind : List Placed) (found : Fault IrFaultKind) : Type 0 where
   of_token : found.line ≡ token.0 → IsMisfit front token.1 found.kind → ((other : IrFaultKind) → IsMisfit front token.1 other → found.kind ≡ other)
-      → ((written : List ℕ) → token.1 ≡ Function written → ¬ CalleeFits front) → IsSaid front token found
-  in_call : IsToldInCall front token found → IsSaid front token found
+      → ((written : List ℕ) → token.1 ≡ Function written → ¬ CalleeFits front) → IsSaid front token behind found
+  in_call : IsToldInCall front behind token found → IsSaid front token behind found
 
 -- The fault says so, and where one is told in a call, it is that one.
-pub record IsTold (front : List Placed) (token : Placed) (found : Fault IrFaultKind) : Type 0 where
-  pub said : IsSaid front token found
-  pub alone : (other : Fault IrFaultKind) → IsToldInCall front token other → found ≡ other
+pub record IsTold (front : List Placed) (token : Placed) (behind : List Placed) (found : Fault IrFaultKind) : Type 0 where
+  pub said : IsSaid front token behind found
+  pub alone : (other : Fault IrFaultKind) → IsToldInCall front behind token other → found ≡ other
 
 -- The fault is that of the first token with which the tokens do not fit: those before it do.
 pub record IsFirstMisfit (tokens : List Placed) (found : Fault IrFaultKind) : Type 0 where
@@ -29,7 +29,7 @@ pub record IsFirstMisfit (tokens : List Placed) (found : Fault IrFaultKind) : Ty
   pub stands : tokens ≡ front ++ token ∷ behind
   pub fits : Fits front
   pub misfit : ¬ Fits (front ++ token ∷ [])
-  pub told : IsTold front token found
+  pub told : IsTold front token behind found
 
 -- A text within the limit is refused at its first misfit, of which one fault is told; one whose tokens fit, up to its end, is not refused.
 pub record FaultsAreWhereTextsDoNotFit : Type 0 where
