@@ -13,7 +13,7 @@ use Rattle.rule_core.specs.declared.rule.Statement.{Statement}
 use Rattle.std.proofs.lemmas.Option.{slice_get_within}
 use Rattle.bindings.specs.Promises.{AreKept}
 use Rattle.bindings.specs.Checks.{MatchesAt}
-use Rattle.bindings.specs.Statements.{InstMatches, IsSameOperation, StatementMatches, TargetReadsTemporary, promises_of_inst, promises_of_statement}
+use Rattle.bindings.specs.Statements.{InstMatches, IsSameOperation, StatementMatches, TargetNamesTemporary, promises_of_inst, promises_of_statement}
 use Rattle.bindings.specs.declared.binding.Binding.{Binding}
 use Rattle.bindings.proofs.Reading.{same_inst}
 
@@ -84,7 +84,7 @@ read_off_as xs ys j d x same at = ap (λ l. get_or l j d) same ∙ get_or_from_s
 
 -- all that an instruction has to meet
 pub met : (f : Function) (rule : Rule) (binding : Binding) (j k : ℕ) (s : Statement) (inst : Inst) (root exact : Bool)
-    → j < length rule.source → (IsTrue root ↔ (suc j ≡ length rule.source)) → (IsTrue exact ↔ TargetReadsTemporary rule)
+    → j < length rule.source → (IsTrue root ↔ (suc j ≡ length rule.source)) → (IsTrue exact ↔ TargetNamesTemporary rule)
     → (IsTrue root → k ≡ binding.place) → IsSameOperation s.op inst.op
     → (AreKept (promises_of_statement s.op) (promises_of_inst inst.op) × (IsTrue exact → ¬ IsTrue root → promises_of_inst inst.op ≡ promises_of_statement s.op))
     → slice_get binding.typing s.class ≡ Some inst.width → ((i : ℕ) → MatchesAt f binding s.op binding.block k i) → InstMatches f rule binding j s k inst
@@ -106,7 +106,7 @@ pub asked_place : (f : Function) (rule : Rule) (binding : Binding) (j k : ℕ) (
 asked_place f rule binding j k s inst root within is_root m =
     λ held. m.root (is_root.0 held)
 
-pub asked_flags : (f : Function) (rule : Rule) (binding : Binding) (j k : ℕ) (s : Statement) (inst : Inst) (root exact : Bool) → j < length rule.source → (IsTrue root ↔ (suc j ≡ length rule.source)) → (IsTrue exact ↔ TargetReadsTemporary rule)
+pub asked_flags : (f : Function) (rule : Rule) (binding : Binding) (j k : ℕ) (s : Statement) (inst : Inst) (root exact : Bool) → j < length rule.source → (IsTrue root ↔ (suc j ≡ length rule.source)) → (IsTrue exact ↔ TargetNamesTemporary rule)
     → InstMatches f rule binding j s k inst → AreKept (promises_of_statement s.op) (promises_of_inst inst.op) × (IsTrue exact → ¬ IsTrue root → promises_of_inst inst.op ≡ promises_of_statement s.op)
 asked_flags f rule binding j k s inst root exact within is_root is_exact m =
     (m.flags, λ held none. m.no_more_flags (behind j (length rule.source) root within is_root none) (is_exact.0 held))

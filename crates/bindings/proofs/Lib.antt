@@ -2,7 +2,7 @@ pub mod Lists
 pub mod Reading
 pub mod Promising
 pub mod Naming
-pub mod Temporaries
+pub mod NamedTemporaries
 pub mod Bound
 pub mod Fitting
 pub mod Uses

@@ -3,6 +3,7 @@ pub use Rattle.use_counts.specs.Uses
 pub mod Operands
 pub mod Promises
 pub mod Statements
+pub mod Nodes
 pub mod Match
 pub mod Facts
 pub mod Checks

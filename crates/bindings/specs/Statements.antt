@@ -9,6 +9,7 @@ use Rattle.ir_core.specs.declared.instruction.Op.{Op}
 use Rattle.ir_core.specs.declared.instruction.Op.TheVariants as ops
 use Rattle.ir_core.specs.declared.operand.Register.TheVariants as registers
 use Rattle.rule_core.specs.Positions.{operands_of, operands_among}
+use Rattle.rule_core.specs.TermNodes.{NamesWidth}
 use Rattle.rule_core.specs.declared.rule.Argument.{Argument}
 use Rattle.rule_core.specs.declared.rule.Argument.TheVariants as arguments
 use Rattle.rule_core.specs.declared.rule.Op.{Op as RuleOp}
@@ -17,6 +18,7 @@ use Rattle.rule_core.specs.declared.rule.Operand.{Operand as RuleOperand}
 use Rattle.rule_core.specs.declared.rule.Register.TheVariants as names
 use Rattle.rule_core.specs.declared.rule.Rule.{Rule}
 use Rattle.rule_core.specs.declared.rule.Statement.{Statement}
+use Rattle.rule_core.specs.declared.rule.Term.{Term}
 use Rattle.bindings.specs.Operands.{OperandMatches}
 use Rattle.bindings.specs.Promises.{by_flags, by_truth, no_promises, AreKept}
 use Rattle.bindings.specs.declared.promises.Promises.{Promises}
@@ -47,18 +49,23 @@ promises_of_inst (ops.Unary op truth x) = by_truth truth
 promises_of_inst (ops.Convert cast flags from x) = by_flags flags
 promises_of_inst op = no_promises
 
--- an argument is what a statement of the source assigns
-abbrev pub IsTemporary : Argument → Type 0
-IsTemporary (arguments.Register (names.Source j)) = Unit {0}
-IsTemporary argument = ⊥
+-- the term of the node names the width of what a statement of the source assigns
+abbrev pub MeasuresTemporary : List Term → ℕ → Type 0
+MeasuresTemporary terms n = (j : ℕ) × NamesWidth terms n (names.Source j)
 
--- one of these operands is
-abbrev pub ReadsTemporary : List RuleOperand → Type 0
-ReadsTemporary operands = (o : RuleOperand) × Contains operands o × IsTemporary o.value
+-- an argument of the target names what a statement of the source assigns: it is that register, or its term names the width of one
+abbrev pub NamesTemporary : List Term → Argument → Type 0
+NamesTemporary terms (arguments.Register (names.Source j)) = Unit {0}
+NamesTemporary terms (arguments.Term n) = MeasuresTemporary terms n
+NamesTemporary terms argument = ⊥
 
--- the target reads what a statement of the source assigns
-abbrev pub TargetReadsTemporary : Rule → Type 0
-TargetReadsTemporary rule = ReadsTemporary (operands_among rule.target)
+-- one of these operands does
+abbrev pub OneNamesTemporary : List Term → List RuleOperand → Type 0
+OneNamesTemporary terms operands = (o : RuleOperand) × Contains operands o × NamesTemporary terms o.value
+
+-- the target names what a statement of the source assigns: as an operand, as what it copies, or in `width( )`
+abbrev pub TargetNamesTemporary : Rule → Type 0
+TargetNamesTemporary rule = OneNamesTemporary rule.terms (operands_among rule.target)
 
 -- instruction k of the binding's block is what source statement j, which is this one, looks for
 pub record InstMatches (f : Function) (rule : Rule) (binding : Binding) (j : ℕ) (s : Statement) (k : ℕ) (inst : Inst) : Type 0 where
@@ -66,9 +73,9 @@ pub record InstMatches (f : Function) (rule : Rule) (binding : Binding) (j : ℕ
   pub root : suc j ≡ length rule.source → k ≡ binding.place
   -- the same opcode, predicate, intrinsic or cast
   pub operation : IsSameOperation s.op inst.op
-  -- it has at least the statement's flags; a temporary's has no others where the target reads a temporary
+  -- it has at least the statement's flags; a temporary's has no others where the target names a temporary
   pub flags : AreKept (promises_of_statement s.op) (promises_of_inst inst.op)
-  pub no_more_flags : suc j < length rule.source → TargetReadsTemporary rule → promises_of_inst inst.op ≡ promises_of_statement s.op
+  pub no_more_flags : suc j < length rule.source → TargetNamesTemporary rule → promises_of_inst inst.op ≡ promises_of_statement s.op
   -- the width of the result, and the operands from left to right
   pub width : slice_get binding.typing s.class ≡ Some inst.width
   pub operands : (i : ℕ) (o : RuleOperand) (r : Read) → slice_get (operands_of s.op) i ≡ Some o → IsRead f binding.block k i r → OperandMatches binding o r

@@ -2,7 +2,6 @@
 
 ghost use Rattle.std.specs.Prelude.{◌≡◌, ◌<◌, ◌^◌, ◌↔◌, ℕ, suc, length, All, Contains, IsTrue, Some, slice_get};
 ghost use Rattle.rule_core.specs.Checks.{IsRule};
-ghost use Rattle.rule_core.specs.Positions.{operands_among, operands_of};
 ghost use Rattle.rule_core.specs.declared.rule.Formula.{Formula as Asked};
 ghost use Rattle.rule_core.specs.declared.rule.Statement.{Statement as SourceStatement};
 ghost use Rattle.rule_typing.specs.Classes.{IsClassified};
@@ -10,7 +9,7 @@ ghost use Rattle.bindings.specs.Checks.{IsOneUse, MatchesAt};
 ghost use Rattle.bindings.specs.Facts.{AreFactsOf};
 ghost use Rattle.bindings.specs.Match.{MatchesInAnyOrder};
 ghost use Rattle.bindings.specs.Promises.{AreKept};
-ghost use Rattle.bindings.specs.Statements.{InstMatches, IsTemporary, ReadsTemporary, StatementMatches, TargetReadsTemporary, promises_of_inst, promises_of_statement};
+ghost use Rattle.bindings.specs.Statements.{InstMatches, StatementMatches, TargetNamesTemporary, promises_of_inst, promises_of_statement};
 
 use crate::binding::Binding;
 use crate::facts::FunctionFacts;
@@ -20,9 +19,10 @@ use crate::operation::{
 };
 use crate::promises::Promises;
 use crate::standing::{has_width, operand_matches};
+use crate::temporaries::target_names_temporary;
 use ir_core::{Function, Inst, Op as InstOp, Operand, Register, read_at};
 use precond::holds;
-use rule_core::{Argument, Formula, Op, Register as Name, Rule, Statement};
+use rule_core::{Formula, Op, Rule};
 use rule_typing::is_typing;
 use use_counts::uses_of;
 
@@ -60,10 +60,11 @@ fn has_sizes(rule: &Rule, binding: &Binding) -> bool
 /// Whether each statement of the source matches the instruction that it is bound to.
 fn statements_match(f: &Function, rule: &Rule, binding: &Binding) -> bool
     requires insts { All (λ b. length b.insts < 2 ^ 32) f.now.blocks }
+    requires rule { IsRule rule.now }
     requires count { length binding.now.statements ≡ length rule.now.source }
     ensures { IsTrue result ↔ ((j : ℕ) (s : SourceStatement) → slice_get rule.now.source j ≡ Some s → StatementMatches f.now rule.now binding.now j s) }
 {
-    let exact = read_temporary(rule.target.as_slice());
+    let exact = target_names_temporary(rule);
     for j in 0..rule.source.len() {
         if !statement_matches(f, rule, binding, exact, j) {
             return false;
@@ -72,53 +73,12 @@ fn statements_match(f: &Function, rule: &Rule, binding: &Binding) -> bool
     true
 }
 
-/// Whether one of these statements reads what one of the source assigns.
-fn read_temporary(statements: &[Statement]) -> bool
-    ensures { IsTrue result ↔ ReadsTemporary (operands_among statements.now) }
-{
-    for statement in statements {
-        if reads_temporary(statement.op) {
-            return true;
-        }
-    }
-    false
-}
-
-/// Whether an operand of an operation is what a statement of the source assigns.
-fn reads_temporary(op: Op) -> bool
-    ensures { IsTrue result ↔ ReadsTemporary (operands_of op) }
-{
-    match op {
-        Op::Binary(_, _, a, b) | Op::Compare(_, _, a, b) => {
-            is_temporary(a.value) || is_temporary(b.value)
-        }
-        Op::Select(c, a, b) => {
-            is_temporary(c.value) || is_temporary(a.value) || is_temporary(b.value)
-        }
-        Op::Unary(_, _, a) | Op::Convert(_, _, a, _) | Op::Freeze(a, _) | Op::Copy(a) => {
-            is_temporary(a.value)
-        }
-    }
-}
-
-/// Whether an argument is what a statement of the source assigns.
-fn is_temporary(argument: Argument) -> bool
-    ensures { IsTrue result ↔ IsTemporary argument }
-{
-    match argument {
-        Argument::Register(Name::Source(_)) => true,
-        Argument::Register(Name::Input(_) | Name::Target(_)) => false,
-        Argument::Literal(_) | Argument::Truth(_) | Argument::Constant(_) => false,
-        Argument::Undef(_) | Argument::Term(_) => false,
-    }
-}
-
 /// Whether a statement of the source matches the instruction that it is bound to, with no more flags where they are to be exact.
 fn statement_matches(f: &Function, rule: &Rule, binding: &Binding, exact: bool, j: usize) -> bool
     requires insts { All (λ b. length b.insts < 2 ^ 32) f.now.blocks }
     requires count { length binding.now.statements ≡ length rule.now.source }
     requires place { j < length rule.now.source }
-    requires exact { IsTrue exact ↔ TargetReadsTemporary rule.now }
+    requires exact { IsTrue exact ↔ TargetNamesTemporary rule.now }
     ensures { IsTrue result ↔ ((s : SourceStatement) → slice_get rule.now.source j ≡ Some s → StatementMatches f.now rule.now binding.now j s) }
 {
     let Register::Result(block, place) = binding.statements.as_slice()[j] else {
@@ -145,7 +105,7 @@ fn inst_matches(
 ) -> bool
     requires insts { All (λ b. length b.insts < 2 ^ 32) f.now.blocks }
     requires place { j < length rule.now.source }
-    requires exact { IsTrue exact ↔ TargetReadsTemporary rule.now }
+    requires exact { IsTrue exact ↔ TargetNamesTemporary rule.now }
     ensures { (s : SourceStatement) → slice_get rule.now.source j ≡ Some s
         → IsTrue result ↔ InstMatches f.now rule.now binding.now j s place inst.now }
 {

@@ -3,7 +3,7 @@
 //! The definitions stand in `specs/`: `Match` says when a rule matches at an instruction with a binding, `Statements` which
 //! instructions its statements match, and `Operands` what its operands stand for; `Uses` of `use_counts` says how often a
 //! register is used. `Matches` says which matches the rules of a file have in a function, and in which order; `Ready` what a
-//! rule that is read meets; `Laws` that temporaries stand before the root. `Facts` and `Checks` serve the code.
+//! rule that is read meets; `Laws` that temporaries stand before the root. `Facts`, `Checks` and `Nodes` serve the code.
 #![tactic(auto)]
 
 mod binding;
@@ -11,11 +11,13 @@ mod check;
 mod facts;
 mod inst;
 mod laws;
+mod nodes;
 mod operation;
 mod promises;
 mod root;
 mod rule_match;
 mod standing;
+mod temporaries;
 
 pub use binding::Binding;
 pub use check::is_match;

@@ -40,7 +40,7 @@ use Rattle.substitution.specs.Substitution.{value_of}
 use Rattle.substitution.proofs.Pieces.{get_left, get_right}
 use Rattle.substitution.proofs.Arriving.{inst_reads}
 use Rattle.bindings.specs.Operands.{StandsFor, OperandMatches}
-use Rattle.bindings.specs.Statements.{StatementMatches, TargetReadsTemporary}
+use Rattle.bindings.specs.Statements.{StatementMatches, TargetNamesTemporary}
 use Rattle.bindings.specs.declared.binding.Binding.{Binding}
 use Rattle.rewriter.proofs.Computing.{Computation, effect_of, computed, computed_by, IsComputed, IsFreeze, inputs_of, plain_inputs, plain_reads, collected, rule_gives, op_computes, effects_allow, effects_same}
 use Rattle.rewriter.proofs.Matched.{same_is_computed, read_there, inst_allows, inst_same}
@@ -78,9 +78,9 @@ abbrev pub IsDefined : Argument → Type 0
 IsDefined argument = (k : ℕ) → argument ≡ arguments.Undef k → ⊥
 
 module _ (f : Function) (rule : Rule) (binding : Binding) (held : Registers) where
-  -- the function's value allows the rule's, and is the same where the target reads temporaries
+  -- the function's value allows the rule's, and is the same where the target names temporaries
   abbrev pub Stands : Value → Value → Type 0
-  Stands t r = AllowsValue t r × (TargetReadsTemporary rule → t ≡ r)
+  Stands t r = AllowsValue t r × (TargetNamesTemporary rule → t ≡ r)
 
   pub stands-refl : (v : Value) → Stands v v
   stands-refl v = (AllowsValue-refl v, λ reads. refl)
@@ -184,7 +184,7 @@ module _ (f : Function) (rule : Rule) (binding : Binding) (held : Registers) whe
         let by_values : AllowsEffect own e = effects_allow binding.typing m.inst.width s.op x.0 u.0 none (λ n o here. (u.1 n o here).1.0) in
         let allows : AllowsEffect (effects.Gives eq.0) e = subst (λ (d : Effect). AllowsEffect d e) (sym x.2) (AllowsEffect-trans (effect_of (computed_by m.inst.width m.inst.op) x.0) own e by_flags by_values) in
         let r = given_of eq.0 e allows in
-        let exact : TargetReadsTemporary rule → eq.0 ≡ r.0 = λ reads.
+        let exact : TargetNamesTemporary rule → eq.0 ≡ r.0 = λ reads.
         let same : computed_by m.inst.width m.inst.op ≡ computed binding.typing m.inst.width s.op = inst_same binding.typing f binding.block m.place m.inst.width s.op m.inst.op m.matches.operation (m.matches.no_more_flags before reads) (widths_agree checked typed j s at m) in
         let equal : own ≡ e = effects_same binding.typing s.class m.inst.width s.op x.0 u.0 (λ n o here. (u.1 n o (ap (λ (l : List RuleOperand). slice_get l n) (sym plain) ∙ here)).1.1 reads) in
         let read : effects.Gives eq.0 ≡ effect_of (computed_by m.inst.width m.inst.op) x.0 = x.2 in

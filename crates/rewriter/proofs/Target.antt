@@ -40,7 +40,7 @@ use Rattle.rule_core.proofs.Ready.{class_width as width_of_class}
 use Rattle.substitution.specs.Rewritten.{RunsOn, RunsThrough}
 use Rattle.substitution.proofs.Pieces.{get_left, get_right, get_cases}
 use Rattle.ir_meaning.proofs.Steps.{held_here, held_elsewhere}
-use Rattle.bindings.specs.Statements.{IsTemporary, TargetReadsTemporary}
+use Rattle.bindings.specs.Statements.{NamesTemporary, TargetNamesTemporary}
 use Rattle.bindings.specs.declared.binding.Binding.{Binding}
 use Rattle.rewriter.specs.Put.{literal_of, is_copy, argument_put, class_width, operand_put, insts_with, insts_put}
 use Rattle.rewriter.proofs.Computing.{Computation, effect_of, computed, IsComputed, number_of, choice_operand, inputs_of, taken_by, collected, rule_gives, op_computes, effects_same, no_values}
@@ -95,7 +95,7 @@ module _ (rule : Rule) (binding : Binding) where
   -- new function.
   pub record Ready (t : ℕ) (H : Held) (new : Registers) : Type 0 where
     pub inputs : (i : ℕ) (a : Operand) → slice_get binding.inputs i ≡ Some a → (u : Value) × (slice_get H.inputs i ≡ Some u) × GivesOnly new u a
-    pub source : TargetReadsTemporary rule → (j : ℕ) (reg : Register) → suc j < length rule.source → slice_get binding.statements j ≡ Some reg → (u : Value) × (slice_get H.source j ≡ Some u) × GivesOnly new u (operands.Register reg)
+    pub source : TargetNamesTemporary rule → (j : ℕ) (reg : Register) → suc j < length rule.source → slice_get binding.statements j ≡ Some reg → (u : Value) × (slice_get H.source j ≡ Some u) × GivesOnly new u (operands.Register reg)
     pub target : (j : ℕ) (a : Operand) → j < t → slice_get (results rule binding) j ≡ Some a → (u : Value) × (slice_get H.target j ≡ Some u) × GivesOnly new u a
     pub count : length H.target ≡ t
 
@@ -108,7 +108,7 @@ module _ (rule : Rule) (binding : Binding) where
 
   module _ (inputs_count : length binding.inputs ≡ length rule.inputs) (statements_count : length binding.statements ≡ length rule.source) (constants_count : length binding.constants ≡ length rule.constants) (t : ℕ) (within : t ≤ length rule.target) (H : Held) (new : Registers) (ready : Ready t H new) where
     -- what an argument gives, whatever `undef`s are
-    target_argument : (N : ℕ) (a : Argument) → TargetMayRead rule t a → IsDefined a → (IsTemporary a → TargetReadsTemporary rule) → ((n : ℕ) → a ≡ arguments.Term n → TermFits n N)
+    target_argument : (N : ℕ) (a : Argument) → TargetMayRead rule t a → IsDefined a → (NamesTemporary rule.terms a → TargetNamesTemporary rule) → ((n : ℕ) → a ≡ arguments.Term n → TermFits n N)
         → (u : Value) × ((choices : List Number) → ArgumentGives binding.typing (given choices) H N a u) × GivesOnly new u (argument_put rule binding (results rule binding) N a)
     target_argument N (arguments.Register (names.Input i)) may defined reads fits =
         let a : Operand = slice_index_or binding.inputs i operands.Poison in
@@ -248,8 +248,8 @@ module _ (rule : Rule) (binding : Binding) where
       among : (i : ℕ) (o : RuleOperand) → slice_get (operands_of s.op) i ≡ Some o → IsOperandAmong rule.target o
       among i o here = Contains-flat_map (λ (s : Statement). operands_of s.op) rule.target s o (Contains-from_get rule.target t s at) (Contains-from_get (operands_of s.op) i o here)
 
-      reads_temporary : (i : ℕ) (o : RuleOperand) → slice_get (operands_of s.op) i ≡ Some o → IsTemporary o.value → TargetReadsTemporary rule
-      reads_temporary i o here is = (o, among i o here, is)
+      names_temporary : (i : ℕ) (o : RuleOperand) → slice_get (operands_of s.op) i ≡ Some o → NamesTemporary rule.terms o.value → TargetNamesTemporary rule
+      names_temporary i o here is = (o, among i o here, is)
 
       -- what the statement takes, and what of it is left open
       abbrev inputs : List RuleOperand
@@ -292,7 +292,7 @@ module _ (rule : Rule) (binding : Binding) where
             → (u : Value) × ((choices : List Number) → ArgumentGives binding.typing (given choices) H r.width o.value u) × GivesOnly new u (operand_put rule binding (results rule binding) o)
         defined_operand i o r here width defined =
             let within : t < length rule.target = slice_get_within rule.target t s at in
-            let g = target_argument inputs_count statements_count constants_count t (omega arith) H new ready r.width o.value (checked.target_reads t s o at (Contains-from_get (operands_of s.op) i o here)) defined (reads_temporary i o here)
+            let g = target_argument inputs_count statements_count constants_count t (omega arith) H new ready r.width o.value (checked.target_reads t s o at (Contains-from_get (operands_of s.op) i o here)) defined (names_temporary i o here)
             (λ n is. terms_fit o n r.width (among i o here) is width) in
             (g.0, g.1, subst (λ w. GivesOnly new g.0 (argument_put rule binding (results rule binding) w o.value)) (sym (class_is o r.width width)) g.2)
 

@@ -47,7 +47,7 @@ const ROWS: [Row; 33] = [
             "define i4 @f(i1 %c, i4 %a) { %t = add i4 %a, 1 %1 = sub i4 %t, 1 %r = select i1 %c, i4 %1, i4 %t ret i4 %r }",
         ),
     },
-    // A flag too many under a temporary that the target reads.
+    // A flag too many under a temporary that the target names.
     Row {
         rule: SEL_INC,
         function: "define i4 @f(i1 %c, i4 %a) { %t = add nsw i4 %a, 1 %r = select i1 %c, i4 %a, i4 %t ret i4 %r }",
@@ -247,7 +247,7 @@ l: %x = phi i8 [ %z, %e ], [ %q, %l ] %c = icmp eq i8 %q, %x br i1 %c, label %l,
         root: (0, 0),
         applied: None,
     },
-    // A temporary has exactly the statement's where the target reads one, and else at least that.
+    // A temporary has exactly the statement's where the target names one, and else at least that.
     Row {
         rule: TZ_READ,
         function: "define i8 @f(i8 %a) { %t = call i8 @llvm.cttz.i8(i8 %a, i1 true)\n%r = add i8 %t, 1 ret i8 %r }",

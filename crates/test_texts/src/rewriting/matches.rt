@@ -49,7 +49,10 @@ const AND_UNDEF: &str = "Name: and-undef\nWit: 0\n%r = and %x, undef\n=>\n%r = 0
 const MET: &str =
     "Name: met\n%c = icmp eq %x, C\n%r = select %c, %y, C\n=>\n%r = select %c, %y, %x\n";
 
-const ROWS: [Row; 27] = [
+const ADD_WIDTHS: &str =
+    "Name: add-widths\n%t = add %x, 1\n%r = sub %t, 1\n=>\n%r = add %x, width(%t) - width(%t)\n";
+
+const ROWS: [Row; 31] = [
     Row {
         rule: NOT_ADD,
         function: "define i4 @f(i4 %a) { %1 = xor i4 %a, -1 %2 = add i4 %1, 5 ret i4 %2 }",
@@ -99,13 +102,13 @@ const ROWS: [Row; 27] = [
             widths: &[4, 1],
         }],
     },
-    // A flag too many under a temporary that the target reads.
+    // A flag too many under a temporary that the target names.
     Row {
         rule: SEL_INC,
         function: "define i4 @f(i1 %c, i4 %a) { %t = add nsw i4 %a, 1 %r = select i1 %c, i4 %a, i4 %t ret i4 %r }",
         matches: &[],
     },
-    // A flag too many where the target reads no temporary.
+    // A flag too many where the target names no temporary.
     Row {
         rule: NOT_ADD,
         function: "define i4 @f(i4 %a) { %1 = xor i4 %a, -1 %2 = add nuw nsw i4 %1, 5 ret i4 %2 }",
@@ -115,6 +118,40 @@ const ROWS: [Row; 27] = [
             inputs: &[A],
             constants: &[5],
             widths: &[4],
+        }],
+    },
+    // A flag too many under a temporary of which the target names the width alone, as an operand's or a copy's.
+    Row {
+        rule: ADD_WIDTHS,
+        function: "define i8 @f(i8 %a) { %t = add nsw i8 %a, 1 %r = sub i8 %t, 1 ret i8 %r }",
+        matches: &[],
+    },
+    Row {
+        rule: ADD_WIDTHS,
+        function: "define i8 @f(i8 %a) { %t = add i8 %a, 1 %r = sub nsw i8 %t, 1 ret i8 %r }",
+        matches: &[Match {
+            at: (0, 1),
+            statements: &[0, 1],
+            inputs: &[A],
+            constants: &[],
+            widths: &[8],
+        }],
+    },
+    Row {
+        rule: "Name: copy-widths\n%t = add %x, 1\n%r = sub %t, %t\n=>\n%r = -width(%t) + width(%t)\n",
+        function: "define i8 @f(i8 %a) { %t = add nsw i8 %a, 1 %r = sub i8 %t, %t ret i8 %r }",
+        matches: &[],
+    },
+    // In the precondition it may have more flags, and under the width of an input too.
+    Row {
+        rule: "Name: ask-width\nPre: width(%t) u> C\n%t = add %x, C\n%r = sub %t, C\n=>\n%r = add %x, width(%x) - width(%x)\n",
+        function: "define i8 @f(i8 %a) { %t = add nsw i8 %a, 1 %r = sub i8 %t, 1 ret i8 %r }",
+        matches: &[Match {
+            at: (0, 1),
+            statements: &[0, 1],
+            inputs: &[A],
+            constants: &[1],
+            widths: &[8],
         }],
     },
     // A flag too few.

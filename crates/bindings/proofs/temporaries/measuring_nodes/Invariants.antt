@@ -1,0 +1,8 @@
+-- the set has those of the nodes so far
+use Rattle.std.proofs.Common.{◌<◌}
+use Rattle.bindings.specs.Nodes.{HasExactly}
+use Rattle.bindings.specs.Statements.{MeasuresTemporary}
+use Rattle.bindings.proofs.temporaries.measuring_nodes.Given as goal
+
+abbrev pub invariant-loop-n : goal.invariant-loop-n
+invariant-loop-n l = HasExactly l.measuring (λ n. (n < l.n) × MeasuresTemporary l.rule.terms n)

@@ -1,0 +1,13 @@
+use Rattle.std.proofs.Common.{◌↔◌, List, IsTrue, subst}
+use Rattle.rule_core.specs.Positions.{operands_among}
+use Rattle.rule_core.specs.declared.rule.Statement.{Statement}
+use Rattle.rule_typing.proofs.Among.{says}
+use Rattle.bindings.specs.Nodes.{OneNamesAmong}
+use Rattle.bindings.proofs.NamedTemporaries.{one_is_named}
+use Rattle.bindings.proofs.temporaries.target_names_temporary.Goals as goal
+
+pub returns : goal.returns
+returns c =
+    says c.name_temporary.result
+    (subst (λ (statements : List Statement). IsTrue c.name_temporary.result ↔ OneNamesAmong c.measuring_nodes.result (operands_among statements)) c.as_slice.ensures c.name_temporary.ensures)
+    (one_is_named c.args.rule.now.terms c.measuring_nodes.result c.measuring_nodes.ensures (operands_among c.args.rule.now.target))
