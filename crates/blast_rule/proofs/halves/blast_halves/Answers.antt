@@ -1,4 +1,5 @@
-use Rattle.std.proofs.Common.{◌-◌, [], length, map, take, refl, sym, subst, ◌∙◌, arith, get_or}
+use Rattle.std.proofs.Common.{◌-◌, [], length, map, take, refl, sym, ap, subst, ◌∙◌, arith, get_or}
+use Rattle.std.specs.List.{All}
 use Rattle.std.proofs.lemmas.List.{length-map}
 use Rattle.std.proofs.lemmas.Option.{slice_get-get_or}
 use Rattle.circuits.specs.Circuit.{Keeps}
@@ -36,6 +37,41 @@ blast_temporaries-requires-clause-given g c =
     (record { inputs_are = start.inputs; source_are = start.source; target_are = start.target; constants_are = start.constants; choices_are = start.choices; terms_are = start.terms }))
     (before_root_stands c.args.rule.now c.args.typing.now c.requires.rule c.requires.typing setting.inputs setting.constants setting.target_choices c.args.terms.now
     c.requires.widths.inputs c.requires.widths.constants c.requires.widths.target_choices c.requires.widths_of_terms [])
+
+pub blast_temporaries-requires-clause-own : goal.blast_temporaries-requires-clause-own
+blast_temporaries-requires-clause-own g c =
+    let literals = g.C.State.has_literal c.args.c.now in
+    let own = c.requires.own in
+    let start = c.scope_of-start.ensures in
+    record {
+      inputs = rw start.inputs own.inputs;
+      source = rw start.source (own_none (IsOwn literals));
+      target = rw start.target (own_none (IsOwn literals));
+      constants = rw start.constants own.constants;
+      choices = rw start.choices (own_none (All literals));
+      terms = rw start.terms c.requires.own_terms;
+    }
+
+pub returns-in_err-temporaries-clause-adds : goal.returns-in_err-temporaries-clause-adds
+returns-in_err-temporaries-clause-adds g c =
+    let rule = c.args.rule.now in
+    Adds-weaken c.blast_temporaries.ensures.adds (omega (arith, run_gates-within c.args.typing.now rule.source (length rule.source - 1) (omega arith)))
+
+pub blast_next-requires-clause-own_undefined : goal.blast_next-requires-clause-own_undefined
+blast_next-requires-clause-own_undefined g c =
+    c.blast_witness.ensures.adds.keeps.literals c.in_ok-temporaries.temporaries.undefined c.in_ok-temporaries.ensures.own_undefined
+
+pub blast_target-requires-clause-count : goal.blast_target-requires-clause-count
+blast_target-requires-clause-count g c = rw c.deref.ensures.value c.in_ok-temporaries.ensures.count
+
+pub after-requires-clause-own : goal.after-requires-clause-own
+after-requires-clause-own g c = c.in_ok-target.ensures.own
+
+pub returns-clause-target_width : goal.returns-clause-target_width
+returns-clause-target_width g c = ap length c.in_ok-target-2.ensures.bits ∙ c.in_ok-target.ensures.width
+
+pub returns-clause-own_target : goal.returns-clause-own_target
+returns-clause-own_target g c = c.in_ok-target-2.ensures.own
 
 pub blast_witness-requires-clause-ready : goal.blast_witness-requires-clause-ready
 blast_witness-requires-clause-ready g c =
