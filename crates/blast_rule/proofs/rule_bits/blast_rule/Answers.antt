@@ -11,6 +11,30 @@ use Rattle.blast_rule.proofs.Whole.{refutes, effects-kept, gates_within, first_w
 use Rattle.blast_setting.proofs.Made.{setting-kept, setting_own-kept}
 use Rattle.blast_rule.proofs.rule_bits.blast_rule.Goals as goal
 
+pub blast_given-requires-clause-rule : goal.blast_given-requires-clause-rule
+blast_given-requires-clause-rule g c = c.requires.rule
+
+pub blast_given-requires-clause-typing : goal.blast_given-requires-clause-typing
+blast_given-requires-clause-typing g c = rw c.as_slice-typing.ensures c.requires.typing
+
+pub blast_halves-requires-clause-rule : goal.blast_halves-requires-clause-rule
+blast_halves-requires-clause-rule g c = c.requires.rule
+
+pub blast_halves-requires-clause-typing : goal.blast_halves-requires-clause-typing
+blast_halves-requires-clause-typing g c = rw c.as_slice-typing.ensures c.requires.typing
+
+pub blast_halves-requires-clause-widths : goal.blast_halves-requires-clause-widths
+blast_halves-requires-clause-widths g c = c.in_ok-setting.ensures.widths
+
+pub refusal-requires-clause-own_source : goal.refusal-requires-clause-own_source
+refusal-requires-clause-own_source g c = c.in_ok-halves.ensures.own_source
+
+pub refusal-requires-clause-own_target : goal.refusal-requires-clause-own_target
+refusal-requires-clause-own_target g c = c.in_ok-halves.ensures.own_target
+
+pub and-requires-clause-own_b : goal.and-requires-clause-own_b
+and-requires-clause-own_b g c = c.in_ok-refused.ensures.own
+
 pub blast_given-requires-clause-widths : goal.blast_given-requires-clause-widths
 blast_given-requires-clause-widths g c = rw c.as_slice.ensures c.in_ok-setting.ensures.widths.constants
 
