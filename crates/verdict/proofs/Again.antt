@@ -1,5 +1,5 @@
 -- Pairs that are asked again.
-use Rattle.std.proofs.Common.{List, [], ◌∷◌, ◌++◌, append-nil, append_assoc, map, sym, subst}
+use Rattle.std.proofs.Common.{List, [], ◌∷◌, ◌++◌, append-nil, append_assoc, map, refl, sym, subst}
 use Rattle.std.specs.Prelude.{All, Contains}
 use Rattle.std.proofs.lemmas.List.Elements.{All-head, All-tail}
 use Rattle.strategy_core.specs.Asked.{Pair, AreFirstAsked, pair_in}
@@ -17,9 +17,11 @@ pub rows_change_nothing : PairsWithRowsChangeNothing
 rows_change_nothing rules conflicts pairs verdicts all = record {
   more = [];
   rows = sym (append-nil verdicts.table);
+  logs = refl;
   asked = λ before h. record {
     rows = all_again before pairs (map pair_in verdicts.table) h.rows all;
     honest = h.honest;
+    unrefuted = h.unrefuted;
     pairs = h.pairs;
   };
 }

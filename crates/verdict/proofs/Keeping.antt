@@ -1,6 +1,6 @@
 -- The verdicts that are kept, as one more pair is asked.
 use Rattle.std.proofs.Common.{◌≡◌, ℕ, zero, suc, Bool, true, false, not, List, [], ◌∷◌, ◌++◌, if◌then◌else◌, length, append-nil, map, Some, refl, sym, ap, subst, ◌∙◌}
-use Rattle.std.specs.Prelude.{◌||◌, ◌≢◌, slice_get, Contains, MatchBool}
+use Rattle.std.specs.Prelude.{◌||◌, ◌≢◌, slice_get, All, Contains, MatchBool}
 use Rattle.std.specs.List.{list_any}
 use Rattle.std.specs.Option.{option_map}
 use Rattle.std.proofs.lemmas.List.{map-append}
@@ -16,7 +16,8 @@ use Rattle.verdict.specs.Table.{IsHonestRow, IsHonestTable}
 use Rattle.verdict.specs.declared.verdicts.Verdicts.{Verdicts}
 use Rattle.strategy_core.specs.Asked.{Pair, pair_in, HasVerdict, AreFirstAsked}
 use Rattle.verdict.specs.Asks.{Asks}
-use Rattle.verdict.specs.Stored.{Key, pair_of_key}
+use Rattle.verdict.specs.Stored.{IsUnrefutedIn, Key, pair_of_key}
+use Rattle.verdict.specs.declared.stored.StoredLogs.{StoredLogs}
 use Rattle.verdict.proofs.Asking.{asked_again, asked_first}
 use Rattle.verdict.proofs.Storing.{key_eq, decided}
 
@@ -61,26 +62,28 @@ had false new is h = absurd cc
 
 module _ (rules : List Rule) (conflicts : ℕ) (old new : Verdicts) (key : Key) where
   -- a pair that is found adds no row
-  pub asked_found : new.table ≡ old.table → new.pairs.keys ≡ insert_key key_eq old.pairs.keys key → list_any (key_eq key) old.pairs.keys ≡ true
+  pub asked_found : new.table ≡ old.table → new.logs ≡ old.logs → new.pairs.keys ≡ insert_key key_eq old.pairs.keys key → list_any (key_eq key) old.pairs.keys ≡ true
       → Asks rules conflicts (pair_of_key key ∷ []) old new
-  asked_found table keys found =
+  asked_found table logs keys found =
       let x = pair_of_key key in
       let rows = map pair_in old.table in
       let kept : new.pairs.keys ≡ old.pairs.keys = keys ∙ ap (λ (b : Bool). if b then old.pairs.keys else old.pairs.keys ++ key ∷ []) found in
       record {
         more = [];
         rows = table ∙ sym (append-nil old.table);
+        logs = logs;
         asked = λ before h. record {
           rows = subst (λ t. AreFirstAsked (before ++ x ∷ []) (map pair_in t)) (sym table) (asked_again before rows x h.rows ((h.rows.same x).0 (subst (λ l. Contains l x) h.pairs (present key old.pairs.keys found))));
           honest = subst (IsHonestTable rules conflicts) (sym table) h.honest;
+          unrefuted = subst (λ (l : StoredLogs). All (IsUnrefutedIn l) new.table) (sym logs) (subst (All (IsUnrefutedIn old.logs)) (sym table) h.unrefuted);
           pairs = ap (map pair_of_key) kept ∙ h.pairs ∙ ap (map pair_in) (sym table);
         };
       }
 
   -- one that is not adds its row
-  pub asked_new : (row : Row) → new.table ≡ old.table ++ row ∷ [] → new.pairs.keys ≡ insert_key key_eq old.pairs.keys key
-      → list_any (key_eq key) old.pairs.keys ≡ false → pair_in row ≡ pair_of_key key → IsHonestRow rules conflicts row → Asks rules conflicts (pair_of_key key ∷ []) old new
-  asked_new row table keys none is honest =
+  pub asked_new : (row : Row) → new.table ≡ old.table ++ row ∷ [] → new.logs ≡ old.logs → new.pairs.keys ≡ insert_key key_eq old.pairs.keys key
+      → list_any (key_eq key) old.pairs.keys ≡ false → pair_in row ≡ pair_of_key key → IsHonestRow rules conflicts row → IsUnrefutedIn old.logs row → Asks rules conflicts (pair_of_key key ∷ []) old new
+  asked_new row table logs keys none is honest unrefuted =
       let x = pair_of_key key in
       let rows = map pair_in old.table in
       let added : new.pairs.keys ≡ old.pairs.keys ++ key ∷ [] = keys ∙ ap (λ (b : Bool). if b then old.pairs.keys else old.pairs.keys ++ key ∷ []) none in
@@ -88,9 +91,13 @@ module _ (rules : List Rule) (conflicts : ℕ) (old new : Verdicts) (key : Key) 
       record {
         more = row ∷ [];
         rows = table;
+        logs = logs;
         asked = λ before h. record {
           rows = subst (AreFirstAsked (before ++ x ∷ [])) (sym more) (asked_first before rows x h.rows (λ has. absent key old.pairs.keys none (subst (λ l. Contains l x) (sym h.pairs) ((h.rows.same x).1 has))));
           honest = subst (IsHonestTable rules conflicts) (sym table) (All-append (IsHonestRow rules conflicts) old.table (row ∷ []) h.honest (All-cons (IsHonestRow rules conflicts) row [] honest (All-nil (IsHonestRow rules conflicts))));
+          unrefuted =
+              subst (λ (l : StoredLogs). All (IsUnrefutedIn l) new.table) (sym logs)
+              (subst (All (IsUnrefutedIn old.logs)) (sym table) (All-append (IsUnrefutedIn old.logs) old.table (row ∷ []) h.unrefuted (All-cons (IsUnrefutedIn old.logs) row [] unrefuted (All-nil (IsUnrefutedIn old.logs)))));
           pairs = ap (map pair_of_key) added ∙ map-append pair_of_key old.pairs.keys (key ∷ []) ∙ ap (λ (l : List Pair). l ++ x ∷ []) h.pairs ∙ sym more;
         };
       }

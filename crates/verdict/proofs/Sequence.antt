@@ -1,5 +1,5 @@
 -- Searches one after the other: which pairs they ask together.
-use Rattle.std.proofs.Common.{ℕ, List, [], ◌++◌, sym, ap, subst, ◌∙◌, append-nil, append_assoc}
+use Rattle.std.proofs.Common.{ℕ, List, [], ◌++◌, refl, sym, ap, subst, ◌∙◌, append-nil, append_assoc}
 use Rattle.std.specs.Prelude.{Contains}
 use Rattle.std.proofs.lemmas.List.Elements.{Contains-append_left}
 use Rattle.rule_core.specs.declared.rule.Rule.{Rule}
@@ -13,6 +13,7 @@ module _ (rules : List Rule) (conflicts : ℕ) where
   asks_nothing v = record {
     more = [];
     rows = sym (append-nil v.table);
+    logs = refl;
     asked = λ before h. subst (λ (l : List Pair). AreVerdictsOn rules conflicts l v) (sym (append-nil before)) h;
   }
 
@@ -20,6 +21,7 @@ module _ (rules : List Rule) (conflicts : ℕ) where
   asks_both first later a b c x y = record {
     more = x.more ++ y.more;
     rows = y.rows ∙ ap (λ (l : List Row). l ++ y.more) x.rows ∙ append_assoc a.table x.more y.more;
+    logs = y.logs ∙ x.logs;
     asked = λ before h. subst (λ (l : List Pair). AreVerdictsOn rules conflicts l c) (append_assoc before first later) (y.asked (before ++ first) (x.asked before h));
   }
 

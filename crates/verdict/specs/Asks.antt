@@ -6,6 +6,7 @@ use Rattle.verdict_core.specs.declared.verdicts.Row.{Row}
 use Rattle.verdict.specs.Table.{IsHonestTable}
 use Rattle.bindings.specs.declared.rule_match.Match.{Match}
 use Rattle.bindings.specs.Matches.{IsMatchAmong, ComesBefore, AreMatchesWhere}
+use Rattle.verdict.specs.Stored.{IsUnrefutedIn}
 use Rattle.verdict.specs.declared.verdicts.Verdicts.{Verdicts}
 use Rattle.strategy_core.specs.Asked.{Pair, pair_of, pair_in, IsAdmitted, IsTurnedDown, AreFirstAsked}
 
@@ -14,6 +15,8 @@ use Rattle.strategy_core.specs.Asked.{Pair, pair_of, pair_in, IsAdmitted, IsTurn
 pub record AreVerdictsOn (rules : List Rule) (conflicts : ℕ) (asked : List Pair) (verdicts : Verdicts) : Type 0 where
   pub rows : AreFirstAsked asked (map pair_in verdicts.table)
   pub honest : IsHonestTable rules conflicts verdicts.table
+  -- no set that a `Budget` among them keeps is refuted by the log that is stored for its pair
+  pub unrefuted : All (IsUnrefutedIn verdicts.logs) verdicts.table
   -- the pairs that are looked up are those of the rows, in their order
   pub pairs : map (λ key. (key.0, key.1.items)) verdicts.pairs.keys ≡ map pair_in verdicts.table
 
@@ -21,10 +24,11 @@ pub record AreVerdictsOn (rules : List Rule) (conflicts : ℕ) (asked : List Pai
 abbrev pub AreVerdicts : List Rule → ℕ → Verdicts → Type 0
 AreVerdicts rules conflicts verdicts = (asked : List Pair) × AreVerdictsOn rules conflicts asked verdicts
 
--- Whatever was asked before, these pairs are asked now; and the rows stay.
+-- Whatever was asked before, these pairs are asked now; and the rows stay, as the stored logs do.
 pub record Asks (rules : List Rule) (conflicts : ℕ) (pairs : List Pair) (old new : Verdicts) : Type 0 where
   pub more : List Row
   pub rows : new.table ≡ old.table ++ more
+  pub logs : new.logs ≡ old.logs
   pub asked : (before : List Pair) → AreVerdictsOn rules conflicts before old → AreVerdictsOn rules conflicts (before ++ pairs) new
 
 -- ---- a search through the matches of a function of which something holds

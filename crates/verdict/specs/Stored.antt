@@ -1,11 +1,13 @@
 -- The logs that are stored.
-use Rattle.std.specs.Prelude.{◌&&◌, ℕ, Bool, List, Option, Vec, nat_eq}
+use Rattle.std.specs.Prelude.{◌&&◌, ℕ, Bool, List, Option, Vec, nat_eq, IfSome}
 use Rattle.std.specs.Global.{Global}
 use Rattle.std.specs.Str.{bytes_eq}
 use Rattle.indexmap.specs.IndexMap.{get_by}
 use Rattle.clauses.specs.declared.step.Step.{Step}
+use Rattle.verdict_core.specs.declared.verdicts.Row.{Row}
 use Rattle.verdict.specs.declared.stored.StoredLogs.{StoredLogs}
-use Rattle.strategy_core.specs.Asked.{Pair}
+use Rattle.verdict.specs.Proved.{IsUnrefutedBy}
+use Rattle.strategy_core.specs.Asked.{Pair, pair_in}
 
 -- a pair as tables have it
 abbrev pub Key : Type 0
@@ -21,3 +23,7 @@ is_key_of pair key = nat_eq pair.0 key.0 && bytes_eq pair.1 key.1.items
 -- the log that is stored for the pair, if one is
 abbrev pub log_of : StoredLogs → Pair → Option (List Step)
 log_of stored pair = get_by (is_key_of pair) stored.logs
+
+-- the log that is stored for the row's pair, if one is, doesn't refute the set that a `Budget` keeps
+abbrev pub IsUnrefutedIn : StoredLogs → Row → Type 0
+IsUnrefutedIn stored row = IfSome (log_of stored (pair_in row)) (λ log. IsUnrefutedBy log row.verdict)

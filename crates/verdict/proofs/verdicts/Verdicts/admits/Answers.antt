@@ -1,5 +1,5 @@
 use Rattle.std.proofs.Common.{◌≡◌, ℕ, ◌<◌, true, List, [], ◌∷◌, length, map, Some, sym, ap, subst, ◌∙◌, arith}
-use Rattle.std.specs.Prelude.{slice_get}
+use Rattle.std.specs.Prelude.{slice_get, IfSome}
 use Rattle.std.proofs.lemmas.List.{length-map}
 use Rattle.std.proofs.lemmas.Option.{slice_get_within}
 use Rattle.ir_meaning.proofs.Pieces.{some_at}
@@ -7,7 +7,9 @@ use Rattle.verdict_core.specs.declared.verdicts.Row.{Row}
 use Rattle.verdict.specs.declared.verdicts.Verdicts.{Verdicts}
 use Rattle.strategy_core.specs.Asked.{Pair, pair_in, pair_of}
 use Rattle.verdict.specs.Asks.{Asks}
-use Rattle.verdict.specs.Stored.{Key, pair_of_key}
+use Rattle.verdict.specs.Proved.{IsUnrefutedBy}
+use Rattle.verdict.specs.Stored.{IsUnrefutedIn, Key, log_of, pair_of_key}
+use Rattle.verdict.specs.declared.stored.StoredLogs.{StoredLogs}
 use Rattle.verdict.proofs.Storing.{key_eq}
 use Rattle.verdict.proofs.Keeping.{stored, lacked, had, asked_found, asked_new, answered}
 use Rattle.verdict.proofs.verdicts.Verdicts.admits.Goals as goal
@@ -25,6 +27,9 @@ same_keys c = elim c.if-is_new.branch [
   | else-is_new w ↦ ap (λ (v : Verdicts). v.pairs.keys) w.self-is
 ]
 
+unrefuted_row : (logs : StoredLogs) (row : Row) (pair : Pair) → pair_in row ≡ pair → IfSome (log_of logs pair) (λ log. IsUnrefutedBy log row.verdict) → IsUnrefutedIn logs row
+unrefuted_row logs row pair is unrefuted = subst (λ (p : Pair). IfSome (log_of logs p) (λ log. IsUnrefutedBy log row.verdict)) (sym is) unrefuted
+
 asked : (c : After-as_slice) → Asks c.args.rules.now c.args.conflicts (pair_of c.args.asking.now ∷ []) c.args.self.now c.if-is_new.self
 asked c =
     let rules = c.args.rules.now in
@@ -35,9 +40,9 @@ asked c =
     subst (λ (p : Pair). Asks rules conflicts (p ∷ []) old new) (same_pair c)
     (elim c.if-is_new.branch [
       | then-is_new+in_ok-row+in_ok-push w ↦
-          asked_new rules conflicts old new (key_of c) w.in_ok-row.row (ap (λ (v : Verdicts). v.table) w.self-is ∙ w.in_ok-push.ensures.ok) keys (lacked _ _ c.in_ok-place.ensures.added w.if-is_new.true)
-          (w.in_ok-row.ensures.pair ∙ sym (same_pair c)) w.in_ok-row.ensures.honest
-      | else-is_new w ↦ asked_found rules conflicts old new (key_of c) (ap (λ (v : Verdicts). v.table) w.self-is) keys (had _ _ c.in_ok-place.ensures.added w.if-is_new.false)
+          asked_new rules conflicts old new (key_of c) w.in_ok-row.row (ap (λ (v : Verdicts). v.table) w.self-is ∙ w.in_ok-push.ensures.ok) (ap (λ (v : Verdicts). v.logs) w.self-is) keys (lacked _ _ c.in_ok-place.ensures.added w.if-is_new.true)
+          (w.in_ok-row.ensures.pair ∙ sym (same_pair c)) w.in_ok-row.ensures.honest (unrefuted_row c.args.self.now.logs w.in_ok-row.row (pair_of c.args.asking.now) w.in_ok-row.ensures.pair w.in_ok-row.ensures.unrefuted)
+      | else-is_new w ↦ asked_found rules conflicts old new (key_of c) (ap (λ (v : Verdicts). v.table) w.self-is) (ap (λ (v : Verdicts). v.logs) w.self-is) keys (had _ _ c.in_ok-place.ensures.added w.if-is_new.false)
     ])
 
 pair_there : (c : After-as_slice) → slice_get (map pair_in c.if-is_new.self.table) c.in_ok-place.place ≡ Some (pair_of c.args.asking.now)
