@@ -17,6 +17,7 @@ use Rattle.bindings.specs.Ready.{AreReady}
 use Rattle.rule_typing.specs.Classes.{IsClassified}
 use Rattle.rule_typing.specs.Faults.{HasNoFault}
 use Rattle.verdict.specs.Honest.{IsHonest}
+use Rattle.verdict.specs.Stored.{IsUnrefutedIn}
 use Rattle.verdict.specs.Table.{IsHonestRow, IsHonestTable}
 use Rattle.verdict_core.specs.declared.verdicts.Row.{Row}
 use Rattle.verdict_core.specs.declared.verdicts.Verdict.{Verdict}
@@ -103,6 +104,7 @@ module _ (rules : List Rule) where
   no_verdicts conflicts v table pairs = record {
     rows = subst (λ (l : List Row). AreFirstAsked [] (map pair_in l)) (sym table) nothing_asked;
     honest = subst (IsHonestTable rules conflicts) (sym table) (λ k d lt. absurd (omega arith));
+    unrefuted = subst (All (IsUnrefutedIn v.logs)) (sym table) (λ k d lt. absurd (omega arith));
     pairs = rw (pairs, table) refl;
   }
 

@@ -7,6 +7,7 @@ ghost use Rattle.rule_core.specs.Checks.{IsRule};
 ghost use Rattle.rule_typing.specs.Classes.{IsClassified};
 ghost use Rattle.rule_typing.specs.Faults.{HasNoFault};
 ghost use Rattle.verdict.specs.Found.{most_conflicts};
+ghost use Rattle.verdict.specs.Stored.{IsUnrefutedIn};
 ghost use Rattle.verdict.specs.Table.{IsHonestTable};
 ghost use Rattle.strategy_core.specs.Countable.{ModuleIsCountable};
 ghost use Rattle.strategy_core.specs.Decided.{MatchesAreDecided};
@@ -56,6 +57,9 @@ pub fn optimise(
     requires countable { ModuleIsCountable steps module.now }
     ensures strategy { IfOk result (λ done. IsPlainStrategy rules.now steps done.table module.now done.module done.counts done.limited) }
     ensures honest { IfOk result (λ done. IsHonestTable rules.now conflicts done.table) }
+
+    // No set that a `Budget` keeps is refuted by the log that is stored for its pair.
+    ensures unrefuted { IfOk result (λ done. All (IsUnrefutedIn logs) done.table) }
     ensures refines { IfOk result (λ done. ModuleRefines module.now done.module) }
     ensures checks { IfOk result (λ done. ModuleMeetsChecks done.module) }
     ensures numbers { IfOk result (λ done. ModuleNumbersFit done.module) }
@@ -87,6 +91,7 @@ fn plain_strategy(
     requires conflicts { bounds.conflicts ≤ most_conflicts }
     ensures strategy { IfOk result (λ done. IsPlainStrategy rules.now.all.now bounds.steps done.table module.now done.module done.counts done.limited) }
     ensures honest { IfOk result (λ done. IsHonestTable rules.now.all.now bounds.conflicts done.table) }
+    ensures unrefuted { IfOk result (λ done. All (IsUnrefutedIn logs) done.table) }
 {
     let mut verdicts = Verdicts::new(alloc, logs);
     let mut turns = Counts::new(alloc);

@@ -19,6 +19,7 @@ returns c =
     record {
       strategy = made;
       honest = honest;
+      unrefuted = c.in_ok-done.ensures.unrefuted;
       refines = c.every_optimised_module_refines_the_old.ensures.refines rules steps done.table old done.module done.counts done.limited ready (admitted_are_valid rules c.args.conflicts done.table honest) c.requires.checks c.requires.numbers made;
       checks = c.every_optimised_module_refines_the_old.ensures.checks rules steps done.table old done.module done.counts done.limited ready c.requires.checks c.requires.numbers made;
       numbers = c.every_optimised_module_refines_the_old.ensures.numbers rules steps done.table old done.module done.counts done.limited ready c.requires.checks c.requires.numbers made;

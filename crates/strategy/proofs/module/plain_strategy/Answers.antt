@@ -1,6 +1,9 @@
-use Rattle.std.proofs.Common.{List, [], sym, subst}
+use Rattle.std.proofs.Common.{List, [], sym, subst, ◌∙◌}
+use Rattle.std.specs.Prelude.{All}
 use Rattle.ir_core.specs.declared.module.Entry.{Entry}
 use Rattle.ir_core.specs.declared.module.Module.{Module}
+use Rattle.verdict.specs.Stored.{IsUnrefutedIn}
+use Rattle.verdict.specs.declared.stored.StoredLogs.{StoredLogs}
 use Rattle.strategy.specs.Entries.{EntriesAreReady, OptimisesEntries}
 use Rattle.strategy.proofs.Entering.{given, no_verdicts}
 use Rattle.strategy.proofs.module.plain_strategy.Goals as goal
@@ -31,4 +34,5 @@ returns c =
     record {
       strategy = given rules conflicts steps c.args.module.now new before after first all c.new-turns.ensures.counts c.new-turns.ensures.limited nothing made;
       honest = (made.asks.asked [] nothing).honest;
+      unrefuted = subst (λ (l : StoredLogs). All (IsUnrefutedIn l) after.table) (made.asks.logs ∙ c.new-verdicts.ensures.logs) (made.asks.asked [] nothing).unrefuted;
     }
