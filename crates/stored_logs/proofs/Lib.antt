@@ -1,3 +1,4 @@
 pub mod Pairs
 pub mod Proving
 pub mod Rechecking
+pub mod Storing

@@ -7,4 +7,5 @@ pub use Rattle.proof_text.specs.Limits
 pub mod Refutations
 pub mod Proved
 pub mod Rechecked
+pub mod Stored
 pub mod Additions

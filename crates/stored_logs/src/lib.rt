@@ -6,6 +6,7 @@
 mod proved;
 mod rechecked;
 mod refutation;
+mod stored;
 mod words;
 
 pub use proof_reader::{
@@ -14,3 +15,4 @@ pub use proof_reader::{
 pub use proved::{Proved, prove_rules};
 pub use rechecked::{Rechecked, recheck};
 pub use refutation::{Refutation, Refutations};
+pub use stored::read_stored;

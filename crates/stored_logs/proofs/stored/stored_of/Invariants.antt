@@ -1,0 +1,12 @@
+use Rattle.std.proofs.Common.{◌≡◌, All, ◌++◌}
+use Rattle.std.specs.Vec.Iter.{into_iter_items}
+use Rattle.stored_logs.specs.Stored.{IsLogStored}
+use Rattle.stored_logs.proofs.stored.stored_of.Given as goal
+
+-- the logs of the proofs so far are stored, and the others are left
+abbrev pub invariant-loop-proof : goal.invariant-loop-proof
+invariant-loop-proof l =
+    record {
+      stored : All (IsLogStored l.stored) l.yielded;
+      left : l.yielded ++ into_iter_items l.proof-iterator ≡ l.fn.proofs.items;
+    }
