@@ -1,3 +1,4 @@
 pub mod RuleText
+pub mod Laws
 pub mod Load
 pub mod Loading

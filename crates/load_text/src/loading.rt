@@ -9,6 +9,7 @@ ghost use Rattle.load_text.specs.Loading.{counts_text};
 ghost use Rattle.load_text.specs.RuleText.{IsRuleText};
 
 use crate::counting::{count_true, instructions_in, sum_of};
+use crate::laws::rule_texts_are_small;
 use ir_core::Module;
 use itoa::Buffer;
 use rule_reader::{Rule, read_rules};
@@ -78,14 +79,11 @@ pub fn built_in_rules(alloc: Global) -> Result<Vec<Rule>, AllocError>
     ensures typed { IfOk result (λ rules. All HasNoFault rules.items) }
     ensures few { IfOk result (λ rules. length rules.items < 2 ^ 32) }
 {
-    let rules = match read_rules(alloc, BUILT_IN.as_bytes()) {
-        Ok(rules) => rules,
-        Err(_) => return Err(AllocError),
-    };
-    if rules.len() > u32::MAX as usize {
-        return Err(AllocError);
+    rule_texts_are_small();
+    match read_rules(alloc, BUILT_IN.as_bytes()) {
+        Ok(rules) => Ok(rules),
+        Err(_) => Err(AllocError),
     }
-    Ok(rules)
 }
 
 /// Adds a line of a number, with a text before it.
