@@ -110,8 +110,8 @@ module _ (task : Task) (files files' : FilesState) (out out' err err' : SinkStat
   written_ends work status is table (inl w) = by (done_or_not_all task is.texts work is.is_work)
     where
       by : (work.status ≡ Done) ⊎ (work.status ≡ NotAll) → EndsWith task files files' out out' err err' ended status
-      by (inl e) = subst (EndsWith task files files' out out' err err' ended) (let f : Done ≡ status = cc in f) (worked_with work _ is table (e, w.1, w.2))
-      by (inr e) = subst (EndsWith task files files' out out' err err' ended) (let f : NotAll ≡ status = cc in f) (worked_with work _ is table (e, w.1, w.2))
+      by (inl e) = subst (EndsWith task files files' out out' err err' ended) (let f : Done ≡ status = cc in f) (worked_with work _ is table (e, w.1))
+      by (inr e) = subst (EndsWith task files files' out out' err err' ended) (let f : NotAll ≡ status = cc in f) (worked_with work _ is table (e, w.1))
 
   -- where a work was done, its status says so
   pub written_worked : (work : Work) (status : Status) → IsDoneFor files files' task work → WrittenAs work out out' err err' status → IsWorked status

@@ -1,12 +1,16 @@
 -- How far a task came where one of its files was not read or was refused, and where all were read.
 use Rattle.std.proofs.Common.{◌≡◌, ℕ, ◌≤◌, List, [], ◌∷◌, Result, Ok, Err, Option, None, Some, refl, sym, subst, ◌∙◌, inl, inr, ⊎_elim, ◌⊎◌, arith, ap}
-use Rattle.std.specs.Prelude.{IfSome, take, ◌+◌}
+use Rattle.std.specs.Prelude.{All, IfSome, take, ◌+◌}
 use Rattle.command_line.specs.declared.command.OptimiseOptions.{OptimiseOptions}
 use Rattle.command_line.specs.declared.command.RunOptions.{RunOptions}
 use Rattle.command_line.specs.declared.command.VerifyOptions.{VerifyOptions}
 use Rattle.outside.specs.Faults.{Rose}
 use Rattle.outside.specs.Files.{FilesState, FilesFollow, with_name}
+use Rattle.stored_logs.specs.Stored.{AreStored}
+use Rattle.stored_logs.proofs.Storing.{kept_to}
 use Rattle.verdict.specs.Rule.{Rule}
+use Rattle.verdict.specs.Stored.{IsUnrefutedIn}
+use Rattle.verdict.specs.declared.stored.StoredLogs.{StoredLogs}
 use Rattle.ir_core.specs.declared.module.Module.{Module as SourceModule}
 use Rattle.run_text.specs.Runs.{IsRun, IsReadAs as IsModuleReadAs}
 use Rattle.stored_logs.specs.declared.rechecked.Rechecked.{Rechecked}
@@ -23,7 +27,7 @@ use Rattle.alive_top.specs.Request.{AsksOne, with_names}
 use Rattle.alive_top.specs.Taken.{Takes, IsRuleText}
 use Rattle.alive_top.specs.Task.{Task, Verify, Optimise, Run, Recheck}
 use Rattle.alive_top.specs.Texts.{IsTextOf}
-use Rattle.alive_top.specs.Work.{Work, HasProofs, IsPrinted, IsVerifyWork, IsOptimiseWork, IsRunWork, IsRecheckWork}
+use Rattle.alive_top.specs.Work.{Work, IsPrinted, IsVerifyWork, IsOptimiseWork, IsRunWork, IsRecheckWork}
 
 -- ---- one file
 
@@ -159,9 +163,9 @@ verify_done old new rules options list work read verified = record {
   is_work = (list, read.holds, verified);
 }
 
-pub optimise_done : (old mid new : FilesState) (rules source : List ℕ) (options : OptimiseOptions) (list : List Rule) (work : Work)
+pub optimise_done : (old mid new : FilesState) (rules source : List ℕ) (options : OptimiseOptions) (list : List Rule) (work : Work) {report : List ℕ}
     → FilesFollow old mid → IsReadAs old mid (record { name = rules; kind = RuleFile }) (λ text. IsRuleText text list)
-    → (read : IsReadAs mid new (record { name = source; kind = ModuleFile }) (λ text. IsPrinted list options text work.text work.report work.table))
+    → (read : IsReadAs mid new (record { name = source; kind = ModuleFile }) (λ text. IsPrinted list options text work.text report work.table))
     → IsOptimiseWork list options read.text work → IsDoneFor old new (Optimise rules source None options) work
 optimise_done old mid new rules source options list work follow first read written =
     let one : File = record { name = rules; kind = RuleFile } in
@@ -303,10 +307,11 @@ module _ (old mid new : FilesState) (rules source logs : List ℕ) (options : Op
     has_fault = (list, read.is_rules, (m, read.is_module), h.holds);
   }
 
-  pub by_logs_done : (work : Work) → IsReadAs mid new (record { name = logs; kind = LogFile }) (HasProofs list) → IsOptimiseWork list options read.bytes work → IsDoneFor old new (Optimise rules source (Some logs) options) work
-  by_logs_done work third written = record {
+  pub by_logs_done : (work : Work) (stored : StoredLogs) → IsReadAs mid new (record { name = logs; kind = LogFile }) (λ text. AreStored list text stored) → All (IsUnrefutedIn stored) work.table
+      → IsOptimiseWork list options read.bytes work → IsDoneFor old new (Optimise rules source (Some logs) options) work
+  by_logs_done work stored third unrefuted written = record {
     asks = asks_three third.asks;
     texts = read.text ∷ read.bytes ∷ third.text ∷ [];
     taken = ((read.is_text, (list, read.is_rules)), ((read.is_bytes, (m, read.is_module)), ((text_before old mid (record { name = logs; kind = LogFile }) third.text read.follow third.is_text, tt), tt)));
-    is_work = (list, read.is_rules, third.holds, written);
+    is_work = (list, read.is_rules, kept_to list third.text stored work.table third.holds unrefuted, written);
   }

@@ -1,5 +1,5 @@
 -- What follows of how a call ends.
-use Rattle.std.proofs.Common.{◌≡◌, ℕ, zero, suc, ◌++◌, ◌⊎◌, Bool, true, false, IsTrue, ◌↔◌, List, [], ◌∷◌, Option, Some, None, refl, sym, subst, ap, ◌∙◌, inl, inr, ⊎_elim, append-nil, arith, length}
+use Rattle.std.proofs.Common.{◌≡◌, ℕ, zero, suc, ◌⊎◌, Bool, true, false, IsTrue, ◌↔◌, List, [], ◌∷◌, Option, Some, None, refl, sym, subst, ap, ◌∙◌, inl, inr, ⊎_elim, arith, length}
 use Rattle.std.specs.Prelude.{slice_get, cond, codes, option_map, MatchBool, ◌<◌}
 use Rattle.refusal.specs.declared.fault.Fault.{Fault}
 use Rattle.rule_reader.specs.Laws.{TextsHaveOneListOrFault}
@@ -7,11 +7,12 @@ use Rattle.stored_logs.specs.LogFaultKind.{LogFaultKind}
 use Rattle.stored_logs.specs.LogFaultKind.TheVariants.{TooLong}
 use Rattle.stored_logs.specs.Laws.{TextsHaveProofsOrFault}
 use Rattle.stored_logs.specs.Faults.{IsFault, of_text}
+use Rattle.stored_logs.specs.Stored.{AreKeptTo}
 use Rattle.proof_text.specs.Faults.{too_long}
 use Rattle.stored_logs.specs.Limits.{most_bytes}
 use Rattle.std.specs.List.{AllZip}
 use Rattle.std.proofs.lemmas.Option.{slice_get_within}
-use Rattle.outside.specs.Faults.{Rose}
+use Rattle.outside.specs.Faults.{Rose, raised}
 use Rattle.outside.specs.Files.{FilesState}
 use Rattle.outside.specs.Sink.{SinkState, Appends}
 use Rattle.verdict.specs.Rule.{Rule}
@@ -43,7 +44,7 @@ use Rattle.alive_top.specs.Taken.{Takes, Refuses, IsRuleText}
 use Rattle.alive_top.specs.Task.{Task, Verify, Optimise, Run, Load, Recheck, Asks}
 use Rattle.alive_top.specs.Texts.{IsTextOf, AreTexts, AreTaken, OfSomeTexts, OfToldTexts, TakesEach, HasBadFile}
 use Rattle.alive_top.specs.Work.{Work, IsWorkOf, IsVerdictWork, IsProofWork, IsOptimiseWork, IsRecheckWork}
-use Rattle.alive_top.specs.Written.{WroteSome}
+use Rattle.alive_top.specs.Written.{Reports, WroteAll, WroteSome}
 use Rattle.alive_top.proofs.Asking.{asks_one}
 use Rattle.alive_top.proofs.Limits.{taken_is_told, taken_told, told_is_text, told_or_long}
 use Rattle.alive_top.proofs.Taking.{TakenAreNotRefused}
@@ -231,7 +232,7 @@ bad_logs_no_work lists law (Run file name arguments options) texts work is h = h
 bad_logs_no_work lists law (Verify file options) texts work is h = h.1
 bad_logs_no_work lists law (Optimise file other (Some logs) options) (rules ∷ source ∷ proofs ∷ []) work is h =
     let same : h.1.0 ≡ is.0 = lists.one_list rules h.1.0 is.0 h.1.1.file is.1.file in
-    law.not_both is.0 proofs is.2.0 h.0 is.2.1 (subst (λ (list : List Rule). IsFault list proofs h.0) same h.1.3)
+    law.not_both is.0 proofs is.2.proofs h.0 is.2.text_is (subst (λ (list : List Rule). IsFault list proofs h.0) same h.1.3)
 bad_logs_no_work lists law (Optimise file other (Some logs) options) [] work is h = h.1
 bad_logs_no_work lists law (Optimise file other (Some logs) options) (x ∷ []) work is h = h.1
 bad_logs_no_work lists law (Optimise file other (Some logs) options) (x ∷ y ∷ []) work is h = h.1
@@ -267,16 +268,18 @@ no_bad_list words task asks (inr bad) = good_list (command_and_rows words) asks.
 
 -- ---- what a task has done
 
-nothing_more : (told : Option (List ℕ)) → option_map (λ bytes. bytes ++ []) told ≡ told
-nothing_more None = refl
-nothing_more (Some bytes) = ap (λ (b : List ℕ). Some b) (append-nil bytes)
-
-some_failed : (out out' err err' : SinkState) (text report : List ℕ) → WroteSome out out' err err' text report → Rose out.faults out'.faults ⊎ Rose err.faults err'.faults
+some_failed : (out out' err err' : SinkState) (text : List ℕ) (report : Option (List ℕ)) → WroteSome out out' err err' text report → Rose out.faults out'.faults ⊎ Rose err.faults err'.faults
 some_failed out out' err err' text report (inl w) = inl w.0.0
-some_failed out out' err err' text report (inr w) = inr w.1.0
+some_failed out out' err err' text (Some report) (inr w) = inr w.1.0
+some_failed out out' err err' text None (inr w) = absurd w.1
+
+-- out got one put, whether or not all was written
+some_put : (out out' err err' : SinkState) (text : List ℕ) (report : Option (List ℕ)) → WroteSome out out' err err' text report → out'.puts ≡ option_map raised out.puts
+some_put out out' err err' text report (inl w) = w.0.1.2.1
+some_put out out' err err' text report (inr w) = w.0.0.1
 
 module _ (out out' err err' : SinkState) (ended : Ended) (work : Work) (table : ended.table ≡ work.table) (proofs : ended.proofs ≡ work.proofs) (status : work.status ≡ ended.status)
-    (wrote : Appends out out' work.text) (report : Appends err err' work.report) where
+    (wrote : Appends out out' work.text) (report : Reports err err' work.report) where
   all_by : (all : Bool) → ended.status ≡ cond all Done NotAll → (ended.status ≡ Done) ↔ IsTrue all
   all_by true e = (λ _. refl, λ _. e)
   all_by false e = (λ d. absurd (let f : Done ≡ NotAll = sym d ∙ e in cc), λ t. absurd cc)
@@ -326,6 +329,7 @@ module _ (out out' err err' : SinkState) (ended : Ended) (work : Work) (table : 
       → HasOptimised text source options out out' err err' ended
   has_optimised text source options list is w =
       let prints = w.prints.1 in
+      let reported : Appends err err' w.report = subst (Reports err err') w.has_report report in
       record {
         rules = list;
         file = is;
@@ -335,12 +339,13 @@ module _ (out out' err err' : SinkState) (ended : Ended) (work : Work) (table : 
         limited = prints.limited;
         optimised = subst (λ (t : List VerdictRow). IsOptimised list options source prints.new t prints.counts prints.limited) (sym table) prints.optimised;
         wrote = subst (λ (t : List ℕ). Appends out out' t) prints.out_is wrote;
-        report = subst (λ (t : List ℕ). Appends err err' t) (prints.report_is ∙ ap (λ (t : List VerdictRow). optimised_report list t prints.new prints.counts prints.limited) (sym table)) report;
+        report = subst (λ (t : List ℕ). Appends err err' t) (prints.report_is ∙ ap (λ (t : List VerdictRow). optimised_report list t prints.new prints.counts prints.limited) (sym table)) reported;
         no_proofs = proofs ∙ w.no_proofs;
         status = sym status ∙ w.status;
       }
 
   has_done : (task : Task) (texts : List (List ℕ)) → IsWorkOf task texts work → HasDone task texts out out' err err' ended
+  unfolding has_optimised
   has_done (Verify file options) (rules ∷ []) is = has_either rules options is.0 is.1 options.logs is.2
   has_done (Verify file options) [] is = absurd is
   has_done (Verify file options) (x ∷ y ∷ more) is = absurd is
@@ -348,23 +353,26 @@ module _ (out out' err err' : SinkState) (ended : Ended) (work : Work) (table : 
   has_done (Optimise file other None options) [] is = absurd is
   has_done (Optimise file other None options) (x ∷ []) is = absurd is
   has_done (Optimise file other None options) (x ∷ y ∷ z ∷ more) is = absurd is
-  has_done (Optimise file other (Some logs) options) (rules ∷ source ∷ proofs ∷ []) is = has_optimised rules source options is.0 is.1 is.3
+  has_done (Optimise file other (Some logs) options) (rules ∷ source ∷ proofs ∷ []) is = record {
+    optimised = has_optimised rules source options is.0 is.1 is.3;
+    kept_to = subst (λ (t : List VerdictRow). AreKeptTo is.0 proofs t) (sym table) is.2;
+  }
   has_done (Optimise file other (Some logs) options) [] is = absurd is
   has_done (Optimise file other (Some logs) options) (x ∷ []) is = absurd is
   has_done (Optimise file other (Some logs) options) (x ∷ y ∷ []) is = absurd is
   has_done (Optimise file other (Some logs) options) (x ∷ y ∷ z ∷ w ∷ more) is = absurd is
   has_done (Run file name arguments options) (source ∷ []) is =
-      let silent : Appends err err' [] = subst (λ (t : List ℕ). Appends err err' t) is.report report in
-      record { line = work.text; is_run = is.runs; wrote = wrote; silent = silent.0 ∙ nothing_more err.written; no_proofs = proofs ∙ is.no_proofs; status = sym status ∙ is.status }
+      let silent : err' ≡ err = subst (Reports err err') is.report report in
+      record { line = work.text; is_run = is.runs; wrote = wrote; silent = silent; no_proofs = proofs ∙ is.no_proofs; status = sym status ∙ is.status }
   has_done (Run file name arguments options) [] is = absurd is
   has_done (Run file name arguments options) (x ∷ y ∷ more) is = absurd is
   has_done (Load number) [] is =
-      let silent : Appends err err' [] = subst (λ (t : List ℕ). Appends err err' t) is.report report in
+      let silent : err' ≡ err = subst (Reports err err') is.report report in
       record {
         text = work.text;
         loaded = subst (λ (t : List VerdictRow). IsLoaded number work.text t) (sym table) is.loaded;
         wrote = wrote;
-        silent = silent.0 ∙ nothing_more err.written;
+        silent = silent;
         no_proofs = proofs ∙ is.no_proofs;
         status = sym status ∙ is.status;
       }
@@ -391,7 +399,7 @@ module _ (words : List (List ℕ)) (files files' : FilesState) (out out' err err
 
   -- the work was done and written, with this status
   written_at : (task : Task) (status : Status) → EndsWith task files files' out out' err err' ended status → IsDone status
-      → Worked task files files' ended (λ work. (work.status ≡ status) × Appends out out' work.text × Appends err err' work.report)
+      → Worked task files files' ended (λ work. (work.status ≡ status) × WroteAll out out' err err' work.text work.report)
   written_at task Done h d = h
   written_at task NotAll h d = h
   written_at task status h d = absurd d
@@ -400,7 +408,7 @@ module _ (words : List (List ℕ)) (files files' : FilesState) (out out' err err
       → OfSomeTexts files task (λ texts. HasDone task texts out out' err err' ended)
   done_by task (inl h) d =
       let w = written_at task ended.status h d in
-      (w.texts, taken_are_texts files (files_of task) w.texts w.taken, has_done out out' err err' ended w.work w.table w.proofs w.wrote.0 w.wrote.1 w.wrote.2 task w.texts w.is_work)
+      (w.texts, taken_are_texts files (files_of task) w.texts w.taken, has_done out out' err err' ended w.work w.table w.proofs w.wrote.0 w.wrote.1.0 w.wrote.1.1 task w.texts w.is_work)
   done_by task (inr n) d = absurd (no_task_not_worked ended.status n (done_is_worked ended.status d))
 
   pub done : WordsSayOneCommand → Ends words files files' out out' err err' ended → (task : Task) → Asks words task → IsDone ended.status
@@ -527,6 +535,16 @@ module _ (words : List (List ℕ)) (files files' : FilesState) (out out' err err
   pub read_fault : Ends words files files' out out' err err' ended → ended.status ≡ ReadFault → Rose files.faults files'.faults
   read_fault (inl e) r = absurd (let h : EndsAtWords words out out' err err' ended ReadFault = subst (EndsAtWords words out out' err err' ended) r e.1 in h)
   read_fault (inr e) r = let h : EndsWith e.0 files files' out out' err err' ended ReadFault = subst (EndsWith e.0 files files' out out' err err' ended) r e.2 in h.1.rose
+
+  put_at : (task : Task) (status : Status) → EndsWith task files files' out out' err err' ended status → IsWorked status → out'.puts ≡ option_map raised out.puts
+  put_at task Done h w = h.wrote.1.0.0.1
+  put_at task NotAll h w = h.wrote.1.0.0.1
+  put_at task WriteFault h w = some_put out out' err err' h.work.text h.work.report h.wrote
+  put_at task status h w = absurd w
+
+  pub one_put : Ends words files files' out out' err err' ended → IsWorked ended.status → out'.puts ≡ option_map raised out.puts
+  one_put (inl e) w = absurd (no_task_not_worked ended.status (no_task ended.status e.1) w)
+  one_put (inr e) w = put_at e.0 ended.status e.2 w
 
   pub write_fault : Ends words files files' out out' err err' ended → ended.status ≡ WriteFault → Rose out.faults out'.faults ⊎ Rose err.faults err'.faults
   write_fault (inl e) r = absurd (let h : EndsAtWords words out out' err err' ended WriteFault = subst (EndsAtWords words out out' err err' ended) r e.1 in h)

@@ -1,5 +1,5 @@
 -- The answers of the steps of a command's work.
-use Rattle.std.specs.Prelude.{◌≡◌, ℕ, ◌⊎◌, List, Result, Ok, Err}
+use Rattle.std.specs.Prelude.{◌≡◌, ℕ, ◌⊎◌, List, option_map, Result, Ok, Err}
 use Rattle.outside.specs.Faults.{Rose}
 use Rattle.outside.specs.Files.{FilesState}
 use Rattle.alive_top.specs.declared.hindrance.Hindrance.{Hindrance}
@@ -74,7 +74,7 @@ FileOf old new file P Misfits (Err refusal) = FileRefused old new file Misfits r
 
 -- what is written, without where it lies in memory
 abbrev pub seen_work : Stored → Work
-seen_work work = record { text = work.text.items; report = work.report.items; table = work.table; proofs = work.proofs; status = work.status }
+seen_work work = record { text = work.text.items; report = option_map (λ report. report.items) work.report; table = work.table; proofs = work.proofs; status = work.status }
 
 -- why the work of a task was not done
 abbrev pub RefusedFor : FilesState → FilesState → Task → Hindrance → Type 0

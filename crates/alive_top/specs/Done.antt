@@ -1,5 +1,5 @@
 -- What a task has done where it was done and written.
-use Rattle.std.specs.Prelude.{◌≡◌, ◌≤◌, ◌↔◌, ℕ, IsTrue, List, [], ◌∷◌, length, Bool, MatchBool}
+use Rattle.std.specs.Prelude.{◌≡◌, ◌≤◌, ◌↔◌, ℕ, IsTrue, List, [], ◌∷◌, None, Some, length, Bool, MatchBool}
 use Rattle.outside.specs.Sink.{SinkState, Appends}
 use Rattle.command_line.specs.declared.command.OptimiseOptions.{OptimiseOptions}
 use Rattle.command_line.specs.declared.command.RecheckOptions.{RecheckOptions}
@@ -18,6 +18,7 @@ use Rattle.stored_logs.specs.declared.proved.Proved.{Proved}
 use Rattle.stored_logs.specs.declared.rechecked.Rechecked.{Rechecked}
 use Rattle.stored_logs.specs.Proved.{IsProved}
 use Rattle.stored_logs.specs.Rechecked.{IsRechecked}
+use Rattle.stored_logs.specs.Stored.{AreKeptTo}
 use Rattle.alive_top.specs.declared.status.Ended.{Ended}
 use Rattle.alive_top.specs.declared.status.Status.TheVariants.{Done}
 use Rattle.load_text.specs.RuleText.{IsRuleText}
@@ -74,12 +75,18 @@ pub record HasOptimised (text source : List ℕ) (options : OptimiseOptions) (ou
   pub no_proofs : ended.proofs ≡ []
   pub status : ended.status ≡ Done
 
+-- With proofs, which are of the rules and have no fault, it did the same: and no set that a `Budget` of the table keeps
+-- is refuted by the log that they hold for its rule and typing.
+pub record HasOptimisedByLogs (text source proofs : List ℕ) (options : OptimiseOptions) (out out' err err' : SinkState) (ended : Ended) : Type 0 where
+  pub optimised : HasOptimised text source options out out' err err' ended
+  pub kept_to : AreKeptTo optimised.rules proofs ended.table
+
 -- `run` wrote how far the run of the named function of the module of a text came, or what it returned.
 pub record HasRun (text name : List ℕ) (arguments : List (List ℕ)) (options : RunOptions) (out out' err err' : SinkState) (ended : Ended) : Type 0 where
   pub line : List ℕ
   pub is_run : IsRun text name arguments options.blocks line
   pub wrote : Appends out out' line
-  pub silent : err'.written ≡ err.written
+  pub silent : err' ≡ err
   pub no_proofs : ended.proofs ≡ []
   pub status : ended.status ≡ Done
 
@@ -88,16 +95,18 @@ pub record HasLoaded (number : ℕ) (out out' err err' : SinkState) (ended : End
   pub text : List ℕ
   pub loaded : IsLoaded number text ended.table
   pub wrote : Appends out out' text
-  pub silent : err'.written ≡ err.written
+  pub silent : err' ≡ err
   pub no_proofs : ended.proofs ≡ []
   pub status : ended.status ≡ Done
 
--- What the task has done on the texts of its files. Of `optimise` it says the same whatever proofs there are.
+-- What the task has done on the texts of its files.
 abbrev pub HasDone : Task → List (List ℕ) → SinkState → SinkState → SinkState → SinkState → Ended → Type 0
 HasDone (Verify file options) (rules ∷ []) out out' err err' ended =
     MatchBool options.logs (HasProved rules options out out' ended) (HasVerified rules options out out' ended)
-HasDone (Optimise file file' logs options) (rules ∷ source ∷ proofs) out out' err err' ended =
+HasDone (Optimise file file' None options) (rules ∷ source ∷ []) out out' err err' ended =
     HasOptimised rules source options out out' err err' ended
+HasDone (Optimise file file' (Some logs) options) (rules ∷ source ∷ proofs ∷ []) out out' err err' ended =
+    HasOptimisedByLogs rules source proofs options out out' err err' ended
 HasDone (Run file name arguments options) (source ∷ []) out out' err err' ended =
     HasRun source name arguments options out out' err err' ended
 HasDone (Load number) [] out out' err err' ended = HasLoaded number out out' err err' ended

@@ -1,7 +1,7 @@
 -- How each status comes: what was read, what was written and which counts of faults rose.
 use Rattle.std.specs.Prelude.{◌≡◌, ℕ, false, ◌⊎◌, List, []}
 use Rattle.outside.specs.Files.{FilesState}
-use Rattle.outside.specs.Sink.{SinkState, Appends}
+use Rattle.outside.specs.Sink.{SinkState}
 use Rattle.command_line.specs.Usage.{HasBadList, refusal_of_list}
 use Rattle.command_line.specs.Words.{are_taken}
 use Rattle.alive_top.specs.declared.status.Ended.{Ended}
@@ -16,7 +16,7 @@ use Rattle.alive_top.specs.Request.{AsksNone, AsksAll}
 use Rattle.alive_top.specs.Task.{Task, Asks}
 use Rattle.alive_top.specs.Texts.{AreTaken}
 use Rattle.alive_top.specs.Work.{Work, IsWorkOf}
-use Rattle.alive_top.specs.Written.{Took, WroteSome}
+use Rattle.alive_top.specs.Written.{Took, WroteAll, WroteSome}
 
 -- The work of the task was done: all its files were read and hold what they are read for, the table and the proofs are
 -- the work's, and its text and report were written so.
@@ -51,9 +51,9 @@ EndsWith task files files' out out' err err' ended Argument =
 EndsWith task files files' out out' err err' ended LogRefused =
     (fault : Fault LogFaultKind) × LogsAreRefused files files' task fault × Refused out out' err err' ended (logs_line fault)
 EndsWith task files files' out out' err err' ended Done =
-    Worked task files files' ended (λ work. (work.status ≡ Done) × Appends out out' work.text × Appends err err' work.report)
+    Worked task files files' ended (λ work. (work.status ≡ Done) × WroteAll out out' err err' work.text work.report)
 EndsWith task files files' out out' err err' ended NotAll =
-    Worked task files files' ended (λ work. (work.status ≡ NotAll) × Appends out out' work.text × Appends err err' work.report)
+    Worked task files files' ended (λ work. (work.status ≡ NotAll) × WroteAll out out' err err' work.text work.report)
 EndsWith task files files' out out' err err' ended WriteFault =
     Worked task files files' ended (λ work. WroteSome out out' err err' work.text work.report)
 EndsWith task files files' out out' err err' ended NoMemory =

@@ -1,13 +1,13 @@
 -- The puts of lines and texts, and the statuses that they leave.
 use Rattle.std.specs.Prelude.{◌≡◌, ◌⊎◌, ℕ, List}
-use Rattle.outside.specs.Sink.{SinkState, Appends}
+use Rattle.outside.specs.Sink.{SinkState}
 use Rattle.alive_top.specs.declared.hindrance.Hindrance.{Hindrance}
 use Rattle.alive_top.specs.declared.hindrance.Hindrance.TheVariants.{Rules, Module, Argument, Logs, Read, Memory}
 use Rattle.alive_top.specs.declared.status.Status.{Status}
 use Rattle.alive_top.specs.declared.status.Status.TheVariants as statuses
 use Rattle.error_lines.specs.Lines.{rules_line, module_line, read_fault_line, argument_line, logs_line, memory_line}
 use Rattle.alive_top.specs.Work.{Work}
-use Rattle.alive_top.specs.Written.{Took, WroteSome}
+use Rattle.alive_top.specs.Written.{Took, WroteAll, WroteSome}
 
 -- the line was put, and this is the status
 abbrev pub Says : SinkState → SinkState → Status → List ℕ → Status → Type 0
@@ -29,5 +29,5 @@ RefusedAs Memory err err' given = SaysMemory err err' given
 -- how the writing of a work ends
 abbrev pub WrittenAs : Work → SinkState → SinkState → SinkState → SinkState → Status → Type 0
 WrittenAs work out out' err err' given =
-    ((given ≡ work.status) × Appends out out' work.text × Appends err err' work.report)
+    ((given ≡ work.status) × WroteAll out out' err err' work.text work.report)
     ⊎ ((given ≡ statuses.WriteFault) × WroteSome out out' err err' work.text work.report)

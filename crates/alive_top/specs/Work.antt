@@ -1,5 +1,5 @@
 -- The work of each task: what is written, the verdicts that are handed back, and the status.
-use Rattle.std.specs.Prelude.{◌≡◌, ℕ, ◌≤◌, List, [], ◌∷◌, None, Some, length, if◌then◌else◌, MatchBool}
+use Rattle.std.specs.Prelude.{◌≡◌, ℕ, ◌≤◌, List, [], ◌∷◌, Option, None, Some, length, if◌then◌else◌, MatchBool}
 use Rattle.command_line.specs.declared.command.OptimiseOptions.{OptimiseOptions}
 use Rattle.command_line.specs.declared.command.RecheckOptions.{RecheckOptions}
 use Rattle.command_line.specs.declared.command.RunOptions.{RunOptions}
@@ -15,20 +15,19 @@ use Rattle.verdict.specs.Verified.{IsVerified}
 use Rattle.stored_logs.specs.declared.proved.Proved.{Proved}
 use Rattle.stored_logs.specs.declared.rechecked.Rechecked.{Rechecked}
 use Rattle.stored_logs.specs.declared.refutation.Refutation.{Refutation}
-use Rattle.proof_text.specs.declared.proof.Proof.{Proof}
-use Rattle.stored_logs.specs.Faults.{IsTextOfGood}
 use Rattle.stored_logs.specs.Proved.{IsProved}
 use Rattle.stored_logs.specs.Rechecked.{IsRechecked}
+use Rattle.stored_logs.specs.Stored.{AreKeptTo}
 use Rattle.alive_top.specs.declared.status.Status.{Status}
 use Rattle.alive_top.specs.declared.status.Status.TheVariants.{Done, NotAll}
 use Rattle.load_text.specs.RuleText.{IsRuleText}
 use Rattle.alive_top.specs.Task.{Task, Verify, Optimise, Run, Load, Recheck}
 
--- a text for the output, a report for the error stream, a table of verdicts, the proofs beside it, and the status once
--- both are written
+-- a text for the output, a report for the error stream if the task has one, a table of verdicts, the proofs beside it,
+-- and the status once both are written
 pub record Work : Type 0 where
   pub text : List ℕ
-  pub report : List ℕ
+  pub report : Option (List ℕ)
   pub table : List Row
   pub proofs : List Refutation
   pub status : Status
@@ -38,7 +37,7 @@ pub record IsVerdictWork (rules : List Rule) (options : VerifyOptions) (work : W
   pub verified : Verified
   pub right : IsVerified rules options.widths options.conflicts verified
   pub text : work.text ≡ verified.text.items
-  pub report : work.report ≡ []
+  pub report : work.report ≡ None
   pub table : work.table ≡ verified.table
   pub no_proofs : work.proofs ≡ []
   pub status : work.status ≡ (if verified.all_admitted then Done else NotAll)
@@ -49,7 +48,7 @@ pub record IsProofWork (rules : List Rule) (options : VerifyOptions) (work : Wor
   pub proved : Proved
   pub right : IsProved rules options.widths options.conflicts proved
   pub text : work.text ≡ proved.text.items
-  pub report : work.report ≡ []
+  pub report : work.report ≡ None
   pub table : work.table ≡ proved.table
   pub proofs : work.proofs ≡ proved.refutations
   pub status : work.status ≡ (if proved.all_admitted then Done else NotAll)
@@ -62,7 +61,7 @@ pub record IsRecheckWork (rules : List Rule) (proofs : List ℕ) (options : Rech
   pub rechecked : Rechecked
   pub right : IsRechecked rules proofs options.conflicts rechecked
   pub text : work.text ≡ rechecked.text.items
-  pub report : work.report ≡ []
+  pub report : work.report ≡ None
   pub table : work.table ≡ rechecked.table
   pub no_proofs : work.proofs ≡ []
   pub status : work.status ≡ (if rechecked.all_admitted then Done else NotAll)
@@ -71,21 +70,19 @@ pub record IsRecheckWork (rules : List Rule) (proofs : List ℕ) (options : Rech
 abbrev pub IsPrinted : List Rule → OptimiseOptions → List ℕ → List ℕ → List ℕ → List Row → Type 0
 IsPrinted rules options source out report table = (length source ≤ most_bytes) × Prints rules options source out report table
 
--- the text is of proofs of the rules, without a fault
-abbrev pub HasProofs : List Rule → List ℕ → Type 0
-HasProofs rules text = (proofs : List Proof) × IsTextOfGood rules text proofs
-
 -- `optimise` writes the module that may stand in the place of the one read, and a report. The verdicts that it asked
 -- for are the table.
 pub record IsOptimiseWork (rules : List Rule) (options : OptimiseOptions) (source : List ℕ) (work : Work) : Type 0 where
-  pub prints : IsPrinted rules options source work.text work.report work.table
+  pub report : List ℕ
+  pub has_report : work.report ≡ Some report
+  pub prints : IsPrinted rules options source work.text report work.table
   pub no_proofs : work.proofs ≡ []
   pub status : work.status ≡ Done
 
 -- `run` writes how far the run of the named function came, or what it returned.
 pub record IsRunWork (source name : List ℕ) (arguments : List (List ℕ)) (options : RunOptions) (work : Work) : Type 0 where
   pub runs : IsRun source name arguments options.blocks work.text
-  pub report : work.report ≡ []
+  pub report : work.report ≡ None
   pub table : work.table ≡ []
   pub no_proofs : work.proofs ≡ []
   pub status : work.status ≡ Done
@@ -94,7 +91,7 @@ pub record IsRunWork (source name : List ℕ) (arguments : List (List ℕ)) (opt
 -- for are the table.
 pub record IsLoadWork (number : ℕ) (work : Work) : Type 0 where
   pub loaded : IsLoaded number work.text work.table
-  pub report : work.report ≡ []
+  pub report : work.report ≡ None
   pub no_proofs : work.proofs ≡ []
   pub status : work.status ≡ Done
 
@@ -104,7 +101,7 @@ IsWorkOf (Verify file options) (rules ∷ []) work = (list : List Rule) × IsRul
 IsWorkOf (Optimise file file' None options) (rules ∷ source ∷ []) work =
     (list : List Rule) × IsRuleText rules list × IsOptimiseWork list options source work
 IsWorkOf (Optimise file file' (Some logs) options) (rules ∷ source ∷ proofs ∷ []) work =
-    (list : List Rule) × IsRuleText rules list × HasProofs list proofs × IsOptimiseWork list options source work
+    (list : List Rule) × IsRuleText rules list × AreKeptTo list proofs work.table × IsOptimiseWork list options source work
 IsWorkOf (Run file name arguments options) (source ∷ []) work = IsRunWork source name arguments options work
 IsWorkOf (Load number) [] work = IsLoadWork number work
 IsWorkOf (Recheck file file' options) (rules ∷ proofs ∷ []) work = (list : List Rule) × IsRuleText rules list × IsRecheckWork list proofs options work

@@ -1,16 +1,30 @@
 -- What was written to a sink whose puts may fail.
-use Rattle.std.specs.Prelude.{◌≡◌, ◌⊎◌, ℕ, List}
+use Rattle.std.specs.Prelude.{◌≡◌, ◌⊎◌, ℕ, List, Option, None, Some}
 use Rattle.outside.specs.Faults.{Rose}
 use Rattle.outside.specs.Sink.{SinkState, Appends, AppendsPrefix}
 
--- the sink failed, and gained a prefix of the text
+-- the sink failed at its one put, and gained a prefix of the text
 abbrev pub Failed : SinkState → SinkState → List ℕ → Type 0
 Failed old new text = Rose old.faults new.faults × AppendsPrefix old new text
 
--- the sink gained the line, or a prefix of it where its count of faults rose
+-- by one put the sink gained the line, or a prefix of it where its count of faults rose
 abbrev pub Took : SinkState → SinkState → List ℕ → Type 0
 Took old new line = Appends old new line ⊎ Failed old new line
 
--- the text went to out, and then the report to err, as far as neither failed
-abbrev pub WroteSome : SinkState → SinkState → SinkState → SinkState → List ℕ → List ℕ → Type 0
-WroteSome out out' err err' text report = (Failed out out' text × (err' ≡ err)) ⊎ (Appends out out' text × Failed err err' report)
+-- one put gave the report to the sink, also where it is empty; without a report there was none
+abbrev pub Reports : SinkState → SinkState → Option (List ℕ) → Type 0
+Reports old new None = new ≡ old
+Reports old new (Some report) = Appends old new report
+
+-- there is a report, and the sink failed at its put
+abbrev pub FailsAtReport : SinkState → SinkState → Option (List ℕ) → Type 0
+FailsAtReport old new None = ⊥
+FailsAtReport old new (Some report) = Failed old new report
+
+-- the text went to out, whole, by one put, and then the report to err
+abbrev pub WroteAll : SinkState → SinkState → SinkState → SinkState → List ℕ → Option (List ℕ) → Type 0
+WroteAll out out' err err' text report = Appends out out' text × Reports err err' report
+
+-- out failed at its one put, and err got none; or err failed behind it
+abbrev pub WroteSome : SinkState → SinkState → SinkState → SinkState → List ℕ → Option (List ℕ) → Type 0
+WroteSome out out' err err' text report = (Failed out out' text × (err' ≡ err)) ⊎ (Appends out out' text × FailsAtReport err err' report)

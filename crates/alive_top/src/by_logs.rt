@@ -5,12 +5,12 @@ ghost use Rattle.command_line.specs.Limits.{most_conflicts, most_steps};
 ghost use Rattle.outside.specs.Files.{FilesFollow};
 ghost use Rattle.rule_reader.specs.Checks.{AreDistinct};
 ghost use Rattle.run_text.specs.Runs.{IsReadAs};
+ghost use Rattle.stored_logs.specs.Stored.{AreStored};
 ghost use Rattle.strategy.specs.Ready.{AreReady};
 ghost use Rattle.alive_top.specs.Answers.{Fits, MisfitsRules, TextOf, FileOf, TaskOf};
 ghost use Rattle.alive_top.specs.File.{Source, Logs};
 ghost use Rattle.alive_top.specs.Optimised.{IsReady};
 ghost use Rattle.alive_top.specs.Task.{Optimise};
-ghost use Rattle.alive_top.specs.Work.{HasProofs};
 
 use crate::hindrance::Hindrance;
 use crate::optimised::{optimise_module, read_source};
@@ -21,10 +21,9 @@ use ir_core::Module;
 use ir_reader::IrError;
 use lists::List;
 use outside::Files;
-use proof_reader::{RuleProof, read_logs};
 use rule_reader::Rule;
-use std::alloc::{AllocError, Global};
-use stored_logs::LogError;
+use std::alloc::Global;
+use stored_logs::{LogError, read_stored};
 use strategy::StoredLogs;
 
 /// The module of a text.
@@ -53,50 +52,36 @@ fn read_module_file<'a, F: Files>(
     module_of(alloc, bytes.as_slice())
 }
 
-/// The proofs of a text.
-fn proofs_of<'a>(
-    alloc: Global,
-    bytes: &[u8],
-    rules: &[Rule],
-) -> Result<Vec<RuleProof>, Hindrance<'a>>
+/// The logs of the proofs of a text.
+fn logs_of<'a>(alloc: Global, bytes: &[u8], rules: &[Rule]) -> Result<StoredLogs, Hindrance<'a>>
     requires ready { AreReady rules.now }
     requires few { length rules.now < 2 ^ 32 }
     requires names { AreDistinct (map (λ rule. rule.name) rules.now) }
-    ensures { TextOf Logs bytes.now (λ _. HasProofs rules.now bytes.now) (MisfitsRules rules.now bytes.now) result }
+    ensures { TextOf Logs bytes.now (AreStored rules.now bytes.now) (MisfitsRules rules.now bytes.now) result }
 {
-    match read_logs(alloc, rules, bytes) {
-        Ok(proofs) => Ok(proofs),
+    match read_stored(alloc, rules, bytes) {
+        Ok(stored) => Ok(stored),
         Err(LogError::Refused(fault)) => Err(Hindrance::Logs(fault)),
         Err(LogError::NoMemory) => Err(Hindrance::Memory),
     }
 }
 
-/// Reads proofs.
+/// Reads proofs, and stores their logs.
 fn read_logs_file<'a, F: Files>(
     alloc: Global,
     files: &mut F,
     name: &'a str,
     rules: &[Rule],
-) -> Result<Vec<RuleProof>, Hindrance<'a>>
+) -> Result<StoredLogs, Hindrance<'a>>
     requires ready { AreReady rules.now }
     requires few { length rules.now < 2 ^ 32 }
     requires names { AreDistinct (map (λ rule. rule.name) rules.now) }
     ensures answer { FileOf (F.state files.old) (F.state files.new) (record { name = name.now; kind = Logs })
-        (λ text _. HasProofs rules.now text) (λ text. MisfitsRules rules.now text) result }
+        (AreStored rules.now) (MisfitsRules rules.now) result }
     ensures follow { FilesFollow (F.state files.old) (F.state files.new) }
 {
     let bytes = read(alloc, files, name, stored_logs::MOST_BYTES + 1)?;
-    proofs_of(alloc, bytes.as_slice(), rules)
-}
-
-/// The logs of proofs, each for what it is of.
-fn logs_of(alloc: Global, proofs: Vec<RuleProof>) -> Result<StoredLogs, AllocError> {
-    let mut logs = StoredLogs::new(alloc);
-    for proof in proofs {
-        let RuleProof { rule, typing, log } = proof;
-        logs.insert(alloc, rule, &typing, log)?;
-    }
-    Ok(logs)
+    logs_of(alloc, bytes.as_slice(), rules)
 }
 
 /// The work of `optimise` with a file of proofs.
@@ -115,12 +100,11 @@ pub(crate) fn optimise_by_logs<'a, F: Files>(
 {
     let list = read_rule_file(alloc, files, rules)?;
     let module = read_module_file(alloc, files, source)?;
-    let proofs = read_logs_file(alloc, files, logs, list.as_slice())?;
-    let stored = logs_of(alloc, proofs)?;
+    let stored = read_logs_file(alloc, files, logs, list.as_slice())?;
     let optimised = optimise_module(alloc, &module, list.as_slice(), stored, options)?;
     Ok(Work {
         text: optimised.out,
-        report: optimised.report,
+        report: Some(optimised.report),
         table: optimised.table,
         proofs: List::new(alloc),
         status: Status::Done,

@@ -1,11 +1,12 @@
 //! What `optimise` writes of the text of a module by the rules of a file.
 
-ghost use Rattle.std.specs.Prelude.{◌≤◌, ◌<◌, ◌^◌, ℕ, List, length, IfOk, OnOk, IfErr};
+ghost use Rattle.std.specs.Prelude.{◌≤◌, ◌<◌, ◌^◌, ℕ, List, length, All, IfOk, OnOk, IfErr};
 ghost use Rattle.command_line.specs.Limits.{most_conflicts, most_steps};
 ghost use Rattle.ir_reader.specs.Text.{most_bytes};
 ghost use Rattle.ir_reader.specs.Faults.{IsFault, IsModuleText};
 ghost use Rattle.refusal.specs.Refusals.{IfRefused};
 ghost use Rattle.strategy.specs.Ready.{AreReady};
+ghost use Rattle.verdict.specs.Stored.{IsUnrefutedIn};
 ghost use Rattle.run_text.specs.Runs.{IsReadAs};
 ghost use Rattle.alive_top.specs.Optimised.{IsReady, Prints};
 
@@ -68,7 +69,8 @@ pub(crate) fn read_source(alloc: Global, bytes: &[u8]) -> Result<Module, IrError
     Ok(source)
 }
 
-/// What is written for a module that was read, whatever the logs are. The only error is want of memory.
+/// What is written for a module that was read, whatever the logs are; no set that a `Budget` keeps is refuted by the
+/// log that is stored for its pair. The only error is want of memory.
 pub(crate) fn optimise_module(
     alloc: Global,
     source: &Module,
@@ -81,8 +83,9 @@ pub(crate) fn optimise_module(
     requires few { length rules.now < 2 ^ 32 }
     requires conflicts { options.conflicts ≤ most_conflicts }
     requires steps { options.steps ≤ most_steps }
-    ensures { IfOk result (λ o. (bytes : List ℕ) → IsModuleText bytes source.now
+    ensures prints { IfOk result (λ o. (bytes : List ℕ) → IsModuleText bytes source.now
         → Prints rules.now options bytes o.out.items o.report.items o.table) }
+    ensures unrefuted { IfOk result (λ o. All (IsUnrefutedIn logs) o.table) }
 {
     // what the strategy gives has the forms that its text needs
     optimised_forms::formed_modules_numbers_fit();

@@ -75,7 +75,7 @@ pub(crate) fn recheck<'a, F: Files>(
     let rechecked = read_and_recheck(alloc, files, logs, list.as_slice(), options)?;
     Ok(Work {
         text: rechecked.text,
-        report: Vec::new(alloc),
+        report: None,
         table: rechecked.table,
         proofs: List::new(alloc),
         status: status_of(rechecked.all_admitted),

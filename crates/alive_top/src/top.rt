@@ -1,8 +1,8 @@
 //! The top call.
 
-ghost use Rattle.std.specs.Prelude.{◌≡◌, ◌⊎◌, map, string_bytes, [], MatchResult};
+ghost use Rattle.std.specs.Prelude.{◌≡◌, ◌⊎◌, map, option_map, string_bytes, [], MatchResult};
 ghost use Rattle.command_line.specs.Limits.{IsWithinLimits};
-ghost use Rattle.outside.specs.Faults.{Rose};
+ghost use Rattle.outside.specs.Faults.{Rose, raised};
 ghost use Rattle.outside.specs.Files.{FilesFollow};
 ghost use Rattle.outside.specs.Sink.{SinkFollows};
 ghost use Rattle.alive_top.specs.Answers.{seen_work};
@@ -75,7 +75,7 @@ fn refuse<E: Sink>(alloc: Global, refusal: Hindrance<'_>, err: &mut E) -> Status
     }
 }
 
-/// Writes the text, and then the report if there is one.
+/// Writes the text, and then the report if there is one: each by one put, also where it is empty.
 fn write<O: Sink, E: Sink>(work: &Work, out: &mut O, err: &mut E) -> Status
     ensures answer { WrittenAs (seen_work work.now) (O.state out.old) (O.state out.new) (E.state err.old) (E.state err.new) result }
     ensures out_follows { SinkFollows (O.state out.old) (O.state out.new) }
@@ -84,8 +84,10 @@ fn write<O: Sink, E: Sink>(work: &Work, out: &mut O, err: &mut E) -> Status
     if out.put(work.text.as_slice()).is_err() {
         return Status::WriteFault;
     }
-    if !work.report.is_empty() && err.put(work.report.as_slice()).is_err() {
-        return Status::WriteFault;
+    if let Some(report) = &work.report {
+        if err.put(report.as_slice()).is_err() {
+            return Status::WriteFault;
+        }
     }
     work.status
 }
@@ -198,8 +200,8 @@ pub fn alive<F: Files, O: Sink, E: Sink>(
     // With status 0 or 1 the task was done on texts of its files, and all verdicts handed back are honest. `verify`
     // wrote one for each rule and typing, or the proofs of those that are admitted, and `recheck` one for each proof: 0
     // says that all are. `optimise` wrote the module that the plain strategy gives by them, which may stand in the
-    // place of the one read, and a report; `run` an outcome of its function, and `load` five lines on a module of its
-    // number.
+    // place of the one read, and a report: given proofs, it left nothing undecided that the one of its rule and typing
+    // refutes. `run` wrote an outcome of its function, and `load` five lines on a module of its number.
     ensures done { (task : Task) → Asks (map string_bytes words.now.items) task → IsDone result.status
         → OfSomeTexts (F.state files.old) task (λ texts. HasDone task texts
         (O.state out.old) (O.state out.new) (E.state err.old) (E.state err.new) result) }
@@ -241,7 +243,9 @@ pub fn alive<F: Files, O: Sink, E: Sink>(
         → ¬ Rose (E.state err.old).faults (E.state err.new).faults
         → IsDoneOrNoMemory result.status }
 
-    // Where the work was not done, the output is as it was. What the files tell stays, and no count of faults falls.
+    // Where the work was done, the output got it by one put, and where it was not, the output is as it was. What the
+    // files tell stays, and no count of faults falls.
+    ensures one_put { IsWorked result.status → (O.state out.new).puts ≡ option_map raised (O.state out.old).puts }
     ensures untouched { ¬ IsWorked result.status → out.new ≡ out.old }
     ensures files_follow { FilesFollow (F.state files.old) (F.state files.new) }
     ensures out_follows { SinkFollows (O.state out.old) (O.state out.new) }

@@ -27,12 +27,12 @@ use std::alloc::{AllocError, Global};
 use stored_logs::Refutations;
 use verdict_core::Table;
 
-/// What a command writes: a text for the output, and a report. Beside them the verdicts, the proofs, and the status
-/// once both are written.
+/// What a command writes: a text for the output, and a report if the command has one. Beside them the verdicts, the
+/// proofs, and the status once both are written.
 #[derive(Drop)]
 pub(crate) struct Work {
     pub(crate) text: Vec<u8>,
-    pub(crate) report: Vec<u8>,
+    pub(crate) report: Option<Vec<u8>>,
     pub(crate) table: Table,
     pub(crate) proofs: Refutations,
     pub(crate) status: Status,
@@ -56,15 +56,15 @@ pub(crate) fn read<'a, F: Files>(
     }
 }
 
-/// The rules of a text. As many as no `u32` counts are refused as for want of memory; no text within 1 MiB has so many.
+/// The rules of a text.
 pub(crate) fn rules_of<'a>(alloc: Global, bytes: &[u8]) -> Result<Vec<Rule>, Hindrance<'a>>
     ensures text { TextOf Rules bytes.now (λ rules. IsRuleText bytes.now rules.items) Fits result }
     ensures ready { IfOk result (λ rules. AreReady rules.items) }
     ensures few { IfOk result (λ rules. length rules.items < 2 ^ 32) }
     ensures names { IfOk result (λ rules. AreDistinct (map (λ rule. rule.name) rules.items)) }
 {
+    load_text::rule_texts_are_small();
     match read_rules(alloc, bytes) {
-        Ok(rules) if rules.len() > u32::MAX as usize => Err(Hindrance::Memory),
         Ok(rules) => Ok(rules),
         Err(RuleError::Refused(fault)) => Err(Hindrance::Rules(fault)),
         Err(RuleError::NoMemory) => Err(Hindrance::Memory),
@@ -138,7 +138,7 @@ fn verified(alloc: Global, rules: &[Rule], options: &VerifyOptions) -> Result<Wo
     let verified = verdict::verify(alloc, rules, &options.widths, options.conflicts)?;
     Ok(Work {
         text: verified.text,
-        report: Vec::new(alloc),
+        report: None,
         table: verified.table,
         proofs: List::new(alloc),
         status: status_of(verified.all_admitted),
@@ -155,7 +155,7 @@ fn proved(alloc: Global, rules: &[Rule], options: &VerifyOptions) -> Result<Work
     let proved = stored_logs::prove_rules(alloc, rules, &options.widths, options.conflicts)?;
     Ok(Work {
         text: proved.text,
-        report: Vec::new(alloc),
+        report: None,
         table: proved.table,
         proofs: proved.refutations,
         status: status_of(proved.all_admitted),
@@ -224,7 +224,7 @@ fn optimise<'a, F: Files>(
     let optimised = read_and_optimise(alloc, files, source, list.as_slice(), options)?;
     Ok(Work {
         text: optimised.out,
-        report: optimised.report,
+        report: Some(optimised.report),
         table: optimised.table,
         proofs: List::new(alloc),
         status: Status::Done,
@@ -284,7 +284,7 @@ fn run<'a, F: Files>(
     let text = read_and_run(alloc, files, source, name, arguments, options.blocks)?;
     Ok(Work {
         text,
-        report: Vec::new(alloc),
+        report: None,
         table: List::new(alloc),
         proofs: List::new(alloc),
         status: Status::Done,
@@ -298,7 +298,7 @@ fn load(alloc: Global, number: u32) -> Result<Work, AllocError>
     let loaded = crate::loading::load(alloc, number)?;
     Ok(Work {
         text: loaded.text,
-        report: Vec::new(alloc),
+        report: None,
         table: loaded.table,
         proofs: List::new(alloc),
         status: Status::Done,

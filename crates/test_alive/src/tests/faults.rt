@@ -13,7 +13,7 @@ struct FaultyRow {
     row: Row,
 }
 
-const ROWS: [FaultyRow; 17] = [
+const ROWS: [FaultyRow; 20] = [
     FaultyRow {
         read: None,
         out: Some(FailingPut { number: 0, most: 3 }),
@@ -191,6 +191,46 @@ const ROWS: [FaultyRow; 17] = [
         err: None,
         row: Row {
             words: OPTIMISE,
+            rules: "",
+            source: "",
+            status: 0,
+            out: "",
+            err: "",
+        },
+    },
+    // a text and a report are put where they are empty too, and where the command has no report nothing is
+    FaultyRow {
+        read: None,
+        out: None,
+        err: Some(FailingPut { number: 0, most: 0 }),
+        row: Row {
+            words: OPTIMISE,
+            rules: "",
+            source: "",
+            status: 6,
+            out: "",
+            err: "",
+        },
+    },
+    FaultyRow {
+        read: None,
+        out: Some(FailingPut { number: 0, most: 0 }),
+        err: None,
+        row: Row {
+            words: VERIFY,
+            rules: "",
+            source: "",
+            status: 6,
+            out: "",
+            err: "",
+        },
+    },
+    FaultyRow {
+        read: None,
+        out: None,
+        err: Some(FailingPut { number: 0, most: 0 }),
+        row: Row {
+            words: VERIFY,
             rules: "",
             source: "",
             status: 0,

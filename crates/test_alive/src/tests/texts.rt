@@ -1,6 +1,7 @@
 //! Files at their limits.
 
 use super::*;
+use std::alloc::AllocError;
 
 /// The status of `optimise` over a rule file and a module.
 fn status_over(alloc: Global, rules: &[u8], source: &[u8]) -> Result<u8, Fail> {
@@ -23,5 +24,29 @@ fn limits_are_exact(rt: HostRuntime) -> Result<(), Fail> {
         assert_eq!(rt; status_over(rt.alloc(), blanks.as_slice(), b"")?, as_rules);
         assert_eq!(rt; status_over(rt.alloc(), b"", blanks.as_slice())?, as_source);
     }
+    Ok(())
+}
+
+/// How many rules stand in a file: more than a byte counts.
+const MANY: u32 = 300;
+
+/// A file of that many rules.
+fn many_rules(alloc: Global) -> Result<String, AllocError> {
+    let mut text = String::new(alloc);
+    for number in 0..MANY {
+        text.push_str(format!(in alloc;
+            "Name: rule-{number}\n%r = add %x, 0\n=>\n%r = %x\n"
+        )?.as_str())?;
+    }
+    Ok(text)
+}
+
+#[test]
+fn many_rules_are_read(rt: HostRuntime) -> Result<(), Fail> {
+    let rules = many_rules(rt.alloc())?;
+    assert_eq!(rt;
+        status_over(rt.alloc(), rules.as_bytes(), IDENTITY.as_bytes())?,
+        0
+    );
     Ok(())
 }

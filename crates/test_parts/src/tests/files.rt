@@ -30,6 +30,8 @@ enum Faulty {
     TakesNothing,
     FailsAtWrite,
     FailsAtFlush,
+    /// What it takes is lost, and it says nothing.
+    LosesAll,
 }
 
 impl Write for Faulty {
@@ -37,7 +39,7 @@ impl Write for Faulty {
         match self {
             Faulty::TakesNothing => Ok(0),
             Faulty::FailsAtWrite => Err(io::Error::from(io::ErrorKind::BrokenPipe)),
-            Faulty::FailsAtFlush => Ok(buf.len().min(2)),
+            Faulty::FailsAtFlush | Faulty::LosesAll => Ok(buf.len().min(2)),
         }
     }
 
@@ -104,6 +106,16 @@ fn sinks_take_whole_pieces_or_fail(rt: HostRuntime) -> Result<(), Fail> {
         let mut sink = StreamSink::new(stream);
         assert_eq!(rt; put_piece(&mut sink), Err(Failed), "{stream:?}");
         assert_eq!(rt; sink.faults(), 1, "{stream:?}");
+        assert_eq!(rt; sink.puts(), 1, "{stream:?}");
     }
+    Ok(())
+}
+
+#[test]
+fn what_is_lost_in_silence_is_no_fault(rt: HostRuntime) -> Result<(), Fail> {
+    let mut sink = StreamSink::new(Faulty::LosesAll);
+    assert_eq!(rt; put_piece(&mut sink), Ok(()));
+    assert_eq!(rt; sink.faults(), 0);
+    assert_eq!(rt; sink.puts(), 1);
     Ok(())
 }

@@ -19,8 +19,8 @@ optimise-requires-clause-typed c = λ k d within. (ready_at c.args.rules.now c.r
 pub optimise-requires-clause-countable : goal.optimise-requires-clause-countable
 optimise-requires-clause-countable c = c.requires.source.countable c.args.options.steps c.requires.steps
 
-pub returns : goal.returns
-returns c = λ bytes is.
+pub returns-clause-prints : goal.returns-clause-prints
+returns-clause-prints c = λ bytes is.
     let rules = c.args.rules.now in
     let read = c.args.source.now in
     let done = c.in_ok-done.done in

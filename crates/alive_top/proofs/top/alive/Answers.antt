@@ -1,4 +1,4 @@
-use Rattle.alive_top.proofs.Following.{done, usage, refused, argument, logs, read_fault, write_fault, complete}
+use Rattle.alive_top.proofs.Following.{done, usage, refused, argument, logs, read_fault, write_fault, one_put, complete}
 use Rattle.alive_top.proofs.Taking.{taken_not_refused}
 use Rattle.alive_top.proofs.top.alive.Goals as goal
 
@@ -22,6 +22,9 @@ returns-clause-read_fault g c = read_fault _ _ _ _ _ _ _ c.run_words.result (rw 
 
 pub returns-clause-write_fault : goal.returns-clause-write_fault
 returns-clause-write_fault g c = write_fault _ _ _ _ _ _ _ c.run_words.result (rw c.as_slice.ensures.value at c.run_words.ensures.ends)
+
+pub returns-clause-one_put : goal.returns-clause-one_put
+returns-clause-one_put g c = one_put _ _ _ _ _ _ _ c.run_words.result (rw c.as_slice.ensures.value at c.run_words.ensures.ends)
 
 pub returns-clause-complete : goal.returns-clause-complete
 returns-clause-complete g c = complete _ _ _ _ _ _ _ c.run_words.result (taken_not_refused c.every_text_has_one_list_or_one_fault.ensures c.every_text_has_one_module_or_one_fault.ensures) (rw c.as_slice.ensures.value at c.run_words.ensures.ends)

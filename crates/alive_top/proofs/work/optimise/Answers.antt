@@ -30,7 +30,7 @@ pub returns-clause-answer : goal.returns-clause-answer
 returns-clause-answer g c =
     let read = rw c.as_slice.ensures.value at c.in_ok-optimised.ensures.answer in
     optimise_done (g.F.Files.state c.args.files.now) (g.F.Files.state c.read_rule_file.new.files) (g.F.Files.state c.read_and_optimise.new.files) c.args.rules.now c.args.source.now c.args.options
-    c.in_ok-list.list.items _ c.read_rule_file.ensures.follow c.in_ok-list.ensures.answer read (record { prints = read.holds; no_proofs = search rules; status = refl })
+    c.in_ok-list.list.items _ c.read_rule_file.ensures.follow c.in_ok-list.ensures.answer read (record { report = _; has_report = refl; prints = read.holds; no_proofs = search rules; status = refl })
 
 pub returns-clause-follow : goal.returns-clause-follow
 returns-clause-follow g c = follow_on _ _ _ c.read_rule_file.ensures.follow c.read_and_optimise.ensures.follow
