@@ -45,7 +45,7 @@ pub enum Command<'a> {
 pub struct VerifyOptions {
     /// The widths that types may have, in ascending order and each once.
     pub widths: List<Width>,
-    /// The most clauses that a search may learn.
+    /// How many clauses a search learns before its verdict is `budget`; with at most 12 bits of input it is never that.
     pub conflicts: u32,
     /// Whether proofs are to be written in place of verdicts.
     pub logs: bool,
@@ -54,7 +54,7 @@ pub struct VerifyOptions {
 /// The options of `optimise`.
 #[derive(Clone, Copy, Debug)]
 pub struct OptimiseOptions {
-    /// The most clauses that a search may learn.
+    /// How many clauses a search learns before its verdict is `budget`; with at most 12 bits of input it is never that.
     pub conflicts: u32,
     /// The most rewrites of a function.
     pub steps: u32,
@@ -70,7 +70,7 @@ pub struct RunOptions {
 /// The options of `recheck`.
 #[derive(Clone, Copy, Debug)]
 pub struct RecheckOptions {
-    /// The most clauses that a search may learn.
+    /// How many clauses a search learns before its verdict is `budget`; with at most 12 bits of input it is never that.
     pub conflicts: u32,
 }
 

@@ -10,7 +10,7 @@ use clap::builder::ValueParser;
 use clap::{Arg, ArgAction, Command};
 use std::alloc::{AllocError, Global};
 
-/// The most clauses that a search may learn.
+/// The most clauses that a search may be told to learn before its verdict is `budget`.
 const MOST_CONFLICTS: u64 = 1_000_000;
 
 /// The most rewrites of a function.
@@ -22,7 +22,7 @@ const MOST_BLOCKS: u64 = 100_000_000;
 /// The greatest number of which a module is made.
 const MOST_NUMBER: u64 = 4_294_967_295;
 
-/// The most clauses that a search may learn where the words tell no number.
+/// How many clauses a search learns before its verdict is `budget`, where the words tell no number.
 pub const DEFAULT_CONFLICTS: u32 = 20_000;
 
 /// The most rewrites of a function where the words tell no number.
@@ -137,7 +137,7 @@ fn conflicts_argument<'a>(alloc: Global) -> Arg<'a>
         "conflicts",
         MOST_CONFLICTS,
         "20000",
-        "The most clauses that the search for a counterexample learns",
+        "How many clauses a search learns before it ends as budget; with at most 12 bits of input it may learn more",
     )
 }
 
