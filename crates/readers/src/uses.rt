@@ -1,6 +1,6 @@
 //! Which instructions read a register, and how often it is used.
 
-ghost use Rattle.std.specs.Prelude.{◌≡◌, ◌+◌, ◌≤◌, ◌<◌, ◌^◌, ◌++◌, ◌↔◌, ◌⊎◌, ℕ, List as Seq, [], ◌∷◌, All, Contains, IsTrue, IfOk, OnOk, length, replicate, slice_index_or, slice_set};
+ghost use Rattle.std.specs.Prelude.{◌≡◌, ◌+◌, ◌≤◌, ◌<◌, ◌^◌, ◌++◌, ◌↔◌, ◌⊎◌, ℕ, List as Seq, [], ◌∷◌, All, Contains, IsTrue, IfOk, OnErr, OnOk, length, replicate, slice_index_or, slice_set};
 ghost use Rattle.std.specs.List.{filter_map};
 ghost use Rattle.ir_core.specs.Checks.{IsKnown};
 ghost use Rattle.ir_core.specs.Reads.{Read, IsRead};
@@ -75,20 +75,24 @@ impl Readers {
         list_reads(f, self, Place { block, number: END })
     }
 
-    /// A list for one more instruction of a block.
+    /// A list for one more instruction of a block. Where memory is refused the lists are as they were.
     pub fn push_list(&mut self, alloc: Global, block: u32) -> Result<(), AllocError>
         requires { block < length self.old.results.items }
-        ensures parameters { OnOk result (self.new.parameters ≡ self.old.parameters) }
+        ensures parameters { self.new.parameters ≡ self.old.parameters }
         ensures results { OnOk result (self.new.results.items
             ≡ slice_set self.old.results.items block (slice_index_or self.old.results.items block [] ++ [] ∷ [])) }
+        ensures refused { OnErr result (self.new.results.items ≡ self.old.results.items) }
     {
         self.results[block as usize].push(List::new(alloc))
     }
 
-    /// Lists a place, where it isn't what was listed last: what reads a register twice is listed once.
+    /// Lists a place, where it isn't what was listed last: what reads a register twice is listed once. Where memory is refused the
+    /// lists are as they were.
     pub fn list(&mut self, register: Register, place: Place) -> Result<(), AllocError>
         requires { HasList self.old register }
-        ensures { OnOk result (IsListed register place self.old self.new) }
+        ensures listed { OnOk result (IsListed register place self.old self.new) }
+        ensures parameters { OnErr result (self.new.parameters ≡ self.old.parameters) }
+        ensures results { OnErr result (self.new.results.items ≡ self.old.results.items) }
     {
         match register {
             Register::Parameter(k) => list_in(&mut self.parameters, k, place),
@@ -120,9 +124,10 @@ fn list_at(
 ) -> Result<(), AllocError>
     requires block { block < length rows.old.items }
     requires number { number < length (slice_index_or rows.old.items block []) }
-    ensures { OnOk result ((places : Seq Spot)
+    ensures listed { OnOk result ((places : Seq Spot)
         × IsListedAmong place (slice_index_or (slice_index_or rows.old.items block []) number []) places
         × (rows.new.items ≡ slice_set rows.old.items block (slice_set (slice_index_or rows.old.items block []) number places))) }
+    ensures refused { OnErr result (rows.new.items ≡ rows.old.items) }
 {
     list_in(&mut rows[block as usize], number, place)
 }
@@ -130,15 +135,17 @@ fn list_at(
 /// Lists a place in a row of lists.
 fn list_in(rows: &mut List<List<Place>>, index: u32, place: Place) -> Result<(), AllocError>
     requires { index < length rows.old }
-    ensures { OnOk result ((places : Seq Spot) × IsListedAmong place (slice_index_or rows.old index []) places
+    ensures listed { OnOk result ((places : Seq Spot) × IsListedAmong place (slice_index_or rows.old index []) places
         × (rows.new ≡ slice_set rows.old index places)) }
+    ensures refused { OnErr result (rows.new ≡ rows.old) }
 {
     list_last(rows.get_mut(index as usize), place)
 }
 
 /// Puts a place behind others, where it isn't the last of them.
 fn list_last(places: &mut List<Place>, place: Place) -> Result<(), AllocError>
-    ensures { OnOk result (IsListedAmong place places.old places.new) }
+    ensures listed { OnOk result (IsListedAmong place places.old places.new) }
+    ensures refused { OnErr result (places.new ≡ places.old) }
 {
     if ends_in(places.as_slice(), place) {
         return Ok(());
@@ -318,18 +325,21 @@ pub fn list_reads(arena: &Function, readers: &mut Readers, place: Place) -> Resu
     Ok(())
 }
 
-/// The registers that are read at a place, behind others.
+/// The registers that are read at a place, behind others. It takes its memory first: refused, the others are left alone.
 pub fn push_reads(
     arena: &Function,
     fallen: &mut Vec<Register>,
     place: Place,
 ) -> Result<(), AllocError>
     requires { All (λ b. length b.insts < 2 ^ 32) arena.now.blocks }
-    ensures { OnOk result (fallen.new.items ≡ fallen.old.items ++ filter_map register_of (operands_at arena.now place)) }
+    ensures pushed { OnOk result (fallen.new.items ≡ fallen.old.items ++ filter_map register_of (operands_at arena.now place)) }
+    ensures refused { OnErr result (fallen.new.items ≡ fallen.old.items) }
 {
-    for index in 0..count_at(arena, place) {
+    let count = count_at(arena, place);
+    fallen.reserve(count)?;
+    for index in 0..count {
         if let Operand::Register(register) = operand_at(arena, place, index) {
-            fallen.push(register)?;
+            fallen.push_reserved(register);
         }
     }
     Ok(())

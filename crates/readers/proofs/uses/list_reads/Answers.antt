@@ -24,7 +24,7 @@ loop-index-preserved c =
     elim c.match-operand_at.branch [
       | in-Register+in_ok-list w ↦
           subst (λ (r : Readers). AreListed c.args.place (take (l.index + 1) reads) c.args.readers.now r) (sym w.readers-is)
-          (listed_more c.args.place reads l.index c.operand_at.result c.args.readers.now l.readers within c.operand_at.ensures l.invariant w.in-Register.register w.list.new.self w.in-Register.is w.in_ok-list.ensures)
+          (listed_more c.args.place reads l.index c.operand_at.result c.args.readers.now l.readers within c.operand_at.ensures l.invariant w.in-Register.register w.list.new.self w.in-Register.is w.in_ok-list.ensures.listed)
       | in_default w ↦
           subst (λ (r : Readers). AreListed c.args.place (take (l.index + 1) reads) c.args.readers.now r) (sym w.readers-is)
           (listed_past c.args.place reads l.index c.operand_at.result c.args.readers.now l.readers within c.operand_at.ensures l.invariant w.in_default.not-Register)

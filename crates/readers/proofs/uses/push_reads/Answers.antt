@@ -1,4 +1,4 @@
-use Rattle.std.proofs.Common.{◌++◌, ◌<◌, ◌∷◌, [], ◌∙◌, List, Vec, Global, length, sym, ap, arith, take}
+use Rattle.std.proofs.Common.{◌+◌, ◌++◌, ◌<◌, ◌≤◌, ◌∷◌, [], ◌∙◌, List, Vec, Global, length, sym, ap, subst, arith, take, vec_capacity, vec_len}
 use Rattle.std.specs.List.{filter_map}
 use Rattle.std.proofs.lemmas.List.{append-nil, append_assoc, take_all}
 use Rattle.ir_core.specs.declared.operand.Operand.{Operand}
@@ -6,28 +6,39 @@ use Rattle.ir_core.specs.declared.operand.Register.{Register}
 use Rattle.readers.specs.Counts.{operands_at, register_of}
 use Rattle.readers.proofs.Listing.{other_taken, register_taken}
 use Rattle.readers.proofs.uses.push_reads.Goals as goal
-use Rattle.readers.proofs.uses.push_reads.Goals.{in-Register+in_ok-push, in_default}
+use Rattle.readers.proofs.uses.push_reads.Goals.{in-Register, in_default}
 
 pub loop-index-init : goal.loop-index-init
-loop-index-init c = sym (append-nil c.args.fallen.now.items)
+loop-index-init c = record {
+  items = c.in_ok-reserve.ensures.items ∙ sym (append-nil c.args.fallen.now.items);
+  room = omega (arith, c.in_ok-reserve.ensures.ok, c.count_at-count.ensures);
+}
+
+pub push_reserved-requires : goal.push_reserved-requires
+push_reserved-requires c = omega (arith, c.loop-index.invariant.room, c.count_at-count.ensures)
 
 pub loop-index-preserved : goal.loop-index-preserved
 loop-index-preserved c =
     let l = c.loop-index in
     let reads : List Operand = operands_at c.args.arena.now c.args.place in
     let old : List Register = c.args.fallen.now.items in
-    let within : l.index < length reads = omega arith in
+    let within : l.index < length reads = omega (arith, c.count_at-count.ensures) in
     elim c.match-operand_at.branch [
-      | in-Register+in_ok-push w ↦
-          ap (λ (v : Vec Register Global). v.items) w.fallen-is ∙ w.in_ok-push.ensures.items ∙ ap (λ (k : List Register). k ++ w.in-Register.register ∷ []) l.invariant
-          ∙ append_assoc old (filter_map register_of (take l.index reads)) (w.in-Register.register ∷ [])
-          ∙ ap (λ (k : List Register). old ++ k) (sym (register_taken reads l.index c.operand_at.result w.in-Register.register within c.operand_at.ensures w.in-Register.is))
-      | in_default w ↦
-          ap (λ (v : Vec Register Global). v.items) w.fallen-is ∙ l.invariant
-          ∙ ap (λ (k : List Register). old ++ k) (sym (other_taken reads l.index c.operand_at.result within c.operand_at.ensures w.in_default.not-Register))
+      | in-Register w ↦ record {
+        items = ap (λ (v : Vec Register Global). v.items) w.fallen-is ∙ w.push_reserved.ensures.items ∙ ap (λ (k : List Register). k ++ w.in-Register.register ∷ []) l.invariant.items
+            ∙ append_assoc old (filter_map register_of (take l.index reads)) (w.in-Register.register ∷ [])
+            ∙ ap (λ (k : List Register). old ++ k) (sym (register_taken reads l.index c.operand_at.result w.in-Register.register within c.operand_at.ensures w.in-Register.is));
+        room = subst (λ (v : Vec Register Global). vec_len v + length reads ≤ vec_capacity v + (l.index + 1)) (sym w.fallen-is)
+            (omega (arith, w.push_reserved.ensures.len, w.push_reserved.ensures.capacity, l.invariant.room));
+      }
+      | in_default w ↦ record {
+        items = ap (λ (v : Vec Register Global). v.items) w.fallen-is ∙ l.invariant.items
+            ∙ ap (λ (k : List Register). old ++ k) (sym (other_taken reads l.index c.operand_at.result within c.operand_at.ensures w.in_default.not-Register));
+        room = subst (λ (v : Vec Register Global). vec_len v + length reads ≤ vec_capacity v + (l.index + 1)) (sym w.fallen-is) (omega (arith, l.invariant.room));
+      }
     ]
 
-pub returns : goal.returns
-returns c =
+pub returns-clause-pushed : goal.returns-clause-pushed
+returns-clause-pushed c =
     let l = c.loop-index in
-    l.invariant ∙ ap (λ (reads : List Operand). c.args.fallen.now.items ++ filter_map register_of reads) (take_all l.index (operands_at c.args.arena.now c.args.place) (omega arith))
+    l.invariant.items ∙ ap (λ (reads : List Operand). c.args.fallen.now.items ++ filter_map register_of reads) (take_all l.index (operands_at c.args.arena.now c.args.place) (omega (arith, c.count_at-count.ensures)))

@@ -1,8 +1,11 @@
--- the registers so far are behind the others
-use Rattle.std.proofs.Common.{◌≡◌, ◌++◌, take}
+-- the registers so far are behind the others, and there is room for the rest
+use Rattle.std.proofs.Common.{◌≡◌, ◌+◌, ◌≤◌, ◌++◌, length, take, vec_capacity, vec_len}
 use Rattle.std.specs.List.{filter_map}
 use Rattle.readers.specs.Counts.{operands_at, register_of}
 use Rattle.readers.proofs.uses.push_reads.Given as goal
 
 abbrev pub invariant-loop-index : goal.invariant-loop-index
-invariant-loop-index l = l.fallen.items ≡ l.fn.fallen.items ++ filter_map register_of (take l.index (operands_at l.arena l.place))
+invariant-loop-index l = record {
+  items : l.fallen.items ≡ l.fn.fallen.items ++ filter_map register_of (take l.index (operands_at l.arena l.place));
+  room : vec_len l.fallen + length (operands_at l.arena l.place) ≤ vec_capacity l.fallen + l.index;
+}
