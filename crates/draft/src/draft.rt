@@ -1,31 +1,24 @@
 //! A function whose instructions have numbers.
 
-ghost use Rattle.std.specs.Prelude.{◌≡◌, ◌+◌, ◌<◌, ◌≤◌, ◌^◌, ◌++◌, ◌∷◌, [], ◌↔◌, ℕ, length, map, replicate, true, false, All, Contains, IsFalse, IsTrue, IfOk, OnOk, Some, slice_get, slice_index_or, slice_set};
-ghost use Rattle.std.specs.List.{filter_map, range_with_len};
-ghost use Rattle.ir_core.specs.Blocks.{HasInst, IsBlock};
-ghost use Rattle.ir_core.specs.Checks.{MeetsChecks, IsKnown, IsPhi};
+ghost use Rattle.std.specs.Prelude.{◌≡◌, ◌<◌, ◌≤◌, ◌^◌, ◌↔◌, ℕ, length, map, replicate, true, false, All, IsFalse, IsTrue, IfOk, Some, slice_get};
+ghost use Rattle.std.specs.List.{range_with_len};
+ghost use Rattle.ir_core.specs.Blocks.{HasInst};
+ghost use Rattle.ir_core.specs.Checks.{MeetsChecks, IsPhi};
 ghost use Rattle.ir_core.specs.Reads.{end_of};
-ghost use Rattle.ir_core.specs.declared.function.Block.{Block as Written};
 ghost use Rattle.ir_core.specs.declared.instruction.Inst.{Inst as Instruction};
 ghost use Rattle.assigned_flow.specs.Successors.{successors_of};
 ghost use Rattle.bindings.specs.Facts.{AreFactsOf};
-ghost use Rattle.needed.specs.Operands.{operands_of};
-ghost use Rattle.readers.specs.Changes.{changed_at, gone, inst_changed, inst_put, put_in, taken_out, without};
-ghost use Rattle.readers.specs.Counts.{operands_at, register_of};
-ghost use Rattle.draft.specs.Drafts.{Stands, function_of, numbers_of, orders_of};
-ghost use Rattle.draft.specs.KeptOrders.{KeepsOrders};
+ghost use Rattle.draft.specs.Drafts.{Stands, function_of, orders_of};
 ghost use Rattle.places.specs.Orders.{none};
-ghost use Rattle.places.specs.Orders as numbers;
 ghost use Rattle.draft.specs.Whole.{HasNoCycles, IsWhole, IsSettled};
 
 use assigned_flow::Assigned;
 use bindings::FunctionFacts;
-use ir_core::{Block, Function, Inst, Op, Operand, Register};
+use ir_core::{Block, Function, Op, Register};
 use lists::List;
 use places::{Order, Place};
-use readers::{Readers, count_reads, forget_reads, list_reads, push_reads};
+use readers::Readers;
 use std::alloc::{AllocError, Global};
-use use_counts::Uses;
 
 /// A function whose instructions keep their numbers.
 #[derive(Drop)]
@@ -113,124 +106,6 @@ impl Draft {
     {
         self.stand[place.block as usize].as_slice()[place.number as usize]
     }
-
-    /// Puts an instruction before another, and gives its number.
-    pub fn put_before(&mut self, alloc: Global, at: Place, inst: Inst) -> Result<Place, AllocError>
-        requires whole { IsWhole self.old }
-        requires at { Stands self.old at.block at.number }
-        requires room { (block : Written) → IsBlock self.old.arena at.block block → length block.insts + 1 ≤ none }
-        requires known { All (IsKnown self.old.arena) (operands_of inst.op) }
-        ensures whole { OnOk result (IsWhole self.new) }
-        ensures arena { OnOk result (self.new.arena ≡ put_in self.old.arena at.block inst) }
-        ensures place { IfOk result (λ place. (place.block ≡ at.block) × (place.number ≡ end_of self.old.arena at.block)) }
-        ensures numbers { OnOk result (numbers_of self.new
-            ≡ changed_at at.block (λ row. numbers.put_before row at.number (end_of self.old.arena at.block)) (numbers_of self.old)) }
-        ensures orders { OnOk result (KeepsOrders (orders_of self.old) (orders_of self.new)) }
-        ensures fallen { OnOk result (self.new.fallen.items
-            ≡ self.old.fallen.items ++ Register.Result at.block (end_of self.old.arena at.block) ∷ []) }
-    {
-        let number = put_in_order(&mut self.orders, at)?;
-        let place = Place {
-            block: at.block,
-            number,
-        };
-        note_phi(&mut self.has_cycles, &inst);
-        push_inst(&mut self.arena.blocks, at.block, inst)?;
-        push_mark(&mut self.stand, at.block)?;
-        push_count(&mut self.facts.uses, at.block)?;
-        self.readers.push_list(alloc, at.block)?;
-        count_reads(&self.arena, &mut self.facts.uses, place)?;
-        list_reads(&self.arena, &mut self.readers, place)?;
-        self.fallen.push(Register::Result(at.block, number))?;
-        Ok(place)
-    }
-
-    /// Takes an instruction out.
-    pub fn take_out(&mut self, at: Place) -> Result<(), AllocError>
-        requires whole { IsWhole self.old }
-        requires at { HasInst self.old.arena at.block at.number }
-        ensures whole { OnOk result (IsWhole self.new) }
-        ensures arena { OnOk result (self.new.arena ≡ taken_out self.old.arena at.block at.number) }
-        ensures numbers { OnOk result (numbers_of self.new ≡ changed_at at.block (without at.number) (numbers_of self.old)) }
-        ensures orders { OnOk result (orders_of self.new ≡ orders_of self.old) }
-        ensures fallen { OnOk result (self.new.fallen.items
-            ≡ self.old.fallen.items ++ filter_map register_of (operands_at self.old.arena at)) }
-    {
-        push_reads(&self.arena, &mut self.fallen, at)?;
-        forget_reads(&self.arena, &mut self.facts.uses, at);
-        empty_inst(&mut self.arena.blocks, at);
-        clear_mark(&mut self.stand, at);
-        Ok(())
-    }
-}
-
-/// Puts a number before another in the order of its block.
-fn put_in_order(orders: &mut Vec<Order>, at: Place) -> Result<u32, AllocError>
-    requires block { at.block < length orders.old.items }
-    requires at { Contains (slice_index_or orders.old.items at.block []) at.number }
-    requires few { length (slice_index_or orders.old.items at.block []) + 1 ≤ none }
-    ensures number { IfOk result (λ number. number ≡ length (slice_index_or orders.old.items at.block [])) }
-    ensures orders { IfOk result (λ number. orders.new.items ≡ slice_set orders.old.items at.block
-        (numbers.put_before (slice_index_or orders.old.items at.block []) at.number number)) }
-{
-    orders[at.block as usize].put_before(at.number)
-}
-
-/// Notes that a register may be read on a way that leads back to it, where a phi comes.
-fn note_phi(has_cycles: &mut bool, inst: &Inst)
-    ensures { IsFalse has_cycles.new ↔ (IsFalse has_cycles.old × ¬ IsPhi inst.now.op) }
-{
-    if matches!(inst.op, Op::Phi(_)) {
-        *has_cycles = true;
-    }
-}
-
-/// Puts an instruction behind those of its block.
-fn push_inst(blocks: &mut List<Block>, block: u32, inst: Inst) -> Result<(), AllocError>
-    requires { block < length blocks.old }
-    ensures { OnOk result (blocks.new ≡ changed_at block (inst_put inst) blocks.old) }
-{
-    blocks.get_mut(block as usize).insts.push(inst)
-}
-
-/// Leaves an instruction that reads nothing in the place of one.
-fn empty_inst(blocks: &mut List<Block>, at: Place)
-    requires { (block : Written) × (slice_get blocks.old at.block ≡ Some block) × (at.number < length block.insts) }
-    ensures { blocks.new ≡ changed_at at.block (inst_changed at.number gone) blocks.old }
-{
-    let inst = blocks
-        .get_mut(at.block as usize)
-        .insts
-        .get_mut(at.number as usize);
-    inst.name = None;
-    inst.op = Op::Freeze(Operand::Poison);
-}
-
-/// One more instruction of a block stands.
-fn push_mark(stand: &mut Vec<List<bool>>, block: u32) -> Result<(), AllocError>
-    requires { block < length stand.old.items }
-    ensures { OnOk result (stand.new.items ≡ slice_set stand.old.items block (slice_index_or stand.old.items block [] ++ true ∷ [])) }
-{
-    stand[block as usize].push(true)
-}
-
-/// An instruction stands no more.
-fn clear_mark(stand: &mut Vec<List<bool>>, at: Place)
-    requires block { at.block < length stand.old.items }
-    requires number { at.number < length (slice_index_or stand.old.items at.block []) }
-    ensures { stand.new.items ≡ slice_set stand.old.items at.block (slice_set (slice_index_or stand.old.items at.block []) at.number false) }
-{
-    *stand[at.block as usize].get_mut(at.number as usize) = false;
-}
-
-/// One more instruction of a block is not used.
-fn push_count(uses: &mut Uses, block: u32) -> Result<(), AllocError>
-    requires { block < length uses.old.results.items }
-    ensures parameters { OnOk result (uses.new.parameters ≡ uses.old.parameters) }
-    ensures results { OnOk result (uses.new.results.items
-        ≡ slice_set uses.old.results.items block (slice_index_or uses.old.results.items block [] ++ 0 ∷ [])) }
-{
-    uses.results[block as usize].push(0)
 }
 
 /// Of each block the numbers of its instructions, in order.

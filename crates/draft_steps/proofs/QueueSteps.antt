@@ -41,10 +41,10 @@ stands-comes d p q whole here there before = elim before [
       inr (same, same_there.1 (subst (λ (l : List ℕ). place_in l p.number < place_in l q.number) (numbers_are d whole p.block block at) less))
 ]
 
-pub comes-next : (d : Draft) (q : Queue) (p : Place) → IsWhole d → IsQueueOf d q → IsFirst d.orders.items q.waiting.marks p → ComesNext d q p
+pub comes-next : (d : Draft) (q : Queue) (p : Place) → IsWhole d → IsQueueOf d q → IsFirst d.orders.items q.marks p → ComesNext d q p
 comes-next d q p whole queue first = record {
   waits = first.there;
   inst = numbered-inst d p whole
-      (All-contains (IsNumbered d.orders.items) q.waiting.heap.items p queue.arranged.heap.numbered (marked-contains q.waiting.marks q.waiting.heap.items p.block p.number queue.arranged.once first.there));
+      (All-contains (IsNumbered d.orders.items) q.heap p queue.heap.numbered (marked-contains q.marks q.heap p.block p.number queue.once first.there));
   none_before = λ here b n waits there before. first.none_before b n waits (stands-comes d (record { block = b; number = n }) p whole there here before);
 }

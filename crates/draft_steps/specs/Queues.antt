@@ -8,27 +8,22 @@ use Rattle.draft.specs.Drafts.{Stands, StandsBefore, orders_of}
 use Rattle.draft.specs.KeptOrders.{KeepsOrders}
 use Rattle.places.specs.Sets.{Rows, Has}
 use Rattle.places.specs.Waiting.{IsArranged}
-use Rattle.draft_steps.specs.Walks.{IsIdle}
 
--- the set of the places that wait
+-- the set of the places that wait: a queue is seen as what waits in it
 abbrev pub waiting_in : Queue → Rows
-waiting_in q = q.waiting.marks
+waiting_in q = q.marks
 
 -- number n of block b waits
 abbrev pub Waits : Queue → ℕ → ℕ → Type 0
 Waits q b n = Has (waiting_in q) b n
 
--- What waits has a number in one of these blocks, and comes out by their orders. No walk is under way.
-pub record IsQueueBy (orders : List (List ℕ)) (q : Queue) : Type 0 where
-  pub arranged : IsArranged orders q.waiting
-  pub idle : IsIdle (length orders) q.walk
-
+-- what waits has a number in one of the draft's blocks, and comes out by their orders
 abbrev pub IsQueueOf : Draft → Queue → Type 0
-IsQueueOf d q = IsQueueBy (orders_of d) q
+IsQueueOf d q = IsArranged (orders_of d) q
 
 -- how many places wait
 abbrev pub size_of : Queue → ℕ
-size_of q = length q.waiting.heap.items
+size_of q = length q.heap
 
 -- An instruction that waits. Where it stands, nothing that waits and stands is before it.
 pub record ComesNext (d : Draft) (q : Queue) (p : Place) : Type 0 where
@@ -38,4 +33,4 @@ pub record ComesNext (d : Draft) (q : Queue) (p : Place) : Type 0 where
 
 -- a queue by the old orders is one by the new
 abbrev pub QueuesStay : Type 0
-QueuesStay = (old new : List (List ℕ)) (q : Queue) → KeepsOrders old new → IsQueueBy old q → IsQueueBy new q
+QueuesStay = (old new : List (List ℕ)) (q : Queue) → KeepsOrders old new → IsArranged old q → IsArranged new q

@@ -11,6 +11,7 @@ ghost use Rattle.draft.specs.Drafts.{Stands, function_of, numbers_of, orders_of}
 ghost use Rattle.draft.specs.Whole.{IsWhole};
 
 use crate::leading::leads_to_a_terminator;
+use crate::removing::take_out;
 use crate::rewriting::Rewritten;
 use draft::Draft;
 use ir_core::Register;
@@ -112,7 +113,7 @@ fn take_or_list(
             if uses_of(&draft.facts.uses, register) > 0 {
                 used.push(register)?;
             } else {
-                draft.take_out(Place { block, number })?;
+                take_out(draft, Place { block, number })?;
             }
         }
     }
@@ -216,10 +217,11 @@ fn take_all(draft: &mut Draft, unneeded: &[(u32, u32)]) -> Result<(), AllocError
 {
     for (block, number) in unneeded {
         if is_standing(draft, Register::Result(*block, *number)) {
-            draft.take_out(Place {
+            let place = Place {
                 block: *block,
                 number: *number,
-            })?;
+            };
+            take_out(draft, place)?;
         }
     }
     Ok(())

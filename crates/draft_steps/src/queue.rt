@@ -16,12 +16,26 @@ use crate::walk::Walk;
 use draft::Draft;
 use places::{Order, Place, Waiting};
 use std::alloc::{AllocError, Global};
+use std::marker::Model;
 
 /// Places, each once, of which the first in order is taken first.
 #[derive(Drop)]
 pub struct Queue {
     waiting: Waiting,
+    /// A walk that came to no place: what it takes is kept for the next.
     walk: Walk,
+}
+
+impl Model for Queue {
+    ghost use Rattle.std.specs.Prelude.{length};
+    ghost use Rattle.places.specs.Waiting.{WaitingPlaces};
+    ghost use Rattle.draft_steps.specs.Walks.{IsIdle};
+
+    ghost Value = { WaitingPlaces };
+
+    ghost view = { λ q. q.waiting };
+
+    ghost invariant = { λ q. IsIdle (length q.waiting.marks) q.walk };
 }
 
 impl Queue {
@@ -85,32 +99,34 @@ impl Queue {
         self.waiting.take_first(draft.orders.as_slice())
     }
 
-    /// Puts places into the queue that stand, and those that reach them through so many operands of their block.
+    /// Puts places into the queue that stand, and those that reach them through so many operands of their block. Of the draft
+    /// only what is listed for registers may be less. Where memory is refused, both are dropped.
     pub fn insert_reaching(
-        &mut self,
+        self,
         alloc: Global,
-        draft: &mut Draft,
+        draft: Draft,
         places: &[Place],
         depth: usize,
-    ) -> Result<(), AllocError>
-        requires settled { IsSettled draft.old }
-        requires queue { IsQueueOf draft.old self.old }
-        requires places { All (IsPlaceIn draft.old.arena) places.now }
-        ensures draft { OnOk result (IsSameDraft draft.old draft.new) }
-        ensures queue { OnOk result (IsQueueOf draft.new self.new) }
-        ensures stay { OnOk result ((b n : ℕ) → Waits self.old b n → Waits self.new b n) }
-        ensures reaching { OnOk result ((p : Spot) (n : ℕ) → Contains places.now p → Stands draft.old p.block n
-            → Reaches draft.old depth p.block n p.number → Waits self.new p.block n) }
-        ensures only { OnOk result ((b n : ℕ) → Waits self.new b n → Waits self.old b n ⊎ ReachesOneOf draft.old depth places.now b n) }
+    ) -> Result<(Queue, Draft), AllocError>
+        requires settled { IsSettled draft }
+        requires queue { IsQueueOf draft self }
+        requires places { All (IsPlaceIn draft.arena) places.now }
+        ensures draft { IfOk result (λ now. IsSameDraft draft now.1) }
+        ensures queue { IfOk result (λ now. IsQueueOf now.1 now.0) }
+        ensures stay { IfOk result (λ now. (b n : ℕ) → Waits self b n → Waits now.0 b n) }
+        ensures reaching { IfOk result (λ now. (p : Spot) (n : ℕ) → Contains places.now p → Stands draft p.block n
+            → Reaches draft depth p.block n p.number → Waits now.0 p.block n) }
+        ensures only { IfOk result (λ now. (b n : ℕ) → Waits now.0 b n → Waits self b n ⊎ ReachesOneOf draft depth places.now b n) }
     {
-        self.walk.reach(alloc, draft, places, depth)?;
-        insert_all(
-            &mut self.waiting,
-            draft.orders.as_slice(),
-            self.walk.found.as_slice(),
-        )?;
-        self.walk.clear();
-        Ok(())
+        let Queue {
+            mut waiting,
+            mut walk,
+        } = self;
+        let mut draft = draft;
+        walk.reach(alloc, &mut draft, places, depth)?;
+        insert_all(&mut waiting, draft.orders.as_slice(), walk.found.as_slice())?;
+        walk.clear();
+        Ok((Queue { waiting, walk }, draft))
     }
 }
 

@@ -20,8 +20,11 @@ ghost use Rattle.draft_steps.specs.Rewriting.{IsPutFor, MayPut, MayRead, numbere
 ghost use Rattle.draft.specs.Whole.{IsWhole};
 ghost use Rattle.places.specs.declared.place.Place.{Place as Spot};
 
+use crate::inserting::put_before;
+use crate::removing::take_out;
+use crate::replacing::{Swap, replace};
 use bindings::Binding;
-use draft::{Draft, Swap};
+use draft::Draft;
 use ir_core::{Inst, Operand, Register};
 use lists::{List, Text};
 use places::Place;
@@ -125,8 +128,8 @@ fn replace_root(
         from: Register::Result(root.block, root.number),
         to: operand,
     };
-    let replaced = draft.replace(alloc, &swap)?;
-    draft.take_out(root)?;
+    let replaced = replace(alloc, draft, &swap)?;
+    take_out(draft, root)?;
     Ok(replaced)
 }
 
@@ -165,7 +168,7 @@ fn put_all(
 {
     let mut put = Vec::new(alloc);
     for inst in insts {
-        put.push(draft.put_before(alloc, at, inst)?)?;
+        put.push(put_before(alloc, draft, at, inst)?)?;
     }
     Ok(put)
 }

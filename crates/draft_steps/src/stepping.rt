@@ -30,11 +30,41 @@ use use_counts::uses_of;
 
 /// Applies a rule where it matches with this binding, which names numbers, and cleans the draft. It gives the places that were touched: the
 /// root's, and those of what came, of what reads something else, and of what is read by one operand alone since then. Some of them were
-/// taken out.
+/// taken out. Where memory is refused, the draft is dropped.
 ///
 /// It takes as many steps as the rule is long, places read the root, and instructions go; and where what lost a use may be read by a
 /// cycle alone, as many as the arena is long.
 pub fn step(
+    alloc: Global,
+    draft: Draft,
+    binding: &Binding,
+    rule: &Rule,
+) -> Result<(Draft, Vec<Place>), AllocError>
+    requires settled { IsSettled draft }
+    requires clean { IsClean draft }
+    requires checks { MeetsChecks (function_of draft) }
+    requires numbers { NumbersFit (function_of draft) }
+    requires rule { IsRule rule.now }
+    requires typed { HasNoFault rule.now }
+    requires matches { let m = placed_binding draft binding.now in IsMatch (function_of draft) m.block m.place rule.now m }
+    requires room { HasRoomFor 1 draft }
+    ensures settled { IfOk result (λ stepped. IsSettled stepped.0) }
+    ensures clean { IfOk result (λ stepped. IsClean stepped.0) }
+    ensures steps { IfOk result (λ stepped. (f : Function) × IsRewritten (function_of draft) (placed_binding draft binding.now) rule.now f
+        × IsCleaned f (function_of stepped.0)) }
+    ensures room { IfOk result (λ stepped. (steps : ℕ) → HasRoomFor (suc steps) draft → HasRoomFor steps stepped.0) }
+    ensures orders { IfOk result (λ stepped. KeepsOrders (orders_of draft) (orders_of stepped.0)) }
+    ensures touched { IfOk result (λ stepped. AreTouched draft stepped.0 stepped.1.items) }
+    ensures root { IfOk result (λ stepped. Contains stepped.1.items (record { block = binding.now.block; number = binding.now.place })) }
+    ensures places { IfOk result (λ stepped. All (IsPlaceIn (arena_of stepped.0)) stepped.1.items) }
+{
+    let mut stepped = draft;
+    let places = step_in(alloc, &mut stepped, binding, rule)?;
+    Ok((stepped, places))
+}
+
+/// The same in place.
+fn step_in(
     alloc: Global,
     draft: &mut Draft,
     binding: &Binding,

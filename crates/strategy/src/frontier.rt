@@ -107,7 +107,8 @@ fn rewrite_cleaned(
 {
     let mut frontier = Frontier::of(alloc, f, rules.all)?;
     for count in 0..bounds.steps {
-        let stepped = step(alloc, &mut frontier, rules, verdicts, bounds.conflicts)?;
+        let (stepped, next) = step(alloc, frontier, rules, verdicts, bounds.conflicts)?;
+        frontier = next;
         if !stepped {
             let last = draft_function::function_of(alloc, frontier.draft)?;
             return Ok((
@@ -186,22 +187,23 @@ fn depth_of(rules: &[Rule]) -> usize
 /// all its matches were asked for.
 fn step(
     alloc: Global,
-    frontier: &mut Frontier,
+    frontier: Frontier,
     rules: &Rules<'_>,
     verdicts: &mut Verdicts,
     conflicts: u32,
-) -> Result<bool, AllocError>
-    requires frontier { IsFrontier rules.now.all.now verdicts.old.table frontier.old }
-    requires checks { MeetsChecks (function_of frontier.old.draft) }
-    requires numbers { NumbersFit (function_of frontier.old.draft) }
-    requires room { HasRoomFor 1 frontier.old.draft }
+) -> Result<(bool, Frontier), AllocError>
+    requires frontier { IsFrontier rules.now.all.now verdicts.old.table frontier }
+    requires checks { MeetsChecks (function_of frontier.draft) }
+    requires numbers { NumbersFit (function_of frontier.draft) }
+    requires room { HasRoomFor 1 frontier.draft }
     requires asks { MayAsk rules.now conflicts verdicts.old }
-    ensures steps { IfOk result (StepsOrEnds rules.now.all.now conflicts (function_of frontier.old.draft) (function_of frontier.new.draft) verdicts.old verdicts.new) }
-    ensures frontier { OnOk result (IsFrontier rules.now.all.now verdicts.new.table frontier.new) }
-    ensures checks { OnOk result (MeetsChecks (function_of frontier.new.draft)) }
-    ensures numbers { OnOk result (NumbersFit (function_of frontier.new.draft)) }
-    ensures room { OnOk result ((steps : ℕ) → HasRoomFor (suc steps) frontier.old.draft → HasRoomFor steps frontier.new.draft) }
+    ensures steps { IfOk result (λ made. StepsOrEnds rules.now.all.now conflicts (function_of frontier.draft) (function_of made.1.draft) verdicts.old verdicts.new made.0) }
+    ensures frontier { IfOk result (λ made. IsFrontier rules.now.all.now verdicts.new.table made.1) }
+    ensures checks { IfOk result (λ made. MeetsChecks (function_of made.1.draft)) }
+    ensures numbers { IfOk result (λ made. NumbersFit (function_of made.1.draft)) }
+    ensures room { IfOk result (λ made. (steps : ℕ) → HasRoomFor (suc steps) frontier.draft → HasRoomFor steps made.1.draft) }
 {
+    let mut frontier = frontier;
     let found = next_admitted(
         alloc,
         &frontier.draft,
@@ -211,10 +213,10 @@ fn step(
         conflicts,
     )?;
     let Some(chosen) = found else {
-        return Ok(false);
+        return Ok((false, frontier));
     };
-    rewrite_at(alloc, frontier, rules.all, &chosen)?;
-    Ok(true)
+    let rewritten = rewrite_at(alloc, frontier, rules.all, &chosen)?;
+    Ok((true, rewritten))
 }
 
 /// The first match of a draft that is admitted. The verdicts of all matches up to it are asked for, and of all matches
@@ -302,64 +304,68 @@ fn admitted_at(
 /// Rewrites the function at a match, and puts the places into the queue at which a match may have come, or may be left.
 fn rewrite_at(
     alloc: Global,
-    frontier: &mut Frontier,
+    frontier: Frontier,
     rules: &[Rule],
     chosen: &Match,
-) -> Result<(), AllocError>
+) -> Result<Frontier, AllocError>
     requires ready { AreReady rules.now }
-    requires settled { IsSettled frontier.old.draft }
-    requires clean { IsClean frontier.old.draft }
-    requires queue { IsQueueOf frontier.old.draft frontier.old.queue }
-    requires depth { AreSourcesWithin frontier.old.depth rules.now }
-    requires matches { IsMatchAmong rules.now (function_of frontier.old.draft) (placed_match frontier.old.draft chosen.now) }
-    requires checks { MeetsChecks (function_of frontier.old.draft) }
-    requires numbers { NumbersFit (function_of frontier.old.draft) }
-    requires room { HasRoomFor 1 frontier.old.draft }
-    ensures stepped { OnOk result (IsSteppedAt rules.now frontier.old.draft frontier.new.draft chosen.now) }
+    requires settled { IsSettled frontier.draft }
+    requires clean { IsClean frontier.draft }
+    requires queue { IsQueueOf frontier.draft frontier.queue }
+    requires depth { AreSourcesWithin frontier.depth rules.now }
+    requires matches { IsMatchAmong rules.now (function_of frontier.draft) (placed_match frontier.draft chosen.now) }
+    requires checks { MeetsChecks (function_of frontier.draft) }
+    requires numbers { NumbersFit (function_of frontier.draft) }
+    requires room { HasRoomFor 1 frontier.draft }
+    ensures stepped { IfOk result (λ made. IsSteppedAt rules.now frontier.draft made.draft chosen.now) }
 
     // What was turned down stays so, whatever the table is.
-    ensures frontier { OnOk result ((table : Seq VerdictRow) → AreTurnedDownBut rules.now table (PlaceOf chosen.now) frontier.old.draft (waiting_in frontier.old.queue)
-        → IsFrontier rules.now table frontier.new) }
-    ensures checks { OnOk result (MeetsChecks (function_of frontier.new.draft)) }
-    ensures numbers { OnOk result (NumbersFit (function_of frontier.new.draft)) }
-    ensures room { OnOk result ((steps : ℕ) → HasRoomFor (suc steps) frontier.old.draft → HasRoomFor steps frontier.new.draft) }
+    ensures frontier { IfOk result (λ made. (table : Seq VerdictRow) → AreTurnedDownBut rules.now table (PlaceOf chosen.now) frontier.draft (waiting_in frontier.queue)
+        → IsFrontier rules.now table made) }
+    ensures checks { IfOk result (λ made. MeetsChecks (function_of made.draft)) }
+    ensures numbers { IfOk result (λ made. NumbersFit (function_of made.draft)) }
+    ensures room { IfOk result (λ made. (steps : ℕ) → HasRoomFor (suc steps) frontier.draft → HasRoomFor steps made.draft) }
 {
     matches_of_the_untouched();
     orders_are_kept();
-    let touched = rewrite_draft(alloc, &mut frontier.draft, rules, chosen)?;
-    frontier.queue.insert_reaching(
-        alloc,
-        &mut frontier.draft,
-        touched.as_slice(),
-        frontier.depth,
-    )?;
-    Ok(())
+    let Frontier {
+        draft,
+        queue,
+        depth,
+    } = frontier;
+    let (rewritten, touched) = rewrite_draft(alloc, draft, rules, chosen)?;
+    let (waiting, last) = queue.insert_reaching(alloc, rewritten, touched.as_slice(), depth)?;
+    Ok(Frontier {
+        draft: last,
+        queue: waiting,
+        depth,
+    })
 }
 
 /// Rewrites a draft at a match, and gives the places that were touched, that of the match among them.
 fn rewrite_draft(
     alloc: Global,
-    draft: &mut Draft,
+    draft: Draft,
     rules: &[Rule],
     chosen: &Match,
-) -> Result<Vec<Place>, AllocError>
+) -> Result<(Draft, Vec<Place>), AllocError>
     requires ready { AreReady rules.now }
-    requires settled { IsSettled draft.old }
-    requires clean { IsClean draft.old }
-    requires matches { IsMatchAmong rules.now (function_of draft.old) (placed_match draft.old chosen.now) }
-    requires checks { MeetsChecks (function_of draft.old) }
-    requires numbers { NumbersFit (function_of draft.old) }
-    requires room { HasRoomFor 1 draft.old }
-    ensures settled { OnOk result (IsSettled draft.new) }
-    ensures clean { OnOk result (IsClean draft.new) }
-    ensures stepped { OnOk result (IsSteppedAt rules.now draft.old draft.new chosen.now) }
-    ensures checks { OnOk result (MeetsChecks (function_of draft.new)) }
-    ensures numbers { OnOk result (NumbersFit (function_of draft.new)) }
-    ensures touched { IfOk result (λ places. AreTouched draft.old draft.new places.items) }
-    ensures places { IfOk result (λ places. All (IsPlaceIn (arena_of draft.new)) places.items) }
-    ensures root { IfOk result (λ places. Contains places.items (record { block = chosen.now.binding.block; number = chosen.now.binding.place })) }
-    ensures room { OnOk result ((steps : ℕ) → HasRoomFor (suc steps) draft.old → HasRoomFor steps draft.new) }
-    ensures orders { OnOk result (KeepsOrders (orders_of draft.old) (orders_of draft.new)) }
+    requires settled { IsSettled draft }
+    requires clean { IsClean draft }
+    requires matches { IsMatchAmong rules.now (function_of draft) (placed_match draft chosen.now) }
+    requires checks { MeetsChecks (function_of draft) }
+    requires numbers { NumbersFit (function_of draft) }
+    requires room { HasRoomFor 1 draft }
+    ensures settled { IfOk result (λ made. IsSettled made.0) }
+    ensures clean { IfOk result (λ made. IsClean made.0) }
+    ensures stepped { IfOk result (λ made. IsSteppedAt rules.now draft made.0 chosen.now) }
+    ensures checks { IfOk result (λ made. MeetsChecks (function_of made.0)) }
+    ensures numbers { IfOk result (λ made. NumbersFit (function_of made.0)) }
+    ensures touched { IfOk result (λ made. AreTouched draft made.0 made.1.items) }
+    ensures places { IfOk result (λ made. All (IsPlaceIn (arena_of made.0)) made.1.items) }
+    ensures root { IfOk result (λ made. Contains made.1.items (record { block = chosen.now.binding.block; number = chosen.now.binding.place })) }
+    ensures room { IfOk result (λ made. (steps : ℕ) → HasRoomFor (suc steps) draft → HasRoomFor steps made.0) }
+    ensures orders { IfOk result (λ made. KeepsOrders (orders_of draft) (orders_of made.0)) }
 {
     rewritten_functions_meet_checks();
     every_cleaned_function_refines_the_old();

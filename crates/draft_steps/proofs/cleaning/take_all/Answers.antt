@@ -28,7 +28,7 @@ loop-block-preserved c =
     let n : ℕ = (get_or c.args.unneeded.now c.loop-block.block-index (0, 0)).1 in
     elim c.if-is_standing.branch [
       | then-is_standing+in_ok-take_out w ↦
-          let new = w.take_out.new.self in
+          let new = w.take_out.new.draft in
           let e = w.in_ok-take_out.ensures in
           let stands : Stands now (get_or c.args.unneeded.now c.loop-block.block-index (0, 0)).0 (get_or c.args.unneeded.now c.loop-block.block-index (0, 0)).1 =
           (w.if-is_standing.ensures.result (get_or c.args.unneeded.now c.loop-block.block-index (0, 0)).0 (get_or c.args.unneeded.now c.loop-block.block-index (0, 0)).1 refl).0 refl in

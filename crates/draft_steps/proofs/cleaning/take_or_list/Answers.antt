@@ -46,7 +46,7 @@ returns-in_ok-take_out-clause-cleaning c = λ f rows roots all is.
     let count : IsUseCount c.args.draft.now.arena (registers.Result c.in-Result.block c.in-Result.number) c.uses_of.result = c.uses_of.ensures.count c.args.draft.now.arena c.requires.facts.uses in
     let un : ¬ IsNeeded c.args.draft.now.arena (registers.Result c.in-Result.block c.in-Result.number) =
     unused c.args.draft.now.arena (registers.Result c.in-Result.block c.in-Result.number) (subst (IsUseCount c.args.draft.now.arena (registers.Result c.in-Result.block c.in-Result.number)) none count) in
-    take_step c.args.draft.now c.take_out.new.self c.requires c.in-Result.block c.in-Result.number stands un c.in_ok-take_out.ensures.arena c.in_ok-take_out.ensures.numbers c.in_ok-take_out.ensures.fallen f rows roots c.args.used.now.items
+    take_step c.args.draft.now c.take_out.new.draft c.requires c.in-Result.block c.in-Result.number stands un c.in_ok-take_out.ensures.arena c.in_ok-take_out.ensures.numbers c.in_ok-take_out.ensures.fallen f rows roots c.args.used.now.items
     (λ r has. elim (all r has) [ inl old ↦ inl old | inr it ↦ inr (it ∙ c.in-Result.is) ]) is
 
 pub returns-else-is_standing-clause-cleaning : goal.returns-else-is_standing-clause-cleaning
@@ -84,7 +84,7 @@ returns-in_ok-push-clause-used c = λ had b n has.
 
 pub returns-in_ok-take_out-clause-used : goal.returns-in_ok-take_out-clause-used
 returns-in_ok-take_out-clause-used c = λ had b n has.
-    insts-stay c.args.draft.now c.take_out.new.self c.requires c.in_ok-take_out.ensures.whole c.in_ok-take_out.ensures.orders b n (had b n has)
+    insts-stay c.args.draft.now c.take_out.new.draft c.requires c.in_ok-take_out.ensures.whole c.in_ok-take_out.ensures.orders b n (had b n has)
 
 -- ---- uses
 
@@ -113,7 +113,7 @@ returns-in_ok-take_out-clause-reads c = λ was roots all keeps.
     let d = c.args.draft.now in
     let stands : Stands d c.in-Result.block c.in-Result.number = (c.if-is_standing.ensures.result c.in-Result.block c.in-Result.number refl).0 refl in
     let e = c.in_ok-take_out.ensures in
-    uses_less d c.take_out.new.self c.requires c.in-Result.block c.in-Result.number (stands_there d c.requires c.in-Result.block c.in-Result.number stands) e.arena e.numbers e.fallen was roots c.args.used.now.items
+    uses_less d c.take_out.new.draft c.requires c.in-Result.block c.in-Result.number (stands_there d c.requires c.in-Result.block c.in-Result.number stands) e.arena e.numbers e.fallen was roots c.args.used.now.items
     (λ r has. elim (all r has) [ inl old ↦ inl old | inr it ↦ inr (it ∙ c.in-Result.is) ]) keeps
 
 pub returns-in_ok-take_out-clause-read : goal.returns-in_ok-take_out-clause-read
@@ -121,7 +121,7 @@ returns-in_ok-take_out-clause-read c = λ roots all are.
     let d = c.args.draft.now in
     let stands : Stands d c.in-Result.block c.in-Result.number = (c.if-is_standing.ensures.result c.in-Result.block c.in-Result.number refl).0 refl in
     let e = c.in_ok-take_out.ensures in
-    read_less d c.take_out.new.self c.requires c.in-Result.block c.in-Result.number (stands_there d c.requires c.in-Result.block c.in-Result.number stands) e.arena e.numbers e.fallen roots
+    read_less d c.take_out.new.draft c.requires c.in-Result.block c.in-Result.number (stands_there d c.requires c.in-Result.block c.in-Result.number stands) e.arena e.numbers e.fallen roots
     (λ r has. elim (all r has) [ inl old ↦ inl old | inr it ↦ inr (it ∙ c.in-Result.is) ]) are
 
 pub returns-in_ok-take_out-clause-as_many : goal.returns-in_ok-take_out-clause-as_many
@@ -129,7 +129,7 @@ returns-in_ok-take_out-clause-as_many c =
     let d = c.args.draft.now in
     let stands : Stands d c.in-Result.block c.in-Result.number = (c.if-is_standing.ensures.result c.in-Result.block c.in-Result.number refl).0 refl in
     let e = c.in_ok-take_out.ensures in
-    as_many_read d c.take_out.new.self c.requires c.in-Result.block c.in-Result.number (stands_there d c.requires c.in-Result.block c.in-Result.number stands) e.arena e.numbers e.fallen
+    as_many_read d c.take_out.new.draft c.requires c.in-Result.block c.in-Result.number (stands_there d c.requires c.in-Result.block c.in-Result.number stands) e.arena e.numbers e.fallen
 
 pub returns-else-is_standing-clause-reads : goal.returns-else-is_standing-clause-reads
 returns-else-is_standing-clause-reads c = λ was roots all keeps.

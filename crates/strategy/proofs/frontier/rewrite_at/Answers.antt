@@ -20,51 +20,51 @@ use Rattle.strategy.proofs.frontier.rewrite_at.Goals as goal
 
 pub insert_reaching-requires-clause-queue : goal.insert_reaching-requires-clause-queue
 insert_reaching-requires-clause-queue c =
-    c.orders_are_kept.ensures.queues (orders_of c.args.frontier.now.draft) (orders_of c.rewrite_draft.new.draft) c.args.frontier.now.queue c.in_ok-touched.ensures.orders c.requires.queue
+    c.orders_are_kept.ensures.queues (orders_of c.args.frontier.draft) (orders_of c.in_ok-rewritten.rewritten) c.args.frontier.queue c.in_ok-rewritten.ensures.orders c.requires.queue
 
 pub insert_reaching-requires-clause-places : goal.insert_reaching-requires-clause-places
-insert_reaching-requires-clause-places c = subst (All (IsPlaceIn (arena_of c.rewrite_draft.new.draft))) (sym c.as_slice.ensures.value) c.in_ok-touched.ensures.places
+insert_reaching-requires-clause-places c = subst (All (IsPlaceIn (arena_of c.in_ok-rewritten.rewritten))) (sym c.as_slice.ensures.value) c.in_ok-rewritten.ensures.places
 
 pub returns-clause-stepped : goal.returns-clause-stepped
 returns-clause-stepped c =
-    let stepped = c.in_ok-touched.ensures.stepped in
-    let same : function_of c.insert_reaching.new.draft ≡ function_of c.rewrite_draft.new.draft =
-    same_function c.rewrite_draft.new.draft c.insert_reaching.new.draft c.in_ok-insert_reaching.ensures.draft.arena (same_numbers c.rewrite_draft.new.draft c.insert_reaching.new.draft c.in_ok-insert_reaching.ensures.draft) in
+    let stepped = c.in_ok-rewritten.ensures.stepped in
+    let same : function_of c.in_ok-waiting.last ≡ function_of c.in_ok-rewritten.rewritten =
+    same_function c.in_ok-rewritten.rewritten c.in_ok-waiting.last c.in_ok-waiting.ensures.draft.arena (same_numbers c.in_ok-rewritten.rewritten c.in_ok-waiting.last c.in_ok-waiting.ensures.draft) in
     (stepped.0, subst (IsCleaned stepped.0) (sym same) stepped.1, stepped.2)
 
 pub returns-clause-frontier : goal.returns-clause-frontier
 returns-clause-frontier c table others =
     let rules = c.args.rules.now in
-    let old = c.args.frontier.now.draft in
-    let new = c.rewrite_draft.new.draft in
-    let last = c.insert_reaching.new.draft in
-    let touched : List Place = c.in_ok-touched.touched.items in
-    let stepped = c.in_ok-touched.ensures.stepped in
+    let old = c.args.frontier.draft in
+    let new = c.in_ok-rewritten.rewritten in
+    let last = c.in_ok-waiting.last in
+    let touched : List Place = c.in_ok-rewritten.touched.items in
+    let stepped = c.in_ok-rewritten.ensures.stepped in
     let is = c.requires.matches in
     let chosen = c.args.chosen.now in
     record {
-      draft = still_settled new last c.in_ok-insert_reaching.ensures.draft c.in_ok-touched.ensures.settled;
-      clean = still_clean new last c.in_ok-insert_reaching.ensures.draft c.in_ok-touched.ensures.clean;
-      queue = c.in_ok-insert_reaching.ensures.queue;
+      draft = still_settled new last c.in_ok-waiting.ensures.draft c.in_ok-rewritten.ensures.settled;
+      clean = still_clean new last c.in_ok-waiting.ensures.draft c.in_ok-rewritten.ensures.clean;
+      queue = c.in_ok-waiting.ensures.queue;
       depth = c.requires.depth;
-      turned_down = still_down c.matches_of_the_untouched.ensures rules c.requires.ready old new last touched c.args.frontier.now.depth c.requires.depth c.in_ok-touched.ensures.settled
-          c.in_ok-touched.ensures.touched
-          (reached_as_before old new stepped.0 is.rule (placed_match old chosen).binding c.requires.settled c.in_ok-touched.ensures.settled (stepped.2 is.rule is.is_rule) stepped.1)
-          c.in_ok-insert_reaching.ensures.draft.arena (same_numbers c.rewrite_draft.new.draft c.insert_reaching.new.draft c.in_ok-insert_reaching.ensures.draft) (waiting_in c.args.frontier.now.queue) (waiting_in c.insert_reaching.new.self) c.in_ok-insert_reaching.ensures.stay
-          (λ b n m has. c.in_ok-insert_reaching.ensures.reaching (record { block = b; number = m }) n (subst (λ (l : List Place). Contains l (record { block = b; number = m })) (sym c.as_slice.ensures.value) has))
+      turned_down = still_down c.matches_of_the_untouched.ensures rules c.requires.ready old new last touched c.args.frontier.depth c.requires.depth c.in_ok-rewritten.ensures.settled
+          c.in_ok-rewritten.ensures.touched
+          (reached_as_before old new stepped.0 is.rule (placed_match old chosen).binding c.requires.settled c.in_ok-rewritten.ensures.settled (stepped.2 is.rule is.is_rule) stepped.1)
+          c.in_ok-waiting.ensures.draft.arena (same_numbers c.in_ok-rewritten.rewritten c.in_ok-waiting.last c.in_ok-waiting.ensures.draft) (waiting_in c.args.frontier.queue) (waiting_in c.in_ok-waiting.waiting) c.in_ok-waiting.ensures.stay
+          (λ b n m has. c.in_ok-waiting.ensures.reaching (record { block = b; number = m }) n (subst (λ (l : List Place). Contains l (record { block = b; number = m })) (sym c.as_slice.ensures.value) has))
           (PlaceOf chosen)
-          (λ b n of. subst (λ (x : ℕ). Contains touched (record { block = b; number = x })) of.1 (subst (λ (x : ℕ). Contains touched (record { block = x; number = chosen.binding.place })) of.0 c.in_ok-touched.ensures.root))
+          (λ b n of. subst (λ (x : ℕ). Contains touched (record { block = b; number = x })) of.1 (subst (λ (x : ℕ). Contains touched (record { block = x; number = chosen.binding.place })) of.0 c.in_ok-rewritten.ensures.root))
           table others;
     }
 
 pub returns-clause-checks : goal.returns-clause-checks
 returns-clause-checks c =
-    subst MeetsChecks (sym (same_function c.rewrite_draft.new.draft c.insert_reaching.new.draft c.in_ok-insert_reaching.ensures.draft.arena (same_numbers c.rewrite_draft.new.draft c.insert_reaching.new.draft c.in_ok-insert_reaching.ensures.draft))) c.in_ok-touched.ensures.checks
+    subst MeetsChecks (sym (same_function c.in_ok-rewritten.rewritten c.in_ok-waiting.last c.in_ok-waiting.ensures.draft.arena (same_numbers c.in_ok-rewritten.rewritten c.in_ok-waiting.last c.in_ok-waiting.ensures.draft))) c.in_ok-rewritten.ensures.checks
 
 pub returns-clause-numbers : goal.returns-clause-numbers
 returns-clause-numbers c =
-    subst NumbersFit (sym (same_function c.rewrite_draft.new.draft c.insert_reaching.new.draft c.in_ok-insert_reaching.ensures.draft.arena (same_numbers c.rewrite_draft.new.draft c.insert_reaching.new.draft c.in_ok-insert_reaching.ensures.draft))) c.in_ok-touched.ensures.numbers
+    subst NumbersFit (sym (same_function c.in_ok-rewritten.rewritten c.in_ok-waiting.last c.in_ok-waiting.ensures.draft.arena (same_numbers c.in_ok-rewritten.rewritten c.in_ok-waiting.last c.in_ok-waiting.ensures.draft))) c.in_ok-rewritten.ensures.numbers
 
 pub returns-clause-room : goal.returns-clause-room
 returns-clause-room c steps room =
-    subst (λ (a : Function). All (λ (b : Block). length b.insts + 32 * steps ≤ none) a.blocks) (sym c.in_ok-insert_reaching.ensures.draft.arena) (c.in_ok-touched.ensures.room steps room)
+    subst (λ (a : Function). All (λ (b : Block). length b.insts + 32 * steps ≤ none) a.blocks) (sym c.in_ok-waiting.ensures.draft.arena) (c.in_ok-rewritten.ensures.room steps room)

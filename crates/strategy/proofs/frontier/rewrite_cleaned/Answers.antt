@@ -47,7 +47,7 @@ returns-then-not-stepped c =
     let rules = c.args.rules.now.all.now in
     let conflicts = c.args.bounds.conflicts in
     let f = function_of c.loop-count.frontier.draft in
-    let g = function_of c.step.new.frontier.draft in
+    let g = function_of c.in_ok-stepped.next.draft in
     let stands : c.in_ok-stepped.stepped ≡ false = cc in
     ended rules conflicts c.args.bounds.steps c.loop-count.count c.args.f f g c.in_ok-last.last c.args.verdicts.now c.loop-count.verdicts c.step.new.verdicts (omega arith)
     c.loop-count.invariant.along c.in_ok-last.ensures (subst (StepsOrEnds rules conflicts f g c.loop-count.verdicts c.step.new.verdicts) stands c.in_ok-stepped.ensures.steps)
@@ -59,7 +59,7 @@ loop-count-preserved c =
     let steps = c.args.bounds.steps in
     let count = c.loop-count.count in
     let f = function_of c.loop-count.frontier.draft in
-    let g = function_of c.step.new.frontier.draft in
+    let g = function_of c.in_ok-stepped.next.draft in
     let stands : c.in_ok-stepped.stepped ≡ true = cc in
     let left = steps - (count + 1) in
     record {

@@ -10,9 +10,8 @@ use Rattle.draft_steps.specs.Walks.{IsIdle}
 use Rattle.draft.specs.declared.draft.Draft.{Draft}
 use Rattle.places.specs.declared.place.Place.{Place}
 use Rattle.draft_steps.specs.declared.queue.Queue.{Queue}
-use Rattle.places.specs.declared.waiting.Waiting.{Waiting}
 use Rattle.places.specs.Heaps.{IsHeap}
-use Rattle.places.specs.Waiting.{IsArranged, tally}
+use Rattle.places.specs.Waiting.{IsArranged, WaitingPlaces, tally}
 use Rattle.draft.proofs.Wholeness.{stands_there}
 use Rattle.draft_steps.proofs.queue.Queue.all.Goals as goal
 use Rattle.draft_steps.proofs.queue.Queue.all.Goals.{then-reached+in_ok-insert_block, else-reached}
@@ -20,10 +19,10 @@ use Rattle.draft_steps.proofs.queue.Queue.all.Goals.{then-reached+in_ok-insert_b
 empty_heap : (orders : List (List ℕ)) (heap : List Place) → heap ≡ [] → IsHeap orders heap
 empty_heap orders heap is = subst (IsHeap orders) (sym is) (record { numbered = λ k e within. absurd (omega arith); ordered = λ k over below within before. omega arith })
 
-empty_arranged : (orders : List (List ℕ)) (w : Waiting) → length w.marks ≡ length orders → ((b n : ℕ) → ¬ Has w.marks b n) → w.heap.items ≡ [] → IsArranged orders w
+empty_arranged : (orders : List (List ℕ)) (w : WaitingPlaces) → length w.marks ≡ length orders → ((b n : ℕ) → ¬ Has w.marks b n) → w.heap ≡ [] → IsArranged orders w
 empty_arranged orders w blocks unmarked none = record {
   blocks = blocks;
-  heap = empty_heap orders w.heap.items none;
+  heap = empty_heap orders w.heap none;
   once = record {
     once = λ b n has. absurd (unmarked b n has);
     only = λ b n free. subst (λ (l : List Place). tally l b n ≡ 0) (sym none) refl;
@@ -55,15 +54,16 @@ none_more d was block unreached so_far b n = (
   ],
 )
 
+pub invariant_of-queue : goal.invariant_of-queue
+invariant_of-queue c =
+    subst (λ (n : ℕ). IsIdle n c.in_ok-none-2.field-0) (c.blocks-3.ensures ∙ sym (c.in_ok-none.ensures.blocks ∙ c.blocks-2.ensures)) c.in_ok-none-2.ensures
+
 pub loop-block-init : goal.loop-block-init
 loop-block-init c =
     let d = c.args.draft.now in
     let blocks : length d.arena.blocks ≡ length d.orders.items = sym c.requires.ordered in
     record {
-      queue = record {
-        arranged = empty_arranged d.orders.items c.in_ok-none.field-0 (c.in_ok-none.ensures.blocks ∙ c.blocks-2.ensures ∙ blocks) c.in_ok-none.ensures.marks c.in_ok-none.ensures.heap;
-        idle = subst (λ (n : ℕ). IsIdle n c.in_ok-none-2.field-0) (c.blocks-3.ensures ∙ blocks) c.in_ok-none-2.ensures;
-      };
+      queue = empty_arranged d.orders.items c.in_ok-none.field-0 (c.in_ok-none.ensures.blocks ∙ c.blocks-2.ensures ∙ blocks) c.in_ok-none.ensures.marks c.in_ok-none.ensures.heap;
       added = λ b n. (λ h. absurd (c.in_ok-none.ensures.marks b n h), λ (less, there, stands). absurd (omega arith));
     }
 

@@ -1,20 +1,23 @@
 -- What the walk came to is put in, and forgotten.
-use Rattle.std.proofs.Common.{inl, inr, All, Contains, sym, subst, ◌∙◌}
+use Rattle.std.proofs.Common.{ℕ, inl, inr, All, Contains, sym, subst, ◌∙◌}
 use Rattle.std.proofs.lemmas.List.Elements.{All-contains}
 use Rattle.places.specs.declared.place.Place.{Place}
 use Rattle.places.specs.Heaps.{IsNumbered}
 use Rattle.places.specs.Sets.{Has}
-use Rattle.places.specs.Waiting.{IsArranged}
+use Rattle.places.specs.Waiting.{IsArranged, WaitingPlaces}
 use Rattle.draft_steps.specs.Walks.{IsIdle}
 use Rattle.draft_steps.proofs.QueueSteps.{walk-inside, walk-numbered}
 use Rattle.draft_steps.proofs.queue.Queue.insert_reaching.Goals as goal
 
 pub reach-requires-clause-idle : goal.reach-requires-clause-idle
-reach-requires-clause-idle c = subst (λ n. IsIdle n c.args.self.now.walk) c.requires.settled.whole.ordered c.requires.queue.idle
+reach-requires-clause-idle c =
+    let was = subst (IsArranged c.args.draft.orders.items) (sym c.self.view_is) c.requires.queue in
+    subst (λ n. IsIdle n c.self.inside.walk) (was.blocks ∙ c.requires.settled.whole.ordered) c.self.invariant
 
 pub insert_all-requires-clause-arranged : goal.insert_all-requires-clause-arranged
 insert_all-requires-clause-arranged c =
-    subst (λ o. IsArranged o c.args.self.now.waiting) (sym (c.as_slice.ensures.value ∙ c.in_ok-reach.ensures.draft.orders)) c.requires.queue.arranged
+    let was = subst (IsArranged c.args.draft.orders.items) (sym c.self.view_is) c.requires.queue in
+    subst (λ o. IsArranged o c.self.inside.waiting) (sym (c.as_slice.ensures.value ∙ c.in_ok-reach.ensures.draft.orders)) was
 
 pub insert_all-requires-clause-places : goal.insert_all-requires-clause-places
 insert_all-requires-clause-places c =
@@ -29,11 +32,16 @@ clear-requires-clause-marked c = c.in_ok-reach.ensures.walk.marked
 pub clear-requires-clause-blocks : goal.clear-requires-clause-blocks
 clear-requires-clause-blocks c = walk-inside c.reach.new.draft c.reach.new.self c.in_ok-reach.ensures.walk
 
+pub invariant_of-result : goal.invariant_of-result
+invariant_of-result c =
+    let now = subst (λ o. IsArranged o c.insert_all.new.waiting) c.as_slice.ensures.value c.in_ok-insert_all.ensures.arranged in
+    subst (λ n. IsIdle n c.clear.new.self) (c.in_ok-reach.ensures.walk.blocks ∙ sym c.in_ok-reach.ensures.draft.whole.ordered ∙ sym now.blocks) c.clear.ensures
+
 pub returns-clause-queue : goal.returns-clause-queue
-returns-clause-queue c = record {
-  arranged = subst (λ o. IsArranged o c.insert_all.new.waiting) c.as_slice.ensures.value c.in_ok-insert_all.ensures.arranged;
-  idle = subst (λ n. IsIdle n c.clear.new.self) (c.in_ok-reach.ensures.walk.blocks ∙ sym c.in_ok-reach.ensures.draft.whole.ordered) c.clear.ensures;
-}
+returns-clause-queue c = subst (λ o. IsArranged o c.insert_all.new.waiting) c.as_slice.ensures.value c.in_ok-insert_all.ensures.arranged
+
+pub returns-clause-stay : goal.returns-clause-stay
+returns-clause-stay c = subst (λ (w : WaitingPlaces). (b n : ℕ) → Has w.marks b n → Has c.insert_all.new.waiting.marks b n) c.self.view_is c.in_ok-insert_all.ensures.stay
 
 pub returns-clause-reaching : goal.returns-clause-reaching
 returns-clause-reaching c = λ p n there stands reaches.
@@ -42,6 +50,6 @@ returns-clause-reaching c = λ p n there stands reaches.
 
 pub returns-clause-only : goal.returns-clause-only
 returns-clause-only c = λ b n waits. elim (c.in_ok-insert_all.ensures.only b n waits) [
-  | inl before ↦ inl before
+  | inl before ↦ inl (subst (λ (w : WaitingPlaces). Has w.marks b n) c.self.view_is before)
   | inr among ↦ inr (c.in_ok-reach.ensures.only b n (subst (λ l. Contains l (record { block = b; number = n })) c.as_slice-2.ensures.value among))
 ]

@@ -4,7 +4,7 @@ use Rattle.std.proofs.lemmas.Option.{slice_get-get_or}
 use Rattle.substitution.specs.Substitution.{substituted_end, substituted_inst}
 use Rattle.readers.specs.Changes.{instead}
 use Rattle.readers.proofs.Changing.{block_ended, block_with}
-use Rattle.draft.proofs.operands.swap_at.Goals as goal
+use Rattle.draft_steps.proofs.replacing.swap_at.Goals as goal
 
 pub returns-then-place-eq-END-clause-end : goal.returns-then-place-eq-END-clause-end
 returns-then-place-eq-END-clause-end c = λ is. block_ended c.args.blocks.now c.args.place.block (substituted_end (instead c.args.swap.now.from c.args.swap.now.to)) c.get_mut-block.result.now c.substitute_end.new.end

@@ -1,7 +1,7 @@
 -- the operand is put at the places before this one
 use Rattle.std.proofs.Common.{drop}
 use Rattle.draft.proofs.ReplacedAt.{IsReplacing}
-use Rattle.draft.proofs.draft.Draft.replace.Given as goal
+use Rattle.draft_steps.proofs.replacing.replace.Given as goal
 
 abbrev pub invariant-loop-place : goal.invariant-loop-place
-invariant-loop-place l = IsReplacing l.fn.self l.self l.swap.from l.swap.to (drop l.place-index l.place-items)
+invariant-loop-place l = IsReplacing l.fn.draft l.draft l.swap.from l.swap.to (drop l.place-index l.place-items)

@@ -14,19 +14,19 @@ use Rattle.draft.proofs.Exchange.{was_counted, was_numbers, with_blocks}
 use Rattle.readers.proofs.Places.{all_listed}
 use Rattle.draft.proofs.Rows.{standing_marked, without_standing}
 use Rattle.draft.proofs.Wholeness.{counted_insts}
-use Rattle.draft.proofs.draft.Draft.take_out.Goals as goal
+use Rattle.draft_steps.proofs.removing.take_out.Goals as goal
 
 pub push_reads-requires : goal.push_reads-requires
-push_reads-requires c = counted_insts c.args.self.now c.requires.whole
+push_reads-requires c = counted_insts c.args.draft.now c.requires.whole
 
 pub forget_reads-requires-clause-insts : goal.forget_reads-requires-clause-insts
-forget_reads-requires-clause-insts c = counted_insts c.args.self.now c.requires.whole
+forget_reads-requires-clause-insts c = counted_insts c.args.draft.now c.requires.whole
 
 pub forget_reads-requires-clause-there : goal.forget_reads-requires-clause-there
-forget_reads-requires-clause-there c = was_numbers c.args.self.now c.requires.whole c.args.at c.requires.at
+forget_reads-requires-clause-there c = was_numbers c.args.draft.now c.requires.whole c.args.at c.requires.at
 
 pub forget_reads-requires-clause-counted : goal.forget_reads-requires-clause-counted
-forget_reads-requires-clause-counted c = was_counted c.args.self.now c.requires.whole c.args.at c.requires.at
+forget_reads-requires-clause-counted c = was_counted c.args.draft.now c.requires.whole c.args.at c.requires.at
 
 pub clear_mark-requires-clause-number : goal.clear_mark-requires-clause-number
 clear_mark-requires-clause-number c =
@@ -37,7 +37,7 @@ clear_mark-requires-clause-number c =
 
 pub returns-clause-whole : goal.returns-clause-whole
 returns-clause-whole c =
-    let old = c.args.self.now in
+    let old = c.args.draft.now in
     let at = c.args.at in
     let whole = c.requires.whole in
     let (block, was, is_block, here) = inst_there old.arena at.block at.number c.requires.at in
@@ -58,7 +58,7 @@ returns-clause-whole c =
 
 pub returns-clause-numbers : goal.returns-clause-numbers
 returns-clause-numbers c =
-    let old = c.args.self.now in
+    let old = c.args.draft.now in
     let b = c.args.at.block in
     let n = c.args.at.number in
     let (block, is_block, within) = c.requires.at in

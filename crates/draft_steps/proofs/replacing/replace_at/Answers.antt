@@ -18,21 +18,21 @@ use Rattle.readers.proofs.Places.{all_listed, few_counted, numbers_for, one_list
 use Rattle.draft.proofs.ReplacedAt.{few_after, reads_after, swapped_arena, whole_after}
 use Rattle.draft.proofs.Swapped.{swapped_known, swapped_listed}
 use Rattle.draft.proofs.Wholeness.{all_known, counted_insts, few_insts}
-use Rattle.draft.proofs.draft.Draft.replace_at.Goals as goal
+use Rattle.draft_steps.proofs.replacing.replace_at.Goals as goal
 
 pub forget_reads-requires-clause-insts : goal.forget_reads-requires-clause-insts
-forget_reads-requires-clause-insts c = counted_insts c.args.self.now c.requires.whole
+forget_reads-requires-clause-insts c = counted_insts c.args.draft.now c.requires.whole
 
 pub forget_reads-requires-clause-there : goal.forget_reads-requires-clause-there
-forget_reads-requires-clause-there c = numbers_for c.args.self.now.arena c.args.self.now.facts c.args.place c.requires.whole.facts (all_known c.args.self.now c.requires.whole) c.requires.place
+forget_reads-requires-clause-there c = numbers_for c.args.draft.now.arena c.args.draft.now.facts c.args.place c.requires.whole.facts (all_known c.args.draft.now c.requires.whole) c.requires.place
 
 pub forget_reads-requires-clause-counted : goal.forget_reads-requires-clause-counted
-forget_reads-requires-clause-counted c = times_counted c.args.self.now.arena c.args.self.now.facts c.requires.whole.facts (few_insts c.args.self.now c.requires.whole) c.args.place c.requires.place
+forget_reads-requires-clause-counted c = times_counted c.args.draft.now.arena c.args.draft.now.facts c.requires.whole.facts (few_insts c.args.draft.now c.requires.whole) c.args.place c.requires.place
 
 pub swap_at-requires-clause-block : goal.swap_at-requires-clause-block
 swap_at-requires-clause-block c =
     let (block, at, inside) = c.requires.place in
-    slice_get_within c.args.self.now.arena.blocks c.args.place.block block at
+    slice_get_within c.args.draft.now.arena.blocks c.args.place.block block at
 
 pub swap_at-requires-clause-inst : goal.swap_at-requires-clause-inst
 swap_at-requires-clause-inst c = λ block at.
@@ -47,24 +47,24 @@ reads_known old whole from to p blocks inside known arena r there =
 
 pub count_reads-requires-clause-insts : goal.count_reads-requires-clause-insts
 count_reads-requires-clause-insts c =
-    let old = c.args.self.now in
+    let old = c.args.draft.now in
     let p = c.args.place in
     let arena = swapped_arena old.arena c.swap_at.new.blocks p c.args.swap.now.from c.args.swap.now.to c.swap_at.ensures.end c.swap_at.ensures.inst in
     few_counted (with_blocks old c.swap_at.new.blocks).arena (few_after old (with_blocks old c.swap_at.new.blocks) c.args.swap.now.from c.args.swap.now.to p c.requires.whole c.requires.place arena)
 
 pub count_reads-requires-clause-there : goal.count_reads-requires-clause-there
 count_reads-requires-clause-there c = λ r there.
-    let old = c.args.self.now in
+    let old = c.args.draft.now in
     let p = c.args.place in
     let arena = swapped_arena old.arena c.swap_at.new.blocks p c.args.swap.now.from c.args.swap.now.to c.swap_at.ensures.end c.swap_at.ensures.inst in
     (c.forget_reads.ensures.there r).1 (c.requires.whole.facts.uses.there r (reads_known old c.requires.whole c.args.swap.now.from c.args.swap.now.to p c.swap_at.new.blocks c.requires.place c.requires.to arena r there))
 
 pub list-requires : goal.list-requires
-list-requires c = c.requires.whole.readers.there c.in-Register.read (subst (IsKnown c.args.self.now.arena) c.in-Register.is c.requires.to)
+list-requires c = c.requires.whole.readers.there c.in-Register.read (subst (IsKnown c.args.draft.now.arena) c.in-Register.is c.requires.to)
 
 pub returns-in-Register-clause-whole : goal.returns-in-Register-clause-whole
 returns-in-Register-clause-whole c =
-    let old = c.args.self.now in
+    let old = c.args.draft.now in
     let p = c.args.place in
     let from = c.args.swap.now.from in
     let to = c.args.swap.now.to in
@@ -82,11 +82,11 @@ returns-in-Register-clause-whole c =
             | inl older ↦ inl older
             | inr put ↦ let is = sym put ∙ c.in-Register.is in inr (let same : r ≡ c.in-Register.read = cc in same)
           ]);
-    })) c.list.ensures
+    })) c.list.ensures.listed
 
 pub returns-in_default-clause-whole : goal.returns-in_default-clause-whole
 returns-in_default-clause-whole c =
-    let old = c.args.self.now in
+    let old = c.args.draft.now in
     let p = c.args.place in
     let from = c.args.swap.now.from in
     let to = c.args.swap.now.to in
@@ -108,8 +108,8 @@ returns-in_default-clause-whole c =
 
 pub returns-in-Register-clause-arena : goal.returns-in-Register-clause-arena
 returns-in-Register-clause-arena c =
-    on_ok_weaker c.list.result (λ listed. swapped_arena c.args.self.now.arena c.swap_at.new.blocks c.args.place c.args.swap.now.from c.args.swap.now.to c.swap_at.ensures.end c.swap_at.ensures.inst) c.list.ensures
+    on_ok_weaker c.list.result (λ listed. swapped_arena c.args.draft.now.arena c.swap_at.new.blocks c.args.place c.args.swap.now.from c.args.swap.now.to c.swap_at.ensures.end c.swap_at.ensures.inst) c.list.ensures.listed
 
 pub returns-in_default-clause-arena : goal.returns-in_default-clause-arena
 returns-in_default-clause-arena c =
-    swapped_arena c.args.self.now.arena c.swap_at.new.blocks c.args.place c.args.swap.now.from c.args.swap.now.to c.swap_at.ensures.end c.swap_at.ensures.inst
+    swapped_arena c.args.draft.now.arena c.swap_at.new.blocks c.args.place c.args.swap.now.from c.args.swap.now.to c.swap_at.ensures.end c.swap_at.ensures.inst

@@ -9,7 +9,7 @@ use Rattle.draft_steps.proofs.Room.{room_stays}
 use Rattle.draft_steps.proofs.Settled.{is_clean, is_cleaned, is_settled}
 use Rattle.draft_steps.proofs.OneStep.{are_read, are_touched, bound, checks_then, good_then, is_rewritten, keeps_then, put_places, readable, replaced_places, result_is_needed, result_readable, room_then, root_inst, root_is, root_place, root_stands, waits}
 use Rattle.draft_steps.proofs.Touching.{all_among, put_among, replaced_among, root_among}
-use Rattle.draft_steps.proofs.stepping.step.Goals as goal
+use Rattle.draft_steps.proofs.stepping.step_in.Goals as goal
 
 pub rewrite_draft-requires-clause-bound : goal.rewrite_draft-requires-clause-bound
 rewrite_draft-requires-clause-bound c =

@@ -1,7 +1,7 @@
 use Rattle.std.proofs.Common.{refl}
 use Rattle.readers.specs.Changes.{gone}
 use Rattle.readers.proofs.Changing.{block_with}
-use Rattle.draft.proofs.draft.empty_inst.Goals as goal
+use Rattle.draft_steps.proofs.removing.empty_inst.Goals as goal
 
 pub returns : goal.returns
 returns c = block_with c.args.blocks.now c.args.at.block c.args.at.number gone c.get_mut.result.now c.get_mut-inst.result.now _ c.requires c.get_mut.ensures.value c.get_mut-inst.ensures.value refl

@@ -33,7 +33,7 @@ use Rattle.draft.proofs.NumberedInsts.{next-keeps}
 use Rattle.draft.proofs.Rows.{put_standing, standing_changed}
 use Rattle.readers.proofs.Tables.{row_within}
 use Rattle.draft.proofs.Wholeness.{few_insts, stands_marked, stands_there}
-use Rattle.draft.proofs.draft.Draft.put_before.Goals as goal
+use Rattle.draft_steps.proofs.inserting.put_before.Goals as goal
 
 -- the tables have a row for each block
 record InTables (d : Draft) (b : ℕ) : Type 0 where
@@ -85,70 +85,70 @@ module _ (d : Draft) (whole : IsWhole d) (b n : ℕ) (block : Block) (at : IsBlo
 
 pub put_in_order-requires-clause-block : goal.put_in_order-requires-clause-block
 put_in_order-requires-clause-block c =
-    let (block, at, inside) = stands_there c.args.self.now c.requires.whole c.args.at.block c.args.at.number c.requires.at in
-    (in_tables c.args.self.now c.requires.whole c.args.at.block c.args.at.number block at inside).orders
+    let (block, at, inside) = stands_there c.args.draft.now c.requires.whole c.args.at.block c.args.at.number c.requires.at in
+    (in_tables c.args.draft.now c.requires.whole c.args.at.block c.args.at.number block at inside).orders
 
 pub put_in_order-requires-clause-at : goal.put_in_order-requires-clause-at
 put_in_order-requires-clause-at c =
-    let (block, at, inside) = stands_there c.args.self.now c.requires.whole c.args.at.block c.args.at.number c.requires.at in
-    (stands_marked c.args.self.now c.requires.whole c.args.at.block block at c.args.at.number c.requires.at).0
+    let (block, at, inside) = stands_there c.args.draft.now c.requires.whole c.args.at.block c.args.at.number c.requires.at in
+    (stands_marked c.args.draft.now c.requires.whole c.args.at.block block at c.args.at.number c.requires.at).0
 
 pub put_in_order-requires-clause-few : goal.put_in_order-requires-clause-few
 put_in_order-requires-clause-few c =
-    let (block, at, inside) = stands_there c.args.self.now c.requires.whole c.args.at.block c.args.at.number c.requires.at in
+    let (block, at, inside) = stands_there c.args.draft.now c.requires.whole c.args.at.block c.args.at.number c.requires.at in
     let ordered = (c.requires.whole.rows c.args.at.block block at).ordered in
     let room = c.requires.room block at in
     omega arith
 
 pub push_inst-requires : goal.push_inst-requires
 push_inst-requires c =
-    let (block, at, inside) = stands_there c.args.self.now c.requires.whole c.args.at.block c.args.at.number c.requires.at in
-    (in_tables c.args.self.now c.requires.whole c.args.at.block c.args.at.number block at inside).blocks
+    let (block, at, inside) = stands_there c.args.draft.now c.requires.whole c.args.at.block c.args.at.number c.requires.at in
+    (in_tables c.args.draft.now c.requires.whole c.args.at.block c.args.at.number block at inside).blocks
 
 pub push_mark-requires : goal.push_mark-requires
 push_mark-requires c =
-    let (block, at, inside) = stands_there c.args.self.now c.requires.whole c.args.at.block c.args.at.number c.requires.at in
-    (in_tables c.args.self.now c.requires.whole c.args.at.block c.args.at.number block at inside).stand
+    let (block, at, inside) = stands_there c.args.draft.now c.requires.whole c.args.at.block c.args.at.number c.requires.at in
+    (in_tables c.args.draft.now c.requires.whole c.args.at.block c.args.at.number block at inside).stand
 
 pub push_count-requires : goal.push_count-requires
 push_count-requires c =
-    let (block, at, inside) = stands_there c.args.self.now c.requires.whole c.args.at.block c.args.at.number c.requires.at in
-    (in_tables c.args.self.now c.requires.whole c.args.at.block c.args.at.number block at inside).uses
+    let (block, at, inside) = stands_there c.args.draft.now c.requires.whole c.args.at.block c.args.at.number c.requires.at in
+    (in_tables c.args.draft.now c.requires.whole c.args.at.block c.args.at.number block at inside).uses
 
 pub push_list-requires : goal.push_list-requires
 push_list-requires c =
-    let (block, at, inside) = stands_there c.args.self.now c.requires.whole c.args.at.block c.args.at.number c.requires.at in
-    (in_tables c.args.self.now c.requires.whole c.args.at.block c.args.at.number block at inside).readers
+    let (block, at, inside) = stands_there c.args.draft.now c.requires.whole c.args.at.block c.args.at.number c.requires.at in
+    (in_tables c.args.draft.now c.requires.whole c.args.at.block c.args.at.number block at inside).readers
 
 pub count_reads-requires-clause-insts : goal.count_reads-requires-clause-insts
 count_reads-requires-clause-insts c =
-    let (block, at, inside) = stands_there c.args.self.now c.requires.whole c.args.at.block c.args.at.number c.requires.at in
+    let (block, at, inside) = stands_there c.args.draft.now c.requires.whole c.args.at.block c.args.at.number c.requires.at in
     let number_is : c.in_ok-number.number ≡ length block.insts = c.in_ok-number.ensures.number ∙ (c.requires.whole.rows c.args.at.block block at).ordered in
-    now_few c.args.self.now c.requires.whole c.args.at.block c.args.at.number block at inside c.args.inst (c.requires.room block at) c.requires.known c.push_inst.new.blocks c.in_ok-push_inst.ensures c.in_ok-number.number number_is
+    now_few c.args.draft.now c.requires.whole c.args.at.block c.args.at.number block at inside c.args.inst (c.requires.room block at) c.requires.known c.push_inst.new.blocks c.in_ok-push_inst.ensures c.in_ok-number.number number_is
 
 pub list_reads-requires-clause-insts : goal.list_reads-requires-clause-insts
 list_reads-requires-clause-insts c =
-    let (block, at, inside) = stands_there c.args.self.now c.requires.whole c.args.at.block c.args.at.number c.requires.at in
+    let (block, at, inside) = stands_there c.args.draft.now c.requires.whole c.args.at.block c.args.at.number c.requires.at in
     let number_is : c.in_ok-number.number ≡ length block.insts = c.in_ok-number.ensures.number ∙ (c.requires.whole.rows c.args.at.block block at).ordered in
-    now_few c.args.self.now c.requires.whole c.args.at.block c.args.at.number block at inside c.args.inst (c.requires.room block at) c.requires.known c.push_inst.new.blocks c.in_ok-push_inst.ensures c.in_ok-number.number number_is
+    now_few c.args.draft.now c.requires.whole c.args.at.block c.args.at.number block at inside c.args.inst (c.requires.room block at) c.requires.known c.push_inst.new.blocks c.in_ok-push_inst.ensures c.in_ok-number.number number_is
 
 pub count_reads-requires-clause-there : goal.count_reads-requires-clause-there
 count_reads-requires-clause-there c =
-    let (block, at, inside) = stands_there c.args.self.now c.requires.whole c.args.at.block c.args.at.number c.requires.at in
+    let (block, at, inside) = stands_there c.args.draft.now c.requires.whole c.args.at.block c.args.at.number c.requires.at in
     let number_is : c.in_ok-number.number ≡ length block.insts = c.in_ok-number.ensures.number ∙ (c.requires.whole.rows c.args.at.block block at).ordered in
-    now_numbers c.args.self.now c.requires.whole c.args.at.block c.args.at.number block at inside c.args.inst (c.requires.room block at) c.requires.known c.push_inst.new.blocks c.in_ok-push_inst.ensures c.in_ok-number.number number_is
+    now_numbers c.args.draft.now c.requires.whole c.args.at.block c.args.at.number block at inside c.args.inst (c.requires.room block at) c.requires.known c.push_inst.new.blocks c.in_ok-push_inst.ensures c.in_ok-number.number number_is
     c.push_count.new.uses c.in_ok-push_count.ensures.parameters c.in_ok-push_count.ensures.results
 
 pub list_reads-requires-clause-there : goal.list_reads-requires-clause-there
 list_reads-requires-clause-there c =
-    let (block, at, inside) = stands_there c.args.self.now c.requires.whole c.args.at.block c.args.at.number c.requires.at in
+    let (block, at, inside) = stands_there c.args.draft.now c.requires.whole c.args.at.block c.args.at.number c.requires.at in
     let number_is : c.in_ok-number.number ≡ length block.insts = c.in_ok-number.ensures.number ∙ (c.requires.whole.rows c.args.at.block block at).ordered in
-    now_lists c.args.self.now c.requires.whole c.args.at.block c.args.at.number block at inside c.args.inst (c.requires.room block at) c.requires.known c.push_inst.new.blocks c.in_ok-push_inst.ensures c.in_ok-number.number number_is
+    now_lists c.args.draft.now c.requires.whole c.args.at.block c.args.at.number block at inside c.args.inst (c.requires.room block at) c.requires.known c.push_inst.new.blocks c.in_ok-push_inst.ensures c.in_ok-number.number number_is
     c.push_list.new.self c.in_ok-push_list.ensures.parameters c.in_ok-push_list.ensures.results
 
 pub returns-clause-whole : goal.returns-clause-whole
 returns-clause-whole c =
-    let old = c.args.self.now in
+    let old = c.args.draft.now in
     let b = c.args.at.block in
     let (block, at, inside) = stands_there old c.requires.whole b c.args.at.number c.requires.at in
     let n : ℕ = c.in_ok-number.number in
@@ -173,16 +173,16 @@ returns-clause-whole c =
     })
 
 pub returns-clause-arena : goal.returns-clause-arena
-returns-clause-arena c = ap (λ (l : List Block). (with_blocks c.args.self.now l).arena) c.in_ok-push_inst.ensures
+returns-clause-arena c = ap (λ (l : List Block). (with_blocks c.args.draft.now l).arena) c.in_ok-push_inst.ensures
 
 pub returns-clause-place : goal.returns-clause-place
 returns-clause-place c =
-    let (block, at, inside) = stands_there c.args.self.now c.requires.whole c.args.at.block c.args.at.number c.requires.at in
-    (refl, c.in_ok-number.ensures.number ∙ (c.requires.whole.rows c.args.at.block block at).ordered ∙ sym (end_of-is c.args.self.now.arena c.args.at.block block at))
+    let (block, at, inside) = stands_there c.args.draft.now c.requires.whole c.args.at.block c.args.at.number c.requires.at in
+    (refl, c.in_ok-number.ensures.number ∙ (c.requires.whole.rows c.args.at.block block at).ordered ∙ sym (end_of-is c.args.draft.now.arena c.args.at.block block at))
 
 pub returns-clause-numbers : goal.returns-clause-numbers
 returns-clause-numbers c =
-    let old = c.args.self.now in
+    let old = c.args.draft.now in
     let b = c.args.at.block in
     let (block, at, inside) = stands_there old c.requires.whole b c.args.at.number c.requires.at in
     let tables = in_tables old c.requires.whole b c.args.at.number block at inside in
@@ -201,7 +201,7 @@ returns-clause-numbers c =
 
 pub returns-clause-orders : goal.returns-clause-orders
 returns-clause-orders c =
-    let old = c.args.self.now in
+    let old = c.args.draft.now in
     let order : List ℕ = get_or old.orders.items c.args.at.block [] in
     subst (KeepsOrders old.orders.items)
     (sym (c.in_ok-number.ensures.orders ∙ ap (λ (m : ℕ). slice_set old.orders.items c.args.at.block (put_before order c.args.at.number m)) c.in_ok-number.ensures.number))
@@ -209,7 +209,7 @@ returns-clause-orders c =
 
 pub returns-clause-fallen : goal.returns-clause-fallen
 returns-clause-fallen c =
-    let old = c.args.self.now in
+    let old = c.args.draft.now in
     let (block, at, inside) = stands_there old c.requires.whole c.args.at.block c.args.at.number c.requires.at in
     c.in_ok-push.ensures.items
     ∙ ap (λ (m : ℕ). old.fallen.items ++ registers.Result c.args.at.block m ∷ []) (c.in_ok-number.ensures.number ∙ (c.requires.whole.rows c.args.at.block block at).ordered ∙ sym (end_of-is old.arena c.args.at.block block at))
