@@ -61,7 +61,7 @@ const OPPOSED: Clauses = &[&[1], &[-1]];
 const FULL: Clauses = &[&[1, 2], &[1, -2], &[-1, 2], &[-1, -2]];
 
 /// Clauses, a log over them, whether each of its steps follows, and whether it refutes them.
-static CHECKED: [(Clauses, Steps, bool, bool); 11] = [
+static CHECKED: [(Clauses, Steps, bool, bool); 14] = [
     (&[&[]], &[(&[], &[0])], true, true),
     // the empty clause doesn't end this log
     (&[&[]], &[(&[], &[0]), (&[1], &[1])], true, false),
@@ -79,6 +79,16 @@ static CHECKED: [(Clauses, Steps, bool, bool); 11] = [
     // what the first step held is let go; and a step names a later one
     (FULL, &[(&[1], &[0, 1]), (&[], &[1])], false, false),
     (FULL, &[(&[], &[5, 2, 3]), (&[1], &[0, 1])], false, false),
+    // a clause that is named again still has its unit literal, and so is false at no end
+    (
+        FULL,
+        &[(&[1], &[0, 1]), (&[], &[4, 4, 2, 4, 2, 3])],
+        true,
+        true,
+    ),
+    (FULL, &[(&[1], &[0, 1]), (&[], &[4, 2, 2])], false, false),
+    // what one step has named is new to the next
+    (FULL, &[(&[2], &[0, 2]), (&[], &[0, 2, 3])], false, false),
 ];
 
 /// Whether each step of a log follows, and whether the log refutes the set.
