@@ -4,7 +4,7 @@ ghost use Rattle.std.specs.Prelude.{◌≤◌};
 ghost use Rattle.cdcl_log.specs.Found.{most_conflicts};
 
 use crate::failure::Failure;
-use cdcl_log::{Found, search_counted};
+use cdcl_log::{Found, search};
 use clauses::{Cnf, Step};
 use rup_checker::check_refutation;
 use std::time::{Duration, Instant};
@@ -31,8 +31,6 @@ pub(crate) enum Outcome {
 pub(crate) struct Searched {
     pub(crate) outcome: Outcome,
     pub(crate) searching: Duration,
-    /// How many entries were propagated where the search learned from conflicts.
-    pub(crate) propagations: u64,
 }
 
 impl LogSize {
@@ -60,15 +58,10 @@ pub(crate) fn search_set(rt: &HostRuntime, set: &Cnf, limit: u32) -> Result<Sear
     requires { limit ≤ most_conflicts }
 {
     let start = now(rt)?;
-    let mut propagations = 0;
-    let found = search_counted(rt.alloc(), set, limit, &mut propagations)?;
+    let found = search(rt.alloc(), set, limit)?;
     let searching = now(rt)?.duration_since(start);
     let outcome = checked(rt, set, found)?;
-    Ok(Searched {
-        outcome,
-        searching,
-        propagations,
-    })
+    Ok(Searched { outcome, searching })
 }
 
 /// What was found, with the log of a refutation checked.

@@ -9,4 +9,4 @@ mod inputs;
 mod search_choice;
 
 pub use depth_first::{Assignment, Found};
-pub use search_choice::{search, search_counted};
+pub use search_choice::search;

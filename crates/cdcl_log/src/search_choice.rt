@@ -19,22 +19,8 @@ pub fn search(alloc: Global, cnf: &Cnf, limit: u32) -> Result<Found, AllocError>
     requires { limit ≤ most_conflicts }
     ensures { IfOk result (IsFound cnf.now limit) }
 {
-    let mut propagations = 0;
-    search_counted(alloc, cnf, limit, &mut propagations)
-}
-
-/// The same search, which adds how many entries it propagated to a count where it learns from conflicts.
-pub fn search_counted(
-    alloc: Global,
-    cnf: &Cnf,
-    limit: u32,
-    propagations: &mut u64,
-) -> Result<Found, AllocError>
-    requires { limit ≤ most_conflicts }
-    ensures { IfOk result (IsFound cnf.now limit) }
-{
     if has_many_inputs(alloc, cnf)? {
-        first_uip::search_counted(alloc, cnf, limit, propagations)
+        first_uip::search(alloc, cnf, limit)
     } else {
         depth_first::search(alloc, cnf, limit)
     }

@@ -90,21 +90,6 @@ pub fn search(alloc: Global, cnf: &Cnf, limit: u32) -> Result<Found, AllocError>
     requires many { 12 < distinct_count cnf.now.inputs }
     ensures { IfOk result (IsFound cnf.now limit) }
 {
-    let mut propagations = 0;
-    search_counted(alloc, cnf, limit, &mut propagations)
-}
-
-/// The same search, which adds how many entries it propagated to a count.
-pub fn search_counted(
-    alloc: Global,
-    cnf: &Cnf,
-    limit: u32,
-    propagations: &mut u64,
-) -> Result<Found, AllocError>
-    requires limit { limit ≤ most_conflicts }
-    requires many { 12 < distinct_count cnf.now.inputs }
-    ensures { IfOk result (IsFound cnf.now limit) }
-{
     let mut watches = Watches::new(alloc, cnf.count)?;
     let mut trail = Trail::new(alloc, cnf.count)?;
     let mut log = Vec::new(alloc);
@@ -117,7 +102,7 @@ pub fn search_counted(
     let mut noted = 0;
     let mut head = 0;
     loop {
-        let Some(conflict) = propagate(&mut watches, &mut trail, head, propagations)? else {
+        let Some(conflict) = propagate(&mut watches, &mut trail, head)? else {
             let Some(literal) = policy.decision(cnf, &trail) else {
                 return Ok(Found::Sat(trail.assignment(alloc)?));
             };

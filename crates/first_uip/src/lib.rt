@@ -16,4 +16,4 @@ mod start;
 mod watchers;
 mod watches;
 
-pub use learning::{search, search_counted};
+pub use learning::search;

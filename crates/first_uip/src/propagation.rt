@@ -51,12 +51,11 @@ fn propagate_entry(
 }
 
 /// Propagates the entries from `head` on, which wait, and those that come of it, up to the first clause that is
-/// false. It counts the entries.
+/// false.
 pub(crate) fn propagate(
     watches: &mut Watches,
     trail: &mut Trail,
     mut head: usize,
-    propagations: &mut u64,
 ) -> Result<Option<u32>, AllocError>
     requires covers { CoversBelow (length trail.old.values.items) watches.old }
     requires variables { VariablesWithin (length trail.old.values.items - 1) (clauses_in watches.old.arena) }
@@ -70,7 +69,6 @@ pub(crate) fn propagate(
     ensures falsified { IfOk result (λ conflict. IfSome conflict (NamesFalse (clauses_in watches.old.arena) (literals trail.new.entries.items))) }
 {
     while head < trail.entries.len() {
-        *propagations = propagations.saturating_add(1);
         let conflict = propagate_entry(watches, trail, head)?;
         if conflict.is_some() {
             return Ok(conflict);

@@ -82,7 +82,6 @@ impl fmt::Display for Measurement {
     fn fmt<W: fmt::Write>(&self, f: &mut fmt::Formatter<W>) -> fmt::Result {
         write!(f, "{}, {}", self.word(), self.size)?;
         write!(f, ", {} learned", self.learned())?;
-        write!(f, ", {} propagations", self.searched.propagations)?;
         write!(f, ", blast {} us", self.blasting.as_micros())?;
         write!(f, ", search {} us", self.searched.searching.as_micros())?;
         write!(f, ", check {} us", self.checking())

@@ -28,9 +28,8 @@ impl fmt::Display for Outcome {
     }
 }
 
-/// Writes how many entries were propagated and how long the search took, and the check of its log.
+/// Writes how long the search took, and the check of its log.
 fn write_times<W: fmt::Write>(f: &mut fmt::Formatter<W>, searched: &Searched) -> fmt::Result {
-    write!(f, ", {} propagations", searched.propagations)?;
     write!(f, ", search {} us", searched.searching.as_micros())?;
     match searched.outcome {
         Outcome::Sat | Outcome::Limit { .. } => Ok(()),

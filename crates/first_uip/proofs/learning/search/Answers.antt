@@ -16,8 +16,8 @@ use Rattle.first_uip.specs.Marks.{IsNoted, IsPlaced}
 use Rattle.first_uip.proofs.Noted.{IsNoted-append, IsNoted-cut, IsNoted-grows, written_back}
 use Rattle.first_uip.proofs.Measure.{less_after_conflict}
 use Rattle.first_uip.proofs.SearchLemmas.{no_decisions as none_decided_gives_none, EachCaused-from_forced, EachForced-grown, closed_before, model_found, limit_found, variables_within, IsSearching-decided, IsSearching-start}
-use Rattle.first_uip.proofs.learning.search_counted.Goals as goal
-use Rattle.first_uip.proofs.learning.search_counted.Goals.{then-count_conflict+in_ok-head, else-count_conflict}
+use Rattle.first_uip.proofs.learning.search.Goals as goal
+use Rattle.first_uip.proofs.learning.search.Goals.{then-count_conflict+in_ok-head, else-count_conflict}
 
 pub refutation-requires-clause-caused : goal.refutation-requires-clause-caused
 refutation-requires-clause-caused c =

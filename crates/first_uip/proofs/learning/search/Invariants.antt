@@ -3,7 +3,7 @@ use Rattle.first_uip.specs.Watching.{CoversBelow}
 use Rattle.first_uip.specs.Searching.{IsSearching}
 use Rattle.first_uip.specs.Marks.{IsNoted}
 use Rattle.first_uip.proofs.Measure.{work_left}
-use Rattle.first_uip.proofs.learning.search_counted.Given as goal
+use Rattle.first_uip.proofs.learning.search.Given as goal
 
 abbrev pub invariant-loop-places : goal.invariant-loop-places
 invariant-loop-places l =
