@@ -1,9 +1,9 @@
 -- The verdicts that are kept, as one more pair is asked.
-use Rattle.std.proofs.Common.{◌≡◌, ℕ, zero, suc, Bool, true, false, not, List, [], ◌∷◌, ◌++◌, if◌then◌else◌, length, append-nil, map, Some, refl, sym, ap, subst, ◌∙◌}
-use Rattle.std.specs.Prelude.{◌||◌, ◌≢◌, slice_get, All, Contains, MatchBool}
+use Rattle.std.proofs.Common.{◌≡◌, ℕ, zero, suc, Bool, true, false, not, List, [], ◌∷◌, ◌++◌, if◌then◌else◌, length, append-nil, map, take, Some, refl, sym, ap, subst, ◌∙◌, arith, Result, Ok, Err}
+use Rattle.std.specs.Prelude.{◌||◌, ◌≢◌, slice_get, All, Contains, MatchBool, OnErr}
 use Rattle.std.specs.List.{list_any}
 use Rattle.std.specs.Option.{option_map}
-use Rattle.std.proofs.lemmas.List.{map-append}
+use Rattle.std.proofs.lemmas.List.{length-map, map-append, take-append-le, take_all}
 use Rattle.std.proofs.lemmas.List.Elements.{All-append, All-cons, All-nil}
 use Rattle.std.proofs.lemmas.List.Folds.{Any-from_list_any}
 use Rattle.std.proofs.lemmas.Option.{same_Some, slice_get-map, slice_get_read}
@@ -59,6 +59,19 @@ lacked false new is h = refl
 pub had : (found new : Bool) → new ≡ not found → new ≡ false → found ≡ true
 had true new is h = refl
 had false new is h = absurd cc
+
+-- what stands where memory was refused
+pub on_err : {T E : Type 0} (r : Result T E) (P : Type 0) → P → OnErr r P
+on_err (Ok x) P p = tt
+on_err (Err e) P p = p
+
+-- a key that was put last, behind as many as there are rows, is taken out again
+pub taken_out : (table : List Row) (old : List Key) (key : Key) (new : List Key) → map pair_of_key old ≡ map pair_in table → list_any (key_eq key) old ≡ false
+    → new ≡ insert_key key_eq old key → take (length table) new ≡ old
+taken_out table old key new same none is =
+    let counts : length old ≡ length table = sym (length-map old pair_of_key) ∙ ap length same ∙ length-map table pair_in in
+    let added : new ≡ old ++ key ∷ [] = is ∙ ap (λ (b : Bool). if b then old else old ++ key ∷ []) none in
+    ap (λ (n : ℕ). take n new) (sym counts) ∙ ap (take (length old)) added ∙ take-append-le (length old) old (key ∷ []) (omega arith) ∙ take_all (length old) old (omega arith)
 
 module _ (rules : List Rule) (conflicts : ℕ) (old new : Verdicts) (key : Key) where
   -- a pair that is found adds no row

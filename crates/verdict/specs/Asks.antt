@@ -31,6 +31,12 @@ pub record Asks (rules : List Rule) (conflicts : ℕ) (pairs : List Pair) (old n
   pub logs : new.logs ≡ old.logs
   pub asked : (before : List Pair) → AreVerdictsOn rules conflicts before old → AreVerdictsOn rules conflicts (before ++ pairs) new
 
+-- The same verdicts are kept, and the same logs are asked.
+pub record IsUnasked (old new : Verdicts) : Type 0 where
+  pub table : new.table ≡ old.table
+  pub pairs : new.pairs.keys ≡ old.pairs.keys
+  pub logs : new.logs ≡ old.logs
+
 -- ---- a search through the matches of a function of which something holds
 
 -- any match of the function

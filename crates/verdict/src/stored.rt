@@ -1,6 +1,6 @@
 //! Logs that are stored, so that a rule which was proved before needs no search.
 
-ghost use Rattle.std.specs.Prelude.{◌≡◌, ◌≢◌, None, Some, OnOk};
+ghost use Rattle.std.specs.Prelude.{◌≡◌, ◌≢◌, None, Some, OnErr, OnOk};
 ghost use Rattle.std.specs.Option.{option_copied};
 ghost use Rattle.strategy_core.specs.Asked.{Pair};
 ghost use Rattle.verdict.specs.Stored.{log_of, pair_of_key};
@@ -28,7 +28,8 @@ impl StoredLogs {
         }
     }
 
-    /// Stores the log of a pair, in place of the one that was stored for it.
+    /// Stores the log of a pair, in place of the one that was stored for it. Where memory is refused, the log is dropped, and what was
+    /// stored stays.
     pub fn insert(
         &mut self,
         alloc: Global,
@@ -38,6 +39,7 @@ impl StoredLogs {
     ) -> Result<(), AllocError>
         ensures stored { OnOk result (log_of self.new (rule, typing.now) ≡ Some log) }
         ensures others { OnOk result ((pair : Pair) → pair ≢ (rule, typing.now) → log_of self.new pair ≡ log_of self.old pair) }
+        ensures refused { OnErr result (self.new.logs.entries ≡ self.old.logs.entries) }
     {
         self.logs.insert((rule, widths_of(alloc, typing)?), log)?;
         Ok(())

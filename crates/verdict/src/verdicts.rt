@@ -1,6 +1,6 @@
 //! Verdicts, each decided when it is first asked for.
 
-ghost use Rattle.std.specs.Prelude.{◌≡◌, ◌≢◌, ◌<◌, ◌≤◌, ◌∷◌, [], Some, slice_get, MatchBool, IfOk, IfSome, OnOk, length};
+ghost use Rattle.std.specs.Prelude.{◌≡◌, ◌≢◌, ◌<◌, ◌≤◌, ◌++◌, ◌∷◌, [], Some, slice_get, take, MatchBool, IfOk, IfSome, OnErr, OnOk, length};
 ghost use Rattle.std.specs.Option.{option_copied};
 ghost use Rattle.rule_core.specs.Checks.{IsRule};
 ghost use Rattle.rule_core.specs.Typing.{IsTyping};
@@ -9,7 +9,7 @@ ghost use Rattle.cdcl_log.specs.Found.{most_conflicts};
 ghost use Rattle.verdict.specs.Proved.{IsUnrefutedBy};
 ghost use Rattle.verdict.specs.Table.{IsHonestRow};
 ghost use Rattle.strategy_core.specs.Asked.{IsAdmitted, IsTurnedDown, pair_in, pair_of};
-ghost use Rattle.verdict.specs.Asks.{AreVerdicts, Asks};
+ghost use Rattle.verdict.specs.Asks.{AreVerdicts, Asks, IsUnasked};
 ghost use Rattle.verdict.specs.Stored.{log_of};
 
 use crate::decision::{decide, readmit};
@@ -49,7 +49,7 @@ impl Verdicts {
     }
 
     /// Whether the verdict that a match asks for is `Admitted`. It is decided now if it was not asked for before. Where
-    /// memory is refused the verdicts are of no more use.
+    /// memory is refused the verdicts are as they were.
     pub fn admits(
         &mut self,
         alloc: Global,
@@ -63,16 +63,63 @@ impl Verdicts {
         requires verdicts { AreVerdicts rules.now conflicts self.old }
         ensures asks { OnOk result (Asks rules.now conflicts (pair_of asking.now ∷ []) self.old self.new) }
         ensures answer { IfOk result (λ admitted. MatchBool admitted (IsAdmitted self.new.table asking.now) (IsTurnedDown self.new.table asking.now)) }
+        ensures refused { OnErr result (IsUnasked self.old self.new) }
     {
         let (place, is_new) = self
             .pairs
             .insert_full((asking.rule, widths_of(alloc, &asking.binding.typing)?))?;
         if is_new {
-            let row = decided_row(alloc, rules, &self.logs, asking, conflicts)?;
-            self.table.push(row)?;
+            self.decide_last(alloc, rules, asking, conflicts)?;
         }
         Ok(is_admitted_at(self.table.as_slice(), place))
     }
+
+    /// Decides the pair that was put last, which a match asks for. Where memory is refused it is taken out again.
+    fn decide_last(
+        &mut self,
+        alloc: Global,
+        rules: &[Rule],
+        asking: &Match,
+        conflicts: u32,
+    ) -> Result<(), AllocError>
+        requires place { asking.now.rule < length rules.now }
+        requires rule { (rule : Rule) → slice_get rules.now asking.now.rule ≡ Some rule → IsRule rule × IsTyping rule asking.now.binding.typing }
+        requires conflicts { conflicts ≤ most_conflicts }
+        ensures row { OnOk result ((row : Row) × (self.new.table ≡ self.old.table ++ row ∷ []) × (pair_in row ≡ pair_of asking.now)
+            × IsHonestRow rules.now conflicts row × IfSome (log_of self.old.logs (pair_of asking.now)) (λ log. IsUnrefutedBy log row.verdict)) }
+        ensures pairs { OnOk result (self.new.pairs.keys ≡ self.old.pairs.keys) }
+        ensures table { OnErr result (self.new.table ≡ self.old.table) }
+        ensures taken_out { OnErr result (self.new.pairs.keys ≡ take (length self.old.table) self.old.pairs.keys) }
+        ensures logs { self.new.logs ≡ self.old.logs }
+    {
+        match push_decided(alloc, rules, &self.logs, &mut self.table, asking, conflicts) {
+            Ok(()) => Ok(()),
+            Err(refused) => {
+                self.pairs.truncate(self.table.len());
+                Err(refused)
+            }
+        }
+    }
+}
+
+/// Puts a row of the verdict that a match asks for, which is decided now.
+fn push_decided(
+    alloc: Global,
+    rules: &[Rule],
+    logs: &StoredLogs,
+    table: &mut Table,
+    asking: &Match,
+    conflicts: u32,
+) -> Result<(), AllocError>
+    requires place { asking.now.rule < length rules.now }
+    requires rule { (rule : Rule) → slice_get rules.now asking.now.rule ≡ Some rule → IsRule rule × IsTyping rule asking.now.binding.typing }
+    requires conflicts { conflicts ≤ most_conflicts }
+    ensures pushed { OnOk result ((row : Row) × (table.new ≡ table.old ++ row ∷ []) × (pair_in row ≡ pair_of asking.now)
+        × IsHonestRow rules.now conflicts row × IfSome (log_of logs.now (pair_of asking.now)) (λ log. IsUnrefutedBy log row.verdict)) }
+    ensures refused { OnErr result (table.new ≡ table.old) }
+{
+    let row = decided_row(alloc, rules, logs, asking, conflicts)?;
+    table.push(row)
 }
 
 /// A row of the verdict that a match asks for, which is decided now. The log of its pair, if one is stored, is asked

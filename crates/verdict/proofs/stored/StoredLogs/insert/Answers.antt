@@ -1,4 +1,5 @@
 use Rattle.std.proofs.Common.{ℕ, List, ap, ◌∙◌}
+use Rattle.verdict.proofs.Keeping.{on_err}
 use Rattle.verdict.proofs.Storing.{others_stay}
 use Rattle.verdict.proofs.stored.StoredLogs.insert.Goals as goal
 
@@ -6,3 +7,6 @@ pub returns-clause-others : goal.returns-clause-others
 returns-clause-others c = λ pair other.
     others_stay (c.args.rule, c.in_ok-widths_of.field-0) c.args.self.now.logs.entries c.insert.new.self.entries pair c.in_ok-insert.ensures.updates.3
     (λ is. other (is ∙ ap (λ (widths : List ℕ). (c.args.rule, widths)) c.in_ok-widths_of.ensures))
+
+pub returns-in_err-insert-clause-refused : goal.returns-in_err-insert-clause-refused
+returns-in_err-insert-clause-refused c = on_err c.from_residual.result _ c.in_err-insert.ensures.err

@@ -1,4 +1,4 @@
-use Rattle.std.proofs.Common.{◌≡◌, ℕ, ◌<◌, true, List, [], ◌∷◌, length, map, Some, sym, ap, subst, ◌∙◌, arith}
+use Rattle.std.proofs.Common.{◌≡◌, ℕ, ◌<◌, true, List, [], ◌∷◌, length, map, Some, refl, sym, ap, subst, ◌∙◌, arith}
 use Rattle.std.specs.Prelude.{slice_get, IfSome}
 use Rattle.std.proofs.lemmas.List.{length-map}
 use Rattle.std.proofs.lemmas.Option.{slice_get_within}
@@ -11,9 +11,9 @@ use Rattle.verdict.specs.Proved.{IsUnrefutedBy}
 use Rattle.verdict.specs.Stored.{IsUnrefutedIn, Key, log_of, pair_of_key}
 use Rattle.verdict.specs.declared.stored.StoredLogs.{StoredLogs}
 use Rattle.verdict.proofs.Storing.{key_eq}
-use Rattle.verdict.proofs.Keeping.{stored, lacked, had, asked_found, asked_new, answered}
+use Rattle.verdict.proofs.Keeping.{stored, lacked, had, asked_found, asked_new, answered, on_err, taken_out}
 use Rattle.verdict.proofs.verdicts.Verdicts.admits.Goals as goal
-use Rattle.verdict.proofs.verdicts.Verdicts.admits.Goals.{After-as_slice, then-is_new+in_ok-row+in_ok-push, else-is_new}
+use Rattle.verdict.proofs.verdicts.Verdicts.admits.Goals.{After-as_slice, then-is_new+in_ok-decide_last, else-is_new}
 
 abbrev key_of : (c : After-as_slice) → Key
 key_of c = (c.args.asking.now.rule, c.in_ok-widths_of.field-0)
@@ -23,7 +23,7 @@ same_pair c = ap (λ (l : List ℕ). (c.args.asking.now.rule, l)) c.in_ok-widths
 
 same_keys : (c : After-as_slice) → c.if-is_new.self.pairs.keys ≡ c.insert_full.new.self.keys
 same_keys c = elim c.if-is_new.branch [
-  | then-is_new+in_ok-row+in_ok-push w ↦ ap (λ (v : Verdicts). v.pairs.keys) w.self-is
+  | then-is_new+in_ok-decide_last w ↦ ap (λ (v : Verdicts). v.pairs.keys) w.self-is ∙ w.in_ok-decide_last.ensures.pairs
   | else-is_new w ↦ ap (λ (v : Verdicts). v.pairs.keys) w.self-is
 ]
 
@@ -39,9 +39,10 @@ asked c =
     let keys = same_keys c ∙ c.in_ok-place.ensures.keys in
     subst (λ (p : Pair). Asks rules conflicts (p ∷ []) old new) (same_pair c)
     (elim c.if-is_new.branch [
-      | then-is_new+in_ok-row+in_ok-push w ↦
-          asked_new rules conflicts old new (key_of c) w.in_ok-row.row (ap (λ (v : Verdicts). v.table) w.self-is ∙ w.in_ok-push.ensures.ok) (ap (λ (v : Verdicts). v.logs) w.self-is) keys (lacked _ _ c.in_ok-place.ensures.added w.if-is_new.true)
-          (w.in_ok-row.ensures.pair ∙ sym (same_pair c)) w.in_ok-row.ensures.honest (unrefuted_row c.args.self.now.logs w.in_ok-row.row (pair_of c.args.asking.now) w.in_ok-row.ensures.pair w.in_ok-row.ensures.unrefuted)
+      | then-is_new+in_ok-decide_last w ↦
+          let (row, is, pair, honest, unrefuted) = w.in_ok-decide_last.ensures.row in
+          asked_new rules conflicts old new (key_of c) row (ap (λ (v : Verdicts). v.table) w.self-is ∙ is) (ap (λ (v : Verdicts). v.logs) w.self-is ∙ w.in_ok-decide_last.ensures.logs) keys (lacked _ _ c.in_ok-place.ensures.added w.if-is_new.true)
+          (pair ∙ sym (same_pair c)) honest (unrefuted_row c.args.self.now.logs row (pair_of c.args.asking.now) pair unrefuted)
       | else-is_new w ↦ asked_found rules conflicts old new (key_of c) (ap (λ (v : Verdicts). v.table) w.self-is) (ap (λ (v : Verdicts). v.logs) w.self-is) keys (had _ _ c.in_ok-place.ensures.added w.if-is_new.false)
     ])
 
@@ -72,3 +73,15 @@ returns-clause-answer c =
     let row = some_at table place (within_table d) in
     answered table place row.0 (pair_of c.args.asking.now) c.is_admitted_at.result (pair_there d) row.1
     (c.is_admitted_at.ensures row.0 (subst (λ (l : List Row). slice_get l place ≡ Some row.0) (sym c.as_slice.ensures) row.1))
+
+pub returns-in_err-decide_last-clause-refused : goal.returns-in_err-decide_last-clause-refused
+returns-in_err-decide_last-clause-refused c =
+    on_err c.from_residual.result _ (record {
+      table = c.in_err-decide_last.ensures.table;
+      pairs = c.in_err-decide_last.ensures.taken_out
+          ∙ taken_out c.args.self.now.table c.args.self.now.pairs.keys (c.args.asking.now.rule, c.in_ok-widths_of.field-0) c.insert_full.new.self.keys c.requires.verdicts.1.pairs (lacked _ _ c.in_ok-place.ensures.added c.if-is_new.true) c.in_ok-place.ensures.keys;
+      logs = c.in_err-decide_last.ensures.logs;
+    })
+
+pub returns-in_err-place-clause-refused : goal.returns-in_err-place-clause-refused
+returns-in_err-place-clause-refused c = on_err c.from_residual.result _ (record { table = refl; pairs = c.in_err-place.ensures.err; logs = refl })
