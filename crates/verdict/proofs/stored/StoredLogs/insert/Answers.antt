@@ -9,4 +9,4 @@ returns-clause-others c = λ pair other.
     (λ is. other (is ∙ ap (λ (widths : List ℕ). (c.args.rule, widths)) c.in_ok-widths_of.ensures))
 
 pub returns-in_err-insert-clause-refused : goal.returns-in_err-insert-clause-refused
-returns-in_err-insert-clause-refused c = on_err c.from_residual.result _ c.in_err-insert.ensures.err
+returns-in_err-insert-clause-refused c = on_err c.from_residual-in_err-insert.result _ c.in_err-insert.ensures.err

@@ -76,7 +76,7 @@ returns-clause-answer c =
 
 pub returns-in_err-decide_last-clause-refused : goal.returns-in_err-decide_last-clause-refused
 returns-in_err-decide_last-clause-refused c =
-    on_err c.from_residual.result _ (record {
+    on_err c.from_residual-in_err-decide_last.result _ (record {
       table = c.in_err-decide_last.ensures.table;
       pairs = c.in_err-decide_last.ensures.taken_out
           ∙ taken_out c.args.self.now.table c.args.self.now.pairs.keys (c.args.asking.now.rule, c.in_ok-widths_of.field-0) c.insert_full.new.self.keys c.requires.verdicts.1.pairs (lacked _ _ c.in_ok-place.ensures.added c.if-is_new.true) c.in_ok-place.ensures.keys;
@@ -84,4 +84,4 @@ returns-in_err-decide_last-clause-refused c =
     })
 
 pub returns-in_err-place-clause-refused : goal.returns-in_err-place-clause-refused
-returns-in_err-place-clause-refused c = on_err c.from_residual.result _ (record { table = refl; pairs = c.in_err-place.ensures.err; logs = refl })
+returns-in_err-place-clause-refused c = on_err c.from_residual-in_err-place.result _ (record { table = refl; pairs = c.in_err-place.ensures.err; logs = refl })
