@@ -21,7 +21,7 @@ use strategy::StoredLogs;
 use verdict_core::Table;
 
 /// What `optimise` writes, and the verdicts by which it came to be.
-#[derive(Debug, Drop)]
+#[derive(Drop)]
 pub struct Optimised {
     /// The text of the module.
     pub out: Vec<u8>,

@@ -7,7 +7,7 @@ use stored_logs::Refutations;
 use verdict_core::Table;
 
 /// The status of a command.
-#[derive(Clone, Copy, Debug, PartialEq, Eq)]
+#[derive(Clone, Copy, PartialEq, Eq)]
 pub enum Status {
     /// The work was done and written.
     Done,
@@ -52,7 +52,7 @@ impl Status {
 }
 
 /// What a command leaves beside what it wrote.
-#[derive(Debug, Drop)]
+#[derive(Drop)]
 pub struct Ended {
     pub status: Status,
     /// The verdicts that were decided, where the work was done: under `verify` and `recheck` in the order of rules and

@@ -16,7 +16,7 @@ use std::alloc::{AllocError, Global};
 use std::marker::Model;
 
 /// Which blocks of a function are reached, and where its registers are assigned. Contracts see the successors of each block.
-#[derive(Debug, Drop)]
+#[derive(Drop)]
 pub struct Assigned {
     dominators: DominatorTree,
     /// How many blocks there are.

@@ -4,7 +4,7 @@ use ir_core::Register;
 use std::alloc::AllocError;
 
 /// Why the registers of a function are not known to be assigned wherever they are read.
-#[derive(Debug, Drop)]
+#[derive(Drop)]
 pub enum FlowError {
     /// A register is read where it isn't assigned. All that is written before it to be read is assigned.
     Unassigned {

@@ -7,7 +7,7 @@ ghost use Rattle.assigned_flow.specs.Located.{located, here};
 use ir_core::{Function, Op, Operand, Terminator};
 
 /// An operand, and where it is read: at a place of a block, where the instructions before that place have run.
-#[derive(Clone, Copy, Debug)]
+#[derive(Clone, Copy)]
 pub(crate) struct Read {
     pub(crate) operand: Operand,
     pub(crate) block: u32,

@@ -10,7 +10,7 @@ use std::alloc::{AllocError, Global};
 use use_counts::{Uses, count_uses};
 
 /// Which blocks of a function are reached, and how often its registers are used.
-#[derive(Debug, Drop)]
+#[derive(Drop)]
 pub struct FunctionFacts {
     pub flow: Assigned,
     pub uses: Uses,

@@ -7,7 +7,7 @@ ghost use Rattle.bindings.specs.Nodes.{Has, HasExactly};
 const MOST_NODES: usize = 256;
 
 /// A set of nodes, which are known by their places. It takes no memory.
-#[derive(Clone, Copy, Debug)]
+#[derive(Clone, Copy)]
 pub(crate) struct Nodes {
     /// Whether the node at the place is in the set.
     has: [bool; MOST_NODES],

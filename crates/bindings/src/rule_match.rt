@@ -3,7 +3,7 @@
 use crate::binding::Binding;
 
 /// One of the rules of a file, where it matches in a function.
-#[derive(Debug, Drop)]
+#[derive(Drop)]
 pub struct Match {
     /// The place of the rule in its file, from 0.
     pub rule: u32,

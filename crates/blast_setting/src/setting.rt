@@ -13,7 +13,7 @@ use rule_core::{Rule, Typing};
 use std::alloc::{AllocError, Global};
 
 /// What the halves of a rule are compared on.
-#[derive(Debug, Drop)]
+#[derive(Drop)]
 pub struct Setting {
     /// A value for each input.
     pub inputs: List<Value>,

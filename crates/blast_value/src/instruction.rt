@@ -3,7 +3,7 @@
 use ops::{Cast, Flags, Opcode, Pred, Unary};
 
 /// An instruction, without its operands.
-#[derive(Clone, Copy, PartialEq, Eq, Debug)]
+#[derive(Clone, Copy, PartialEq, Eq)]
 pub enum Instruction {
     /// An instruction with two operands of the result's width.
     Binary(Opcode, Flags),

@@ -4,7 +4,7 @@ use lists::List;
 
 /// Which instructions of a function went, came and changed, by block and place. Each list is ascending. An instruction that only moved,
 /// or that names a register that only moved, did not change. A terminator is no instruction.
-#[derive(Debug, Drop)]
+#[derive(Drop)]
 pub struct Changes {
     /// The old places of the instructions that went.
     pub went: List<(u32, u32)>,

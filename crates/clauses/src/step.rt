@@ -9,7 +9,7 @@ use lists::List;
 
 /// A clause derived by reverse unit propagation (RUP). Clauses are numbered from 0: those of the
 /// set first, then those of the steps.
-#[derive(Debug, Drop)]
+#[derive(Drop)]
 pub struct Step {
     /// The clause that is derived.
     pub clause: Clause,

@@ -2,7 +2,7 @@
 use clauses::Lit;
 
 /// What a variable that is no input stands for, over smaller variables.
-#[derive(Clone, Copy, Debug)]
+#[derive(Clone, Copy)]
 pub(crate) enum Definition {
     /// The constant that is true.
     One,

@@ -11,7 +11,7 @@ use std::marker::Model;
 
 /// The variables that come after the inputs: for each gate the variable that it has if it is
 /// needed, and the definitions of these variables in order.
-#[derive(Debug, Drop)]
+#[derive(Drop)]
 pub(crate) struct Naming {
     inputs: u32,
     numbers: Vec<u32>,

@@ -7,7 +7,7 @@ use std::marker::Model;
 
 /// Which of the constant and the gates of a graph a root needs: its own node, and each operand of
 /// a gate that it needs.
-#[derive(Debug, Drop)]
+#[derive(Drop)]
 pub(crate) struct Needed {
     one: bool,
     gates: Vec<bool>,

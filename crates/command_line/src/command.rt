@@ -41,7 +41,7 @@ pub enum Command<'a> {
 }
 
 /// The options of `verify`.
-#[derive(Debug, Drop)]
+#[derive(Drop)]
 pub struct VerifyOptions {
     /// The widths that types may have, in ascending order and each once.
     pub widths: List<Width>,
@@ -52,7 +52,7 @@ pub struct VerifyOptions {
 }
 
 /// The options of `optimise`.
-#[derive(Clone, Copy, Debug)]
+#[derive(Clone, Copy)]
 pub struct OptimiseOptions {
     /// How many clauses a search learns before its verdict is `budget`; with at most 12 bits of input it is never that.
     pub conflicts: u32,
@@ -61,14 +61,14 @@ pub struct OptimiseOptions {
 }
 
 /// The options of `run`.
-#[derive(Clone, Copy, Debug)]
+#[derive(Clone, Copy)]
 pub struct RunOptions {
     /// The most blocks that a run may enter.
     pub blocks: u32,
 }
 
 /// The options of `recheck`.
-#[derive(Clone, Copy, Debug)]
+#[derive(Clone, Copy)]
 pub struct RecheckOptions {
     /// How many clauses a search learns before its verdict is `budget`; with at most 12 bits of input it is never that.
     pub conflicts: u32,

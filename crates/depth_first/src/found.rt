@@ -7,7 +7,7 @@ use lists::List;
 pub type Assignment = List<bool>;
 
 /// What a search found.
-#[derive(Debug, Drop)]
+#[derive(Drop)]
 pub enum Found {
     /// A model of all clauses.
     Sat(Assignment),

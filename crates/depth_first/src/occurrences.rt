@@ -7,7 +7,7 @@ use lists::List;
 use std::alloc::{AllocError, Global};
 
 /// For each literal the numbers of the clauses in which it stands, by its variable.
-#[derive(Debug, Drop)]
+#[derive(Drop)]
 pub(crate) struct Occurrences {
     positive: Vec<List<u32>>,
     negative: Vec<List<u32>>,

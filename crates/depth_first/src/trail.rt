@@ -10,7 +10,7 @@ use lists::List;
 use std::alloc::{AllocError, Global};
 
 /// Why a literal is held.
-#[derive(Clone, Copy, Debug)]
+#[derive(Clone, Copy)]
 pub enum Cause {
     /// A decision on an input.
     InputDecision,
@@ -21,7 +21,7 @@ pub enum Cause {
 }
 
 /// A literal that is held, and why.
-#[derive(Clone, Copy, Debug)]
+#[derive(Clone, Copy)]
 pub struct Entry {
     pub literal: Lit,
     pub cause: Cause,
@@ -29,7 +29,7 @@ pub struct Entry {
 
 /// The literals that are held, in the order in which they came, and the tables of the variables' values and of what is
 /// held.
-#[derive(Debug, Drop)]
+#[derive(Drop)]
 pub struct Trail {
     pub entries: Vec<Entry>,
     /// The value of each variable that is set; place 0 belongs to none.

@@ -19,7 +19,7 @@ use readers::{Substitute, count_reads, forget_reads, substitute_end, substitute_
 use std::alloc::{AllocError, Global};
 
 /// An operand that is put for a register.
-#[derive(Clone, Copy, Debug)]
+#[derive(Clone, Copy)]
 pub(crate) struct Swap {
     /// The register.
     pub(crate) from: Register,

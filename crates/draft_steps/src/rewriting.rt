@@ -34,7 +34,7 @@ use std::alloc::{AllocError, Global};
 use substitution::Rewrite;
 
 /// What a rule put.
-#[derive(Debug, Drop)]
+#[derive(Drop)]
 pub(crate) struct Rewritten {
     /// The instructions of its target.
     pub(crate) put: Vec<Place>,

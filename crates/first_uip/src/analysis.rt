@@ -19,7 +19,7 @@ use lists::List;
 use std::alloc::{AllocError, Global};
 
 /// What a conflict shows.
-#[derive(Debug, Drop)]
+#[derive(Drop)]
 pub(crate) struct Learned {
     pub(crate) step: Step,
     /// The literal of its clause that is open where all others are false.
@@ -121,7 +121,7 @@ pub(crate) fn last_decision(trail: &Trail) -> Option<usize>
 }
 
 /// Where to jump back to.
-#[derive(Clone, Copy, Debug)]
+#[derive(Clone, Copy)]
 pub(crate) struct Jump {
     /// The place of the earliest decision after all kept entries that stand before the last one.
     pub(crate) place: usize,

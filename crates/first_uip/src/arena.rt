@@ -6,7 +6,7 @@ use clauses::Lit;
 use std::alloc::{AllocError, Global};
 
 /// The literals that a clause watches.
-#[derive(Clone, Copy, Debug)]
+#[derive(Clone, Copy)]
 pub(crate) enum Watched {
     /// None: the clause has no two different literals, and its only one is held from the start.
     Alone,
@@ -16,7 +16,7 @@ pub(crate) enum Watched {
 
 /// A clause: the two literals that it watches, or one twice where it watches none, and where its literals begin and
 /// end.
-#[derive(Clone, Copy, Debug)]
+#[derive(Clone, Copy)]
 pub(crate) struct Header {
     first: Lit,
     second: Lit,
@@ -25,7 +25,7 @@ pub(crate) struct Header {
 }
 
 /// Clauses by number.
-#[derive(Debug, Drop)]
+#[derive(Drop)]
 pub(crate) struct Arena {
     literals: Vec<Lit>,
     headers: Vec<Header>,

@@ -11,7 +11,7 @@ use std::alloc::{AllocError, Global};
 const GREATEST: u64 = 1 << 50;
 
 /// The variables by activity.
-#[derive(Debug, Drop)]
+#[derive(Drop)]
 pub(crate) struct Order {
     /// Variables, each at least as active as the two at twice its place and one or two more.
     heap: Vec<u32>,

@@ -11,7 +11,7 @@ use depth_first::{Entry, Trail};
 use std::alloc::{AllocError, Global};
 
 /// What the search learned for its choices.
-#[derive(Debug, Drop)]
+#[derive(Drop)]
 pub(crate) struct Policy {
     order: Order,
     /// For each variable whether its last value was false.

@@ -9,7 +9,7 @@ const LATE: u64 = 32;
 const SHORTEST: u32 = 16;
 
 /// How many levels the learned clauses span.
-#[derive(Clone, Copy, Debug)]
+#[derive(Clone, Copy)]
 pub(crate) struct Restarts {
     /// The mean of late clauses, in 65,536ths.
     late: u64,

@@ -11,7 +11,7 @@ use clauses::{Cnf, Lit, Step};
 use depth_first::{Trail, numbered};
 
 /// The part that a variable has in a conflict.
-#[derive(Clone, Copy, Debug, PartialEq, Eq)]
+#[derive(Clone, Copy, PartialEq, Eq)]
 pub(crate) enum Role {
     /// None.
     Unseen,

@@ -15,7 +15,7 @@ use depth_first::{Cause, Entry, Trail};
 use std::alloc::AllocError;
 
 /// How many different literals a clause has, as far as watching asks.
-#[derive(Clone, Copy, Debug)]
+#[derive(Clone, Copy)]
 pub(crate) enum Shape {
     Empty,
     One(Lit),

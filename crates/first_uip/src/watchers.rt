@@ -8,7 +8,7 @@ use std::alloc::{AllocError, Global};
 use std::marker::Model;
 
 /// A clause that is to be looked at when a literal becomes false.
-#[derive(Clone, Copy, Debug)]
+#[derive(Clone, Copy)]
 pub(crate) struct Watcher {
     /// The number of the clause.
     pub(crate) number: u32,
@@ -17,7 +17,7 @@ pub(crate) struct Watcher {
 }
 
 /// The clauses that are to be looked at when one literal becomes false.
-#[derive(Debug, Drop)]
+#[derive(Drop)]
 pub(crate) struct Watchers {
     items: Vec<Watcher>,
 }

@@ -10,7 +10,7 @@ use std::alloc::{AllocError, Global};
 
 /// The clauses with what each watches, and for each literal those to look at when it becomes false. A clause may stand
 /// there though it watches the literal no longer.
-#[derive(Debug, Drop)]
+#[derive(Drop)]
 pub(crate) struct Watches {
     pub(crate) arena: Arena,
     /// By the codes of the literals.

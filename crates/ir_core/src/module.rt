@@ -4,13 +4,13 @@ use crate::function::Function;
 use lists::{List, Text};
 
 /// A module: its entries in text order.
-#[derive(Debug, Drop)]
+#[derive(Drop)]
 pub struct Module {
     pub entries: List<Entry>,
 }
 
 /// One entry of a module.
-#[derive(Debug, Drop)]
+#[derive(Drop)]
 pub enum Entry {
     /// A line that is kept as it was written and has no meaning here, without the blanks at its ends: that of a
     /// `source_filename`, `target`, `attributes` or `declare`, or one that begins with `!` or `$`.

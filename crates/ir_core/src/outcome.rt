@@ -3,7 +3,7 @@
 use ops::Value;
 
 /// What a run of a function has come to, after at most so many blocks entered.
-#[derive(Clone, Copy, Debug, PartialEq, Eq)]
+#[derive(Clone, Copy, PartialEq, Eq)]
 pub enum Outcome {
     /// It returned a value.
     Return(Value),

@@ -12,7 +12,7 @@ use ops::Width;
 
 /// An operand that is read, at which width, and where: at a place of a block the instructions before that place have run, and
 /// where the place is their number all have.
-#[derive(Clone, Copy, Debug)]
+#[derive(Clone, Copy)]
 pub struct Read {
     pub operand: Operand,
     pub width: Width,

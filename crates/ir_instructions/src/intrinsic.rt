@@ -8,7 +8,7 @@ use ops::keywords::{is, opcode_name, unary_name};
 use ops::{Opcode, Unary, Width};
 
 /// An integer intrinsic, by what it does.
-#[derive(Clone, Copy, Debug)]
+#[derive(Clone, Copy)]
 pub enum Intrinsic {
     /// One of two operands.
     Binary(Opcode),

@@ -14,7 +14,7 @@ use refusal::{Fault, refused};
 use std::alloc::{AllocError, Global};
 
 /// Where a token stands, by what may stand there.
-#[derive(Clone, Copy, Debug)]
+#[derive(Clone, Copy)]
 pub enum Place {
     /// An entry of the module.
     Entry,

@@ -11,7 +11,7 @@ use ops::keywords::{cast_name, is, opcode_name};
 use ops::{Cast, Opcode, Width};
 
 /// What a word is as a type.
-#[derive(Clone, Copy, Debug)]
+#[derive(Clone, Copy)]
 pub enum TypeWord {
     /// No integer type.
     Other,
@@ -21,7 +21,7 @@ pub enum TypeWord {
 }
 
 /// What an instruction does.
-#[derive(Clone, Copy, Debug)]
+#[derive(Clone, Copy)]
 pub enum Operation {
     Binary(Opcode),
     Compare,
@@ -36,7 +36,7 @@ pub enum Operation {
 }
 
 /// How a block ends.
-#[derive(Clone, Copy, Debug)]
+#[derive(Clone, Copy)]
 pub enum Ending {
     Return,
     Unreachable,

@@ -14,7 +14,7 @@ use std::alloc::{AllocError, Global};
 
 /// A value for each register of a function: the parameters first, and then the results block by block. A register that holds
 /// nothing yet has poison there.
-#[derive(Debug, Drop)]
+#[derive(Drop)]
 pub(crate) struct Table {
     /// The place of the first result of each block.
     pub(crate) firsts: Vec<usize>,

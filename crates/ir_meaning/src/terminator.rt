@@ -14,7 +14,7 @@ use ir_core::{Function, Operand, Terminator};
 use ops::{Value, Width, Word};
 
 /// How a pass through a block ends.
-#[derive(Clone, Copy, Debug)]
+#[derive(Clone, Copy)]
 pub(crate) enum Step {
     /// With undefined behaviour.
     Undefined,

@@ -1,7 +1,7 @@
 //! What registers and blocks are called.
 
 /// What a register or a block is called (LangRef, "Identifiers").
-#[derive(Clone, Copy, Debug)]
+#[derive(Clone, Copy)]
 pub(crate) enum Identifier<'a> {
     /// A name, without the `%`.
     Named(&'a [u8]),

@@ -12,14 +12,14 @@ use ops::Width;
 use std::alloc::{AllocError, Global};
 
 /// An operand, and the width that is written for it, in bits.
-#[derive(Clone, Copy, Debug)]
+#[derive(Clone, Copy)]
 pub(crate) struct Read<'a> {
     pub(crate) width: u32,
     pub(crate) operand: &'a RawOperand,
 }
 
 /// What is read, and the names of blocks, both in text order.
-#[derive(Debug, Drop)]
+#[derive(Drop)]
 pub(crate) struct Uses<'a> {
     pub(crate) reads: Vec<Read<'a>>,
     pub(crate) targets: Vec<&'a RawIdentifier>,

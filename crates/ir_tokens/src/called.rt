@@ -3,7 +3,7 @@
 use lists::Text;
 
 /// What a register, a function or a block is called.
-#[derive(Debug, Drop)]
+#[derive(Drop)]
 pub enum Identifier {
     Named(Text),
     /// A number; one past the end of `u64` is held as that end, since no function has so many registers.

@@ -5,7 +5,7 @@ use lists::Text;
 use refusal::{Fault, Refusal};
 
 /// What is wrong, in the order in which it is looked for: up to `ConstRange` over the whole text, and then function by function.
-#[derive(Debug, Drop)]
+#[derive(Drop)]
 pub enum IrFaultKind {
     /// The text has more than 16,777,216 bytes.
     TooLong,

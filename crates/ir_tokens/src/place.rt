@@ -8,7 +8,7 @@ use crate::bytes::{is, is_among};
 use crate::token::{Placed, Token};
 
 /// Where in a module the next token stands.
-#[derive(Clone, Copy, Debug, PartialEq, Eq)]
+#[derive(Clone, Copy, PartialEq, Eq)]
 pub enum Place {
     /// Between the entries of the module; with the line of the token before, where there is one.
     AtEntry(Option<usize>),
@@ -20,7 +20,7 @@ pub enum Place {
 }
 
 /// How far a token goes on.
-#[derive(Clone, Copy, Debug, PartialEq, Eq)]
+#[derive(Clone, Copy, PartialEq, Eq)]
 pub enum Extent {
     /// It is a token by itself.
     Itself,

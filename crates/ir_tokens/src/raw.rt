@@ -5,14 +5,14 @@ use lists::{List, Text};
 use ops::{Cast, Flags, Opcode, Pred, Unary, Width, Word};
 
 /// A module as written.
-#[derive(Debug, Drop)]
+#[derive(Drop)]
 pub struct RawModule {
     /// In text order.
     pub entries: List<RawEntry>,
 }
 
 /// An entry of a module as written.
-#[derive(Debug, Drop)]
+#[derive(Drop)]
 pub enum RawEntry {
     /// A line that is kept as it is.
     Kept(Text),
@@ -20,7 +20,7 @@ pub enum RawEntry {
 }
 
 /// A function with its body as written.
-#[derive(Debug, Drop)]
+#[derive(Drop)]
 pub struct RawFunction {
     /// The line of its name, counted from 1.
     pub line: usize,
@@ -38,7 +38,7 @@ pub struct RawFunction {
 }
 
 /// A parameter as written.
-#[derive(Debug, Drop)]
+#[derive(Drop)]
 pub struct RawParameter {
     pub width: Width,
     /// The items behind the type, each as it is printed.
@@ -47,7 +47,7 @@ pub struct RawParameter {
 }
 
 /// The name or the number of a register or of a block, with the line that it stands on, counted from 1.
-#[derive(Debug, Drop)]
+#[derive(Drop)]
 pub struct RawIdentifier {
     pub line: usize,
     /// Without the `%` before it or the `:` behind it.
@@ -55,7 +55,7 @@ pub struct RawIdentifier {
 }
 
 /// A basic block as written.
-#[derive(Debug, Drop)]
+#[derive(Drop)]
 pub struct RawBlock {
     /// Missing in the first block of a function at most.
     pub label: Option<RawIdentifier>,
@@ -66,14 +66,14 @@ pub struct RawBlock {
 }
 
 /// An instruction as written, with the register that it assigns.
-#[derive(Debug, Drop)]
+#[derive(Drop)]
 pub struct RawInst {
     pub result: RawIdentifier,
     pub op: RawOp,
 }
 
 /// What an instruction computes, as written. (LLVM Language Reference, "Instruction Reference".)
-#[derive(Debug, Drop)]
+#[derive(Drop)]
 pub enum RawOp {
     /// A binary operation with its flags; the width is that of both operands.
     Binary(Opcode, Flags, Width, RawOperand, RawOperand),
@@ -92,7 +92,7 @@ pub enum RawOp {
 }
 
 /// A call of an integer intrinsic as written. What else stands in it is dropped.
-#[derive(Debug, Drop)]
+#[derive(Drop)]
 pub struct RawCall {
     /// The line of the word `call`, counted from 1.
     pub line: usize,
@@ -104,7 +104,7 @@ pub struct RawCall {
 }
 
 /// An integer intrinsic with what it is called with.
-#[derive(Debug, Drop)]
+#[derive(Drop)]
 pub enum RawArguments {
     /// `umin`, `umax`, `smin` or `smax` of two operands.
     Binary(Opcode, TypedOperand, TypedOperand),
@@ -113,21 +113,21 @@ pub enum RawArguments {
 }
 
 /// An operand with the width that is written before it.
-#[derive(Debug, Drop)]
+#[derive(Drop)]
 pub struct TypedOperand {
     pub width: Width,
     pub operand: RawOperand,
 }
 
 /// An operand as written, with its line, counted from 1.
-#[derive(Debug, Drop)]
+#[derive(Drop)]
 pub struct RawOperand {
     pub line: usize,
     pub value: RawValue,
 }
 
 /// A value as written.
-#[derive(Debug, Drop)]
+#[derive(Drop)]
 pub enum RawValue {
     Register(Identifier),
     /// A number, modulo 2^N at the width N that is written before it.
@@ -139,14 +139,14 @@ pub enum RawValue {
 }
 
 /// A value of a `phi`, and the block that control comes from.
-#[derive(Debug, Drop)]
+#[derive(Drop)]
 pub struct RawIncoming {
     pub value: RawOperand,
     pub block: RawIdentifier,
 }
 
 /// How a block ends, as written. (LLVM Language Reference, "Terminator Instructions".)
-#[derive(Debug, Drop)]
+#[derive(Drop)]
 pub enum RawTerminator {
     /// `ret` of an operand of a width.
     Return(Width, RawOperand),
@@ -160,7 +160,7 @@ pub enum RawTerminator {
 }
 
 /// A case of a `switch` as written.
-#[derive(Debug, Drop)]
+#[derive(Drop)]
 pub struct RawCase {
     pub width: Width,
     /// A number, `true` or `false`.

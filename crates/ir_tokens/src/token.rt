@@ -8,7 +8,7 @@ use crate::bytes::{without_first, without_last};
 use scan::TokenKind;
 
 /// A token of a module, with its line.
-#[derive(Clone, Copy, Debug, PartialEq, Eq)]
+#[derive(Clone, Copy, PartialEq, Eq)]
 pub struct Placed<'a> {
     /// The line that it stands on, counted from 1; of the end of the text the last line.
     pub line: usize,

@@ -4,7 +4,7 @@ ghost use Rattle.std.specs.Prelude.{◌≡◌, ◌<◌};
 ghost use Rattle.load_gen.specs.Draws.{next_state, drawn};
 
 /// A linear congruential generator of 64 bits, with the multiplier and the increment of Knuth's MMIX.
-#[derive(Clone, Copy, Debug)]
+#[derive(Clone, Copy)]
 pub(crate) struct Draws {
     pub(crate) state: u64,
 }

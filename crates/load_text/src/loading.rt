@@ -61,7 +61,7 @@ Name: mul-two
 ";
 
 /// What `load` writes, and the verdicts by which it came to be.
-#[derive(Debug, Drop)]
+#[derive(Drop)]
 pub struct Loaded {
     /// Five lines: how many functions the generated module has, how many instructions before and after, how often
     /// functions were rewritten, and how many are limited.

@@ -14,7 +14,7 @@ use std::marker::Model;
 
 /// Files in memory. The reads that are listed fail, and so does the read of a name that nothing
 /// is held under. Where one name is held twice, the first file counts.
-#[derive(Debug, Drop)]
+#[derive(Drop)]
 pub struct MemoryFiles {
     held: List<StoredFile>,
     failing: List<u64>,

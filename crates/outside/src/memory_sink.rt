@@ -11,7 +11,7 @@ use std::alloc::{AllocError, Global};
 use std::marker::Model;
 
 /// A put that fails.
-#[derive(Clone, Copy, Debug)]
+#[derive(Clone, Copy)]
 pub struct FailingPut {
     /// Its number, from 0.
     pub number: u64,
@@ -21,7 +21,7 @@ pub struct FailingPut {
 
 /// A sink in memory, with room for a number of bytes. The puts that are listed fail, and so does
 /// a put of more bytes than the room left can hold, which takes nothing.
-#[derive(Debug, Drop)]
+#[derive(Drop)]
 pub struct MemorySink {
     written: Vec<u8>,
     room: usize,

@@ -7,7 +7,7 @@ use lists::Text;
 use std::alloc::{AllocError, Global};
 
 /// A file in memory.
-#[derive(Debug, Drop)]
+#[derive(Drop)]
 pub struct StoredFile {
     pub name: Text,
     pub bytes: Text,

@@ -13,7 +13,7 @@ use std::marker::Model;
 /// A stream, as standard output. As a sink it doesn't tell what was written.
 ///
 /// A fault is an error of the stream at writing or flushing, or that it takes nothing of what is left.
-#[derive(Debug, Drop)]
+#[derive(Drop)]
 pub struct StreamSink<W: Write> {
     stream: W,
     puts: u64,

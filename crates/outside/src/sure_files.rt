@@ -12,7 +12,7 @@ use std::alloc::{AllocError, Global};
 use std::marker::Model;
 
 /// Files in memory whose reads never fail: under a name that nothing is held under are no bytes.
-#[derive(Debug, Drop)]
+#[derive(Drop)]
 pub struct SureFiles {
     held: List<StoredFile>,
     asked: List<Text>,

@@ -6,7 +6,7 @@ use crate::errors::Failed;
 use crate::sink::Sink;
 
 /// A sink whose puts never fail. It forgets what it takes, and doesn't count.
-#[derive(Clone, Copy, Debug)]
+#[derive(Clone, Copy)]
 pub struct SureSink;
 
 impl Sink for SureSink {

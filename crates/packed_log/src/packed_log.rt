@@ -9,7 +9,7 @@ use std::alloc::{AllocError, Global};
 use std::marker::Model;
 
 /// A log in few bytes.
-#[derive(Debug, Drop)]
+#[derive(Drop)]
 pub struct PackedLog {
     clauses: List<Clause>,
     hints: Vec<u8>,

@@ -117,7 +117,7 @@ fn if_first(before: u32, number: u32, first: u32) -> u32
 }
 
 /// Where a number stands: its label, which goes up along the links, and its neighbours.
-#[derive(Clone, Copy, Debug)]
+#[derive(Clone, Copy)]
 struct Node {
     label: u64,
     before: u32,

@@ -4,7 +4,7 @@
 pub const END: u32 = u32::MAX;
 
 /// What stands in a block: an instruction by its number, or the terminator.
-#[derive(Clone, Copy, PartialEq, Eq, Debug)]
+#[derive(Clone, Copy, PartialEq, Eq)]
 pub struct Place {
     /// Its block.
     pub block: u32,

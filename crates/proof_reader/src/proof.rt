@@ -4,7 +4,7 @@ use clauses::Log;
 use rule_core::Typing;
 
 /// That a rule is valid at a typing: the log of a refutation of its counterexamples.
-#[derive(Debug, Drop)]
+#[derive(Drop)]
 pub struct RuleProof {
     /// The place of the rule in its file, from 0.
     pub rule: u32,

@@ -3,7 +3,7 @@
 use refusal::{Fault, Refusal};
 
 /// What is wrong. The reader of texts tells the first three; the others are told beside a list of rules.
-#[derive(Debug, Drop)]
+#[derive(Drop)]
 pub enum LogFaultKind {
     /// The text has more than 67,108,864 bytes.
     TooLong,

@@ -4,7 +4,7 @@ use clauses::Log;
 use lists::{List, Text};
 
 /// That a rule holds at one typing: the log of a refutation.
-#[derive(Debug, Drop)]
+#[derive(Drop)]
 pub struct Proof {
     /// The rule's name.
     pub name: Text,

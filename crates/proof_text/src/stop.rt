@@ -7,7 +7,7 @@ ghost use Rattle.proof_text.specs.Reading.{Fixed, Takes, StopsIn};
 use refusal::Refusal;
 
 /// The bytes passed do not go on as the form wants, or end too early. What is left begins where they stop.
-#[derive(Debug, Drop)]
+#[derive(Drop)]
 pub(crate) struct Stop;
 
 /// That a reading stops, or want of memory.

@@ -1,7 +1,7 @@
 //! Faults of texts.
 
 /// The first fault of a text.
-#[derive(Debug, Drop)]
+#[derive(Drop)]
 pub struct Fault<K> {
     /// The line that it stands on, counted from 1.
     pub line: usize,

@@ -7,7 +7,7 @@ use crate::fault::Fault;
 use std::alloc::{AllocError, AllocFailed};
 
 /// Why there is no answer.
-#[derive(Debug, Drop)]
+#[derive(Drop)]
 pub enum Refusal<F> {
     /// What was given has this fault.
     Refused(F),

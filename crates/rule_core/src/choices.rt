@@ -8,7 +8,7 @@ use crate::rule::{Argument, Choice, Op, Operand, Statement};
 use std::marker::Model;
 
 /// The choices of a statement, of which there are at most three.
-#[derive(Debug, Drop)]
+#[derive(Drop)]
 pub struct Choices {
     held: [Choice; 3],
     count: usize,

@@ -4,7 +4,7 @@ use lists::List;
 use ops::{Effect, Value, Word};
 
 /// What a rule is run on, and what its halves do there.
-#[derive(Debug, Drop)]
+#[derive(Drop)]
 pub struct Example {
     /// A value for each input.
     pub inputs: List<Value>,

@@ -10,7 +10,7 @@ use ops::{Cast, Flags, Opcode, Pred, Unary, Width};
 
 /// A rewrite rule: where the source stands, the target may stand in its place. (Lopes and others, "Provably Correct Peephole
 /// Optimizations with Alive", 2015.)
-#[derive(Debug, Drop)]
+#[derive(Drop)]
 pub struct Rule {
     /// The name, as the rule's first line has it.
     pub name: Text,
@@ -35,7 +35,7 @@ pub struct Rule {
 }
 
 /// A statement `%name = op`: the register that it assigns, and what that holds afterwards.
-#[derive(Debug, Drop)]
+#[derive(Drop)]
 pub struct Statement {
     /// The name of the register, without the `%`.
     pub name: Text,
@@ -93,7 +93,7 @@ pub enum Argument {
 }
 
 /// What a half leaves open: an `undef`, or what a freeze gives where its operand is poison.
-#[derive(Clone, Copy, Debug)]
+#[derive(Clone, Copy)]
 pub struct Choice {
     /// Its place among the choices of its half, from 0.
     pub place: u32,
@@ -113,7 +113,7 @@ pub enum Register {
 }
 
 /// What has one width wherever it is named.
-#[derive(Clone, Copy, PartialEq, Eq, Debug)]
+#[derive(Clone, Copy, PartialEq, Eq)]
 pub enum Name {
     Register(Register),
     /// An abstract constant, by its place.
@@ -123,7 +123,7 @@ pub enum Name {
 }
 
 /// A node of a term.
-#[derive(Clone, Copy, Debug)]
+#[derive(Clone, Copy)]
 pub struct Term {
     /// The class of the node: a place in a `Typing`.
     pub class: u32,
@@ -131,7 +131,7 @@ pub struct Term {
 }
 
 /// What a node is. Its operands are nodes before it, by their places.
-#[derive(Clone, Copy, Debug)]
+#[derive(Clone, Copy)]
 pub enum Node {
     /// A number as it is written, as in an operand.
     Literal(i128),
@@ -163,7 +163,7 @@ pub enum Function {
 }
 
 /// A node of a precondition. Its operands are nodes before it, or nodes of the rule's terms, by their places.
-#[derive(Clone, Copy, Debug)]
+#[derive(Clone, Copy)]
 pub enum Formula {
     /// A comparison of two terms of one class.
     Compare(Pred, u32, u32),

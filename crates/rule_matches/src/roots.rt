@@ -9,7 +9,7 @@ use rule_core::{Op as RuleOp, Rule};
 use std::alloc::{AllocError, Global};
 
 /// What an instruction does that a rule's root may match. There are 36 of them.
-#[derive(Clone, Copy, PartialEq, Eq, Debug)]
+#[derive(Clone, Copy, PartialEq, Eq)]
 pub enum RootKind {
     Binary(Opcode),
     Compare(Pred),
@@ -20,7 +20,7 @@ pub enum RootKind {
 }
 
 /// The rules whose root is of one kind, in order.
-#[derive(Debug, Drop)]
+#[derive(Drop)]
 pub struct Group {
     pub kind: RootKind,
     /// The places of the rules.
@@ -29,7 +29,7 @@ pub struct Group {
 
 /// Rules by the kinds of their roots, so that at an instruction only those are tried that may match. There are at most as many groups as
 /// kinds, so finding one takes as long however many rules there are.
-#[derive(Debug, Drop)]
+#[derive(Drop)]
 pub struct RulesByRoot {
     pub groups: Vec<Group>,
 }

@@ -1,7 +1,7 @@
 //! The halves of a rule.
 
 /// Which half of a rule a statement stands in.
-#[derive(Clone, Copy, Debug, PartialEq, Eq)]
+#[derive(Clone, Copy, PartialEq, Eq)]
 pub enum Half {
     Source,
     Target,

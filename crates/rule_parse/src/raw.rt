@@ -5,7 +5,7 @@ use ops::{Cast, Flags, Opcode, Pred, Unary, Width};
 use rule_terms::{RawFormula, RawTerm};
 
 /// A rule as written.
-#[derive(Debug, Drop)]
+#[derive(Drop)]
 pub struct RawRule {
     /// The line of `Name:`, counted from 1.
     pub line: usize,
@@ -19,7 +19,7 @@ pub struct RawRule {
 }
 
 /// A precondition as written.
-#[derive(Debug, Drop)]
+#[derive(Drop)]
 pub struct RawPrecondition {
     /// Its line, counted from 1.
     pub line: usize,
@@ -28,7 +28,7 @@ pub struct RawPrecondition {
 }
 
 /// What the choices of the source are, as written.
-#[derive(Debug, Drop)]
+#[derive(Drop)]
 pub struct RawWitness {
     /// Their line, counted from 1.
     pub line: usize,
@@ -37,7 +37,7 @@ pub struct RawWitness {
 }
 
 /// A statement `%name = op` as written.
-#[derive(Debug, Drop)]
+#[derive(Drop)]
 pub struct RawStatement {
     /// Its line, counted from 1.
     pub line: usize,
@@ -47,7 +47,7 @@ pub struct RawStatement {
 }
 
 /// What a statement computes, as written.
-#[derive(Debug, Drop)]
+#[derive(Drop)]
 pub enum RawOp {
     /// A binary operation. Before its second operand no type is written.
     Binary(Opcode, Flags, RawOperand, RawOperand),
@@ -66,7 +66,7 @@ pub enum RawOp {
 }
 
 /// An operand as written.
-#[derive(Debug, Drop)]
+#[derive(Drop)]
 pub struct RawOperand {
     /// The type that is written before it, if one is.
     pub written: Option<Width>,
@@ -74,7 +74,7 @@ pub struct RawOperand {
 }
 
 /// What an operand is, as written.
-#[derive(Debug, Drop)]
+#[derive(Drop)]
 pub enum RawArgument {
     /// A register by its name, without the `%`.
     Register(Text),

@@ -9,7 +9,7 @@ use ops::{Cast, Opcode, Unary};
 use rule_tokens::Version;
 
 /// An operation that a statement begins with.
-#[derive(Clone, Copy, Debug)]
+#[derive(Clone, Copy)]
 pub enum Operation {
     Binary(Opcode),
     Compare,

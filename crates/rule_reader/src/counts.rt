@@ -9,7 +9,7 @@ use crate::place::Half;
 use rule_parse::{RawArgument, RawOp, RawRule, RawStatement};
 
 /// How many choices, which are `undef`s and freezes, and nodes of terms stand in a part of a half.
-#[derive(Clone, Copy, Debug, PartialEq, Eq)]
+#[derive(Clone, Copy, PartialEq, Eq)]
 pub(crate) struct Counts {
     pub(crate) choices: u32,
     pub(crate) nodes: u32,

@@ -11,7 +11,7 @@ use rule_parse::{RawArgument, RawOp, RawStatement};
 use std::alloc::{AllocError, Global};
 
 /// The names that a source gives, each once, in the order of their first uses.
-#[derive(Debug, Drop)]
+#[derive(Drop)]
 pub(crate) struct Names {
     /// The registers that no statement of the source assigns.
     pub(crate) inputs: List<Text>,

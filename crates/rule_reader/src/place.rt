@@ -6,14 +6,14 @@ ghost use Rattle.rule_reader.specs.KnownRules.{half_of, place_in};
 use rule_parse::{RawRule, RawStatement};
 
 /// A half of a rule.
-#[derive(Clone, Copy, Debug, PartialEq, Eq)]
+#[derive(Clone, Copy, PartialEq, Eq)]
 pub(crate) enum Half {
     Source,
     Target,
 }
 
 /// Where a name is used: which names are there to use depends on it.
-#[derive(Clone, Copy, Debug, PartialEq, Eq)]
+#[derive(Clone, Copy, PartialEq, Eq)]
 pub(crate) enum Place {
     /// In a statement of the source, by its place.
     Source(usize),

@@ -15,7 +15,7 @@ use rule_parse::{RawRule, RawTerm};
 use std::alloc::{AllocError, Global};
 
 /// What the expressions of `Wit:` are.
-#[derive(Debug, Drop)]
+#[derive(Drop)]
 pub(crate) struct Choices {
     /// Their nodes, one expression behind the other.
     pub(crate) terms: List<Term>,

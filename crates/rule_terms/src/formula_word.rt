@@ -13,14 +13,14 @@ use ops::keywords::is;
 use rule_tokens::Token;
 
 /// A predicate of one term.
-#[derive(Clone, Copy, Debug)]
+#[derive(Clone, Copy)]
 pub enum Predicate {
     IsPowerOfTwo,
     IsSignBit,
 }
 
 /// How a member of a formula begins.
-#[derive(Clone, Copy, Debug)]
+#[derive(Clone, Copy)]
 pub enum Opening {
     /// By `!`.
     Turns,
@@ -33,7 +33,7 @@ pub enum Opening {
 }
 
 /// What a token says of the parentheses that it stands in.
-#[derive(Clone, Copy, Debug)]
+#[derive(Clone, Copy)]
 pub enum Sign {
     Opens,
     Closes,

@@ -1,7 +1,7 @@
 //! Where a term stands.
 
 /// Where a term stands.
-#[derive(Clone, Copy, Debug, PartialEq, Eq)]
+#[derive(Clone, Copy, PartialEq, Eq)]
 pub enum TermPlace {
     /// In a target or a precondition: it is made of constants and literals.
     Constant,

@@ -8,7 +8,7 @@ use rule_core::Function;
 pub type RawTerm = List<RawNode>;
 
 /// A node of a term as written. Its operands are nodes before it in the term, by their places.
-#[derive(Debug, Drop)]
+#[derive(Drop)]
 pub enum RawNode {
     /// A number with its sign; past an end of `i128` that end.
     Literal(i128),
@@ -26,7 +26,7 @@ pub enum RawNode {
 }
 
 /// A node of a formula as written. Operands that are formulas are nodes before it, by their places.
-#[derive(Debug, Drop)]
+#[derive(Drop)]
 pub enum RawFormula {
     Compare(Pred, RawTerm, RawTerm),
     /// `isPowerOf2`.

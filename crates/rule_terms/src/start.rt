@@ -20,7 +20,7 @@ use rule_tokens::{
 use std::alloc::Global;
 
 /// What an operand begins with.
-#[derive(Debug, Drop)]
+#[derive(Drop)]
 pub enum Start {
     /// A node of one token, which is the whole operand.
     Leaf(RawNode),

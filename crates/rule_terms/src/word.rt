@@ -108,7 +108,7 @@ fn choice_of(word: &[u8]) -> Option<u32>
 }
 
 /// What a word means in an operand's place.
-#[derive(Clone, Copy, Debug)]
+#[derive(Clone, Copy)]
 pub enum Meaning {
     /// `width`, of a register in parentheses.
     Width,

@@ -8,7 +8,7 @@ use ops::keywords::is;
 use scan::{RuleKind, ends_primary};
 
 /// What stands directly before a token.
-#[derive(Clone, Copy, Debug)]
+#[derive(Clone, Copy)]
 pub enum Before {
     /// `Version:`.
     VersionHead,
@@ -18,7 +18,7 @@ pub enum Before {
 }
 
 /// What the tokens before a token say of it.
-#[derive(Clone, Copy, Debug)]
+#[derive(Clone, Copy)]
 pub struct Context {
     /// Whether an operator may stand there, since the token before ends a primary of a term.
     pub operator: bool,

@@ -4,7 +4,7 @@ use lists::Text;
 use refusal::{Fault, Refusal};
 
 /// What is wrong, in the order in which it is looked for: over the whole text up to `TooMany`, and then rule by rule.
-#[derive(Debug, Drop)]
+#[derive(Drop)]
 pub enum RuleFaultKind {
     /// The text has more than 1,048,576 bytes.
     TooLong,

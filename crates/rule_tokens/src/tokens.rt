@@ -14,7 +14,7 @@ use scan::{BadByte, Cursor, RuleKind};
 use std::alloc::{AllocError, Global};
 
 /// The tokens of a text, and its last line.
-#[derive(Debug, Drop)]
+#[derive(Drop)]
 pub struct Tokens<'a> {
     /// All tokens in order, or those up to the first byte that may not stand where it does, which is the last one then. Each line's
     /// are behind its number.

@@ -6,7 +6,7 @@ ghost use Rattle.rule_tokens.specs.Versions.{version_in};
 use crate::number::{are_digits, magnitude};
 
 /// The version that a rule file is written in.
-#[derive(Clone, Copy, PartialEq, Eq, Debug)]
+#[derive(Clone, Copy, PartialEq, Eq)]
 pub enum Version {
     One,
     /// The first one with `freeze` and intrinsics.

@@ -4,7 +4,7 @@ use lists::List;
 use rule_core::Typing;
 
 /// The typings of a rule.
-#[derive(Debug, Drop)]
+#[derive(Drop)]
 pub enum Typings {
     /// All of them, in lexicographic order.
     All(List<Typing>),

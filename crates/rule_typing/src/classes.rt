@@ -18,7 +18,7 @@ use rule_core::{Rule, class_at, positions};
 pub const MOST_CLASSES: u32 = 8;
 
 /// Why a rule has no classes that it could be decided for. They are tested in this order.
-#[derive(Clone, Copy, PartialEq, Eq, Debug)]
+#[derive(Clone, Copy, PartialEq, Eq)]
 pub enum ClassFault {
     /// There are more than 8 type classes.
     TooMany,

@@ -1,7 +1,7 @@
 //! The two halves of a rule.
 
 /// A half of a rule.
-#[derive(Clone, Copy, Debug)]
+#[derive(Clone, Copy)]
 pub(crate) enum Half {
     Source,
     Target,

@@ -8,7 +8,7 @@ use lists::List;
 use rule_core::{Node, Op, Operand, Rule, Statement, Term};
 
 /// What becomes of the classes' numbers.
-#[derive(Clone, Copy, Debug)]
+#[derive(Clone, Copy)]
 pub(crate) enum Renaming {
     /// The first class becomes the second.
     Merge(u32, u32),

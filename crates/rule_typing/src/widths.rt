@@ -12,7 +12,7 @@ use ops::Width;
 use rule_core::Rule;
 
 /// A set of widths. It takes no memory.
-#[derive(Clone, Copy, Debug)]
+#[derive(Clone, Copy)]
 pub(crate) struct Widths {
     /// Whether the width of so many bits as the place says is in the set.
     has: [bool; 65],

@@ -7,7 +7,7 @@ use ir_reader::{IrError, IrFault};
 use refusal::Refusal;
 
 /// Why a function can't be run.
-#[derive(Debug, Drop)]
+#[derive(Drop)]
 pub enum RunFault {
     /// The text is no module.
     Module(IrFault),

@@ -9,7 +9,7 @@ use clauses::Lit;
 
 /// The open literals of a clause, as far as unit propagation asks. A literal that stands in it
 /// twice is counted once.
-#[derive(Clone, Copy, Debug)]
+#[derive(Clone, Copy)]
 pub(crate) enum OpenLiterals {
     NoneOpen,
     OneOpen(Lit),

@@ -8,7 +8,7 @@ ghost use Rattle.rup_checker.specs.Table.{Represents, table_holds, stands_in};
 use clauses::Lit;
 
 /// What is known of one variable or of one clause.
-#[derive(Clone, Copy, Debug)]
+#[derive(Clone, Copy)]
 pub(crate) struct Entry {
     /// Whether the variable's literals are held. Both are where a clause with a variable and its
     /// negation is negated.

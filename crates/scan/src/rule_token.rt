@@ -24,7 +24,7 @@ pub enum RuleKind {
 }
 
 /// A token of a rule file.
-#[derive(Clone, Copy, Debug, PartialEq, Eq)]
+#[derive(Clone, Copy, PartialEq, Eq)]
 pub struct RuleToken {
     pub kind: RuleKind,
     /// The line that it begins on, counted from 1; at the end of the text the last line.

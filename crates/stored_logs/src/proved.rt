@@ -24,7 +24,7 @@ use verdict::{MOST_TYPINGS, prove};
 use verdict_core::{Row, Table};
 
 /// What is found about a list of rules, and why those are valid that are admitted.
-#[derive(Debug, Drop)]
+#[derive(Drop)]
 pub struct Proved {
     /// A row for each rule in order and each of its typings in order. A rule that has more than `MOST_TYPINGS` has
     /// none.

@@ -19,7 +19,7 @@ use verdict::readmit;
 use verdict_core::{Row, Table, push_verdict};
 
 /// What comes of the proofs in a text.
-#[derive(Debug, Drop)]
+#[derive(Drop)]
 pub struct Rechecked {
     /// A row for each proof, in order.
     pub table: Table,

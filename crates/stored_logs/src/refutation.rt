@@ -4,7 +4,7 @@ use clauses::{Cnf, Log};
 use lists::List;
 
 /// Why a rule is valid at a typing.
-#[derive(Debug, Drop)]
+#[derive(Drop)]
 pub struct Refutation {
     /// The clauses that stand for the counterexamples of the rule.
     pub set: Cnf,

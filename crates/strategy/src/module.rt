@@ -106,7 +106,7 @@ fn plain_strategy(
 }
 
 /// For each function in order, how often it was rewritten, and whether it is limited.
-#[derive(Debug, Drop)]
+#[derive(Drop)]
 pub(crate) struct Counts {
     pub(crate) counts: List<u32>,
     pub(crate) limited: List<bool>,

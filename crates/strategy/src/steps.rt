@@ -11,7 +11,7 @@ use needed::{clean, every_cleaned_function_refines_the_old, every_cleaned_number
 use std::alloc::{AllocError, Global};
 
 /// How far a function and its verdicts may be brought.
-#[derive(Clone, Copy, Debug)]
+#[derive(Clone, Copy)]
 pub(crate) struct Bounds {
     /// How many clauses the search for a verdict may learn.
     pub(crate) conflicts: u32,
@@ -20,7 +20,7 @@ pub(crate) struct Bounds {
 }
 
 /// How often a function was rewritten, and whether an admitted match was left when its steps were spent.
-#[derive(Clone, Copy, Debug)]
+#[derive(Clone, Copy)]
 pub(crate) struct Turns {
     pub(crate) count: u32,
     pub(crate) limited: bool,

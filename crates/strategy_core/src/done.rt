@@ -5,7 +5,7 @@ use lists::List;
 use verdict_core::Table;
 
 /// A module that the plain strategy gives, the verdicts that it was given by, and what became of its functions.
-#[derive(Debug, Drop)]
+#[derive(Drop)]
 pub struct Done {
     pub module: Module,
     /// The verdicts in the order in which the strategy first asked for them, each pair of a rule and a typing once.

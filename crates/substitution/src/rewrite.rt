@@ -9,7 +9,7 @@ use lists::List;
 
 /// In the place of one instruction, the root, others stand, and wherever its register was read an operand is. Both name the
 /// registers of the new function.
-#[derive(Debug, Drop)]
+#[derive(Drop)]
 pub struct Rewrite {
     /// The root's block.
     pub block: u32,

@@ -6,7 +6,7 @@ use clauses::{Cnf, Lit, Step, clause_in};
 use std::alloc::{AllocError, Global};
 
 /// A hint, and what its clause does.
-#[derive(Clone, Copy, Debug)]
+#[derive(Clone, Copy)]
 struct Move {
     number: u32,
     /// The literal that the clause makes hold; none where the clause is false.

@@ -8,7 +8,7 @@ use lists::List;
 use std::alloc::{AllocError, Global};
 
 /// A step that is kept.
-#[derive(Debug, Drop)]
+#[derive(Drop)]
 pub(crate) struct Kept {
     /// Its place in the log.
     pub(crate) place: usize,

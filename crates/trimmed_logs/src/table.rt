@@ -4,7 +4,7 @@
 use clauses::Lit;
 
 /// What is known of one variable.
-#[derive(Clone, Copy, Debug)]
+#[derive(Clone, Copy)]
 pub(crate) struct Known {
     /// Its value, where one of its literals is held.
     value: Option<bool>,

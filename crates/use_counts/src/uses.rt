@@ -10,7 +10,7 @@ use lists::List;
 
 /// For each parameter of a function and each result of an instruction a number: how many operands of the whole function
 /// name it.
-#[derive(Debug, Drop)]
+#[derive(Drop)]
 pub struct Uses {
     pub parameters: List<usize>,
     /// For each block a row, with a number for each of its instructions.

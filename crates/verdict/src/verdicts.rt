@@ -25,7 +25,7 @@ use verdict_core::{Row, Table, Verdict};
 
 /// The verdicts that were asked for, each pair of a rule and a typing once, in the order in which they were first asked
 /// for.
-#[derive(Debug, Drop)]
+#[derive(Drop)]
 pub struct Verdicts {
     pub table: Table,
     /// The pairs of the rows, in their order: so a pair's row is found in as long a time however many there are.

@@ -20,7 +20,7 @@ use verdict_core::{Row, Table, Verdict, push_too_many, push_verdict};
 pub const MOST_TYPINGS: u32 = 4096;
 
 /// What is found about a list of rules.
-#[derive(Debug, Drop)]
+#[derive(Drop)]
 pub struct Verified {
     /// A row for each rule in order and each of its typings in order. A rule that has more than `MOST_TYPINGS` has
     /// none.

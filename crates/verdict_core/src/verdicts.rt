@@ -6,7 +6,7 @@ use packed_log::PackedLog;
 use rule_core::{Example, Typing};
 
 /// What is said of a rule at a typing.
-#[derive(Debug, Drop)]
+#[derive(Drop)]
 pub enum Verdict {
     /// The rule is valid.
     Admitted,
@@ -20,7 +20,7 @@ pub enum Verdict {
 }
 
 /// What was tried in vain.
-#[derive(Debug, Drop)]
+#[derive(Drop)]
 pub struct Tried {
     /// The clauses that stand for the counterexamples of the rule.
     pub set: Cnf,
@@ -29,7 +29,7 @@ pub struct Tried {
 }
 
 /// The verdict on one rule at one typing.
-#[derive(Debug, Drop)]
+#[derive(Drop)]
 pub struct Row {
     /// The place of the rule in its file, from 0.
     pub rule: u32,

@@ -11,7 +11,7 @@ use ops::Width;
 use std::alloc::{AllocError, Global};
 
 /// What a name or a number calls.
-#[derive(Clone, Copy, Debug)]
+#[derive(Clone, Copy)]
 pub(crate) enum Entity {
     /// A register of this many bits.
     Register(Register, u32),
@@ -20,7 +20,7 @@ pub(crate) enum Entity {
 }
 
 /// A parameter, a block or a result, with what is written where it is defined.
-#[derive(Clone, Copy, Debug)]
+#[derive(Clone, Copy)]
 pub(crate) struct Definition<'a> {
     pub(crate) written: Option<&'a RawIdentifier>,
     pub(crate) entity: Entity,

@@ -6,7 +6,7 @@ ghost use Rattle.ir_resolve.specs.Views.{seen};
 use ir_tokens::Identifier;
 
 /// How a parameter, a block or a result is called: by its name, or by its number in the series of those without a name.
-#[derive(Clone, Copy, Debug, PartialEq, Eq, Hash)]
+#[derive(Clone, Copy, PartialEq, Eq, Hash)]
 pub(crate) enum Key<'a> {
     Named(&'a [u8]),
     Numbered(u64),

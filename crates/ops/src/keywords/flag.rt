@@ -7,7 +7,7 @@ use crate::Flags;
 use crate::keywords::spelling::is;
 
 /// A flag of an instruction.
-#[derive(Clone, Copy, Debug)]
+#[derive(Clone, Copy)]
 pub enum Flag {
     Nuw,
     Nsw,
