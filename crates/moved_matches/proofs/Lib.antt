@@ -1,4 +1,1 @@
 pub mod Staying
-pub mod Bound
-pub mod Away
-pub mod Keeping

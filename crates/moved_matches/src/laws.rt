@@ -1,16 +1,10 @@
-//! The laws of matches that stay, each the contract of a function that does nothing.
+//! The law of matches that stay, the contract of a function that does nothing.
 
-ghost use Rattle.moved_matches.specs.Laws.{InAnyOrder, InOrder, MatchesAwayFromRootsStay, MatchesOfKeptStay, MatchesStay};
+ghost use Rattle.moved_matches.specs.Laws.{InAnyOrder, InOrder, MatchesStay};
 
 /// A rule that matches in a function matches in another one where what the match stands on does, with the binding that says where it
 /// stands there.
 pub fn matches_stay_where_instructions_move()
     ensures in_order { MatchesStay InOrder InOrder }
     ensures any_order { MatchesStay InAnyOrder InAnyOrder }
-{}
-
-/// So it does where the function is rewritten at another root, and where it is cleaned of what the match isn't bound to.
-pub fn matches_stay_away_from_changes()
-    ensures rewritten { MatchesAwayFromRootsStay }
-    ensures cleaned { MatchesOfKeptStay }
 {}

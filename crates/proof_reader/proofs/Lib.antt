@@ -2,4 +2,3 @@ pub mod Growing
 pub mod Keys
 pub mod Lines
 pub mod RuleNames
-pub mod Typed

@@ -16,7 +16,7 @@ pub use formula_word::{Opening, Predicate, Sign, is_among};
 pub use laws::{nodes_stand_behind_their_operands, terms_are_read_as_they_are_spelled};
 pub use place::TermPlace;
 pub use raw::{RawFormula, RawNode, RawTerm};
-pub use reading::{rest_of_term, term};
+pub use reading::term;
 pub use start::{Start, mark};
 pub use take::takes;
 pub use word::{Meaning, is_constant, operator_of};

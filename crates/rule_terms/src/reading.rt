@@ -199,21 +199,3 @@ pub fn term(
     operand(&site, nesting, LOOSEST, &mut nodes, tokens)?;
     Ok(nodes)
 }
-
-/// The term that begins with these nodes, which are those of an operand in parentheses, and goes on here; goes behind it.
-#[tactic(auto, unfolding(crate::specs::TermReaders::rest_of_term_at))]
-pub fn rest_of_term(
-    alloc: Global,
-    place: TermPlace,
-    nesting: u32,
-    line: usize,
-    first: RawTerm,
-    tokens: &mut &[Token<'_>],
-) -> Result<RawTerm, RuleError>
-    ensures { Gives (λ x. (x, seen tokens.new.now)) result (parsing.rest_of_term_at rule_limits place nesting line first (seen tokens.old.now)) }
-{
-    let site = Site { alloc, place, line };
-    let mut nodes = first;
-    behind(&site, nesting, LOOSEST, &mut nodes, tokens)?;
-    Ok(nodes)
-}

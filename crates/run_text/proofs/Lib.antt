@@ -1,5 +1,4 @@
 pub mod ArgumentLemmas
 pub mod NamedLemmas
-pub mod RunningLemmas
 pub mod LawLemmas
 pub mod Misnaming

@@ -1,4 +1,2 @@
-pub mod Choices
-pub mod ConstantLists
 mod Readiness
 mod Reading

@@ -1,1 +1,0 @@
--- Lexemes one behind the other.

@@ -1,1 +1,0 @@
--- Numbers that are no widths are no typing.

@@ -1,1 +1,0 @@
--- Numbers as decimal digits spell them, held up to a most number.

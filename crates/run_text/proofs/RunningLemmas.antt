@@ -1,1 +1,0 @@
--- Words that don't fit the function that they name.

@@ -1,1 +1,0 @@
--- Where the source of a rule leaves nothing open, there is nothing to choose for it.

@@ -1,1 +1,0 @@
--- Constants of one width fit a rule whose typing has that width alone.
