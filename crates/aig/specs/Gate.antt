@@ -12,8 +12,8 @@ pub record AreApart (m n : Node) : Type 0 where
   pub second : n ≢ One
   pub differ : m ≢ n
 
--- No operand is over the constant, no two of them are over one node, and those that may change places are in the order of
--- their codes. The operands of an `xor`, the condition of a choice and its first arm are not negated.
+-- No operand is over the constant, no two of them are over one node, and those that may change places are in the order
+-- of their codes. The operands of an `xor`, the condition of a choice and its first arm are not negated.
 abbrev pub IsProper : Gate → Type 0
 IsProper (And a b) = AreApart a.node b.node × (code_of a < code_of b)
 IsProper (Xor a b) = AreApart a.node b.node × (code_of a < code_of b) × (a.negated ≡ false) × (b.negated ≡ false)

@@ -180,8 +180,8 @@ fn run_words<F: Files, O: Sink, E: Sink>(
 /// `run [--blocks N] MODULE NAME [ARG..]` runs a function of a module and writes what it returned, that its behaviour
 /// is undefined, or where it was after so many blocks.
 ///
-/// `load NUMBER` makes a module of the number, rewrites it by the built-in rules, and writes how large it was and is, and
-/// how often functions were rewritten. It reads no file.
+/// `load NUMBER` makes a module of the number, rewrites it by the built-in rules, and writes how large it was and is,
+/// and how often functions were rewritten. It reads no file.
 ///
 /// A rule file of more than 1 MiB, a module of more than 16 MiB and proofs of more than 64 MiB are refused. The status
 /// says how it ended.

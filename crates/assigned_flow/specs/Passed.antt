@@ -2,7 +2,8 @@
 use Rattle.std.specs.Prelude.{◌≡◌, ℕ, ◌<◌, ◌⊎◌, List, ◌∷◌, length, Contains}
 use Rattle.dominator_tree.specs.Walks.{IsEdge, IsWalk}
 
--- every walk to place k of block b has passed place j of block d, in an earlier block of the walk or in this one before the place
+-- every walk to place k of block b has passed place j of block d, in an earlier block of the walk or in this one before
+-- the place
 abbrev pub IsPassed : List (List ℕ) → ℕ → ℕ → ℕ → ℕ → Type 0
 IsPassed graph d j b k = (before : List ℕ) → IsWalk graph (b ∷ before) → Contains before d ⊎ ((d ≡ b) × (j < k))
 

@@ -15,7 +15,8 @@ use ir_core::{Function, Register};
 use std::alloc::{AllocError, Global};
 use std::marker::Model;
 
-/// Which blocks of a function are reached, and where its registers are assigned. Contracts see the successors of each block.
+/// Which blocks of a function are reached, and where its registers are assigned. Contracts see the successors of each
+/// block.
 #[derive(Drop)]
 pub struct Assigned {
     dominators: DominatorTree,
@@ -35,8 +36,8 @@ impl Model for Assigned {
 }
 
 impl Assigned {
-    /// Where the registers of a function are assigned, and which blocks are reached: reads aren't checked. The only error is want of
-    /// memory.
+    /// Where the registers of a function are assigned, and which blocks are reached: reads aren't checked. The only
+    /// error is want of memory.
     pub fn new(alloc: Global, f: &Function) -> Result<Self, AllocError>
         requires some_block { 0 < length f.now.blocks }
         requires blocks { length f.now.blocks < 2 ^ 32 }
@@ -74,8 +75,8 @@ impl Assigned {
         block < self.blocks && self.dominators.reached(block)
     }
 
-    /// Whether every walk to a place of a block has passed an earlier place: one in an earlier block of the walk, or one before
-    /// it in its own block.
+    /// Whether every walk to a place of a block has passed an earlier place: one in an earlier block of the walk, or
+    /// one before it in its own block.
     pub(crate) fn has_passed(
         &self,
         earlier: u32,

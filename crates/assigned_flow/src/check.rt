@@ -92,8 +92,8 @@ fn check_block(f: &Function, assigned: &Assigned, block: u32) -> Result<(), Flow
     check_place(f, assigned, block, end)
 }
 
-/// Checks that each register is assigned wherever it is read, on every way there. A register that the function hasn't is
-/// assigned nowhere. In a block that isn't reached, each one that the function has is assigned.
+/// Checks that each register is assigned wherever it is read, on every way there. A register that the function hasn't
+/// is assigned nowhere. In a block that isn't reached, each one that the function has is assigned.
 ///
 /// What is read is looked at once, in constant time each. So the time is linear in the function, beside that of
 /// [`dominator_tree::dominators`], whose worst case is told there.

@@ -25,7 +25,8 @@ pub(crate) fn end_of(f: &Function, block: u32) -> u32
     }
 }
 
-/// What is read as one operand of what stands at a place of a block; the terminator's place is the number of instructions.
+/// What is read as one operand of what stands at a place of a block; the terminator's place is the number of
+/// instructions.
 pub(crate) fn read_at(f: &Function, block: u32, place: u32, operand: u32) -> Option<Read>
     requires { All (λ b. length b.insts < 2 ^ 32) f.now.blocks }
     ensures { result ≡ option_map located (slice_get (reads_at f.now block place) operand) }

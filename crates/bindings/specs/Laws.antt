@@ -13,8 +13,8 @@ use Rattle.rule_core.specs.declared.rule.Rule.{Rule}
 use Rattle.bindings.specs.Match.{IsMatch, MatchesInAnyOrder}
 use Rattle.bindings.specs.declared.binding.Binding.{Binding}
 
--- In a block that is reached, what an instruction that is no phi reads of the block's own results stands before it: so temporaries of a
--- match stand before its root, since each is read on the way there.
+-- In a block that is reached, what an instruction that is no phi reads of the block's own results stands before it: so
+-- temporaries of a match stand before its root, since each is read on the way there.
 abbrev pub ReadsStandBefore : Type 0
 ReadsStandBefore = (f : Function) (b k p i : ℕ) (inst : Inst) (r : Read)
     → MeetsChecks f → IsReached f b → IsInst f b k inst → ¬ IsPhi inst.op

@@ -14,7 +14,8 @@ use Rattle.use_counts.specs.Uses.{IsUsedOnce}
 use Rattle.bindings.specs.Statements.{StatementMatches}
 use Rattle.bindings.specs.declared.binding.Binding.{Binding}
 
--- The rule matches at instruction k of block b of the function, with this binding, where temporaries stand to the root as is said.
+-- The rule matches at instruction k of block b of the function, with this binding, where temporaries stand to the root
+-- as is said.
 pub record MatchesWhere (Before : ℕ → ℕ → Type 0) (f : Function) (b k : ℕ) (rule : Rule) (binding : Binding) : Type 0 where
   -- the root is instruction k of block b, which the entry reaches
   pub block : binding.block ≡ b
@@ -39,7 +40,7 @@ pub record MatchesWhere (Before : ℕ → ℕ → Type 0) (f : Function) (b k : 
 abbrev pub IsMatch : Function → ℕ → ℕ → Rule → Binding → Type 0
 IsMatch = MatchesWhere (λ p k. p < k)
 
--- And where it isn't told in which order they stand: in a function that meets its checks temporaries stand before the root all the same,
--- since each is read on the way there.
+-- And where it isn't told in which order they stand: in a function that meets its checks temporaries stand before the
+-- root all the same, since each is read on the way there.
 abbrev pub MatchesInAnyOrder : Function → ℕ → ℕ → Rule → Binding → Type 0
 MatchesInAnyOrder = MatchesWhere (λ p k. Unit {0})

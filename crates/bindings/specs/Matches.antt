@@ -6,14 +6,15 @@ use Rattle.rule_core.specs.declared.rule.Rule.{Rule}
 use Rattle.bindings.specs.Match.{MatchesWhere}
 use Rattle.bindings.specs.declared.rule_match.Match.{Match}
 
--- the rule that it names matches in the function, at the place and with what its binding says, where temporaries stand to the root as is
--- said
+-- the rule that it names matches in the function, at the place and with what its binding says, where temporaries stand
+-- to the root as is said
 pub record MatchesAmong (Before : ℕ → ℕ → Type 0) (rules : List Rule) (f : Function) (m : Match) : Type 0 where
   pub rule : Rule
   pub is_rule : slice_get rules m.rule ≡ Some rule
   pub matches : MatchesWhere Before f m.binding.block m.binding.place rule m.binding
 
--- where the instructions of a block stand in the order of their places, and where it isn't told in which order they stand
+-- where the instructions of a block stand in the order of their places, and where it isn't told in which order they
+-- stand
 abbrev pub IsMatchAmong : List Rule → Function → Match → Type 0
 IsMatchAmong = MatchesAmong (λ p k. p < k)
 

@@ -53,7 +53,8 @@ promises_of_inst op = no_promises
 abbrev pub MeasuresTemporary : List Term → ℕ → Type 0
 MeasuresTemporary terms n = (j : ℕ) × NamesWidth terms n (names.Source j)
 
--- an argument of the target names what a statement of the source assigns: it is that register, or its term names the width of one
+-- an argument of the target names what a statement of the source assigns: it is that register, or its term names the
+-- width of one
 abbrev pub NamesTemporary : List Term → Argument → Type 0
 NamesTemporary terms (arguments.Register (names.Source j)) = Unit {0}
 NamesTemporary terms (arguments.Term n) = MeasuresTemporary terms n

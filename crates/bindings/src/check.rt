@@ -26,7 +26,8 @@ use rule_core::{Formula, Op, Rule};
 use rule_typing::is_typing;
 use use_counts::uses_of;
 
-/// Whether the rule matches with this binding at the instruction that the binding names, in whatever order instructions stand.
+/// Whether the rule matches with this binding at the instruction that the binding names, in whatever order instructions
+/// stand.
 pub fn is_match(f: &Function, facts: &FunctionFacts, rule: &Rule, binding: &Binding) -> bool
     requires insts { All (λ b. length b.insts < 2 ^ 32) f.now.blocks }
     requires facts { AreFactsOf f.now facts.now }
@@ -73,7 +74,8 @@ fn statements_match(f: &Function, rule: &Rule, binding: &Binding) -> bool
     true
 }
 
-/// Whether a statement of the source matches the instruction that it is bound to, with no more flags where they are to be exact.
+/// Whether a statement of the source matches the instruction that it is bound to, with no more flags where they are to
+/// be exact.
 fn statement_matches(f: &Function, rule: &Rule, binding: &Binding, exact: bool, j: usize) -> bool
     requires insts { All (λ b. length b.insts < 2 ^ 32) f.now.blocks }
     requires count { length binding.now.statements ≡ length rule.now.source }

@@ -17,7 +17,8 @@ pub struct FunctionFacts {
 }
 
 impl FunctionFacts {
-    /// Those of a function, in one pass over it beside the search for the reached blocks. The only error is want of memory.
+    /// Those of a function, in one pass over it beside the search for the reached blocks. The only error is want of
+    /// memory.
     pub fn of(alloc: Global, f: &Function) -> Result<FunctionFacts, AllocError>
         requires checks { MeetsChecks f.now }
         requires blocks { length f.now.blocks < 2 ^ 32 }

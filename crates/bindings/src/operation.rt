@@ -33,7 +33,8 @@ fn one_of(operands: &[RuleOperand], index: usize) -> Option<RuleOperand>
     operands.get(index).copied()
 }
 
-/// Whether both are one operation: of one opcode, one predicate, one intrinsic or one cast, or both a select or a freeze.
+/// Whether both are one operation: of one opcode, one predicate, one intrinsic or one cast, or both a select or a
+/// freeze.
 pub(crate) fn is_same_operation(statement: RuleOp, inst: &Op) -> bool
     ensures { IsTrue result ↔ IsSameOperation statement inst.now }
 {

@@ -5,7 +5,8 @@ ghost use Rattle.bindings.specs.Promises as meaning;
 
 use ops::Flags;
 
-/// The flags of an operation, and the truth value of an intrinsic, which is one more. One that is broken makes the result poison.
+/// The flags of an operation, and the truth value of an intrinsic, which is one more. One that is broken makes the
+/// result poison.
 #[derive(Clone, Copy, PartialEq, Eq)]
 pub struct Promises {
     pub flags: Flags,

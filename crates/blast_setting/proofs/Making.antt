@@ -70,7 +70,8 @@ poison_made value word poison N read is last =
     let same : number_of value word ≡ number (take N read) = ap (λ (n : Number). n.number) is in
     rw (last, width, same) refl
 
--- What is made one after the other, each of it literals that stand for what is read, which are kept as the circuit grows.
+-- What is made one after the other, each of it literals that stand for what is read, which are kept as the circuit
+-- grows.
 module _ {C M X : Type 0} (admits : C → List Bool → Type 0) (inputs_made : C → ℕ) (keeps : C → C → Type 0) (admitted_by : (old new : C) → keeps old new → (inputs : List Bool) → admits old inputs → admits new inputs)
     (own : C → M → Type 0) (own_kept : (old new : C) → keeps old new → (m : M) → own old m → own new m)
     (stands : C → List Bool → M → X) (stands_kept : (old new : C) → keeps old new → (inputs : List Bool) → admits old inputs → (m : M) → own old m → stands new inputs m ≡ stands old inputs m)

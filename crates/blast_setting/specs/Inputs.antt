@@ -1,5 +1,5 @@
--- What a rule's circuit has as inputs at a typing: truth values for the value of each of the rule's inputs, then for the number of each
--- constant, and then for that of each choice of the target.
+-- What a rule's circuit has as inputs at a typing: truth values for the value of each of the rule's inputs, then for
+-- the number of each constant, and then for that of each choice of the target.
 use Rattle.std.specs.Prelude.{ℕ, ◌+◌, ◌==◌, Bool, false, List, length, map, sum_by, slice_index}
 use Rattle.std.specs.List.{find, range_with_len}
 use Rattle.std.specs.Option.{option_map_or}
@@ -24,7 +24,8 @@ names Input k (arguments.Register (registers.Input i)) = i == k
 names Constant k (arguments.Constant i) = i == k
 names kind k argument = false
 
--- the width of the first operand of statements that names the k-th one of its kind, which has the same wherever it is named
+-- the width of the first operand of statements that names the k-th one of its kind, which has the same wherever it is
+-- named
 abbrev pub named_width : List ℕ → List Statement → Kind → ℕ → ℕ
 named_width typing statements kind k =
     option_map_or (λ o. slice_index typing o.class) (find (λ o. names kind k o.value) (operands_among statements)) 0
@@ -47,7 +48,8 @@ constant_widths rule typing = named_widths typing rule.source Constant (length r
 abbrev pub choice_widths : Rule → List ℕ → List ℕ
 choice_widths rule typing = widths_chosen typing (choices_among rule.target)
 
--- how many truth values there are for a value of iN, which are those of its number and its poison bit, and for a number of iN
+-- how many truth values there are for a value of iN, which are those of its number and its poison bit, and for a number
+-- of iN
 abbrev pub value_bits : ℕ → ℕ
 value_bits N = N + 1
 

@@ -23,9 +23,10 @@ pub struct Setting {
     pub target_choices: List<Word>,
 }
 
-/// The setting that truth values of the circuit's inputs stand for, in the order in which [`blast_rule`](crate::blast_rule) makes
-/// them: for each input of the rule its bits, the lowest first, and then its poison bit; then the bits of each constant, and then
-/// those of each choice of the target. Past its end the list counts as false.
+/// The setting that truth values of the circuit's inputs stand for, in the order in which
+/// [`blast_rule`](crate::blast_rule) makes them: for each input of the rule its bits, the lowest first, and then its
+/// poison bit; then the bits of each constant, and then those of each choice of the target. Past its end the list
+/// counts as false.
 pub fn setting_of(
     alloc: Global,
     rule: &Rule,

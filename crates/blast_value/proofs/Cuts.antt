@@ -44,7 +44,8 @@ high_fits half power n below near = grind (arith, ints, nat_tests)
 high_fails : (half power n : ℕ) → n < power → half < power - n → (int_le (neg_ℤ (pos half)) (pos n -ℤ pos power) && int_lt (pos n -ℤ pos power) (pos half)) ≡ false
 high_fails half power n below far = grind (arith, ints, nat_tests)
 
--- what is left of a number of 2 * more bits' values, extended again: r is what is left, and q more than one power was cut off
+-- what is left of a number of 2 * more bits' values, extended again: r is what is left, and q more than one power was
+-- cut off
 again_low : (half power larger q n r : ℕ) → power ≡ 2 * half → larger ≡ power * (q + 1) → 1 ≤ q → r < power → half ≤ n → n + n < larger → r + bit (nat_le half r) * (larger - power) ≢ n
 again_low half power larger q n r p l some below high low =
     let room : power * 1 ≤ power * q = mul-le-mul_left power some in

@@ -268,8 +268,8 @@ quotient_value op flags N a b l q r negative poison which below width negative_i
     (λ (e : op ≡ SDiv). rw (poison_is, r_is, q_is, negative_is, width, e, signed_left N a b below) refl)
     which
 
--- what a division does where an operand may be poison, from the tests of its numbers: whether the divisor is 0, and whether it is -1,
--- and the dividend the least number
+-- what a division does where an operand may be poison, from the tests of its numbers: whether the divisor is 0, and
+-- whether it is -1, and the dividend the least number
 unsigned_effect : (x y by_zero : Bool) (v : Value) → Effect
 unsigned_effect x true by_zero v = Undefined
 unsigned_effect true false by_zero v = if by_zero then Undefined else Gives Poison

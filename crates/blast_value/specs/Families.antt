@@ -1,4 +1,5 @@
--- The families of the instructions with two operands, as the Language Reference groups them, and their results at numbers.
+-- The families of the instructions with two operands, as the Language Reference groups them, and their results at
+-- numbers.
 use Rattle.std.specs.Prelude.{ℕ, ◌+◌, ◌-◌, ◌*◌, ◌^◌, ◌/◌, ◌%◌, nat_le, ◌&&◌, Bool, true, false, ℤ, ◌+ℤ◌, ◌-ℤ◌, ◌*ℤ◌, unsigned_abs, bit_and, bit_or, bit_xor}
 use Rattle.ops.specs.declared.value.Value.{Value}
 use Rattle.ops.specs.declared.opcode.Opcode.{Opcode}
@@ -76,7 +77,8 @@ divided SDiv flags N a b =
 divided URem flags N a b = bits N (a % b)
 divided SRem flags N a b = bits N (residue N (remainder (signed N a) (signed N b)))
 
--- the floor of a number, or of a signed one, by 2 ^ b; poison where b is not below N, and where 2 ^ b was to divide it and doesn't
+-- the floor of a number, or of a signed one, by 2 ^ b; poison where b is not below N, and where 2 ^ b was to divide it
+-- and doesn't
 abbrev pub floor : Bool → Bool → ℕ → ℕ → ℕ → Value
 floor exact false N a b = shifts.lshr (record no_flags { exact = exact }) N a b
 floor exact true N a b = shifts.ashr (record no_flags { exact = exact }) N a b

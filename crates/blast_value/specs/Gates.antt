@@ -35,7 +35,8 @@ overflow_gates is_signed arithmetic.Mul width = overflow_mul_gates is_signed wid
 abbrev pub checked_gates : Arithmetic → ℕ → ℕ
 checked_gates op width = result_gates op width + overflow_gates false op width + overflow_gates true op width + 1
 
--- A shift to the left, whether the amount is too large, and whether shifting back unsigned or signed gives another number.
+-- A shift to the left, whether the amount is too large, and whether shifting back unsigned or signed gives another
+-- number.
 abbrev pub left_gates : ℕ → ℕ
 left_gates width = comparison_gates width + 3 * shift_gates width width + 2 * equality_gates width + 2
 

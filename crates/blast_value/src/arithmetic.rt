@@ -81,7 +81,8 @@ fn wrapped<C: Circuit>(
     }
 }
 
-/// Whether the result doesn't fit N bits, both operands read as signed or both as unsigned; false where that isn't asked.
+/// Whether the result doesn't fit N bits, both operands read as signed or both as unsigned; false where that isn't
+/// asked.
 fn overflows<C: Circuit>(
     alloc: Global,
     c: &mut C,

@@ -137,7 +137,8 @@ fn without_negation<C: Circuit>(
     }
 }
 
-/// The effect of `select`: the operand that the condition chooses, whatever the other is; poison where the condition is.
+/// The effect of `select`: the operand that the condition chooses, whatever the other is; poison where the condition
+/// is.
 pub(crate) fn choose<C: Circuit>(
     alloc: Global,
     c: &mut C,

@@ -81,7 +81,8 @@ fn breaks_flags<C: Circuit>(
     }
 }
 
-/// Whether extending what was cut off, unsigned or signed, gives another number than before; false where that isn't asked.
+/// Whether extending what was cut off, unsigned or signed, gives another number than before; false where that isn't
+/// asked.
 fn changes<C: Circuit>(
     alloc: Global,
     c: &mut C,

@@ -39,8 +39,8 @@ impl Division {
     }
 }
 
-/// The effect of such an instruction: undefined behaviour where there is no quotient, whatever the operands that are poison may
-/// be, and poison where the dividend is or where a remainder is left that was promised not to be.
+/// The effect of such an instruction: undefined behaviour where there is no quotient, whatever the operands that are
+/// poison may be, and poison where the dividend is or where a remainder is left that was promised not to be.
 pub(crate) fn divide<C: Circuit>(
     alloc: Global,
     c: &mut C,
@@ -72,7 +72,8 @@ pub(crate) fn divide<C: Circuit>(
     })
 }
 
-/// Whether there is undefined behaviour: by poison and by 0, and for signed numbers also where the quotient may be too large.
+/// Whether there is undefined behaviour: by poison and by 0, and for signed numbers also where the quotient may be too
+/// large.
 fn has_no_quotient<C: Circuit>(
     alloc: Global,
     c: &mut C,
@@ -144,7 +145,8 @@ pub(crate) fn least(width: Width) -> u64
     1 << (width.bits() - 1)
 }
 
-/// A quotient or a remainder of two numbers, which are free by 0; poison where a remainder is left that was promised not to be.
+/// A quotient or a remainder of two numbers, which are free by 0; poison where a remainder is left that was promised
+/// not to be.
 fn result<C: Circuit>(
     alloc: Global,
     c: &mut C,

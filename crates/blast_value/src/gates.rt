@@ -8,8 +8,8 @@ ghost use Rattle.blast_value.specs.Laws.{GatesAreFew};
 use crate::instruction::Instruction;
 use ops::{Cast, Opcode, Unary, Width};
 
-/// The most gates that [`blast_value`](crate::blast_value) adds for an instruction whose result has `width` bits, and whose widest
-/// operand has `operand_width`. It takes no memory.
+/// The most gates that [`blast_value`](crate::blast_value) adds for an instruction whose result has `width` bits, and
+/// whose widest operand has `operand_width`. It takes no memory.
 pub fn gates_of(what: Instruction, width: Width, operand_width: Width) -> u32
     ensures { result ≡ gates_of what width operand_width }
 {
@@ -24,8 +24,8 @@ pub fn gates_of(what: Instruction, width: Width, operand_width: Width) -> u32
     }
 }
 
-/// The circuit of an instruction has at most 64 gates a bit of the greatest width among its operands and result, and 64 more for
-/// each pair of bits of a product, a quotient or a remainder.
+/// The circuit of an instruction has at most 64 gates a bit of the greatest width among its operands and result, and 64
+/// more for each pair of bits of a product, a quotient or a remainder.
 pub fn gates_are_few()
     ensures { GatesAreFew }
 {}
@@ -73,8 +73,8 @@ fn count_gates(width: u32) -> u32
     5 * digits * width
 }
 
-/// The same of a shift by a word of the same width: a choice of two words for each bit that an amount below the width may need,
-/// one more such choice, and a gate for each higher bit.
+/// The same of a shift by a word of the same width: a choice of two words for each bit that an amount below the width
+/// may need, one more such choice, and a gate for each higher bit.
 fn shift_gates(width: u32) -> u32
     requires least { 1 ≤ width }
     requires most { width ≤ 64 }

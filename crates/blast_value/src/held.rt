@@ -11,8 +11,8 @@ pub struct Held<L> {
     pub poison: L,
 }
 
-/// An effect: undefined behaviour where its undefined bit is true, else poison where its poison bit is, and else the number of
-/// its bits.
+/// An effect: undefined behaviour where its undefined bit is true, else poison where its poison bit is, and else the
+/// number of its bits.
 #[derive(Drop)]
 pub struct Blasted<L> {
     /// The number. The bits are free where it is poison or the effect is undefined behaviour.

@@ -45,7 +45,8 @@ pub(crate) fn moved_left<C: Circuit>(
     Ok(Held { bits, poison })
 }
 
-/// The highest bit of a word where it is read as signed, and else 0: what comes in above it where it is shifted or made longer.
+/// The highest bit of a word where it is read as signed, and else 0: what comes in above it where it is shifted or made
+/// longer.
 pub(crate) fn sign_where<C: Circuit>(c: &C, signed: bool, word: &Bits<C::Literal>) -> C::Literal
     requires width { 0 < length word.now }
     requires own { All (C.has_literal c.now) word.now }
@@ -57,7 +58,8 @@ pub(crate) fn sign_where<C: Circuit>(c: &C, signed: bool, word: &Bits<C::Literal
     if signed { sign(word) } else { c.zero() }
 }
 
-/// Whether shifting a word back to the right gives another number than before, unsigned or signed; false where that isn't asked.
+/// Whether shifting a word back to the right gives another number than before, unsigned or signed; false where that
+/// isn't asked.
 fn loses<C: Circuit>(
     alloc: Global,
     c: &mut C,
@@ -92,7 +94,8 @@ fn loses<C: Circuit>(
     Ok(c.not(same))
 }
 
-/// The floor of the number, or of the signed number, by 2^b; poison where b is not below N, and where it is not exact as promised.
+/// The floor of the number, or of the signed number, by 2^b; poison where b is not below N, and where it is not exact
+/// as promised.
 pub(crate) fn moved_right<C: Circuit>(
     alloc: Global,
     c: &mut C,

@@ -22,8 +22,8 @@ abbrev pub register_then : Moves → Register → Option Register
 register_then moves (registers.Parameter p) = Some (registers.Parameter p)
 register_then moves (registers.Result b k) = option_map (registers.Result b) (moves b k)
 
--- The new operation is the old one, with each register that it reads as that is called then. So a register whose instruction went
--- changes what reads it.
+-- The new operation is the old one, with each register that it reads as that is called then. So a register whose
+-- instruction went changes what reads it.
 pub record IsSame (moves : Moves) (old new : Op) : Type 0 where
   pub to : Substitution
   pub called : (r : Register) → Contains (operands_of old) (operands.Register r) → option_map operands.Register (register_then moves r) ≡ Some (to r)

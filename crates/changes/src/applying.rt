@@ -43,13 +43,15 @@ struct Put {
     count: u32,
 }
 
-/// Applies a rule to a function where it matches with this binding, as `apply` does, with its counts of uses, and tells what changed.
+/// Applies a rule to a function where it matches with this binding, as `apply` does, with its counts of uses, and tells
+/// what changed.
 ///
-/// Where the target's root is a copy, the root went, all that is put came, and what read the root changed. Else the root stays as the
-/// last instruction that is put, which changed; the others that are put came.
+/// Where the target's root is a copy, the root went, all that is put came, and what read the root changed. Else the
+/// root stays as the last instruction that is put, which changed; the others that are put came.
 ///
-/// It takes its memory before it changes anything, so function and counts stay as they were where that is refused. It takes as many steps
-/// as the function is long and, for each constant term that the target reads, as the rule has nodes.
+/// It takes its memory before it changes anything, so function and counts stay as they were where that is refused. It
+/// takes as many steps as the function is long and, for each constant term that the target reads, as the rule has
+/// nodes.
 pub fn apply_at(
     alloc: Global,
     f: &mut Function,

@@ -2,14 +2,15 @@
 
 use lists::List;
 
-/// Which instructions of a function went, came and changed, by block and place. Each list is ascending. An instruction that only moved,
-/// or that names a register that only moved, did not change. A terminator is no instruction.
+/// Which instructions of a function went, came and changed, by block and place. Each list is ascending. An instruction
+/// that only moved, or that names a register that only moved, did not change. A terminator is no instruction.
 #[derive(Drop)]
 pub struct Changes {
     /// The old places of the instructions that went.
     pub went: List<(u32, u32)>,
     /// The new places of those that came.
     pub came: List<(u32, u32)>,
-    /// The new places of those whose opcode, flags or operands changed. The root's is among them where it becomes the target's root.
+    /// The new places of those whose opcode, flags or operands changed. The root's is among them where it becomes the
+    /// target's root.
     pub changed: List<(u32, u32)>,
 }

@@ -19,11 +19,11 @@ use needed::{clean, unneeded_insts};
 use std::alloc::{AllocError, Global};
 use use_counts::{Uses, count_uses};
 
-/// Keeps exactly those instructions of a function whose results are needed, as `clean` does, with its counts of uses, and tells which
-/// went. None comes or changes: what is needed reads only what is needed.
+/// Keeps exactly those instructions of a function whose results are needed, as `clean` does, with its counts of uses,
+/// and tells which went. None comes or changes: what is needed reads only what is needed.
 ///
-/// It takes its memory before it changes anything, so function and counts stay as they were where that is refused. It is linear in the
-/// function's size.
+/// It takes its memory before it changes anything, so function and counts stay as they were where that is refused. It
+/// is linear in the function's size.
 pub fn clean_at(alloc: Global, f: &mut Function, uses: &mut Uses) -> Result<Changes, AllocError>
     // Blocks, and the instructions of each, are counted in 32 bits.
     requires blocks { length f.old.blocks < 2 ^ 32 }

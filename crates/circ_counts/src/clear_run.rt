@@ -7,8 +7,8 @@ use circuits::{Bits, Circuit};
 use lists::List;
 use std::alloc::{AllocError, Global};
 
-/// For each bit of a word in order, whether it and all before it are false: as many of these are true as bits are false before
-/// the first that is true. It adds at most a gate a bit.
+/// For each bit of a word in order, whether it and all before it are false: as many of these are true as bits are false
+/// before the first that is true. It adds at most a gate a bit.
 pub(crate) fn clear_run<C: Circuit>(
     alloc: Global,
     c: &mut C,

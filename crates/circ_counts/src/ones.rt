@@ -10,8 +10,8 @@ use circuits::{Bits, Circuit, add_with_carry, extend, repeated};
 use lists::List;
 use std::alloc::{AllocError, Global};
 
-/// How many bits of a word of width N are true, as a word of that width. A counter of ⌈log2 (N + 1)⌉ bits has each bit of the
-/// word as the first carry of a sum. It adds at most 5 N ⌈log2 (N + 1)⌉ gates.
+/// How many bits of a word of width N are true, as a word of that width. A counter of ⌈log2 (N + 1)⌉ bits has each bit
+/// of the word as the first carry of a sum. It adds at most 5 N ⌈log2 (N + 1)⌉ gates.
 pub fn count_ones<C: Circuit>(
     alloc: Global,
     c: &mut C,

@@ -12,8 +12,8 @@ definition_value v (And a b) = literal_true v a && literal_true v b
 definition_value v (Xor a b) = xor (literal_true v a) (literal_true v b)
 definition_value v (Mux c a b) = if literal_true v c then literal_true v a else literal_true v b
 
--- The clauses that are all true exactly where the variable n has the definition's value: one for each row of the truth table,
--- rows that differ in one operand alone joined.
+-- The clauses that are all true exactly where the variable n has the definition's value: one for each row of the truth
+-- table, rows that differ in one operand alone joined.
 abbrev pub clauses_of_definition : ℕ → Definition → List (List Lit)
 clauses_of_definition n One = (literal_of n true ∷ []) ∷ []
 clauses_of_definition n (And a b) =

@@ -8,8 +8,8 @@ use Rattle.ir_core.specs.Blocks.{HasInst}
 use Rattle.ir_core.specs.Reads.{Read, IsRead}
 use Rattle.ir_core.specs.Walks.{IsWalk}
 
--- A register is assigned at place k of block b if the function has it and every walk there has passed its definition, in an
--- earlier block of the walk or in this one before the place. Parameters are assigned everywhere.
+-- A register is assigned at place k of block b if the function has it and every walk there has passed its definition,
+-- in an earlier block of the walk or in this one before the place. Parameters are assigned everywhere.
 abbrev pub IsAssigned : Function → Register → ℕ → ℕ → Type 0
 IsAssigned f (registers.Parameter p) b k = p < length f.parameters
 IsAssigned f (registers.Result d j) b k = HasInst f d j × ((before : List ℕ) → IsWalk f (b ∷ before) → Contains before d ⊎ ((d ≡ b) × (j < k)))

@@ -1,4 +1,5 @@
--- Which blocks a terminator names, and from which a block may be entered (LangRef, "Terminator Instructions", "Well-Formedness").
+-- Which blocks a terminator names, and from which a block may be entered (LangRef, "Terminator Instructions",
+-- "Well-Formedness").
 use Rattle.std.specs.Prelude.{◌≡◌, ℕ, ◌<◌, List, [], ◌∷◌, length, map, Some, Contains, slice_get}
 use Rattle.ir_core.specs.declared.function.Function.{Function}
 use Rattle.ir_core.specs.declared.function.Block.{Block}

@@ -1,5 +1,5 @@
--- What each function and each module that is read meets, check by check (LangRef, "Well-Formedness", "Identifiers", "phi",
--- "switch", and the types that each instruction asks for).
+-- What each function and each module that is read meets, check by check (LangRef, "Well-Formedness", "Identifiers",
+-- "phi", "switch", and the types that each instruction asks for).
 use Rattle.std.specs.Prelude.{◌≡◌, ℕ, ◌<◌, ◌↔◌, List, length, Option, Some, IsSome, All, Contains, slice_get}
 use Rattle.ops.specs.Conversion.{CastFits}
 use Rattle.ops.specs.Flags.{FlagsFit, CastFlagsFit}
@@ -76,8 +76,8 @@ IsPhi (Select c x y) = ⊥
 IsPhi (Convert cast flags from x) = ⊥
 IsPhi (Freeze x) = ⊥
 
--- A phi has an entry, one for each block that names this one and for no other block, and one operand only for each; a block may have
--- several entries of one operand.
+-- A phi has an entry, one for each block that names this one and for no other block, and one operand only for each; a
+-- block may have several entries of one operand.
 pub record EntriesFit (f : Function) (b : ℕ) (entries : List (Operand × ℕ)) : Type 0 where
   pub some : 0 < length entries
   pub from : (c : ℕ) → ((a : Operand) × Contains entries (a, c)) ↔ Names f c b

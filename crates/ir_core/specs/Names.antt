@@ -1,5 +1,5 @@
--- The names of registers and blocks, in the order of the text: the parameters, and then block by block the block and its results
--- (LangRef, "Identifiers").
+-- The names of registers and blocks, in the order of the text: the parameters, and then block by block the block and
+-- its results (LangRef, "Identifiers").
 use Rattle.std.specs.Prelude.{ℕ, ◌+◌, ◌∷◌, List, ◌++◌, length, map, take, slice_get, Option, option_map, option_and_then}
 use Rattle.std.specs.List.{flat_map}
 use Rattle.ir_core.specs.declared.function.Function.{Function}

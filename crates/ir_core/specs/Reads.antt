@@ -1,5 +1,5 @@
--- What instructions and terminators read: each operand with its width, and with the place where it is read. Assignment, what is
--- needed, and how often a register is used follow from this one list.
+-- What instructions and terminators read: each operand with its width, and with the place where it is read. Assignment,
+-- what is needed, and how often a register is used follow from this one list.
 use Rattle.std.specs.Prelude.{◌≡◌, ℕ, ◌==◌, if◌then◌else◌, List, [], ◌∷◌, length, map, Option, None, Some, option_map, unwrap_or, slice_get}
 use Rattle.ir_core.specs.declared.function.Function.{Function}
 use Rattle.ir_core.specs.declared.function.Block.{Block}
@@ -11,8 +11,8 @@ use Rattle.ir_core.specs.declared.read.Read.{Read as ReadOperand}
 use Rattle.ir_core.specs.declared.terminator.Terminator.{Terminator}
 use Rattle.ir_core.specs.declared.terminator.Terminator.TheVariants as terminators
 
--- An operand that is read, at which width, and where: at place k of a block its instructions before the k-th have run, and
--- where k is their number all have.
+-- An operand that is read, at which width, and where: at place k of a block its instructions before the k-th have run,
+-- and where k is their number all have.
 abbrev pub Read : Type 0
 Read = ReadOperand
 
@@ -24,7 +24,8 @@ read b k width a = record { operand = a; width = width; block = b; place = k }
 abbrev pub end_of : Function → ℕ → ℕ
 end_of f b = unwrap_or (option_map (λ block. length block.insts) (slice_get f.blocks b)) 0
 
--- what an instruction of this width at place k of block b reads; a phi reads each operand at the end of the block that it is for
+-- what an instruction of this width at place k of block b reads; a phi reads each operand at the end of the block that
+-- it is for
 abbrev pub reads_of : Function → ℕ → ℕ → ℕ → Op → List Read
 reads_of f b k width (Binary op flags x y) = read b k width x ∷ read b k width y ∷ []
 reads_of f b k width (Compare pred samesign compared x y) = read b k compared x ∷ read b k compared y ∷ []
@@ -42,7 +43,8 @@ reads_at_end f b k (terminators.Branch c to other) = read b k 1 c ∷ []
 reads_at_end f b k (terminators.Switch a width other cases) = read b k width a ∷ []
 reads_at_end f b k terminators.Unreachable = []
 
--- what is read at place k of this block, which is block b: by the instruction there, or by the terminator behind them all
+-- what is read at place k of this block, which is block b: by the instruction there, or by the terminator behind them
+-- all
 abbrev pub reads_by : Function → ℕ → ℕ → Block → Option Inst → List Read
 reads_by f b k block (Some inst) = reads_of f b k inst.width inst.op
 reads_by f b k block None = if k == length block.insts then reads_at_end f b k block.end else []

@@ -27,8 +27,8 @@ AreArguments [] (v ∷ vs) = ⊥
 AreArguments (p ∷ ps) [] = ⊥
 AreArguments (p ∷ ps) (v ∷ vs) = IsValueOf p.width v × AreArguments ps vs
 
--- The new function may stand in the place of the old one: it has the same header and blocks of the same names, and for all arguments and
--- every bound of blocks entered each of its outcomes is allowed by one of the old.
+-- The new function may stand in the place of the old one: it has the same header and blocks of the same names, and for
+-- all arguments and every bound of blocks entered each of its outcomes is allowed by one of the old.
 pub record Refines (old new : Function) : Type 0 where
   pub name : new.name ≡ old.name
   pub before : new.before ≡ old.before

@@ -128,8 +128,9 @@ module _ (MayChoose : ℕ → ℕ → Type 0) where
   Freezes width values.Poison v = IsChosen width v
   Freezes width (values.Bits n) v = v ≡ values.Bits n
 
-  -- An instruction has its effect on what its operands give (LangRef, "Binary Operations", "Bitwise Binary Operations", "Conversion
-  -- Operations", "Other Operations"). A phi has none of its own: it takes its value where its block is entered.
+  -- An instruction has its effect on what its operands give (LangRef, "Binary Operations", "Bitwise Binary Operations",
+  -- "Conversion Operations", "Other Operations"). A phi has none of its own: it takes its value where its block is
+  -- entered.
   abbrev pub OpGives : Registers → ℕ → Op → Effect → Type 0
   OpGives held width (Binary op flags a b) e = (x : Value) × (y : Value) × OperandGives held width a x × OperandGives held width b y × (e ≡ instruction op flags width x y)
   OpGives held width (Compare pred samesign compared a b) e = (x : Value) × (y : Value) × OperandGives held compared a x × OperandGives held compared b y × (e ≡ effects.Gives (comparison pred samesign compared x y))
@@ -156,8 +157,8 @@ module _ (MayChoose : ℕ → ℕ → Type 0) where
   Follows f b k [] t held end = EndGives held f t end
   Follows f b k (i ∷ insts) t held end = (e : Effect) × OpGives held i.width i.op e × GoesOn (λ v. Follows f b (suc k) insts t (holding held b k v) end) e end
 
-  -- Block b is entered, at its instruction k: the phis there take their values all at once, from the registers as they were
-  -- (`old`), and behind them the instructions follow.
+  -- Block b is entered, at its instruction k: the phis there take their values all at once, from the registers as they
+  -- were (`old`), and behind them the instructions follow.
   abbrev pub Enters : Function → Option ℕ → Registers → ℕ → ℕ → List Inst → Terminator → Registers → Ending → Type 0
   Enters f from old b k [] t held end = Follows f b k [] t held end
   Enters f from old b k (i ∷ insts) t held end =

@@ -10,8 +10,8 @@ use ops::Width;
 pub struct Function {
     /// The name, without the `@`.
     pub name: Text,
-    /// The items before the type of what it returns, each as it is printed: linkage, attributes. Of them `noundef` alone has
-    /// a meaning.
+    /// The items before the type of what it returns, each as it is printed: linkage, attributes. Of them `noundef`
+    /// alone has a meaning.
     pub before: List<Text>,
     /// The width of what it returns.
     pub width: Width,

@@ -10,8 +10,8 @@ use crate::operand::Operand;
 use crate::terminator::Terminator;
 use ops::Width;
 
-/// An operand that is read, at which width, and where: at a place of a block the instructions before that place have run, and
-/// where the place is their number all have.
+/// An operand that is read, at which width, and where: at a place of a block the instructions before that place have
+/// run, and where the place is their number all have.
 #[derive(Clone, Copy)]
 pub struct Read {
     pub operand: Operand,
@@ -31,7 +31,8 @@ pub fn end_of(f: &Function, block: u32) -> u32
     }
 }
 
-/// How many operands are read by what stands at a place of a block. The terminator's place is the number of instructions.
+/// How many operands are read by what stands at a place of a block. The terminator's place is the number of
+/// instructions.
 pub fn read_count(f: &Function, block: u32, place: u32) -> usize
     ensures { result ≡ length (reads_at f.now block place) }
 {
@@ -67,8 +68,8 @@ fn count_by_end(end: &Terminator) -> usize
     }
 }
 
-/// What is read as one operand of what stands at a place of a block, in constant time. The terminator's place is the number of
-/// instructions, and the operands of a phi are read at the ends of the blocks that they are for.
+/// What is read as one operand of what stands at a place of a block, in constant time. The terminator's place is the
+/// number of instructions, and the operands of a phi are read at the ends of the blocks that they are for.
 pub fn read_at(f: &Function, block: u32, place: u32, operand: usize) -> Option<Read>
     requires { All (λ b. length b.insts < 2 ^ 32) f.now.blocks }
     ensures { result ≡ slice_get (reads_at f.now block place) operand }

@@ -69,7 +69,8 @@ each-done is_next part front tokens none = repeat-done is_next (another_at part)
 
 -- ---- what is read so
 
--- what holds of no step, and of a step before such steps, holds of the steps that are read; and no other is next behind them
+-- what holds of no step, and of a step before such steps, holds of the steps that are read; and no other is next behind
+-- them
 pub repeat-is : {A : Type 0} (is_next : List Placed → Bool) (step : A → Reader A) (R : A → List Placed → A → List Placed → Type 0)
     → ((a : A) (tokens : List Placed) → R a tokens a tokens)
     → ((a : A) (tokens : List Placed) (x : A × List Placed) (b : A) (rest : List Placed) → is_next tokens ≡ true → step a tokens ≡ Ok x → R x.0 x.1 b rest → R a tokens b rest)
@@ -104,8 +105,8 @@ all_read P tokens all rest (others, same, each) = subst (λ xs. Each P xs tokens
 
 -- ---- what is spelled is read
 
--- Parts for which this holds are read one behind the other: each is next where it begins, takes some tokens, and is read where what
--- follows may follow it; where one begins, one may be followed.
+-- Parts for which this holds are read one behind the other: each is next where it begins, takes some tokens, and is
+-- read where what follows may follow it; where one begins, one may be followed.
 pub record ReadsEach {A : Type 0} (is_next : List Placed → Bool) (part : Reader A) (P : A → Part) (MayFollow : List Placed → Type 0) : Type 0 where
   pub takes : TakesSome is_next part
   pub next : (x : A) (tokens rest : List Placed) → P x tokens rest → is_next tokens ≡ true

@@ -1,6 +1,6 @@
--- What calls of integer intrinsics are in a text: each as it is written, and the tokens that spell it (LLVM Language Reference, "'call'
--- Instruction"). The items in them, `tail` and `notail` are dropped: without them there is no more poison and no more undefined
--- behaviour.
+-- What calls of integer intrinsics are in a text: each as it is written, and the tokens that spell it (LLVM Language
+-- Reference, "'call' Instruction"). The items in them, `tail` and `notail` are dropped: without them there is no more
+-- poison and no more undefined behaviour.
 use Rattle.std.specs.Prelude.{◌≡◌, ℕ, false, true, List, [], ◌∷◌, ◌++◌, Option, None, Some, codes}
 use Rattle.std.specs.List.{AllByRecursion}
 use Rattle.ops.specs.declared.opcode.Unary.{Unary}

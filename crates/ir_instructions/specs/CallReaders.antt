@@ -1,5 +1,5 @@
--- Reading calls of integer intrinsics from left to right: each reader answers what it reads, or the fault of the first token that does
--- not fit.
+-- Reading calls of integer intrinsics from left to right: each reader answers what it reads, or the fault of the first
+-- token that does not fit.
 use Rattle.std.specs.Prelude.{ℕ, ◌==◌, Bool, false, not, ◌&&◌, ◌||◌, if◌then◌else◌, List, [], ◌∷◌, drop, Option, None, Some, Ok, Err, codes}
 use Rattle.std.specs.Str.{bytes_eq}
 use Rattle.ops.specs.declared.opcode.Opcode.{Opcode}

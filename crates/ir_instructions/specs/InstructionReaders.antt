@@ -1,5 +1,5 @@
--- Reading instructions and terminators from left to right: each reader answers what it reads, or the fault of the first token that
--- does not fit.
+-- Reading instructions and terminators from left to right: each reader answers what it reads, or the fault of the first
+-- token that does not fit.
 use Rattle.std.specs.Prelude.{ℕ, ◌==◌, Bool, false, not, if◌then◌else◌, List, [], ◌∷◌, Option, None, Some, is_some, Ok, Err, codes}
 use Rattle.ops.specs.declared.opcode.Opcode.{Opcode}
 use Rattle.ops.specs.declared.opcode.Flags.{Flags}

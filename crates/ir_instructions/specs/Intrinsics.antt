@@ -1,4 +1,5 @@
--- The names of integer intrinsics (LLVM Language Reference, "Standard C/C++ Library Intrinsics", "Bit Manipulation Intrinsics").
+-- The names of integer intrinsics (LLVM Language Reference, "Standard C/C++ Library Intrinsics", "Bit Manipulation
+-- Intrinsics").
 use Rattle.std.specs.Prelude.{◌≡◌, ℕ, ◌==◌, Bool, true, false, if◌then◌else◌, List, [], ◌∷◌, ◌++◌, take, drop, find, Option, Some, None, option_and_then, option_map, codes}
 use Rattle.std.specs.List.{before_first, after_first}
 use Rattle.std.specs.Str.{bytes_eq}

@@ -1,5 +1,5 @@
--- Reading items of headers and of calls from left to right: each reader answers what it reads, or the fault of the first token that
--- does not fit.
+-- Reading items of headers and of calls from left to right: each reader answers what it reads, or the fault of the
+-- first token that does not fit.
 use Rattle.std.specs.Prelude.{ℕ, Bool, true, false, if◌then◌else◌, List, [], ◌∷◌, ◌++◌, Ok, Err}
 use Rattle.ir_tokens.specs.Tokens.{Placed, KeptGroup, Word, Number, Group, Quoted}
 use Rattle.ir_tokens.specs.declared.fault.IrFaultKind.TheVariants.{LeftOut}

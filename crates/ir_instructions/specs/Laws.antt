@@ -9,11 +9,13 @@ use Rattle.ir_instructions.specs.Parts.{Part, Is, Each, Repeated}
 use Rattle.ir_instructions.specs.Punctuation as marks
 use Rattle.ir_instructions.specs.Readers.{Reader}
 
--- reading from left to right answers such a part, and what is behind it, exactly where the grammar spells it between these tokens
+-- reading from left to right answers such a part, and what is behind it, exactly where the grammar spells it between
+-- these tokens
 abbrev pub IsReadAsSpelled : {A : Type 0} → Reader A → (A → Part) → Type 0
 IsReadAsSpelled {A} reader P = (tokens rest : List Placed) (x : A) → (reader tokens ≡ Ok (x, rest)) ↔ P x tokens rest
 
--- the same of a part that may go on: what is answered is spelled, and what is spelled is answered where nothing behind it goes on
+-- the same of a part that may go on: what is answered is spelled, and what is spelled is answered where nothing behind
+-- it goes on
 abbrev pub IsReadAsSpelledBefore : {A : Type 0} → (List Placed → Type 0) → Reader A → (A → Part) → Type 0
 IsReadAsSpelledBefore {A} Stops reader P =
     (tokens rest : List Placed) (x : A) → (reader tokens ≡ Ok (x, rest) → P x tokens rest) × (Stops rest → P x tokens rest → reader tokens ≡ Ok (x, rest))

@@ -1,4 +1,5 @@
--- Parts of a text, as relations between the tokens that begin with a part and those behind it: a grammar is written with them as usual.
+-- Parts of a text, as relations between the tokens that begin with a part and those behind it: a grammar is written
+-- with them as usual.
 use Rattle.std.specs.Prelude.{◌≡◌, ℕ, List, [], ◌∷◌, Option, Some, None}
 use Rattle.ir_tokens.specs.Tokens.{Token, Placed, Mark}
 use Rattle.ir_instructions.specs.Punctuation as marks

@@ -1,4 +1,5 @@
--- Which tokens are left out of the language, by the place where they stand. A token that fits at its place is no matter here.
+-- Which tokens are left out of the language, by the place where they stand. A token that fits at its place is no matter
+-- here.
 use Rattle.std.specs.Prelude.{ℕ, ◌==◌, Bool, true, false, ◌||◌, if◌then◌else◌, List, [], ◌∷◌, take, codes}
 use Rattle.ir_tokens.specs.declared.fault.IrFaultKind.{IrFaultKind}
 use Rattle.ir_tokens.specs.declared.fault.IrFaultKind.TheVariants.{BadByte, Syntax, LeftOut}

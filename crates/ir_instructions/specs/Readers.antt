@@ -1,4 +1,5 @@
--- Readers: what stands in front of a list of tokens and the tokens behind it, or the fault of the first token that does not fit.
+-- Readers: what stands in front of a list of tokens and the tokens behind it, or the fault of the first token that does
+-- not fit.
 use Rattle.std.specs.Prelude.{◌≡◌, ◌<◌, true, ℕ, zero, suc, Bool, if◌then◌else◌, List, [], ◌∷◌, ◌++◌, length, Option, Some, None, Result, Ok, Err}
 use Rattle.ir_tokens.specs.Tokens.{Placed}
 use Rattle.ir_tokens.specs.declared.fault.IrFaultKind.{IrFaultKind}
@@ -17,8 +18,8 @@ Reader A = List Placed → Read A
 abbrev pub fault : ℕ → IrFaultKind → Fault IrFaultKind
 fault line kind = record { line = line; kind = kind }
 
--- The fault of the first token, which does not fit in its place. The tokens of a text end with one that nothing is read behind,
--- so there is one.
+-- The fault of the first token, which does not fit in its place. The tokens of a text end with one that nothing is read
+-- behind, so there is one.
 unfoldable pub unexpected : Place → List Placed → Fault IrFaultKind
 unexpected place [] = fault 0 Syntax
 unexpected place ((line, token) ∷ rest) = fault line (misfit place token)
@@ -48,7 +49,8 @@ or_left_out line word None tokens = Err (fault line (LeftOut word))
 
 -- ---- what stands any number of times
 
--- Steps that each go on with what was read before, as long as another is next. The number bounds how many times that is asked.
+-- Steps that each go on with what was read before, as long as another is next. The number bounds how many times that is
+-- asked.
 unfoldable pub steps_at : {A : Type 0} → (List Placed → Bool) → (A → Reader A) → ℕ → A → Reader A
 steps_at is_next step zero before tokens = Err (fault 0 Syntax)
 steps_at is_next step (suc n) before tokens = if is_next tokens then (step before >>= steps_at is_next step n) tokens else Ok (before, tokens)

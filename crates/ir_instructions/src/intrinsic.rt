@@ -1,4 +1,5 @@
-//! The names of integer intrinsics. (LLVM Language Reference, "Standard C/C++ Library Intrinsics", "Bit Manipulation Intrinsics".)
+//! The names of integer intrinsics. (LLVM Language Reference, "Standard C/C++ Library Intrinsics", "Bit Manipulation
+//! Intrinsics".)
 
 ghost use Rattle.std.specs.Prelude.{◌≡◌};
 ghost use Rattle.ir_instructions.specs.Intrinsics as spelled;

@@ -1,7 +1,8 @@
-//! Instructions and terminators of LLVM IR as they are written in a text, or the first token that does not fit, with its line.
+//! Instructions and terminators of LLVM IR as they are written in a text, or the first token that does not fit, with
+//! its line.
 //!
-//! Tokens are read from left to right, and each function reads one part of the grammar and goes behind it. `place` says which tokens are
-//! left out of the language where, and `part` reads what stands any number of times.
+//! Tokens are read from left to right, and each function reads one part of the grammar and goes behind it. `place` says
+//! which tokens are left out of the language where, and `part` reads what stands any number of times.
 #![tactic(auto)]
 
 mod argument;

@@ -1,4 +1,5 @@
--- A run where registers hold more than the run has come by is a run where they hold just that: only what was assigned is read.
+-- A run where registers hold more than the run has come by is a run where they hold just that: only what was assigned
+-- is read.
 use Rattle.std.proofs.Common.{◌≡◌, ℕ, zero, suc, ◌+◌, ◌<◌, ◌==◌, eqb, Bool, true, false, ◌&&◌, cond, List, [], ◌∷◌, length, Option, None, Some, option_map, refl, sym, ap, subst, ◌∙◌, inl, inr, ◌⊎◌, arith}
 use Rattle.std.specs.Prelude.{Contains, slice_get}
 use Rattle.std.proofs.lemmas.Bool.{cases_lt}
@@ -176,7 +177,8 @@ end_restricts C Q held full within f b k terminators.Unreachable end reads q h =
 
 -- ---- one pass
 
--- what is known of a block: the walk that was passed before it, what its reads need, and what is handed over to the next
+-- what is known of a block: the walk that was passed before it, what its reads need, and what is handed over to the
+-- next
 record IsPassed (C : ℕ → ℕ → Type 0) (f : Function) (before : List ℕ) (b : ℕ) (block : Block) (Q : ℕ → Registers → Registers → Type 0) : Type 0 where
   insts : (k : ℕ) (inst : Inst) → slice_get block.insts k ≡ Some inst → (held : Registers) → AreHeld f before b k held → ReadsHeld held b k (reads_of f b k inst.width inst.op)
   end : (held : Registers) → AreHeld f before b (length block.insts) held → ReadsHeld held b (length block.insts) (reads_at_end f b (length block.insts) block.end)

@@ -1,4 +1,5 @@
--- What a run has come through: the moments before each of its instructions and terminators, with the registers held there.
+-- What a run has come through: the moments before each of its instructions and terminators, with the registers held
+-- there.
 use Rattle.std.specs.Prelude.{◌≡◌, ℕ, suc, ◌⊎◌, List, [], ◌∷◌, length, Option, None, Some}
 use Rattle.ops.specs.declared.value.Value.{Value}
 use Rattle.ops.specs.declared.value.Effect.{Effect}
@@ -13,8 +14,8 @@ use Rattle.ir_core.specs.Checks.{IsInst}
 use Rattle.ir_core.specs.Run.{Registers, arguments, holding, AnyNumber, OpGives, PhiGives, IfPhi, Ending, Undefines, Returns, Goes, EndGives}
 use Rattle.ir_meaning.specs.Paths.{Place}
 
--- A moment of a run: it is at a place of a block, and these registers are held. The phis of the block read the registers `entered`, which
--- were held where control came from the block `from`, None at the start.
+-- A moment of a run: it is at a place of a block, and these registers are held. The phis of the block read the
+-- registers `entered`, which were held where control came from the block `from`, None at the start.
 pub record Moment : Type 0 where
   pub from : Option ℕ
   pub entered : Registers
@@ -33,7 +34,8 @@ entering from b held = record { from = from; entered = held; block = b; place = 
 abbrev pub once_held : Moment → Value → Moment
 once_held m v = record { from = m.from; entered = m.entered; block = m.block; place = suc m.place; held = holding m.held m.block m.place v }
 
--- An instruction has an effect at a moment. A phi reads what was held where its block was entered, any other what is held now.
+-- An instruction has an effect at a moment. A phi reads what was held where its block was entered, any other what is
+-- held now.
 abbrev pub InstGives : Moment → Inst → Effect → Type 0
 InstGives m inst e =
     IfPhi (λ entries. (v : Value) × PhiGives AnyNumber m.entered m.from inst.width entries v × (e ≡ effects.Gives v))
@@ -72,8 +74,8 @@ IsHistory f args [] = ⊥
 IsHistory f args (m ∷ []) = m ≡ entering None 0 (arguments args)
 IsHistory f args (n ∷ m ∷ before) = IsStep f m n × IsHistory f args (m ∷ before)
 
--- A run that has come to the moment has the outcome there: it would enter its block, its instruction there is undefined behaviour, or the
--- terminator is, or returns.
+-- A run that has come to the moment has the outcome there: it would enter its block, its instruction there is undefined
+-- behaviour, or the terminator is, or returns.
 abbrev pub EndsAt : Function → Moment → Outcome → Type 0
 EndsAt f m outcomes.Undefined = ((inst : Inst) × IsInst f m.block m.place inst × InstGives m inst effects.Undefined) ⊎ TerminatorGives f m Undefines
 EndsAt f m (outcomes.Return v) = TerminatorGives f m (Returns v)

@@ -39,8 +39,8 @@ BlocksAreEnteredFromEnds = (f : Function) (args : List Value) (m : Moment) (befo
     → (n : Moment) × (earlier : List Moment) × IsHistory f args (n ∷ earlier)
     × (place_of n ≡ (c, end_of f c)) × (n.held ≡ m.entered)
 
--- Each outcome comes at the last moment of some history, but for the undefined behaviour of poison that breaks a `noundef`, which comes
--- before any.
+-- Each outcome comes at the last moment of some history, but for the undefined behaviour of poison that breaks a
+-- `noundef`, which comes before any.
 abbrev pub OutcomesHaveHistories : Type 0
 OutcomesHaveHistories = (f : Function) (args : List Value) (n : ℕ) (o : Outcome)
     → breaks_noundef f.parameters args ≡ false → HasOutcome f args n o
@@ -58,7 +58,8 @@ HeldHaveWidths = (f : Function) (args : List Value) (m : Moment) (before : List 
     → IsFormed f → NumbersFit f → AreArguments f.parameters args → IsHistory f args (m ∷ before)
     → HoldWidths f m.held × HoldWidths f m.entered
 
--- At the last of these moments, which came before the later ones, the instruction at place j of block d ran, and not again since.
+-- At the last of these moments, which came before the later ones, the instruction at place j of block d ran, and not
+-- again since.
 pub record LastRan (d j : ℕ) (before later : List Moment) (last : Moment) (earlier : List Moment) : Type 0 where
   pub split : before ≡ later ++ last ∷ earlier
   pub there : place_of last ≡ (d, j)
@@ -86,8 +87,8 @@ OperandsAreHeld = (f : Function) (args : List Value) (o : Register) (d j : ℕ) 
     → IsAssigned f o d j → IsAssigned f (registers.Result d j) m.block m.place
     → m.held o ≡ last.held o
 
--- In one visit of a block, which isn't entered anew behind moment t, the instruction at t ran but once, and what is assigned at it still
--- holds what it did.
+-- In one visit of a block, which isn't entered anew behind moment t, the instruction at t ran but once, and what is
+-- assigned at it still holds what it did.
 abbrev pub NothingNamedChangesInOneVisit : Type 0
 NothingNamedChangesInOneVisit = (f : Function) (args : List Value) (o : Register)
     (m : Moment) (later : List Moment) (t : Moment) (earlier : List Moment)

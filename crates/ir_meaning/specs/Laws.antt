@@ -36,8 +36,8 @@ HoldWidths f held = (r : Register) (width : ℕ) (v : Value) → width_of f r �
 abbrev pub OperandsHaveWidths : Function → ℕ → Op → Type 0
 OperandsHaveWidths f width op = (b k i : ℕ) (r : Read) → slice_get (reads_of f b k width op) i ≡ Some r → OperandHasWidth f r.width r.operand
 
--- Where registers hold values that allow others, an instruction may have an effect that allows each effect that it has there. The
--- widths are asked for since `freeze` gives a number of its width in place of poison.
+-- Where registers hold values that allow others, an instruction may have an effect that allows each effect that it has
+-- there. The widths are asked for since `freeze` gives a number of its width in place of poison.
 abbrev pub InstructionsAreMonotone : Type 0
 InstructionsAreMonotone = (f : Function) (held held' : Registers) (width : ℕ) (op : Op) (e' : Effect)
     → OperandsHaveWidths f width op → HoldWidths f held' → HoldAllowing held held'

@@ -17,8 +17,8 @@ use ir_core::Function;
 use ops::{Effect, Value};
 use std::alloc::AllocError;
 
-/// One pass through the block, where control comes from a block, or from nowhere at the entry. What the phis take stands in `taken`
-/// meanwhile, whose room is used again. The only error is want of memory.
+/// One pass through the block, where control comes from a block, or from nowhere at the entry. What the phis take
+/// stands in `taken` meanwhile, whose room is used again. The only error is want of memory.
 pub(crate) fn pass(
     f: &Function,
     table: &mut Table,

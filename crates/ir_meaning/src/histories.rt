@@ -4,8 +4,8 @@ ghost use Rattle.ir_meaning.specs.Assignments.{AssignedIsPassed, AssignmentIsTra
 ghost use Rattle.ir_meaning.specs.HistoryLaws.{AssignedHasRun, BlocksAreEnteredFromEnds, EquationsHoldInOneVisit, EquationsHoldWhereAssigned, HeldHaveWidths, HistoriesArePaths, MomentsAreReached, NothingNamedChangesInOneVisit, OperandsAreHeld, OutcomesHaveHistories, ResultsAreHeld};
 ghost use Rattle.ir_meaning.specs.Orders.{RefinementIsReflexive, RefinementIsTransitive};
 
-/// Where o is assigned at r's instruction, r isn't at o's or right behind it, if the block is reached; so on the way to where r is
-/// assigned control doesn't come to o's instruction again behind r's. What is assigned has been passed.
+/// Where o is assigned at r's instruction, r isn't at o's or right behind it, if the block is reached; so on the way to
+/// where r is assigned control doesn't come to o's instruction again behind r's. What is assigned has been passed.
 pub fn assigned_registers_keep_their_order()
     ensures not_both { NotBothAreAssigned }
     ensures none_behind { NoneIsAssignedBehind }
@@ -14,7 +14,8 @@ pub fn assigned_registers_keep_their_order()
     ensures order { DefinedBeforeStaysSo }
 {}
 
-/// Each outcome of a function comes at the end of some history, whose places are a path through blocks that are reached.
+/// Each outcome of a function comes at the end of some history, whose places are a path through blocks that are
+/// reached.
 pub fn outcomes_have_histories()
     ensures outcomes { OutcomesHaveHistories }
     ensures paths { HistoriesArePaths }
@@ -22,8 +23,8 @@ pub fn outcomes_have_histories()
     ensures entered { BlocksAreEnteredFromEnds }
 {}
 
-/// Where a result is assigned its instruction has run, it holds what that gave when it ran for the last time, and what is assigned at the
-/// instruction holds what it did then.
+/// Where a result is assigned its instruction has run, it holds what that gave when it ran for the last time, and what
+/// is assigned at the instruction holds what it did then.
 pub fn registers_hold_what_they_did()
     ensures ran { AssignedHasRun }
     ensures results { ResultsAreHeld }
@@ -36,7 +37,8 @@ pub fn registers_hold_their_widths()
     ensures { HeldHaveWidths }
 {}
 
-/// Each result but those of phis holds, wherever it is assigned, what its instruction gives on what its operands hold there.
+/// Each result but those of phis holds, wherever it is assigned, what its instruction gives on what its operands hold
+/// there.
 pub fn equations_hold_where_assigned()
     ensures assigned { EquationsHoldWhereAssigned }
     ensures one_visit { EquationsHoldInOneVisit }

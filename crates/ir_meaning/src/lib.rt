@@ -3,10 +3,10 @@
 //! What a run may do stands in `specs/Run` of `ir_core`, and the laws in `specs/Laws`. `specs/Table`, `specs/Step` and
 //! `specs/Taken` say what the code keeps while it runs.
 //!
-//! What a run has come through is told beside that: `specs/Paths` says which ways there are through a function instruction by
-//! instruction, and `specs/Histories` which moments a run has come through and what is held at each. The laws of it stand in
-//! `specs/Assignments` (in which order results are assigned), `specs/HistoryLaws` (what registers hold) and `specs/Orders`
-//! (refinement is an order).
+//! What a run has come through is told beside that: `specs/Paths` says which ways there are through a function
+//! instruction by instruction, and `specs/Histories` which moments a run has come through and what is held at each. The
+//! laws of it stand in `specs/Assignments` (in which order results are assigned), `specs/HistoryLaws` (what registers
+//! hold) and `specs/Orders` (refinement is an order).
 #![tactic(auto)]
 
 mod block;

@@ -14,8 +14,8 @@ use ir_core::{Function, Op, Operand, Register};
 use ops::Value;
 use std::alloc::AllocError;
 
-/// Reads what the phis that stand first in the block take, where control comes from a block, or from nowhere at the entry. A
-/// phi's entries are gone through until that of the block is found. The only error is want of memory.
+/// Reads what the phis that stand first in the block take, where control comes from a block, or from nowhere at the
+/// entry. A phi's entries are gone through until that of the block is found. The only error is want of memory.
 pub(crate) fn take_phis(
     f: &Function,
     table: &Table,

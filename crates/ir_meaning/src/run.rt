@@ -15,12 +15,13 @@ use lists::List;
 use ops::Value;
 use std::alloc::{AllocError, Global};
 
-/// The outcome of the function at these arguments after at most `blocks` blocks entered, where each number that is left open is
-/// 0: what a literal `undef` gives, and what `freeze` gives in place of poison (LangRef, "Undefined Values", "freeze").
+/// The outcome of the function at these arguments after at most `blocks` blocks entered, where each number that is left
+/// open is 0: what a literal `undef` gives, and what `freeze` gives in place of poison (LangRef, "Undefined Values",
+/// "freeze").
 ///
-/// Memory is taken at the start, for a value of each parameter and instruction, and where a block has more phis than those
-/// entered before. An instruction takes constant time, but a phi goes through its entries up to that of the block that
-/// control comes from, and a `switch` through its cases up to that of its number.
+/// Memory is taken at the start, for a value of each parameter and instruction, and where a block has more phis than
+/// those entered before. An instruction takes constant time, but a phi goes through its entries up to that of the block
+/// that control comes from, and a `switch` through its cases up to that of its number.
 ///
 /// The only error is want of memory.
 pub fn run_zero(

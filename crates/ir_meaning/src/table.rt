@@ -12,8 +12,8 @@ use ir_core::{Function, Register};
 use ops::Value;
 use std::alloc::{AllocError, Global};
 
-/// A value for each register of a function: the parameters first, and then the results block by block. A register that holds
-/// nothing yet has poison there.
+/// A value for each register of a function: the parameters first, and then the results block by block. A register that
+/// holds nothing yet has poison there.
 #[derive(Drop)]
 pub(crate) struct Table {
     /// The place of the first result of each block.

@@ -1,7 +1,8 @@
--- What a module is in a text: each part as it is written, and the tokens that spell it (LLVM Language Reference, "Module Structure",
--- "Functions").
+-- What a module is in a text: each part as it is written, and the tokens that spell it (LLVM Language Reference,
+-- "Module Structure", "Functions").
 --
--- With the grammar of instructions and terminators this is the whole of what is read. Attachments of metadata are dropped.
+-- With the grammar of instructions and terminators this is the whole of what is read. Attachments of metadata are
+-- dropped.
 use Rattle.std.specs.Prelude.{◌≡◌, ℕ, List, [], ◌∷◌, IsSome, codes}
 use Rattle.ir_tokens.specs.declared.called.Identifier.TheVariants.{Named}
 use Rattle.ir_tokens.specs.Identifiers.{identifier_of}

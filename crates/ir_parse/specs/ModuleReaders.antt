@@ -1,5 +1,5 @@
--- Reading the parts of a module from left to right: each reader answers what it reads, or the fault of the first token that does not
--- fit.
+-- Reading the parts of a module from left to right: each reader answers what it reads, or the fault of the first token
+-- that does not fit.
 use Rattle.std.specs.Prelude.{ℕ, Bool, true, false, not, if◌then◌else◌, List, [], ◌∷◌, Option, None, Some, Result, Ok, Err, codes}
 use Rattle.std.specs.Str.{bytes_eq}
 use Rattle.ir_tokens.specs.declared.called.Identifier.{Identifier}

@@ -1,6 +1,7 @@
 //! Modules of LLVM IR as they are written in a text, or the first fault of the text, with its line.
 //!
-//! Tokens are read from left to right, and each function reads one part of the grammar: blocks, parameters, functions and entries.
+//! Tokens are read from left to right, and each function reads one part of the grammar: blocks, parameters, functions
+//! and entries.
 #![tactic(auto)]
 
 mod block;

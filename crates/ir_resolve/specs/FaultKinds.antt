@@ -1,4 +1,5 @@
--- The kinds of faults that a function as written may have before it is known by places: for each, the lines at which it has it.
+-- The kinds of faults that a function as written may have before it is known by places: for each, the lines at which it
+-- has it.
 use Rattle.std.specs.Prelude.{◌≡◌, ◌≢◌, ◌⊎◌, ℕ, ◌==◌, Bool, false, List, take, Option, Some, None, Contains, slice_get}
 use Rattle.ops.specs.Number.{Number}
 use Rattle.ops.specs.Conversion.{CastFits}
@@ -142,8 +143,8 @@ CallsRegister raw x r width = Calls raw x (Value r) × RegisterHasWidth raw r wi
 abbrev pub LiteralClashes : ℕ → RawValue → Type 0
 LiteralClashes width value = (n : Number) × (literal_of value ≡ Some n) × (n.width ≢ width)
 
--- Where these names call these registers of these widths: a value doesn't fit the width that is written for it, since it is a
--- literal or a register of another width
+-- Where these names call these registers of these widths: a value doesn't fit the width that is written for it, since
+-- it is a literal or a register of another width
 abbrev pub ValueClashes : (Identifier → Register → ℕ → Type 0) → ℕ → RawValue → Type 0
 ValueClashes CallsThis width value =
     LiteralClashes width value
@@ -166,9 +167,9 @@ ArgumentsFit width (arguments.Unary op a truth) = (a.width ≡ width) × TruthIs
 abbrev pub CallFits : RawCall → Type 0
 CallFits call = (call.named ≡ call.width) × ArgumentsFit call.width call.arguments
 
--- the types that are written in an instruction don't go together: a condition that is no i1, arms of two types, a cast that is not to
--- a strictly smaller or larger type, or a call of another width; on the line of that operand, of the second arm, of what is cast, or of
--- the word `call`
+-- the types that are written in an instruction don't go together: a condition that is no i1, arms of two types, a cast
+-- that is not to a strictly smaller or larger type, or a call of another width; on the line of that operand, of the
+-- second arm, of what is cast, or of the word `call`
 abbrev pub OpClashesAt : RawOp → ℕ → Type 0
 OpClashesAt (ops.Select c a b) line = ((c.width ≢ 1) × (c.operand.line ≡ line)) ⊎ ((a.width ≢ b.width) × (b.operand.line ≡ line))
 OpClashesAt (ops.Convert cast flags from a to) line = ¬ CastFits cast from to × (a.line ≡ line)
@@ -182,8 +183,8 @@ OpClashesAt (ops.Phi width incoming) line = ⊥
 abbrev pub CaseClashes : ℕ → RawCase → Type 0
 CaseClashes width c = (c.width ≢ width) ⊎ ((literal_of c.value.value ≡ None) ⊎ LiteralClashes c.width c.value.value)
 
--- the same of a terminator in a function of the width: a returned type that is not the function's, a condition that is no i1, or a
--- case that clashes
+-- the same of a terminator in a function of the width: a returned type that is not the function's, a condition that is
+-- no i1, or a case that clashes
 abbrev pub EndClashesAt : ℕ → RawTerminator → ℕ → Type 0
 EndClashesAt returned (terminators.Return width a) line = (width ≢ returned) × (a.line ≡ line)
 EndClashesAt returned (terminators.Branch width c to other) line = (width ≢ 1) × (c.line ≡ line)

@@ -1,5 +1,5 @@
--- What a function that is read meets, as far as names, types and cases go (`IsFormed` in `ir_core`), where it is written as the grammar
--- has it.
+-- What a function that is read meets, as far as names, types and cases go (`IsFormed` in `ir_core`), where it is
+-- written as the grammar has it.
 use Rattle.std.specs.Prelude.{◌≡◌, ℕ, ◌<◌, length, is_some, Contains}
 use Rattle.ops.specs.Flags.{FlagsFit, CastFlagsFit}
 use Rattle.ops.specs.Truths.{has_truth}

@@ -1,5 +1,5 @@
--- What registers and blocks are called: by their names, and those without a name by numbers. Parameters, blocks and results
--- without a name take one series of numbers from 0, in text order (LangRef, "Identifiers").
+-- What registers and blocks are called: by their names, and those without a name by numbers. Parameters, blocks and
+-- results without a name take one series of numbers from 0, in text order (LangRef, "Identifiers").
 use Rattle.std.specs.Prelude.{ℕ, suc, [], ◌∷◌, List, Option, None, Some, slice_get}
 use Rattle.ir_core.specs.Names.{Name, names_of, place_of}
 use Rattle.ir_core.specs.declared.function.Function.{Function}

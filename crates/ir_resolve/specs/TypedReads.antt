@@ -1,4 +1,5 @@
--- What a function as written reads, each operand with the width that is written for it, and which blocks it names, in text order.
+-- What a function as written reads, each operand with the width that is written for it, and which blocks it names, in
+-- text order.
 use Rattle.std.specs.Prelude.{ℕ, List, [], ◌∷◌, ◌++◌, map}
 use Rattle.std.specs.List.{flat_map}
 use Rattle.ir_tokens.specs.declared.raw.RawFunction.{RawFunction}

@@ -1,5 +1,5 @@
--- What the names and numbers of a function as written call (LangRef, "Identifiers"). Parameters, blocks and results stand in one
--- order, that of the text: the parameters, and then block by block the block and its results.
+-- What the names and numbers of a function as written call (LangRef, "Identifiers"). Parameters, blocks and results
+-- stand in one order, that of the text: the parameters, and then block by block the block and its results.
 use Rattle.std.specs.Prelude.{◌≡◌, ℕ, ◌+◌, ◌<◌, List, ◌∷◌, ◌++◌, length, map, take, Option, None, Some, slice_get}
 use Rattle.std.specs.List.{flat_map}
 use Rattle.ir_tokens.specs.declared.called.Identifier.{Identifier}

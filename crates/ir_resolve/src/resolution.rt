@@ -24,8 +24,8 @@ use ir_tokens::{IrError, IrFaultKind, RawFunction};
 use refusal::refused;
 use std::alloc::{AllocError, Global};
 
-/// The first line of a duplicate: a name of a function, of a register or a block, or a number of a case that is there again. Of
-/// registers and blocks the first line is known.
+/// The first line of a duplicate: a name of a function, of a register or a block, or a number of a case that is there
+/// again. Of registers and blocks the first line is known.
 fn duplicate(
     alloc: Global,
     raw: &RawFunction,
@@ -84,9 +84,10 @@ fn check_uses(alloc: Global, names: &Names<'_>, raw: &RawFunction) -> Result<(),
     }
 }
 
-/// The function that is meant, whose registers and blocks are known by place, or the first fault: of the first kind in the order
-/// of [`IrFaultKind`] that the function has, at the least line (LLVM Language Reference, "Identifiers", and the types that each
-/// instruction asks for). The caller says whether an earlier function of the module has the function's name.
+/// The function that is meant, whose registers and blocks are known by place, or the first fault: of the first kind in
+/// the order of [`IrFaultKind`] that the function has, at the least line (LLVM Language Reference, "Identifiers", and
+/// the types that each instruction asks for). The caller says whether an earlier function of the module has the
+/// function's name.
 ///
 /// It takes steps and memory in proportion to what the function has, but for look-ups in hash tables.
 pub fn resolve(alloc: Global, raw: &RawFunction, is_repeated: bool) -> Result<Function, IrError>

@@ -1,4 +1,5 @@
--- Of a function that meets its checks, what means it by names that call the same registers and blocks of the function means it.
+-- Of a function that meets its checks, what means it by names that call the same registers and blocks of the function
+-- means it.
 use Rattle.std.proofs.Common.{◌≡◌, ℕ, suc, ◌<◌, List, [], ◌∷◌, map, length, Some, IsSome, if◌then◌else◌, refl, ap, ◌∙◌, arith}
 use Rattle.std.specs.Prelude.{slice_get}
 use Rattle.std.specs.List.{AllZip, AllByRecursion}

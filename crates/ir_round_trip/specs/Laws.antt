@@ -19,7 +19,8 @@ use Rattle.ir_text.specs.Laws.{HasFewThings}
 use Rattle.ir_text.specs.PrintedText.{text_of}
 use Rattle.ir_text.specs.CanonicalModule.{WritesFunction, WritesModule}
 
--- A function that meets its checks, and is written canonically behind functions of other names, is read as that function.
+-- A function that meets its checks, and is written canonically behind functions of other names, is read as that
+-- function.
 abbrev pub CanonicalFunctionsMean : Type 0
 CanonicalFunctionsMean = (earlier : List RawFunction) (raw : RawFunction) (f : Function)
     → WritesFunction raw f → MeetsChecks f → ¬ HasNameOf earlier f.name → IsFunctionOf earlier raw f
@@ -32,7 +33,8 @@ CanonicalModulesRead = (raw : RawModule) (m : Module) → WritesModule raw m →
 abbrev pub PrintedTextsRead : Type 0
 PrintedTextsRead = (m : Module) → ModuleHasForms m → ModuleMeetsChecks m → HasFewThings m → IsModuleText (text_of m) m
 
--- The module of a text, which is made of bytes, has the forms that its printed text needs, so as to be read as the module.
+-- The module of a text, which is made of bytes, has the forms that its printed text needs, so as to be read as the
+-- module.
 abbrev pub ModuleTextsHaveForms : Type 0
 ModuleTextsHaveForms = (text : List ℕ) (m : Module) → All (λ b. b ≤ 255) text → IsModuleText text m → ModuleHasForms m
 
@@ -40,7 +42,8 @@ ModuleTextsHaveForms = (text : List ℕ) (m : Module) → All (λ b. b ≤ 255) 
 abbrev pub ModuleTextsMeetChecks : Type 0
 ModuleTextsMeetChecks = (text : List ℕ) (m : Module) → IsModuleText text m → ModuleMeetsChecks m
 
--- A cleaned function has the forms that the old one has, and no check is asked for: names, types and numbers stay as they are.
+-- A cleaned function has the forms that the old one has, and no check is asked for: names, types and numbers stay as
+-- they are.
 abbrev pub CleanedFunctionsHaveForms : Type 0
 CleanedFunctionsHaveForms = (f g : Function) → FunctionHasForms f → IsCleaned f g → FunctionHasForms g
 

@@ -2,7 +2,8 @@
 
 ghost use Rattle.ir_round_trip.specs.Laws.{CanonicalFunctionsMean, CanonicalModulesRead, PrintedTextsRead, ModuleTextsHaveForms, ModuleTextsMeetChecks, CleanedFunctionsHaveForms, CleanedModulesHaveForms, ModuleTextsAreSmall};
 
-/// A function that meets its checks, and is written canonically behind functions of other names, is read as that function.
+/// A function that meets its checks, and is written canonically behind functions of other names, is read as that
+/// function.
 pub fn canonical_functions_mean()
     ensures { CanonicalFunctionsMean }
 {}
@@ -37,8 +38,8 @@ pub fn cleaning_keeps_forms()
     ensures modules { CleanedModulesHaveForms }
 {}
 
-/// Each function of the module of a text has no more parameters, blocks, instructions of a block or entries of a `phi` than the text has
-/// bytes.
+/// Each function of the module of a text has no more parameters, blocks, instructions of a block or entries of a `phi`
+/// than the text has bytes.
 pub fn module_texts_are_small()
     ensures { ModuleTextsAreSmall }
 {}

@@ -1,4 +1,5 @@
--- Calls of intrinsics as they are printed and read. A call ends its line: what stands behind its `)` on the line would be an item of it.
+-- Calls of intrinsics as they are printed and read. A call ends its line: what stands behind its `)` on the line would
+-- be an item of it.
 use Rattle.std.proofs.Common.{◌≡◌, ℕ, ◌+◌, ◌<◌, ◌^◌, Bool, true, false, ◌&&◌, eqb, ne_eqb, decimal, List, [], ◌∷◌, ◌++◌, Option, None, Some, codes, refl, sym, ap, subst, append_assoc, arith}
 use Rattle.scan.specs.Bytes.{begins_name, begins_word, is_blank, is_digit, is_letter, is_name_byte, is_space}
 use Rattle.scan.specs.IrTokens.{is_plain_name, is_word}

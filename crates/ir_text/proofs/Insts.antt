@@ -222,7 +222,8 @@ binary_prints f fits b k width op flags x y ok typed left right = by (is_intrins
         comma_space opens_comma)
         (read_prints f fits (read b k width y) right))))
 
--- an operation up to the end of its line, where its operands fit, its flags are its own, and the blocks of a phi are there
+-- an operation up to the end of its line, where its operands fit, its flags are its own, and the blocks of a phi are
+-- there
 pub op_prints : (f : Function) → IsPrintable f → (b k width : ℕ) (op : Op) → IsWidth width → ((i : ℕ) (r : Read) → slice_get (reads_of f b k width op) i ≡ Some r → ReadFits f r) → IsTyped width op
     → ((entries : List (Operand × ℕ)) → op ≡ core.Phi entries → (0 < length entries) × ((i : ℕ) (entry : Operand × ℕ) → slice_get entries i ≡ Some entry → (block : CoreBlock) × IsBlock f entry.1 block))
     → Prints Body Body true (Reads SpellsOp (MeansOp f width) op) (op_text f width op ++ codes "\n")

@@ -36,7 +36,8 @@ use Rattle.ir_text.proofs.Standing.{ahead_is, between_is, scanned_at, token_is_n
 abbrev pub in_line : ℕ → Bool
 in_line b = not (eqb b 10)
 
--- the bytes of a kept line: its first token, which begins kept lines, and bytes up to the end that are no line feed and end with no blank
+-- the bytes of a kept line: its first token, which begins kept lines, and bytes up to the end that are no line feed and
+-- end with no blank
 pub record IsKeptAlone (bytes : List ℕ) : Type 0 where
   pub kind : TokenKind
   pub n : ℕ

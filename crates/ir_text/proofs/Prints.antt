@@ -15,8 +15,8 @@ use Rattle.ir_text.proofs.Streams.{Streams, streams_as, behind_gap, with_token}
 
 -- ---- places
 
--- where a text goes on: between entries, on a line without a token or behind one; in a header or in a body, maybe behind a
--- function's name
+-- where a text goes on: between entries, on a line without a token or behind one; in a header or in a body, maybe
+-- behind a function's name
 pub data Mode : Type 0 where
   Fresh : Mode
   Used : Mode

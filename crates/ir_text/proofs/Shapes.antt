@@ -92,8 +92,8 @@ names_go_on bytes all = list_all-along is_name_byte goes_on bytes name_goes_on a
 
 -- ---- shapes
 
--- What the bytes of a token look like: a byte, and bytes of names and `:` behind it; one mark; or what is between quotes, with a
--- sigil before it or `:` behind it or neither.
+-- What the bytes of a token look like: a byte, and bytes of names and `:` behind it; one mark; or what is between
+-- quotes, with a sigil before it or `:` behind it or neither.
 pub data IsShaped (bytes : List ℕ) : Type 0 where
   run : (b : ℕ) (more : List ℕ) → bytes ≡ b ∷ more → is_lead b ≡ true → list_all goes_on more ≡ true → (more ≡ [] → is_sigil b ≡ false) → IsShaped bytes
   lone : (b : ℕ) → bytes ≡ b ∷ [] → is_lone b ≡ true → IsShaped bytes

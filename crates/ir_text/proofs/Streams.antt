@@ -11,7 +11,8 @@ use Rattle.ir_tokens.specs.Places.{place_behind}
 use Rattle.ir_tokens.specs.Tokens.{Placed, Token, End}
 use Rattle.ir_text.specs.Lexemes.{Lexeme, bytes_of, spelled, placed_from, HasForm, MayStand, AreLexemes}
 
--- From a place on, where the text goes on on this line, it is read as these tokens. The last is the end, on the line `last`.
+-- From a place on, where the text goes on on this line, it is read as these tokens. The last is the end, on the line
+-- `last`.
 pub record Streams (last : ℕ) (place : Place) (line : ℕ) (text : List ℕ) (tokens : List Placed) : Type 0 where
   pub lexemes : List Lexeme
   pub gap : List ℕ

@@ -1,5 +1,5 @@
--- How a module is written canonically: each identifier is the name of what it names or its number in the series, each operand stands
--- at the width at which it is read, and everything else is as it is in the module. The lines are free.
+-- How a module is written canonically: each identifier is the name of what it names or its number in the series, each
+-- operand stands at the width at which it is read, and everything else is as it is in the module. The lines are free.
 use Rattle.std.specs.Prelude.{◌≡◌, ℕ, suc, Some, IsSome, All, slice_get}
 use Rattle.std.specs.List.{AllZip}
 use Rattle.ir_tokens.specs.declared.called.Identifier.{Identifier}

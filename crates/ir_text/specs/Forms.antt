@@ -1,5 +1,5 @@
--- Which forms the parts of a module have, so that its printed text reads as the module (LLVM Language Reference, "Identifiers",
--- "Module Structure", "Functions", "Parameter Attributes", "Integer Type").
+-- Which forms the parts of a module have, so that its printed text reads as the module (LLVM Language Reference,
+-- "Identifiers", "Module Structure", "Functions", "Parameter Attributes", "Integer Type").
 use Rattle.std.specs.Prelude.{ℕ, ◌<◌, ◌≤◌, ◌^◌, List, [], ◌∷◌, None, Some, All, Contains}
 use Rattle.ops.specs.Number.{Number}
 use Rattle.ir_core.specs.declared.module.Module.{Module}

@@ -1,5 +1,5 @@
--- Texts that are written token by token, with blanks and line feeds between, and when they are read as these tokens (LLVM Language
--- Reference, "Identifiers").
+-- Texts that are written token by token, with blanks and line feeds between, and when they are read as these tokens
+-- (LLVM Language Reference, "Identifiers").
 use Rattle.std.specs.Prelude.{◌≡◌, ℕ, ◌+◌, ◌==◌, Bool, true, false, not, ◌||◌, List, [], ◌∷◌, ◌++◌}
 use Rattle.std.specs.List.{list_all, flat_map}
 use Rattle.scan.specs.Bytes.{begins_with, is_name_byte, is_space}

@@ -8,7 +8,8 @@ use Rattle.scan.specs.IrTokens.{is_plain_name}
 unfoldable pub hex_digit : ℕ → ℕ
 hex_digit n = if nat_lt n 10 then 48 + n else 55 + n
 
--- A byte between quotes: printable ASCII other than `"` and `\` stands for itself, and every other byte is `\` and two digits.
+-- A byte between quotes: printable ASCII other than `"` and `\` stands for itself, and every other byte is `\` and two
+-- digits.
 unfoldable pub escaped : ℕ → List ℕ
 escaped b = if is_printable b && not ((b == 34) || (b == 92)) then b ∷ [] else 92 ∷ hex_digit (b / 16) ∷ hex_digit (b % 16) ∷ []
 

@@ -1,5 +1,5 @@
--- The printed form of a module: one function of the module. Each line ends by a line feed (LLVM Language Reference, "Module
--- Structure", "Functions", "Identifiers", "Instruction Reference").
+-- The printed form of a module: one function of the module. Each line ends by a line feed (LLVM Language Reference,
+-- "Module Structure", "Functions", "Identifiers", "Instruction Reference").
 use Rattle.std.specs.Prelude.{ℕ, ◌==◌, Bool, if◌then◌else◌, List, [], ◌∷◌, ◌++◌, Option, None, Some, slice_get, codes, decimal}
 use Rattle.std.specs.List.{flat_map, enumerate_from, join_by}
 use Rattle.ops.specs.Number.{Number}

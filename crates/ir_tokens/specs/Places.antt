@@ -22,15 +22,16 @@ abbrev pub is_on : ℕ → Option ℕ → Bool
 is_on line None = false
 is_on line (Some before) = before == line
 
--- How far a token on a line goes on that has these bytes by itself. Between entries, one that is the first on its line and
--- begins a kept line is that whole line. In a function, a `(` behind a word on the same line is the group in these brackets.
+-- How far a token on a line goes on that has these bytes by itself. Between entries, one that is the first on its line
+-- and begins a kept line is that whole line. In a function, a `(` behind a word on the same line is the group in these
+-- brackets.
 unfoldable pub extent_of : Place → ℕ → List ℕ → Extent
 extent_of (AtEntry before) line bytes = if begins_kept bytes && not (is_on line before) then Line else Itself
 extent_of (InHeader word) line bytes = if bytes_eq bytes (codes "(") && is_on line word then Group else Itself
 extent_of (InBody word) line bytes = if bytes_eq bytes (codes "(") && is_on line word then Group else Itself
 
--- The place behind a token. The word `define` between entries begins a header, `{` ends the header and begins the body, and `}`
--- ends the body.
+-- The place behind a token. The word `define` between entries begins a header, `{` ends the header and begins the body,
+-- and `}` ends the body.
 abbrev pub place_behind : Place → Placed → Place
 place_behind (AtEntry before) (line, Word text) = if bytes_eq text (codes "define") then InHeader (Some line) else AtEntry (Some line)
 place_behind (AtEntry before) (line, token) = AtEntry (Some line)

@@ -32,8 +32,8 @@ abbrev pub MayBegin : Place → Type 0
 MayBegin (AtEntry before) = Unit {0}
 MayBegin place = ⊥
 
--- The tokens from a place on are those of one entry: there are some, another entry may begin behind none of them before the last, and one
--- may behind the last, unless the text ended.
+-- The tokens from a place on are those of one entry: there are some, another entry may begin behind none of them before
+-- the last, and one may behind the last, unless the text ended.
 pub record IsOneEntry (place : Place) (tokens : List Placed) (ends : Bool) : Type 0 where
   pub some : 0 < length tokens
   pub before : (k : ℕ) → 0 < k → k < length tokens → ¬ MayBegin (place_behind_all place (take k tokens))

@@ -4,7 +4,8 @@ use crate::called::Identifier;
 use lists::Text;
 use refusal::{Fault, Refusal};
 
-/// What is wrong, in the order in which it is looked for: up to `ConstRange` over the whole text, and then function by function.
+/// What is wrong, in the order in which it is looked for: up to `ConstRange` over the whole text, and then function by
+/// function.
 #[derive(Drop)]
 pub enum IrFaultKind {
     /// The text has more than 16,777,216 bytes.
@@ -27,17 +28,18 @@ pub enum IrFaultKind {
     Unknown,
     /// A value does not have the type that is written for it, or types do not go together.
     TypeClash,
-    /// A `phi`, at its register: it stands behind another instruction than a `phi`, it has no entry for a block whose terminator names
-    /// its own or one for another block, or it has two operands for one block.
+    /// A `phi`, at its register: it stands behind another instruction than a `phi`, it has no entry for a block whose
+    /// terminator names its own or one for another block, or it has two operands for one block.
     BadPhi,
     /// A terminator names the first block.
     EntryPred,
-    /// A register is read where it is not assigned on every way there: what is written for it, and the place of the block in which
-    /// that stands, which counts from 0.
+    /// A register is read where it is not assigned on every way there: what is written for it, and the place of the
+    /// block in which that stands, which counts from 0.
     Unassigned(Identifier, u32),
 }
 
-/// The first fault of a text. Where the text ends too soon its line is the last one, and where it is too long the first.
+/// The first fault of a text. Where the text ends too soon its line is the last one, and where it is too long the
+/// first.
 pub type IrFault = Fault<IrFaultKind>;
 
 /// Why no module was read.

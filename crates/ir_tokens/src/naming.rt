@@ -11,8 +11,8 @@ use lists::Text;
 use scan::unescaped;
 use std::alloc::{AllocError, Global};
 
-/// The name or the number that is written: digits are a number, a quoted text is the name that it spells, and other bytes
-/// are the name itself.
+/// The name or the number that is written: digits are a number, a quoted text is the name that it spells, and other
+/// bytes are the name itself.
 #[tactic(auto, unfolding(crate::specs::Identifiers::identifier_of))]
 pub fn identifier(alloc: Global, written: &[u8]) -> Result<Identifier, AllocError>
     ensures { IfOk result (λ i. i ≡ identifiers.identifier_of written.now) }

@@ -29,8 +29,8 @@ fn number(digits: &[u8]) -> Option<i128>
     }
 }
 
-/// The number of `width` bits that digits spell, maybe behind a `-`, read modulo 2^N. `None` where it is not from -2^(N-1)
-/// to 2^N - 1. (LLVM Language Reference, "Simple Constants".)
+/// The number of `width` bits that digits spell, maybe behind a `-`, read modulo 2^N. `None` where it is not from
+/// -2^(N-1) to 2^N - 1. (LLVM Language Reference, "Simple Constants".)
 #[tactic(auto, unfolding(crate::specs::Numbers::constant_of, crate::specs::Numbers::is_in_range))]
 pub fn constant(digits: &[u8], width: Width) -> Option<Word>
     ensures { result ≡ numbers.constant_of digits.now width }

@@ -12,8 +12,8 @@ use crate::token::{Placed, Token};
 pub enum Place {
     /// Between the entries of the module; with the line of the token before, where there is one.
     AtEntry(Option<usize>),
-    /// In the header of a function, from the word `define` to the body; with the line of the token before, where that is
-    /// a word.
+    /// In the header of a function, from the word `define` to the body; with the line of the token before, where that
+    /// is a word.
     InHeader(Option<usize>),
     /// In the body of a function; with the line of the token before, where that is a word.
     InBody(Option<usize>),

@@ -20,8 +20,8 @@ pub struct Placed<'a> {
 pub enum Token<'a> {
     /// The end of the text.
     End,
-    /// A printable byte that begins no token, or the `(` of a kept group that is not closed on its line. It stands in no
-    /// module, and nothing behind it is read.
+    /// A printable byte that begins no token, or the `(` of a kept group that is not closed on its line. It stands in
+    /// no module, and nothing behind it is read.
     Other,
     /// A byte that may not stand where it does, as `BadByte` has it. Nothing behind it is read.
     Bad,

@@ -52,8 +52,9 @@ pub(crate) fn next<'a>(cursor: &mut Cursor<'a>, text: &'a [u8], place: Place) ->
     }
 }
 
-/// The tokens of a text in order, up to its end or to the first that stands in no module. It takes as many steps as the text
-/// has bytes: since nothing is read behind a `(` that is not closed on its line, a line is looked through for one such alone.
+/// The tokens of a text in order, up to its end or to the first that stands in no module. It takes as many steps as the
+/// text has bytes: since nothing is read behind a `(` that is not closed on its line, a line is looked through for one
+/// such alone.
 pub fn tokens_of(alloc: Global, text: &[u8]) -> Result<Vec<Placed<'_>>, AllocError>
     ensures { IfOk result (λ tokens. AreTokens text.now (seen tokens.items)) }
 {

@@ -37,8 +37,8 @@ begun_test test asks b ((i, u) ∷ front) rest tokens h none = asks i i u (front
 abbrev pub Opens : (List Placed → Bool) → Bool → Type 0 → Type 0
 Opens test b U = (t u : Token) → Tested test b t → Like U t u → Tested test b u
 
--- where it says so of the mark of a record, it does of the words of terminators, or the reader takes a group; and it does of groups where
--- it does of a terminator
+-- where it says so of the mark of a record, it does of the words of terminators, or the reader takes a group; and it
+-- does of groups where it does of a terminator
 abbrev pub OpensRecords : {A : Type 0} → (List Placed → Bool) → Bool → Follow → Reader A → Follow → Type 0
 OpensRecords test b E S F = (t : Token) → begins_record t ≡ true → Tested test b t → NoRecord (Fit E S F []) (Tested test b) × (Tested test b an_end → NoGroup (Tested test b))
 

@@ -1,4 +1,5 @@
--- Readers of instructions. A `,` behind a `phi` begins an incoming value or an attachment, and the token behind it says which.
+-- Readers of instructions. A `,` behind a `phi` begins an incoming value or an attachment, and the token behind it says
+-- which.
 use Rattle.std.proofs.Common.{◌≡◌, ◌<◌, ◌≤◌, ℕ, zero, suc, Bool, true, false, List, [], ◌∷◌, ◌++◌, length, Option, Some, None, Ok, Err, refl, sym, ap, subst, ◌∙◌, inl, inr, arith, length-append}
 use Rattle.ir_tokens.specs.Tokens.{Token, Placed, Word, Register, Mark}
 use Rattle.ir_tokens.specs.declared.raw.RawOp.{RawOp}

@@ -1,4 +1,5 @@
--- Where a group of attributes is read, items are: readers by what they make of a value or a word in the place of the group.
+-- Where a group of attributes is read, items are: readers by what they make of a value or a word in the place of the
+-- group.
 use Rattle.std.proofs.Common.{◌≡◌, ◌<◌, ℕ, zero, suc, Bool, true, false, List, [], ◌∷◌, ◌++◌, length, Ok, Err, refl, sym, ap, subst, ◌∙◌, ◌⊎◌, inl, inr, append_assoc, arith, length-append}
 use Rattle.std.proofs.lemmas.List.{append_cancel_right}
 use Rattle.ir_tokens.specs.Tokens.{Token, Placed, End, Word, Group}
@@ -40,8 +41,8 @@ RefusesWords R front = (line : ℕ) (w : List ℕ) (more : List Placed) → is_i
 abbrev pub Ready : {A : Type 0} → Reader A → List Placed → Type 0
 Ready {A} R front = (t end : Placed) → begins_item (t ∷ []) ≡ true → EndsArgument end.1 → (x : A) × ((more : List Placed) → R (front ++ t ∷ end ∷ more) ≡ Ok (x, end ∷ more))
 
--- The reader reads items behind the front, where what stands next is a value, and then the value and the rest, which an end of an argument
--- begins.
+-- The reader reads items behind the front, where what stands next is a value, and then the value and the rest, which an
+-- end of an argument begins.
 pub record Argument {A : Type 0} (Q : Reader RawOperand) (R : Reader A) (F : Follow) (front : List Placed) : Type 0 where
   pub rest : RawOperand → Reader A
   pub reads : (items : List (List ℕ)) (tokens value : List Placed) → Each SpellsItem items tokens value → begins_inner_item value ≡ false → ends_argument value ≡ false → MayFollowItem value → R (front ++ tokens) ≡ goes_on (Q value) rest
@@ -172,7 +173,8 @@ goes_behind text R S front first f x is whole stopped goes = record {
 abbrev the_read : {A : Type 0} → Read A → Read A
 the_read r = r
 
--- What the reader makes of tokens: it reads some whatever stands further behind, or refuses the token behind a front that may be completed.
+-- What the reader makes of tokens: it reads some whatever stands further behind, or refuses the token behind a front
+-- that may be completed.
 pub data Fares {A : Type 0} (R : Reader A) (F : Follow) (tokens : List Placed) : Type 0 where
   reads : (x : A) (front rest : List Placed) → R tokens ≡ Ok (x, rest) → tokens ≡ front ++ rest → Ended rest → StopsBefore R front x rest → Fares R F tokens
   fails : (found : Fault IrFaultKind) (front : List Placed) (t : Placed) (behind : List Placed) → R tokens ≡ Err found → tokens ≡ front ++ t ∷ behind → RefusesPlaced R front t → CompletesBegun R F front → Fares R F tokens

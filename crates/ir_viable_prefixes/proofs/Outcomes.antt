@@ -1,5 +1,6 @@
--- What a reader makes of tokens, said so that it composes: it goes behind a front of them whatever stands further behind, or it refuses
--- the token behind a front that it can be made to read by other tokens. Tokens that might stand there stand on a line of their own.
+-- What a reader makes of tokens, said so that it composes: it goes behind a front of them whatever stands further
+-- behind, or it refuses the token behind a front that it can be made to read by other tokens. Tokens that might stand
+-- there stand on a line of their own.
 use Rattle.std.proofs.Common.{◌≡◌, ◌≢◌, ℕ, true, false, List, [], ◌∷◌, ◌++◌, Some, None, Ok, Err, refl, sym, ap, subst, ◌∙◌, ◌⊎◌, inl, inr, append_assoc}
 use Rattle.std.specs.Prelude.{codes}
 use Rattle.std.proofs.lemmas.List.{append-nil, append_cancel_right}
@@ -114,7 +115,8 @@ Fit {A} E R F front t = ((x : A) × (more : List Placed) × ((tokens : List Plac
 abbrev pub Why : Type 1
 Why = List Placed → Placed → Fault IrFaultKind → Type 0
 
--- the reader refuses the token behind the front, whatever stands further behind; where the front is empty, the token is of the sort
+-- the reader refuses the token behind the front, whatever stands further behind; where the front is empty, the token is
+-- of the sort
 abbrev pub RefusesAt : {A : Type 0} → Reader A → List Placed → Follow
 RefusesAt R front t = (more : List Placed) → (e : Fault IrFaultKind) × (R (front ++ (0, t) ∷ more) ≡ Err e)
 
@@ -219,8 +221,8 @@ Outcome E R F Y tokens r = OutcomeIf (Unit {0}) E R F (Unit {0}) Y tokens r
 abbrev pub OutcomesIf : {A : Type 0} → Type 0 → Follow → Reader A → Follow → Type 0 → Type 0
 OutcomesIf V E R F W = (tokens : List Placed) → Ended tokens → OutcomeIf V E R F W (ReasonsIf V E R F) tokens (R tokens)
 
--- The reader reads some tokens, and does so with all that are those of a text. It is entered before such tokens as E, where it reads
--- nothing, and reads on such as F.
+-- The reader reads some tokens, and does so with all that are those of a text. It is entered before such tokens as E,
+-- where it reads nothing, and reads on such as F.
 pub record GoodIf {A : Type 0} (V : Type 0) (E : Follow) (R : Reader A) (F : Follow) (W : Type 0) : Type 0 where
   pub sample : Sample E R F
   pub outcome : OutcomesIf V E R F W

@@ -24,8 +24,8 @@ like_plain (like_function written other) = refl
 like_plain (like_width w other width out is) = refl
 like_plain (like_number digits other) = refl
 
--- The reader R reads these tokens first and then does what S does: before the one that is next, and before such as are Own. S refuses the
--- others, where nothing is read before.
+-- The reader R reads these tokens first and then does what S does: before the one that is next, and before such as are
+-- Own. S refuses the others, where nothing is read before.
 pub record Prefixed {A : Type 0} (R S : Reader A) (F Own : Follow) (first : Placed) (others : List Placed) (next : Placed) (rest : List Placed) : Type 0 where
   pub agree : (more : List Placed) → R (first ∷ (others ++ next ∷ more)) ≡ S (next ∷ more)
   pub agree_own : (u : Token) → Own u → (more : List Placed) → R (first ∷ (others ++ (0, u) ∷ more)) ≡ S ((0, u) ∷ more)

@@ -75,7 +75,8 @@ like_other no_word (like_function written other) = like_function written other
 like_other no_word (like_width w other width out is) = absurd cc
 like_other no_word (like_number digits other) = like_number digits other
 
--- items stand there, or no terminator does: the reader takes a group, or what holds of words refused holds of each that begins one
+-- items stand there, or no terminator does: the reader takes a group, or what holds of words refused holds of each that
+-- begins one
 abbrev pub NoRecord : (Token → Type 0) → (Token → Type 0) → Type 0
 NoRecord Fit Refused = Fit a_group ⊎ ((ending : Ending) → Refused (Word (ending_word ending)))
 
@@ -83,8 +84,8 @@ NoRecord Fit Refused = Fit a_group ⊎ ((ending : Ending) → Refused (Word (end
 abbrev pub NoGroup : (Token → Type 0) → Type 0
 NoGroup Refused = (text : List ℕ) → Refused (Group text)
 
--- Fit are the tokens that the reader takes in the place, Bad those that it refuses in place of another, Repeats the words that are flags
--- there already, and Refused all that it refuses.
+-- Fit are the tokens that the reader takes in the place, Bad those that it refuses in place of another, Repeats the
+-- words that are flags there already, and Refused all that it refuses.
 abbrev pub Reason : (Token → Type 0) → (Token → Token → Type 0) → (List ℕ → Type 0) → (Token → Type 0) → Token → IrFaultKind → Type 0
 Reason Fit Bad Repeats Refused t BadByte = t ≡ Bad_token
 Reason Fit Bad Repeats Refused t Width = (word : List ℕ) × (t ≡ Word word) × (type_in word ≡ OutOfRange) × Fit a_type

@@ -9,8 +9,9 @@ use Rattle.ir_viable_prefixes.proofs.FlagRuns.{ReadsApart, done_apart, both_apar
 use Rattle.ir_viable_prefixes.proofs.Choices.{AsksNext, Tested, tested_next, Opens, OpensRecords, opens_wider, transfer, And, reasons_moved}
 use Rattle.ir_viable_prefixes.proofs.Outcomes.{Follow, next_map, Ended, Sample, Why, Reasons, ReasonsIf, Lifts, OutcomeIf, StaysNew, apart_new, outcome_both, reasons_lift, reasons_first, reasons_second, GoodIf, done-good}
 
--- What a loop has of its steps: one is next or not by the next token, takes some, and ends before such tokens as D, as before each that
--- begins another. Tokens of one sort are next alike, words among them where V holds, or where W does if none is next.
+-- What a loop has of its steps: one is next or not by the next token, takes some, and ends before such tokens as D, as
+-- before each that begins another. Tokens of one sort are next alike, words among them where V holds, or where W does
+-- if none is next.
 pub record Steps {A : Type 0} (V : Type 0) (D F : Follow) (W : Type 0) (is_next : List Placed → Bool) (step : A → Reader A) : Type 0 where
   pub asks : AsksNext is_next
   pub takes : (a : A) → TakesSome is_next (step a)

@@ -56,7 +56,8 @@ pub data WordsOf (Q : Reader RawOperand) : Type 0 where
   operands : IsValue Q no_truth → ((w : List ℕ) → IsValue Q (Word w) ⊎ IsNone Q (Word w) (LeftOut w)) → WordsOf Q
   truths : IsNoneBy Q no_truth (no_truth_kind (codes "undef")) → ((w : List ℕ) → IsValue Q (Word w) ⊎ IsNoneBy Q (Word w) (no_truth_kind w)) → WordsOf Q
 
--- What the reader makes of tokens that may be items, where they stand last; each token that is none it takes or refuses by itself.
+-- What the reader makes of tokens that may be items, where they stand last; each token that is none it takes or refuses
+-- by itself.
 pub record ReadsValue (Q : Reader RawOperand) (width : ℕ) : Type 0 where
   pub truth : IsValue Q a_truth
   pub words : WordsOf Q

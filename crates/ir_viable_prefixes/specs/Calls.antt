@@ -53,8 +53,8 @@ BeginsWithEnd behind = (end : Placed) × (more : List Placed) × (behind ≡ end
 abbrev pub ValueFits : List Placed → Token → Type 0
 ValueFits front value = (end : Placed) × EndsArgument end.1 × Fits (front ++ (own_line, value) ∷ end ∷ [])
 
--- Why what stands last before the end of an argument is no value of it. A number is so for its range; a word is left out, but where a
--- truth value is expected, as is seen by `undef`; a group and a quoted text are nothing else.
+-- Why what stands last before the end of an argument is no value of it. A number is so for its range; a word is left
+-- out, but where a truth value is expected, as is seen by `undef`; a group and a quoted text are nothing else.
 pub data IsNoValue (front : List Placed) : Token → IrFaultKind → Type 0 where
   number : (digits : List ℕ) (width : ℕ) → constant_of digits width ≡ None → ((other : List ℕ) → ValueFits front (Number other) ↔ IsSome (constant_of other width))
       → IsNoValue front (Number digits) ConstRange

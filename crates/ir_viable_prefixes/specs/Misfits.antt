@@ -40,15 +40,15 @@ PredicateFits front = (pred : Pred) × FitsBehind front (Word (predicate_keyword
 abbrev pub TerminatorFits : List Placed → Type 0
 TerminatorFits front = (ending : Ending) × FitsBehind front (Word (ending_word ending))
 
--- Another token of its sort fits: a noun in place of a word, a type in place of a mark that begins a type, or another function, and not
--- intrinsics alone.
+-- Another token of its sort fits: a noun in place of a word, a type in place of a mark that begins a type, or another
+-- function, and not intrinsics alone.
 pub data AnotherFits (front : List Placed) : Token → Type 0 where
   of_word : (word : List ℕ) → NounFits front → AnotherFits front (Word word)
   of_mark : (token : Token) → begins_type token ≡ true → TypeFits front → AnotherFits front token
   of_function : (written other : List ℕ) → ¬ NamesIntrinsic other → FitsBehind front (Function other) → AnotherFits front (Function written)
 
--- A token is left out where another of its sort fits; the mark of a record of debug information where a terminator fits, but not as an
--- item may; and every token where the text may end, since an entry may begin there.
+-- A token is left out where another of its sort fits; the mark of a record of debug information where a terminator
+-- fits, but not as an item may; and every token where the text may end, since an entry may begin there.
 pub data IsLeftOut (front : List Placed) (token : Token) : Type 0 where
   another : AnotherFits front token → IsLeftOut front token
   mark_of_record : begins_record token ≡ true → TerminatorFits front → ¬ AttributesFit front → IsLeftOut front token
@@ -60,14 +60,14 @@ RepeatsFlag front word =
     (before behind : List Placed) × (flag : Flag) × (flags : List Flag) × (front ≡ before ++ behind) × (word ≡ flag_keyword flag)
     × Each (λ f. Is (Word (flag_keyword f))) (flag ∷ flags) behind []
 
--- A word repeats a flag where what follows flags fits: an instruction has a flag once, though a type or another flag fits there. Words
--- behind a call may be those of flags too, but a type does not fit there.
+-- A word repeats a flag where what follows flags fits: an instruction has a flag once, though a type or another flag
+-- fits there. Words behind a call may be those of flags too, but a type does not fit there.
 abbrev pub IsRepeated : List Placed → Token → Type 0
 IsRepeated front token = (word : List ℕ) × (token ≡ Word word) × RepeatsFlag front word × (TypeFits front ⊎ PredicateFits front)
 
--- It is no bad byte; no other token of its sort fits, unless it repeats a flag; a terminator fits in place of the mark of a record only
--- as an item may; no other number fits in place of a number, and no function in place of one; and the text may not end there,
--- unless the token is a last one.
+-- It is no bad byte; no other token of its sort fits, unless it repeats a flag; a terminator fits in place of the mark
+-- of a record only as an item may; no other number fits in place of a number, and no function in place of one; and the
+-- text may not end there, unless the token is a last one.
 pub record IsNothingElse (front : List Placed) (token : Token) : Type 0 where
   pub no_bad_byte : ¬ (token ≡ Bad)
   pub another : AnotherFits front token → IsRepeated front token
@@ -86,8 +86,8 @@ IsWrongNumber front token =
     (digits : List ℕ) × (width : ℕ) × (token ≡ Number digits) × (constant_of digits width ≡ None)
     × ((other : List ℕ) → FitsBehind front (Number other) ↔ IsSome (constant_of other width))
 
--- What a kind of fault says of the token, which does not fit behind the others; no other kind is told of a token. A word that repeats
--- a flag is nothing else, and is not left out.
+-- What a kind of fault says of the token, which does not fit behind the others; no other kind is told of a token. A
+-- word that repeats a flag is nothing else, and is not left out.
 abbrev pub IsMisfit : List Placed → Token → IrFaultKind → Type 0
 IsMisfit front token BadByte = token ≡ Bad
 IsMisfit front token Width = IsWrongWidth front token

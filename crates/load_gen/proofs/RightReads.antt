@@ -1,4 +1,5 @@
--- Each operand that a generated function reads is a register of its width that is assigned there, or a number of its width.
+-- Each operand that a generated function reads is a register of its width that is assigned there, or a number of its
+-- width.
 use Rattle.std.proofs.Common.{◌≡◌, ℕ, zero, suc, ◌+◌, ◌^◌, ◌<◌, ◌≤◌, ◌==◌, Bool, true, false, if◌then◌else◌, List, [], ◌∷◌, length, Option, Some, refl, sym, subst, ◌∙◌, arith, inl, inr, ◌⊎◌, All, Contains, codes, option_map}
 use Rattle.std.proofs.Math.Pow.{pow_mono}
 use Rattle.std.proofs.lemmas.List.Elements.{All-nil, All-cons}

@@ -1,4 +1,5 @@
--- Numbers that a state of 64 bits gives one after the other: a linear congruential generator, of which the upper bits are drawn.
+-- Numbers that a state of 64 bits gives one after the other: a linear congruential generator, of which the upper bits
+-- are drawn.
 use Rattle.std.specs.Prelude.{ℕ, ◌+◌, ◌*◌, ◌/◌, ◌%◌, ◌^◌}
 
 -- the state after the next draw

@@ -32,7 +32,8 @@ a = operands.Register (registers.Parameter 0)
 abbrev pub b : Operand
 b = operands.Register (registers.Parameter 1)
 
--- the result at this place of the loop: the phis %i and %p are at 0 and 1, %v1 to %v16 at 2 to 17, %next at 18 and %c at 19
+-- the result at this place of the loop: the phis %i and %p are at 0 and 1, %v1 to %v16 at 2 to 17, %next at 18 and %c
+-- at 19
 abbrev pub in_loop : ℕ → Operand
 in_loop place = operands.Register (registers.Result 1 place)
 
@@ -57,7 +58,8 @@ operation d W x y =
     else if d == 7 then Binary Add no_flags x (number W 3)
     else Binary Shl no_flags x (number W 1)
 
--- %vk, by the three draws from state s: which instruction it is, then x, then y, both among the k + 3 registers before it
+-- %vk, by the three draws from state s: which instruction it is, then x, then y, both among the k + 3 registers before
+-- it
 unfoldable pub drawn_inst : ℕ → ℕ → ℕ → Inst
 drawn_inst W k s = record {
   name = Some (codes "v" ++ decimal k);

@@ -9,7 +9,8 @@ use ir_core::{Entry, Module};
 use lists::List;
 use std::alloc::{AllocError, Global};
 
-/// The module that the number stands for, with so many functions, `@f0` and so on: each a loop of 20 instructions, 16 of which are drawn.
+/// The module that the number stands for, with so many functions, `@f0` and so on: each a loop of 20 instructions, 16
+/// of which are drawn.
 ///
 /// The only error is want of memory.
 #[tactic(auto, unfolding(crate::specs::Generated::functions, crate::specs::Generated::state_before))]

@@ -12,8 +12,8 @@ pub fn generated_numbers_fit()
     ensures { GeneratedNumbersFit }
 {}
 
-/// The entries of a generated module are functions, as many as are told, each of three blocks with 0, 20 and 0 instructions; so no block
-/// has more than 20.
+/// The entries of a generated module are functions, as many as are told, each of three blocks with 0, 20 and 0
+/// instructions; so no block has more than 20.
 pub fn generated_functions_have_twenty_instructions()
     ensures entries { GeneratedEntriesAreOfTwenty }
     ensures count { GeneratedEntriesAreCounted }

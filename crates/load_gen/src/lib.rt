@@ -1,6 +1,7 @@
 //! Modules that are made of a number, as input of any size that reads the same wherever it is made.
 //!
-//! The definitions stand in `specs/`: `Draws` says which numbers are drawn, `Generated` which module they make, and `Laws` what holds of it.
+//! The definitions stand in `specs/`: `Draws` says which numbers are drawn, `Generated` which module they make, and
+//! `Laws` what holds of it.
 #![tactic(auto)]
 
 mod drawn;

@@ -21,15 +21,17 @@ register_or r a = r
 abbrev pub moved_binding : Substitution → ℕ → Binding → Binding
 moved_binding to k m = record { block = m.block; place = k; statements = map (λ r. register_or r (to r)) m.statements; inputs = map (substituted_operand to) m.inputs; constants = m.constants; typing = m.typing }
 
--- Instruction p of block b stands at place q there in the other function: the same but for what stands for the registers that it reads.
+-- Instruction p of block b stands at place q there in the other function: the same but for what stands for the
+-- registers that it reads.
 pub record StandsAt (f f' : Function) (to : Substitution) (b p q : ℕ) : Type 0 where
   pub inst : Inst
   pub was : IsInst f b p inst
   pub is : IsInst f' b q (substituted_inst to inst)
   pub register : to (registers.Result b p) ≡ operands.Register (registers.Result b q)
 
--- What a match stands on stands in the other function, where its root is instruction k of its block: the block is reached, the
--- instructions that statements are bound to stand there, to the root as in the first, and what is used once is used once.
+-- What a match stands on stands in the other function, where its root is instruction k of its block: the block is
+-- reached, the instructions that statements are bound to stand there, to the root as in the first, and what is used
+-- once is used once.
 pub record StandsThere (Before Before' : ℕ → ℕ → Type 0) (f f' : Function) (to : Substitution) (m : Binding) (k : ℕ) : Type 0 where
   pub reached : IsReached f m.block → IsReached f' m.block
   pub root : to (registers.Result m.block m.place) ≡ operands.Register (registers.Result m.block k)

@@ -57,7 +57,8 @@ held_cases held b k v d j =
 abbrev pub IsHeld : Registers → Register → Type 0
 IsHeld held r = (v : Value) × (held r ≡ Some v)
 
--- On a walk through these blocks to place k of block b: the parameters are held, and the results of the instructions that were passed.
+-- On a walk through these blocks to place k of block b: the parameters are held, and the results of the instructions
+-- that were passed.
 pub record Held (f : Function) (b : ℕ) (before : List ℕ) (k : ℕ) (held : Registers) : Type 0 where
   pub parameters : (p : ℕ) → p < length f.parameters → IsHeld held (registers.Parameter p)
   pub results : (d j : ℕ) → HasInst f d j → Contains before d ⊎ ((d ≡ b) × (j < k)) → IsHeld held (registers.Result d j)

@@ -96,7 +96,8 @@ place_is kept register b k place is e = ap (λ x. registers.Result b x) e ∙ sy
 
 -- ---- a list that is changed item by item
 
--- The items before the index are written, and from there on all are as they were: F i changes a list whose first item has index i.
+-- The items before the index are written, and from there on all are as they were: F i changes a list whose first item
+-- has index i.
 pub record Written {A : Type 0} (F : ℕ → List A → List A) (all : List A) (i : ℕ) (items : List A) : Type 0 where
   pub written : take i items ++ F i (drop i items) ≡ F 0 all
   pub rest : drop i items ≡ drop i all

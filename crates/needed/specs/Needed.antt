@@ -13,8 +13,8 @@ pub record ReadsRegister (f : Function) (b k : ℕ) (register : Register) : Type
   pub is_read : IsRead f b k operand read
   pub reads : read.operand ≡ operands.Register register
 
--- A register is needed where the terminator of any block reads it, whether a run comes to the block or not, or the instruction of a
--- needed register does.
+-- A register is needed where the terminator of any block reads it, whether a run comes to the block or not, or the
+-- instruction of a needed register does.
 pub data IsNeeded (f : Function) : Register → Type 0 where
   by_end : (b : ℕ) {register : Register} → ReadsRegister f b (end_of f b) register → IsNeeded f register
   by_inst : (b k : ℕ) {register : Register} → IsNeeded f (registers.Result b k) → ReadsRegister f b k register → IsNeeded f register

@@ -44,8 +44,8 @@ fn cleaned_blocks(alloc: Global, kept: &Kept, blocks: List<Block>) -> List<Block
 
 /// Keeps exactly those instructions of a function whose results are needed, all else as it was.
 ///
-/// It takes its memory before it changes the function, which stays as it was where that is refused. It is linear in the function's
-/// size: what is needed is found by a walk from the terminators, which comes to each instruction once.
+/// It takes its memory before it changes the function, which stays as it was where that is refused. It is linear in the
+/// function's size: what is needed is found by a walk from the terminators, which comes to each instruction once.
 pub fn clean(alloc: Global, f: &mut Function) -> Result<(), AllocError>
     // Blocks, and the instructions of each, are counted in 32 bits.
     requires blocks { length f.old.blocks < 2 ^ 32 }

@@ -8,7 +8,8 @@ pub fn every_cleaned_function_refines_the_old()
     ensures checks { CleanedFunctionsMeetChecks }
 {}
 
-/// Each number that a cleaned function reads is one that the old function read. So its numbers are of their widths if the old one's are.
+/// Each number that a cleaned function reads is one that the old function read. So its numbers are of their widths if
+/// the old one's are.
 pub fn every_cleaned_number_was_there()
     ensures { CleanedNumbersWereThere }
 {}

@@ -1,4 +1,5 @@
--- Flags: what those that are found spell, that what is spelled is found, and that flags which are added are the instruction's own.
+-- Flags: what those that are found spell, that what is spelled is found, and that flags which are added are the
+-- instruction's own.
 use Rattle.std.proofs.Common.{◌≡◌, ℕ, Bool, true, false, cond, ◌&&◌, List, [], ◌∷◌, None, Some, IsTrue, refl, sym, ap, subst}
 use Rattle.std.specs.Prelude.{filter}
 use Rattle.std.specs.Str.{bytes_eq}

@@ -5,8 +5,8 @@ use Rattle.ops.specs.declared.value.Value.TheVariants.{Poison}
 use Rattle.ops.specs.declared.opcode.Flags.{Flags}
 use Rattle.ops.specs.Integer.{bits, signed, fits_unsigned, fits_signed, residue}
 
--- u is the result over unsigned numbers, and s over signed ones: u modulo 2^N, but poison with nuw where u does not fit, and
--- with nsw where s does not
+-- u is the result over unsigned numbers, and s over signed ones: u modulo 2^N, but poison with nuw where u does not
+-- fit, and with nsw where s does not
 unfoldable pub arithmetic : Flags → ℕ → ℤ → ℤ → Value
 arithmetic flags N u s =
     if (flags.nuw && not (fits_unsigned N u)) || (flags.nsw && not (fits_signed N s))

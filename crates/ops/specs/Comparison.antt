@@ -33,7 +33,8 @@ comparison pred samesign N (Bits a) (Bits b) =
 comparison pred samesign N (Bits a) Poison = Poison
 comparison pred samesign N Poison b = Poison
 
--- "select": a where the condition is 1, and b where it is 0, whatever the other is; poison where the condition is poison
+-- "select": a where the condition is 1, and b where it is 0, whatever the other is; poison where the condition is
+-- poison
 unfoldable pub selection : Value → Value → Value → Value
 selection Poison a b = Poison
 selection (Bits c) a b = if c.number == 1 then a else b

@@ -19,9 +19,9 @@ converted Trunc from to a = a % 2 ^ to
 converted ZExt from to a = a
 converted SExt from to a = residue to (signed from a)
 
--- A flag is broken. "trunc nuw": a bit that is cut off is not 0, so that the number is not below 2^to. "trunc nsw": a bit that
--- is cut off differs from the sign bit of the result, so that the signed number is none of `to` bits. "zext nneg": the
--- number is negative.
+-- A flag is broken. "trunc nuw": a bit that is cut off is not 0, so that the number is not below 2^to. "trunc nsw": a
+-- bit that is cut off differs from the sign bit of the result, so that the signed number is none of `to` bits. "zext
+-- nneg": the number is negative.
 unfoldable pub breaks_flags : Cast → Flags → ℕ → ℕ → ℕ → Bool
 breaks_flags Trunc flags from to a = (flags.nuw && nat_le (2 ^ to) a) || (flags.nsw && not (fits_signed to (signed from a)))
 breaks_flags ZExt flags from to a = flags.nneg && negative from a

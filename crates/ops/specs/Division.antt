@@ -58,8 +58,8 @@ abbrev pub unsigned_poison : Value → Effect
 unsigned_poison Poison = Undefined
 unsigned_poison (Bits b) = if b.number == 0 then Undefined else Gives Poison
 
--- A signed one: undefined behaviour by poison, by 0 and by -1. (By -1 is this project's own: the least number may stand in
--- place of poison, so that otherwise a value in its place could bring undefined behaviour.)
+-- A signed one: undefined behaviour by poison, by 0 and by -1. (By -1 is this project's own: the least number may stand
+-- in place of poison, so that otherwise a value in its place could bring undefined behaviour.)
 abbrev pub signed_poison : ℕ → Value → Effect
 signed_poison N Poison = Undefined
 signed_poison N (Bits b) = if b.number == 0 || b.number == minus_one N then Undefined else Gives Poison

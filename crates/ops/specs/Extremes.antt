@@ -1,4 +1,5 @@
--- `llvm.umin`, `llvm.umax`, `llvm.smin` and `llvm.smax` over iN (LLVM Language Reference, "Standard C/C++ Library Intrinsics").
+-- `llvm.umin`, `llvm.umax`, `llvm.smin` and `llvm.smax` over iN (LLVM Language Reference, "Standard C/C++ Library
+-- Intrinsics").
 use Rattle.std.specs.Prelude.{ℕ, if◌then◌else◌, min, max, int_lt}
 use Rattle.ops.specs.Integer.{signed}
 

@@ -1,5 +1,5 @@
--- What one instruction or intrinsic with two operands of iN does (LLVM Language Reference, "Binary Operations", "Bitwise Binary
--- Operations", "Standard C/C++ Library Intrinsics").
+-- What one instruction or intrinsic with two operands of iN does (LLVM Language Reference, "Binary Operations",
+-- "Bitwise Binary Operations", "Standard C/C++ Library Intrinsics").
 use Rattle.std.specs.Prelude.{ℕ, bit_and, bit_xor}
 use Rattle.ops.specs.declared.value.Value.{Value}
 use Rattle.ops.specs.declared.value.Value.TheVariants.{Poison, Bits}

@@ -1,5 +1,5 @@
--- Which operations are intrinsics, which modules call, and not instructions with an opcode of their own (LLVM Language Reference,
--- "Intrinsic Functions").
+-- Which operations are intrinsics, which modules call, and not instructions with an opcode of their own (LLVM Language
+-- Reference, "Intrinsic Functions").
 use Rattle.std.specs.Prelude.{Bool, true, false}
 use Rattle.ops.specs.declared.opcode.Opcode.{Opcode}
 use Rattle.ops.specs.declared.opcode.Opcode.TheVariants.{UMin, UMax, SMin, SMax}

@@ -1,5 +1,5 @@
--- The keywords of binary operations, casts, predicates and intrinsics (LLVM Language Reference, "Instruction Reference", "Intrinsic
--- Functions").
+-- The keywords of binary operations, casts, predicates and intrinsics (LLVM Language Reference, "Instruction
+-- Reference", "Intrinsic Functions").
 use Rattle.std.specs.Prelude.{ℕ, List, [], ◌∷◌, find, Option, codes}
 use Rattle.std.specs.Str.{bytes_eq}
 use Rattle.ops.specs.declared.opcode.Opcode.{Opcode}

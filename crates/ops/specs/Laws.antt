@@ -88,8 +88,8 @@ abbrev pub IsSigned : ℕ → Value → ℤ → Type 0
 IsSigned N Poison z = ⊥
 IsSigned N (Bits a) z = signed N a.number ≡ z
 
--- A division has undefined behaviour by poison and by 0; a signed one also by -1, where the dividend is poison or the least
--- number.
+-- A division has undefined behaviour by poison and by 0; a signed one also by -1, where the dividend is poison or the
+-- least number.
 abbrev pub IsUndefinedDivision : Opcode → ℕ → Value → Value → Type 0
 IsUndefinedDivision op N a b =
     IsDivision op × ((b ≡ Poison) ⊎ IsSigned N b (pos 0))

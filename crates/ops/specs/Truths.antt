@@ -1,5 +1,5 @@
--- The truth values that intrinsics are called with (LLVM Language Reference, "Standard C/C++ Library Intrinsics", "Bit Manipulation
--- Intrinsics").
+-- The truth values that intrinsics are called with (LLVM Language Reference, "Standard C/C++ Library Intrinsics", "Bit
+-- Manipulation Intrinsics").
 use Rattle.std.specs.Prelude.{◌≡◌, Bool, true, false, ◌&&◌}
 use Rattle.ops.specs.declared.opcode.Unary.{Unary}
 use Rattle.ops.specs.declared.opcode.Unary.TheVariants.{Abs, CtPop, CtLz, CtTz}

@@ -1,5 +1,5 @@
--- The intrinsics with one operand of iN, and for all but `llvm.ctpop` a truth value (LLVM Language Reference, "Standard C/C++ Library
--- Intrinsics", "Bit Manipulation Intrinsics").
+-- The intrinsics with one operand of iN, and for all but `llvm.ctpop` a truth value (LLVM Language Reference, "Standard
+-- C/C++ Library Intrinsics", "Bit Manipulation Intrinsics").
 use Rattle.std.specs.Prelude.{ℕ, Bool, false, if◌then◌else◌, ◌&&◌, ◌==◌, unsigned_abs}
 use Rattle.ops.specs.declared.value.Value.{Value}
 use Rattle.ops.specs.declared.value.Value.TheVariants.{Poison, Bits}
@@ -15,7 +15,8 @@ at_number CtPop N a = ctpop N a
 at_number CtLz N a = ctlz N a
 at_number CtTz N a = cttz N a
 
--- the number at which that truth value makes the result poison: "is_int_min_poison" at the least number, "is_zero_poison" at 0
+-- the number at which that truth value makes the result poison: "is_int_min_poison" at the least number,
+-- "is_zero_poison" at 0
 unfoldable pub poison_where_true : Unary → ℕ → ℕ → Bool
 poison_where_true Abs N a = a == least N
 poison_where_true CtPop N a = false

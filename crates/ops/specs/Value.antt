@@ -1,4 +1,5 @@
--- Values and effects of LLVM IR, and when one allows another (LLVM Language Reference, "Poison Values", "Undefined Behavior").
+-- Values and effects of LLVM IR, and when one allows another (LLVM Language Reference, "Poison Values", "Undefined
+-- Behavior").
 use Rattle.std.specs.Prelude.{ℕ, ◌≡◌, ◌<◌, ◌^◌}
 use Rattle.ops.specs.declared.value.Value.{Value}
 use Rattle.ops.specs.declared.value.Value.TheVariants.{Poison, Bits}

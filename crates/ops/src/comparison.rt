@@ -74,7 +74,8 @@ fn holds(pred: Pred, width: Width, a: u64, b: u64) -> bool
     }
 }
 
-/// What `select` gives: `a` where the condition, of type `i1`, is 1, and `b` where it is 0. What is not chosen has no effect.
+/// What `select` gives: `a` where the condition, of type `i1`, is 1, and `b` where it is 0. What is not chosen has no
+/// effect.
 #[tactic(auto, unfolding(crate::specs::Comparison::selection))]
 pub fn choose(condition: Value, a: Value, b: Value) -> Value
     requires { HasWidth condition 1 }

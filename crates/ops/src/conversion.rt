@@ -42,7 +42,8 @@ impl Cast {
     }
 }
 
-/// What a cast of the operand, of width `from`, to the width `to` gives. Flags that the cast does not take mean nothing.
+/// What a cast of the operand, of width `from`, to the width `to` gives. Flags that the cast does not take mean
+/// nothing.
 #[tactic(auto, unfolding(crate::specs::Conversion::conversion))]
 pub fn convert(cast: Cast, flags: Flags, from: Width, to: Width, a: Value) -> Value
     requires operand { HasWidth a from }

@@ -1,4 +1,5 @@
-//! The keywords of instructions, which rules and modules of LLVM IR share. (LLVM Language Reference, "Instruction Reference".)
+//! The keywords of instructions, which rules and modules of LLVM IR share. (LLVM Language Reference, "Instruction
+//! Reference".)
 
 mod flag;
 mod instruction;

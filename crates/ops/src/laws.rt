@@ -31,7 +31,8 @@ pub fn instructions_keep_widths()
     ensures choose { SelectionKeepsWidth }
 {}
 
-/// Undefined behaviour is the effect of a division by poison or by 0, and of a signed one of poison or of the least number by -1.
+/// Undefined behaviour is the effect of a division by poison or by 0, and of a signed one of poison or of the least
+/// number by -1.
 pub fn undefined_is_of_divisions()
     ensures { UndefinedIsOfDivisions }
 {}

@@ -11,7 +11,8 @@ use crate::value::Value;
 use crate::width::Width;
 use crate::word::Word;
 
-/// What an intrinsic, called with a truth value, gives at an operand of type `iN`, where N is `width`. It takes no memory.
+/// What an intrinsic, called with a truth value, gives at an operand of type `iN`, where N is `width`. It takes no
+/// memory.
 #[tactic(auto, unfolding(crate::specs::Unary::unary))]
 pub fn unary(op: Unary, truth: bool, width: Width, a: Value) -> Value
     requires { HasWidth a width }

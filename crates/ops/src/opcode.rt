@@ -5,8 +5,8 @@ ghost use Rattle.ops.specs.Flags.{AreWithin, FlagsFit, common, flags_of, icmp_fl
 ghost use Rattle.ops.specs.Intrinsics.{is_intrinsic};
 ghost use Rattle.ops.specs.Truths.{TruthFits, has_truth};
 
-/// The instructions and intrinsics with two operands of one type, and a result of that type. (LLVM Language Reference, "Binary
-/// Operations", "Bitwise Binary Operations" and "Standard C/C++ Library Intrinsics".)
+/// The instructions and intrinsics with two operands of one type, and a result of that type. (LLVM Language Reference,
+/// "Binary Operations", "Bitwise Binary Operations" and "Standard C/C++ Library Intrinsics".)
 #[derive(Clone, Copy, PartialEq, Eq, Debug)]
 pub enum Opcode {
     Add,
@@ -78,8 +78,8 @@ impl Opcode {
     }
 }
 
-/// The integer intrinsics with one operand, whose result has the operand's type. (LLVM Language Reference, "Standard C/C++
-/// Library Intrinsics", "Bit Manipulation Intrinsics".)
+/// The integer intrinsics with one operand, whose result has the operand's type. (LLVM Language Reference, "Standard
+/// C/C++ Library Intrinsics", "Bit Manipulation Intrinsics".)
 #[derive(Clone, Copy, PartialEq, Eq, Debug)]
 pub enum Unary {
     /// The absolute value. With its truth value, the least number gives poison, and else itself.

@@ -1,4 +1,5 @@
--- What the plain strategy gives has the forms that a printed text needs, and the module of a text is one that the strategy takes.
+-- What the plain strategy gives has the forms that a printed text needs, and the module of a text is one that the
+-- strategy takes.
 use Rattle.std.specs.Prelude.{ℕ, ◌≤◌, Bool, List, length}
 use Rattle.ir_core.specs.Checks.{MeetsChecks, ModuleMeetsChecks}
 use Rattle.ir_core.specs.declared.function.Function.{Function}

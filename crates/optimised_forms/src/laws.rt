@@ -12,8 +12,8 @@ pub fn rewritten_functions_have_forms()
     ensures { RewrittenFunctionsHaveForms }
 {}
 
-/// The module that the plain strategy gives by rules that are read has the forms that the old one has, whatever their verdicts and however
-/// many the steps are.
+/// The module that the plain strategy gives by rules that are read has the forms that the old one has, whatever their
+/// verdicts and however many the steps are.
 pub fn optimised_modules_have_forms()
     ensures { OptimisedModulesHaveForms }
 {

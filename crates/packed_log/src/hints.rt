@@ -9,7 +9,8 @@ use crate::number::{push_number, take_number};
 use lists::List;
 use std::alloc::{AllocError, Global};
 
-/// The difference of a number from the one before: twice as much as it is more, or one less than twice as much as it is less.
+/// The difference of a number from the one before: twice as much as it is more, or one less than twice as much as it is
+/// less.
 fn difference(before: u32, number: u32) -> u64
     ensures { moved before result ≡ number }
 {

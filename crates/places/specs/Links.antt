@@ -17,7 +17,8 @@ pub record IsNext (nodes : List Node) (apart before at n : ℕ) : Type 0 where
   pub back : (node_of nodes n).before ≡ before
   pub up : (node_of nodes before).label + apart < (node_of nodes n).label
 
--- these numbers are linked forth and back from `at` on, which stands behind `before`, and their labels go up by more than this
+-- these numbers are linked forth and back from `at` on, which stands behind `before`, and their labels go up by more
+-- than this
 abbrev pub AreLinked : List Node → ℕ → ℕ → ℕ → List ℕ → Type 0
 AreLinked nodes apart before at [] = at ≡ none
 AreLinked nodes apart before at (n ∷ numbers) = IsNext nodes apart before at n × AreLinked nodes apart n (node_of nodes n).after numbers

@@ -1,4 +1,5 @@
-//! Places in a heap, of which none comes before the one above it: below the one at a place stand those at twice that place and one or two more.
+//! Places in a heap, of which none comes before the one above it: below the one at a place stand those at twice that
+//! place and one or two more.
 
 ghost use Rattle.std.specs.Prelude.{◌≡◌, ◌+◌, ◌*◌, ◌<◌, ◌≤◌, ◌↔◌, [], ◌∷◌, length, All, IsTrue, IfSome, IfNone, vec_len, vec_capacity};
 ghost use Rattle.std.specs.List.Sorted.{IsPermutation};

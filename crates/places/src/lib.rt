@@ -1,4 +1,5 @@
-//! Places of instructions: in which order they stand, sets of them, and queues of which the first in order is taken first.
+//! Places of instructions: in which order they stand, sets of them, and queues of which the first in order is taken
+//! first.
 #![tactic(auto)]
 
 mod heap;

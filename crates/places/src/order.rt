@@ -9,7 +9,8 @@ use crate::links::Links;
 use std::alloc::{AllocError, Global};
 use std::marker::Model;
 
-/// The instructions of a block by their numbers, and which stands before which. Those that were taken out keep where they stood.
+/// The instructions of a block by their numbers, and which stands before which. Those that were taken out keep where
+/// they stood.
 #[derive(Drop)]
 pub struct Order {
     links: Links,

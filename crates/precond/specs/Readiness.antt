@@ -1,4 +1,5 @@
--- What lets a formula be evaluated: the nodes and the terms that a node reads are there, and a comparison is of values of one width.
+-- What lets a formula be evaluated: the nodes and the terms that a node reads are there, and a comparison is of values
+-- of one width.
 use Rattle.std.specs.Prelude.{◌≡◌, ℕ, ◌<◌, List, length, Some, slice_get}
 use Rattle.ops.specs.Value.{IsValueOf}
 use Rattle.ops.specs.declared.value.Value.{Value}

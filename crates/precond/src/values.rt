@@ -14,8 +14,8 @@ use rule_core::{Rule, Typing, term_value};
 /// How many nodes a rule has at most.
 pub(crate) const MOST_NODES: usize = 256;
 
-/// What a node of the rule's constant terms gives on these constants: a number of its class's width, or `None` where it has no value,
-/// as a division by 0. It takes as many steps as the rule has nodes.
+/// What a node of the rule's constant terms gives on these constants: a number of its class's width, or `None` where it
+/// has no value, as a division by 0. It takes as many steps as the rule has nodes.
 pub fn term(rule: &Rule, node: u32, typing: &Typing, constants: &List<Word>) -> Option<Word>
     requires rule { IsRule rule.now }
     requires typing { IsTyping rule.now typing.now }

@@ -1,4 +1,5 @@
-//! What is read at each place of a function, tables of it that are kept while the function changes, and operands written in place.
+//! What is read at each place of a function, tables of it that are kept while the function changes, and operands
+//! written in place.
 #![tactic(auto)]
 
 mod substituting;

@@ -86,8 +86,8 @@ impl Readers {
         self.results[block as usize].push(List::new(alloc))
     }
 
-    /// Lists a place, where it isn't what was listed last: what reads a register twice is listed once. Where memory is refused the
-    /// lists are as they were.
+    /// Lists a place, where it isn't what was listed last: what reads a register twice is listed once. Where memory is
+    /// refused the lists are as they were.
     pub fn list(&mut self, register: Register, place: Place) -> Result<(), AllocError>
         requires { HasList self.old register }
         ensures listed { OnOk result (IsListed register place self.old self.new) }
@@ -325,7 +325,8 @@ pub fn list_reads(arena: &Function, readers: &mut Readers, place: Place) -> Resu
     Ok(())
 }
 
-/// The registers that are read at a place, behind others. It takes its memory first: refused, the others are left alone.
+/// The registers that are read at a place, behind others. It takes its memory first: refused, the others are left
+/// alone.
 pub fn push_reads(
     arena: &Function,
     fallen: &mut Vec<Register>,

@@ -1,5 +1,5 @@
-//! Why what was given is refused: its fault, or want of memory. Readers of texts of every kind, and the checks behind them, answer with
-//! one type, so that `?` passes a refusal on as it is.
+//! Why what was given is refused: its fault, or want of memory. Readers of texts of every kind, and the checks behind
+//! them, answer with one type, so that `?` passes a refusal on as it is.
 #![tactic(auto)]
 
 mod fault;

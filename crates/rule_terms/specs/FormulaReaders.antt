@@ -41,8 +41,8 @@ sign_of (Mark mark) = mark_sign mark
 sign_of (Word word) = word_sign word
 sign_of token = signs.Plain
 
--- A formula, and no term, stands in parentheses that are open here, behind so many more that are: a token that stands in formulas
--- alone comes before they end, or the line.
+-- A formula, and no term, stands in parentheses that are open here, behind so many more that are: a token that stands
+-- in formulas alone comes before they end, or the line.
 abbrev pub opens_behind : Sign → ℕ → (ℕ → Bool) → Bool
 opens_behind signs.Opens depth rest = rest (suc depth)
 opens_behind signs.Closes zero rest = false

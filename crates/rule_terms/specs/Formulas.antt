@@ -1,5 +1,5 @@
--- The formulas of `Pre:`, and which tokens spell them. A node stands behind its operands and names their places, which count from 0
--- at the first node of the whole formula.
+-- The formulas of `Pre:`, and which tokens spell them. A node stands behind its operands and names their places, which
+-- count from 0 at the first node of the whole formula.
 use Rattle.std.specs.Prelude.{ℕ, suc, ◌+◌, ◌≤◌, List, [], ◌∷◌, ◌++◌, length, codes}
 use Rattle.rule_tokens.specs.Limits.{Limits}
 use Rattle.rule_tokens.specs.Tokens.{Token, Word, Register, Mark}
@@ -13,7 +13,8 @@ use Rattle.ops.specs.declared.comparison.Pred.{Pred}
 use Rattle.rule_tokens.specs.Parts.{Part}
 use Rattle.rule_terms.specs.FormulaKeywords.{comparison_mark, predicate_word, predicate_node}
 
--- where a formula stands: it is the whole one or a member of its outermost `&&`, or it stands in parentheses, behind `!` or beside `||`
+-- where a formula stands: it is the whole one or a member of its outermost `&&`, or it stands in parentheses, behind
+-- `!` or beside `||`
 pub data Standing : Type 0 where
   Outermost : Standing
   Within : Standing
@@ -28,7 +29,8 @@ pub data Level : Type 0 where
 abbrev pub joined : (ℕ → ℕ → RawFormula) → ℕ → List RawFormula → List RawFormula → List RawFormula
 joined operator start left right = left ++ right ++ operator (last_place (start + length left)) (last_place (start + length left + length right)) ∷ []
 
--- the tokens spell the nodes of a formula, of which the first has the place `start`, where so many levels of nesting are left
+-- the tokens spell the nodes of a formula, of which the first has the place `start`, where so many levels of nesting
+-- are left
 pub data SpellsFormula (limits : Limits) : Standing → Level → ℕ → ℕ → List RawFormula → List Token → Type 0 where
   -- t == t
   compares : {standing : Standing} {nesting start : ℕ} {left right : List RawNode} {front back : List Token} (pred : Pred)

@@ -25,8 +25,9 @@ SpellsLeaf limits place (Register name) tokens = (place ≡ Witness) × (length 
 SpellsLeaf limits place (Choice k) tokens = (word : List ℕ) × (place ≡ Witness) × IsChoice word k × (length word ≤ limits.name_bytes) × Is (Word word) tokens
 SpellsLeaf limits place node tokens = ⊥
 
--- The tokens spell a term of these nodes, each behind its operands, where the first node has the place `start`: at most `nesting`
--- open parentheses and pending operators of one operand at each token, and no operator looser than the level outside parentheses.
+-- The tokens spell a term of these nodes, each behind its operands, where the first node has the place `start`: at most
+-- `nesting` open parentheses and pending operators of one operand at each token, and no operator looser than the level
+-- outside parentheses.
 pub data SpellsTerm (limits : Limits) (place : TermPlace) : ℕ → ℕ → ℕ → List RawNode → List Token → Type 0 where
   leaf : {nesting start : ℕ} (node : RawNode) (tokens : List Token)
       → SpellsLeaf limits place node tokens

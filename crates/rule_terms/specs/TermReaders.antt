@@ -1,5 +1,5 @@
--- Reading terms from left to right: the nodes that were there before and those that are read, and the tokens behind, or the fault of
--- the first token that does not fit.
+-- Reading terms from left to right: the nodes that were there before and those that are read, and the tokens behind, or
+-- the fault of the first token that does not fit.
 use Rattle.std.specs.Prelude.{ℕ, zero, suc, ◌==◌, if◌then◌else◌, List, [], ◌∷◌, ◌++◌, length, Option, None, Some, Result, Ok, Err, codes}
 use Rattle.std.specs.Str.{bytes_eq}
 use Rattle.ops.specs.declared.opcode.Opcode.{Opcode}
@@ -87,8 +87,8 @@ abbrev pub joined_or_end : Reader → Reader → List RawNode → List Token →
 joined_or_end operand others left tokens None = Ok (left, tokens)
 joined_or_end operand others left tokens (Some next) = operand left next.1 >>= λ both. others (join next.0 left both.0) both.1
 
--- Operators of one level and their right operands, as long as one is next. The number bounds how many; more than that of the tokens
--- is enough.
+-- Operators of one level and their right operands, as long as one is next. The number bounds how many; more than that
+-- of the tokens is enough.
 unfoldable pub chain_at : Reader → ℕ → ℕ → Reader
 chain_at operand level zero left tokens = Ok (left, tokens)
 chain_at operand level (suc many) left tokens = joined_or_end operand (λ ls ts. chain_at operand level many ls ts) left tokens (operator_at level tokens)

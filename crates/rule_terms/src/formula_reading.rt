@@ -1,6 +1,7 @@
 //! Formulas from the tokens of a line.
 //!
-//! A comparison binds tighter than `!`, `!` tighter than `&&`, and `&&` tighter than `||`. Only nesting is followed by recursion.
+//! A comparison binds tighter than `!`, `!` tighter than `&&`, and `&&` tighter than `||`. Only nesting is followed by
+//! recursion.
 
 ghost use Rattle.std.specs.Prelude.{◌≡◌, drop, length};
 ghost use Rattle.std.specs.List.{list_any};

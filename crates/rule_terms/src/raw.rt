@@ -16,7 +16,8 @@ pub enum RawNode {
     Constant(Text),
     /// A register by its name, without the `%`. It stands in `Wit:` alone.
     Register(Text),
-    /// A choice of the target by its place, which is 0 for `t1`; past the end of `u32` that end. It stands in `Wit:` alone.
+    /// A choice of the target by its place, which is 0 for `t1`; past the end of `u32` that end. It stands in `Wit:`
+    /// alone.
     Choice(u32),
     /// `width(%x)`: the register by its name.
     Width(Text),

@@ -1,4 +1,5 @@
-//! Terms from the tokens of a line. Operators of one level are read in a loop; only what is nested, and the levels, recurse.
+//! Terms from the tokens of a line. Operators of one level are read in a loop; only what is nested, and the levels,
+//! recurse.
 
 ghost use Rattle.std.specs.Prelude.{◌≡◌, length, Some, None, IfSome, IfNone, OnOk};
 ghost use Rattle.refusal.specs.Refusals.{Gives};
@@ -182,8 +183,8 @@ fn primary(
     begun(site, nesting - 1, start, nodes, tokens)
 }
 
-/// The term that stands here; goes behind it. At most `nesting` parentheses and operators of one operand are open at a token, and the
-/// next one is `TooMany`. It takes as many steps as the term has tokens.
+/// The term that stands here; goes behind it. At most `nesting` parentheses and operators of one operand are open at a
+/// token, and the next one is `TooMany`. It takes as many steps as the term has tokens.
 #[tactic(auto, unfolding(crate::specs::TermReaders::term_at))]
 pub fn term(
     alloc: Global,

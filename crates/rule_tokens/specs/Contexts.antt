@@ -51,7 +51,8 @@ context_behind c kind bytes = record {
 abbrev pub behind_name : Context → Context
 behind_name c = record at_start { version = c.version }
 
--- From version 2 on `abs` directly behind `=` is an opcode, but for `abs(` in a target, which calls the function of terms.
+-- From version 2 on `abs` directly behind `=` is an opcode, but for `abs(` in a target, which calls the function of
+-- terms.
 abbrev pub is_opcode_place : Version → Before → Bool → Bool
 is_opcode_place Two Equals calls = not calls
 is_opcode_place version before calls = false

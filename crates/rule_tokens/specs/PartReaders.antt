@@ -1,4 +1,5 @@
--- Reading from left to right: what the tokens spell and the tokens behind it, or the fault of the first token that does not fit.
+-- Reading from left to right: what the tokens spell and the tokens behind it, or the fault of the first token that does
+-- not fit.
 use Rattle.std.specs.Prelude.{ℕ, nat_le, if◌then◌else◌, List, [], ◌∷◌, length, Option, None, Some, Result, Ok, Err, codes}
 use Rattle.std.specs.Str.{bytes_eq}
 use Rattle.rule_tokens.specs.declared.fault.RuleFaultKind.{RuleFaultKind}

@@ -32,7 +32,8 @@ pub data Token : Type 0 where
   Other : Token
   -- a byte that may not stand where it does; nothing behind it is a token
   Bad : Token
-  -- behind a token with which a rule has too many operands, literals, names, operators and functions; nothing behind it is read
+  -- behind a token with which a rule has too many operands, literals, names, operators and functions; nothing behind it
+  -- is read
   Excess : Token
 
 -- a word, which is an opcode or not
@@ -79,8 +80,8 @@ token_at text c t = token_of c (is_called text t.span.end) t.kind (bytes_at text
 abbrev pub IsNameToken : List ℕ → ℕ → Token → Type 0
 IsNameToken text at name = (span : Span) × IsNameNext text at span × (name ≡ Name (bytes_at text span))
 
--- The tokens of a text from a place in it on, behind a token on a line, and the text's last line. They end with the text, or at
--- the first byte that may not stand where it does, which is the last one then.
+-- The tokens of a text from a place in it on, behind a token on a line, and the text's last line. They end with the
+-- text, or at the first byte that may not stand where it does, which is the last one then.
 pub data TokensFrom (text : List ℕ) : Place → ℕ → ℕ → List Token → ℕ → Type 0 where
   ends : {c : Context} {at line last : ℕ} (t : RuleToken)
       → IsNextRuleToken c.operator text at t → t.kind ≡ kinds.End → last ≡ t.line

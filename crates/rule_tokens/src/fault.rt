@@ -14,8 +14,8 @@ pub enum RuleFaultKind {
     Syntax,
     /// A word of what is left out of the language, or the number of a version that is not there.
     LeftOut(Text),
-    /// A limit is passed: 32 statements in a half, 256 operands, literals, names, operators and functions in a rule, 32 open
-    /// parentheses and pending operators of one operand, 200 bytes of a name, or 8 classes of types in a rule.
+    /// A limit is passed: 32 statements in a half, 256 operands, literals, names, operators and functions in a rule, 32
+    /// open parentheses and pending operators of one operand, 200 bytes of a name, or 8 classes of types in a rule.
     TooMany,
     /// A rule's name, or a register of a half, is given twice.
     Duplicate,
@@ -37,8 +37,8 @@ pub enum RuleFaultKind {
     OpenType,
 }
 
-/// The first fault of a text. Where a line or the text ends too soon its line is that one or the last one, and where the text is too
-/// long the first.
+/// The first fault of a text. Where a line or the text ends too soon its line is that one or the last one, and where
+/// the text is too long the first.
 pub type RuleFault = Fault<RuleFaultKind>;
 
 /// Why no rules were read.

@@ -1,4 +1,5 @@
-//! The tokens of rule files with their lines, the parts that each part of a rule is made of, and why a token does not fit.
+//! The tokens of rule files with their lines, the parts that each part of a rule is made of, and why a token does not
+//! fit.
 #![tactic(auto)]
 
 mod context;

@@ -23,6 +23,7 @@ pub enum Token<'a> {
     Other,
     /// A byte that may not stand here. Nothing behind it is read.
     Bad,
-    /// Behind a token with which a rule has too many operands, literals, names, operators and functions. Nothing behind it is read.
+    /// Behind a token with which a rule has too many operands, literals, names, operators and functions. Nothing behind
+    /// it is read.
     Excess,
 }

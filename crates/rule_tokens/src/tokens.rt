@@ -16,8 +16,8 @@ use std::alloc::{AllocError, Global};
 /// The tokens of a text, and its last line.
 #[derive(Drop)]
 pub struct Tokens<'a> {
-    /// All tokens in order, or those up to the first byte that may not stand where it does, which is the last one then. Each line's
-    /// are behind its number.
+    /// All tokens in order, or those up to the first byte that may not stand where it does, which is the last one then.
+    /// Each line's are behind its number.
     pub tokens: Vec<Token<'a>>,
     pub last_line: usize,
 }

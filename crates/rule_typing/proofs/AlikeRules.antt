@@ -1,4 +1,5 @@
--- What a rule meets does not speak of its classes: of two rules that differ in no more than those, the second meets it with the first.
+-- What a rule meets does not speak of its classes: of two rules that differ in no more than those, the second meets it
+-- with the first.
 use Rattle.std.proofs.Common.{◌≡◌, ℕ, suc, ◌≤◌, List, [], ◌∷◌, ◌++◌, length, map, Some, refl, sym, ap, subst, ◌∙◌, arith}
 use Rattle.std.specs.Prelude.{slice_get, Contains, flat_map, sum_by}
 use Rattle.std.specs.List.{range_with_len}
@@ -218,7 +219,8 @@ module _ (xs ys : List Term) (same : map bare_term xs ≡ map bare_term ys) wher
   last_nodes_across first [] are = are ∙ same_length bare_term xs ys same
   last_nodes_across first (last ∷ ends) (le, owns, more) = (le, owns_across first last owns, last_nodes_across (suc last) ends more)
 
--- What one of two rules may read the other may, where both have as many inputs, constants, statements, nodes and choices.
+-- What one of two rules may read the other may, where both have as many inputs, constants, statements, nodes and
+-- choices.
 module _ (r s : Rule) (inputs : length r.inputs ≡ length s.inputs) (constants : length r.constants ≡ length s.constants) (source : length r.source ≡ length s.source) (target : length r.target ≡ length s.target)
     (terms : length r.terms ≡ length s.terms) (choices : length (choices_among r.target) ≡ length (choices_among s.target)) where
   source_reads : (k : ℕ) (v : Argument) → SourceMayRead r k v → SourceMayRead s k v

@@ -1,4 +1,5 @@
--- The lines of a rule are the pairs of its statements, operands, choices, nodes and comparisons, and those of its names.
+-- The lines of a rule are the pairs of its statements, operands, choices, nodes and comparisons, and those of its
+-- names.
 use Rattle.std.proofs.Common.{◌≡◌, ◌⊎◌, inl, inr, ℕ, List, [], ◌∷◌, ◌++◌, get_or, Option, None, Some, refl, sym, ap, subst, ◌∙◌, arith}
 use Rattle.std.specs.Prelude.{slice_get, Contains, option_map, option_and_then}
 use Rattle.std.proofs.lemmas.Option.{same_Some}

@@ -1,4 +1,5 @@
--- Where a rule keeps its classes, widths are a typing exactly where there is one for each class, and each class may have its own.
+-- Where a rule keeps its classes, widths are a typing exactly where there is one for each class, and each class may
+-- have its own.
 use Rattle.std.proofs.Common.{◌≡◌, ◌↔◌, inl, inr, ℕ, suc, ◌+◌, ◌<◌, List, ◌++◌, length, map, get_or, Some, refl, sym, ap, subst, ◌∙◌, arith, add-zero, length-append}
 use Rattle.std.specs.Prelude.{slice_get, Contains, flat_map}
 use Rattle.std.proofs.lemmas.Bool.{cases_lt}

@@ -1,4 +1,5 @@
--- What a walk over elements finds: two classes that a line of one of them splits, or a class of another position that has a name.
+-- What a walk over elements finds: two classes that a line of one of them splits, or a class of another position that
+-- has a name.
 use Rattle.std.proofs.Common.{◌≡◌, ◌⊎◌, inl, inr, ℕ, ◌<◌, ◌≤◌, List, ◌++◌, length, get_or, Option, None, Some, sym}
 use Rattle.std.proofs.lemmas.Option.{slice_get-get_or, get_or_from_slice_get}
 use Rattle.std.specs.Prelude.{Contains, flat_map}

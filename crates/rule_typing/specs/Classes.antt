@@ -8,14 +8,16 @@ use Rattle.rule_core.specs.declared.rule.Argument.TheVariants as arguments
 use Rattle.rule_core.specs.Positions.{operands_of, classes_of, Line}
 use Rattle.rule_typing.specs.Relabelled.{numbered}
 
--- Two classes are joined where lines of the table lead from one to the other: the least equivalence that joins what one line joins.
+-- Two classes are joined where lines of the table lead from one to the other: the least equivalence that joins what one
+-- line joins.
 pub data Joined (rule : Rule) : ℕ → ℕ → Type 0 where
   line : {c d : ℕ} → Line rule c d → Joined rule c d
   itself : {c : ℕ} → Joined rule c c
   turned : {c d : ℕ} → Joined rule c d → Joined rule d c
   along : {c d e : ℕ} → Joined rule c d → Joined rule d e → Joined rule c e
 
--- Two positions are of one class where they are joined in the numbered rule, in which each position is a class of its own.
+-- Two positions are of one class where they are joined in the numbered rule, in which each position is a class of its
+-- own.
 abbrev pub SameClass : Rule → ℕ → ℕ → Type 0
 SameClass rule p q = Joined (numbered rule) p q
 

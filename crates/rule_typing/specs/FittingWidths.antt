@@ -8,7 +8,8 @@ use Rattle.rule_core.specs.declared.rule.Node.TheVariants as nodes
 use Rattle.rule_core.specs.Positions.{operands_in, IsTermOf, Fixed}
 use Rattle.rule_core.specs.Typing.{FitsLiteral}
 
--- class c of the rule may have the width N: it is from 1 to 64, it is the fixed one if there is one, and literals fit it
+-- class c of the rule may have the width N: it is from 1 to 64, it is the fixed one if there is one, and literals fit
+-- it
 pub record MayHaveWidth (rule : Rule) (c N : ℕ) : Type 0 where
   pub within : (1 ≤ N) × (N ≤ 64)
   pub fixed : (M : ℕ) → Fixed rule c M → M ≡ N

@@ -31,7 +31,8 @@ OperandFixes operands c N = (o : Operand) × Contains operands o × FixesWidth c
 abbrev pub StatementFixes : ℕ → ℕ → Statement → Type 0
 StatementFixes c N s = (fixed_line s.class s.op ≡ Some (c, N)) ⊎ OperandFixes (operands_of s.op) c N
 
--- the class whose width the line of an operation keeps below that of another, and the other, where the result has the class r
+-- the class whose width the line of an operation keeps below that of another, and the other, where the result has the
+-- class r
 abbrev pub smaller_line : ℕ → Op → Option (ℕ × ℕ)
 smaller_line r (Binary op flags a b) = None
 smaller_line r (Compare pred samesign a b) = None

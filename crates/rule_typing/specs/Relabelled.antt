@@ -104,7 +104,8 @@ pub record IsRenumbered (old new : Rule) : Type 0 where
   pub is : new ≡ mapped to old
   pub apart : (c d : ℕ) → to c ≡ to d → c ≡ d
 
--- what becomes of a class: of two that are merged the first becomes the second, and two that are swapped become each other
+-- what becomes of a class: of two that are merged the first becomes the second, and two that are swapped become each
+-- other
 abbrev pub renamed : Renaming → ℕ → ℕ
 renamed (Merge from to) c = if c == from then to else c
 renamed (Swap a b) c = if c == a then b else (if c == b then a else c)

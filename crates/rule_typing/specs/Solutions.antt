@@ -51,7 +51,8 @@ abbrev pub FindsLeast : (List ℕ → Type 0) → Option (List ℕ) → Type 0
 FindsLeast P None = (widths : List ℕ) → ¬ P widths
 FindsLeast P (Some widths) = AreLeast P widths
 
--- N may stand at place c after a beginning: it is the beginning's, and at the first place behind that it is above the bound
+-- N may stand at place c after a beginning: it is the beginning's, and at the first place behind that it is above the
+-- bound
 abbrev pub GoesOn : List ℕ → ℕ → ℕ → ℕ → Type 0
 GoesOn beginning bound c N = (c < length beginning → N ≡ slice_index beginning c) × (c ≡ length beginning → bound < N)
 

@@ -1,4 +1,5 @@
--- The lines of a rule as lists: the classes on each line that is no name's, and the names with the classes of their positions.
+-- The lines of a rule as lists: the classes on each line that is no name's, and the names with the classes of their
+-- positions.
 use Rattle.std.specs.Prelude.{◌≡◌, ◌≢◌, ◌⊎◌, ℕ, ◌+◌, ◌-◌, ◌==◌, if◌then◌else◌, List, [], ◌∷◌, ◌++◌, length, option_map, option_and_then, Option, None, Some, Contains, slice_get}
 use Rattle.rule_core.specs.declared.rule.Rule.{Rule}
 use Rattle.rule_core.specs.declared.rule.Statement.{Statement}

@@ -16,7 +16,8 @@ pub(crate) fn casts_fit(rule: &Rule, widths: &[Width]) -> bool
     broken_line(rule, widths).is_none()
 }
 
-/// Two classes of which the width of the first has to be below that of the second, and is not; or `None` where each line is met.
+/// Two classes of which the width of the first has to be below that of the second, and is not; or `None` where each
+/// line is met.
 pub(crate) fn broken_line(rule: &Rule, widths: &[Width]) -> Option<(u32, u32)>
     ensures some { IfSome result (λ line. Smaller rule.now line.0 line.1 × IsBroken widths.now line.0 line.1) }
     ensures none { IfNone result (MeetsSmaller rule.now widths.now) }
@@ -56,7 +57,8 @@ fn broken_by_statement(statement: &Statement, widths: &[Width]) -> Option<(u32, 
     }
 }
 
-/// The class that the line of an operation keeps below another, and the other, if it is a cast. The result has the class given.
+/// The class that the line of an operation keeps below another, and the other, if it is a cast. The result has the
+/// class given.
 fn smaller_line(result_class: u32, op: Op) -> Option<(u32, u32)>
     ensures { result ≡ smaller_line result_class op }
 {

@@ -1,5 +1,5 @@
-//! The lines of choices: in the source each is of one class with the expression that is chosen for it, and in the target with all that
-//! has its name.
+//! The lines of choices: in the source each is of one class with the expression that is chosen for it, and in the
+//! target with all that has its name.
 
 ghost use Rattle.std.specs.Prelude.{◌≡◌};
 ghost use Rattle.rule_typing.specs.Splits.{chosen_class, choice_pairs, choice_naming, IsPairIn, LineOf, ChoicesLine, Splits};

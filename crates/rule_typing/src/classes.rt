@@ -28,9 +28,9 @@ pub enum ClassFault {
     OpenType,
 }
 
-/// Writes the classes of the rule's positions, and says whether typings are worth a trial. It takes no memory. Its steps are at most
-/// the square of the number of positions for each class that two positions come to share, which is little: a rule has at most 256
-/// operands and nodes.
+/// Writes the classes of the rule's positions, and says whether typings are worth a trial. It takes no memory. Its
+/// steps are at most the square of the number of positions for each class that two positions come to share, which is
+/// little: a rule has at most 256 operands and nodes.
 pub fn classify(rule: &mut Rule) -> Result<(), ClassFault>
     requires { IsRule rule.old }
     ensures rule { IsRule rule.new }

@@ -15,11 +15,12 @@ use ops::Width;
 use rule_core::{Rule, Typing};
 use std::alloc::{AllocError, Global};
 
-/// The typings of the rule, whose classes are written, over a list of widths: a class with a fixed width has that one, and each
-/// other one of the list. The answer is `TooMany` exactly where there are more than `most`.
+/// The typings of the rule, whose classes are written, over a list of widths: a class with a fixed width has that one,
+/// and each other one of the list. The answer is `TooMany` exactly where there are more than `most`.
 ///
-/// Each typing is found from the one before it, and after `most` of them at most one more is looked for. To find one, widths are
-/// raised to the least that casts allow, at most once for each class: as `settle` says, in at most 64 steps for each class.
+/// Each typing is found from the one before it, and after `most` of them at most one more is looked for. To find one,
+/// widths are raised to the least that casts allow, at most once for each class: as `settle` says, in at most 64 steps
+/// for each class.
 pub fn typings(
     alloc: Global,
     rule: &Rule,
@@ -55,7 +56,8 @@ fn choices(alloc: Global, rule: &Rule, widths: &[Width]) -> Result<Vec<Widths>, 
     Ok(sets)
 }
 
-/// The first typing behind this one in lexicographic order: with as many of its widths as can be at the beginning, then a larger one.
+/// The first typing behind this one in lexicographic order: with as many of its widths as can be at the beginning, then
+/// a larger one.
 fn next_typing(
     alloc: Global,
     rule: &Rule,

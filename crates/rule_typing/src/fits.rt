@@ -13,8 +13,8 @@ use lists::List;
 use ops::Width;
 use rule_core::{Argument, Node, Op, Operand, Rule, Statement, Term};
 
-/// Whether the widths are a typing of the rule, whose classes are written. It takes no memory. Its steps are the number of operands
-/// and nodes for each class.
+/// Whether the widths are a typing of the rule, whose classes are written. It takes no memory. Its steps are the number
+/// of operands and nodes for each class.
 pub fn is_typing(rule: &Rule, widths: &List<Width>) -> bool
     requires { IsClassified rule.now }
     ensures { IsTrue result ↔ IsTyping rule.now widths.now }
@@ -146,7 +146,8 @@ fn fits_literal(bits: u32, literal: i128) -> bool
     -half <= literal && literal < modulus
 }
 
-/// How many classes there are. Their numbers are those below. It takes as many steps as the rule has operands and nodes.
+/// How many classes there are. Their numbers are those below. It takes as many steps as the rule has operands and
+/// nodes.
 pub fn class_count(rule: &Rule) -> usize
     requires { IsClassified rule.now }
     ensures { HasClasses rule.now result }

@@ -10,8 +10,8 @@ use crate::operands::Operands;
 use ops::Width;
 use rule_core::{Argument, Op, Operand, Rule, Statement};
 
-/// The first width that a line of the table of types fixes for the class, in the order of the rule's text. It takes as many steps as
-/// there are operands.
+/// The first width that a line of the table of types fixes for the class, in the order of the rule's text. It takes as
+/// many steps as there are operands.
 pub fn fixed_width(rule: &Rule, class: usize) -> Option<Width>
     ensures some { IfSome result (λ N. Fixed rule.now class N) }
     ensures none { IfNone result ((N : ℕ) → ¬ Fixed rule.now class N) }
@@ -67,7 +67,8 @@ fn fixed_by_line(statement: &Statement, class: usize) -> Option<Width>
     }
 }
 
-/// The class for which the line of an operation fixes a width, and that width, if it fixes one. The result has the class given.
+/// The class for which the line of an operation fixes a width, and that width, if it fixes one. The result has the
+/// class given.
 fn fixed_line(result_class: u32, op: Op) -> Option<(u32, Width)>
     ensures { result ≡ fixed_line result_class op }
 {

@@ -1,7 +1,7 @@
 //! The type classes of rules, and their typings.
 //!
-//! The definitions stand in `specs/`: `Classes` says which positions are of one class and how the classes are numbered, `Faults` why
-//! a rule has no typing worth a trial, and `AllTypings` which typings there are over a list of widths.
+//! The definitions stand in `specs/`: `Classes` says which positions are of one class and how the classes are numbered,
+//! `Faults` why a rule has no typing worth a trial, and `AllTypings` which typings there are over a list of widths.
 #![tactic(auto)]
 
 mod answer;

@@ -25,7 +25,8 @@ pub(crate) fn split_by_name(rule: &Rule, naming: Option<(Name, u32)>) -> Option<
     }
 }
 
-/// The class of a position that names this, other than the class given; or `None` where all that name it are of that class.
+/// The class of a position that names this, other than the class given; or `None` where all that name it are of that
+/// class.
 fn other_class(rule: &Rule, name: Name, class: u32) -> Option<u32>
     ensures { FindsOther (Names rule.now name) class result }
 {

@@ -32,11 +32,11 @@ pub(crate) fn has_typing(rule: &Rule, count: usize) -> bool
     settle(rule, &sets[..count], 0, &mut widths[..count])
 }
 
-/// Raises widths of the sets, one for each class, to the least ones from there on that meet all lines of casts; the first so many
-/// stay. The answer is whether there are such.
+/// Raises widths of the sets, one for each class, to the least ones from there on that meet all lines of casts; the
+/// first so many stay. The answer is whether there are such.
 ///
-/// Each step raises one width to the next one of its set, so there are at most 64 for each class, and each looks once over the
-/// statements.
+/// Each step raises one width to the next one of its set, so there are at most 64 for each class, and each looks once
+/// over the statements.
 pub(crate) fn settle(rule: &Rule, sets: &[Widths], kept: usize, widths: &mut [Width]) -> bool
     requires classes { (c : ℕ) → Contains (classes_of rule.now) c → c < length sets.now }
     requires chosen { AreOf sets.now widths.old }

@@ -1,5 +1,5 @@
-//! The lines of terms: an operator or a function is of one class with its operands, both sides of a comparison are of one class, and a
-//! node is of one class with all that has its name.
+//! The lines of terms: an operator or a function is of one class with its operands, both sides of a comparison are of
+//! one class, and a node is of one class with all that has its name.
 
 ghost use Rattle.std.specs.Prelude.{◌≡◌, Some};
 ghost use Rattle.rule_typing.specs.Splits.{node_class, node_pairs, term_pairs, term_naming, formula_pairs, IsPairIn, PairOf, LineOf, TermsLine, Splits};

@@ -332,7 +332,8 @@ module _ (spare_bytes deepest spare_statements : ℕ) where
             whole = tail ∙ ap (λ (ts : List Token). ts ++ rest) e.whole ∙ append_assoc e.inside (Mark (codes ")") ∷ e.after) rest;
           })
 
-  -- Where no formula was seen, and a comparison is refused behind a front, no formula is read of tokens that begin alike.
+  -- Where no formula was seen, and a comparison is refused behind a front, no formula is read of tokens that begin
+  -- alike.
   no_formula_instead : (nesting line : ℕ) (before : List RawFormula) (front behind more : List Token) → opens_formula 0 (front ++ behind) ≡ false → Alike behind more
       → ((others : List Token) → Alike behind others → IsErr limits (compares_at limits (suc nesting) line before (Mark (codes "(") ∷ front ++ others)))
       → opens_formula 0 (front ++ more) ≡ true → (x : List RawFormula × List Token) → encloses_at line (member_at limits nesting line) before (front ++ more) ≡ Ok x → ⊥

@@ -1,5 +1,5 @@
--- Tokens with a mark behind the first one with which a limit is passed, and what is read of them within wider limits: the same as of the
--- tokens without the mark within the limits, but that the mark is told where `TooMany` is.
+-- Tokens with a mark behind the first one with which a limit is passed, and what is read of them within wider limits:
+-- the same as of the tokens without the mark within the limits, but that the mark is told where `TooMany` is.
 use Rattle.std.proofs.Common.{◌≡◌, ◌≢◌, ℕ, ◌+◌, ◌<◌, ◌≤◌, Bool, true, false, cond, List, [], ◌∷◌, length, Result, Ok, Err, refl, sym, subst, arith}
 use Rattle.std.specs.Prelude.{if◌then◌else◌, nat_le, codes}
 use Rattle.std.specs.Str.{bytes_eq}
@@ -116,8 +116,8 @@ first c s a b (later t x y text kept more) = token t x y text (goes_on x y kept 
 
 -- ---- what is read
 
--- Within the limits, and within the wider ones of the marked tokens: the same, or the same fault, or `TooMany` and that of the mark, where
--- the mark may stand next.
+-- Within the limits, and within the wider ones of the marked tokens: the same, or the same fault, or `TooMany` and that
+-- of the mark, where the mark may stand next.
 pub data Same (c : Marking) (line : ℕ) {X : Type 0} (R : X → X → Type 0) (S : X → Type 0) : Result X RuleFault → Result X RuleFault → Type 0 where
   read : (x y : X) → R x y → Same c line R S (Ok x) (Ok y)
   failed : (e : RuleFault) → e.kind ≢ TooMany → Same c line R S (Err e) (Err e)

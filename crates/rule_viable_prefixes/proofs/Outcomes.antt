@@ -1,5 +1,5 @@
--- What a reader does on a line, said so that it composes: it reads tokens in front, whatever stands behind the next one, or it refuses
--- what stands behind a front that some other tokens complete.
+-- What a reader does on a line, said so that it composes: it reads tokens in front, whatever stands behind the next
+-- one, or it refuses what stands behind a front that some other tokens complete.
 use Rattle.std.proofs.Common.{◌≡◌, ℕ, suc, ◌+◌, ◌≤◌, List, [], ◌∷◌, ◌++◌, map, Result, Ok, Err, refl, sym, ap, subst, ◌∙◌, append_assoc, ◌⊎◌, inl, inr, arith}
 use Rattle.std.proofs.lemmas.List.{append-nil}
 use Rattle.rule_tokens.specs.RuleFaults.{RuleFault}

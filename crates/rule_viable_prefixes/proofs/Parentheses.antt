@@ -1,4 +1,5 @@
--- What stands in parentheses that are open at a front of tokens: a term or a formula may, as long as no token of formulas alone does.
+-- What stands in parentheses that are open at a front of tokens: a term or a formula may, as long as no token of
+-- formulas alone does.
 use Rattle.std.proofs.Common.{◌≡◌, ℕ, zero, suc, ◌≤◌, Bool, true, false, List, [], ◌∷◌, ◌++◌, length, refl, sym, ap, subst, ◌∙◌, append_assoc, arith}
 use Rattle.std.specs.Prelude.{codes}
 use Rattle.std.specs.Str.{bytes_eq}

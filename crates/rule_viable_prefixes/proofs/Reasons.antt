@@ -31,7 +31,8 @@ abbrev pub openings : Token → ℕ
 openings (Mark mark) = if is_among opening_marks mark then 1 else 0
 openings token = 0
 
--- how many of these marks stand on the line that the tokens end on, where so many stand before them on the line that they begin on
+-- how many of these marks stand on the line that the tokens end on, where so many stand before them on the line that
+-- they begin on
 abbrev pub openings_behind : ℕ → List Token → ℕ
 openings_behind before [] = before
 openings_behind before (Line number ∷ tokens) = openings_behind 0 tokens
@@ -40,8 +41,8 @@ openings_behind before (token ∷ tokens) = openings_behind (before + openings t
 abbrev pub openings_on_line : List Token → ℕ
 openings_on_line tokens = openings_behind 0 tokens
 
--- One of them may not stand where an operand of one token may, behind at least as many of these marks on its line as levels may be
--- nested: it is nested too deep.
+-- One of them may not stand where an operand of one token may, behind at least as many of these marks on its line as
+-- levels may be nested: it is nested too deep.
 abbrev pub IsTooDeep : Limits → ℕ → Fitting → Token → Type 0
 IsTooDeep limits opened fits token = (limits.nested ≤ opened) × Nests token × fits (Number (codes "0"))
 
@@ -66,7 +67,8 @@ IsTooLong limits fits token IsOfSort name =
 abbrev pub HalfEnds : Fitting → Type 0
 HalfEnds fits = fits Arrow ⊎ fits (Head (codes "Name:"))
 
--- With the token, which stands behind so many marks that open levels on its line, a limit of names, statements or nesting is passed.
+-- With the token, which stands behind so many marks that open levels on its line, a limit of names, statements or
+-- nesting is passed.
 pub data IsTooMany (limits : Limits) (opened : ℕ) (fits : Fitting) : Token → Type 0 where
   name : (name : List ℕ) → IsTooLong limits fits Name (λ text. 1 ≤ length text) name → IsTooMany limits opened fits (Name name)
   register : (name : List ℕ) → IsTooLong limits fits Register (λ text. Unit {0}) name → IsTooMany limits opened fits (Register name)
@@ -78,8 +80,9 @@ pub data IsTooMany (limits : Limits) (opened : ℕ) (fits : Fitting) : Token →
 
 -- ---- kinds
 
--- What a kind says of the token itself: it is a byte that may not stand; with it a limit is passed; it is a word that is left out, not
--- `hasOneUse`, and a noun fits in its place; or it is no byte that may not stand. No token is of another kind.
+-- What a kind says of the token itself: it is a byte that may not stand; with it a limit is passed; it is a word that
+-- is left out, not `hasOneUse`, and a noun fits in its place; or it is no byte that may not stand. No token is of
+-- another kind.
 abbrev pub Says : Limits → ℕ → Fitting → Token → RuleFaultKind → Type 0
 Says limits opened fits token BadByte = token ≡ Bad
 Says limits opened fits token TooMany = IsTooMany limits opened fits token
@@ -92,12 +95,14 @@ abbrev pub kind_at : List Token → RuleFaultKind
 kind_at (Bad ∷ tokens) = BadByte
 kind_at tokens = Syntax
 
--- A function or a predicate that is nested too deep, with no `(` behind it, is told as the token behind it is: `log2 +` behind 32 `(`.
+-- A function or a predicate that is nested too deep, with no `(` behind it, is told as the token behind it is: `log2 +`
+-- behind 32 `(`.
 abbrev pub IsReadOn : Limits → ℕ → Fitting → Token → List Token → RuleFaultKind → Type 0
 IsReadOn limits opened fits token behind kind =
     (word : List ℕ) × (token ≡ Word word) × IsTooDeep limits opened fits token × ((more : List Token) → behind ≢ Mark (codes "(") ∷ more) × (kind ≡ kind_at behind)
 
--- what the kind of a fault says of its token, which stands behind so many marks that open levels on its line, and before these tokens
+-- what the kind of a fault says of its token, which stands behind so many marks that open levels on its line, and
+-- before these tokens
 pub data IsMisfit (limits : Limits) (opened : ℕ) (fits : Fitting) (token : Token) (behind : List Token) (kind : RuleFaultKind) : Type 0 where
   itself : Says limits opened fits token kind → IsMisfit limits opened fits token behind kind
   read_on : IsReadOn limits opened fits token behind kind → IsMisfit limits opened fits token behind kind

@@ -1,4 +1,5 @@
--- The tokens of a text begin with the number of a line, and so do those behind the name of a rule, which is the rest of its line.
+-- The tokens of a text begin with the number of a line, and so do those behind the name of a rule, which is the rest of
+-- its line.
 use Rattle.std.proofs.Common.{◌≡◌, ◌≢◌, ℕ, zero, suc, ◌+◌, ◌-◌, ◌<◌, ◌≤◌, Bool, true, false, not, ◌||◌, cond, eqb, List, [], ◌∷◌, length, take, drop, Option, Some, None, refl, sym, ap, subst, ◌∙◌, ⊎_elim, ◌⊎◌, inl, inr, arith, length-drop}
 use Rattle.std.specs.Prelude.{codes}
 use Rattle.std.specs.List.{prefix_len}

@@ -382,8 +382,8 @@ module _ (limits : Limits) (tokens : List Token) (of : AreOfText tokens) where
 
 -- ---- the law
 
--- With the token a limit is passed, and with none before it. It fits where no limit is too narrow, and the tokens before it end on the
--- line.
+-- With the token a limit is passed, and with none before it. It fits where no limit is too narrow, and the tokens
+-- before it end on the line.
 pub record IsPassedOn (limits : Limits) (tokens : List Token) (line : ℕ) : Type 0 where
   pub front : List Token
   pub token : Token

@@ -24,8 +24,8 @@ pub record DoesNotFit (front : List Token) (token : Token) (kind : RuleFaultKind
   pub misfit : ¬ FitsBehind front token
   pub told : IsKindOf front token kind
 
--- The fault is that of the first token that does not fit or with which a limit is passed, and is on the line that the tokens before it
--- end on. So it is on the line that is not whole where that token is the number of another line.
+-- The fault is that of the first token that does not fit or with which a limit is passed, and is on the line that the
+-- tokens before it end on. So it is on the line that is not whole where that token is the number of another line.
 pub record IsAtToken (limits : Limits) (tokens : List Token) (found : RuleFault) : Type 0 where
   pub front : List Token
   pub token : Token
@@ -36,8 +36,8 @@ pub record IsAtToken (limits : Limits) (tokens : List Token) (found : RuleFault)
   pub line : found.line ≡ line_of front
   pub kind : IsOneTooMany limits front token found.kind ⊎ DoesNotFit front token found.kind
 
--- The tokens fit up to their end, but spell no rules. The fault is on the text's last line where another line fits, and otherwise
--- on the last line with tokens, which is not whole.
+-- The tokens fit up to their end, but spell no rules. The fault is on the text's last line where another line fits, and
+-- otherwise on the last line with tokens, which is not whole.
 pub record IsAtEnd (limits : Limits) (tokens : List Token) (last : ℕ) (found : RuleFault) : Type 0 where
   pub fits : Fits tokens
   pub within : AllStayWithin limits tokens
@@ -45,9 +45,9 @@ pub record IsAtEnd (limits : Limits) (tokens : List Token) (last : ℕ) (found :
   pub kind : found.kind ≡ Syntax
   pub line : (LineFits tokens × (found.line ≡ last)) ⊎ ((¬ LineFits tokens) × (found.line ≡ line_of tokens))
 
--- Within any limits that leave a level of nesting the fault of a text is exactly that of its first token that does not fit or with which
--- a limit is passed, or of its end. One whose tokens spell rules, of which none has more than 256 operands, literals, names, operators
--- and functions, is not refused.
+-- Within any limits that leave a level of nesting the fault of a text is exactly that of its first token that does not
+-- fit or with which a limit is passed, or of its end. One whose tokens spell rules, of which none has more than 256
+-- operands, literals, names, operators and functions, is not refused.
 pub record RefusalsAreExact : Type 0 where
   pub refused : (limits : Limits) → 1 ≤ limits.nested → (text : List ℕ) (tokens : List Token) (last : ℕ) (found : RuleFault)
       → AreTokens text tokens last → IsFaultWithin limits text found ↔ (IsAtToken limits tokens found ⊎ IsAtEnd limits tokens last found)

@@ -22,8 +22,8 @@ Fitting = Token → Type 0
 
 -- ---- words
 
--- An opcode, a predicate of `icmp`, a type, an operand or a function. The predicates of `Pre:` are none, since a constant may stand
--- where they do, and neither are flags and `to`.
+-- An opcode, a predicate of `icmp`, a type, an operand or a function. The predicates of `Pre:` are none, since a
+-- constant may stand where they do, and neither are flags and `to`.
 pub data IsNoun (word : List ℕ) : Type 0 where
   opcode : (operation : Operation) → word ≡ operation_word operation → IsNoun word
   predicate : (pred : Pred) → word ≡ predicate_keyword pred → IsNoun word
@@ -56,8 +56,8 @@ RepeatsFlag front word =
 
 -- ---- kinds
 
--- A word where a noun may stand, which is not `hasOneUse` and no flag that stands there already, is left out; and so is a number where
--- that of a version may stand.
+-- A word where a noun may stand, which is not `hasOneUse` and no flag that stands there already, is left out; and so is
+-- a number where that of a version may stand.
 pub data IsLeftOut (front : List Token) (token : Token) (left : List ℕ) : Type 0 where
   word : token ≡ Word left → NounFits (FitsBehind front) → left ≢ codes "hasOneUse" → ¬ RepeatsFlag front left → IsLeftOut front token left
   version : (line : ℕ) → token ≡ Number left → front ≡ Line line ∷ Head (codes "Version:") ∷ [] → IsLeftOut front token left

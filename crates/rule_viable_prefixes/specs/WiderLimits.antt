@@ -10,7 +10,8 @@ use Rattle.rule_parse.specs.RuleReaders.{all_rules}
 use Rattle.rule_parse.specs.Text.{IsFaultWithin}
 use Rattle.rule_viable_prefixes.specs.Fits.{SpellsWithoutLimits}
 
--- Wider limits change nothing but what is told as `TooMany`: the same rules are read of the same tokens, and the same faults are found.
+-- Wider limits change nothing but what is told as `TooMany`: the same rules are read of the same tokens, and the same
+-- faults are found.
 abbrev pub WiderLimitsChangeTooManyAlone : Type 0
 WiderLimitsChangeTooManyAlone = (limits wider : Limits) → AreWithin wider limits → (last : ℕ) (tokens : List Token)
     → (all_rules limits last tokens ≡ all_rules wider last tokens) ⊎ ((line : ℕ) × (all_rules limits last tokens ≡ Err (fault line TooMany)))

@@ -5,16 +5,16 @@ ghost use Rattle.rule_viable_prefixes.specs.WiderLimits.{
   WiderLimitsChangeTooManyAlone,
 };
 
-/// A text is refused exactly at the first token with which its tokens begin no rules of the grammar or a rule passes a limit, or at its
-/// end if they all begin some and spell none. One whose tokens spell rules is not refused.
+/// A text is refused exactly at the first token with which its tokens begin no rules of the grammar or a rule passes a
+/// limit, or at its end if they all begin some and spell none. One whose tokens spell rules is not refused.
 pub fn refusals_are_exact()
     ensures { RefusalsAreExact }
 {
     scan::every_place_has_one_rule_token();
 }
 
-/// Limits of names, nesting and statements change what is read and refused by `TooMany` alone: a text that some limits let pass is read,
-/// or refused as `TooMany`.
+/// Limits of names, nesting and statements change what is read and refused by `TooMany` alone: a text that some limits
+/// let pass is read, or refused as `TooMany`.
 pub fn limits_are_told_as_too_many()
     ensures wider { WiderLimitsChangeTooManyAlone }
     ensures texts { TextsAreRefusedByLimitsAsTooMany }

@@ -1,7 +1,8 @@
 //! Faults of rule files, and the fronts of tokens that some rule file of the grammar begins with.
 //!
-//! The definitions stand in `specs/`: `Fits` says which tokens begin a rule file of the grammar, `Misfits` by which kind another one is
-//! told, `Passed` what is used of the limits, `Laws` what holds, and `WiderLimits` what the limits change. It has laws and no code.
+//! The definitions stand in `specs/`: `Fits` says which tokens begin a rule file of the grammar, `Misfits` by which
+//! kind another one is told, `Passed` what is used of the limits, `Laws` what holds, and `WiderLimits` what the limits
+//! change. It has laws and no code.
 #![tactic(auto)]
 
 mod laws;

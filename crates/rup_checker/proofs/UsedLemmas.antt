@@ -1,4 +1,5 @@
--- Marked clauses: each has a unit literal that is held, so that a hint that names it again is a move that holds nothing new.
+-- Marked clauses: each has a unit literal that is held, so that a hint that names it again is a move that holds nothing
+-- new.
 use Rattle.std.specs.Prelude.{◌==◌, Contains}
 use Rattle.std.proofs.Common.{◌≡◌, ℕ, zero, suc, ◌+◌, ◌<◌, ◌≤◌, Bool, true, false, not, ◌&&◌, ◌||◌, cond, eqb, List, [], ◌∷◌, ◌++◌, drop, get_or, length, refl, sym, ap, ◌∙◌, inl, inr, subst, arith}
 use Rattle.std.proofs.lemmas.Bool.{cases_Bool, or_cases, or_from, or_left, or_right, and_parts, and_from, and_right, eqb-true, eq-eqb, true≢false, false_from_ne_true}

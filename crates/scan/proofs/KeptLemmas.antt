@@ -11,7 +11,8 @@ use Rattle.scan.specs.Laws.{OneGroupAtAPlace}
 use Rattle.scan.proofs.Fronts.{which}
 use Rattle.scan.proofs.PlaceLemmas.{feeds_append, feeds_between, no_feeds}
 
--- what follows the bracket that closes the one before the text, where so many more are open, and a quoted text is or not
+-- what follows the bracket that closes the one before the text, where so many more are open, and a quoted text is or
+-- not
 abbrev pub closing : Bool → ℕ → List ℕ → Option (List ℕ)
 closing in_quotes depth [] = None
 closing in_quotes depth (b ∷ text) =

@@ -98,7 +98,8 @@ pub record BeginsNoToken (text : List ℕ) : Type 0 where
   pub visible : begins_with (λ b. not (is_bad b || in_gap b)) text ≡ true
   pub no_token : (kind : TokenKind) (m : ℕ) → m ≤ length text → spells kind (take m text) (drop m text) ≡ false
 
--- The text begins with this, of n bytes: the longest token, the end, or one byte that begins no token. It begins with no gap.
+-- The text begins with this, of n bytes: the longest token, the end, or one byte that begins no token. It begins with
+-- no gap.
 abbrev pub Begins : List ℕ → TokenKind → ℕ → Type 0
 Begins text End n = (text ≡ []) × (n ≡ 0)
 Begins text Other n = BeginsNoToken text × (n ≡ 1)

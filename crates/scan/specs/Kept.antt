@@ -23,8 +23,8 @@ pub record IsKeptLine (text : List ℕ) (place : ℕ) (line : Span) : Type 0 whe
 unfoldable pub is_plain : ℕ → Bool
 is_plain b = not ((b == 40) || (b == 41) || (b == 34) || (b == 10))
 
--- The bytes have `(` and `)` in pairs, outside quoted texts, and no line feed: nothing; or a byte that is no bracket, a quoted
--- text, or such bytes between brackets, and such bytes behind it.
+-- The bytes have `(` and `)` in pairs, outside quoted texts, and no line feed: nothing; or a byte that is no bracket, a
+-- quoted text, or such bytes between brackets, and such bytes behind it.
 pub data IsBalanced : List ℕ → Type 0 where
   nothing : IsBalanced []
   byte : {b : ℕ} {rest : List ℕ} → is_plain b ≡ true → IsBalanced rest → IsBalanced (b ∷ rest)

@@ -24,8 +24,8 @@ is_hex b = is_digit b || (nat_le 65 b && nat_le b 70) || (nat_le 97 b && nat_le 
 unfoldable pub hex_value : ℕ → ℕ
 hex_value b = if nat_le b 57 then b - 48 else (if nat_le b 70 then b - 55 else b - 87)
 
--- The bytes that stand for these between quotes. Escapes are read from left to right: `\\` is a backslash, and `\` before two
--- hexadecimal digits is the byte of that number. Any other backslash stands for itself.
+-- The bytes that stand for these between quotes. Escapes are read from left to right: `\\` is a backslash, and `\`
+-- before two hexadecimal digits is the byte of that number. Any other backslash stands for itself.
 unfoldable pub unquoted : List ℕ → List ℕ
 unquoted [] = []
 unquoted (a ∷ []) = a ∷ []

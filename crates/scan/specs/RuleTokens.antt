@@ -68,8 +68,8 @@ is_negative bytes = is_run_behind 45 is_digit bytes
 unfoldable pub is_literal : Bool → List ℕ → Bool
 is_literal operator bytes = are_digits bytes || (not operator && is_negative bytes)
 
--- the kind of token that the bytes are before the rest, in an operator's place or not, if they are one. A mark comes first,
--- since `%u` would be a register too; no other bytes are of two kinds.
+-- the kind of token that the bytes are before the rest, in an operator's place or not, if they are one. A mark comes
+-- first, since `%u` would be a register too; no other bytes are of two kinds.
 unfoldable pub kind_of : Bool → List ℕ → List ℕ → Option RuleKind
 kind_of operator bytes rest =
     if is_mark operator bytes rest then Some Mark
@@ -90,7 +90,8 @@ pub record BeginsNoToken (operator : Bool) (text : List ℕ) : Type 0 where
   pub visible : begins_with (λ b. not (is_bad b || in_gap b)) text ≡ true
   pub no_token : (m : ℕ) → m ≤ length text → kind_of operator (take m text) (drop m text) ≡ None
 
--- The text begins with this, of n bytes: the longest token, the end, or one byte that begins no token. It begins with no gap.
+-- The text begins with this, of n bytes: the longest token, the end, or one byte that begins no token. It begins with
+-- no gap.
 abbrev pub Begins : Bool → List ℕ → RuleKind → ℕ → Type 0
 Begins operator text End n = (text ≡ []) × (n ≡ 0)
 Begins operator text Other n = BeginsNoToken operator text × (n ≡ 1)
@@ -106,8 +107,8 @@ abbrev pub line_at : RuleKind → List ℕ → ℕ → ℕ
 line_at End text start = last_line text
 line_at kind text start = line_of text start
 
--- A token's place is an operator's where the token before it ends a primary and stands on the same line, since each part of
--- a rule is on a line of its own.
+-- A token's place is an operator's where the token before it ends a primary and stands on the same line, since each
+-- part of a rule is on a line of its own.
 abbrev pub in_operator_place : Bool → List ℕ → Bool
 in_operator_place operator gap = operator && (feeds gap == 0)
 

@@ -48,9 +48,9 @@ impl<'a> Cursor<'a> {
         }
     }
 
-    /// The next token of a rule file, behind blanks, line feeds and comments, and goes behind it. It is the longest that
-    /// begins where it does. `operator` says whether the token before it ends a primary (`ends_primary`); where this one
-    /// stands on the same line it is then in an operator's place.
+    /// The next token of a rule file, behind blanks, line feeds and comments, and goes behind it. It is the longest
+    /// that begins where it does. `operator` says whether the token before it ends a primary (`ends_primary`); where
+    /// this one stands on the same line it is then in an operator's place.
     ///
     /// The error is a byte there that may not stand outside comments; the place stays.
     pub fn next_rule_token(&mut self, operator: bool) -> Result<RuleToken, BadByte>
@@ -76,8 +76,8 @@ impl<'a> Cursor<'a> {
         })
     }
 
-    /// The rest of the line up to a comment, without the blanks at its ends, and goes behind it: the name of a rule, where
-    /// its head was taken. Where nothing is there the span is empty.
+    /// The rest of the line up to a comment, without the blanks at its ends, and goes behind it: the name of a rule,
+    /// where its head was taken. Where nothing is there the span is empty.
     ///
     /// The error is a byte of it that may not stand there; the place stays.
     pub fn take_name(&mut self) -> Result<Span, BadByte>

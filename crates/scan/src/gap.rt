@@ -9,8 +9,8 @@ ghost use Rattle.scan.specs.GapFronts.{behind_gap, in_gap};
 
 use crate::bytes::is_blank;
 
-/// How many bytes stand before the first that is neither a blank, a line feed nor part of a comment, and how many of them are
-/// line feeds. A comment goes from a `;` to the end of its line.
+/// How many bytes stand before the first that is neither a blank, a line feed nor part of a comment, and how many of
+/// them are line feeds. A comment goes from a `;` to the end of its line.
 fn gap_run(text: &[u8]) -> (usize, usize)
     ensures within { result.0 ≤ length text.now }
     ensures behind { drop result.0 text.now ≡ behind_gap false text.now }

@@ -21,8 +21,8 @@ pub(crate) fn rest_to_feed(text: &[u8], place: usize) -> &[u8]
     &ahead[..feed_run(ahead)]
 }
 
-/// What follows the `)` that closes a `(` before the text; none where it isn't closed on its line. Brackets in quoted texts
-/// don't count.
+/// What follows the `)` that closes a `(` before the text; none where it isn't closed on its line. Brackets in quoted
+/// texts don't count.
 pub(crate) fn behind_group(text: &[u8]) -> Option<&[u8]>
     ensures { MatchOption result
         ((content rest : List ℕ) → IsBalanced content → ¬ (text.now ≡ content ++ 41 ∷ rest))

@@ -1,4 +1,5 @@
--- Proofs are of one pair each, their logs are stored one after the other, and what is stored refutes no set that is kept.
+-- Proofs are of one pair each, their logs are stored one after the other, and what is stored refutes no set that is
+-- kept.
 use Rattle.std.proofs.Common.{◌≡◌, inl, inr, ℕ, zero, suc, ◌<◌, List, [], ◌∷◌, ◌++◌, length, take, get_or, map, All, Option, Some, refl, sym, ap, subst, ◌∙◌, arith}
 use Rattle.std.specs.Prelude.{◌≢◌, slice_get, Contains, IfSome}
 use Rattle.std.specs.List.{AllZip}

@@ -23,7 +23,8 @@ AreOfPairsOnce proofs = (i j : ℕ) (a b : RuleProof) → slice_get proofs i ≡
 abbrev pub IsLogStored : StoredLogs → RuleProof → Type 0
 IsLogStored stored proof = log_of stored (pair_of proof) ≡ Some proof.log
 
--- the proofs of a text, which are good ones of these rules: the log of each is stored for the rule of its name at its widths
+-- the proofs of a text, which are good ones of these rules: the log of each is stored for the rule of its name at its
+-- widths
 pub record AreStored (rules : List Rule) (text : List ℕ) (stored : StoredLogs) : Type 0 where
   pub proofs : List Proof
   pub text_is : IsTextOfGood rules text proofs

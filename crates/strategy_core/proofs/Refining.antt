@@ -55,8 +55,8 @@ pub record IsKept (rules : List Rule) (P : Function → Type 0) : Type 0 where
   pub rewritten : (f g : Function) (m : Match) (is : IsMatchAmong rules f m) → MeetsChecks f → NumbersFit f → P f → IsRewritten f m.binding is.rule g → P g
 
 module _ (laws : PartLaws) (rules : List Rule) (table : List Row) (ready : AreReady rules) (P : Function → Type 0) where
-  -- The new function may be worked on further, and refines the old one if only valid rules are admitted. What cleaning and rewriting keep
-  -- is said of it too.
+  -- The new function may be worked on further, and refines the old one if only valid rules are admitted. What cleaning
+  -- and rewriting keep is said of it too.
   record Follows (old new : Function) : Type 0 where
     pub checks : MeetsChecks new
     pub numbers : NumbersFit new

@@ -1,8 +1,8 @@
 -- The plain strategy: what rules make of a module by a table of verdicts, function by function in text order.
 --
--- A function is cleaned. Then a search goes through its matches in order, asks for the verdict of each, and ends at the first that is
--- admitted: there the function is rewritten and cleaned, which is a step, and the search begins again. The last search of a function finds
--- none, or has no step left; it goes through all matches.
+-- A function is cleaned. Then a search goes through its matches in order, asks for the verdict of each, and ends at the
+-- first that is admitted: there the function is rewritten and cleaned, which is a step, and the search begins again.
+-- The last search of a function finds none, or has no step left; it goes through all matches.
 use Rattle.std.specs.Prelude.{◌≡◌, ℕ, suc, ◌-◌, ◌≤◌, Bool, List, [], ◌∷◌, ◌++◌, map, All, Any, MatchBool}
 use Rattle.ir_core.specs.declared.module.Module.{Module}
 use Rattle.ir_core.specs.declared.module.Entry.{Entry}
@@ -17,8 +17,8 @@ use Rattle.bindings.specs.Matches.{IsMatchAmong, AreMatches, AreMatchesBefore}
 use Rattle.strategy_core.specs.Asked.{Pair, pair_of, pair_in, IsAdmitted, IsTurnedDown, AreFirstAsked}
 
 module _ (rules : List Rule) (table : List Row) where
-  -- A step: the search asks for the verdicts of a match and of all that come before it, in order. Those before it are turned down, and at
-  -- this one, which is admitted, the function is rewritten and then cleaned.
+  -- A step: the search asks for the verdicts of a match and of all that come before it, in order. Those before it are
+  -- turned down, and at this one, which is admitted, the function is rewritten and then cleaned.
   pub record IsStep (f new : Function) (asked : List Pair) : Type 0 where
     pub chosen : Match
     pub is_match : IsMatchAmong rules f chosen
@@ -37,15 +37,16 @@ module _ (rules : List Rule) (table : List Row) where
     by_step : (count : ℕ) (f g h : Function) (asked more : List Pair) → ComesOf count f g asked → IsStep g h more
         → ComesOf (suc count) f h (asked ++ more)
 
-  -- The last search, with so many steps left, goes through all matches of the function. Where the function is limited no step is left and
-  -- a match is admitted, and else all are turned down.
+  -- The last search, with so many steps left, goes through all matches of the function. Where the function is limited
+  -- no step is left and a match is admitted, and else all are turned down.
   pub record IsLastSearch (left : ℕ) (f : Function) (limited : Bool) (asked : List Pair) : Type 0 where
     pub matches : List Match
     pub are_matches : AreMatches rules f matches
     pub asks : asked ≡ map pair_of matches
     pub ends : MatchBool limited ((left ≡ 0) × Any (IsAdmitted table) matches) (All (IsTurnedDown table) matches)
 
-  -- what becomes of a function within so many steps: how often it is rewritten, whether it is limited, and which pairs are asked
+  -- what becomes of a function within so many steps: how often it is rewritten, whether it is limited, and which pairs
+  -- are asked
   pub record IsOptimised (steps : ℕ) (old new : Function) (count : ℕ) (limited : Bool) (asked : List Pair) : Type 0 where
     pub cleaned : Function
     pub is_cleaned : IsCleaned old cleaned
@@ -67,8 +68,8 @@ module _ (rules : List Rule) (table : List Row) where
         → IsOptimised steps f last count is_limited asked → AreOptimised steps old new counts limited others
         → AreOptimised steps (entries.Function f ∷ old) (entries.Function last ∷ new) (count ∷ counts) (is_limited ∷ limited) (asked ++ others)
 
--- What the strategy gives for a module by this table, with a number of steps for each function. It is the strategy's own table: it has a
--- row for each pair that is asked, in the order in which they are first asked.
+-- What the strategy gives for a module by this table, with a number of steps for each function. It is the strategy's
+-- own table: it has a row for each pair that is asked, in the order in which they are first asked.
 pub record IsPlainStrategy (rules : List Rule) (steps : ℕ) (table : List Row) (old new : Module) (counts : List ℕ) (limited : List Bool) : Type 0 where
   pub asked : List Pair
   pub entries : AreOptimised rules table steps old.entries new.entries counts limited asked

@@ -27,8 +27,8 @@ last_of (b ∷ before) = Some b
 abbrev pub moment : List ℕ → ℕ → ℕ → Registers → Registers → Moment
 moment before b k entered held = record { from = last_of before; entered = entered; block = b; place = k; held = held }
 
--- A run of f has passed the blocks `before`, the last one first, and comes to place k of block b. `entered` is what registers held where it
--- entered the block.
+-- A run of f has passed the blocks `before`, the last one first, and comes to place k of block b. `entered` is what
+-- registers held where it entered the block.
 pub record Arrives (f : Function) (args : List Value) (before : List ℕ) (b k : ℕ) (entered held : Registers) : Type 0 where
   pub history : List Moment
   pub is_history : IsHistory f args (moment before b k entered held ∷ history)

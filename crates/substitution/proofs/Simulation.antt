@@ -1,5 +1,5 @@
--- Where runs of two functions go through the same blocks, each pass of the second's allowed by one of the first's, the second may stand
--- in the place of the first.
+-- Where runs of two functions go through the same blocks, each pass of the second's allowed by one of the first's, the
+-- second may stand in the place of the first.
 use Rattle.std.proofs.Common.{◌≡◌, ℕ, zero, suc, Bool, true, false, List, [], ◌∷◌, Some, refl, sym, subst, map}
 use Rattle.ops.specs.Value.{AllowsValue}
 use Rattle.ops.specs.declared.value.Value.{Value}

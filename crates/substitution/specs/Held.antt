@@ -16,8 +16,8 @@ use Rattle.ir_meaning.specs.HistoryLaws.{EquationHolds}
 abbrev pub ComesTo : Function → List Value → ℕ → ℕ → Registers → Type 0
 ComesTo f args b k held = (m : Moment) × (before : List Moment) × IsHistory f args (m ∷ before) × (place_of m ≡ (b, k)) × (m.held ≡ held)
 
--- The registers may be held at place k of block b: each has its width, each that is assigned there holds a value, and, if it isn't a
--- phi's, one that its instruction gives on what its operands hold now.
+-- The registers may be held at place k of block b: each has its width, each that is assigned there holds a value, and,
+-- if it isn't a phi's, one that its instruction gives on what its operands hold now.
 pub record MayHold (f : Function) (b k : ℕ) (held : Registers) : Type 0 where
   pub widths : HoldWidths f held
   pub assigned : (r : Register) → IsAssigned f r b k → (v : Value) × (held r ≡ Some v)

@@ -22,7 +22,8 @@ use Rattle.substitution.specs.Held.{ComesTo, MayHold}
 
 -- ---- substitution
 
--- what an instruction gives once what stands for its registers is read is what it gave where each register held what stands for it
+-- what an instruction gives once what stands for its registers is read is what it gave where each register held what
+-- stands for it
 abbrev pub SubstitutedInstructionsGive : Type 0
 SubstitutedInstructionsGive = (to : Substitution) (held : Registers) (width : ℕ) (op : Op) (e : Effect)
     → IsDefinite to → OpGives AnyNumber held width (substituted_op to op) e ↔ OpGives AnyNumber (pulled_back to held) width op e
@@ -39,8 +40,8 @@ SubstitutedTerminatorsEnd = (to : Substitution) (f : Function) (held : Registers
 
 -- ---- registers that are read hold values that allow others
 
--- Where what is read in the first registers allows what is read in the second, an instruction may have an effect that allows each
--- that it has on the second.
+-- Where what is read in the first registers allows what is read in the second, an instruction may have an effect that
+-- allows each that it has on the second.
 abbrev pub InstructionsAreMonotoneInReads : Type 0
 InstructionsAreMonotoneInReads = (f : Function) (held held' : Registers) (b k width : ℕ) (op : Op) (e' : Effect)
     → OperandsHaveWidths f width op → HoldWidths f held' → ReadsAllow held held' (reads_of f b k width op)
@@ -71,8 +72,8 @@ RewrittenFunctionsMeetChecks = (f : Function) (w : Rewrite) (root : Inst) → Me
 abbrev pub RewrittenNumbersFit : Type 0
 RewrittenNumbersFit = (f : Function) (w : Rewrite) (root : Inst) → NumbersFit f → Fits f w root → NumbersFit (rewritten_function w f)
 
--- Wherever runs of both functions come to the root, with registers that allow the others': each way through what is put is allowed by
--- an effect of the root.
+-- Wherever runs of both functions come to the root, with registers that allow the others': each way through what is put
+-- is allowed by an effect of the root.
 abbrev pub RootAllowsPut : Function → Rewrite → Inst → Type 0
 RootAllowsPut f w root = (args : List Value) (held held' : Registers) (after : Option Registers)
     → AreArguments f.parameters args
@@ -88,8 +89,8 @@ RewrittenFunctionsRefine = (f : Function) (w : Rewrite) (root : Inst)
     → MeetsChecks f → NumbersFit f → Fits f w root → RootAllowsPut f w root
     → Refines f (rewritten_function w f)
 
--- The same told of one list of registers: whatever the new function may hold where what is put stands, told as the old one's, each way
--- through what is put is allowed by an effect that the root has on these.
+-- The same told of one list of registers: whatever the new function may hold where what is put stands, told as the old
+-- one's, each way through what is put is allowed by an effect that the root has on these.
 abbrev pub PutIsAllowed : Function → Rewrite → Inst → Type 0
 PutIsAllowed f w root = (held : Registers) (after : Option Registers)
     → MayHold f w.block w.place (pulled_back (stands_for w) held)

@@ -17,8 +17,8 @@ use Rattle.ir_core.specs.declared.terminator.Terminator.TheVariants as terminato
 abbrev pub Substitution : Type 0
 Substitution = Register → Operand
 
--- an operand, the entries of a phi, an operation, an instruction, a terminator and a block, with what stands for each register that is
--- read
+-- an operand, the entries of a phi, an operation, an instruction, a terminator and a block, with what stands for each
+-- register that is read
 abbrev pub substituted_operand : Substitution → Operand → Operand
 substituted_operand to (operands.Register r) = to r
 substituted_operand to (operands.Number n) = operands.Number n

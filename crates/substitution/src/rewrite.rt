@@ -7,8 +7,8 @@ ghost use Rattle.substitution.specs.Room.{HasRoom};
 use ir_core::{Inst, Operand, Register};
 use lists::List;
 
-/// In the place of one instruction, the root, others stand, and wherever its register was read an operand is. Both name the
-/// registers of the new function.
+/// In the place of one instruction, the root, others stand, and wherever its register was read an operand is. Both name
+/// the registers of the new function.
 #[derive(Drop)]
 pub struct Rewrite {
     /// The root's block.
@@ -17,7 +17,8 @@ pub struct Rewrite {
     pub place: u32,
     /// The instructions that stand in its place, in order.
     pub put: List<Inst>,
-    /// What stands for its register. Where the root keeps that, `put` ends with its new instruction, of which this is the register.
+    /// What stands for its register. Where the root keeps that, `put` ends with its new instruction, of which this is
+    /// the register.
     pub result: Operand,
 }
 

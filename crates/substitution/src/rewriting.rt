@@ -61,7 +61,8 @@ fn put_in_block(alloc: Global, block: &mut Block, place: usize, put: List<Inst>,
     block.insts = with_put(insts, place, put, room);
 }
 
-/// The blocks with the instructions that are put in the root's place. It takes no memory: there is room for those of the root's block.
+/// The blocks with the instructions that are put in the root's place. It takes no memory: there is room for those of
+/// the root's block.
 fn blocks_with_put(
     alloc: Global,
     rewrite: Rewrite,
@@ -91,11 +92,11 @@ fn blocks_with_put(
     List::from_vec(blocks)
 }
 
-/// Rewrites a function: other instructions stand in the place of one, the root, and what stands for a register is read in its place,
-/// in unreached blocks, phis and terminators too.
+/// Rewrites a function: other instructions stand in the place of one, the root, and what stands for a register is read
+/// in its place, in unreached blocks, phis and terminators too.
 ///
-/// It takes its memory before it changes the function, which stays as it was where that is refused. It takes as many steps as the
-/// function is long, since the places behind the root change.
+/// It takes its memory before it changes the function, which stays as it was where that is refused. It takes as many
+/// steps as the function is long, since the places behind the root change.
 pub fn rewrite_function(alloc: Global, f: &mut Function, rewrite: Rewrite) -> Result<(), AllocError>
     requires root { HasInst f.old rewrite.block rewrite.place }
 

@@ -17,8 +17,8 @@ pub struct Uses {
     pub results: Vec<List<usize>>,
 }
 
-/// The number that a table has for a register, and 0 where it has none. Where the table is exact for a function, that is
-/// how many of its operands name the register. It takes no memory.
+/// The number that a table has for a register, and 0 where it has none. Where the table is exact for a function, that
+/// is how many of its operands name the register. It takes no memory.
 pub fn uses_of(uses: &Uses, register: Register) -> usize
     ensures number { result ≡ count_of uses.now register }
     ensures count { (f : Function) → AreCounts f uses.now → IsUseCount f register result }

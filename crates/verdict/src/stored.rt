@@ -28,8 +28,8 @@ impl StoredLogs {
         }
     }
 
-    /// Stores the log of a pair, in place of the one that was stored for it. Where memory is refused, the log is dropped, and what was
-    /// stored stays.
+    /// Stores the log of a pair, in place of the one that was stored for it. Where memory is refused, the log is
+    /// dropped, and what was stored stays.
     pub fn insert(
         &mut self,
         alloc: Global,

@@ -12,8 +12,8 @@ pub enum Verdict {
     Admitted,
     /// The example is a counterexample, and the source has no `undef` and no freeze.
     Refuted(Example),
-    /// The example is a counterexample by what the rule's `Wit:` gives for the `undef`s and the freeze of its source. Another number
-    /// might do.
+    /// The example is a counterexample by what the rule's `Wit:` gives for the `undef`s and the freeze of its source.
+    /// Another number might do.
     WitnessFails(Example),
     /// The search gave up at its limit, over a setting of more than 12 bits.
     Budget(Tried),

@@ -18,12 +18,12 @@ impl<'a> Cursor<'a> {
     /// The next token of a module, behind blanks, line feeds and comments, and goes behind it. It is the longest that
     /// begins where it does.
     ///
-    /// The error is a byte there that may not stand outside comments and quotes, or a quoted text that is the token or part
-    /// of it and holds a byte 0, written or escaped; the place stays.
+    /// The error is a byte there that may not stand outside comments and quotes, or a quoted text that is the token or
+    /// part of it and holds a byte 0, written or escaped; the place stays.
     ///
-    /// A call looks at the gap, and at the run or the rest of the line behind it a few times. So a text is gone through in
-    /// time linear in its length, except for runs that are no token: each `Other` of `---` costs what is left of the run,
-    /// since a `:` behind it would make it a label.
+    /// A call looks at the gap, and at the run or the rest of the line behind it a few times. So a text is gone through
+    /// in time linear in its length, except for runs that are no token: each `Other` of `---` costs what is left of the
+    /// run, since a `:` behind it would make it a label.
     pub fn next_token(&mut self) -> Result<Token, BadByte>
         ensures text { self.new.text ≡ self.old.text }
         ensures token { IfOk result (IsNextToken self.old.text self.old.at) }
@@ -48,8 +48,9 @@ impl<'a> Cursor<'a> {
         })
     }
 
-    /// The rest of the line, with its comment and without the blanks at its end, and goes to the end of the line, before the
-    /// line feed. Every byte may stand in it. Where nothing but blanks is there the span is empty and begins at the place.
+    /// The rest of the line, with its comment and without the blanks at its end, and goes to the end of the line,
+    /// before the line feed. Every byte may stand in it. Where nothing but blanks is there the span is empty and begins
+    /// at the place.
     pub fn take_line(&mut self) -> Span
         ensures text { self.new.text ≡ self.old.text }
         ensures line { IsKeptLine self.old.text self.old.at result }
@@ -62,8 +63,8 @@ impl<'a> Cursor<'a> {
         Span { start, end }
     }
 
-    /// The bytes up to and with the `)` that closes a `(` before the place, and goes behind them. Brackets in quoted texts
-    /// don't count, a `;` begins no comment, and every byte but a line feed may stand there.
+    /// The bytes up to and with the `)` that closes a `(` before the place, and goes behind them. Brackets in quoted
+    /// texts don't count, a `;` begins no comment, and every byte but a line feed may stand there.
     ///
     /// None where no `)` on the line closes it; the place stays.
     pub fn take_group(&mut self) -> Option<Span>

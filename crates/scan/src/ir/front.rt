@@ -23,8 +23,8 @@ fn longer(first: (TokenKind, usize), second: (TokenKind, usize)) -> (TokenKind, 
     if first.1 < second.1 { second } else { first }
 }
 
-/// The longest label, word or number that a text begins with whose first byte is one of names, of 0 bytes where it begins with
-/// none. It is as long as the longest name, but for the `:` of a label.
+/// The longest label, word or number that a text begins with whose first byte is one of names, of 0 bytes where it
+/// begins with none. It is as long as the longest name, but for the `:` of a label.
 fn plain_token(text: &[u8]) -> (TokenKind, usize)
     requires { begins_with bytes.is_name_byte text.now ≡ true }
     ensures longest { IsLongestFront text.now result.0 result.1 }
@@ -40,7 +40,8 @@ fn plain_token(text: &[u8]) -> (TokenKind, usize)
     }
 }
 
-/// The longest label or quoted text that a text begins with whose first byte is a quote, of 0 bytes where it begins with none.
+/// The longest label or quoted text that a text begins with whose first byte is a quote, of 0 bytes where it begins
+/// with none.
 fn quoted_token(text: &[u8]) -> (TokenKind, usize)
     requires { begins_with (λ b. b == 34) text.now ≡ true }
     ensures { IsLongestFront text.now result.0 result.1 }
@@ -51,8 +52,8 @@ fn quoted_token(text: &[u8]) -> (TokenKind, usize)
     )
 }
 
-/// The longest token that a text begins with whose first byte is neither one of names nor a quote, of 0 bytes where it begins
-/// with none.
+/// The longest token that a text begins with whose first byte is neither one of names nor a quote, of 0 bytes where it
+/// begins with none.
 fn marked_token(text: &[u8]) -> (TokenKind, usize)
     requires no_name { begins_with bytes.is_name_byte text.now ≡ false }
     requires no_quote { begins_with (λ b. b == 34) text.now ≡ false }
@@ -96,8 +97,8 @@ fn has_early_quote(text: &[u8]) -> bool
     }
 }
 
-/// The longest token that the text begins with, of 0 bytes where it begins with none; none where the first byte may not stand,
-/// or quotes of the token hold a byte 0.
+/// The longest token that the text begins with, of 0 bytes where it begins with none; none where the first byte may not
+/// stand, or quotes of the token hold a byte 0.
 fn longest_token(text: &[u8]) -> Option<(TokenKind, usize)>
     ensures bad { IfNone result (BeginsBadly text.now) }
     ensures good { OnSome result (begins_with bytes.is_bad text.now ≡ false) }
@@ -118,8 +119,8 @@ fn longest_token(text: &[u8]) -> Option<(TokenKind, usize)>
     }
 }
 
-/// What the text begins with, and how many bytes it has; none where the first byte may not stand, or quotes of the token hold
-/// a byte 0.
+/// What the text begins with, and how many bytes it has; none where the first byte may not stand, or quotes of the
+/// token hold a byte 0.
 pub(crate) fn front(text: &[u8]) -> Option<(TokenKind, usize)>
     requires { begins_with in_gap text.now ≡ false }
     ensures bad { IfNone result (BeginsBadly text.now) }

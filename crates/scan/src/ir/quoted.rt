@@ -41,7 +41,8 @@ fn hex_digit(byte: u8) -> Option<u8>
     }
 }
 
-/// The byte that two hexadecimal digits spell at the front, and what is behind them; none where the text doesn't begin so.
+/// The byte that two hexadecimal digits spell at the front, and what is behind them; none where the text doesn't begin
+/// so.
 fn hex_byte(text: &[u8]) -> Option<(u8, &[u8])>
     ensures some { IfSome result (λ x. (b : ℕ) × (c : ℕ) × (quoted.is_hex b ≡ true) × (quoted.is_hex c ≡ true)
         × (text.now ≡ b ∷ c ∷ x.1.now) × (x.0 ≡ 16 * quoted.hex_value b + quoted.hex_value c)) }

@@ -2,7 +2,8 @@
 
 use crate::span::Span;
 
-/// What kind of token stands in a module. The names and the literals are those of the language reference, "Identifiers".
+/// What kind of token stands in a module. The names and the literals are those of the language reference,
+/// "Identifiers".
 #[derive(Clone, Copy, Debug, PartialEq, Eq)]
 pub enum TokenKind {
     /// The end of the text.

@@ -7,8 +7,8 @@ use Rattle.clauses.specs.ClauseSet.{clauses_with}
 use Rattle.rup_checker.proofs.UsedLemmas.{UsedAreUnit}
 use Rattle.rup_checker.proofs.hints.hints_refute.Given as goal
 
--- The table represents a state in which each marked clause has a unit literal that is held, and the hints refute the one
--- at the start exactly where those to come refute it. Only literals of marked clauses were held, which hints name.
+-- The table represents a state in which each marked clause has a unit literal that is held, and the hints refute the
+-- one at the start exactly where those to come refute it. Only literals of marked clauses were held, which hints name.
 abbrev pub invariant-loop-number : goal.invariant-loop-number
 invariant-loop-number l =
     record {
