@@ -133,10 +133,36 @@ fn by_stages<C: Circuit>(
 {
     let mut word = List::from_vec(Vec::from_slice(alloc, a)?);
     for (i, bit) in amount.iter().enumerate() {
-        let further = moved_by(alloc, direction, word.as_slice(), 1 << i, fill)?;
-        word = select(alloc, c, *bit, further.as_slice(), word.as_slice())?;
+        word = moved_where(alloc, c, direction, word.as_slice(), 1 << i, *bit, fill)?;
     }
     Ok(word)
+}
+
+/// One stage: the word moved by a distance where `bit` is true, and else as it is.
+fn moved_where<C: Circuit>(
+    alloc: Global,
+    c: &mut C,
+    direction: Direction,
+    word: &[C::Literal],
+    distance: usize,
+    bit: C::Literal,
+    fill: C::Literal,
+) -> Result<Bits<C::Literal>, AllocError>
+    requires distance { distance ≤ length word.now }
+    requires own_word { All (C.has_literal c.old) word.now }
+    requires own_bit { C.has_literal c.old bit }
+    requires own_fill { C.has_literal c.old fill }
+    ensures own { IfOk result (All (C.has_literal c.new)) }
+    ensures width { IfOk result (λ made. length made ≡ length word.now) }
+    ensures values { IfOk result (λ made. (inputs : Seq Bool) → C.admits c.old inputs →
+        map (C.value c.new inputs) made
+        ≡ (if C.value c.old inputs bit
+        then moved direction (C.value c.old inputs fill) distance (map (C.value c.old inputs) word.now)
+        else map (C.value c.old inputs) word.now)) }
+    ensures adds { Adds C.State c.old c.new (select_gates (length word.now)) }
+{
+    let further = moved_by(alloc, direction, word, distance, fill)?;
+    select(alloc, c, bit, further.as_slice(), word)
 }
 
 /// The word, or `fill` at each of its places where some literal of another word is true.
