@@ -186,29 +186,34 @@ impl Slots {
 
     /// The binding that the slots are filled with, if all of them are.
     pub(crate) fn binding(
-        self,
+        &self,
         alloc: Global,
         block: u32,
         place: u32,
     ) -> Result<Option<Binding>, AllocError>
-        ensures filled { IfOk result (λ found. (m : Binding) → m.block ≡ block → m.place ≡ place → IsFilledAs self m → found ≡ Some m) }
+        ensures filled { IfOk result (λ found. (m : Binding) → m.block ≡ block → m.place ≡ place → IsFilledAs self.now m → found ≡ Some m) }
         ensures place { IfOk result (λ found. IfSome found (λ binding. (binding.block ≡ block) × (binding.place ≡ place))) }
     {
-        let statements = filled(alloc, &self.statements)?;
-        let inputs = filled(alloc, &self.inputs)?;
-        let constants = filled(alloc, &self.constants)?;
-        let widths = filled(alloc, &self.widths)?;
-        match (statements, inputs, constants, widths) {
-            (Some(statements), Some(inputs), Some(constants), Some(typing)) => Ok(Some(Binding {
-                block,
-                place,
-                statements,
-                inputs,
-                constants,
-                typing,
-            })),
-            _ => Ok(None),
-        }
+        let Some(statements) = filled(alloc, &self.statements)? else {
+            return Ok(None);
+        };
+        let Some(inputs) = filled(alloc, &self.inputs)? else {
+            return Ok(None);
+        };
+        let Some(constants) = filled(alloc, &self.constants)? else {
+            return Ok(None);
+        };
+        let Some(typing) = filled(alloc, &self.widths)? else {
+            return Ok(None);
+        };
+        Ok(Some(Binding {
+            block,
+            place,
+            statements,
+            inputs,
+            constants,
+            typing,
+        }))
     }
 }
 

@@ -1,7 +1,8 @@
 //! The steps that are kept, as a log of their own.
 
-ghost use Rattle.std.specs.Prelude.{◌≡◌, ◌≤◌, length, All, Contains, IfOk};
+ghost use Rattle.std.specs.Prelude.{◌≡◌, ◌≤◌, ◌++◌, ◌∷◌, [], length, All, Contains, IfOk, OnOk};
 ghost use Rattle.clauses.specs.ClauseSet.{clauses_of_steps};
+ghost use Rattle.clauses.specs.declared.step.Step.{Step as Anew};
 
 use clauses::{Clause, Log, Step};
 use lists::List;
@@ -34,7 +35,7 @@ pub(crate) fn renumbered(
         let Some(old) = log.get(step.place) else {
             return Ok(steps);
         };
-        steps.push(step_anew(alloc, old, &step.hints, &numbers, first)?)?;
+        push_anew(alloc, old, &step.hints, &numbers, first, &mut steps)?;
         if let Some(number) = numbers.get_mut(step.place) {
             *number = next;
         }
@@ -43,20 +44,20 @@ pub(crate) fn renumbered(
     Ok(steps)
 }
 
-/// The step with these hints in place of its own, numbered anew.
-fn step_anew(
+/// Puts a step behind others, with these hints in place of its own, numbered anew.
+fn push_anew(
     alloc: Global,
     old: &Step,
     hints: &[u32],
     numbers: &[u32],
     first: u32,
-) -> Result<Step, AllocError>
-    ensures clause { IfOk result (λ step. step.clause ≡ old.now.clause) }
+    steps: &mut Log,
+) -> Result<(), AllocError>
+    ensures { OnOk result ((step : Anew) × (step.clause ≡ old.now.clause) × (steps.new ≡ steps.old ++ step ∷ [])) }
 {
-    Ok(Step {
-        clause: Clause::from_slice(alloc, old.clause.as_slice())?,
-        hints: numbered_anew(alloc, hints, numbers, first)?,
-    })
+    let clause = Clause::from_slice(alloc, old.clause.as_slice())?;
+    let hints = numbered_anew(alloc, hints, numbers, first)?;
+    steps.push(Step { clause, hints })
 }
 
 /// The hints by the numbers that clauses have now: those below `first` are the set's, and stay.

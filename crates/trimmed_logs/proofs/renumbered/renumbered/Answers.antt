@@ -1,4 +1,4 @@
-use Rattle.std.proofs.Common.{◌≡◌, [], ◌∷◌, ◌++◌, length, refl, sym, ◌∙◌, subst, arith, length-append}
+use Rattle.std.proofs.Common.{[], ◌∷◌, length, refl, sym, subst, arith, length-append}
 use Rattle.std.specs.Prelude.{Contains}
 use Rattle.std.proofs.lemmas.List.Elements.{All-push}
 use Rattle.std.proofs.lemmas.Option.{slice_get_read}
@@ -12,14 +12,12 @@ loop-step-preserved c =
     let log = c.args.log.now in
     let old = c.in-Some.old.now in
     let steps = c.loop-step.steps in
-    let step : Step = c.in_ok-step_anew.field-0 in
-    let copied : old.clause ≡ step.clause = sym c.in_ok-step_anew.ensures.clause in
+    let (step, same, pushed) = c.in_ok-push_anew.ensures in
     let found = c.in-Some.ensures.lookup in
-    let pushed : c.push.new.self ≡ steps ++ step ∷ [] = c.in_ok-push.ensures.ok in
     rw pushed record {
       few = omega (arith, length-append steps (step ∷ []), c.loop-step.invariant.few);
       of_log =
           All-push (λ (s : Step). Contains (clauses_of_steps log) s.clause) steps step c.loop-step.invariant.of_log
-          (subst (Contains (clauses_of_steps log)) copied
+          (subst (Contains (clauses_of_steps log)) (sym same)
           (clause_stands log c.step-item.result.place old (slice_get_read log (length log) c.step-item.result.place old refl found.3.0 (found.3.1 old))));
     }
