@@ -31,7 +31,7 @@ last_value value items h at =
     (held_value value h, rw place (slice_get-map (held_value value) items (length items - 1) ∙ ap (option_map (held_value value)) at), refl)
 
 -- the last statement of some
-last_statement : (statements : List Statement) → 0 < length statements → (s : Statement) × (slice_get statements (length statements - 1) ≡ Some s) × (s ≡ get_or statements (length statements - 1) s)
+pub last_statement : (statements : List Statement) → 0 < length statements → (s : Statement) × (slice_get statements (length statements - 1) ≡ Some s) × (s ≡ get_or statements (length statements - 1) s)
 last_statement [] some = absurd (omega arith)
 last_statement (d ∷ rest) some =
     let s = get_or (d ∷ rest) (length (d ∷ rest) - 1) d in

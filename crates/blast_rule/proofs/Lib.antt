@@ -13,3 +13,4 @@ pub mod Chosen
 pub mod Joined
 pub mod Sharing
 pub mod Whole
+pub mod Refusals

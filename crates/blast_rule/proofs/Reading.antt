@@ -19,13 +19,12 @@ use Rattle.rule_core.specs.Readiness.{OperandIsReady}
 use Rattle.rule_core.specs.Terms.{number_or_zero, value_at}
 use Rattle.circuits.specs.Word.{number_of}
 use Rattle.blast_value.specs.declared.held.Held.{Held}
-use Rattle.blast_value.specs.Effect.{held_value, IsOwn}
+use Rattle.blast_value.specs.Effect.{held_value}
 use Rattle.blast_term.specs.declared.scope.Scope.{Scope}
-use Rattle.blast_term.specs.Scope.{held_at, seen, ScopeIsOwn}
+use Rattle.blast_term.specs.Scope.{held_at, seen}
 use Rattle.blast_rule.specs.Runs.{shape, shapes, word_shape, given_shape, IsGiven}
 use Rattle.blast_value.specs.Words.{word_value}
 use Rattle.blast_value.specs.Words.{number_held}
-use Rattle.blast_term.proofs.Turns.{own_from_get}
 
 module _ {L : Type 0} (r : Scope L) where
   value_of-seen : (value : L → Bool) (reg : Register) → value_of (seen value r) reg ≡ option_map (held_value value) (held_at r reg)
@@ -37,11 +36,6 @@ module _ {L : Type 0} (r : Scope L) where
   value_of-shapes (registers.Input k) = slice_get-map shape r.inputs.now k
   value_of-shapes (registers.Source k) = slice_get-map shape r.source.now k
   value_of-shapes (registers.Target k) = slice_get-map shape r.target.now k
-
-  pub held_at-own : (has_literal : L → Type 0) (reg : Register) (held : Held L) → ScopeIsOwn has_literal r → held_at r reg ≡ Some held → IsOwn has_literal held
-  held_at-own has_literal (registers.Input k) held own at = own_from_get (IsOwn has_literal) r.inputs.now k held own.inputs at
-  held_at-own has_literal (registers.Source k) held own at = own_from_get (IsOwn has_literal) r.source.now k held own.source at
-  held_at-own has_literal (registers.Target k) held own at = own_from_get (IsOwn has_literal) r.target.now k held own.target at
 
   option_shape : (o : Option (Held L)) (v : Value) → option_map shape o ≡ Some v → (held : Held L) × (o ≡ Some held) × (shape held ≡ v)
   option_shape None v is = cc

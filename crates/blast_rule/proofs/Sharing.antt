@@ -1,26 +1,46 @@
 -- How many gates the parts of a rule's halves have together.
-use Rattle.std.proofs.Common.{◌≡◌, ℕ, ◌+◌, ◌-◌, ◌<◌, ◌≤◌, List, length, ap, ◌∙◌, arith, get_or}
+use Rattle.std.proofs.Common.{◌≡◌, ℕ, ◌+◌, ◌-◌, ◌<◌, ◌≤◌, List, length, Some, refl, sym, ap, ◌∙◌, arith, get_or}
+use Rattle.std.specs.Prelude.{slice_get}
 use Rattle.std.proofs.lemmas.List.Sums.{sum_by_push}
+use Rattle.std.proofs.lemmas.Option.{slice_get-get_or}
 use Rattle.rule_core.specs.declared.rule.Rule.{Rule}
 use Rattle.rule_core.specs.declared.rule.Statement.{Statement}
 use Rattle.rule_core.specs.Run.{temporaries_of}
-use Rattle.blast_rule.specs.Gates.{run_gates, statement_gates}
-use Rattle.blast_rule.proofs.Effects.{parts}
+use Rattle.blast_rule.specs.Gates.{run_gates, statement_gates, root_gates}
+use Rattle.blast_rule.proofs.Effects.{parts, last_statement}
 
 -- the source's are those of its temporaries and of the root's statement
 pub source_gates : (rule : Rule) (typing : List ℕ) (root : Statement) → 0 < length rule.source → root ≡ get_or rule.source (length rule.source - 1) root
     → run_gates typing rule.source ≡ run_gates typing (temporaries_of rule) + statement_gates typing root
 source_gates rule typing root some is = ap (λ xs. run_gates typing xs) (parts rule root some is) ∙ sum_by_push (statement_gates typing) (temporaries_of rule) root
 
--- the gates of what was built first are no more than all: those of `Wit:`, the temporaries, the root, the target, and one
-pub early : (witness temporaries source target : ℕ) → temporaries ≤ source → temporaries + witness ≤ witness + (source + target + 1)
-early witness temporaries source target fewer = omega arith
+pub root_gates-are : (rule : Rule) (typing : List ℕ) (root : Statement) → 0 < length rule.source → root ≡ get_or rule.source (length rule.source - 1) root → root_gates rule typing ≡ statement_gates typing root
+root_gates-are rule typing root some is =
+    let at : slice_get rule.source (length rule.source - 1) ≡ Some root = slice_get-get_or rule.source (length rule.source - 1) root (omega arith) ∙ ap (λ (s : Statement). Some s) (sym is) in
+    rw at refl
 
-pub middle : (witness temporaries root source target : ℕ) → source ≡ temporaries + root → temporaries + witness + root ≤ witness + (source + target + 1)
-middle witness temporaries root source target is = omega arith
+pub source_shared : (rule : Rule) (typing : List ℕ) → 0 < length rule.source → run_gates typing rule.source ≡ run_gates typing (temporaries_of rule) + root_gates rule typing
+source_shared rule typing some =
+    let root = last_statement rule.source some in
+    source_gates rule typing root.0 some root.2 ∙ ap (λ n. run_gates typing (temporaries_of rule) + n) (sym (root_gates-are rule typing root.0 some root.2))
 
-pub late : (witness temporaries root source target : ℕ) → source ≡ temporaries + root → temporaries + witness + root + target ≤ witness + (source + target + 1)
-late witness temporaries root source target is = omega arith
+-- The gates of what was built first are no more than all:
+-- the temporaries', before those of `Wit:`, the root, the target, and one;
+pub first : (witness temporaries root source target : ℕ) → source ≡ temporaries + root → temporaries ≤ witness + (source + target + 1)
+first witness temporaries root source target is = omega arith
 
-pub whole : (witness temporaries root source target : ℕ) → source ≡ temporaries + root → temporaries + witness + root + target + 1 ≤ witness + (source + target + 1)
-whole witness temporaries root source target is = omega arith
+pub all : (witness temporaries root source target : ℕ) → source ≡ temporaries + root → temporaries + (witness + root + target + 1) ≤ witness + (source + target + 1)
+all witness temporaries root source target is = omega arith
+
+-- and, after the temporaries, those of `Wit:`, of it and the root, and of these and the target
+pub early : (witness root target : ℕ) → witness ≤ witness + root + target + 1
+early witness root target = omega arith
+
+pub middle : (witness root here target : ℕ) → root ≡ here → witness + here ≤ witness + root + target + 1
+middle witness root here target is = omega arith
+
+pub late : (witness root here target : ℕ) → root ≡ here → witness + here + target ≤ witness + root + target + 1
+late witness root here target is = omega arith
+
+pub whole : (witness root here target : ℕ) → root ≡ here → witness + here + target + 1 ≤ witness + root + target + 1
+whole witness root here target is = omega arith

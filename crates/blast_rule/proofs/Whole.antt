@@ -1,6 +1,6 @@
 -- The circuit of a rule as a whole.
-use Rattle.std.proofs.Common.{◌≡◌, ℕ, ◌↔◌, ◌+◌, ◌≤◌, Bool, true, false, ◌&&◌, List, map, refl, sym, subst, ◌∙◌, arith}
-use Rattle.std.specs.Prelude.{IsTrue}
+use Rattle.std.proofs.Common.{◌≡◌, ℕ, ◌↔◌, ◌+◌, ◌≤◌, Bool, true, false, ◌&&◌, List, map, Result, Ok, Err, refl, sym, subst, ◌∙◌, arith}
+use Rattle.std.specs.Prelude.{IsTrue, OnOk}
 use Rattle.std.specs.List.{All}
 use Rattle.ops.specs.Number.{Number}
 use Rattle.ops.specs.Value.{AllowsEffect}
@@ -19,7 +19,7 @@ use Rattle.blast_rule.specs.Parts.{Refutes}
 use Rattle.blast_value.specs.Words.{number_held}
 use Rattle.blast_value.proofs.Kept.{numbers_held-kept, effect_of-kept}
 
-falsity : IsTrue false → ⊥
+pub falsity : IsTrue false → ⊥
 falsity h = cc
 
 both : (a b : Bool) → IsTrue (a && b) → IsTrue a × IsTrue b
@@ -30,19 +30,28 @@ and_true : (a b : Bool) → IsTrue a → IsTrue b → IsTrue (a && b)
 and_true true b first second = second
 and_true false b first second = absurd (falsity first)
 
+-- a literal that is true where another is and where something holds
+pub true_where : (P : Type 0) (met met' holds b : Bool) → met' ≡ met → (IsTrue holds ↔ P) → b ≡ (met' && holds) → IsTrue b ↔ (IsTrue met × P)
+true_where P met met' holds b kept is same = (
+  λ h. let parts = both met' holds (subst IsTrue same h) in (subst IsTrue kept parts.0, is.0 parts.1),
+  λ h. subst IsTrue (sym same) (and_true met' holds (subst IsTrue (sym kept) h.0) (is.1 h.1)),
+)
+
 -- a literal that is true exactly where the precondition holds and one effect refuses the other is true exactly at a counterexample
-pub refutes : RulesHaveOneOutcome → (rule : Rule) (typing : List ℕ) (setting : Setting) (choices : List Number) (source target : Effect) (met refused b : Bool) → IsRule rule → IsTyping rule typing → SettingFits rule typing setting
-    → HaveEffects rule typing setting choices source target → (IsTrue met ↔ PreconditionHolds rule typing setting.constants) → (IsTrue refused ↔ ¬ AllowsEffect source target) → b ≡ (met && refused) → IsTrue b ↔ Refutes rule typing setting
-refutes one rule typing setting choices source target met refused b checked typed fits have holds is same = (
+pub refutes : RulesHaveOneOutcome → (rule : Rule) (typing : List ℕ) (setting : Setting) (choices : List Number) (source target : Effect) (met b : Bool) → IsRule rule → IsTyping rule typing → SettingFits rule typing setting
+    → HaveEffects rule typing setting choices source target → (IsTrue met ↔ PreconditionHolds rule typing setting.constants) → (IsTrue b ↔ (IsTrue met × ¬ AllowsEffect source target)) → IsTrue b ↔ Refutes rule typing setting
+refutes one rule typing setting choices source target met b checked typed fits have holds is = (
   λ h.
-      let parts = both met refused (subst IsTrue same h) in
-      (choices, source, target, record { counts = record { fits = fits; precondition = holds.0 parts.0 }; effects = have; refused = is.0 parts.1 }),
+      let parts = is.0 h in
+      (choices, source, target, record { counts = record { fits = fits; precondition = holds.0 parts.0 }; effects = have; refused = parts.1 }),
   λ (ch, s, t, counter).
       let o = one rule typing setting checked typed fits in
       let here = o.4 choices source target have in
       let there = o.4 ch s t counter.effects in
-      subst IsTrue (sym same) (and_true met refused (holds.1 counter.counts.precondition)
-      (is.1 (λ allowed. counter.refused (subst (λ e. AllowsEffect e t) (here.0 ∙ sym there.0) (subst (AllowsEffect source) (here.1 ∙ sym there.1) allowed))))),
+      is.1 (
+        holds.1 counter.counts.precondition,
+        λ allowed. counter.refused (subst (λ e. AllowsEffect e t) (here.0 ∙ sym there.0) (subst (AllowsEffect source) (here.1 ∙ sym there.1) allowed)),
+      ),
 )
 
 module _ {C L : Type 0} {state : Ghosts C L} {old new : C} (keeps : Keeps state old new) where
@@ -53,18 +62,21 @@ module _ {C L : Type 0} {state : Ghosts C L} {old new : C} (keeps : Keeps state 
   effects-kept read admitted rule typing setting choices source target own own_source own_target have =
       rw (numbers_held-kept keeps read admitted choices own, effect_of-kept keeps read admitted source own_source, effect_of-kept keeps read admitted target own_target) have
 
--- gates that were added after inputs were made are no more than all
-pub gates_within : (old one now most total : ℕ) → one ≡ old → now ≤ one + most → most ≤ total → now ≤ old + total
-gates_within old one now most total same added fewer = omega arith
+-- what holds in any case holds of what is returned
+pub OnOk-always : {T E : Type 0} (r : Result T E) (P : Type 0) → P → OnOk r P
+OnOk-always (Ok made) P holds = holds
+OnOk-always (Err e) P holds = tt
 
+-- gates that were added after inputs were made are no more than all
+pub gates_within : (old one now total : ℕ) → one ≡ old → now ≤ one + total → now ≤ old + total
+gates_within old one now total same added = omega arith
+
+-- the gates of the first parts are no more than all
 pub first_within : (given witness halves refusal : ℕ) → given ≤ given + witness + halves + refusal + 1
 first_within given witness halves refusal = omega arith
 
 pub second_within : (given witness halves refusal : ℕ) → given + (witness + halves) ≤ given + witness + halves + refusal + 1
 second_within given witness halves refusal = omega arith
 
-pub third_within : (given witness halves refusal : ℕ) → given + (witness + halves) + refusal ≤ given + witness + halves + refusal + 1
+pub third_within : (given witness halves refusal : ℕ) → given + (witness + halves) + (refusal + 1) ≤ given + witness + halves + refusal + 1
 third_within given witness halves refusal = omega arith
-
-pub fourth_within : (given witness halves refusal : ℕ) → given + (witness + halves) + refusal + 1 ≤ given + witness + halves + refusal + 1
-fourth_within given witness halves refusal = omega arith

@@ -31,6 +31,10 @@ statement_gates typing s = op_gates typing (slice_index typing s.class) s.op + 1
 abbrev pub run_gates : List ℕ → List Statement → ℕ
 run_gates typing statements = sum_by (statement_gates typing) statements
 
+-- the root's statement, the last of the source
+abbrev pub root_gates : Rule → List ℕ → ℕ
+root_gates rule typing = option_map_or (statement_gates typing) (slice_get rule.source (length rule.source - 1)) 0
+
 -- whether one effect of iN allows another: whether their numbers are equal, and four for poison and undefined behaviour
 abbrev pub refusal_gates : ℕ → ℕ
 refusal_gates N = equality_gates N + 4

@@ -11,6 +11,7 @@ use Rattle.rule_core.specs.declared.rule.Operand.{Operand}
 use Rattle.rule_core.specs.Terms.{constant_values, number_or_zero}
 use Rattle.rule_core.specs.Run.{Ending, Undefines, Holds, Given, OperandGives, Follows, temporaries_of, holding_source, holding_target}
 use Rattle.rule_core.specs.Run as run
+use Rattle.rule_core.specs.Valid.{Setting}
 use Rattle.blast_value.specs.declared.held.Held.{Held}
 use Rattle.blast_value.specs.declared.instruction.Instruction.{Instruction}
 use Rattle.blast_value.specs.declared.instruction.Instruction.TheVariants as instructions
@@ -24,6 +25,15 @@ pub record IsGiven {L : Type 0} (value : L → Bool) (s : Scope L) (given : Give
   pub constants : given.constants ≡ map (number_held value) s.constants.now
   pub choices : given.choices ≡ map (number_held value) s.choices.now
   pub terms : map number_or_zero given.terms ≡ map (number_of value) s.terms.now
+
+-- the setting that the literals stand for, of which the choices are the target's
+abbrev pub setting_seen : {L : Type 0} → (L → Bool) → Scope L → Setting
+setting_seen value s =
+    record {
+      inputs = map (held_value value) s.inputs.now;
+      constants = map (number_held value) s.constants.now;
+      target_choices = map (number_held value) s.choices.now;
+    }
 
 -- a number of the width of a word: whether a statement can read what it reads goes by widths
 abbrev pub word_shape : {L : Type 0} → List L → Number

@@ -5,11 +5,15 @@ ghost use Rattle.ops.specs.declared.value.Effect.TheVariants.{Undefined};
 ghost use Rattle.circuits.specs.Circuit.{Adds};
 ghost use Rattle.rule_core.specs.Checks.{IsRule};
 ghost use Rattle.rule_core.specs.Typing.{IsTyping};
+ghost use Rattle.rule_core.specs.Run.{given_by};
 ghost use Rattle.rule_core.specs.Valid.{Setting, HaveEffects};
-ghost use Rattle.blast_value.specs.Effect.{effect_of, IsOwnEffect};
-ghost use Rattle.blast_rule.specs.Gates.{witness_gates, halves_gates, root_width, widths_of_terms};
+ghost use Rattle.rule_core.specs.Readiness.{ValuesFit};
+ghost use Rattle.blast_value.specs.Effect.{effect_of, widths_of, IsOwnEffect};
+ghost use Rattle.blast_rule.specs.Gates.{witness_gates, halves_gates, run_gates, root_gates, root_width, widths_of_terms};
+ghost use Rattle.blast_setting.specs.Inputs.{input_widths, constant_widths, choice_widths};
 ghost use Rattle.blast_setting.specs.SettingBits.{setting_held, SettingIsOwn, HasWidths};
-ghost use Rattle.blast_rule.specs.Runs.{AreTerms};
+ghost use Rattle.blast_rule.specs.Runs.{shape, setting_seen, AreTerms, TemporariesRan};
+ghost use Rattle.blast_term.specs.Scope.{ScopeIsOwn};
 ghost use Rattle.blast_value.specs.Words.{number_held};
 
 use crate::statement::blast_next;
@@ -69,15 +73,53 @@ pub(crate) fn blast_halves<C: Circuit>(
         choices: setting.target_choices.as_slice(),
         ..start
     };
+    after_temporaries(alloc, c, rule, typing, before, temporaries.undefined)
+}
+
+/// The same after the source's temporaries, which `before` holds, and of which one has undefined behaviour where the literal is true.
+fn after_temporaries<C: Circuit>(
+    alloc: Global,
+    c: &mut C,
+    rule: &Rule,
+    typing: &[Width],
+    before: Scope<C::Literal>,
+    undefined: C::Literal,
+) -> Result<Halves<C::Literal>, AllocError>
+    requires rule { IsRule rule.now }
+    requires typing { IsTyping rule.now typing.now }
+    requires inputs { widths_of before.inputs.now ≡ input_widths rule.now typing.now }
+    requires constants { map length before.constants.now ≡ constant_widths rule.now typing.now }
+    requires choices { map length before.choices.now ≡ choice_widths rule.now typing.now }
+    requires terms { map length before.terms.now ≡ widths_of_terms rule.now typing.now }
+    requires target { before.target.now ≡ [] }
+    requires source { ValuesFit typing.now rule.now.source (map shape before.source.now) }
+    requires count { length before.source.now + 1 ≡ length rule.now.source }
+    requires own { ScopeIsOwn (C.has_literal c.old) before }
+    requires own_undefined { C.has_literal c.old undefined }
+    ensures effects { IfOk result (λ made. (inputs : Seq Bool) (at : Setting) → C.admits c.old inputs →
+        setting_seen (C.value c.old inputs) before.entry ≡ at →
+        AreTerms (C.value c.old inputs) rule.now typing.now at.constants before.entry.terms.now →
+        TemporariesRan (C.value c.old inputs) rule.now typing.now (given_by typing.now at.constants [] rule.now)
+        before.entry.inputs.now before.entry.source.now undefined →
+        HaveEffects rule.now typing.now at (map (number_held (C.value c.new inputs)) made.choices)
+        (effect_of (C.value c.new inputs) made.source) (effect_of (C.value c.new inputs) made.target)) }
+    ensures source_width { IfOk result (λ made. length made.source.bits ≡ root_width rule.now typing.now) }
+    ensures target_width { IfOk result (λ made. length made.target.bits ≡ root_width rule.now typing.now) }
+    ensures own_choices { IfOk result (λ made. All (All (C.has_literal c.new)) made.choices) }
+    ensures own_source { IfOk result (λ made. IsOwnEffect (C.has_literal c.new) made.source) }
+    ensures own_target { IfOk result (λ made. IsOwnEffect (C.has_literal c.new) made.target) }
+    ensures adds { Adds C.State c.old c.new
+        (witness_gates rule.now typing.now + root_gates rule.now typing.now + run_gates typing.now rule.now.target + 1) }
+{
     let choices = blast_witness(alloc, c, rule, typing, before)?;
     let chosen = Scope {
         choices: choices.as_slice(),
         ..before
     };
     let root = &rule.source.as_slice()[rule.source.len() - 1];
-    let source = blast_next(alloc, c, typing, chosen, root, temporaries.undefined)?;
+    let source = blast_next(alloc, c, typing, chosen, root, undefined)?;
     let target = blast_target(alloc, c, rule, typing, before)?;
-    let target = after(alloc, c, temporaries.undefined, target)?;
+    let target = after(alloc, c, undefined, target)?;
     Ok(Halves {
         choices,
         source,

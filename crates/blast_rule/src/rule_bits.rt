@@ -1,11 +1,12 @@
 //! The circuit of a rule.
 ghost use Rattle.std.specs.Prelude.{◌≡◌, ◌+◌, ◌≤◌, ◌↔◌, Bool, List as Seq, IsTrue, map, drop, IfOk, OnOk};
-ghost use Rattle.circuits.specs.Circuit.{Keeps};
+ghost use Rattle.circuits.specs.Circuit.{Adds, Keeps};
 ghost use Rattle.rule_core.specs.Checks.{IsRule};
 ghost use Rattle.rule_core.specs.Typing.{IsTyping};
-ghost use Rattle.rule_core.specs.Valid.{HaveEffects};
+ghost use Rattle.rule_core.specs.Valid.{SettingFits, HaveEffects};
 ghost use Rattle.blast_value.specs.Effect.{effect_of};
 ghost use Rattle.blast_setting.specs.Inputs.{input_bits};
+ghost use Rattle.blast_setting.specs.SettingBits.{setting_held, SettingIsOwn, HasWidths};
 ghost use Rattle.blast_setting.specs.Settings.{setting_of};
 ghost use Rattle.blast_rule.specs.Gates.{most_gates, root_width};
 ghost use Rattle.blast_rule.specs.Parts.{Refutes, AreOwn, HaveWidth};
@@ -13,11 +14,12 @@ ghost use Rattle.blast_value.specs.Words.{number_held};
 
 use crate::given::blast_given;
 use crate::halves::blast_halves;
-use crate::refusal::refusal;
-use blast_setting::make_setting;
+use crate::refusal::refusal_where;
+use blast_setting::{SettingBits, make_setting};
 use blast_value::Blasted;
 use circuits::{Bits, Circuit};
 use lists::List;
+use ops::Width;
 use rule_core::{Rule, Typing};
 use std::alloc::{AllocError, Global};
 
@@ -63,13 +65,39 @@ pub fn blast_rule<C: Circuit>(
     ensures gates { C.gates_made c.new ≤ C.gates_made c.old + most_gates rule.now typing.now }
     ensures keeps { Keeps C.State c.old c.new }
 {
-    rule_core::every_rule_has_one_outcome();
     let typing = typing.as_slice();
     let setting = make_setting(alloc, c, rule, typing)?;
+    blast_at(alloc, c, rule, typing, &setting)
+}
+
+/// The circuit of a rule at a setting.
+fn blast_at<C: Circuit>(
+    alloc: Global,
+    c: &mut C,
+    rule: &Rule,
+    typing: &[Width],
+    setting: &SettingBits<C::Literal>,
+) -> Result<RuleBits<C::Literal>, AllocError>
+    requires rule { IsRule rule.now }
+    requires typing { IsTyping rule.now typing.now }
+    requires widths { HasWidths rule.now typing.now setting.now }
+    requires own { SettingIsOwn (C.has_literal c.old) setting.now }
+    ensures bad { IfOk result (λ made. (inputs : Seq Bool) → C.admits c.old inputs →
+        SettingFits rule.now typing.now (setting_held (C.value c.old inputs) setting.now) →
+        IsTrue (C.value c.new inputs made.bad)
+        ↔ Refutes rule.now typing.now (setting_held (C.value c.old inputs) setting.now)) }
+    ensures effects { IfOk result (λ made. (inputs : Seq Bool) → C.admits c.old inputs →
+        HaveEffects rule.now typing.now (setting_held (C.value c.old inputs) setting.now)
+        (map (number_held (C.value c.new inputs)) made.choices)
+        (effect_of (C.value c.new inputs) made.source) (effect_of (C.value c.new inputs) made.target)) }
+    ensures width { IfOk result (HaveWidth (root_width rule.now typing.now)) }
+    ensures own { IfOk result (AreOwn (C.has_literal c.new)) }
+    ensures adds { Adds C.State c.old c.new (most_gates rule.now typing.now) }
+{
+    rule_core::every_rule_has_one_outcome();
     let given = blast_given(alloc, c, rule, typing, setting.constants.as_slice())?;
-    let halves = blast_halves(alloc, c, rule, typing, &setting, given.terms.as_slice())?;
-    let refused = refusal(alloc, c, &halves.source, &halves.target)?;
-    let bad = c.and(alloc, given.met, refused)?;
+    let halves = blast_halves(alloc, c, rule, typing, setting, given.terms.as_slice())?;
+    let bad = refusal_where(alloc, c, given.met, &halves.source, &halves.target)?;
     Ok(RuleBits {
         bad,
         choices: halves.choices,

@@ -1,7 +1,8 @@
 //! Powers of two: whether exactly one bit is set, and which.
-ghost use Rattle.std.specs.Prelude.{◌≡◌, ◌^◌, ◌≤◌, Bool, if◌then◌else◌, List as Seq, Some, None, length, IfOk};
+ghost use Rattle.std.specs.Prelude.{◌≡◌, ◌^◌, ◌<◌, ◌≤◌, Bool, if◌then◌else◌, List as Seq, Some, None, length, IfOk};
 ghost use Rattle.std.specs.List.{All};
 ghost use Rattle.circuits.specs.Circuit.{Adds};
+ghost use Rattle.circuits.specs.Gates.{select_gates};
 ghost use Rattle.circuits.specs.Word.{number_of};
 ghost use Rattle.rule_core.specs.Terms.{exponent};
 ghost use Rattle.blast_term.specs.Gates.{power_gates};
@@ -43,9 +44,10 @@ pub(crate) fn blast_exponent<C: Circuit>(
     let width = word.len();
     let found = place(alloc, c, word.as_slice(), width.min(PLACE_BITS))?;
     let zero = c.zero();
+    let bits = extend(alloc, c, &found.bits, width, zero)?;
     Ok(Exponent {
         exists: found.exists,
-        bits: extend(alloc, c, &found.bits, width, zero)?,
+        bits,
     })
 }
 
@@ -73,10 +75,32 @@ fn place<C: Circuit>(
     let mut bits = constant(alloc, c, 0, width)?;
     for i in 0..word.len() {
         let bit = word[i];
-        let here = constant(alloc, c, i as u64, width)?;
-        bits = select(alloc, c, bit, here.as_slice(), bits.as_slice())?;
+        bits = place_where(alloc, c, bit, i as u64, &bits)?;
         one = c.mux(alloc, bit, none, one)?;
         none = c.and(alloc, none, c.not(bit))?;
     }
     Ok(Exponent { exists: one, bits })
+}
+
+/// The bits of the place where the literal is true, and else these.
+fn place_where<C: Circuit>(
+    alloc: Global,
+    c: &mut C,
+    here: C::Literal,
+    place: u64,
+    bits: &Bits<C::Literal>,
+) -> Result<Bits<C::Literal>, AllocError>
+    requires fits { place < 2 ^ length bits.now }
+    requires own_here { C.has_literal c.old here }
+    requires own { All (C.has_literal c.old) bits.now }
+    ensures number { IfOk result (λ made. (inputs : Seq Bool) → C.admits c.old inputs →
+        number_of (C.value c.new inputs) made
+        ≡ (if C.value c.old inputs here then place else number_of (C.value c.old inputs) bits.now)) }
+    ensures width { IfOk result (λ made. length made ≡ length bits.now) }
+    ensures own { IfOk result (All (C.has_literal c.new)) }
+    ensures adds { Adds C.State c.old c.new
+        (select_gates (length bits.now)) }
+{
+    let places = constant(alloc, c, place, bits.len())?;
+    select(alloc, c, here, places.as_slice(), bits.as_slice())
 }

@@ -1,13 +1,15 @@
 use Rattle.std.proofs.Common.{◌≡◌, [], map, refl, ap, ◌∙◌, arith}
+use Rattle.std.specs.List.{All}
 use Rattle.circuits.proofs.Kept.{Adds-trans, Adds-weaken}
 use Rattle.rule_core.specs.Terms.{of_constants, number_or_zero, constant_values}
-use Rattle.blast_value.specs.Effect.{held_value, widths_of}
+use Rattle.blast_value.specs.Effect.{held_value, widths_of, IsOwn}
 use Rattle.blast_term.specs.declared.scope.Scope.{Scope}
 use Rattle.blast_rule.specs.Gates.{widths_of_terms}
 use Rattle.blast_value.specs.Words.{number_held}
-use Rattle.blast_value.proofs.Kept.{numbers_of-kept, values-kept}
+use Rattle.blast_value.proofs.Kept.{AllAll-kept, AllOwn-kept, numbers_of-kept, values-kept}
 use Rattle.blast_term.proofs.Preconditions.{precondition_holds, nothing_held}
 use Rattle.blast_rule.proofs.Ready.{constant_terms_held, precondition_held}
+use Rattle.blast_rule.proofs.Runs.{own_none}
 use Rattle.blast_rule.proofs.given.blast_given.Goals as goal
 
 pub blast_terms-requires-clause-ready : goal.blast_terms-requires-clause-ready
@@ -22,10 +24,31 @@ blast_terms-requires-clause-ready g c =
     } in
     rw c.as_slice.ensures (constant_terms_held c.args.rule.now c.args.typing.now c.requires.rule c.requires.typing scope c.requires.widths)
 
+pub blast_terms-requires-clause-own : goal.blast_terms-requires-clause-own
+blast_terms-requires-clause-own g c =
+    let has_literal = g.C.State.has_literal c.args.c.now in record {
+      inputs = own_none (IsOwn has_literal);
+      source = own_none (IsOwn has_literal);
+      target = own_none (IsOwn has_literal);
+      constants = c.requires.own;
+      choices = own_none (All has_literal);
+      terms = own_none (All has_literal);
+    }
+
+pub numbers_or_zeros-requires : goal.numbers_or_zeros-requires
+numbers_or_zeros-requires g c = rw c.deref.ensures.value c.in_ok-values.ensures.own
+
+pub blast_precondition-requires-clause-own : goal.blast_precondition-requires-clause-own
+blast_precondition-requires-clause-own g c =
+    rw c.deref-2.ensures.value (AllOwn-kept c.numbers_or_zeros.ensures.adds.keeps c.in_ok-values.values.items c.in_ok-values.ensures.own)
+
 pub blast_precondition-requires-clause-ready : goal.blast_precondition-requires-clause-ready
 blast_precondition-requires-clause-ready g c =
     let widths : widths_of c.in_ok-values.values.items ≡ widths_of_terms c.args.rule.now c.args.typing.now = rw c.as_slice.ensures at c.in_ok-values.ensures.widths in
     rw (c.deref-2.ensures.value, c.as_slice-2.ensures, widths) (precondition_held c.args.rule.now c.args.typing.now c.requires.rule c.requires.typing)
+
+pub returns-in_err-values-clause-adds : goal.returns-in_err-values-clause-adds
+returns-in_err-values-clause-adds g c = Adds-weaken (rw c.as_slice.ensures at c.blast_terms.ensures.adds) (omega arith)
 
 pub returns-in_err-terms-clause-adds : goal.returns-in_err-terms-clause-adds
 returns-in_err-terms-clause-adds g c =
@@ -72,3 +95,14 @@ returns-clause-adds g c =
     let widths : widths_of c.in_ok-values.values.items ≡ widths_of_terms c.args.rule.now c.args.typing.now = rw c.as_slice.ensures at c.in_ok-values.ensures.widths in
     let first = Adds-trans (rw c.as_slice.ensures at c.blast_terms.ensures.adds) (rw (c.deref.ensures.value, widths) at c.numbers_or_zeros.ensures.adds) in
     Adds-weaken (Adds-trans first (rw (c.deref-2.ensures.value, c.as_slice-2.ensures, widths) at c.blast_precondition.ensures.adds)) (omega arith)
+
+pub returns-clause-widths : goal.returns-clause-widths
+returns-clause-widths g c =
+    let widths : widths_of c.in_ok-values.values.items ≡ widths_of_terms c.args.rule.now c.args.typing.now = rw c.as_slice.ensures at c.in_ok-values.ensures.widths in
+    rw c.from_vec.ensures (rw c.deref.ensures.value at c.in_ok-terms.ensures.widths ∙ widths)
+
+pub returns-clause-own_terms : goal.returns-clause-own_terms
+returns-clause-own_terms g c = rw c.from_vec.ensures (AllAll-kept c.blast_precondition.ensures.adds.keeps c.in_ok-terms.terms.items c.in_ok-terms.ensures.own)
+
+pub returns-clause-own_met : goal.returns-clause-own_met
+returns-clause-own_met g c = c.in_ok-met.ensures.own

@@ -6,7 +6,8 @@ use mir.Syntax.{w128}
 use Rattle.std.proofs.lemmas.Result.{IfOk-weaker}
 use Rattle.std.proofs.lemmas.Option.{slice_get_within, same_Some}
 use Rattle.blast_value.specs.Effect.{IsOwn}
-use Rattle.blast_rule.proofs.Reading.{register_ready, register_gives, held_at-own, width_told, literal_gives, truth_gives, digit-below, is_some, some_bits, constant_at, choice_at, term_at, constant_gives, choice_gives, term_gives}
+use Rattle.blast_term.proofs.Nodes.{register_own}
+use Rattle.blast_rule.proofs.Reading.{register_ready, register_gives, width_told, literal_gives, truth_gives, digit-below, is_some, some_bits, constant_at, choice_at, term_at, constant_gives, choice_gives, term_gives}
 use Rattle.blast_term.proofs.Turns.{own_from_get}
 use Rattle.blast_term.specs.Scope.{seen}
 use Rattle.blast_rule.proofs.operand.operand_held.Goals as goal
@@ -34,7 +35,7 @@ returns-in-Register-clause-width g c =
 
 pub returns-in-Register-clause-own : goal.returns-in-Register-clause-own
 returns-in-Register-clause-own g c =
-    let own = held_at-own c.args.scope (g.C.State.has_literal c.args.c.now) c.in-Register.register c.register_held.result.now c.requires.own c.register_held.ensures in
+    let own = register_own (g.C.State.has_literal c.args.c.now) c.args.scope c.in-Register.register c.register_held.result.now c.requires.own c.register_held.ensures in
     IfOk-weaker c.copied.result _ _ (λ held same. subst (IsOwn (g.C.State.has_literal c.args.c.now)) (sym same) own) c.copied.ensures
 
 pub number-requires-in-Truth : goal.number-requires-in-Truth

@@ -1,14 +1,16 @@
-use Rattle.std.proofs.Common.{◌<◌, ◌+◌, length, map, ap, ◌∙◌, arith}
-use Rattle.std.proofs.lemmas.List.{length-map, length_push}
+use Rattle.std.proofs.Common.{◌≡◌, ◌<◌, ◌+◌, [], length, map, take, refl, ap, subst, ◌∙◌, arith}
+use Rattle.std.proofs.lemmas.List.{length-map, length_push, take_all}
 use Rattle.std.proofs.lemmas.List.Elements.{All-push}
-use Rattle.circuits.proofs.Kept.{Adds-trans, Adds-weaken}
-use Rattle.rule_core.proofs.Ready.{target_next}
+use Rattle.circuits.proofs.Kept.{Adds-none, Adds-trans, Adds-weaken}
+use Rattle.rule_core.specs.Run.{Follows, holding_target}
+use Rattle.rule_core.proofs.Ready.{ValuesFit-none, target_next}
 use Rattle.blast_value.specs.Effect.{IsOwn}
-use Rattle.blast_rule.specs.Runs.{shape, given_shape}
+use Rattle.blast_rule.specs.Runs.{shape, given_shape, ending}
 use Rattle.blast_value.proofs.Kept.{AllOwn-kept}
+use Rattle.blast_term.specs.Scope.{holds}
 use Rattle.blast_term.proofs.Kept.{scope_own-kept}
 use Rattle.blast_rule.proofs.Kept.{given-kept}
-use Rattle.blast_rule.proofs.Runs.{run_gates-more, run_gates-within, shapes_fit-push, stands, target_more, held_after}
+use Rattle.blast_rule.proofs.Runs.{run_gates-more, run_gates-within, shapes_fit-push, stands, own_none, target_more, held_after}
 use Rattle.blast_rule.proofs.target.blast_statements.Goals as goal
 
 pub blast_next-requires-clause-ready : goal.blast_next-requires-clause-ready
@@ -29,6 +31,19 @@ blast_next-requires-clause-own g c =
       choices = own.choices;
       terms = own.terms;
     }
+
+pub blast_next-requires-clause-own_undefined : goal.blast_next-requires-clause-own_undefined
+blast_next-requires-clause-own_undefined g c = c.loop-statement.invariant.own_undefined
+
+pub loop-statement-init : goal.loop-statement-init
+loop-statement-init g c = rw c.new-held.ensures.items record {
+  ran = λ read given admitted is_given. rw (c.zero-undefined.ensures.value read admitted) refl;
+  count = refl;
+  fit = ValuesFit-none c.args.typing.now c.args.rule.now.target;
+  own = own_none (IsOwn (g.C.State.has_literal c.args.c.now));
+  own_undefined = c.zero-undefined.ensures.own;
+  adds = Adds-none;
+}
 
 pub returns-in_err-made-clause-adds : goal.returns-in_err-made-clause-adds
 returns-in_err-made-clause-adds g c =
@@ -69,3 +84,28 @@ loop-statement-preserved g c =
       own_undefined = c.in_ok-made.ensures.own.undefined;
       adds = Adds-weaken (Adds-trans before.adds c.blast_next.ensures.adds) (omega (arith, run_gates-more c.args.typing.now target c.loop-statement.statement-index c.statement-item.result within is));
     }
+
+pub returns-clause-ran : goal.returns-clause-ran
+returns-clause-ran g c = λ inputs given admitted is_given.
+    let now = g.C.State.value c.loop-statement.c inputs in
+    let target = c.args.rule.now.target in
+    let scope = c.args.scope in
+    subst (λ statements. Follows c.args.typing.now given holding_target statements (holds now scope.inputs.now scope.source.now []) (ending (now c.loop-statement.undefined) (holds now scope.inputs.now scope.source.now c.loop-statement.held.items)))
+    (take_all c.loop-statement.statement-index target (omega (arith, c.loop-statement-test.false, ap length c.as_slice-statement-items.ensures)))
+    (c.loop-statement.invariant.ran inputs given admitted is_given)
+
+pub returns-clause-fit : goal.returns-clause-fit
+returns-clause-fit g c = c.loop-statement.invariant.fit
+
+pub returns-clause-own : goal.returns-clause-own
+returns-clause-own g c = c.loop-statement.invariant.own
+
+pub returns-clause-own_undefined : goal.returns-clause-own_undefined
+returns-clause-own_undefined g c = c.loop-statement.invariant.own_undefined
+
+pub returns-clause-adds : goal.returns-clause-adds
+returns-clause-adds g c =
+    let target = c.args.rule.now.target in
+    let whole : take c.loop-statement.statement-index target ≡ target =
+    take_all c.loop-statement.statement-index target (omega (arith, c.loop-statement-test.false, ap length c.as_slice-statement-items.ensures)) in
+    rw whole at c.loop-statement.invariant.adds

@@ -1,13 +1,14 @@
-use Rattle.std.proofs.Common.{◌<◌, ◌-◌, ◌+◌, length, map, ap, ◌∙◌, arith}
+use Rattle.std.proofs.Common.{◌≡◌, ◌<◌, ◌-◌, ◌+◌, [], length, map, take, refl, ap, subst, ◌∙◌, arith}
 use Rattle.std.proofs.lemmas.List.{length-map, length_push}
 use Rattle.std.proofs.lemmas.List.Elements.{All-push}
-use Rattle.circuits.proofs.Kept.{Adds-trans, Adds-weaken}
-use Rattle.rule_core.specs.Run.{temporaries_of}
-use Rattle.rule_core.proofs.Ready.{source_next}
+use Rattle.circuits.proofs.Kept.{Adds-none, Adds-trans, Adds-weaken}
+use Rattle.rule_core.specs.Run.{Follows, holding_source, temporaries_of}
+use Rattle.rule_core.proofs.Ready.{ValuesFit-none, source_next}
 use Rattle.rule_core.proofs.Givens.{Contains-take}
 use Rattle.blast_value.specs.Effect.{IsOwn}
-use Rattle.blast_rule.specs.Runs.{shape, given_shape}
+use Rattle.blast_rule.specs.Runs.{shape, given_shape, ending}
 use Rattle.blast_value.proofs.Kept.{AllOwn-kept}
+use Rattle.blast_term.specs.Scope.{holds}
 use Rattle.blast_term.proofs.Kept.{scope_own-kept}
 use Rattle.blast_rule.proofs.Kept.{given-kept}
 use Rattle.blast_rule.proofs.Runs.{run_gates-more, run_gates-fewer, shapes_fit-push, stands, own_none, source_more, held_after}
@@ -32,6 +33,19 @@ blast_next-requires-clause-own g c =
       choices = own.choices;
       terms = own.terms;
     }
+
+pub blast_next-requires-clause-own_undefined : goal.blast_next-requires-clause-own_undefined
+blast_next-requires-clause-own_undefined g c = c.loop-place.invariant.own_undefined
+
+pub loop-place-init : goal.loop-place-init
+loop-place-init g c = rw c.new-held.ensures.items record {
+  ran = λ read given admitted is_given. rw (c.zero-undefined.ensures.value read admitted) refl;
+  count = refl;
+  fit = ValuesFit-none c.args.typing.now c.args.rule.now.source;
+  own = own_none (IsOwn (g.C.State.has_literal c.args.c.now));
+  own_undefined = c.zero-undefined.ensures.own;
+  adds = Adds-none;
+}
 
 pub returns-in_err-made-clause-adds : goal.returns-in_err-made-clause-adds
 returns-in_err-made-clause-adds g c =
@@ -71,3 +85,26 @@ loop-place-preserved g c =
       own_undefined = c.in_ok-made.ensures.own.undefined;
       adds = Adds-weaken (Adds-trans before.adds c.blast_next.ensures.adds) (omega (arith, run_gates-more c.args.typing.now source c.loop-place.place c.index-as_slice-place.result within is));
     }
+
+pub returns-clause-ran : goal.returns-clause-ran
+returns-clause-ran g c = λ inputs given admitted is_given.
+    let now = g.C.State.value c.loop-place.c inputs in
+    let source = c.args.rule.now.source in
+    let before = c.args.scope.inputs.now in
+    let last : c.loop-place.place ≡ length source - 1 = omega arith in
+    subst (λ n. Follows c.args.typing.now given holding_source (take n source) (holds now before [] []) (ending (now c.loop-place.undefined) (holds now before c.loop-place.held.items []))) last
+    (c.loop-place.invariant.ran inputs given admitted is_given)
+
+pub returns-clause-fit : goal.returns-clause-fit
+returns-clause-fit g c = c.loop-place.invariant.fit
+
+pub returns-clause-own : goal.returns-clause-own
+returns-clause-own g c = c.loop-place.invariant.own
+
+pub returns-clause-own_undefined : goal.returns-clause-own_undefined
+returns-clause-own_undefined g c = c.loop-place.invariant.own_undefined
+
+pub returns-clause-adds : goal.returns-clause-adds
+returns-clause-adds g c =
+    let last : c.loop-place.place ≡ length c.args.rule.now.source - 1 = omega arith in
+    rw last at c.loop-place.invariant.adds

@@ -1,13 +1,13 @@
-use Rattle.std.proofs.Common.{◌≡◌, ℕ, get_or, List, Some, ◌+◌, ◌<◌, ◌∷◌, [], length, map, sym, ap, ◌∙◌, arith}
+use Rattle.std.proofs.Common.{◌≡◌, ℕ, get_or, List, Some, ◌+◌, ◌<◌, ◌∷◌, [], length, map, take, refl, sym, ap, ◌∙◌, arith}
 use Rattle.std.specs.Prelude.{slice_get}
-use Rattle.std.proofs.lemmas.List.{map-append, length_push}
+use Rattle.std.proofs.lemmas.List.{map-append, length_push, take_all}
 use Rattle.std.proofs.lemmas.Option.{slice_get-get_or, get_or_from_slice_get}
 use Rattle.ops.specs.declared.comparison.Pred.TheVariants.{Eq}
 use Rattle.rule_core.specs.declared.rule.Formula.{Formula}
 use Rattle.rule_core.specs.declared.rule.Formula.TheVariants as formulas
 use Rattle.std.proofs.lemmas.List.Elements.{All-push}
-use Rattle.circuits.proofs.Kept.{Adds-trans, Adds-weaken, All-kept, map-kept}
-use Rattle.rule_core.specs.Terms.{formula_holds}
+use Rattle.circuits.proofs.Kept.{Adds-none, Adds-trans, Adds-weaken, All-kept, map-kept}
+use Rattle.rule_core.specs.Terms.{formula_holds, truths_of}
 use Rattle.rule_core.proofs.Turns.{in_turn-step}
 use Rattle.blast_value.specs.Effect.{held_value, widths_of}
 use Rattle.blast_term.specs.Gates.{formula_gates}
@@ -71,3 +71,24 @@ loop-formula-preserved g c =
       own = All-push (m.has_literal c.blast_formula.new.c) items truth (All-kept keeps items before.own) c.in_ok-truth.ensures.own;
       adds = Adds-weaken (Adds-trans before.adds c.blast_formula.ensures.adds) (omega (arith, sum-more (formula_gates (widths_of c.args.terms.now)) c.args.formulas.now i (read c.args.formulas.now i) within (is_read c.args.formulas.now i within)));
     }
+
+pub loop-formula-init : goal.loop-formula-init
+loop-formula-init g c = rw c.new-truths.ensures.items record {
+  values = λ inputs admitted. refl;
+  count = refl;
+  own = λ k d within. absurd (omega arith);
+  adds = Adds-none;
+}
+
+pub returns-clause-values : goal.returns-clause-values
+returns-clause-values g c = λ inputs admitted.
+    c.loop-formula.invariant.values inputs admitted
+    ∙ ap (truths_of (map (held_value (g.C.State.value c.args.c.now inputs)) c.args.terms.now)) (take_all c.loop-formula.formula-index c.args.formulas.now c.loop-formula-test.false)
+
+pub returns-clause-own : goal.returns-clause-own
+returns-clause-own g c = c.loop-formula.invariant.own
+
+pub returns-clause-adds : goal.returns-clause-adds
+returns-clause-adds g c =
+    let whole : take c.loop-formula.formula-index c.args.formulas.now ≡ c.args.formulas.now = take_all c.loop-formula.formula-index c.args.formulas.now c.loop-formula-test.false in
+    rw whole at c.loop-formula.invariant.adds

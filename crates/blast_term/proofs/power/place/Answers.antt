@@ -8,49 +8,49 @@ use Rattle.circuits.proofs.Kept.{Adds-refl, Adds-trans, Adds-weaken, Keeps-trans
 use Rattle.circuits.proofs.Words.{number-below, number-take_more}
 use Rattle.rule_core.specs.Terms.{exponent}
 use Rattle.blast_term.specs.Gates.{power_gates}
-use Rattle.blast_term.proofs.Powers.{scanned-none, scanned-more, scanned-exponent, number-if}
+use Rattle.blast_term.proofs.Powers.{scanned-none, scanned-more, scanned-exponent}
 use Rattle.blast_term.proofs.power.place.Goals as goal
 
 -- a turn that isn't finished
 turn_within : {C L : Type 0} {state : Ghosts C L} {start now next : C} {i n width : ℕ} → Adds state start now (8 * i) → Adds state now next n → i < width → n ≤ 8 → Adds state start next (power_gates width)
 turn_within before turn inside few = Adds-weaken (Adds-trans before turn) (omega arith)
 
+-- a place is below the powers that the places are
+place_fits : (i n width m : ℕ) → i < n → n ≤ 2 ^ width → m ≡ width → i < 2 ^ m
+place_fits i n width m inside enough is = rw is (omega arith)
+
 pub constant-requires : goal.constant-requires
 constant-requires g c = pow_pos c.args.width
 
-pub select-requires-clause-same_width : goal.select-requires-clause-same_width
-select-requires-clause-same_width g c =
-    rw (c.as_slice.ensures, c.as_slice-in-loop-i.ensures) (c.loop-i.invariant.4 ∙ sym c.in_ok-here.ensures.width)
+pub place_where-requires-clause-fits : goal.place_where-requires-clause-fits
+place_where-requires-clause-fits g c = place_fits c.loop-i.i (length c.args.word.now) c.args.width _ c.loop-i-test.true c.requires.enough c.loop-i.invariant.4
 
-pub select-requires-clause-own_condition : goal.select-requires-clause-own_condition
-select-requires-clause-own_condition g c =
+pub place_where-requires-clause-own_here : goal.place_where-requires-clause-own_here
+place_where-requires-clause-own_here g c =
     c.loop-i.invariant.0.keeps.literals c.index-word-i.result
     (own_at (g.C.State.has_literal c.args.c.now) c.args.word.now c.loop-i.i c.index-word-i.result c.requires.own c.loop-i-test.true c.index-word-i.is)
 
-pub select-requires-clause-own_yes : goal.select-requires-clause-own_yes
-select-requires-clause-own_yes g c = rw c.as_slice.ensures c.in_ok-here.ensures.own
-
-pub select-requires-clause-own_no : goal.select-requires-clause-own_no
-select-requires-clause-own_no g c = rw c.as_slice-in-loop-i.ensures c.loop-i.invariant.3
+pub place_where-requires-clause-own : goal.place_where-requires-clause-own
+place_where-requires-clause-own g c = c.loop-i.invariant.3
 
 pub mux-requires-clause-own_condition : goal.mux-requires-clause-own_condition
 mux-requires-clause-own_condition g c =
-    (Keeps-trans c.loop-i.invariant.0.keeps c.select.ensures.adds.keeps).literals c.index-word-i.result
+    (Keeps-trans c.loop-i.invariant.0.keeps c.place_where.ensures.adds.keeps).literals c.index-word-i.result
     (own_at (g.C.State.has_literal c.args.c.now) c.args.word.now c.loop-i.i c.index-word-i.result c.requires.own c.loop-i-test.true c.index-word-i.is)
 
 pub mux-requires-clause-own_yes : goal.mux-requires-clause-own_yes
-mux-requires-clause-own_yes g c = c.select.ensures.adds.keeps.literals c.loop-i.none c.loop-i.invariant.1
+mux-requires-clause-own_yes g c = c.place_where.ensures.adds.keeps.literals c.loop-i.none c.loop-i.invariant.1
 
 pub mux-requires-clause-own_no : goal.mux-requires-clause-own_no
-mux-requires-clause-own_no g c = c.select.ensures.adds.keeps.literals c.loop-i.one c.loop-i.invariant.2
+mux-requires-clause-own_no g c = c.place_where.ensures.adds.keeps.literals c.loop-i.one c.loop-i.invariant.2
 
 pub not-requires : goal.not-requires
 not-requires g c =
-    (Keeps-trans c.loop-i.invariant.0.keeps (Keeps-trans c.select.ensures.adds.keeps c.mux.ensures.adds.keeps)).literals c.index-word-i.result
+    (Keeps-trans c.loop-i.invariant.0.keeps (Keeps-trans c.place_where.ensures.adds.keeps c.mux.ensures.adds.keeps)).literals c.index-word-i.result
     (own_at (g.C.State.has_literal c.args.c.now) c.args.word.now c.loop-i.i c.index-word-i.result c.requires.own c.loop-i-test.true c.index-word-i.is)
 
 pub and-requires-clause-own_a : goal.and-requires-clause-own_a
-and-requires-clause-own_a g c = (Keeps-trans c.select.ensures.adds.keeps c.mux.ensures.adds.keeps).literals c.loop-i.none c.loop-i.invariant.1
+and-requires-clause-own_a g c = (Keeps-trans c.place_where.ensures.adds.keeps c.mux.ensures.adds.keeps).literals c.loop-i.none c.loop-i.invariant.1
 
 pub and-requires-clause-own_b : goal.and-requires-clause-own_b
 and-requires-clause-own_b g c = c.not.ensures.own
@@ -58,20 +58,17 @@ and-requires-clause-own_b g c = c.not.ensures.own
 pub returns-in_err-bits-clause-adds : goal.returns-in_err-bits-clause-adds
 returns-in_err-bits-clause-adds g c = Adds-weaken Adds-refl (omega arith)
 
-pub returns-in_err-here-clause-adds : goal.returns-in_err-here-clause-adds
-returns-in_err-here-clause-adds g c = let inside = c.loop-i-test.true in Adds-weaken c.loop-i.invariant.0 (omega arith)
-
 pub returns-in_err-bits-2-clause-adds : goal.returns-in_err-bits-2-clause-adds
 returns-in_err-bits-2-clause-adds g c =
-    turn_within c.loop-i.invariant.0 c.select.ensures.adds c.loop-i-test.true (omega (arith, ap length c.as_slice.ensures, c.in_ok-here.ensures.width, c.requires.few))
+    turn_within c.loop-i.invariant.0 c.place_where.ensures.adds c.loop-i-test.true (omega (arith, c.loop-i.invariant.4, c.requires.few))
 
 pub returns-in_err-one-clause-adds : goal.returns-in_err-one-clause-adds
 returns-in_err-one-clause-adds g c =
-    turn_within c.loop-i.invariant.0 (Adds-trans c.select.ensures.adds c.mux.ensures.adds) c.loop-i-test.true (omega (arith, ap length c.as_slice.ensures, c.in_ok-here.ensures.width, c.requires.few))
+    turn_within c.loop-i.invariant.0 (Adds-trans c.place_where.ensures.adds c.mux.ensures.adds) c.loop-i-test.true (omega (arith, c.loop-i.invariant.4, c.requires.few))
 
 pub returns-in_err-none-clause-adds : goal.returns-in_err-none-clause-adds
 returns-in_err-none-clause-adds g c =
-    turn_within c.loop-i.invariant.0 (Adds-trans c.select.ensures.adds (Adds-trans c.mux.ensures.adds c.and.ensures.adds)) c.loop-i-test.true (omega (arith, ap length c.as_slice.ensures, c.in_ok-here.ensures.width, c.requires.few))
+    turn_within c.loop-i.invariant.0 (Adds-trans c.place_where.ensures.adds (Adds-trans c.mux.ensures.adds c.and.ensures.adds)) c.loop-i-test.true (omega (arith, c.loop-i.invariant.4, c.requires.few))
 
 pub returns-clause-adds : goal.returns-clause-adds
 returns-clause-adds g c = let within = c.loop-i.auto.i-end in Adds-weaken c.loop-i.invariant.0 (omega arith)
@@ -93,18 +90,18 @@ loop-i-preserved g c =
     let i = c.loop-i.i in
     let bit = c.index-word-i.result in
     let k0 = before.0.keeps in
-    let k1 = c.select.ensures.adds.keeps in
+    let k1 = c.place_where.ensures.adds.keeps in
     let k2 = c.mux.ensures.adds.keeps in
     let k3 = c.and.ensures.adds.keeps in
     let inside : i < length c.args.word.now = c.loop-i-test.true in
     let own_bit = own_at (m.has_literal c.args.c.now) c.args.word.now i bit c.requires.own inside c.index-word-i.is in
     let own_loop = k0.literals bit own_bit in
-    let own_select = k1.literals bit own_loop in (
-      Adds-weaken (Adds-trans before.0 (Adds-trans c.select.ensures.adds (Adds-trans c.mux.ensures.adds c.and.ensures.adds))) (omega (arith, c.as_slice.ensures, ap length c.as_slice.ensures, c.in_ok-here.ensures.width, c.requires.few)),
+    let own_placed = k1.literals bit own_loop in (
+      Adds-weaken (Adds-trans before.0 (Adds-trans c.place_where.ensures.adds (Adds-trans c.mux.ensures.adds c.and.ensures.adds))) (omega (arith, before.4, c.requires.few)),
       c.in_ok-none.ensures.own,
       k3.literals c.in_ok-one.one c.in_ok-one.ensures.own,
       All-kept (Keeps-trans k2 k3) c.in_ok-bits-2.bits c.in_ok-bits-2.ensures.own,
-      c.in_ok-bits-2.ensures.width ∙ ap length c.as_slice.ensures ∙ c.in_ok-here.ensures.width,
+      c.in_ok-bits-2.ensures.width ∙ before.4,
       λ inputs admitted.
           let a0 = k0.admitted inputs admitted in
           let a1 = k1.admitted inputs a0 in
@@ -112,18 +109,16 @@ loop-i-preserved g c =
           let start = m.value c.args.c.now inputs in
           let at_loop = m.value c.loop-i.c inputs in
           let bit_loop : at_loop bit ≡ start bit = k0.values inputs bit admitted own_bit in
-          let bit_select : m.value c.select.new.c inputs bit ≡ start bit = k1.values inputs bit a0 own_loop ∙ bit_loop in
-          let bit_mux : m.value c.mux.new.self inputs bit ≡ start bit = k2.values inputs bit a1 own_select ∙ bit_select in
-          let none_select = k1.values inputs c.loop-i.none a0 before.1 in
-          let none_mux = k2.values inputs c.loop-i.none a1 (k1.literals c.loop-i.none before.1) ∙ none_select in
-          let one_select = k1.values inputs c.loop-i.one a0 before.2 in
+          let bit_placed : m.value c.place_where.new.c inputs bit ≡ start bit = k1.values inputs bit a0 own_loop ∙ bit_loop in
+          let bit_mux : m.value c.mux.new.self inputs bit ≡ start bit = k2.values inputs bit a1 own_placed ∙ bit_placed in
+          let none_placed = k1.values inputs c.loop-i.none a0 before.1 in
+          let none_mux = k2.values inputs c.loop-i.none a1 (k1.literals c.loop-i.none before.1) ∙ none_placed in
+          let one_placed = k1.values inputs c.loop-i.one a0 before.2 in
           let kept = map-kept (Keeps-trans k2 k3) inputs a1 c.in_ok-bits-2.bits c.in_ok-bits-2.ensures.own in
           let is_k : number_of (m.value c.and.new.self inputs) c.in_ok-bits-2.bits ≡ (if start bit then i else number_of at_loop c.loop-i.bits) =
-          ap number (kept ∙ rw (c.as_slice.ensures, c.as_slice-in-loop-i.ensures, bit_loop) at (c.in_ok-bits-2.ensures.values inputs a0))
-          ∙ number-if (start bit) (map at_loop c.in_ok-here.here) (map at_loop c.loop-i.bits)
-          ∙ ap (λ n. if start bit then n else number_of at_loop c.loop-i.bits) (c.in_ok-here.ensures.number inputs a0) in
+          ap number kept ∙ rw bit_loop at (c.in_ok-bits-2.ensures.number inputs a0) in
           let is_one : m.value c.and.new.self inputs c.in_ok-one.one ≡ (if start bit then at_loop c.loop-i.none else at_loop c.loop-i.one) =
-          k3.values inputs c.in_ok-one.one a2 c.in_ok-one.ensures.own ∙ rw (bit_select, none_select, one_select) at (c.in_ok-one.ensures.value inputs a1) in
+          k3.values inputs c.in_ok-one.one a2 c.in_ok-one.ensures.own ∙ rw (bit_placed, none_placed, one_placed) at (c.in_ok-one.ensures.value inputs a1) in
           let is_none : m.value c.and.new.self inputs c.in_ok-none.none ≡ (at_loop c.loop-i.none && not (start bit)) =
           rw (none_mux, c.not.ensures.value inputs a2, bit_mux) at (c.in_ok-none.ensures.value inputs a2) in
           let short : length (map start (take i c.args.word.now)) ≡ i = length-map (take i c.args.word.now) start ∙ omega (arith, length-take i c.args.word.now) in

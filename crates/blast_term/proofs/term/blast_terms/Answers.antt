@@ -1,17 +1,17 @@
-use Rattle.std.proofs.Common.{◌≡◌, ℕ, pos, get_or, List, ◌+◌, ◌<◌, ◌∷◌, [], Some, length, sym, subst, ◌∙◌, arith}
+use Rattle.std.proofs.Common.{◌≡◌, ℕ, pos, get_or, List, ◌+◌, ◌<◌, ◌∷◌, [], Some, length, take, refl, sym, ap, subst, ◌∙◌, arith}
 use Rattle.std.specs.Prelude.{slice_get, slice_index}
-use Rattle.std.proofs.lemmas.List.{map-append}
+use Rattle.std.proofs.lemmas.List.{map-append, take_all}
 use Rattle.std.proofs.lemmas.Option.{slice_get-get_or, get_or_from_slice_get}
 use Rattle.rule_core.specs.declared.rule.Node.TheVariants as nodes
 use Rattle.std.proofs.lemmas.List.Elements.{All-push}
-use Rattle.circuits.proofs.Kept.{Adds-trans, Adds-weaken}
+use Rattle.circuits.proofs.Kept.{Adds-none, Adds-trans, Adds-weaken}
 use Rattle.rule_core.specs.declared.rule.Term.{Term}
-use Rattle.rule_core.specs.Terms.{term_value}
+use Rattle.rule_core.specs.Terms.{term_value, values_of}
 use Rattle.rule_core.proofs.Turns.{in_turn-step}
 use Rattle.blast_value.specs.declared.held.Held.{Held}
 use Rattle.blast_value.specs.Effect.{held_value, IsOwn}
 use Rattle.blast_term.specs.Gates.{term_gates}
-use Rattle.blast_term.specs.Terms.{TermIsHeld}
+use Rattle.blast_term.specs.Terms.{TermIsHeld, term_widths}
 use Rattle.blast_value.proofs.Kept.{AllOwn-kept, values-kept}
 use Rattle.blast_term.proofs.Kept.{scope_own-kept, names-kept}
 use Rattle.blast_term.proofs.Turns.{sum-more, sum-fewer, map-more, take-map}
@@ -73,3 +73,26 @@ loop-term-preserved g c =
       own = All-push (IsOwn (m.has_literal c.blast_term.new.c)) items made (AllOwn-kept keeps items before.own) c.in_ok-made.ensures.own;
       adds = Adds-weaken (Adds-trans before.adds c.blast_term.ensures.adds) (omega (arith, sum-more (term_gates c.args.typing.now) c.args.terms.now i (read c.args.terms.now i) within (is_read c.args.terms.now i within)));
     }
+
+pub loop-term-init : goal.loop-term-init
+loop-term-init g c = rw c.new-held.ensures.items record {
+  values = λ inputs names admitted means. refl;
+  widths = refl;
+  own = λ k d within. absurd (omega arith);
+  adds = Adds-none;
+}
+
+pub returns-clause-values : goal.returns-clause-values
+returns-clause-values g c = λ inputs names admitted means.
+    c.loop-term.invariant.values inputs names admitted means ∙ ap (values_of c.args.typing.now names) (take_all c.loop-term.term-index c.args.terms.now c.loop-term-test.false)
+
+pub returns-clause-widths : goal.returns-clause-widths
+returns-clause-widths g c = c.loop-term.invariant.widths ∙ ap (term_widths c.args.typing.now) (take_all c.loop-term.term-index c.args.terms.now c.loop-term-test.false)
+
+pub returns-clause-own : goal.returns-clause-own
+returns-clause-own g c = c.loop-term.invariant.own
+
+pub returns-clause-adds : goal.returns-clause-adds
+returns-clause-adds g c =
+    let whole : take c.loop-term.term-index c.args.terms.now ≡ c.args.terms.now = take_all c.loop-term.term-index c.args.terms.now c.loop-term-test.false in
+    rw whole at c.loop-term.invariant.adds

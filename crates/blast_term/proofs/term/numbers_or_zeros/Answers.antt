@@ -1,12 +1,12 @@
-use Rattle.std.proofs.Common.{◌+◌, ◌<◌, ◌∷◌, [], length, map, take, sym, ap, ◌∙◌, arith}
+use Rattle.std.proofs.Common.{◌≡◌, ◌+◌, ◌<◌, ◌∷◌, [], length, map, take, refl, sym, ap, ◌∙◌, arith}
 use Rattle.std.specs.List.{All}
-use Rattle.std.proofs.lemmas.List.{map-append}
+use Rattle.std.proofs.lemmas.List.{map-append, take_all}
 use Rattle.std.proofs.lemmas.List.Elements.{All-push}
 use Rattle.circuits.specs.Word.{number_of}
-use Rattle.circuits.proofs.Kept.{Adds-trans, Adds-weaken, own_at}
+use Rattle.circuits.proofs.Kept.{Adds-none, Adds-trans, Adds-weaken, own_at}
 use Rattle.rule_core.specs.Terms.{number_or_zero}
 use Rattle.blast_value.specs.declared.held.Held.{Held}
-use Rattle.blast_value.specs.Effect.{held_value, IsOwn}
+use Rattle.blast_value.specs.Effect.{held_value, widths_of, IsOwn}
 use Rattle.blast_value.proofs.Kept.{AllAll-kept, numbers_of-kept, held_value-kept, IsOwn-kept}
 use Rattle.blast_term.proofs.Turns.{map-more, numbers_gates-more, numbers_gates-fewer}
 use Rattle.blast_term.proofs.term.numbers_or_zeros.Goals as goal
@@ -48,3 +48,27 @@ loop-value-preserved g c =
       own = All-push (All (m.has_literal c.number_or_zero.new.c)) words word (AllAll-kept keeps words before.own) c.in_ok-word.ensures.own;
       adds = Adds-weaken (Adds-trans before.adds c.number_or_zero.ensures.adds) (omega (arith, numbers_gates-more c.args.held.now i h within c.value-item.is));
     }
+
+pub loop-value-init : goal.loop-value-init
+loop-value-init g c = rw c.new-words.ensures.items record {
+  numbers = λ inputs admitted. refl;
+  widths = refl;
+  own = λ k d within. absurd (omega arith);
+  adds = Adds-none;
+}
+
+pub returns-clause-numbers : goal.returns-clause-numbers
+returns-clause-numbers g c = λ inputs admitted.
+    c.loop-value.invariant.numbers inputs admitted
+    ∙ ap (λ held. map number_or_zero (map (held_value (g.C.State.value c.args.c.now inputs)) held)) (take_all c.loop-value.value-index c.args.held.now c.loop-value-test.false)
+
+pub returns-clause-widths : goal.returns-clause-widths
+returns-clause-widths g c = c.loop-value.invariant.widths ∙ ap (λ held. widths_of held) (take_all c.loop-value.value-index c.args.held.now c.loop-value-test.false)
+
+pub returns-clause-own : goal.returns-clause-own
+returns-clause-own g c = c.loop-value.invariant.own
+
+pub returns-clause-adds : goal.returns-clause-adds
+returns-clause-adds g c =
+    let whole : take c.loop-value.value-index c.args.held.now ≡ c.args.held.now = take_all c.loop-value.value-index c.args.held.now c.loop-value-test.false in
+    rw whole at c.loop-value.invariant.adds
