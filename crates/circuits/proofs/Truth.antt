@@ -1,7 +1,15 @@
 -- Tables of truth values.
-use Rattle.std.proofs.Common.{◌≡◌, ◌+◌, ◌*◌, Bool, true, false, ◌&&◌, ◌||◌, arith}
-use Rattle.std.specs.Bool.{xor}
+use Rattle.std.proofs.Common.{◌≡◌, ◌+◌, ◌*◌, Bool, true, false, not, ◌&&◌, ◌||◌, refl, arith}
+use Rattle.std.specs.Bool.{xor, beq}
 use Rattle.circuits.specs.Word.{bit}
+
+-- two truth values differ exactly where one of them is true and not both
+pub not_beq : (a b : Bool) → not (beq a b) ≡ xor a b
+unfolding mathlib.Core.Bool.xor
+not_beq true true = refl
+not_beq true false = refl
+not_beq false true = refl
+not_beq false false = refl
 
 -- the full adder's table
 pub adder_total : (a b c : Bool) → bit (xor (xor a b) c) + 2 * bit ((a && b) || (c && xor a b)) ≡ bit a + bit b + bit c

@@ -57,6 +57,9 @@ module _ (old new : Draft) (b n : ℕ) (change : Inst → Inst) (whole : IsWhole
   abbrev place : Place
   place = record { block = b; number = n }
 
+  abbrev changed : Function
+  changed = with_block old.arena b (inst_changed n change)
+
   pub differs : DiffersAt old.arena new.arena place
   differs = subst (λ (f : Function). DiffersAt old.arena f place) (sym arena) (inst_differs old.arena (few_insts old whole) b n change block inst at here)
 

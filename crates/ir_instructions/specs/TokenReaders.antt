@@ -1,6 +1,6 @@
--- Reading the pieces of instructions from left to right: marks, words, registers, types, operands and attachments. Each
--- reader answers what it reads, or the fault of the first token that does not fit.
-use Rattle.std.specs.Prelude.{ℕ, ◌==◌, Bool, true, false, if◌then◌else◌, List, ◌∷◌, Option, None, Some, Result, Ok, Err}
+-- Reading the pieces of instructions from left to right: marks, words, registers, types, operands and attachments. Each reader answers
+-- what it reads, or the fault of the first token that does not fit.
+use Rattle.std.specs.Prelude.{ℕ, ◌==◌, Bool, true, false, if◌then◌else◌, List, ◌∷◌, Option, None, Some, Result, Ok, Err, codes}
 use Rattle.std.specs.Str.{bytes_eq}
 use Rattle.ops.specs.Number.{Number as Numeral}
 use Rattle.scan.specs.IrTokens.{is_plain_name}
@@ -12,12 +12,14 @@ use Rattle.ir_tokens.specs.declared.fault.IrFaultKind.TheVariants as misfits
 use Rattle.refusal.specs.declared.fault.Fault.{Fault}
 use Rattle.ir_tokens.specs.declared.fault.IrFaultKind.{IrFaultKind}
 use Rattle.ir_instructions.specs.declared.place.Place.TheVariants as places
+use Rattle.ir_tokens.specs.declared.raw.RawIdentifier.{RawIdentifier}
+use Rattle.ir_tokens.specs.declared.raw.TypedOperand.{TypedOperand}
 use Rattle.ir_tokens.specs.declared.raw.RawOperand.{RawOperand}
 use Rattle.ir_tokens.specs.declared.raw.RawValue.TheVariants as values
 use Rattle.ir_instructions.specs.declared.word.TypeWord.{TypeWord}
 use Rattle.ir_instructions.specs.declared.word.TypeWord.TheVariants as types
 use Rattle.ir_instructions.specs.Readers.{Reader, fault, unexpected, ◌>>=◌, done, given, or_left_out, repeat_at}
-use Rattle.ir_instructions.specs.Keywords.{type_in, value_in}
+use Rattle.ir_instructions.specs.Keywords.{type_in, truth_in, value_in}
 use Rattle.ir_instructions.specs.Punctuation as marks
 
 -- ---- what stands next
@@ -47,6 +49,24 @@ unfoldable pub mark_at : ℕ → Reader (Unit {0})
 mark_at wanted ((line, Mark mark) ∷ rest) = if mark == wanted then Ok (tt, rest) else Err (fault line Syntax)
 mark_at wanted tokens = Err (unexpected places.Fixed tokens)
 
+-- this word
+unfoldable pub keyword_at : List ℕ → Reader (Unit {0})
+keyword_at wanted ((line, Word word) ∷ rest) = if bytes_eq word wanted then Ok (tt, rest) else Err (fault line Syntax)
+keyword_at wanted tokens = Err (unexpected places.Fixed tokens)
+
+abbrev pub identified : ℕ → List ℕ → RawIdentifier
+identified line written = record { line = line; identifier = identifier_of written }
+
+unfoldable pub register_at : Reader RawIdentifier
+register_at ((line, Register written) ∷ rest) = Ok (identified line written, rest)
+register_at tokens = Err (unexpected places.Fixed tokens)
+
+-- `label` and a register
+unfoldable pub target_at : Reader RawIdentifier
+target_at = do
+  _ ← keyword_at (codes "label")
+  register_at
+
 -- a type
 abbrev pub type_word : ℕ → List ℕ → TypeWord → Reader ℕ
 type_word line word types.Other rest = Err (fault line (LeftOut word))
@@ -71,6 +91,19 @@ operand_at width ((line, Number digits) ∷ rest) = given (number_value line (co
 operand_at width ((line, Word word) ∷ rest) = (or_left_out line word (value_in word) >>= λ value. done (record { line = line; value = value })) rest
 operand_at width tokens = Err (unexpected places.Choice tokens)
 
+-- a value of a case
+unfoldable pub case_value_at : ℕ → Reader RawOperand
+case_value_at width ((line, Number digits) ∷ rest) = given (number_value line (constant_of digits width)) rest
+case_value_at width ((line, Word word) ∷ rest) = (or_left_out line word (truth_in word) >>= λ value. done (record { line = line; value = value })) rest
+case_value_at width tokens = Err (unexpected places.Choice tokens)
+
+-- a type and a value
+unfoldable pub typed_at : Reader TypedOperand
+typed_at = do
+  width ← type_at
+  operand ← operand_at width
+  done (record { width = width; operand = operand })
+
 -- ---- attachments
 
 -- metadata whose name or number passes the test
@@ -82,6 +115,9 @@ unfoldable pub attachment_at : Reader (Unit {0})
 attachment_at = do
   _ ← metadata_at is_plain_name
   metadata_at is_number
+
+unfoldable pub attachments_at : Reader (Unit {0})
+attachments_at = repeat_at is_metadata (λ before. attachment_at) tt
 
 unfoldable pub tail_attachment_at : Reader (Unit {0})
 tail_attachment_at = do

@@ -1,3 +1,4 @@
+pub mod Composing
 pub mod Ending
 pub mod Feeds
 pub mod Forms

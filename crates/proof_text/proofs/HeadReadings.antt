@@ -6,9 +6,9 @@ use Rattle.std.proofs.lemmas.List.{append-nil, append_cancel_left}
 use Rattle.std.proofs.lemmas.Bool.Decides.{nat_tests}
 use Rattle.scan.specs.Bytes.{is_digit, is_printable, is_blank}
 use Rattle.proof_text.specs.Numerals.{numeral}
-use Rattle.proof_text.specs.Texts.{widths_text}
+use Rattle.proof_text.specs.Texts.{widths_text, head_text}
 use Rattle.proof_text.specs.WellFormed.{in_name, IsName, AreWidths}
-use Rattle.proof_text.specs.Reading.{GoesOn, StopsAt, Stops, Fixed, Heads, NotNext, EndsName, NoLine, NoWidths, NoParts, Lacks, line_text}
+use Rattle.proof_text.specs.Reading.{GoesOn, StopsAt, Stops, Fixed, Lists, Heads, NotNext, EndsName, NoLine, NoWidths, NoParts, Lacks, line_text}
 use Rattle.proof_text.proofs.Numerals.{numeral_digits, same, longer, shorter, split}
 use Rattle.proof_text.proofs.Decodings.{no_digit_93, same_widths, lacks_bracket, head_whole, head_is, same_backs}
 use Rattle.proof_text.proofs.Readings.{Next, stops_behind}
@@ -141,7 +141,14 @@ feed_stops text mid line rest end e f h ends s =
     let p = nothing_passed 10 rest end s in
     subst (λ (k : List ℕ). Stops Heads text k) p.0 (line_stops text line rest (whole_line_is text mid line rest e f) h ends (inl p.1))
 
+pub head_read : (text mid line rest behind name widths : List ℕ) → text ≡ codes "proof " ++ mid → mid ≡ line ++ rest → line ≡ line_text name widths → rest ≡ 10 ∷ behind → text ≡ head_text name widths ++ behind
+head_read text mid line rest behind name widths e f l r =
+    whole_line_is text mid line rest e f ∙ ap (λ (k : List ℕ). codes "proof " ++ (k ++ rest)) l ∙ ap (λ (k : List ℕ). codes "proof " ++ (line_text name widths ++ k)) r ∙ sym (head_is name widths behind)
+
 -- ---- widths
+
+pub no_widths : (text rest ws : List ℕ) → Stops (Lists 93) text rest → AreWidths ws → text ≢ widths_text ws ++ 93 ∷ []
+no_widths text rest ws s h e = s.stops.none rest (widths_text ws ++ 93 ∷ []) [] (goes_on rest) (ws, h, refl) (sym s.goes ∙ e ∙ sym (append-nil (widths_text ws ++ 93 ∷ [])))
 
 pub not_all : (text rest vs ws : List ℕ) → AreWidths vs → text ≡ widths_text vs ++ 93 ∷ rest → rest ≢ [] → AreWidths ws → text ≢ widths_text ws ++ 93 ∷ []
 not_all text rest vs ws h e some k f =
@@ -158,10 +165,28 @@ no_line line before behind name widths lacks e deny w f =
     let s = same_backs 91 (before ++ 32 ∷ []) (name ++ 32 ∷ []) behind (widths_text widths ++ 93 ∷ []) lacks (lacks_bracket widths) (sym e ∙ f) in
     deny widths w s.1
 
+name_part : (before after : List ℕ) → IsName (before ++ after) → IsName before
+name_part [] after h = tt
+name_part (b ∷ before) after h = (h.0, name_part before after h.1)
+
+pub line_read : (line before behind widths : List ℕ) → IsName line → line ≡ (before ++ 32 ∷ []) ++ 91 ∷ behind → behind ≡ widths_text widths ++ 93 ∷ [] → IsName before × (line ≡ line_text before widths)
+line_read line before behind widths h e f =
+    (name_part before (32 ∷ []) (name_part (before ++ 32 ∷ []) (91 ∷ behind) (subst IsName e h)), e ∙ ap (λ (k : List ℕ). (before ++ 32 ∷ []) ++ 91 ∷ k) f)
+
 -- ---- the last bracket of a line
+
+lacks_in : (x : ℕ) (front more : List ℕ) → Lacks x (front ++ x ∷ more) → ⊥
+lacks_in x [] more h = h.0 refl
+lacks_in x (b ∷ front) more h = lacks_in x front more h.1
+
+pub lacks_parts : (line : List ℕ) → Lacks 91 line → NoParts line
+lacks_parts line h name back k e = lacks_in 91 (name ++ 32 ∷ []) back (subst (λ (l : List ℕ). Lacks 91 l) e h)
 
 pub other_part : (line front behind : List ℕ) → Lacks 91 behind → line ≡ front ++ 91 ∷ behind → ((name : List ℕ) → front ≢ name ++ 32 ∷ []) → NoParts line
 other_part line front behind lacks e deny name back k f = deny name (same_backs 91 front (name ++ 32 ∷ []) behind back lacks k (sym e ∙ f)).0
+
+pub parts_read : (line front name behind : List ℕ) → line ≡ front ++ 91 ∷ behind → front ≡ name ++ 32 ∷ [] → line ≡ (name ++ 32 ∷ []) ++ 91 ∷ behind
+parts_read line front name behind e f = e ∙ ap (λ (k : List ℕ). k ++ 91 ∷ behind) f
 
 pub none_is : {A : Type 0} (o : Option A) (P : Type 0) (Q : A → Type 0) → o ≡ None → MatchOption o P Q → P
 none_is None P Q e h = h

@@ -2,6 +2,7 @@ pub mod Decodings
 pub mod HeadReadings
 pub mod Lines
 pub mod LogReadings
+pub mod Names
 pub mod NumberReadings
 pub mod Numerals
 pub mod Readings

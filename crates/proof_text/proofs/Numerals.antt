@@ -1,14 +1,20 @@
 -- The digits of numbers: what begins with them, and how one more makes a greater number.
-use Rattle.std.proofs.Common.{◌≡◌, ℕ, zero, suc, ◌+◌, ◌*◌, ◌-◌, ◌/◌, ◌%◌, ◌<◌, ◌≤◌, true, false, List, [], ◌∷◌, ◌++◌, map, get_or, refl, ap, sym, ◌∙◌, arith}
+use Rattle.std.proofs.Common.{◌≡◌, ℕ, zero, suc, ◌+◌, ◌*◌, ◌-◌, ◌/◌, ◌%◌, ◌^◌, ◌<◌, ◌≤◌, true, false, List, [], ◌∷◌, ◌++◌, map, get_or, decimal, refl, ap, sym, ◌∙◌, arith}
 use Rattle.std.specs.List.{AllByRecursion}
 use Rattle.std.specs.Int.Digits.{digits_of, number_from_digits_after}
 use Rattle.std.proofs.lemmas.Bool.Decides.{nat_tests}
+use Rattle.std.proofs.lemmas.Fmt.{decimal_digit, decimal-digits_of}
 use Rattle.std.proofs.lemmas.List.{map-append}
 use Rattle.std.proofs.lemmas.Int.Digits.{digits_of_step, all_below_base_digits_of, first_digits_of, number_after_append, number_after_ge, number_digits_of}
 use Rattle.scan.specs.Bytes.{is_digit}
 use Rattle.proof_text.specs.Numerals.{numeral}
 
 -- ---- what is written of a number of 64 bits
+
+pub decimal_is : (n : ℕ) → n < 2 ^ 64 → decimal n ≡ numeral n
+unfolding numeral
+decimal_is zero small = decimal_digit zero (omega arith)
+decimal_is (suc n) small = decimal-digits_of (suc n) (omega arith) small
 
 pub numeral_pos : (n : ℕ) → 0 < n → numeral n ≡ map (λ digit. 48 + digit) (digits_of 10 n)
 unfolding numeral
@@ -18,6 +24,9 @@ numeral_pos (suc n) h = refl
 pub numeral_zero : numeral 0 ≡ 48 ∷ []
 unfolding numeral
 numeral_zero = refl
+
+pub numeral_one : (d : ℕ) → d < 10 → numeral d ≡ (48 + d) ∷ []
+numeral_one d h = sym (decimal_is d (omega arith)) ∙ decimal_digit d h
 
 -- one more digit
 pub numeral_more : (n d : ℕ) → 0 < n → d < 10 → numeral (n * 10 + d) ≡ numeral n ++ (48 + d) ∷ []
@@ -30,6 +39,9 @@ numeral_more n d some h =
     numeral_pos m (omega arith) ∙ ap (λ (ds : List ℕ). map (λ (digit : ℕ). 48 + digit) ds) step2 ∙ map-append (λ (digit : ℕ). 48 + digit) (digits_of 10 n) (d ∷ []) ∙ ap (λ (ds : List ℕ). ds ++ (48 + d) ∷ []) (sym (numeral_pos n some))
 
 -- ---- digits
+
+AreDigits : List ℕ → Type 0
+AreDigits cs = AllByRecursion (λ c. is_digit c ≡ true) cs
 
 digit_is : (d : ℕ) → d < 10 → is_digit (48 + d) ≡ true
 unfolding is_digit

@@ -1,9 +1,10 @@
 -- How texts are read, where that stops, and that a text has one reading.
-use Rattle.std.proofs.Common.{◌≡◌, ◌≢◌, ℕ, ◌+◌, ◌-◌, ◌≤◌, List, [], ◌∷◌, ◌++◌, length, take, refl, ap, subst, sym, ◌∙◌, append_assoc, length-append, arith}
+use Rattle.std.proofs.Common.{◌≡◌, ◌≢◌, ℕ, ◌+◌, ◌-◌, ◌<◌, ◌≤◌, List, [], ◌∷◌, ◌++◌, length, take, get_or, refl, ap, subst, sym, ◌∙◌, append_assoc, length-append, arith}
 use Rattle.std.proofs.lemmas.List.{append-nil}
-use Rattle.scan.specs.Lines.{feeds}
+use Rattle.scan.specs.Lines.{feeds, last_line}
 use Rattle.proof_text.specs.declared.proof.Proof.{Proof}
 use Rattle.proof_text.specs.declared.fault.LogFaultKind.{LogFaultKind}
+use Rattle.proof_text.specs.declared.fault.LogFaultKind.TheVariants.{Syntax}
 use Rattle.proof_text.specs.Limits.{most_bytes}
 use Rattle.proof_text.specs.Texts.{proof_text, text_of}
 use Rattle.proof_text.specs.WellFormed.{IsWellFormed, AreWellFormed}
@@ -12,13 +13,39 @@ use Rattle.proof_text.specs.Laws.{TextsHaveOneReading, WrittenIsRead}
 use Rattle.proof_text.specs.Reading.{GoesOn, StopsAt, Stops, Proofs, FaultAt}
 use Rattle.proof_text.proofs.Lines.{flat_push}
 use Rattle.proof_text.proofs.Numerals.{same, longer, shorter, split}
-use Rattle.proof_text.proofs.Decodings.{rest_of, one_list}
+use Rattle.proof_text.proofs.Decodings.{proof_begins, rest_of, one_list}
+use Rattle.proof_text.proofs.Readings.{longer_by}
 use Rattle.proof_text.proofs.StepReadings.{all_push}
 
 -- what was read of a text so far
 pub record TextSoFar (text rest : List ℕ) (proofs : List Proof) : Type 0 where
   pub all : AreWellFormed proofs
   pub goes : text ≡ text_of proofs ++ rest
+
+pub text_more : (text mid rest : List ℕ) (proofs : List Proof) (p : Proof) → TextSoFar text mid proofs → IsWellFormed p → mid ≡ proof_text p ++ rest → TextSoFar text rest (proofs ++ p ∷ [])
+text_more text mid rest proofs p f h e = record {
+  all = all_push IsWellFormed proofs p f.all h;
+  goes = f.goes ∙ ap (λ (k : List ℕ). text_of proofs ++ k) e ∙ sym (append_assoc (text_of proofs) (proof_text p) rest) ∙ ap (λ (k : List ℕ). k ++ rest) (sym (flat_push proof_text proofs p));
+}
+
+pub text_done : (text rest : List ℕ) (proofs : List Proof) → length text ≤ most_bytes → TextSoFar text rest proofs → rest ≡ [] → IsTextOf text proofs
+text_done text rest proofs short f e = (short, f.all, f.goes ∙ ap (λ (k : List ℕ). text_of proofs ++ k) e ∙ append-nil (text_of proofs))
+
+pub text_begins : (text : List ℕ) → TextSoFar text text []
+text_begins text = record { all = tt; goes = refl }
+
+some_length : (text : List ℕ) → text ≢ [] → 0 < length text
+some_length [] some = absurd (some refl)
+some_length (b ∷ text) some = omega arith
+
+pub proof_shorter : (p : Proof) (mid rest : List ℕ) → mid ≡ proof_text p ++ rest → length rest < length mid
+proof_shorter p mid rest e = longer_by (proof_text p) rest mid e (some_length (proof_text p) (λ (f : proof_text p ≡ []). proof_begins p [] (append-nil (proof_text p) ∙ f)))
+
+pub stops_within : (text mid rest : List ℕ) (ps : List Proof) → TextSoFar text mid ps → Stops Proofs mid rest → length rest ≤ length text
+stops_within text mid rest ps f s =
+    let a : length text ≡ length (text_of ps) + length mid = ap length f.goes ∙ length-append (text_of ps) mid in
+    let b : length mid ≡ length s.passed + length rest = ap length s.goes ∙ length-append s.passed rest in
+    omega arith
 
 -- ---- faults
 
@@ -31,6 +58,14 @@ front_is text front rest e =
     let a : length text ≡ length front + length rest = ap length e ∙ length-append front rest in
     let n : length text - length rest ≡ length front = omega arith in
     ap (λ (k : ℕ). take k text) n ∙ ap (λ (k : List ℕ). take (length front) k) e ∙ take_front front rest
+
+pub fault_at_byte : (text rest : List ℕ) (d : ℕ) (found : LogFault) → 1 ≤ length rest → found.line ≡ feeds (take (length text - length rest) text) + 1 → found.kind ≡ kind_of (get_or rest 0 d) → FaultAt text rest found
+fault_at_byte text [] d found some line kind = absurd (omega arith)
+fault_at_byte text (b ∷ rest) d found some line kind = (line, kind)
+
+pub fault_at_end : (text rest : List ℕ) (found : LogFault) → length rest < 1 → found.line ≡ last_line text → found.kind ≡ Syntax → FaultAt text rest found
+fault_at_end text [] found none line kind = (line, kind)
+fault_at_end text (b ∷ rest) found none line kind = absurd (omega arith)
 
 no_end_of : (passed : List ℕ) (b : ℕ) (more : List ℕ) → passed ++ b ∷ more ≡ [] → ⊥
 no_end_of [] b more e = cc

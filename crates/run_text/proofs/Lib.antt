@@ -1,4 +1,5 @@
 pub mod ArgumentLemmas
 pub mod NamedLemmas
+pub mod RunningLemmas
 pub mod LawLemmas
 pub mod Misnaming

@@ -1,2 +1,4 @@
+pub mod Choices
+pub mod ConstantLists
 mod Readiness
 mod Reading

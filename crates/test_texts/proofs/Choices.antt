@@ -1,0 +1,16 @@
+-- Where the source of a rule leaves nothing open, there is nothing to choose for it.
+use Rattle.std.proofs.Common.{◌≡◌, ℕ, zero, suc, ◌<◌, List, [], length, refl, arith}
+use Rattle.rule_core.specs.declared.rule.Rule.{Rule}
+use Rattle.rule_core.specs.Positions.{choices_among}
+use Rattle.rule_core.specs.Valid.{SourceChoicesFit}
+use Rattle.verdict.specs.Honest.{HasSourceChoice}
+
+none_of : (n : ℕ) → ¬ (0 < n) → 0 ≡ n
+none_of zero none = refl
+none_of (suc n) none = absurd (none (omega arith))
+
+pub no_source_choices : (rule : Rule) (typing : List ℕ) → ¬ (HasSourceChoice rule) → SourceChoicesFit rule typing []
+no_source_choices rule typing none = record {
+  count = none_of (length (choices_among rule.source)) none;
+  widths = λ k c N n opens width at. absurd cc;
+}
