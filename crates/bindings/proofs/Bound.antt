@@ -33,9 +33,6 @@ same_place b b' k k' e = cc
 pub not_elsewhere : (f : Function) (rule : Rule) (binding : Binding) (j b k : ℕ) (s : Statement) → slice_get binding.statements j ≡ Some (registers.Result b k) → StatementMatches f rule binding j s → b ≡ binding.block
 not_elsewhere f rule binding j b k s at m = same_block b binding.block k m.place (is_bound f rule binding j s (registers.Result b k) at m)
 
-pub no_parameter : (f : Function) (rule : Rule) (binding : Binding) (j p : ℕ) (s : Statement) → slice_get binding.statements j ≡ Some (registers.Parameter p) → StatementMatches f rule binding j s → ⊥
-no_parameter f rule binding j p s at m = let e : registers.Parameter p ≡ registers.Result binding.block m.place = is_bound f rule binding j s (registers.Parameter p) at m in cc
-
 -- the instruction that is there matches it
 pub matched_there : (f : Function) (rule : Rule) (binding : Binding) (j b k : ℕ) (s : Statement) (inst : Inst) → slice_get binding.statements j ≡ Some (registers.Result b k) → IsInst f b k inst → StatementMatches f rule binding j s → InstMatches f rule binding j s k inst
 matched_there f rule binding j b k s inst at is m =

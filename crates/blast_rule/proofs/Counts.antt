@@ -37,7 +37,8 @@ use Rattle.blast_term.proofs.Counts.{node-low, terms-few}
 square_mono : (n k : ℕ) → n ≤ k → n * n ≤ k * k
 square_mono n k h = mul-le-mul h h
 
--- an operation leaves room for the comparison at the end, where K is no smaller than the width of its result and those of its operands
+-- an operation leaves room for the comparison at the end, where K is no smaller than the width of its result and those
+-- of its operands
 op-few : (typing : List ℕ) (N K : ℕ) (op : Op) → 1 ≤ N → N ≤ 64 → N ≤ K → All (λ M. M ≤ K) (map (slice_index typing) (map (λ (o : Operand). o.class) (operands_of op))) → op_gates typing N op + (2 * N + 7) ≤ op_bound op K
 op-few typing N K (Binary Add flags a b) some low below all = omega arith
 op-few typing N K (Binary Sub flags a b) some low below all = omega arith

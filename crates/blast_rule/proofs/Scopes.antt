@@ -1,16 +1,14 @@
 -- What a scope is made of.
 use Rattle.std.proofs.Common.{◌≡◌, Bool, List, length, map, refl, sym, ap, ◌∙◌}
-use Rattle.std.specs.List.{All}
 use Rattle.ops.specs.Integer.{bits}
 use Rattle.circuits.specs.Word.{number_of}
 use Rattle.rule_core.specs.Run.{Given}
 use Rattle.rule_core.specs.Terms.{number_or_zero}
 use Rattle.blast_value.specs.declared.held.Held.{Held}
-use Rattle.blast_value.specs.Effect.{IsOwn}
 use Rattle.blast_term.specs.declared.scope.Scope.{Scope}
 use Rattle.blast_value.specs.Words.{number_held}
-use Rattle.blast_term.specs.Scope.{holds, seen, ScopeIsOwn}
-use Rattle.blast_rule.specs.Runs.{shape, shapes, word_shape, given_shape, IsGiven}
+use Rattle.blast_term.specs.Scope.{holds, seen}
+use Rattle.blast_rule.specs.Runs.{word_shape, given_shape, IsGiven}
 
 -- the scope reads these literals
 pub record Reads {L : Type 0} (s : Scope L) (inputs source target : List (Held L)) (constants choices terms : List (List L)) : Type 0 where
@@ -31,19 +29,6 @@ module _ {L : Type 0} (s : Scope L) (inputs source target : List (Held L)) (cons
     choices = second ∙ ap (map (number_held value)) (sym reads.choices_are);
     terms = third ∙ ap (map (number_of value)) (sym reads.terms_are);
   }
-
-  pub own_of : (has_literal : L → Type 0) → All (IsOwn has_literal) inputs → All (IsOwn has_literal) source → All (IsOwn has_literal) target → All (All has_literal) constants → All (All has_literal) choices → All (All has_literal) terms → ScopeIsOwn has_literal s
-  own_of has_literal a b c d e f = record {
-    inputs = rw reads.inputs_are a;
-    source = rw reads.source_are b;
-    target = rw reads.target_are c;
-    constants = rw reads.constants_are d;
-    choices = rw reads.choices_are e;
-    terms = rw reads.terms_are f;
-  }
-
-  pub shapes_of : shapes s ≡ record { inputs = map shape inputs; source = map shape source; target = map shape target }
-  shapes_of = rw (reads.inputs_are, reads.source_are, reads.target_are) refl
 
   pub given_shape_of : given_shape s ≡ record { constants = map word_shape constants; choices = map word_shape choices; terms = map (λ word. bits (length word) 0) terms }
   given_shape_of = rw (reads.constants_are, reads.choices_are, reads.terms_are) refl

@@ -37,7 +37,8 @@ true_where P met met' holds b kept is same = (
   λ h. subst IsTrue (sym same) (and_true met' holds (subst IsTrue (sym kept) h.0) (is.1 h.1)),
 )
 
--- a literal that is true exactly where the precondition holds and one effect refuses the other is true exactly at a counterexample
+-- a literal that is true exactly where the precondition holds and one effect refuses the other is true exactly at a
+-- counterexample
 pub refutes : RulesHaveOneOutcome → (rule : Rule) (typing : List ℕ) (setting : Setting) (choices : List Number) (source target : Effect) (met b : Bool) → IsRule rule → IsTyping rule typing → SettingFits rule typing setting
     → HaveEffects rule typing setting choices source target → (IsTrue met ↔ PreconditionHolds rule typing setting.constants) → (IsTrue b ↔ (IsTrue met × ¬ AllowsEffect source target)) → IsTrue b ↔ Refutes rule typing setting
 refutes one rule typing setting choices source target met b checked typed fits have holds is = (

@@ -12,8 +12,8 @@ use Rattle.blast_value.specs.Gates.{gates_of, greatest}
 use Rattle.blast_value.specs.Laws.{bound}
 use Rattle.blast_term.specs.Gates.{terms_gates, numbers_gates, choices_gates, precondition_gates, term_bound, formula_bound, choice_bound}
 
--- an operation with a result of iN: its instruction's circuit, of a comparison one over the width of its operands; a freeze takes one for
--- each bit, and a copy none
+-- an operation with a result of iN: its instruction's circuit, of a comparison one over the width of its operands; a
+-- freeze takes one for each bit, and a copy none
 abbrev pub op_gates : List ℕ → ℕ → Op → ℕ
 op_gates typing N (Binary op flags a b) = gates_of (instructions.Binary op flags) N N
 op_gates typing N (Compare pred samesign a b) = gates_of (instructions.Compare pred samesign) N (slice_index typing a.class)
@@ -59,13 +59,13 @@ given_gates rule typing =
 abbrev pub witness_gates : Rule → List ℕ → ℕ
 witness_gates rule typing = terms_gates typing rule.witness_terms + choices_gates (widths_of_witness rule typing) rule.witnesses
 
--- the statements of both halves, the source's temporaries built once, and one for whether a temporary or the target has undefined
--- behaviour
+-- the statements of both halves, the source's temporaries built once, and one for whether a temporary or the target has
+-- undefined behaviour
 abbrev pub halves_gates : Rule → List ℕ → ℕ
 halves_gates rule typing = run_gates typing rule.source + run_gates typing rule.target + 1
 
--- A rule: its terms and precondition, what `Wit:` chooses, both halves, whether the source's effect allows the target's, and one for
--- whether the precondition holds then.
+-- A rule: its terms and precondition, what `Wit:` chooses, both halves, whether the source's effect allows the
+-- target's, and one for whether the precondition holds then.
 abbrev pub most_gates : Rule → List ℕ → ℕ
 most_gates rule typing =
     given_gates rule typing + witness_gates rule typing + halves_gates rule typing + refusal_gates (root_width rule typing) + 1
@@ -83,7 +83,8 @@ op_bound op N = 64 * N
 abbrev pub statement_bound : List ℕ → Statement → ℕ
 statement_bound typing s = op_bound s.op (greatest_width typing s)
 
--- of a rule: of its statements, of the nodes of its terms, of `Wit:` and of its precondition, and of the choices of its source
+-- of a rule: of its statements, of the nodes of its terms, of `Wit:` and of its precondition, and of the choices of its
+-- source
 abbrev pub rule_bound : Rule → List ℕ → ℕ
 rule_bound rule typing =
     sum_by (statement_bound typing) rule.source + sum_by (statement_bound typing) rule.target

@@ -11,8 +11,8 @@ use blast_value::{Instruction, gates_of};
 use ops::Width;
 use rule_core::{Op, Rule, Statement, Typing};
 
-/// The most gates that [`blast_rule`](crate::blast_rule) adds for the rule at the typing. It takes no memory, and as many steps as there
-/// are statements and nodes.
+/// The most gates that [`blast_rule`](crate::blast_rule) adds for the rule at the typing. It takes no memory, and as
+/// many steps as there are statements and nodes.
 pub fn most_gates(rule: &Rule, typing: &Typing) -> u32
     requires rule { IsRule rule.now }
     requires typing { IsTyping rule.now typing.now }

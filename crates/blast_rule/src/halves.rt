@@ -37,8 +37,8 @@ pub(crate) struct Halves<L> {
     pub(crate) target: Blasted<L>,
 }
 
-/// What `Wit:` chooses and what the source and the target do at a setting, where the rule's terms have these numbers. The source's
-/// temporaries are built once.
+/// What `Wit:` chooses and what the source and the target do at a setting, where the rule's terms have these numbers.
+/// The source's temporaries are built once.
 pub(crate) fn blast_halves<C: Circuit>(
     alloc: Global,
     c: &mut C,
@@ -76,7 +76,8 @@ pub(crate) fn blast_halves<C: Circuit>(
     after_temporaries(alloc, c, rule, typing, before, temporaries.undefined)
 }
 
-/// The same after the source's temporaries, which `before` holds, and of which one has undefined behaviour where the literal is true.
+/// The same after the source's temporaries, which `before` holds, and of which one has undefined behaviour where the
+/// literal is true.
 fn after_temporaries<C: Circuit>(
     alloc: Global,
     c: &mut C,

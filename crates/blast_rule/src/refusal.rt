@@ -33,8 +33,8 @@ pub(crate) fn refusal_where<C: Circuit>(
     c.and(alloc, met, refused)
 }
 
-/// Whether the source's effect doesn't allow the target's: the source isn't undefined behaviour, and the target is, or the source
-/// isn't poison and the target is poison or another number.
+/// Whether the source's effect doesn't allow the target's: the source isn't undefined behaviour, and the target is, or
+/// the source isn't poison and the target is poison or another number.
 fn refusal<C: Circuit>(
     alloc: Global,
     c: &mut C,

@@ -36,9 +36,9 @@ pub struct RuleBits<L> {
     pub target: Blasted<L>,
 }
 
-/// The circuit of a rule at a typing, over inputs that stand for a setting: for each input of the rule its bits, the lowest first,
-/// and then its poison bit; then the bits of each constant, and then those of each choice of the target. It makes
-/// that many inputs and at most [`most_gates`](crate::most_gates) gates. The circuit has no inputs before.
+/// The circuit of a rule at a typing, over inputs that stand for a setting: for each input of the rule its bits, the
+/// lowest first, and then its poison bit; then the bits of each constant, and then those of each choice of the target.
+/// It makes that many inputs and at most [`most_gates`](crate::most_gates) gates. The circuit has no inputs before.
 pub fn blast_rule<C: Circuit>(
     alloc: Global,
     c: &mut C,

@@ -1,8 +1,7 @@
 -- What is read as a setting fits, and each setting that fits is read.
-use Rattle.std.proofs.Common.{◌≡◌, ℕ, ◌+◌, ◌<◌, List, [], ◌∷◌, ◌++◌, length, length-append, take, sum_by, Bool, Some, refl, sym, ap, subst, ◌∙◌, arith, get_or}
+use Rattle.std.proofs.Common.{◌≡◌, ℕ, ◌+◌, ◌<◌, List, [], ◌∷◌, ◌++◌, length, length-append, take, Bool, Some, refl, sym, ap, subst, ◌∙◌, arith, get_or}
 use Rattle.std.specs.Prelude.{slice_get, slice_index}
 use Rattle.std.proofs.lemmas.List.{length-map, take_more}
-use Rattle.std.proofs.lemmas.List.Sums.{sum_by-cons}
 use Rattle.std.proofs.lemmas.Option.{slice_get-get_or, slice_get_within, get_or_from_slice_get, same_Some}
 use Rattle.ops.specs.Number.{Number}
 use Rattle.ops.specs.Value.{IsValueOf}
@@ -165,8 +164,3 @@ are_named_as rule typing kind checked typed ts statements count same half all = 
 pub widths_as : (rule : Rule) (typing : List ℕ) (kind : Kind) (ts : List ℕ) (statements : List Statement) (count : ℕ)
     → ts ≡ typing → statements ≡ rule.source → count ≡ count_of rule kind → named_widths ts statements kind count ≡ named_widths typing rule.source kind (count_of rule kind)
 widths_as rule typing kind ts statements count same half all = rw (same, half, all) refl
-
--- values have one truth value more than numbers
-pub sum-values : (widths : List ℕ) → sum_by value_bits widths ≡ sum_by number_bits widths + length widths
-sum-values [] = refl
-sum-values (N ∷ widths) = omega (arith, sum_by-cons value_bits N widths, sum_by-cons number_bits N widths, sum-values widths)

@@ -1,5 +1,5 @@
 -- Words of truth values, bit by bit.
-use Rattle.std.proofs.Common.{◌≡◌, ℕ, zero, suc, ◌+◌, ◌*◌, ◌/◌, ◌%◌, ◌^◌, ◌<◌, ◌==◌, Bool, false, List, [], ◌∷◌, take, drop, refl, sym, ap, ◌∙◌, add-zero, add-one, arith, get_or}
+use Rattle.std.proofs.Common.{◌≡◌, ℕ, zero, suc, ◌+◌, ◌*◌, ◌^◌, Bool, false, List, [], ◌∷◌, take, drop, refl, sym, ap, ◌∙◌, add-zero, add-one, arith, get_or}
 use Rattle.std.proofs.Math.Nat.{pow-succ'}
 use Rattle.std.proofs.lemmas.List.{get_or-drop}
 use Rattle.circuits.specs.Word.{bit, number}
@@ -15,19 +15,3 @@ number-take_one (b ∷ read) (suc i) = rw (add-one (suc i), pow-succ' 2 i) (omeg
 pub get_or-behind : (read rest : List Bool) (m i : ℕ) → drop m read ≡ drop i rest → get_or read m false ≡ get_or rest i false
 get_or-behind read rest m i same =
     ap (λ k. get_or read k false) (sym (add-zero m)) ∙ sym (get_or-drop m read 0 false) ∙ ap (λ (w : List Bool). get_or w 0 false) same ∙ get_or-drop i rest 0 false ∙ ap (λ k. get_or rest k false) (add-zero i)
-
-bit-one : (r : ℕ) → r < 2 → bit (r == 1) ≡ r
-bit-one zero h = refl
-bit-one (suc zero) h = refl
-bit-one (suc (suc r)) h = absurd (omega arith)
-
--- one more digit of a number, of which `low` is what stands before it
-pub digit_more : (low p rest total : ℕ) → low + p * rest ≡ total → low + p * bit (rest % 2 == 1) + (2 * p) * (rest / 2) ≡ total
-digit_more low p rest total before =
-    let parts : bit (rest % 2 == 1) + 2 * (rest / 2) ≡ rest = omega (arith, bit-one (rest % 2) (omega arith)) in
-    omega (arith, ap (λ r. p * r) parts)
-
--- a number that is below 2 ^ N has no more digits
-pub no_rest : (low p rest total : ℕ) → low + p * rest ≡ total → total < p → low ≡ total
-no_rest low p zero total is below = omega arith
-no_rest low p (suc rest) total is below = absurd (omega arith)

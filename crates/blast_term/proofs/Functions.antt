@@ -1,5 +1,5 @@
 -- What operators and functions give, told from literals.
-use Rattle.std.proofs.Common.{◌≡◌, ℕ, zero, suc, ◌-◌, ◌^◌, ◌%◌, ◌<◌, ◌≤◌, min, inl, inr, nat_lt, Bool, true, false, not, ◌||◌, ◌&&◌, if◌then◌else◌, List, map, length, replicate, Some, None, refl, ap, subst, ◌∙◌, arith}
+use Rattle.std.proofs.Common.{◌≡◌, ℕ, zero, suc, ◌-◌, ◌^◌, ◌%◌, ◌<◌, ◌≤◌, min, inl, inr, nat_lt, Bool, true, false, not, ◌||◌, if◌then◌else◌, List, map, length, replicate, Some, None, refl, subst, ◌∙◌, arith}
 use Rattle.std.proofs.Math.Nat.{mod-eq_of_lt}
 use Rattle.ops.specs.Flags.{no_flags}
 use Rattle.ops.specs.Integer.{bits, minus_one, least}
@@ -15,8 +15,8 @@ use Rattle.blast_value.specs.Effect.{held_value}
 use Rattle.std.proofs.Math.Nat.{pow-succ'}
 use Rattle.std.proofs.lemmas.Nat.{pow_pos}
 use Rattle.blast_term.proofs.Powers.{nat_le_cases}
-use Rattle.rule_core.specs.declared.rule.Function.TheVariants.{Negate, Not, Log2, Abs}
-use Rattle.rule_core.specs.Terms.{exponent, value_given, function_value, number_or_zero, has_one_bit}
+use Rattle.rule_core.specs.declared.rule.Function.TheVariants.{Negate, Not, Log2}
+use Rattle.rule_core.specs.Terms.{exponent, value_given, function_value, number_or_zero}
 
 zero_below : (m : ℕ) → 0 < m → false ≡ nat_lt 0 m → ⊥
 zero_below m some e = let less : nat_lt 0 m ≡ true = grind arith in cc
@@ -58,20 +58,6 @@ log-value true true either N n k power is = rw is refl
 log-value true false either N n k power is = rw is refl
 log-value false true either N n k power is = rw (is, power) refl
 log-value false false either N n k power is = rw (is, power) refl
-
-pub abs-value : (poison : Bool) (N n m : ℕ) → m ≡ (if nat_lt n (least N) then n else 2 ^ N - n) → value_or_poison poison N m ≡ function_value Abs N (value_or_poison poison N n)
-abs-value true N n m is = refl
-abs-value false N n m is = ap (bits N) is
-
-pub one_bit-value : (poison exists : Bool) (N n k : ℕ) → exponent N n ≡ (if exists then Some k else None) → (exists && not poison) ≡ has_one_bit (value_or_poison poison N n)
-one_bit-value true true N n k power = refl
-one_bit-value true false N n k power = refl
-one_bit-value false true N n k power = rw power refl
-one_bit-value false false N n k power = rw power refl
-
-pub or_zero-value : (poison : Bool) (N n : ℕ) → (if poison then 0 else n) ≡ number_or_zero (value_or_poison poison N n)
-or_zero-value true N n = refl
-or_zero-value false N n = refl
 
 -- a number below the least one is its own size, and another is its negation's
 pub sign-choice : (b : Bool) (N n : ℕ) (xs ys : List Bool) → b ≡ nat_lt n (least N) → number xs ≡ n → number ys ≡ (2 ^ N - n) % 2 ^ N → number (if b then xs else ys) ≡ (if nat_lt n (least N) then n else 2 ^ N - n)

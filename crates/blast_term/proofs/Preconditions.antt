@@ -1,9 +1,8 @@
 -- Whether all values are numbers, and a precondition is met.
-use Rattle.std.proofs.Common.{◌≡◌, ℕ, zero, suc, Bool, true, false, not, ◌&&◌, IsTrue, ◌↔◌, if◌then◌else◌, List, [], ◌∷◌, ◌++◌, length, map, Some, refl, sym, ap, subst, ◌∙◌, arith}
-use Rattle.std.specs.Prelude.{slice_get, slice_index_or, ◌-◌, Option}
-use Rattle.std.specs.Option.{option_map, unwrap_or}
-use Rattle.std.proofs.lemmas.List.{length-map}
-use Rattle.std.proofs.lemmas.Option.{same_Some, slice_get_within, slice_get-map}
+use Rattle.std.proofs.Common.{◌≡◌, ℕ, zero, suc, Bool, true, false, not, ◌&&◌, IsTrue, ◌↔◌, if◌then◌else◌, List, [], ◌∷◌, ◌++◌, Some, refl, subst, arith}
+use Rattle.std.specs.Prelude.{slice_get}
+use Rattle.std.specs.Option.{unwrap_or}
+use Rattle.std.proofs.lemmas.Option.{same_Some, slice_get_within}
 use Rattle.ops.specs.Number.{Number}
 use Rattle.rule_core.specs.declared.rule.Rule.{Rule}
 use Rattle.rule_core.specs.declared.rule.Register.{Register}
@@ -54,19 +53,6 @@ precondition_met values formulas b is = (
   λ h. let both = is.0 h in record { values = all_numbers values both.0; formula = both.1 },
   λ met. is.1 (numbers_all values met.values, met.formula),
 )
-
--- whether the last node holds, told from the literals of all nodes
-get_or-is : {X : Type 0} (xs : List X) (n : ℕ) (d : X) → slice_index_or xs n d ≡ unwrap_or (slice_get xs n) d
-get_or-is [] zero d = refl
-get_or-is [] (suc n) d = refl
-get_or-is (x ∷ xs) zero d = refl
-get_or-is (x ∷ xs) (suc n) d = get_or-is xs n d
-
-pub last-is : {L : Type 0} (value : L → Bool) (truths : List L) (last : Option L) → last ≡ slice_get truths (length truths - 1)
-    → last_holds (map value truths) ≡ unwrap_or (option_map value last) true
-last-is value truths last is =
-    rw length-map (get_or-is (map value truths) (length truths - 1) true
-    ∙ ap (λ (o : Option Bool). unwrap_or o true) (slice_get-map value truths (length truths - 1) ∙ ap (option_map value) (sym is)))
 
 -- the constants that a precondition is of give the values of the rule's terms
 pub precondition_holds : (rule : Rule) (typing : List ℕ) (constants : List Number) (values : List Value) (b : Bool) → values ≡ constant_values typing constants rule

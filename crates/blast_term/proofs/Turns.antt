@@ -4,7 +4,7 @@ use Rattle.std.specs.Prelude.{slice_get, slice_index, sum_by}
 use Rattle.std.specs.List.{All}
 use Rattle.std.proofs.lemmas.List.{take_more, map-append, length-map}
 use Rattle.std.proofs.lemmas.List.Sums.{sum_by_push, sum_by-cons}
-use Rattle.std.proofs.lemmas.Option.{slice_get-get_or, slice_get_within, slice_get-map, get_or_from_slice_get}
+use Rattle.std.proofs.lemmas.Option.{slice_get_within, slice_get-map, get_or_from_slice_get}
 use Rattle.std.specs.Option.{option_map}
 use Rattle.circuits.specs.Gates.{select_gates}
 use Rattle.circuits.specs.Word.{number_of}
@@ -20,10 +20,6 @@ use Rattle.blast_value.specs.Effect.{held_value, widths_of}
 use Rattle.blast_term.specs.Gates.{numbers_gates}
 use Rattle.blast_value.specs.Words.{number_held}
 use Rattle.blast_term.specs.Terms.{number_chosen}
-
--- an element that is read of a list
-pub placed : {X : Type 0} (xs : List X) (i : ℕ) (x : X) → i < length xs → x ≡ get_or xs i x → slice_get xs i ≡ Some x
-placed xs i x within is = slice_get-get_or xs i x within ∙ ap (λ y. Some y) (sym is)
 
 -- what all elements are
 pub own_from_get : {X : Type 0} (P : X → Type 0) (xs : List X) (k : ℕ) (x : X) → All P xs → slice_get xs k ≡ Some x → P x

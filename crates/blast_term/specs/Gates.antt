@@ -25,7 +25,8 @@ function_gates Not N = opcode_gates Xor N + 1
 function_gates Log2 N = power_gates N + 1
 function_gates Abs N = comparison_gates N + adder_gates N + select_gates N
 
--- a node of iN: a register counts as 0 where it is poison, and an operator has a value where its instruction gives a number
+-- a node of iN: a register counts as 0 where it is poison, and an operator has a value where its instruction gives a
+-- number
 abbrev pub node_gates : ℕ → Node → ℕ
 node_gates N (nodes.Literal z) = 0
 node_gates N (nodes.Constant k) = 0

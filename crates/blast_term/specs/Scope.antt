@@ -8,7 +8,8 @@ use Rattle.blast_value.specs.declared.held.Held.{Held}
 use Rattle.blast_value.specs.Effect.{held_value, IsOwn}
 use Rattle.blast_term.specs.declared.scope.Scope.{Scope}
 
--- what registers hold, where these literals stand for the inputs and for what source and target statements have assigned
+-- what registers hold, where these literals stand for the inputs and for what source and target statements have
+-- assigned
 abbrev pub holds : {L : Type 0} → (L → Bool) → List (Held L) → List (Held L) → List (Held L) → run.Held
 holds value inputs source target =
     record { inputs = map (held_value value) inputs; source = map (held_value value) source; target = map (held_value value) target }

@@ -1,4 +1,5 @@
--- What the literals of terms stand for, and what lets them be built: each node that is read has a word of the right width.
+-- What the literals of terms stand for, and what lets them be built: each node that is read has a word of the right
+-- width.
 use Rattle.std.specs.Prelude.{◌≡◌, ℕ, ◌≤◌, ◌<◌, List, length, map, take, Some, slice_get, slice_index, IsTrue, Bool}
 use Rattle.std.specs.Option.{unwrap_or}
 use Rattle.ops.specs.Number.{Number}

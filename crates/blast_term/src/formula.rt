@@ -15,8 +15,8 @@ use ops::{Pred, Width};
 use rule_core::Formula;
 use std::alloc::{AllocError, Global};
 
-/// Whether the precondition holds where the terms give these values: each of them is a number, and the last node of the formula
-/// holds, if there is one.
+/// Whether the precondition holds where the terms give these values: each of them is a number, and the last node of the
+/// formula holds, if there is one.
 pub fn blast_precondition<C: Circuit>(
     alloc: Global,
     c: &mut C,

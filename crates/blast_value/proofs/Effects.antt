@@ -189,9 +189,6 @@ plain_greater_signed pred N a b which =
     rw (signed_same N a, signed_same N b)
     (⊎_elim (λ e. rw e refl) (λ e. rw e (twice (int_lt (signed N b) (signed N a)) ∙ ap not (sym (not_less_signed (signed N a) (signed N b))))) which)
 
-pub negated_plain : (pred : Pred) (N a b : ℕ) (v : Bool) → is_negation pred ≡ true → v ≡ plain pred N a b → not v ≡ holds pred N a b
-negated_plain pred N a b v negation is = rw (is, negation) (sym (twice (holds pred N a b)))
-
 one_bit : (b : Bool) → bits 1 (bit b) ≡ bits 1 (if b then 1 else 0)
 one_bit true = refl
 one_bit false = refl
@@ -271,15 +268,8 @@ quotient_value op flags N a b l q r negative poison which below width negative_i
     (λ (e : op ≡ SDiv). rw (poison_is, r_is, q_is, negative_is, width, e, signed_left N a b below) refl)
     which
 
-pub remainder_value : (op : Division) (flags : Flags) (N a b l r : ℕ) (negative poison : Bool) → (op ≡ URem) ⊎ (op ≡ SRem) → l ≡ N → negative ≡ is_signed op → r ≡ (if negative then residue N (remainder (signed N a) (signed N b)) else a % b) → poison ≡ false → (if poison then Poison else bits l r) ≡ divided op flags N a b
-remainder_value op flags N a b l r negative poison which width negative_is r_is poison_is =
-    ⊎_elim
-    (λ (e : op ≡ URem). rw (poison_is, r_is, negative_is, width, e) refl)
-    (λ (e : op ≡ SRem). rw (poison_is, r_is, negative_is, width, e) refl)
-    which
-
--- what a division does where an operand may be poison, from the tests of its numbers: whether the divisor is 0, and whether it is -1,
--- and the dividend the least number
+-- what a division does where an operand may be poison, from the tests of its numbers: whether the divisor is 0, and
+-- whether it is -1, and the dividend the least number
 unsigned_effect : (x y by_zero : Bool) (v : Value) → Effect
 unsigned_effect x true by_zero v = Undefined
 unsigned_effect true false by_zero v = if by_zero then Undefined else Gives Poison

@@ -1,5 +1,5 @@
 -- What reads the root, and where it stands then.
-use Rattle.std.proofs.Common.{◌≡◌, inl, inr, ℕ, ◌+◌, ◌-◌, ◌<◌, ◌^◌, true, List, length, None, Some, refl, sym, ap, subst, ◌∙◌, arith}
+use Rattle.std.proofs.Common.{◌≡◌, ℕ, ◌<◌, ◌^◌, true, List, length, Some, sym, subst, ◌∙◌, arith}
 use Rattle.std.specs.Prelude.{slice_get, Contains}
 use Rattle.std.proofs.lemmas.Option.{same_Some, slice_get_within}
 use Rattle.ir_core.specs.Blocks.{HasInst}
@@ -18,8 +18,7 @@ use Rattle.places.specs.Orders.{none}
 use Rattle.places.specs.declared.place.Place.{Place}
 use Rattle.substitution.specs.Rewritten.{root_of, moved_place}
 use Rattle.substitution.specs.declared.rewrite.Rewrite.{Rewrite}
-use Rattle.substitution.proofs.Arriving.{same_or_other}
-use Rattle.substitution.proofs.Placing.{IsTheRoot, is_moved, moved_below}
+use Rattle.substitution.proofs.Placing.{IsTheRoot, moved_below}
 use Rattle.changes.specs.Calls.{rewritten_moves}
 use Rattle.changes.specs.Listing.{IsPutFor, ReadsRoot}
 use Rattle.changes.specs.declared.applying.Put.{Put}
@@ -49,26 +48,6 @@ module _ (w : Rewrite) where
 
   module _ (put : Put) (p : IsPutFor w put) where
     -- ---- where an instruction stands then
-
-    pub stays_before : (b k : ℕ) → (b ≡ put.block → k < put.place) → Some k ≡ rewritten_moves w true b k
-    stays_before b k before =
-        let other : ¬ IsTheRoot w b k = λ here. let less = before (here.0 ∙ p.block) in let place = here.1 in let is = p.place in omega arith in
-        let same : moved_place w b k ≡ k = elim (same_or_other b 0 w.block 0) [
-          | inl here ↦ let less = before (here.0 ∙ p.block) in let is = p.place in (is_moved w b k).unmoved here.0 (omega arith)
-          | inr apart ↦ (is_moved w b k).elsewhere (λ e. apart (e, refl))
-        ] in
-        ap (λ (n : ℕ). Some n) (sym same) ∙ sym (other_moves w true b k other)
-
-    pub root_gone : (b k : ℕ) → b ≡ put.block → k ≡ put.place → None ≡ rewritten_moves w true b k
-    root_gone b k block place = sym (root_moves w true b k (block ∙ sym p.block, place ∙ sym p.place))
-
-    pub stays_behind : (b k : ℕ) → b ≡ put.block → put.place < k → Some (k - 1 + put.count) ≡ rewritten_moves w true b k
-    stays_behind b k block behind =
-        let is = p.place in
-        let other : ¬ IsTheRoot w b k = λ here. let place = here.1 in omega arith in
-        let moved : moved_place w b k ≡ k - 1 + length w.put = (is_moved w b k).behind (block ∙ sym p.block) (omega arith) in
-        let count : k - 1 + put.count ≡ k - 1 + length w.put = ap (λ (n : ℕ). k - 1 + n) (sym p.count) in
-        ap (λ (n : ℕ). Some n) (count ∙ sym moved) ∙ sym (other_moves w true b k other)
 
     -- ---- what reads the root
 

@@ -228,9 +228,6 @@ difference_changes_sign old new a b difference x y z some same_width width is at
     rw (x_kept, y_kept)
     (signed_difference (length a) (number (map old a)) (number (map old b)) (number (map new difference)) (old x) (old y) (new z) some (number_below old a) below_b below is (highest_bit old a x some at_x) (rw same_width at (highest_bit old b y some_b at_y)) (rw width at (highest_bit new difference z some_difference at_z)))
 
-pub unsigned_product : (n m : ℕ) → nat_le (2 ^ n) m ≡ not (fits false n (pos m))
-unsigned_product n m = grind (arith, ints, nat_tests)
-
 pub product_exceeds_limit : {L : Type 0} (v0 v1 v2 v3 v4 v5 : L → Bool) (a b ma mb bits greatest : List L) (x y differ overflow exceeds : L) → 0 < length a → length b ≡ length a → length ma ≡ length a → x ≡ get_or a (length a - 1) x → y ≡ get_or b (length b - 1) y → v3 x ≡ v0 x → v3 y ≡ v0 y → v5 overflow ≡ v3 overflow → map v1 b ≡ map v0 b → map v2 ma ≡ map v1 ma → map v4 bits ≡ map v3 bits → number (map v1 ma) ≡ unsigned_abs (signed (length a) (number (map v0 a))) → number (map v2 mb) ≡ unsigned_abs (signed (length b) (number (map v1 b))) → number (map v3 bits) ≡ (number (map v2 ma) * number (map v2 mb)) % 2 ^ length ma → v3 overflow ≡ nat_le (2 ^ length ma) (number (map v2 ma) * number (map v2 mb)) → v4 differ ≡ xor (v3 x) (v3 y) → number (map v4 greatest) ≡ (if v4 differ then 2 ^ (length a - 1) else 2 ^ (length a - 1) - 1) → v5 exceeds ≡ nat_lt (number (map v4 greatest)) (number (map v4 bits)) → (v5 overflow || v5 exceeds) ≡ not (fits true (length a) (whole true (length a) (number (map v0 a)) *ℤ whole true (length a) (number (map v0 b))))
 product_exceeds_limit v0 v1 v2 v3 v4 v5 a b ma mb bits greatest x y differ overflow exceeds some same_width width at_x at_y x_kept y_kept overflow_kept b_kept ma_kept bits_kept ma_is mb_is bits_are overflow_is differ_is greatest_is exceeds_is =
     let some_b : 0 < length b = omega arith in

@@ -83,8 +83,8 @@ step_more higher b q r left p digit false below range fits_is left_is before =
     let whole : left ≡ bit digit + 2 * r = rw (← fits_is) at left_is ∙ mod-eq_of_lt (omega arith) in
     (omega arith, omega arith)
 
--- after the steps of the bits of a from its highest down to place i: the quotient, highest bit first, and the remainder of the
--- number of those bits
+-- after the steps of the bits of a from its highest down to place i: the quotient, highest bit first, and the remainder
+-- of the number of those bits
 pub record Stepped {C L : Type 0} (state : Ghosts C L) (start now : C) (a b quotient remainder : List L) (i : ℕ) : Type 0 where
   pub adds : Adds state start now (division_step_gates (length b) * (length a - i))
   pub own_quotient : All (state.has_literal now) quotient

@@ -99,8 +99,8 @@ used_more n i some inside =
     subst (λ k. (product_gates n - later_gates k) + row_gates k + 3 + 1 ≤ product_gates n - later_gates (n - (i + 1))) row
     (subst (λ k. (product_gates k - later_gates (n - (i + 1) + 1)) + row_gates (n - (i + 1) + 1) + 3 + 1 ≤ product_gates k - later_gates (n - (i + 1))) whole (used_at (n - (i + 1)) (i - 1)))
 
--- after the rows of the lowest i bits of b: the product of a and those bits, whether it overflows, and whether a, shifted to the
--- next row, has a true bit past the width
+-- after the rows of the lowest i bits of b: the product of a and those bits, whether it overflows, and whether a,
+-- shifted to the next row, has a true bit past the width
 pub record Multiplied {C L : Type 0} (state : Ghosts C L) (start now : C) (a b bits : List L) (overflow past : L) (i : ℕ) : Type 0 where
   pub adds : Adds state start now (product_gates (length a) - later_gates (length a - i))
   pub own_bits : All (state.has_literal now) bits

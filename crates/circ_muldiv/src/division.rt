@@ -20,8 +20,8 @@ pub struct Divided<L> {
     pub remainder: Bits<L>,
 }
 
-/// The quotient and the remainder of two words of one width N, at least 1, read as unsigned. By 0 the two words are free. It
-/// adds at most 6 N^2 + 5 N gates.
+/// The quotient and the remainder of two words of one width N, at least 1, read as unsigned. By 0 the two words are
+/// free. It adds at most 6 N^2 + 5 N gates.
 pub fn divide_unsigned<C: Circuit>(
     alloc: Global,
     c: &mut C,
@@ -72,8 +72,8 @@ struct Step<L> {
     remainder: Bits<L>,
 }
 
-/// One step of a restoring division by a word of width N: the next bit of the dividend goes below the remainder so far, and the
-/// divisor is taken off where it fits. Both stand in N + 1 bits, since the longer remainder may be 2^N or more.
+/// One step of a restoring division by a word of width N: the next bit of the dividend goes below the remainder so far,
+/// and the divisor is taken off where it fits. Both stand in N + 1 bits, since the longer remainder may be 2^N or more.
 fn divide_step<C: Circuit>(
     alloc: Global,
     c: &mut C,
@@ -116,7 +116,8 @@ fn divide_step<C: Circuit>(
     })
 }
 
-/// A word of width N + 1 less a divisor of width N, by adding the divisor's complement: it fits exactly where that sum carries.
+/// A word of width N + 1 less a divisor of width N, by adding the divisor's complement: it fits exactly where that sum
+/// carries.
 fn difference<C: Circuit>(
     alloc: Global,
     c: &mut C,

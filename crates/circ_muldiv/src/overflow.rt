@@ -12,8 +12,8 @@ use crate::signs::{absolute, sign};
 use circuits::{Bits, Circuit, add_with_carry, less_unsigned, or, repeated, sub};
 use std::alloc::{AllocError, Global};
 
-/// Whether the sum of two words of one width N, both read as signed or both as unsigned, doesn't fit N bits. It adds at most
-/// 5 N + 3 gates.
+/// Whether the sum of two words of one width N, both read as signed or both as unsigned, doesn't fit N bits. It adds at
+/// most 5 N + 3 gates.
 pub fn overflow_add<C: Circuit>(
     alloc: Global,
     c: &mut C,
@@ -43,8 +43,8 @@ pub fn overflow_add<C: Circuit>(
     }
 }
 
-/// Whether the difference of two words of one width N, both read as signed or both as unsigned, doesn't fit N bits. It adds at
-/// most 5 N + 3 gates.
+/// Whether the difference of two words of one width N, both read as signed or both as unsigned, doesn't fit N bits. It
+/// adds at most 5 N + 3 gates.
 pub fn overflow_sub<C: Circuit>(
     alloc: Global,
     c: &mut C,
@@ -73,8 +73,8 @@ pub fn overflow_sub<C: Circuit>(
     }
 }
 
-/// Whether the product of two words of one width N, both read as signed or both as unsigned, doesn't fit N bits. It adds at
-/// most 3 N^2 + 16 N - 2 gates, unsigned 3 N^2 + 2 N - 4.
+/// Whether the product of two words of one width N, both read as signed or both as unsigned, doesn't fit N bits. It
+/// adds at most 3 N^2 + 16 N - 2 gates, unsigned 3 N^2 + 2 N - 4.
 pub fn overflow_mul<C: Circuit>(
     alloc: Global,
     c: &mut C,
@@ -103,8 +103,8 @@ pub fn overflow_mul<C: Circuit>(
     }
 }
 
-/// Whether the signed product of two words of one width N doesn't fit N bits: whether the product of the absolute values is
-/// above 2^(N-1) - 1, or above 2^(N-1) where the signs differ.
+/// Whether the signed product of two words of one width N doesn't fit N bits: whether the product of the absolute
+/// values is above 2^(N-1) - 1, or above 2^(N-1) where the signs differ.
 fn overflow_mul_signed<C: Circuit>(
     alloc: Global,
     c: &mut C,
@@ -133,8 +133,8 @@ fn overflow_mul_signed<C: Circuit>(
     or(alloc, c, product.overflow, exceeds)
 }
 
-/// The greatest absolute value of a signed number of N bits: 2^(N-1) where it is negative, and else 2^(N-1) - 1. It makes no
-/// gate.
+/// The greatest absolute value of a signed number of N bits: 2^(N-1) where it is negative, and else 2^(N-1) - 1. It
+/// makes no gate.
 fn greatest<C: Circuit>(
     alloc: Global,
     c: &C,

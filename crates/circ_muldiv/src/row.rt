@@ -34,7 +34,8 @@ pub(crate) fn masked<C: Circuit>(
     Ok(masked)
 }
 
-/// The sum of a word of width N and, where `digit` is true, of the lowest bits of `a` as they stand from `place` up to N.
+/// The sum of a word of width N and, where `digit` is true, of the lowest bits of `a` as they stand from `place` up to
+/// N.
 pub(crate) fn add_row<C: Circuit>(
     alloc: Global,
     c: &mut C,
@@ -93,8 +94,8 @@ fn add_where<C: Circuit>(
     add_with_carry(alloc, c, word, shown.as_slice(), first)
 }
 
-/// Whether a product lost a bit up to a row: before it, by the row's carry, or because the row's digit is true where `a`,
-/// shifted to the row's place, has a true bit past the width.
+/// Whether a product lost a bit up to a row: before it, by the row's carry, or because the row's digit is true where
+/// `a`, shifted to the row's place, has a true bit past the width.
 pub(crate) fn loses<C: Circuit>(
     alloc: Global,
     c: &mut C,

@@ -12,9 +12,9 @@ use crate::signs::{absolute, sign};
 use circuits::{Bits, Circuit, neg, select};
 use std::alloc::{AllocError, Global};
 
-/// The quotient and the remainder of two words of one width N, at least 1, read as signed in two's complement: both modulo 2^N,
-/// so that the least number by -1 gives the least number and 0. By 0 the two words are free. It adds at most 6 N^2 + 29 N + 1
-/// gates.
+/// The quotient and the remainder of two words of one width N, at least 1, read as signed in two's complement: both
+/// modulo 2^N, so that the least number by -1 gives the least number and 0. By 0 the two words are free. It adds at
+/// most 6 N^2 + 29 N + 1 gates.
 pub fn divide_signed<C: Circuit>(
     alloc: Global,
     c: &mut C,
@@ -79,8 +79,8 @@ fn divide_absolute<C: Circuit>(
     divide_unsigned(alloc, c, &absolute_a, &absolute_b)
 }
 
-/// The quotient and the remainder of two words, from those of their absolute values and from their signs: negated modulo
-/// 2^N, the quotient where the signs differ, and the remainder where the first is negative.
+/// The quotient and the remainder of two words, from those of their absolute values and from their signs: negated
+/// modulo 2^N, the quotient where the signs differ, and the remainder where the first is negative.
 fn with_signs<C: Circuit>(
     alloc: Global,
     c: &mut C,

@@ -16,8 +16,8 @@ pub fn sign<L: Copy>(word: &Bits<L>) -> L
     word.as_slice()[word.len() - 1]
 }
 
-/// The absolute value of a signed number of N bits, at least 1, in two's complement. It is at most 2^(N-1), so N bits hold it,
-/// and the least number gives itself. It adds at most 6 N gates.
+/// The absolute value of a signed number of N bits, at least 1, in two's complement. It is at most 2^(N-1), so N bits
+/// hold it, and the least number gives itself. It adds at most 6 N gates.
 pub fn absolute<C: Circuit>(
     alloc: Global,
     c: &mut C,

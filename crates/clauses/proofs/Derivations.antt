@@ -2,8 +2,8 @@
 use Rattle.std.proofs.Common.{◌≡◌, ℕ, List, [], ◌∷◌, ◌++◌, Some, refl, sym, ap, ◌∙◌, subst}
 use Rattle.std.specs.Prelude.{slice_get}
 use Rattle.clauses.specs.Literal.{Lit}
-use Rattle.clauses.specs.Propagation.{Derives, HintsRefute, NamesFalse, NamesUnit, IsFalsified, IsUnit}
-use Rattle.clauses.proofs.Units.{not_falsified_by, unit_same, unit_stands}
+use Rattle.clauses.specs.Propagation.{Derives, HintsRefute, NamesFalse, NamesUnit, IsUnit}
+use Rattle.clauses.proofs.Units.{unit_same}
 
 -- a number names one clause
 same_clause : (clauses : List (List Lit)) (number : ℕ) (c d : List Lit) → slice_get clauses number ≡ Some c → slice_get clauses number ≡ Some d → c ≡ d
@@ -14,29 +14,12 @@ pub NamesUnit-same : (clauses : List (List Lit)) (held : List Lit) (number : ℕ
 NamesUnit-same clauses held number l m (c, at, one) (d, at', one') =
     unit_same held d l m (subst (λ e. IsUnit held e l) (same_clause clauses number c d at at') one) one'
 
--- a clause that makes a literal hold isn't false
-pub NamesUnit-not_false : (clauses : List (List Lit)) (held : List Lit) (number : ℕ) (l : Lit) → NamesUnit clauses held number l → NamesFalse clauses held number → ⊥
-NamesUnit-not_false clauses held number l (c, at, one) (d, at', none) =
-    not_falsified_by held c l (unit_stands held c l one) one.not_false
-    (subst (IsFalsified held) (sym (same_clause clauses number c d at at')) none)
-
 -- one more move at the end
 pub Derives-push : (clauses : List (List Lit)) (held : List Lit) (numbers : List ℕ) (after : List Lit) (number : ℕ) (l : Lit) → Derives clauses held numbers after → NamesUnit clauses after number l → Derives clauses held (numbers ++ number ∷ []) (l ∷ after)
 Derives-push clauses held [] after number l d unit =
     (l, subst (λ state. NamesUnit clauses state number l) (sym d) unit, ap (λ state. l ∷ state) d)
 Derives-push clauses held (n ∷ numbers) after number l d unit =
     (d.0, d.1, Derives-push clauses (d.0 ∷ held) numbers after number l d.2 unit)
-
--- one derivation after another
-pub Derives-append : (clauses : List (List Lit)) (held : List Lit) (numbers : List ℕ) (between : List Lit) (more : List ℕ) (after : List Lit) → Derives clauses held numbers between → Derives clauses between more after → Derives clauses held (numbers ++ more) after
-Derives-append clauses held [] between more after d e = subst (λ state. Derives clauses state more after) (sym d) e
-Derives-append clauses held (n ∷ numbers) between more after d e =
-    (d.0, d.1, Derives-append clauses (d.0 ∷ held) numbers between more after d.2 e)
-
--- no hints refute nothing
-pub HintsRefute-nil : (clauses : List (List Lit)) (held : List Lit) → ¬ (HintsRefute clauses held [])
-HintsRefute-nil clauses held ([], last, after, is, d, named) = cc
-HintsRefute-nil clauses held (n ∷ ns, last, after, is, d, named) = cc
 
 -- one hint refutes where it names a false clause
 pub HintsRefute-one : (clauses : List (List Lit)) (held : List Lit) (number : ℕ) → NamesFalse clauses held number → HintsRefute clauses held (number ∷ [])

@@ -1,8 +1,8 @@
 -- Clauses that are false, and literals that are unit in them, literal by literal.
-use Rattle.std.proofs.Common.{◌≡◌, ℕ, ◌+◌, ◌<◌, true, false, List, [], ◌∷◌, ◌++◌, Option, Some, None, length, take, drop, get_or, refl, sym, ap, ◌∙◌, inl, inr, subst}
+use Rattle.std.proofs.Common.{◌≡◌, ℕ, ◌+◌, ◌<◌, true, false, List, [], ◌∷◌, ◌++◌, Option, Some, None, length, take, get_or, refl, sym, ap, ◌∙◌, inl, inr, subst}
 use Rattle.std.specs.Prelude.{Contains}
 use Rattle.std.proofs.lemmas.Bool.{cases_Bool, true≢false}
-use Rattle.std.proofs.lemmas.List.{take_more, take-append-drop}
+use Rattle.std.proofs.lemmas.List.{take_more}
 use Rattle.std.proofs.lemmas.List.Elements.{All-contains, All-cons, All-push, Contains-get_or, Contains-append_left, Contains-push}
 use Rattle.std.proofs.lemmas.List.Folds.{Any-from_list_any, list_any_at}
 use Rattle.clauses.specs.Literal.{Lit, is_same}
@@ -121,14 +121,3 @@ so_far_false held clause k d found within closed h =
 pub so_far_open : (held clause : List Lit) (k : ℕ) (d : Lit) (found : Option Lit) → k < length clause → is_false held (get_or clause k d) ≡ false → ((l : Lit) → found ≡ Some l → l ≡ get_or clause k d) → IsSoFar held (take k clause) found → IsUnit held (take (k + 1) clause) (get_or clause k d)
 so_far_open held clause k d found within kept same h =
     subst (λ ls. IsUnit held ls (get_or clause k d)) (sym (take_more clause k d within)) (push_open held (take k clause) (get_or clause k d) found kept same h)
-
--- it isn't false and differs from the one that was found: the clause isn't false, and no literal is unit in it
-pub two_differ : (held clause : List Lit) (k : ℕ) (d l : Lit) → k < length clause → is_false held (get_or clause k d) ≡ false → (l ≡ get_or clause k d → ⊥) → IsUnit held (take k clause) l → (IsFalsified held clause → ⊥) × ((m : Lit) → IsUnit held clause m → ⊥)
-two_differ held clause k d l within kept other unit =
-    let x = get_or clause k d in
-    let here : is_held clause x ≡ true = held_at_place clause k d within in
-    let before : is_held clause l ≡ true =
-    held-from_Contains clause l (subst (λ ls. Contains ls l) (take-append-drop k clause) (Contains-append_left (take k clause) (drop k clause) l unit.stands)) in (
-      not_falsified_by held clause x here kept,
-      λ m only. other (unit_only held clause m l only before unit.not_false ∙ sym (unit_only held clause m x only here kept)),
-    )

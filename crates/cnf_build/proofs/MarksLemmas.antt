@@ -1,9 +1,8 @@
 -- What a pass over the gates, from the last to the first, marks.
-use Rattle.std.proofs.Common.{◌≡◌, ℕ, ◌+◌, ◌<◌, ◌≤◌, ◌⊎◌, true, false, List, length, get_or, set, replicate, Some, refl, sym, ap, ◌∙◌, subst, inl, inr, arith, length-set, get_or-set_same, get_or-set_other}
+use Rattle.std.proofs.Common.{◌≡◌, ℕ, ◌+◌, ◌<◌, ◌≤◌, ◌⊎◌, true, false, List, length, get_or, set, Some, refl, sym, ap, ◌∙◌, subst, inl, inr, arith, length-set, get_or-set_same, get_or-set_other}
 use Rattle.std.specs.Prelude.{slice_get}
-use Rattle.std.proofs.lemmas.Bool.{cases_lt, cases_eq, true≢false}
-use Rattle.std.proofs.lemmas.Option.{slice_get_within, same_Some}
-use Rattle.std.proofs.lemmas.List.{get_or-replicate, get_or_past, length-replicate}
+use Rattle.std.proofs.lemmas.Bool.{cases_eq, true≢false}
+use Rattle.std.proofs.lemmas.Option.{same_Some}
 use Rattle.aig.specs.declared.literal.Node.{Node}
 use Rattle.aig.specs.declared.literal.Node.TheVariants.{One, Input, Output}
 use Rattle.aig.specs.Literal.{Literal}
@@ -153,31 +152,6 @@ pub record MarkedFrom (gates : List Gate) (root : Literal) (from : ℕ) (marks :
       (k : ℕ) (gate : Gate) → from ≤ k → slice_get gates k ≡ Some gate → IsMarked marks (Output k) →
       (node : Node) → IsOperand node gate → IsCovered marks node
   pub asked_for : (node : Node) → IsMarked marks node → IsAskedFor gates root marks node
-
-none_marked : (n : ℕ) (node : Node) → ¬ (IsMarked (record { one = false; gates = replicate n false }) node)
-none_marked n One is = true≢false (sym is)
-none_marked n (Input k) is = is
-none_marked n (Output k) is =
-    elim (cases_lt k n) [
-      | inl within ↦ true≢false (sym is ∙ get_or-replicate n k false false within)
-      | inr past ↦ true≢false (sym is ∙ get_or_past (replicate n false) k false (omega (arith, length-replicate n false)))
-    ]
-
-pub MarkedFrom-start : (gates : List Gate) (root : Literal) → OutputBelow (length gates) root.node → MarkedFrom gates root (length gates) (with_node (record { one = false; gates = replicate (length gates) false }) root.node)
-MarkedFrom-start gates root below =
-    let none : NeededMarks = record { one = false; gates = replicate (length gates) false } in
-    let count : length none.gates ≡ length gates = length-replicate (length gates) false in
-    let adds = Adds-node none root.node (subst (λ k. OutputBelow k root.node) (sym count) below) in
-    record {
-      count = adds.count ∙ count;
-      root_covered = adds.added root.node refl;
-      closed = λ k gate from at. absurd (let within = slice_get_within gates k gate at in omega arith);
-      asked_for = λ node is.
-          elim (adds.only node is) [
-            | inl before ↦ absurd (none_marked (length gates) node before)
-            | inr e ↦ inl e
-          ];
-    }
 
 asked_more : (gates : List Gate) (root : Literal) (old new : NeededMarks) → ((node : Node) → IsMarked old node → IsMarked new node) → (node : Node) → IsAskedFor gates root old node → IsAskedFor gates root new node
 asked_more gates root old new kept node is =

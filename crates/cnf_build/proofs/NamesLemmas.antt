@@ -18,7 +18,7 @@ use Rattle.cnf_build.specs.declared.definition.Definition.{Definition}
 use Rattle.cnf_build.specs.declared.definition.Definition.TheVariants as definitions
 use Rattle.cnf_build.specs.Definitions.{definition_value, IsSmaller, IsOverSmaller}
 use Rattle.cnf_build.specs.NeededGates.{NeededMarks, IsMarked, IsCovered, IsOperand, IsClosed, AreNeeded}
-use Rattle.cnf_build.specs.Names.{Names, variable_of, lit_of, definition_of, with_constant, with_gate, HasDefinition, NamesFirst}
+use Rattle.cnf_build.specs.Names.{Names, variable_of, lit_of, definition_of, with_gate, HasDefinition, NamesFirst}
 use Rattle.cnf_build.proofs.OneDefinition.{IsOperandOf}
 use Rattle.cnf_build.proofs.DefinitionLists.{Solves, Solves-at}
 use Rattle.cnf_build.proofs.SetLemmas.{length-clauses_from-push}
@@ -73,34 +73,6 @@ definition_of-grown names more ds inputs k le (Mux c a b) own =
     (lit_of-grown names more ds inputs k le b own.2)
 
 -- the start
-
-pub NamesFirst-start : (inputs : ℕ) (all : List Gate) (marks : NeededMarks) (b : Bool) → marks.one ≡ b → NamesFirst all marks 0 (with_constant (record { inputs = inputs; numbers = []; definitions = [] }) b)
-NamesFirst-start inputs all marks true is =
-    record {
-      length_numbers = refl;
-      length_definitions = omega arith;
-      few_clauses = λ n. omega arith;
-      one_defined = λ _. (0, omega arith, refl);
-      gates_defined = λ k gate below. absurd (omega arith);
-      only_marked = λ j below. (One, is, omega arith, tt);
-      over_smaller = λ j d at.
-          elim (slice_get-push_cases [] definitions.One d j at) [
-            | inl never ↦ absurd (cc)
-            | inr new ↦ subst (IsOverSmaller (inputs + 1 + j)) new.1 tt
-          ];
-      rising = λ i k less below is. absurd (omega arith);
-    }
-NamesFirst-start inputs all marks false is =
-    record {
-      length_numbers = refl;
-      length_definitions = omega arith;
-      few_clauses = λ n. omega arith;
-      one_defined = λ one. absurd (true≢false (sym one ∙ is));
-      gates_defined = λ k gate below. absurd (omega arith);
-      only_marked = λ j below. absurd (omega arith);
-      over_smaller = λ j d at. absurd (cc);
-      rising = λ i k less below is. absurd (omega arith);
-    }
 
 -- a covered node's variable is smaller than the next
 pub IsSmaller-next : (all : List Gate) (marks : NeededMarks) (count : ℕ) (names : Names) → count ≤ length all → NamesFirst all marks count names → (node : Node) (negated : Bool) → IsAmong names.inputs count node → IsCovered marks node → IsSmaller (names.inputs + 1 + length names.definitions) (record { variable = variable_of names node; negated = negated })

@@ -89,12 +89,6 @@ pub Consistent-within : (held all : List Lit) → HeldWithin held all → Consis
 Consistent-within held all within ok =
     record { each = λ l h. not_held held all (negation_of l) within (ok.each l (within.each l h)) }
 
-pub HeldWithin-left : (xs ys : List Lit) → HeldWithin xs (xs ++ ys)
-HeldWithin-left xs ys = record { each = held_left xs ys }
-
-pub HeldWithin-same : (xs ys : List Lit) → xs ≡ ys → HeldWithin xs ys
-HeldWithin-same xs ys e = record { each = λ l h. sym (ap (λ held. is_held held l) e) ∙ h }
-
 -- the literals of joined entries
 pub literals-append : (xs ys : List Entry) → literals (xs ++ ys) ≡ literals xs ++ literals ys
 literals-append xs ys = map-append (λ (e : Entry). e.literal) xs ys

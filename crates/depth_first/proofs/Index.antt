@@ -1,15 +1,15 @@
 -- Occurrence lists, clause by clause.
 use Rattle.std.proofs.Common.{◌≡◌, ℕ, suc, ◌+◌, true, List, [], ◌∷◌, ◌++◌, Some, length, take, sym, ap, ◌∙◌, arith, inl, inr, subst}
 use Rattle.std.specs.Prelude.{slice_get, ◌⊎◌}
-use Rattle.std.proofs.lemmas.Bool.{cases_Bool, cases_order}
+use Rattle.std.proofs.lemmas.Bool.{cases_Bool}
 use Rattle.clauses.specs.Literal.{Lit, is_same}
 use Rattle.clauses.specs.Propagation.{is_held}
 use Rattle.clauses.proofs.Held.{is_same-true}
 use Rattle.depth_first.specs.declared.occurrences.Occurrences.{Occurrences}
 use Rattle.depth_first.specs.Propagated.{StandsFrom}
-use Rattle.depth_first.specs.OccurrenceLists.{numbers_of, AddsNumber, AddsClause, FindsBelow}
-use Rattle.depth_first.proofs.Lists.{some_same, slice_get_left, slice_get_last, slice_get_push_cases, take_next}
-use Rattle.depth_first.proofs.HeldLists.{held_cases, held_one_same, not_held_nil}
+use Rattle.depth_first.specs.OccurrenceLists.{numbers_of, AddsNumber, AddsClause}
+use Rattle.depth_first.proofs.Lists.{slice_get_left, slice_get_last, slice_get_push_cases, take_next}
+use Rattle.depth_first.proofs.HeldLists.{held_cases, held_one_same}
 
 -- what the lists have for a literal after one number more
 grown : (old new : Occurrences) (l : Lit) (number : ℕ) → AddsNumber old new l number → (m : Lit) → is_same m l ≡ true → numbers_of new m ≡ numbers_of old m ++ number ∷ []
@@ -43,14 +43,6 @@ stands_here old new l number adds = (
   ap (λ ns. slice_get ns (length (numbers_of old l))) adds.here ∙ slice_get_last (numbers_of old l) number,
 )
 
-pub AddsClause-start : (lists : Occurrences) (number : ℕ) → AddsClause lists lists [] number
-AddsClause-start lists number =
-    record {
-      kept = λ l place n at. at;
-      added = λ l h. absurd (not_held_nil l h);
-      only = λ l place n at. inl at;
-    }
-
 -- one literal of the clause more
 pub AddsClause-next : (old mid new : Occurrences) (clause : List Lit) (k number : ℕ) (l : Lit) → slice_get clause k ≡ Some l → AddsClause old mid (take k clause) number → AddsNumber mid new l number → AddsClause old new (take (k + 1) clause) number
 AddsClause-next old mid new clause k number l at so_far adds =
@@ -70,33 +62,5 @@ AddsClause-next old mid new clause k number l at so_far adds =
           elim (only_one mid new l number adds m place n after) [
             | inl before ↦ so_far.only m place n before
             | inr is ↦ inr is
-          ];
-    }
-
-pub FindsBelow-start : (clauses : List (List Lit)) (lists : Occurrences) → ((l : Lit) → numbers_of lists l ≡ []) → FindsBelow clauses 0 lists
-FindsBelow-start clauses lists none =
-    record {
-      finds = λ number clause l below at h. absurd (omega arith);
-      only = λ l place n at. let e : slice_get [] place ≡ Some n = sym (ap (λ ns. slice_get ns place) (none l)) ∙ at in cc;
-    }
-
--- one clause more
-pub FindsBelow-next : (clauses : List (List Lit)) (k : ℕ) (clause : List Lit) (old new : Occurrences) → slice_get clauses k ≡ Some clause → FindsBelow clauses k old → AddsClause old new clause k → FindsBelow clauses (k + 1) new
-FindsBelow-next clauses k clause old new at finds adds =
-    record {
-      finds = λ number d l below there h.
-          elim (cases_order number k) [
-            | inl same ↦
-                let e : clause ≡ d = some_same clause d (sym at ∙ ap (slice_get clauses) (sym same) ∙ there) in
-                subst (λ n. StandsFrom (numbers_of new l) 0 n) (sym same)
-                (adds.added l (ap (λ c. is_held c l) e ∙ h))
-            | inr (inl less) ↦
-                let s = finds.finds number d l less there h in (s.0, s.1, adds.kept l s.0 number s.2)
-            | inr (inr more) ↦ absurd (omega arith)
-          ];
-      only = λ l place n after.
-          elim (adds.only l place n after) [
-            | inl before ↦ omega (arith, finds.only l place n before)
-            | inr is ↦ omega (arith, is)
           ];
     }

@@ -17,7 +17,3 @@ clause_within set number clause at =
 pub below_from_within : (count n : ℕ) (clause : List Lit) → n ≡ count + 1 → IsWithin count clause → All (λ (l : Lit). l.variable < n) clause
 below_from_within count n clause is within k d inside =
     let h = within k d inside in omega (arith, is, h.1)
-
-pub within_from_length : (count n : ℕ) (clause : List Lit) → n ≡ count + 1 → IsWithin count clause → IsWithin (n - 1) clause
-within_from_length count n clause is within k d inside =
-    let h = within k d inside in (h.0, omega (arith, is, h.1))

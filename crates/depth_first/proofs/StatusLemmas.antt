@@ -1,9 +1,9 @@
 -- What a walk along a clause tells of it.
-use Rattle.std.proofs.Common.{◌≡◌, ℕ, ◌<◌, Bool, true, false, List, length, take, get_or, sym, ◌∙◌}
+use Rattle.std.proofs.Common.{◌≡◌, ℕ, ◌<◌, Bool, true, List, length, get_or, sym, ◌∙◌}
 use Rattle.std.proofs.lemmas.Option.{slice_get-get_or}
 use Rattle.clauses.specs.Literal.{Lit, IsWithin, IsVariable}
-use Rattle.clauses.specs.Propagation.{is_held, is_false, IsUnit}
-use Rattle.clauses.proofs.Units.{two_differ, unit_stands}
+use Rattle.clauses.specs.Propagation.{is_held, IsUnit}
+use Rattle.clauses.proofs.Units.{unit_stands}
 use Rattle.depth_first.specs.Propagated.{IsPropagated}
 use Rattle.depth_first.proofs.HeldLists.{Consistent, held_at}
 use Rattle.depth_first.proofs.Open.{IsPropagated-from_held, variable_within}
@@ -12,15 +12,6 @@ use Rattle.depth_first.proofs.Open.{IsPropagated-from_held, variable_within}
 pub propagated_by_held : (held clause : List Lit) (k : ℕ) (d : Lit) (answer : Bool) → Consistent held → k < length clause → answer ≡ is_held held (get_or clause k d) → answer ≡ true → IsPropagated held clause
 propagated_by_held held clause k d answer ok within is holds =
     IsPropagated-from_held held clause (get_or clause k d) ok (held_at clause k (get_or clause k d) (slice_get-get_or clause k d within)) (sym is ∙ holds)
-
--- two of them differ and aren't false
-pub propagated_by_two : (held clause : List Lit) (k : ℕ) (d l : Lit) → k < length clause → is_false held (get_or clause k d) ≡ false → (l ≡ get_or clause k d → ⊥) → IsUnit held (take k clause) l → IsPropagated held clause
-propagated_by_two held clause k d l within kept other unit =
-    let (isnt_false, no_unit) = two_differ held clause k d l within kept other unit in
-    record {
-      not_false = isnt_false;
-      forced_held = λ m only. absurd (no_unit m only);
-    }
 
 -- what a clause forces is one of the variables
 pub forced_variable : (count : ℕ) (held clause : List Lit) (l : Lit) → IsWithin count clause → IsUnit held clause l → IsVariable count l.variable

@@ -24,7 +24,8 @@ use Rattle.draft.proofs.Exchanging.{block_cases, inst_count, inst_differs, read_
 use Rattle.readers.proofs.Places.{AreFew, DiffersAt, IsListedToo, reads_known, still_facts, still_known, still_readers}
 use Rattle.draft.proofs.Wholeness.{all_known, few_insts, rows_less}
 
--- what else was done where one place was changed: its old operands are counted no more, its new ones are, and it is listed for them
+-- what else was done where one place was changed: its old operands are counted no more, its new ones are, and it is
+-- listed for them
 pub record IsRecounted (old new : Draft) (p : Place) : Type 0 where
   pub mid : Uses
   pub flow : new.facts.flow ≡ old.facts.flow
@@ -56,9 +57,6 @@ module _ (old new : Draft) (b n : ℕ) (change : Inst → Inst) (whole : IsWhole
     (arena : new.arena ≡ with_block old.arena b (inst_changed n change)) where
   abbrev place : Place
   place = record { block = b; number = n }
-
-  abbrev changed : Function
-  changed = with_block old.arena b (inst_changed n change)
 
   pub differs : DiffersAt old.arena new.arena place
   differs = subst (λ (f : Function). DiffersAt old.arena f place) (sym arena) (inst_differs old.arena (few_insts old whole) b n change block inst at here)

@@ -31,7 +31,8 @@ use Rattle.draft.proofs.Putting.{count_kept, facts_put, few_put, flow_put, known
 use Rattle.readers.proofs.Tables.{row_within}
 use Rattle.draft.proofs.Wholeness.{all_known, few_insts, rows_more}
 
--- what was done: one more instruction in the arena, in the order of its block, that stands, and has rows; its operands are counted and listed
+-- what was done: one more instruction in the arena, in the order of its block, that stands, and has rows; its operands
+-- are counted and listed
 pub record IsPut (old new : Draft) (b at : ℕ) (block : Block) (inst : Inst) : Type 0 where
   pub arena : new.arena ≡ put_in old.arena b inst
   pub orders : new.orders.items ≡ slice_set old.orders.items b (put_before (get_or old.orders.items b []) at (length block.insts))

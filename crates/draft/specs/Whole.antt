@@ -18,7 +18,8 @@ use Rattle.places.specs.Orders.{none}
 use Rattle.draft.specs.Placing.{IsOrdering}
 use Rattle.readers.specs.Readers.{AreReadersOf, IsPlaceIn, IsReader}
 
--- In order stand the numbers of the instructions of a block, each once, whether it was taken out or not; what was reads nothing.
+-- In order stand the numbers of the instructions of a block, each once, whether it was taken out or not; what was reads
+-- nothing.
 pub record AreRowsOf (block : Block) (order : List ℕ) (stand : List Bool) : Type 0 where
   pub few : length block.insts ≤ none
   pub ordered : length order ≡ length block.insts

@@ -23,7 +23,8 @@ use std::alloc::{AllocError, Global};
 /// A function whose instructions keep their numbers.
 #[derive(Drop)]
 pub struct Draft {
-    /// The instructions of each block by their numbers: what reads a register names its number. One that was taken out reads nothing.
+    /// The instructions of each block by their numbers: what reads a register names its number. One that was taken out
+    /// reads nothing.
     pub arena: Function,
     /// Which blocks are reached, and how often each register is used.
     pub facts: FunctionFacts,

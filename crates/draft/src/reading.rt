@@ -23,7 +23,8 @@ impl Draft {
         reads(&self.arena, place, register)
     }
 
-    /// Forgets what reads a register no more: then the places that are listed are those that read it. All else of the draft stays.
+    /// Forgets what reads a register no more: then the places that are listed are those that read it. All else of the
+    /// draft stays.
     pub fn trim_readers(&mut self, alloc: Global, register: Register)
         requires whole { IsWhole self.old }
         requires known { IsKnown self.old.arena (Operand.Register register) }

@@ -1,4 +1,5 @@
--- Where instructions are put, and an operand for a register, all other registers are read by as many operands as before, or more.
+-- Where instructions are put, and an operand for a register, all other registers are read by as many operands as
+-- before, or more.
 use Rattle.std.proofs.Common.{◌≡◌, ℕ, zero, suc, ◌≤◌, inl, inr, cond, List, [], ◌∷◌, ◌++◌, map, ap, ◌∙◌, arith}
 use Rattle.std.specs.Prelude.{sum_by}
 use Rattle.std.proofs.lemmas.Bool.{cases_Bool}

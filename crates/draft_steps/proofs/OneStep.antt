@@ -84,9 +84,6 @@ there_too v n sigma d (Some z) (Some y) x e are = (y, refl, subst (λ (u : Block
 
 module _ (stands_before : ReadsStandBefore) (old : Draft) (settled : IsSettled old) (rule : Rule) (m : Binding) (checks : MeetsChecks (function_of old)) (is_rule : IsRule rule)
     (matches : IsMatch (function_of old) m.block (placed_binding old m).place rule (placed_binding old m)) where
-  abbrev f : Function
-  f = old.arena
-
   abbrev rows : List (List ℕ)
   rows = numbers_of old
 

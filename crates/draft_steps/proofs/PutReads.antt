@@ -73,7 +73,8 @@ module _ (rule : Rule) (m : Binding) (first : ℕ) (Q : ℕ → Operand → Type
   abbrev num : Binding
   num = record m { place = first }
 
-  -- It holds of what the source names and of numbers; of a register that is put, for what is put behind it; and it is kept on the way.
+  -- It holds of what the source names and of numbers; of a register that is put, for what is put behind it; and it is
+  -- kept on the way.
   pub record Closed : Type 0 where
     pub more : (j k : ℕ) (a : Operand) → j ≤ k → Q j a → Q k a
     pub number : (k : ℕ) (n : Number) → Q k (operands.Number n)

@@ -114,7 +114,8 @@ module _ (w : Rewrite) (to to' : Substitution) (insts insts' : List Inst) (b : �
 
 -- ---- the function
 
--- Block b with what is put, where n was the number of the root: each other instruction is there, with what stands for what it reads.
+-- Block b with what is put, where n was the number of the root: each other instruction is there, with what stands for
+-- what it reads.
 pub record IsPutBlock (w : Rewrite) (n : ℕ) (sigma : Substitution) (b : ℕ) (old new : Block) : Type 0 where
   pub name : new.name ≡ old.name
   pub end : new.end ≡ substituted_end sigma old.end

@@ -74,7 +74,8 @@ module _ (f : Function) (rule : Rule) (m : Binding) (good : IsRule rule) (is : M
       let same : reg ≡ registers.Result m.block p = same_Some reg (registers.Result m.block p) (sym bound ∙ at) in
       record { i = i; s = s; later = earlier; is_statement = is_statement; matched = h; n = n; r = r; is_read_there = read_there; reads = reads ∙ ap operands.Register same }
 
-  -- what holds of the root, and of what is read by what it holds of, holds of each, told how many reads it is from the root
+  -- what holds of the root, and of what is read by what it holds of, holds of each, told how many reads it is from the
+  -- root
   module _ (G : ℕ → ℕ → Type 0) (root : G 0 m.place)
       (step : (t p q i : ℕ) (s : RuleOp) (inst : Inst) (r : Read) → suc t < length rule.source → G t p → IsInst f m.block p inst → IsSameOperation s inst.op → IsRead f m.block p i r
       → r.operand ≡ operands.Register (registers.Result m.block q) → G (suc t) q) where

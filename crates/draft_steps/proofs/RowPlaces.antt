@@ -187,10 +187,8 @@ kept_in keep (m ∷ row) n has is =
       ])
     ] refl
 
-one_of : Bool → ℕ
-one_of c = cond c 1 0
-
--- Where marks say of each place whether the number there is kept, a number that is kept stands where so many are kept before it.
+-- Where marks say of each place whether the number there is kept, a number that is kept stands where so many are kept
+-- before it.
 module _ (kept : KeptMarks) (b : ℕ) (keep : ℕ → Bool) where
   abbrev pub Marks : ℕ → List ℕ → Type 0
   Marks j row = (i n : ℕ) → slice_get row i ≡ Some n → kept b (j + i) ≡ keep n

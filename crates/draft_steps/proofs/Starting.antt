@@ -1,5 +1,5 @@
--- A draft as cleaning begins, where something was put for an instruction: what is read stands, and what stands is needed, or would be if what
--- fell were.
+-- A draft as cleaning begins, where something was put for an instruction: what is read stands, and what stands is
+-- needed, or would be if what fell were.
 use Rattle.std.proofs.Common.{◌≡◌, ◌≢◌, ℕ, ◌<◌, ◌⊎◌, inl, inr, true, List, [], ◌∷◌, ◌++◌, length, map, Option, None, Some, refl, sym, ap, subst, ◌∙◌, arith}
 use Rattle.std.specs.Prelude.{Contains, slice_get, slice_index_or, option_map, unwrap_or}
 use Rattle.std.specs.List.{filter, range_with_len}

@@ -1,4 +1,5 @@
--- The matches at an instruction whose statements are untouched are those that were there, but for what is asked to be used once.
+-- The matches at an instruction whose statements are untouched are those that were there, but for what is asked to be
+-- used once.
 use Rattle.std.proofs.Common.{◌≡◌, ◌⊎◌, inl, inr, ℕ, suc, ◌<◌, ◌≤◌, List, [], ◌∷◌, length, get_or, None, Some, refl, sym, ap, subst, ◌∙◌, arith}
 use Rattle.std.specs.Prelude.{Contains, slice_get}
 use Rattle.std.proofs.lemmas.List.Elements.{All-contains, Contains-get_or}

@@ -15,7 +15,8 @@ use Rattle.places.specs.Orders.{place_in}
 abbrev pub row_of : List (List ℕ) → ℕ → List ℕ
 row_of rows b = slice_index_or rows b []
 
--- Each number of a block is that of an instruction, and stands there once. What reads a register stands, and what is read does.
+-- Each number of a block is that of an instruction, and stands there once. What reads a register stands, and what is
+-- read does.
 pub record AreArranged (arena : Function) (rows : List (List ℕ)) : Type 0 where
   pub as_many : length rows ≡ length arena.blocks
   pub there : (b n : ℕ) → Contains (row_of rows b) n → HasInst arena b n

@@ -43,7 +43,8 @@ pub record IsLeft (keep : ℕ → ℕ → Bool) (old : Function) (rows : List (L
   pub blocks : (b : ℕ) → AreLeft (keep b) (slice_get old.blocks b) (slice_get new.blocks b)
   pub row : (b : ℕ) → slice_get left b ≡ option_map (filter (keep b)) (slice_get rows b)
 
--- Of an arena and its numbers what isn't needed is taken out, so far; and what is left is needed, or it would be if these registers were.
+-- Of an arena and its numbers what isn't needed is taken out, so far; and what is left is needed, or it would be if
+-- these registers were.
 pub record IsCleaning (old : Function) (rows : List (List ℕ)) (new : Function) (left : List (List ℕ)) (roots : List Register) : Type 0 where
   pub keep : ℕ → ℕ → Bool
   pub is_left : IsLeft keep old rows new left

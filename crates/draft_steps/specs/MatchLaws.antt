@@ -16,7 +16,8 @@ use Rattle.draft.specs.Whole.{IsSettled}
 abbrev pub placed_match : Draft → Match → Match
 placed_match d m = record { rule = m.rule; binding = placed_binding d m.binding }
 
--- the matches at an instruction of the arena, whatever the order of its numbers, are by places those of the draft's function
+-- the matches at an instruction of the arena, whatever the order of its numbers, are by places those of the draft's
+-- function
 abbrev pub MatchesOfTheArena : Type 0
 MatchesOfTheArena = (rules : List Rule) (d : Draft) (b n : ℕ) (matches : List Match)
     → AreReady rules → IsSettled d → MeetsChecks (function_of d) → Stands d b n
@@ -27,7 +28,8 @@ MatchesOfTheArena = (rules : List Rule) (d : Draft) (b n : ℕ) (matches : List 
 abbrev pub AreSourcesWithin : ℕ → List Rule → Type 0
 AreSourcesWithin depth rules = (r : ℕ) (rule : Rule) → slice_get rules r ≡ Some rule → length rule.source ≤ suc depth
 
--- An instruction that reaches nothing that was touched, through as many operands as a source has, has no match that it didn't have.
+-- An instruction that reaches nothing that was touched, through as many operands as a source has, has no match that it
+-- didn't have.
 abbrev pub MatchesOfTheUntouched : Type 0
 MatchesOfTheUntouched = (rules : List Rule) (old new : Draft) (touched : List Place) (depth b n : ℕ) (matches : List Match)
     → AreReady rules → AreSourcesWithin depth rules → IsSettled new → AreTouched old new touched → (IsReached (arena_of old) b ↔ IsReached (arena_of new) b)

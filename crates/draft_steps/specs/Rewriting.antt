@@ -1,5 +1,5 @@
--- What a rule makes of a draft: the instructions that it puts get the next numbers and stand before the root, what stands for the root's
--- register is put for it, and the root goes.
+-- What a rule makes of a draft: the instructions that it puts get the next numbers and stand before the root, what
+-- stands for the root's register is put for it, and the root goes.
 use Rattle.std.specs.Prelude.{◌≡◌, ◌↔◌, ◌⊎◌, ℕ, ◌+◌, ◌<◌, List, [], ◌∷◌, ◌++◌, length, map, Some, All, Contains, slice_get}
 use Rattle.std.specs.List.{filter_map, range_with_len}
 use Rattle.ir_core.specs.Checks.{IsKnown}

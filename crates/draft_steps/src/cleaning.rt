@@ -21,11 +21,12 @@ use readers::is;
 use std::alloc::{AllocError, Global};
 use use_counts::uses_of;
 
-/// Takes out what is needed no more since a rewrite, and gives the registers of which a use went and which are still used.
+/// Takes out what is needed no more since a rewrite, and gives the registers of which a use went and which are still
+/// used.
 ///
-/// What nothing reads goes, and with it what it alone read. In a function without cycles all else is needed, since what reads an
-/// instruction leads to a terminator. In others what is left of a cycle may read itself alone: there a walk from the terminators finds
-/// what is needed, but where each register that lost a use is seen to be.
+/// What nothing reads goes, and with it what it alone read. In a function without cycles all else is needed, since what
+/// reads an instruction leads to a terminator. In others what is left of a cycle may read itself alone: there a walk
+/// from the terminators finds what is needed, but where each register that lost a use is seen to be.
 pub(crate) fn clean_draft(
     alloc: Global,
     draft: &mut Draft,
@@ -134,8 +135,8 @@ fn are_needed(draft: &Draft, rewritten: &Rewritten, used: &[Register]) -> bool
     true
 }
 
-/// Whether what was put leads from a register to what stands for the root's, or it leads to a terminator within a few readers; or it has no
-/// instruction that stands.
+/// Whether what was put leads from a register to what stands for the root's, or it leads to a terminator within a few
+/// readers; or it has no instruction that stands.
 fn is_seen_needed(draft: &Draft, rewritten: &Rewritten, register: Register) -> bool
     requires whole { IsWhole draft.now }
     requires result { (r : Named) → rewritten.now.result ≡ operands.Register r → IsNeeded draft.now.arena r }

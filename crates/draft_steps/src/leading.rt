@@ -13,8 +13,8 @@ use places::{END, Place};
 /// How far readers are followed.
 const MOST_FOLLOWED: u32 = 64;
 
-/// Whether a register is seen to be needed: what was listed last of what reads it, and of what reads that, is a terminator in the end,
-/// before so many of them.
+/// Whether a register is seen to be needed: what was listed last of what reads it, and of what reads that, is a
+/// terminator in the end, before so many of them.
 pub(crate) fn leads_to_a_terminator(draft: &Draft, register: Register) -> bool
     requires whole { IsWhole draft.now }
     requires known { IsKnown draft.now.arena (Operand.Register register) }

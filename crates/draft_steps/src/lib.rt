@@ -1,10 +1,10 @@
-//! Steps of a draft: rules applied, and what is needed no more taken out; queues of the places of a draft, and walks from places to what
-//! reads them in their block; and which matches a draft has.
+//! Steps of a draft: rules applied, and what is needed no more taken out; queues of the places of a draft, and walks
+//! from places to what reads them in their block; and which matches a draft has.
 //!
 //! What changes a draft takes it by value, and gives it back changed: where memory is refused halfway, it is dropped.
 //!
-//! Laws say that the matches of the arena are by places those of the draft's function, and that an instruction that reaches nothing that
-//! was touched has no match that it didn't have: `specs/MatchLaws`.
+//! Laws say that the matches of the arena are by places those of the draft's function, and that an instruction that
+//! reaches nothing that was touched has no match that it didn't have: `specs/MatchLaws`.
 #![tactic(auto)]
 
 mod cleaning;

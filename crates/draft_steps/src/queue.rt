@@ -99,8 +99,8 @@ impl Queue {
         self.waiting.take_first(draft.orders.as_slice())
     }
 
-    /// Puts places into the queue that stand, and those that reach them through so many operands of their block. Of the draft
-    /// only what is listed for registers may be less. Where memory is refused, both are dropped.
+    /// Puts places into the queue that stand, and those that reach them through so many operands of their block. Of the
+    /// draft only what is listed for registers may be less. Where memory is refused, both are dropped.
     pub fn insert_reaching(
         self,
         alloc: Global,

@@ -44,8 +44,8 @@ pub(crate) struct Rewritten {
     pub(crate) result: Operand,
 }
 
-/// Applies a rule where it matches with this binding, which names numbers: what it puts gets the next numbers and stands before the root,
-/// what stands for the root's register is put for it, and the root goes.
+/// Applies a rule where it matches with this binding, which names numbers: what it puts gets the next numbers and
+/// stands before the root, what stands for the root's register is put for it, and the root goes.
 pub(crate) fn rewrite_draft(
     alloc: Global,
     draft: &mut Draft,

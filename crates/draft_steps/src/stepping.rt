@@ -28,12 +28,12 @@ use rule_core::Rule;
 use std::alloc::{AllocError, Global};
 use use_counts::uses_of;
 
-/// Applies a rule where it matches with this binding, which names numbers, and cleans the draft. It gives the places that were touched: the
-/// root's, and those of what came, of what reads something else, and of what is read by one operand alone since then. Some of them were
-/// taken out. Where memory is refused, the draft is dropped.
+/// Applies a rule where it matches with this binding, which names numbers, and cleans the draft. It gives the places
+/// that were touched: the root's, and those of what came, of what reads something else, and of what is read by one
+/// operand alone since then. Some of them were taken out. Where memory is refused, the draft is dropped.
 ///
-/// It takes as many steps as the rule is long, places read the root, and instructions go; and where what lost a use may be read by a
-/// cycle alone, as many as the arena is long.
+/// It takes as many steps as the rule is long, places read the root, and instructions go; and where what lost a use may
+/// be read by a cycle alone, as many as the arena is long.
 pub fn step(
     alloc: Global,
     draft: Draft,

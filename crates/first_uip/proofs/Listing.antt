@@ -89,14 +89,6 @@ IsListed-same old new listed watched same =
           omega (arith, listed.known l place n (sym (ap (λ ns. slice_get ns place) (same l)) ∙ at), ap length watched);
     }
 
--- no clauses
-pub IsListed-none : (watches : Watches) → (watched_in watches.arena) ≡ [] → ((l : Lit) → numbers_of watches l ≡ []) → IsListed watches
-IsListed-none watches no_clauses none =
-    record {
-      each = λ number w l at h. let e : slice_get [] number ≡ Some w = sym (ap (λ ws. slice_get ws number) no_clauses) ∙ at in cc;
-      known = λ l place n at. let e : slice_get [] place ≡ Some n = sym (ap (λ ns. slice_get ns place) (none l)) ∙ at in cc;
-    }
-
 -- one clause more
 pub IsListed-add : (old new : Watches) (w : Watched) → IsListed old → (watched_in new.arena) ≡ (watched_in old.arena) ++ w ∷ [] → AddsNumbers old new (watched_literals w) (length (watched_in old.arena)) → IsListed new
 IsListed-add old new w listed is adds =

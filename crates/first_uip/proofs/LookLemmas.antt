@@ -1,13 +1,10 @@
 -- What a look at a clause rests on.
 use Rattle.std.proofs.Common.{◌≡◌, ℕ, zero, suc, ◌<◌, true, false, List, [], ◌∷◌, Some, length, sym, ap, ◌∙◌, arith, inl, inr, subst}
 use Rattle.std.specs.Prelude.{slice_get, All, Contains}
-use Rattle.std.proofs.lemmas.Bool.{cases_Bool}
-use Rattle.std.proofs.lemmas.List.Elements.{All-contains}
 use Rattle.std.proofs.lemmas.Option.{get_or_from_slice_get}
-use Rattle.clauses.specs.Literal.{Lit, is_same, IsVariable, IsWithin, VariablesWithin}
-use Rattle.clauses.specs.Propagation.{IsUnit, IsFalsified, is_held, is_false}
-use Rattle.clauses.proofs.Held.{is_same-true}
-use Rattle.clauses.proofs.Units.{Contains-from_held, falsified_from, differ}
+use Rattle.clauses.specs.Literal.{Lit, IsVariable, IsWithin, VariablesWithin}
+use Rattle.clauses.specs.Propagation.{IsUnit, is_held, is_false}
+use Rattle.clauses.proofs.Units.{Contains-from_held, differ}
 use Rattle.depth_first.specs.declared.trail.Entry.{Entry}
 use Rattle.depth_first.specs.DepthFirst.{IsSatisfied}
 use Rattle.depth_first.proofs.Lists.{element_at, slice_get_below, some_same}
@@ -23,10 +20,6 @@ use Rattle.first_uip.specs.Looks.{WatchesBoth, NamesHeld}
 pub other_stands : (clause : List Lit) (w : Watched) (l other : Lit) → IsWatch clause w → WatchesBoth w l other → (is_held clause other ≡ true) × ((other ≡ l) → ⊥)
 other_stands clause w l other watch (inl is) = let (one, two, differ) = subst (IsWatch clause) is watch in (two, λ e. differ (sym e))
 other_stands clause w l other watch (inr is) = let (one, two, differ) = subst (IsWatch clause) is watch in (one, differ)
-
-pub this_stands : (clause : List Lit) (w : Watched) (l other : Lit) → IsWatch clause w → WatchesBoth w l other → is_held clause l ≡ true
-this_stands clause w l other watch (inl is) = let (one, two, differ) = subst (IsWatch clause) is watch in one
-this_stands clause w l other watch (inr is) = let (one, two, differ) = subst (IsWatch clause) is watch in two
 
 -- a clause of this number, and each literal of it, is of the variables
 pub clause_within : (count : ℕ) (clauses : List (List Lit)) (number : ℕ) (clause : List Lit) → VariablesWithin count clauses → slice_get clauses number ≡ Some clause → IsWithin count clause
@@ -45,14 +38,6 @@ other_within count clauses watched number w l other within each size at both =
 pub unit_if_open : (held clause : List Lit) (other : Lit) → is_held clause other ≡ true → All (λ m. (m ≡ other → ⊥) → is_false held m ≡ true) clause → is_false held other ≡ false → IsUnit held clause other
 unit_if_open held clause other stands others kept =
     record { stands = Contains-from_held clause other stands; not_false = kept; others_false = others }
-
-pub falsified_if_false : (held clause : List Lit) (other : Lit) → All (λ m. (m ≡ other → ⊥) → is_false held m ≡ true) clause → is_false held other ≡ true → IsFalsified held clause
-falsified_if_false held clause other others closed =
-    falsified_from held clause (λ m stands.
-    elim (cases_Bool (is_same m other)) [
-      | inl same ↦ ap (is_false held) (is_same-true m other same) ∙ closed
-      | inr isnt ↦ All-contains (λ k. (k ≡ other → ⊥) → is_false held k ≡ true) clause m others (Contains-from_held clause m stands) (differ m other isnt)
-    ])
 
 -- the number at a place is that of what stands there
 pub number_at : (watchers : List Watcher) (place : ℕ) (w : Watcher) → slice_get watchers place ≡ Some w → slice_get (numbers_in watchers) place ≡ Some w.number

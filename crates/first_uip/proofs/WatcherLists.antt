@@ -1,8 +1,7 @@
 -- The lists of watchers where one of them changed.
-use Rattle.std.proofs.Common.{◌≡◌, ℕ, ◌<◌, ◌⊎◌, false, List, [], ◌∷◌, ◌++◌, length, length-set, set, get_or, Contains, sym, ap, ◌∙◌, arith, inl, inr, subst}
+use Rattle.std.proofs.Common.{◌≡◌, ℕ, ◌<◌, ◌⊎◌, false, List, [], length, length-set, set, get_or, Contains, sym, ap, ◌∙◌, arith, inl, inr, subst}
 use Rattle.std.proofs.lemmas.Bool.{cases_Bool, cases_eq, true≢false}
 use Rattle.std.proofs.lemmas.List.{get_or-set_same, get_or-set_other}
-use Rattle.std.proofs.lemmas.List.Elements.{Contains-push_cases}
 use Rattle.clauses.specs.Literal.{Lit, code_of, is_same}
 use Rattle.clauses.proofs.Held.{is_same-self, is_same-true, same_code}
 use Rattle.first_uip.specs.declared.watchers.Watcher.{Watcher}
@@ -37,10 +36,6 @@ Keeps IsNew old new = (w : Watcher) → Contains new w → Contains old w ⊎ Is
 module _ (IsNew : Watcher → Type 0) where
   pub Keeps-self : (xs : List Watcher) → Keeps IsNew xs xs
   Keeps-self xs w h = inl h
-
-  pub Keeps-push : (xs : List Watcher) (x : Watcher) → IsNew x → Keeps IsNew xs (xs ++ x ∷ [])
-  Keeps-push xs x new w h =
-      elim (Contains-push_cases xs x w h) [ inl there ↦ inl there | inr is ↦ inr (subst IsNew is new) ]
 
   pub Keeps-set : (xs : List Watcher) (i : ℕ) (x : Watcher) → i < length xs → IsNew x → Keeps IsNew xs (set xs i x)
   Keeps-set xs i x within new w (j, below, at) =

@@ -265,6 +265,3 @@ run_undefined f n m from b held is passes = subst (λ x. RunsFrom OnlyZero f x f
 
 pub run_returns : (f : Function) (n m : ℕ) (from : Option ℕ) (b : ℕ) (held : Registers) (v : Value) → n ≡ suc m → Passes OnlyZero f from b held (Returns v) → RunsFrom OnlyZero f n from b held (outcomes.Return v)
 run_returns f n m from b held v is passes = subst (λ x. RunsFrom OnlyZero f x from b held (outcomes.Return v)) (sym is) (Returns v, passes, refl)
-
-pub run_stops : (f : Function) (n : ℕ) (from : Option ℕ) (b : ℕ) (held : Registers) → n ≡ 0 → RunsFrom OnlyZero f n from b held (outcomes.Running b)
-run_stops f n from b held is = subst (λ x. RunsFrom OnlyZero f x from b held (outcomes.Running b)) (sym is) refl

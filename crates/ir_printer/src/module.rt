@@ -64,8 +64,8 @@ fn push_gap(out: &mut Vec<u8>, entries: &[Entry], place: usize) -> Result<(), Al
     }
 }
 
-/// The text of a module: its entries in order, with an empty line between two of which one is a function. However long, it is the text
-/// of that module, where the module meets its checks and its parts have the forms of what is read.
+/// The text of a module: its entries in order, with an empty line between two of which one is a function. However long,
+/// it is the text of that module, where the module meets its checks and its parts have the forms of what is read.
 ///
 /// The only error is want of memory.
 pub fn print_module(alloc: Global, m: &Module) -> Result<Vec<u8>, AllocError>

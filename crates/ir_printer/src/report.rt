@@ -37,7 +37,8 @@ fn push_line(
     out.extend_from_slice(behind_count(is_limited))
 }
 
-/// Adds the line of an entry, if it is a function, whose place among the functions this is; gives the place of the next one.
+/// Adds the line of an entry, if it is a function, whose place among the functions this is; gives the place of the next
+/// one.
 fn push_entry(
     out: &mut Vec<u8>,
     entry: &Entry,

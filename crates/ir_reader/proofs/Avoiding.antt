@@ -19,8 +19,8 @@ dec_names f b c = dec_at (λ (block : Block). Contains (targets_of block.end) c)
 
 -- ---- steps through the numbers below a bound
 
--- One step leads from a to b, or steps do that come through numbers below the bound. A way through numbers up to v comes by v once
--- or not at all.
+-- One step leads from a to b, or steps do that come through numbers below the bound. A way through numbers up to v
+-- comes by v once or not at all.
 abbrev pub Through : (ℕ → ℕ → Type 0) → ℕ → ℕ → ℕ → Type 0
 Through Step zero a b = Step a b
 Through Step (suc v) a b = Through Step v a b ⊎ (Through Step v a v × Through Step v v b)

@@ -72,9 +72,6 @@ module _ {S : Type 0} where
             λ h. elim h [ inl (u, u_at, has) ↦ (u, same ∙ u_at, has) | inr (is_block, among) ↦ absurd (differ ((one t c).0 among)) ],
           )
 
-  pub adds_none : (sets : List (IndexSet ℕ S)) (block : ℕ) → AddsTo sets sets block []
-  adds_none sets block = record { count = refl; holds = λ c b. (λ h. inl h, λ h. elim h [ inl old ↦ old | inr (is, (k, within, at)) ↦ absurd (omega arith) ]) }
-
   -- one after the other
   pub adds_both : (a b c : List (IndexSet ℕ S)) (block : ℕ) (xs ys : List ℕ) → AddsTo a b block xs → AddsTo b c block ys → AddsTo a c block (xs ++ ys)
   adds_both a b c block xs ys p q =
@@ -120,9 +117,6 @@ module _ {S : Type 0} where
       long zero xs lt = refl
       long (suc n) [] lt = absurd (omega arith)
       long (suc n) (x ∷ xs) lt = ap suc (long n xs (omega arith))
-
-  pub adds_of_none : (sets : List (IndexSet ℕ S)) → AddsOf sets sets []
-  adds_of_none sets = record { count = refl; holds = λ c b. (λ h. inl h, λ h. elim h [ inl old ↦ old | inr (x, at, among) ↦ cc ]) }
 
   -- all blocks, where the sets were empty
   pub all_predecessors : (f : Function) (a b : List (IndexSet ℕ S)) → length a ≡ length f.blocks → ((c d : ℕ) → ¬ Holds a c d) → AddsOf a b f.blocks → ArePredecessors f b

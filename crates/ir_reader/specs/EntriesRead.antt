@@ -26,7 +26,8 @@ pub record HasLeft (text : List ℕ) (front : List RawEntry) (left : List Placed
   pub are_tokens : AreTokens text tokens
   pub spelled : Each SpellsEntry front tokens left
 
--- these entries as written mean the entries that are read, and their functions have the names; or the fault is their first
+-- these entries as written mean the entries that are read, and their functions have the names; or the fault is their
+-- first
 abbrev pub IsReadingOf : List RawEntry → Reading → Type 0
 IsReadingOf written (readings.Faultless read names) =
     AreEntriesOf written read × ((name : List ℕ) → HasText names name ↔ HasNameOf (functions_of written) name)

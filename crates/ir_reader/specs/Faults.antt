@@ -33,8 +33,9 @@ pub record IsFunctionOf (earlier : List RawFunction) (raw : RawFunction) (f : Fu
 abbrev pub NoLineHas : (ℕ → Type 0) → Type 0
 NoLineHas At = (line : ℕ) → ¬ At line
 
--- The first fault of a function as written: of names or types; else, of the function that is meant, a phi that doesn't fit; else a
--- terminator that names the first block; else the first register that isn't assigned where it is read, as it is written there.
+-- The first fault of a function as written: of names or types; else, of the function that is meant, a phi that doesn't
+-- fit; else a terminator that names the first block; else the first register that isn't assigned where it is read, as
+-- it is written there.
 pub data IsFaultOfFunction (earlier : List RawFunction) (raw : RawFunction) : Fault IrFaultKind → Type 0 where
   of_names : {fault : Fault IrFaultKind} → IsFirstNameFault earlier raw fault → IsFaultOfFunction earlier raw fault
   bad_phi : {line : ℕ} (f : Function) → ResolvesTo earlier raw f

@@ -1,5 +1,5 @@
--- The kinds of faults that a function may have when its registers and blocks are known by place: for each, the lines at which it has
--- it. The line is that of what is written at the place.
+-- The kinds of faults that a function may have when its registers and blocks are known by place: for each, the lines at
+-- which it has it. The line is that of what is written at the place.
 use Rattle.std.specs.Prelude.{◌≡◌, ℕ, Some, slice_get}
 use Rattle.ir_core.specs.Assigned.{IsFirstUnassigned}
 use Rattle.ir_core.specs.declared.operand.Register.{Register}
@@ -36,8 +36,8 @@ EntryPredHere raw f b line = Names f b 0 × ((block : RawBlock) × (slice_get ra
 abbrev pub EntryPredAt : RawFunction → Function → ℕ → Type 0
 EntryPredAt raw f line = (b : ℕ) × EntryPredHere raw f b line
 
--- Unassigned: the first register that isn't assigned where it is read, as it is written there, on the line of that operand, with the
--- block in which it is written
+-- Unassigned: the first register that isn't assigned where it is read, as it is written there, on the line of that
+-- operand, with the block in which it is written
 pub record IsUnassignedFault (raw : RawFunction) (f : Function) (fault : Fault IrFaultKind) : Type 0 where
   pub register : Register
   pub b : ℕ

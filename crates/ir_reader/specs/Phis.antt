@@ -12,8 +12,9 @@ use Rattle.ir_core.specs.Checks.{IsInst, IsPhi}
 abbrev pub OnlyPhisBefore : Function → ℕ → ℕ → Type 0
 OnlyPhisBefore f b k = (j : ℕ) (earlier : Inst) → j < k → IsInst f b j earlier → IsPhi earlier.op
 
--- A phi of these entries fits at place k of block b: only phis stand before it, and it has one operand for each block whose terminator
--- names this one, reached or not, and none for another block. That it has an entry is not asked here, since the grammar has one.
+-- A phi of these entries fits at place k of block b: only phis stand before it, and it has one operand for each block
+-- whose terminator names this one, reached or not, and none for another block. That it has an entry is not asked here,
+-- since the grammar has one.
 pub record PhiFits (f : Function) (b k : ℕ) (entries : List (Operand × ℕ)) : Type 0 where
   pub only_phis : OnlyPhisBefore f b k
   pub from : (c : ℕ) → ((a : Operand) × Contains entries (a, c)) ↔ Names f c b

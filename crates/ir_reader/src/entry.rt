@@ -10,8 +10,8 @@ use indexmap::IndexSet;
 use ir_resolve::lesser;
 use ir_tokens::RawFunction;
 
-/// The first line of a terminator, that of its first word, that names the first block. What is told of predecessors is that of the
-/// function that is meant.
+/// The first line of a terminator, that of its first word, that names the first block. What is told of predecessors is
+/// that of the function that is meant.
 pub(crate) fn named_entry(predecessors: &[IndexSet<u32>], raw: &RawFunction) -> Option<usize>
     requires some_block { 0 < length raw.now.blocks }
     requires blocks { length raw.now.blocks < 2 ^ 32 }

@@ -79,8 +79,8 @@ fn operands(
     Ok(Some(operands))
 }
 
-/// Whether each block has an operand. It looks up to the first that has none, which is at most as often as there are operands, and
-/// once more.
+/// Whether each block has an operand. It looks up to the first that has none, which is at most as often as there are
+/// operands, and once more.
 fn have_all(operands: &IndexMap<u32, Operand>, blocks: &[u32]) -> bool
     ensures { IsTrue result ↔ All (λ c. IsSome (get nat_eq operands.now c)) blocks.now }
 {
@@ -101,7 +101,8 @@ fn entries_fit(
     }
 }
 
-/// Whether an instruction is no phi, or fits where these are the predecessors and it is told whether only phis stand before it.
+/// Whether an instruction is no phi, or fits where these are the predecessors and it is told whether only phis stand
+/// before it.
 fn op_fits(
     alloc: Global,
     predecessors: &IndexSet<u32>,

@@ -22,12 +22,14 @@ use ir_tokens::{IrError, IrFaultKind, Placed, RawEntry, TokenReader};
 use refusal::refused;
 use std::alloc::{AllocError, Global};
 
-/// The module of a text, or the text's first fault: its length, then the first token that does not fit, and then function by function
-/// the first kind of [`IrFaultKind`](crate::IrFaultKind) in their order that the function has, at its first line.
+/// The module of a text, or the text's first fault: its length, then the first token that does not fit, and then
+/// function by function the first kind of [`IrFaultKind`](crate::IrFaultKind) in their order that the function has, at
+/// its first line.
 ///
 /// It takes as many steps as the text has bytes, but for the search in tables of names, numbers and blocks, and but for
-/// [`check_assigned`](assigned_flow::check_assigned), whose worst case is told there. A function of 2^32 blocks, instructions of
-/// a block or entries of a `phi` is refused as for want of memory, and no text within the limit has one.
+/// [`check_assigned`](assigned_flow::check_assigned), whose worst case is told there. A function of 2^32 blocks,
+/// instructions of a block or entries of a `phi` is refused as for want of memory, and no text within the limit has
+/// one.
 pub fn read_module(alloc: Global, bytes: &[u8]) -> Result<Module, IrError>
     ensures ok { IfOk result (IsModuleText bytes.now) }
     ensures limit { OnOk result (length bytes.now ≤ most_bytes) }
@@ -37,8 +39,8 @@ pub fn read_module(alloc: Global, bytes: &[u8]) -> Result<Module, IrError>
     module_of(alloc, bytes)
 }
 
-/// The module of a text, or the text's first fault. A fault of an entry is kept while the rest of the text is read, since one of the
-/// text comes before it.
+/// The module of a text, or the text's first fault. A fault of an entry is kept while the rest of the text is read,
+/// since one of the text comes before it.
 fn module_of(alloc: Global, bytes: &[u8]) -> Result<Module, IrError>
     ensures ok { IfOk result (IsModuleText bytes.now) }
     ensures limit { OnOk result (length bytes.now ≤ most_bytes) }
@@ -53,8 +55,9 @@ fn module_of(alloc: Global, bytes: &[u8]) -> Result<Module, IrError>
     Ok(reading.module()?)
 }
 
-/// Reads the entries in front of a text one by one, each from its own tokens, so that the memory of these serves the next one: up to
-/// the last tokens of the text, or to tokens that are no entry by themselves. It leaves all tokens from there on.
+/// Reads the entries in front of a text one by one, each from its own tokens, so that the memory of these serves the
+/// next one: up to the last tokens of the text, or to tokens that are no entry by themselves. It leaves all tokens from
+/// there on.
 fn first_entries<'a>(
     alloc: Global,
     bytes: &'a [u8],

@@ -37,9 +37,6 @@ module _ {X : Type 0} (P : X → ℕ → Type 0) where
   pub first_all : (xs : List X) (i : ℕ) (found : Option ℕ) → length xs ≤ i → IsFirst (SomeAt (take i xs) P) found → IsFirst (SomeAt xs P) found
   first_all xs i found le h = subst (λ ys. IsFirst (SomeAt ys P) found) (take_all i xs le) h
 
-  pub first_none : IsFirst (SomeAt [] P) None
-  first_none line (x, (k, lt, is), p) = omega arith
-
 -- the same of what is seen of each
 module _ {X Y : Type 0} (f : X → Y) (P : Y → ℕ → Type 0) where
   pub first_more_seen : (xs : List X) (i : ℕ) (x : X) (found here new : Option ℕ) → i < length xs → x ≡ get_or xs i x → IsFirst (SomeAt (map f (take i xs)) P) found → IsFirst (P (f x)) here → new ≡ lesser found here → IsFirst (SomeAt (map f (take (i + 1) xs)) P) new

@@ -1,4 +1,3 @@
-pub mod Composing
 pub mod Ending
 pub mod Feeds
 pub mod Forms

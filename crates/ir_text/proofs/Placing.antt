@@ -1,8 +1,8 @@
 -- Where tokens may stand: what printers need of places and of the bytes behind a token.
-use Rattle.std.proofs.Common.{◌≡◌, ◌≢◌, ℕ, ◌<◌, true, false, eqb, List, ◌∷◌, Option, Some, None, codes, refl, ⊎_elim, eq-eqb, eqb-true, arith}
+use Rattle.std.proofs.Common.{◌≡◌, ◌≢◌, ℕ, ◌<◌, true, false, eqb, List, Option, Some, None, codes, refl, ⊎_elim, eq-eqb, eqb-true, arith}
 use Rattle.std.specs.Str.{bytes_eq}
 use Rattle.std.proofs.lemmas.Slice.Eq.{bytes_eq-Decides}
-use Rattle.scan.specs.Bytes.{begins_name, begins_with, is_blank, is_digit, is_letter, is_name_byte, is_space}
+use Rattle.scan.specs.Bytes.{begins_name, is_digit, is_letter, is_name_byte}
 use Rattle.scan.proofs.Fronts.{which}
 use Rattle.ir_tokens.specs.declared.place.Place.TheVariants.{AtEntry, InHeader, InBody}
 use Rattle.ir_tokens.specs.declared.place.Extent.TheVariants as extents
@@ -10,10 +10,6 @@ use Rattle.ir_tokens.specs.Places.{begins_kept, extent_of}
 use Rattle.ir_text.specs.Lexemes.{goes_on, takes_group, takes_line}
 
 -- ---- what stands behind a token
-
--- a space, a line feed, and the marks `( ) , = [ ] { }` go on no token
-pub stops : (b : ℕ) (rest : List ℕ) → goes_on b ≡ false → begins_with goes_on (b ∷ rest) ≡ false
-stops b rest e = e
 
 pub space_stops : goes_on 32 ≡ false
 unfolding is_name_byte begins_name is_letter is_digit
@@ -40,14 +36,6 @@ unfolding is_name_byte begins_name is_letter is_digit
 equals_stops = refl
 
 -- ---- gaps
-
-pub one_space : is_space 32 ≡ true
-unfolding is_space is_blank
-one_space = refl
-
-pub one_feed : is_space 10 ≡ true
-unfolding is_space is_blank
-one_feed = refl
 
 -- ---- places
 

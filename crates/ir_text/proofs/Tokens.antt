@@ -119,9 +119,6 @@ callee_in_body name form = prints_token Body Callee false (Function name) form (
 pub bracket_behind_callee : Prints Callee Body true (Is (Mark marks.open_paren)) (codes "(")
 bracket_behind_callee = prints_token Callee Body true (Mark 40) refl (λ place line is. (None, rw is refl)) (λ place line rest is stop. (rw is (itself_behind_no_word_in_body line (codes "(")), refl))
 
-pub closed_in_body : Prints Body Body true (Is (Mark marks.close_paren)) (codes ")")
-closed_in_body = prints_token Body Body true (Mark 41) refl (λ place line (before, is). (None, rw is refl)) (λ place line rest (before, is) stop. (rw is (itself_in_body before line (codes ")") (no_bracket 41 [] refl)), refl))
-
 -- ---- tokens of both
 
 pub register_inside : {mode : Mode} → Inside mode → (name : List ℕ) → IsNameText name → Prints mode mode false (Is (Register name)) (37 ∷ name)

@@ -1,10 +1,8 @@
 -- A reader goes behind one token more.
 use Rattle.std.proofs.Common.{◌≡◌, ℕ, true, false, List, [], ◌∷◌, ◌++◌, sym, ap, subst, ◌∙◌, append_assoc}
 use Rattle.ir_tokens.specs.declared.place.Place.{Place}
-use Rattle.ir_tokens.specs.declared.reader.TokenReader.{TokenReader}
 use Rattle.ir_tokens.specs.Order.{IsTokenAt, AreTokens, last}
 use Rattle.ir_tokens.specs.Places.{place_behind}
-use Rattle.ir_tokens.specs.ReaderPlaces.{StandsIn, HasPassed}
 use Rattle.ir_tokens.specs.Tokens.{Placed, is_last}
 use Rattle.ir_tokens.proofs.Reading.{SoFar, token_read}
 
@@ -16,7 +14,3 @@ token_passed text own place at end front some new t same more so_far is goes =
 pub last_passed : (text own : List ℕ) (place : Place) (at end : ℕ) (front some new : List Placed) (t : Placed) → own ≡ text → new ≡ some ++ t ∷ [] → SoFar text place at (front ++ some) → IsTokenAt own place at t end → is_last t.1 ≡ true → AreTokens text (front ++ new)
 last_passed text own place at end front some new t same more so_far is ends =
     subst (AreTokens text) (append_assoc front some (t ∷ []) ∙ ap (λ l. front ++ l) (sym more)) (so_far (t ∷ []) (last (subst (λ x. IsTokenAt x place at t end) same is) ends))
-
--- what is passed by a reader that stands in the text
-pub has_passed : (text own : List ℕ) (front : List Placed) (reader : TokenReader) → own ≡ text → StandsIn own reader → SoFar text reader.place reader.cursor.at front → HasPassed text front reader
-has_passed text own front reader same stands leads = record { stands = subst (λ x. StandsIn x reader) same stands; leads = leads }

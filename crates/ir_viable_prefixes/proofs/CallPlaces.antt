@@ -8,7 +8,6 @@ use Rattle.ops.specs.Truths.{has_truth}
 use Rattle.scan.specs.Bytes as bytes
 use Rattle.ir_tokens.specs.Identifiers.{identifier_of}
 use Rattle.ir_tokens.specs.Tokens.{Token, Placed, KeptGroup, Word, Number, Function, Group, Quoted, Mark}
-use Rattle.ir_tokens.specs.declared.raw.RawArguments.{RawArguments}
 use Rattle.ir_tokens.specs.declared.raw.RawIdentifier.{RawIdentifier}
 use Rattle.ir_tokens.specs.declared.raw.RawInst.{RawInst}
 use Rattle.ir_tokens.specs.declared.raw.RawOp.{RawOp}
@@ -365,11 +364,6 @@ arguments_placing text (intrinsics.Unary op) =
     placing_then text (argument-good tt).sample (good (argument-good {E = Anything} tt)) (argument_placing {E = Anything} text tt).places
     (λ operand. placing_then text (truth-good op).sample (good (truth-good op)) (truth_places text op) (λ truth. placing_done text (λ t f. f) _) (later (λ truth. done_not_at_once text _)))
     (later (λ operand. truth_not_at_once text op _ (λ truth. done_not_at_once text _)))
-
-arguments_not_at_once : {B : Type 0} (text : List ℕ) (what : Intrinsic) (S : RawArguments → Reader B) → Goes text (arguments_at what >>= S) [] → ⊥
-unfolding two_arguments_at one_argument_at argument_at type_at unexpected
-arguments_not_at_once text (intrinsics.Binary op) S = none_at_once text (two_arguments_at op >>= S) (fault 0 (misfit places.Type (Group text))) (λ more. refl)
-arguments_not_at_once text (intrinsics.Unary op) S = none_at_once text (one_argument_at op >>= S) (fault 0 (misfit places.Type (Group text))) (λ more. refl)
 
 -- ---- what stands behind a call
 

@@ -371,10 +371,6 @@ function_name_groupless ((line, Function written) ∷ rest) x is = by (identifie
     by (Numbered n) read = absurd cc
 function_name_groupless ((line, t) ∷ rest) x is = absurd cc
 
-name_not_at_once : {B : Type 0} (text : List ℕ) (S : ℕ × List ℕ → Reader B) → Goes text (parsing.function_name_at >>= S) [] → ⊥
-unfolding parsing.function_name_at unexpected
-name_not_at_once text S = none_at_once text (parsing.function_name_at >>= S) (fault 0 (misfit places.Fixed (Group text))) (λ more. refl)
-
 -- what is refused first is refused
 refused_first : {A B : Type 0} (R : Reader A) (S : A → Reader B) (tokens : List Placed) → (e : Fault IrFaultKind) × (R tokens ≡ Err e) → (e : Fault IrFaultKind) × ((R >>= S) tokens ≡ Err e)
 refused_first R S tokens (e, refused) = (e, rw refused refl)

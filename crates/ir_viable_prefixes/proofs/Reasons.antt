@@ -60,9 +60,6 @@ pub data Like (W : Type 0) : Token → Token → Type 0 where
   like_width : (w other : List ℕ) (width : ℕ) → type_in w ≡ OutOfRange → IsTypeWord other width → Like W (Word w) (Word other)
   like_number : (digits other : List ℕ) → Like W (Number digits) (Number other)
 
-pub like_widths : {W : Type 0} {t u : Token} → Widths t u → Like W t u
-like_widths (widths w other width out is) = like_width w other width out is
-
 pub like_map : {V W : Type 0} → (V → W) → {t u : Token} → Like V t u → Like W t u
 like_map f (like_word v w other noun) = like_word (f v) w other noun
 like_map f (like_type m other width begins type) = like_type m other width begins type

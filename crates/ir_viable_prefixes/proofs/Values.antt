@@ -194,10 +194,6 @@ plain_no_equals : (l : ℕ) (t : Token) (more : List Placed) → is_plain t ≡ 
 plain_no_equals l (Mark m) more plain = absurd cc
 plain_no_equals l t more plain = refl
 
-same_equals : (l : ℕ) (t : Token) (a b : List Placed) → is_mark marks.equals ((l, t) ∷ a) ≡ is_mark marks.equals ((l, t) ∷ b)
-same_equals l (Mark m) a b = refl
-same_equals l t a b = refl
-
 quoted_alone : (key : List ℕ) (tokens : List Placed) → is_mark marks.equals tokens ≡ false → quoted_item_at key tokens ≡ Ok (key, tokens)
 unfolding quoted_item_at
 quoted_alone key tokens none = rw none refl

@@ -2,7 +2,7 @@
 use Rattle.std.proofs.Common.{◌≡◌, inl, inr, ℕ, zero, suc, ◌+◌, ◌<◌, ◌≤◌, List, length, Some, sym, ap, subst, ◌∙◌, arith}
 use Rattle.std.specs.Prelude.{slice_get}
 use Rattle.std.proofs.lemmas.Bool.{cases_eq}
-use Rattle.std.proofs.lemmas.Option.{slice_get_cases, slice_get_within, slice_get_past, same_Some}
+use Rattle.std.proofs.lemmas.Option.{slice_get_cases, slice_get_within, same_Some}
 use Rattle.ir_core.specs.Checks.{IsInst}
 use Rattle.ir_core.specs.Reads.{Read, IsRead}
 use Rattle.ir_core.specs.declared.function.Function.{Function}
@@ -45,9 +45,6 @@ one_number a n k is_n is_k = let e : operands.Number n ≡ operands.Number k = s
 -- an argument stands for what the equal one does
 stands_as : (z : Binding) (N : ℕ) (a c : Argument) (o : Operand) → a ≡ c → StandsFor z N a o → StandsFor z N c o
 stands_as z N a c o is stands = subst (λ (d : Argument). StandsFor z N d o) is stands
-
-nothing_past : {X : Type 0} (xs ys : List X) (k n : ℕ) → length xs ≡ n → length ys ≡ n → n ≤ k → slice_get xs k ≡ slice_get ys k
-nothing_past xs ys k n ex ey past = slice_get_past xs k (omega arith) ∙ sym (slice_get_past ys k (omega arith))
 
 some_width : (typing : List ℕ) (c : ℕ) → c < length typing → (N : ℕ) × (slice_get typing c ≡ Some N)
 some_width typing c within = elim (slice_get_cases typing c).1 [

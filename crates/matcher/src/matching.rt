@@ -20,8 +20,8 @@ use std::alloc::{AllocError, Global};
 
 /// The binding with which a rule matches at an instruction of a function, or `None` where it doesn't match there.
 ///
-/// Where the instruction is one operation with the rule's root, all blocks are looked at, for which are reached and how often registers
-/// are used: [`match_in`] takes that as an argument. Elsewhere it takes no memory.
+/// Where the instruction is one operation with the rule's root, all blocks are looked at, for which are reached and how
+/// often registers are used: [`match_in`] takes that as an argument. Elsewhere it takes no memory.
 pub fn match_at(
     alloc: Global,
     f: &Function,
@@ -52,8 +52,8 @@ pub fn match_at(
 
 /// The same, with what is known of the whole function, and in whatever order instructions stand.
 ///
-/// It takes as many steps as the rule has operands and nodes, for each of its classes; and no memory where the block isn't reached, or the
-/// instruction isn't one operation with the rule's root.
+/// It takes as many steps as the rule has operands and nodes, for each of its classes; and no memory where the block
+/// isn't reached, or the instruction isn't one operation with the rule's root.
 #[tactic(auto, using(crate::proofs::Rooted::matched_operation))]
 pub fn match_in(
     alloc: Global,

@@ -53,8 +53,8 @@ impl Slots {
         })
     }
 
-    /// Fills the slots of what a statement names by the instruction that its register stands for. It is false where the slot of the
-    /// statement isn't filled, or the function has no such instruction or fewer operands there.
+    /// Fills the slots of what a statement names by the instruction that its register stands for. It is false where the
+    /// slot of the statement isn't filled, or the function has no such instruction or fewer operands there.
     pub(crate) fn take_statement(&mut self, f: &Function, j: usize, statement: &Statement) -> bool
         requires insts { All (λ b. length b.insts < 2 ^ 32) f.now.blocks }
         requires place { j < length self.old.statements.items }
@@ -88,7 +88,8 @@ impl Slots {
         self.widths[class as usize] = Some(width);
     }
 
-    /// Fills the slots of what the operands of an operation name by what an instruction reads. It is false where that reads fewer.
+    /// Fills the slots of what the operands of an operation name by what an instruction reads. It is false where that
+    /// reads fewer.
     fn take_operands(&mut self, f: &Function, block: u32, place: u32, op: &Op) -> bool
         requires insts { All (λ b. length b.insts < 2 ^ 32) f.now.blocks }
         requires slots { All (HasOperand self.old) (operands_of op.now) }

@@ -1,11 +1,10 @@
 -- Where kept instructions stand, by counts of marks.
-use Rattle.std.proofs.Common.{◌≡◌, ℕ, zero, suc, ◌+◌, ◌<◌, ◌≤◌, Bool, true, false, List, [], ◌∷◌, ◌++◌, length, take, drop, Some, refl, sym, ap, subst, ◌∙◌, ◌⊎◌, inl, inr, arith, get_or, count_by, append_assoc, append-nil}
+use Rattle.std.proofs.Common.{◌≡◌, ℕ, zero, suc, ◌+◌, ◌<◌, ◌≤◌, Bool, true, false, List, [], ◌∷◌, ◌++◌, length, take, drop, Some, refl, sym, ap, subst, ◌∙◌, ◌⊎◌, inl, inr, arith, get_or, count_by}
 use Rattle.std.specs.Prelude.{slice_get}
-use Rattle.std.proofs.Math.ListN.{set, length-set}
 use Rattle.std.proofs.Math.Seq.{drop-cons}
 use Rattle.std.proofs.lemmas.Bool.{cases_eq}
 use Rattle.std.proofs.lemmas.Option.{get_or_from_slice_get}
-use Rattle.std.proofs.lemmas.List.{length_push, drop_all, take_all, take_more_set, drop-set-lt}
+use Rattle.std.proofs.lemmas.List.{length_push}
 use Rattle.std.proofs.lemmas.List.Sums.{count_by_more_yes, count_by_more_no}
 use Rattle.ir_core.specs.declared.operand.Operand.TheVariants as operands
 use Rattle.ir_core.specs.declared.operand.Register.{Register}
@@ -62,9 +61,6 @@ counted_other marks i counts count d c within is =
     let low : count ≤ i = c.low in
     counted_more marks i counts count count c (c.count_is ∙ sym (count_by_more_no (λ mark. mark) marks i d within is)) (omega arith)
 
-pub all_counted : (marks : List Bool) (i : ℕ) (counts : List ℕ) (count : ℕ) → Counted marks i counts count → length marks ≤ i → i ≤ length marks → AreCounts marks counts
-all_counted marks i counts count c le ge = record { count = let l = c.length_is in omega arith; at = λ k lt. c.at k (omega arith) }
-
 -- ---- the place by two counts
 
 count-place : (firsts : List ℕ) (marks : List Bool) (b k : ℕ) → number_of firsts b k ≤ length marks → marked_before marks (number_of firsts b k) ≡ marked_before marks (get_or firsts b 0) + kept_before (marks_by firsts marks) b k
@@ -107,9 +103,6 @@ pub record Written {A : Type 0} (F : ℕ → List A → List A) (all : List A) (
   pub rest : drop i items ≡ drop i all
   pub size : length items ≡ length all
 
-pub none_written : {A : Type 0} (F : ℕ → List A → List A) (all : List A) → Written F all 0 all
-none_written F all = record { written = refl; rest = refl; size = refl }
-
 -- the next item is the old one
 pub next_as_before : {A : Type 0} (F : ℕ → List A → List A) (all : List A) (i : ℕ) (items : List A) (x : A) → Written F all i items → i < length items → x ≡ get_or items i x → x ≡ get_or all i x
 next_as_before F all i items x w within here =
@@ -117,32 +110,6 @@ next_as_before F all i items x w within here =
     let same : get_or items i x ∷ drop (suc i) items ≡ get_or all i x ∷ drop (suc i) all = sym (drop-cons items i x within) ∙ w.rest ∙ drop-cons all i x (omega arith) in
     let heads : get_or items i x ≡ get_or all i x = cc in
     here ∙ heads
-
-pub write_more : {A : Type 0} (F : ℕ → List A → List A) (all : List A) (i : ℕ) (items : List A) (x y : A) → Written F all i items → i < length items → x ≡ get_or items i x
-    → ((xs : List A) → F i (x ∷ xs) ≡ y ∷ F (i + 1) xs) → Written F all (i + 1) (set items i y)
-write_more F all i items x y w within here step =
-    let size = w.size in
-    let next : suc i ≡ i + 1 = omega arith in
-    let split : drop i items ≡ x ∷ drop (i + 1) items = drop-cons items i x within ∙ ap (λ v. v ∷ drop (suc i) items) (sym here) ∙ ap (λ n. x ∷ drop n items) next in
-    let same : get_or items i x ∷ drop (suc i) items ≡ get_or all i x ∷ drop (suc i) all = sym (drop-cons items i x within) ∙ w.rest ∙ drop-cons all i x (omega arith) in
-    let tails : drop (suc i) items ≡ drop (suc i) all = cc in
-    let after : drop (i + 1) (set items i y) ≡ drop (i + 1) items = drop-set-lt (i + 1) items i y (omega arith) in
-    record {
-      written = ap (λ l. l ++ F (i + 1) (drop (i + 1) (set items i y))) (take_more_set items i y within)
-          ∙ ap (λ l. (take i items ++ y ∷ []) ++ F (i + 1) l) after
-          ∙ append_assoc (take i items) (y ∷ []) (F (i + 1) (drop (i + 1) items))
-          ∙ ap (λ l. take i items ++ l) (sym (step (drop (i + 1) items)))
-          ∙ ap (λ l. take i items ++ F i l) (sym split)
-          ∙ w.written;
-      rest = after ∙ ap (λ n. drop n items) (sym next) ∙ tails ∙ ap (λ n. drop n all) next;
-      size = length-set items i y ∙ size;
-    }
-
-pub all_written : {A : Type 0} (F : ℕ → List A → List A) (all : List A) (i : ℕ) (items : List A) → Written F all i items → length all ≤ i → ((n : ℕ) → F n [] ≡ []) → items ≡ F 0 all
-all_written F all i items w past none =
-    let size = w.size in
-    let end : drop i items ≡ [] = drop_all i items (omega arith) in
-    sym (ap (λ l. take i items ++ F i l) end ∙ ap (λ l. take i items ++ l) (none i) ∙ append-nil (take i items) ∙ take_all i items (omega arith)) ∙ w.written
 
 -- the mark that is read
 pub mark_read : (firsts : List ℕ) (marks : List Bool) (b k first : ℕ) (mark : Bool) → b < length firsts → number_of firsts b k < length marks → first ≡ get_or firsts b first → mark ≡ get_or marks (first + k) mark → marks_by firsts marks b k ≡ mark

@@ -41,9 +41,6 @@ marked_same firsts reads s h = record {
   unmarked_less = omega arith;
 }
 
-pub marked_none : (firsts : List ℕ) (s : Search) → Marked firsts [] s s
-marked_none firsts s = marked_same firsts [] s (λ b k c. absurd (contains_none (result_of b k) c))
-
 -- where one more is marked
 pub marked_one : (firsts : List ℕ) (b k : ℕ) (operand : Operand) (old new : Search) → operand ≡ result_of b k → number_of firsts b k < length old.marks.items → get_or old.marks.items (number_of firsts b k) false ≡ false
     → new.marks.items ≡ set old.marks.items (number_of firsts b k) true → new.work.items ≡ old.work.items ++ (b, k) ∷ [] → Marked firsts (operand ∷ []) old new

@@ -1,8 +1,7 @@
 -- Numbers of instructions, block after block.
-use Rattle.std.proofs.Common.{◌≡◌, ℕ, zero, suc, ◌+◌, ◌*◌, ◌<◌, ◌≤◌, ◌⊎◌, inl, inr, List, [], ◌∷◌, ◌++◌, length, get_or, Some, refl, sym, ap, subst, ◌∙◌, arith}
+use Rattle.std.proofs.Common.{◌≡◌, ℕ, zero, suc, ◌+◌, ◌*◌, ◌<◌, ◌≤◌, ◌⊎◌, inl, inr, List, [], ◌∷◌, length, get_or, Some, refl, sym, ap, subst, ◌∙◌, arith}
 use Rattle.std.specs.Prelude.{slice_get}
 use Rattle.std.proofs.lemmas.Bool.{cases_eq}
-use Rattle.std.proofs.lemmas.List.{length_push}
 use Rattle.std.proofs.lemmas.List.Sums.{sum_by_more}
 use Rattle.std.proofs.lemmas.Option.{slice_get_within, slice_get_read, get_or_from_slice_get}
 use Rattle.ir_core.specs.declared.function.Function.{Function}
@@ -11,48 +10,12 @@ use Rattle.ir_core.specs.Blocks.{HasInst}
 use Rattle.needed.specs.InstNumbers.{insts_before, AreNumbers, number_of}
 use Rattle.needed.proofs.Counting.{below_or}
 
-pub get_or-pushed : {A : Type 0} (xs : List A) (x d : A) → get_or (xs ++ x ∷ []) (length xs) d ≡ x
-get_or-pushed [] x d = refl
-get_or-pushed (y ∷ xs) x d = get_or-pushed xs x d
-
-pub get_or-before_push : {A : Type 0} (xs : List A) (x d : A) (k : ℕ) → k < length xs → get_or (xs ++ x ∷ []) k d ≡ get_or xs k d
-get_or-before_push [] x d k lt = absurd (omega arith)
-get_or-before_push (y ∷ xs) x d zero lt = refl
-get_or-before_push (y ∷ xs) x d (suc k) lt = get_or-before_push xs x d k (omega arith)
-
 -- the numbers of the first i blocks
 pub record Numbered (blocks : List Block) (i : ℕ) (firsts : List ℕ) (count : ℕ) : Type 0 where
   pub length_is : length firsts ≡ i
   pub at : (b : ℕ) → b < i → get_or firsts b 0 ≡ insts_before blocks b
   pub count_is : count ≡ insts_before blocks i
   pub low : count ≤ i * 4294967296
-
-pub none_numbered : (blocks : List Block) → Numbered blocks 0 [] 0
-none_numbered blocks = record { length_is = refl; at = λ b lt. absurd (omega arith); count_is = refl; low = omega arith }
-
-pub number_more : (blocks : List Block) (i : ℕ) (firsts : List ℕ) (count : ℕ) (block : Block) → Numbered blocks i firsts count → i < length blocks → block ≡ get_or blocks i block → length block.insts < 4294967296
-    → Numbered blocks (i + 1) (firsts ++ count ∷ []) (count + length block.insts)
-number_more blocks i firsts count block h within here few =
-    let low : count ≤ i * 4294967296 = h.low in
-    record {
-      length_is = length_push firsts count ∙ ap (λ n. n + 1) h.length_is;
-      at = λ b lt. by b (cases_eq b i) lt;
-      count_is = ap (λ n. n + length block.insts) h.count_is ∙ ap (λ (x : Block). insts_before blocks i + length x.insts) here ∙ sym (sum_by_more (λ (x : Block). length x.insts) blocks i block within);
-      low = omega arith;
-    }
-  where
-    by : (b : ℕ) → (b ≡ i) ⊎ (b ≡ i → ⊥) → b < i + 1 → get_or (firsts ++ count ∷ []) b 0 ≡ insts_before blocks b
-    by b (inl same) lt =
-        let place : length firsts ≡ b = h.length_is ∙ sym same in
-        subst (λ n. get_or (firsts ++ count ∷ []) n 0 ≡ insts_before blocks n) place (get_or-pushed firsts count 0 ∙ h.count_is ∙ ap (insts_before blocks) (sym h.length_is))
-    by b (inr ne) lt = get_or-before_push firsts count 0 b (let len = h.length_is in omega arith) ∙ h.at b (omega arith)
-
-pub all_numbered : (blocks : List Block) (i : ℕ) (firsts : List ℕ) (count : ℕ) → Numbered blocks i firsts count → i ≡ length blocks → AreNumbers blocks firsts count
-all_numbered blocks i firsts count h is = record {
-  blocks_count = h.length_is ∙ is;
-  at = λ b lt. h.at b (omega arith);
-  all = h.count_is ∙ ap (insts_before blocks) is;
-}
 
 -- ---- what numbers there are
 

@@ -1,5 +1,5 @@
 -- The walk to what is needed.
-use Rattle.std.proofs.Common.{◌≡◌, ℕ, zero, suc, ◌+◌, ◌<◌, true, false, ◌⊎◌, inl, inr, List, [], ◌∷◌, ◌++◌, length, get_or, Option, None, Some, refl, sym, ap, subst, ◌∙◌, arith, All, Contains, map, replicate}
+use Rattle.std.proofs.Common.{◌≡◌, ℕ, zero, suc, ◌+◌, ◌<◌, true, false, ◌⊎◌, inl, inr, List, [], ◌∷◌, ◌++◌, length, get_or, Option, None, Some, refl, sym, ap, subst, ◌∙◌, arith, All, Contains, map}
 use Rattle.std.specs.Prelude.{slice_get, option_map, option_and_then, IsSome}
 use Rattle.std.proofs.lemmas.Bool.{cases_eq}
 use Rattle.std.proofs.lemmas.List.Elements.{Contains-append_left, Contains-append_right, Contains-append_cases}
@@ -193,22 +193,6 @@ module _ (f : Function) (known : AllKnown f) (firsts : List ℕ) (count : ℕ) (
       }
 
   -- ---- where the walk begins and ends
-
-  pub search_starts : (s : Search) → s.work.items ≡ [] → s.marks.items ≡ replicate count false → length (replicate count false) ≡ count → IsSearched f firsts count 0 s
-  search_starts s no_work marks_are size = record {
-    sound = record {
-      size = ap length marks_are ∙ size;
-      work = λ x c. absurd (contains_none x (subst (λ l. Contains l x) no_work c));
-      needed = λ b k has marked. absurd (unmarked_at count (number_of firsts b k) (subst (λ l. get_or l (number_of firsts b k) false ≡ true) marks_are marked));
-    };
-    ends = λ b d j lt. absurd (omega arith);
-    followed = λ b k d j has marked. absurd (unmarked_at count (number_of firsts b k) (subst (λ l. get_or l (number_of firsts b k) false ≡ true) marks_are marked));
-  }
-    where
-      unmarked_at : (m i : ℕ) → get_or (replicate m false) i false ≡ true → ⊥
-      unmarked_at zero i h = absurd cc
-      unmarked_at (suc m) zero h = absurd cc
-      unmarked_at (suc m) (suc i) h = unmarked_at m i h
 
   -- the register is marked, or a parameter
   abbrev Reached : Search → Register → Type 0

@@ -1,8 +1,8 @@
 -- Instructions that are kept move to the front of their list, in order.
-use Rattle.std.proofs.Common.{◌≡◌, ℕ, zero, suc, ◌+◌, ◌<◌, ◌≤◌, true, false, List, [], ◌∷◌, ◌++◌, length, take, drop, refl, sym, ap, ◌∙◌, arith, get_or, append_assoc, append-nil}
+use Rattle.std.proofs.Common.{◌≡◌, ℕ, zero, suc, ◌+◌, ◌<◌, ◌≤◌, true, false, List, [], ◌∷◌, ◌++◌, length, take, drop, refl, sym, ap, ◌∙◌, arith, get_or, append_assoc}
 use Rattle.std.proofs.Math.ListN.{set, length-set}
 use Rattle.std.proofs.Math.Seq.{drop-cons}
-use Rattle.std.proofs.lemmas.List.{drop-set-lt, get_or-set_same, drop_all}
+use Rattle.std.proofs.lemmas.List.{drop-set-lt, get_or-set_same}
 use Rattle.ir_core.specs.declared.instruction.Inst.{Inst}
 use Rattle.needed.specs.KeptFunction.{KeptMarks, kept_first, kept_insts, moved_inst}
 
@@ -12,9 +12,6 @@ pub record Settled (kept : KeptMarks) (b : ℕ) (all : List Inst) (place count :
   pub low : count ≤ place
   pub size : length items ≡ length all
   pub rest : drop place items ≡ drop place all
-
-pub none_settled : (kept : KeptMarks) (b : ℕ) (all : List Inst) → Settled kept b all 0 0 all
-none_settled kept b all = record { settled = refl; low = omega arith; size = refl; rest = refl }
 
 -- item p becomes y, and changes places with item c
 abbrev pub settled_at : {X : Type 0} → List X → ℕ → ℕ → X → X → List X
@@ -115,10 +112,3 @@ settled_other kept b all items place count s within gone =
       size = s.size;
       rest = tails_next items all place within s.size s.rest;
     }
-
--- all are settled
-pub settled_all : (kept : KeptMarks) (b : ℕ) (all items : List Inst) (place count : ℕ) → Settled kept b all place count items → length all ≤ place → take count items ≡ kept_insts kept b 0 all
-settled_all kept b all items place count s le =
-    let size = s.size in
-    let none : drop place items ≡ [] = drop_all place items (omega arith) in
-    sym (append-nil (take count items)) ∙ sym (ap (λ (l : List Inst). take count items ++ kept_insts kept b place l) none) ∙ s.settled

@@ -1,9 +1,7 @@
 -- What one value or effect allows.
-use Rattle.std.proofs.Common.{ℕ, refl, ◌∙◌}
-use Rattle.ops.specs.declared.value.Value.{Value}
+use Rattle.std.proofs.Common.{refl, ◌∙◌}
 use Rattle.ops.specs.declared.value.Value.TheVariants.{Poison, Bits}
 use Rattle.ops.specs.declared.value.Effect.TheVariants.{Undefined, Gives}
-use Rattle.ops.specs.Value.{IsValueOf, HasWidth}
 use Rattle.ops.specs.Laws.{AllowsValueIsReflexive, AllowsValueIsTransitive, AllowsEffectIsReflexive, AllowsEffectIsTransitive}
 
 -- a value allows itself, and what the values that it allows do
@@ -26,8 +24,3 @@ AllowsEffect-trans Undefined e f p q = tt
 AllowsEffect-trans (Gives u) Undefined f p q = absurd p
 AllowsEffect-trans (Gives u) (Gives v) Undefined p q = absurd q
 AllowsEffect-trans (Gives u) (Gives v) (Gives w) p q = AllowsValue-trans u v w p q
-
--- a value of iN has that width
-pub HasWidth-from_value : (N : ℕ) (v : Value) → IsValueOf N v → HasWidth v N
-HasWidth-from_value N Poison h = tt
-HasWidth-from_value N (Bits a) h = h.0

@@ -1,5 +1,5 @@
 -- Rows of marks: none, one more, and a mark that is put.
-use Rattle.std.proofs.Common.{◌≡◌, ℕ, zero, suc, ◌<◌, Bool, true, List, [], ◌∷◌, ◌++◌, length, get_or, set, Some, refl, subst, arith}
+use Rattle.std.proofs.Common.{◌≡◌, ℕ, zero, suc, true, [], ◌∷◌, ◌++◌, get_or, Some, refl, subst}
 use Rattle.std.specs.Prelude.{slice_get}
 use Rattle.places.specs.Sets.{Rows, Has}
 
@@ -15,8 +15,3 @@ none_more rows none b n h = none b n (subst (λ row. slice_get row n ≡ Some tr
 
 pub none_has : (b n : ℕ) → ¬ Has [] b n
 none_has b n h = absurd cc
-
-mark_here : (row : List Bool) (i : ℕ) → i < length row → slice_get (set row i true) i ≡ Some true
-mark_here [] i lt = absurd (omega arith)
-mark_here (mark ∷ row) zero lt = refl
-mark_here (mark ∷ row) (suc i) lt = mark_here row i (omega arith)

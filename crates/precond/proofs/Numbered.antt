@@ -1,12 +1,11 @@
 -- Whether each of the values is a number, and with a formula that holds the precondition.
-use Rattle.std.proofs.Common.{◌≡◌, ◌↔◌, ℕ, ◌+◌, ◌<◌, ◌≤◌, below_more, Bool, true, false, IsTrue, List, length, Some, refl, sym, ap, subst, ◌∙◌, arith}
+use Rattle.std.proofs.Common.{◌≡◌, ◌↔◌, ℕ, ◌+◌, ◌<◌, ◌≤◌, below_more, true, false, IsTrue, List, length, Some, refl, sym, subst, ◌∙◌, arith}
 use Rattle.std.specs.Prelude.{slice_get}
 use Rattle.std.proofs.lemmas.Option.{same_Some, slice_get_within}
 use Rattle.ops.specs.Number.{Number}
 use Rattle.ops.specs.declared.value.Value.{Value}
 use Rattle.ops.specs.declared.value.Value.TheVariants.{Poison, Bits}
-use Rattle.rule_core.specs.declared.rule.Rule.{Rule}
-use Rattle.rule_core.specs.Terms.{HasNumber, constant_values, last_holds, truths_of, PreconditionHolds}
+use Rattle.rule_core.specs.Terms.{HasNumber}
 use Rattle.precond.specs.Numbers.{HaveNumbers}
 
 -- the values before a place are numbers
@@ -22,15 +21,3 @@ one_more values i v a first at is =
 
 pub all_numbers : (values : List Value) (i : ℕ) → length values ≤ i → FirstHaveNumbers values i → IsTrue true ↔ HaveNumbers values
 all_numbers values i whole first = (λ h n v at. let within : n < length values = slice_get_within values n v at in first n (omega arith) v at, λ h. refl)
-
-module _ (rule : Rule) (typing : List ℕ) (constants : List Number) (values : List Value) (are : values ≡ constant_values typing constants rule) where
-  -- all are numbers: the formula decides
-  pub formula_decides : (b : Bool) → HaveNumbers values → b ≡ last_holds (truths_of values rule.precondition) → IsTrue b ↔ PreconditionHolds rule typing constants
-  formula_decides b all gives =
-      let numbers : HaveNumbers (constant_values typing constants rule) = subst HaveNumbers are all in
-      let decides : b ≡ last_holds (truths_of (constant_values typing constants rule) rule.precondition) = gives ∙ ap (λ vs. last_holds (truths_of vs rule.precondition)) are in
-      (λ h. record { values = numbers; formula = subst IsTrue decides h }, λ p. subst IsTrue (sym decides) p.formula)
-
-  -- one is none
-  pub none_decides : (HaveNumbers values → ⊥) → IsTrue false ↔ PreconditionHolds rule typing constants
-  none_decides none = (λ h. cc, λ p. absurd (none (subst HaveNumbers (sym are) p.values)))

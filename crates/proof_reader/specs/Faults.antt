@@ -39,7 +39,8 @@ AreGood rules proofs = (place : ℕ) (proof : Proof) → slice_get proofs place 
 abbrev pub IsTextOfGood : List Rule → List ℕ → List Proof → Type 0
 IsTextOfGood rules text proofs = IsTextOf text proofs × AreGood rules proofs
 
--- the first proof that is not good, in the text of these: the fault is on its line, behind all that the earlier ones have
+-- the first proof that is not good, in the text of these: the fault is on its line, behind all that the earlier ones
+-- have
 pub record IsAtProof (rules : List Rule) (proofs : List Proof) (fault : LogFault) : Type 0 where
   pub place : ℕ
   pub proof : Proof

@@ -10,7 +10,8 @@ use Rattle.proof_reader.specs.declared.proof.RuleProof.{RuleProof}
 use Rattle.proof_reader.specs.Names.{HasNameAt}
 use Rattle.proof_reader.specs.Faults.{IsTextOfGood, IsGood, IsBad}
 
--- what is read of the proof: the place of the rule that has its name, its widths, which are a typing of that rule, and its log
+-- what is read of the proof: the place of the rule that has its name, its widths, which are a typing of that rule, and
+-- its log
 pub record IsProofOf (rules : List Rule) (proof : Proof) (read : RuleProof) : Type 0 where
   pub rule : Rule
   pub is : slice_get rules read.rule ≡ Some rule

@@ -21,12 +21,14 @@ use rule_core::{Rule, Typing};
 use rule_typing::is_typing;
 use std::alloc::{AllocError, Global};
 
-/// The rules, by their places, and the widths of the proofs so far: so a repeated one is found in as long a time however many there are.
+/// The rules, by their places, and the widths of the proofs so far: so a repeated one is found in as long a time
+/// however many there are.
 type Seen = IndexSet<(u32, Vec<u32>)>;
 
 /// Reads the text of proofs of these rules: the proofs in order, or the first fault.
 ///
-/// It takes as many steps as the text has bytes, and for each proof as many more as the widths have classes, operands and nodes.
+/// It takes as many steps as the text has bytes, and for each proof as many more as the widths have classes, operands
+/// and nodes.
 pub fn read_logs(alloc: Global, rules: &[Rule], bytes: &[u8]) -> Result<Vec<RuleProof>, LogError>
     requires classes { All IsClassified rules.now }
     requires names { AreDistinct (map (λ rule. rule.name) rules.now) }

@@ -8,11 +8,6 @@ use Rattle.proof_text.specs.Numerals.{numeral}
 pub flat_push : {X : Type 0} (f : X → List ℕ) (xs : List X) (x : X) → flat_map f (xs ++ x ∷ []) ≡ flat_map f xs ++ f x
 flat_push f xs x = flat_map-append f xs (x ∷ []) ∙ ap (λ (l : List ℕ). flat_map f xs ++ l) (append-nil (f x))
 
-pub flat_more : {X : Type 0} (f : X → List ℕ) (xs : List X) (i : ℕ) (x : X) (old before after : List ℕ) → i < length xs → x ≡ get_or xs i x → before ≡ old ++ flat_map f (take i xs) → after ≡ before ++ f x → after ≡ old ++ flat_map f (take (i + 1) xs)
-flat_more f xs i x old before after within is so_far printed =
-    let more = take_more xs i x within ∙ ap (λ y. take i xs ++ y ∷ []) (sym is) in
-    printed ∙ ap (λ (l : List ℕ). l ++ f x) so_far ∙ append_assoc old (flat_map f (take i xs)) (f x) ∙ ap (λ (l : List ℕ). old ++ l) (sym (flat_push f (take i xs) x) ∙ ap (λ ys. flat_map f ys) (sym more))
-
 -- one more piece is joined
 pub joined_more : (c : ℕ) (xs : List (List ℕ)) (x : List ℕ) → 0 < length xs → join_with_byte c (xs ++ x ∷ []) ≡ join_with_byte c xs ++ c ∷ x
 joined_more c [] x some = absurd (omega arith)

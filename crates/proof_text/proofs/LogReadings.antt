@@ -8,10 +8,10 @@ use Rattle.proof_text.specs.Limits.{most_bytes}
 use Rattle.proof_text.specs.Numerals.{numeral}
 use Rattle.proof_text.specs.Texts.{clause_text, step_text, log_text, head_text, proof_text}
 use Rattle.proof_text.specs.WellFormed.{IsStep, IsName, AreWidths}
-use Rattle.proof_text.specs.Reading.{Stops, Fixed, Numbers, IsEnd, held, ReadsNumber, ReadsCount, Steps, Logs, Heads, Proofs}
+use Rattle.proof_text.specs.Reading.{Stops, Fixed, Numbers, IsEnd, held, Steps, Logs, Heads, Proofs}
 use Rattle.proof_text.proofs.Lines.{flat_push}
 use Rattle.proof_text.proofs.Decodings.{no_digit_10, same_numbers, same_steps, log_is, log_whole, same_heads}
-use Rattle.proof_text.proofs.Readings.{Next, stops_behind, some_bytes, longer_by}
+use Rattle.proof_text.proofs.Readings.{Next, stops_behind, some_bytes}
 use Rattle.proof_text.proofs.StepReadings.{all_push}
 
 abbrev empty_step : Step
@@ -76,13 +76,6 @@ log_second = record {
 pub count_stops : (text mid rest : List ℕ) → text ≡ codes "log " ++ mid → Stops (Numbers 0 (2 ^ 64 - 1) 10 10) mid rest → Stops Logs text rest
 count_stops text mid rest e s = stops_behind Logs (Numbers 0 (2 ^ 64 - 1) 10 10) (codes "log ") text mid rest log_second e s
 
-pub count_read : (count last : ℕ) (text mid rest : List ℕ) → text ≡ codes "log " ++ mid → ReadsNumber 0 (2 ^ 64 - 1) 10 10 count last mid rest → ReadsCount count text rest
-count_read count last text mid rest e r = record {
-  number = r.number;
-  count_is = r.value_is;
-  goes = e ∙ ap (λ (k : List ℕ). codes "log " ++ k) (r.goes ∙ ap (λ (b : ℕ). numeral r.number ++ b ∷ rest) (count_end last r.ends));
-}
-
 -- what was read of a log so far
 pub record LogSoFar (count : ℕ) (text rest : List ℕ) (steps : List Step) : Type 0 where
   pub number : ℕ
@@ -90,9 +83,6 @@ pub record LogSoFar (count : ℕ) (text rest : List ℕ) (steps : List Step) : T
   pub within : length steps ≤ number
   pub all : AllByRecursion IsStep steps
   pub goes : text ≡ codes "log " ++ (numeral number ++ 10 ∷ (flat_map step_text steps ++ rest))
-
-pub log_begins : (count : ℕ) (text rest : List ℕ) → ReadsCount count text rest → LogSoFar count text rest []
-log_begins count text rest r = record { number = r.number; count_is = r.count_is; within = omega arith; all = tt; goes = r.goes }
 
 pub log_more : (count : ℕ) (text mid rest : List ℕ) (steps : List Step) (s : Step) → LogSoFar count text mid steps → length steps < count → IsStep s × (mid ≡ step_text s ++ rest) → LogSoFar count text rest (steps ++ s ∷ [])
 log_more count text mid rest steps s f h is =
@@ -122,9 +112,6 @@ long_log (s ∷ steps) =
     let i : length steps ≤ length (flat_map step_text steps) = long_log steps in
     let a : length (step_text s ++ flat_map step_text steps) ≡ length (step_text s) + length (flat_map step_text steps) = length-append (step_text s) (flat_map step_text steps) in
     omega arith
-
-pub step_shorter : (s : Step) (mid rest : List ℕ) → mid ≡ step_text s ++ rest → length rest < length mid
-step_shorter s mid rest e = longer_by (step_text s) rest mid e (long_step s)
 
 pub log_done : (count : ℕ) (text rest : List ℕ) (steps : List Step) → LogSoFar count text rest steps → count ≤ length steps → length text ≤ most_bytes → AllByRecursion IsStep steps × (text ≡ log_text steps ++ rest)
 log_done count text rest steps f h short =

@@ -40,9 +40,6 @@ numeral_more n d some h =
 
 -- ---- digits
 
-AreDigits : List ℕ → Type 0
-AreDigits cs = AllByRecursion (λ c. is_digit c ≡ true) cs
-
 digit_is : (d : ℕ) → d < 10 → is_digit (48 + d) ≡ true
 unfolding is_digit
 digit_is d h = grind (arith, nat_tests)

@@ -1,7 +1,7 @@
 -- Where readings stop: of a part, and so of what it is a part of.
 use Rattle.std.proofs.Common.{◌≡◌, ◌≢◌, ℕ, zero, suc, ◌+◌, ◌-◌, ◌<◌, ◌≤◌, ◌==◌, Bool, true, false, Result, Ok, Err, List, [], ◌∷◌, ◌++◌, length, get_or, take, drop, refl, ap, subst, sym, ◌∙◌, append_assoc, length-append, arith}
 use Rattle.std.specs.Result.{IsErr, IsErrAnd, IfErr}
-use Rattle.std.proofs.lemmas.List.{append_cancel_left, take_more}
+use Rattle.std.proofs.lemmas.List.{append_cancel_left}
 use Rattle.proof_text.specs.Reading.{Language, GoesOn, Stops, StopsIn, Fixed, NotNext}
 use Rattle.refusal.specs.declared.refusal.Refusal.{Refusal}
 use Rattle.refusal.specs.declared.refusal.Refusal.TheVariants.{Refused, NoMemory}
@@ -38,30 +38,11 @@ same_first (p ∷ passed) text behind after w g e = (passed ++ text, let h : p �
 
 -- ---- fixed texts
 
-pub no_byte : (w : ℕ) (text : List ℕ) → ((more : List ℕ) → text ≡ w ∷ more → ⊥) → Stops (Fixed (w ∷ [])) text text
-no_byte w text deny = record {
-  passed = [];
-  goes = refl;
-  stops = record {
-    more = w ∷ [];
-    fits = refl;
-    none = λ behind word after g l e.
-        let f = goes_first text behind after w g (e ∙ ap (λ (k : List ℕ). k ++ after) l) in
-        deny f.0 f.1;
-  };
-}
-
 pub not_next_end : (w : ℕ) (text : List ℕ) → text ≡ [] → NotNext w text
 not_next_end w text e more f = let g : [] ≡ w ∷ more = sym e ∙ f in absurd cc
 
 pub not_next_other : (w b : ℕ) (text behind : List ℕ) → text ≡ b ∷ behind → b ≢ w → NotNext w text
 not_next_other w b text behind e deny more f = deny (let g : b ∷ behind ≡ w ∷ more = sym e ∙ f in cc)
-
-pub no_byte_end : (w : ℕ) (text : List ℕ) → text ≡ [] → Stops (Fixed (w ∷ [])) text text
-no_byte_end w text e = no_byte w text (λ (more : List ℕ). λ (f : text ≡ w ∷ more). absurd cc)
-
-pub other_byte : (w b : ℕ) (text behind : List ℕ) → text ≡ b ∷ behind → b ≢ w → Stops (Fixed (w ∷ [])) text text
-other_byte w b text behind e deny = no_byte w text (λ (more : List ℕ). λ (f : text ≡ w ∷ more). deny (let g : b ∷ behind ≡ w ∷ more = sym e ∙ f in cc))
 
 pub fixed_next : (front tail : List ℕ) (w : ℕ) → Next (Fixed (front ++ w ∷ tail)) front (Fixed (w ∷ []))
 fixed_next front tail w = record {
@@ -82,10 +63,6 @@ text_stops wanted i d byte old mid rest h is e s =
     let whole : take i wanted ++ byte ∷ p.0 ≡ wanted = ap (λ (k : ℕ). take i wanted ++ k ∷ p.0) is ∙ sym p.1 in
     let n : Next (Fixed wanted) (take i wanted) (Fixed (byte ∷ [])) = subst (λ (l : List ℕ). Next (Fixed l) (take i wanted) (Fixed (byte ∷ []))) whole (fixed_next (take i wanted) p.0 byte) in
     stops_behind (Fixed wanted) (Fixed (byte ∷ [])) (take i wanted) old mid rest n e s
-
-pub text_more : (wanted : List ℕ) (i d byte : ℕ) (old mid rest : List ℕ) → i < length wanted → byte ≡ get_or wanted i d → old ≡ take i wanted ++ mid → mid ≡ byte ∷ rest → old ≡ take (i + 1) wanted ++ rest
-text_more wanted i d byte old mid rest h is e f =
-    e ∙ ap (λ (k : List ℕ). take i wanted ++ k) f ∙ sym (append_assoc (take i wanted) (byte ∷ []) rest) ∙ ap (λ (k : List ℕ). k ++ rest) (ap (λ (k : ℕ). take i wanted ++ k ∷ []) is ∙ sym (take_more wanted i d h))
 
 -- ---- what stops, or want of memory
 
@@ -127,11 +104,6 @@ some_cons b text = omega arith
 pub some_bytes : (front : List ℕ) (b : ℕ) (behind : List ℕ) → 0 < length (front ++ b ∷ behind)
 some_bytes [] b behind = some_cons b behind
 some_bytes (x ∷ front) b behind = some_cons x (front ++ b ∷ behind)
-
-pub longer_by : (front rest text : List ℕ) → text ≡ front ++ rest → 0 < length front → length rest < length text
-longer_by front rest text e some =
-    let a : length text ≡ length front + length rest = ap length e ∙ length-append front rest in
-    omega arith
 
 pub behind_short : (front rest text : List ℕ) (most : ℕ) → text ≡ front ++ rest → length text ≤ most → length rest ≤ most
 behind_short front rest text most e short =

@@ -133,22 +133,6 @@ list_stops end text mid rest ns deny no_blank f s = stops_behind (Lists end) (Nu
 the_number : (value number : ℕ) → value ≡ held number → held number ≤ most_number → number ≡ value
 the_number value number e h = omega arith
 
-blank_end : (end last : ℕ) → IsEnd 32 end last → last ≢ end → last ≡ 32
-blank_end end last (inl e) deny = e
-blank_end end last (inr e) deny = absurd (deny e)
-
-pub list_more : (end value last : ℕ) (text mid rest ns : List ℕ) → ListSoFar text mid ns → ReadsNumber 0 most_number 32 end value last mid rest → last ≢ end → ListSoFar text rest (ns ++ value ∷ [])
-list_more end value last text mid rest ns f r deny =
-    let t = flat_map (λ (x : ℕ). numeral x ++ 32 ∷ []) ns in
-    let n = the_number value r.number r.value_is r.is_held.1 in
-    let within : value ≤ most_number = subst (λ (k : ℕ). k ≤ most_number) n (is_number r.number r.is_held.1) in
-    let b = blank_end end last r.ends deny in
-    record {
-      all = all_push IsNumber ns value f.all within;
-      goes = f.goes ∙ ap (λ (k : List ℕ). t ++ k) (r.goes ∙ ap (λ (k : ℕ). numeral k ++ last ∷ rest) n ∙ ap (λ (k : ℕ). numeral value ++ k ∷ rest) b ∙ sym (append_assoc (numeral value) (32 ∷ []) rest))
-          ∙ sym (append_assoc t (numeral value ++ 32 ∷ []) rest) ∙ ap (λ (k : List ℕ). k ++ rest) (sym (flat_push (λ (x : ℕ). numeral x ++ 32 ∷ []) ns value));
-    }
-
 pub list_done : (end value last : ℕ) (text mid rest ns : List ℕ) → ListSoFar text mid ns → ReadsNumber 0 most_number 32 end value last mid rest → last ≡ end → AreWidths (ns ++ value ∷ []) × (text ≡ widths_text (ns ++ value ∷ []) ++ end ∷ rest)
 list_done end value last text mid rest ns f r is =
     let t = flat_map (λ (x : ℕ). numeral x ++ 32 ∷ []) ns in
@@ -164,30 +148,9 @@ list_done end value last text mid rest ns f r is =
 lit_fits : (l : Lit) → IsHeld 1 most_variable l.variable → IsLiteral l
 lit_fits l h = (omega (arith, h.0), omega (arith, h.1))
 
-lit_held : (l : Lit) → IsLiteral l → IsHeld 1 most_variable l.variable
-lit_held l h = (omega (arith, h.0, h.1), omega (arith, h.1))
-
 the_blank : (last : ℕ) → IsEnd 32 32 last → last ≡ 32
 the_blank last (inl e) = e
 the_blank last (inr e) = e
-
-the_variable : (value number : ℕ) → value ≡ held number → held number ≤ most_variable → number ≡ value
-the_variable value number e h = omega arith
-
-variable_from : (value number : ℕ) → number ≡ value → IsHeld 1 most_variable number → (1 ≤ value) × (value ≤ most_variable)
-variable_from value number e h = (omega (arith, h.0), omega (arith, h.1))
-
-pub literal_read : (negated : Bool) (value last : ℕ) (text mid rest : List ℕ) (l : Lit) → l.variable ≡ value → l.negated ≡ negated → Takes 45 negated text mid → ReadsNumber 1 most_variable 32 32 value last mid rest → IsLiteral l × (text ≡ literal_text l ++ codes " " ++ rest)
-literal_read true value last text mid rest l v s t r =
-    let n = the_variable value r.number r.value_is r.is_held.1 in
-    let h = variable_from value r.number n r.is_held in
-    let w : literal_text l ≡ 45 ∷ numeral value = ap (λ (b : Bool). (if b then codes "-" else []) ++ numeral l.variable) s ∙ ap (λ (k : ℕ). 45 ∷ numeral k) v in
-    (rw v h, t ∙ ap (λ (k : List ℕ). 45 ∷ k) (r.goes ∙ ap (λ (k : ℕ). numeral k ++ last ∷ rest) n ∙ ap (λ (k : ℕ). numeral value ++ k ∷ rest) (the_blank last r.ends)) ∙ ap (λ (k : List ℕ). k ++ 32 ∷ rest) (sym w) ∙ sym (append_assoc (literal_text l) (32 ∷ []) rest))
-literal_read false value last text mid rest l v s t r =
-    let n = the_variable value r.number r.value_is r.is_held.1 in
-    let h = variable_from value r.number n r.is_held in
-    let w : literal_text l ≡ numeral value = ap (λ (b : Bool). (if b then codes "-" else []) ++ numeral l.variable) s ∙ ap numeral v in
-    (rw v h, sym t.0 ∙ r.goes ∙ ap (λ (k : ℕ). numeral k ++ last ∷ rest) n ∙ ap (λ (k : ℕ). numeral value ++ k ∷ rest) (the_blank last r.ends) ∙ ap (λ (k : List ℕ). k ++ 32 ∷ rest) (sym w) ∙ sym (append_assoc (literal_text l) (32 ∷ []) rest))
 
 abbrev make : Bool → ℕ → Lit
 make negated variable = record { variable = variable; negated = negated }
@@ -228,20 +191,6 @@ literal_stops false text mid rest t s =
 pub record ClauseSoFar (text rest : List ℕ) (clause : List Lit) : Type 0 where
   pub all : AllByRecursion IsLiteral clause
   pub goes : text ≡ flat_map (λ l. literal_text l ++ codes " ") clause ++ rest
-
-pub clause_more : (text mid same rest : List ℕ) (clause : List Lit) (l : Lit) → ClauseSoFar text mid clause → same ≡ mid → IsLiteral l → same ≡ literal_text l ++ codes " " ++ rest → ClauseSoFar text rest (clause ++ l ∷ [])
-clause_more text mid same rest clause l f q h e =
-    let t = flat_map (λ (x : Lit). literal_text x ++ codes " ") clause in
-    record {
-      all = all_push IsLiteral clause l f.all h;
-      goes = f.goes ∙ ap (λ (k : List ℕ). t ++ k) (sym q ∙ e) ∙ sym (append_assoc t (literal_text l ++ 32 ∷ []) rest)
-          ∙ ap (λ (k : List ℕ). k ++ rest) (sym (flat_push (λ (x : Lit). literal_text x ++ codes " ") clause l));
-    }
-
-pub clause_done : (text mid rest : List ℕ) (clause : List Lit) → ClauseSoFar text mid clause → mid ≡ 58 ∷ rest → text ≡ clause_text clause ++ rest
-clause_done text mid rest clause f e =
-    let t = flat_map (λ (x : Lit). literal_text x ++ codes " ") clause in
-    f.goes ∙ ap (λ (k : List ℕ). t ++ k) e ∙ sym (append_assoc t (58 ∷ []) rest)
 
 -- a literal, or the end of the clause
 abbrev Items : Language

@@ -13,39 +13,13 @@ use Rattle.proof_text.specs.Laws.{TextsHaveOneReading, WrittenIsRead}
 use Rattle.proof_text.specs.Reading.{GoesOn, StopsAt, Stops, Proofs, FaultAt}
 use Rattle.proof_text.proofs.Lines.{flat_push}
 use Rattle.proof_text.proofs.Numerals.{same, longer, shorter, split}
-use Rattle.proof_text.proofs.Decodings.{proof_begins, rest_of, one_list}
-use Rattle.proof_text.proofs.Readings.{longer_by}
+use Rattle.proof_text.proofs.Decodings.{rest_of, one_list}
 use Rattle.proof_text.proofs.StepReadings.{all_push}
 
 -- what was read of a text so far
 pub record TextSoFar (text rest : List ℕ) (proofs : List Proof) : Type 0 where
   pub all : AreWellFormed proofs
   pub goes : text ≡ text_of proofs ++ rest
-
-pub text_more : (text mid rest : List ℕ) (proofs : List Proof) (p : Proof) → TextSoFar text mid proofs → IsWellFormed p → mid ≡ proof_text p ++ rest → TextSoFar text rest (proofs ++ p ∷ [])
-text_more text mid rest proofs p f h e = record {
-  all = all_push IsWellFormed proofs p f.all h;
-  goes = f.goes ∙ ap (λ (k : List ℕ). text_of proofs ++ k) e ∙ sym (append_assoc (text_of proofs) (proof_text p) rest) ∙ ap (λ (k : List ℕ). k ++ rest) (sym (flat_push proof_text proofs p));
-}
-
-pub text_done : (text rest : List ℕ) (proofs : List Proof) → length text ≤ most_bytes → TextSoFar text rest proofs → rest ≡ [] → IsTextOf text proofs
-text_done text rest proofs short f e = (short, f.all, f.goes ∙ ap (λ (k : List ℕ). text_of proofs ++ k) e ∙ append-nil (text_of proofs))
-
-pub text_begins : (text : List ℕ) → TextSoFar text text []
-text_begins text = record { all = tt; goes = refl }
-
-some_length : (text : List ℕ) → text ≢ [] → 0 < length text
-some_length [] some = absurd (some refl)
-some_length (b ∷ text) some = omega arith
-
-pub proof_shorter : (p : Proof) (mid rest : List ℕ) → mid ≡ proof_text p ++ rest → length rest < length mid
-proof_shorter p mid rest e = longer_by (proof_text p) rest mid e (some_length (proof_text p) (λ (f : proof_text p ≡ []). proof_begins p [] (append-nil (proof_text p) ∙ f)))
-
-pub stops_within : (text mid rest : List ℕ) (ps : List Proof) → TextSoFar text mid ps → Stops Proofs mid rest → length rest ≤ length text
-stops_within text mid rest ps f s =
-    let a : length text ≡ length (text_of ps) + length mid = ap length f.goes ∙ length-append (text_of ps) mid in
-    let b : length mid ≡ length s.passed + length rest = ap length s.goes ∙ length-append s.passed rest in
-    omega arith
 
 -- ---- faults
 

@@ -1,5 +1,5 @@
--- What operations of rules and of functions compute on the values that they take: those of their operands, and what a freeze may give in
--- the place of poison.
+-- What operations of rules and of functions compute on the values that they take: those of their operands, and what a
+-- freeze may give in the place of poison.
 use Rattle.std.proofs.Common.{◌≡◌, ◌⊎◌, inl, inr, ℕ, Bool, zero, suc, List, [], ◌∷◌, None, Some, refl, sym, ap, subst, ◌∙◌}
 use Rattle.std.specs.Prelude.{slice_get, slice_index}
 use Rattle.std.proofs.lemmas.Option.{same_Some, get_or_from_slice_get}
@@ -50,8 +50,8 @@ freeze_or (rule_ops.Select c a b) = inr (λ is. is)
 freeze_or (rule_ops.Convert cast flags a to) = inr (λ is. is)
 freeze_or (rule_ops.Copy a) = inr (λ is. is)
 
--- What an operation of a rule takes whose result has the class c: its operands, and for a freeze the choice that stands for what it may
--- give in the place of poison.
+-- What an operation of a rule takes whose result has the class c: its operands, and for a freeze the choice that stands
+-- for what it may give in the place of poison.
 abbrev pub choice_operand : ℕ → ℕ → RuleOperand
 choice_operand c k = record { value = arguments.Undef k; written = None; class = c }
 

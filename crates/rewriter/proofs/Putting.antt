@@ -317,8 +317,3 @@ module _ (rule : Rule) (binding : Binding) where
               let here : slice_get results t ≡ Some a = subst (λ n. slice_get results n ≡ Some a) same at in
               subst (λ (x : Operand). IsSettled (put_before (suc t)) x) (same_Some (result_at t s.op) a (sym (result_is target_reads t s there) ∙ here)) (result_settled t s s.op refl there before)
         ]
-
-    pub operand_settled : (t : ℕ) (s : Statement) (o : RuleOperand) → slice_get rule.target t ≡ Some s → Contains (operands_of s.op) o → IsSettled (put_before t) (operand_put rule binding results o)
-    operand_settled t s o at among =
-        let within : t < length rule.target = slice_get_within rule.target t s at in
-        argument_settled t (class_width rule binding o.class) o.value (omega arith) (first_settled t (omega arith)) (target_reads t s o at among)

@@ -142,7 +142,8 @@ module _ (f : Function) (rule : Rule) (binding : Binding) (held : Registers) (no
           (e, op_gives f binding.block m.place held m.inst.width m.inst.op x.0 is (λ n r there. (x.1 n r (ap (λ (l : List Read). slice_get l n) (sym taken) ∙ there)).0), AllowsEffect-trans e own source by_flags by_values),
         )
 
-    -- a freeze may give in the place of poison what its operand gives in the rule, or else the number that is chosen there
+    -- a freeze may give in the place of poison what its operand gives in the rule, or else the number that is chosen
+    -- there
     freeze_allows : (a : RuleOperand) (k : ℕ) → s.op ≡ rule_ops.Freeze a k → RootAllows
     freeze_allows a k is =
         let w : ℕ = m.inst.width in

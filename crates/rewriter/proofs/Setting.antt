@@ -1,5 +1,5 @@
--- What registers hold where the function comes to the root, and the numbers that were taken for the target's choices, are a setting of
--- the rule that fits.
+-- What registers hold where the function comes to the root, and the numbers that were taken for the target's choices,
+-- are a setting of the rule that fits.
 use Rattle.std.proofs.Common.{◌≡◌, ℕ, suc, ◌<◌, ◌≤◌, ◌^◌, inl, inr, List, length, Some, None, refl, sym, ap, subst, ◌∙◌, arith, get_or}
 use Rattle.std.specs.Prelude.{slice_get}
 use Rattle.std.specs.Option.{unwrap_or, option_map}
@@ -44,7 +44,8 @@ use Rattle.rewriter.proofs.Matched.{read_there, same_is_computed, reads_here}
 use Rattle.rewriter.proofs.Source.{input_value, input_values}
 use Rattle.rewriter.proofs.Target.{TermFits}
 
--- a read of the function's, which stands at a place of the root's block at the root or before it, stands for the operand of the source
+-- a read of the function's, which stands at a place of the root's block at the root or before it, stands for the
+-- operand of the source
 pub record SourceRead (f : Function) (binding : Binding) (o : RuleOperand) : Type 0 where
   pub read : Read
   pub place : ℕ

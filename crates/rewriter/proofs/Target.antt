@@ -91,8 +91,8 @@ number_only : (new : Registers) (n : Number) → GivesOnly new (values.Bits n) (
 number_only new n w v' h = h
 
 module _ (rule : Rule) (binding : Binding) where
-  -- What is held where t target statements are done: the operand that stands for what the rule's name holds gives the rule's value in the
-  -- new function.
+  -- What is held where t target statements are done: the operand that stands for what the rule's name holds gives the
+  -- rule's value in the new function.
   pub record Ready (t : ℕ) (H : Held) (new : Registers) : Type 0 where
     pub inputs : (i : ℕ) (a : Operand) → slice_get binding.inputs i ≡ Some a → (u : Value) × (slice_get H.inputs i ≡ Some u) × GivesOnly new u a
     pub source : TargetNamesTemporary rule → (j : ℕ) (reg : Register) → suc j < length rule.source → slice_get binding.statements j ≡ Some reg → (u : Value) × (slice_get H.source j ≡ Some u) × GivesOnly new u (operands.Register reg)

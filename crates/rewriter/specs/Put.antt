@@ -1,5 +1,5 @@
--- What a rule puts in the place of a root that it matches: the statements of its target in order, with what the binding gives for what
--- they read.
+-- What a rule puts in the place of a root that it matches: the statements of its target in order, with what the binding
+-- gives for what they read.
 use Rattle.std.specs.Prelude.{ℕ, ◌+◌, ◌-◌, if◌then◌else◌, Bool, true, false, not, List, [], ◌∷◌, ◌++◌, length, take, count_by, None, slice_get, slice_index, slice_index_or}
 use Rattle.std.specs.Option.{option_map_or}
 use Rattle.ops.specs.Integer.{residue}
@@ -37,8 +37,8 @@ abbrev pub count_put : List Statement → ℕ
 count_put statements = count_by (λ s. not (is_copy s.op)) statements
 
 module _ (rule : Rule) (binding : Binding) where
-  -- What the target reads at the width N, where the target statements before it gave these operands: a register of the source or an
-  -- input as it is bound, and a constant, a constant term or a literal as a number.
+  -- What the target reads at the width N, where the target statements before it gave these operands: a register of the
+  -- source or an input as it is bound, and a constant, a constant term or a literal as a number.
   abbrev pub argument_put : List Operand → ℕ → Argument → Operand
   argument_put results N (arguments.Register (names.Input i)) = slice_index_or binding.inputs i operands.Poison
   argument_put results N (arguments.Register (names.Source j)) = option_map_or operands.Register (slice_get binding.statements j) operands.Poison
@@ -56,8 +56,8 @@ module _ (rule : Rule) (binding : Binding) where
   abbrev pub operand_put : List Operand → RuleOperand → Operand
   operand_put results o = argument_put results (class_width o.class) o.value
 
-  -- What stands for the register that a target statement assigns, where those before it gave these operands: the register of its
-  -- instruction, and of a copy what it copies.
+  -- What stands for the register that a target statement assigns, where those before it gave these operands: the
+  -- register of its instruction, and of a copy what it copies.
   abbrev pub result_of_op : List Operand → RuleOp → Operand
   result_of_op results (rule_ops.Copy a) = operand_put results a
   result_of_op results op = operands.Register (registers.Result binding.block (binding.place + count_put (take (length results) rule.target)))

@@ -37,12 +37,13 @@ fn name_at(alloc: Global, f: &Function, block: u32, place: u32) -> Result<Option
     copy_name(alloc, &inst.name)
 }
 
-/// Applies a rule to a function where it matches with this binding. The target's statements stand before the root in order, unnamed, with
-/// numbers for constant terms, and what copies is no instruction; the last one takes the root's place and name. Where it is a copy, the
-/// root goes, and what is copied is read in its place in the whole function, in unreached blocks, phis and terminators too.
+/// Applies a rule to a function where it matches with this binding. The target's statements stand before the root in
+/// order, unnamed, with numbers for constant terms, and what copies is no instruction; the last one takes the root's
+/// place and name. Where it is a copy, the root goes, and what is copied is read in its place in the whole function, in
+/// unreached blocks, phis and terminators too.
 ///
-/// It takes its memory before it changes the function, which stays as it was where that is refused. It takes as many steps as the
-/// function is long and, for each constant term that the target reads, as the rule has nodes.
+/// It takes its memory before it changes the function, which stays as it was where that is refused. It takes as many
+/// steps as the function is long and, for each constant term that the target reads, as the rule has nodes.
 pub fn apply(
     alloc: Global,
     f: &mut Function,

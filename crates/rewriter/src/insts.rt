@@ -15,7 +15,8 @@ use rule_core::{Op as RuleOp, Rule, Statement};
 use std::alloc::{AllocError, Global};
 use substitution::Rewrite;
 
-/// What stands for the register that a target statement assigns, where those before it gave these operands and so many of them are put.
+/// What stands for the register that a target statement assigns, where those before it gave these operands and so many
+/// of them are put.
 fn result_put(
     rule: &Rule,
     binding: &Binding,

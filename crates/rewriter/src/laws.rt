@@ -2,7 +2,8 @@
 
 ghost use Rattle.rewriter.specs.Laws.{RewrittenFunctionsMeetChecks, RewrittenFunctionsRefine, RewrittenNumbersFit};
 
-/// A function to which a rule is applied where it matches meets the checks of a function, and its numbers are of their widths.
+/// A function to which a rule is applied where it matches meets the checks of a function, and its numbers are of their
+/// widths.
 pub fn rewritten_functions_meet_checks()
     ensures checks { RewrittenFunctionsMeetChecks }
     ensures numbers { RewrittenNumbersFit }

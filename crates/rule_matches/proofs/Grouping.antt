@@ -16,14 +16,6 @@ use Rattle.rule_matches.proofs.Places.{pushed_cases, set_cases, set_here, set_el
 last_of : {X : Type 0} (xs : List X) (x : X) → slice_get (xs ++ x ∷ []) (length xs) ≡ Some x
 last_of xs x = get_behind xs (x ∷ []) (length xs) 0 x (omega arith) refl
 
--- the groups of no rules
-pub no_groups : (all : RulesByRoot) → all.groups.items ≡ [] → AreByRoot [] all
-no_groups all empty = record {
-  each = λ g group at. absurd (omega (arith, slice_get_within all.groups.items g group at, ap length empty));
-  some = λ r kind has. absurd (omega (arith, slice_get_within [] r has.0 has.1));
-  one = λ kind g h in_g in_h. absurd (omega (arith, slice_get_within all.groups.items g in_g.0 in_g.1, ap length empty));
-}
-
 module _ (rules : List Rule) (rule : Rule) where
   before : (kind : RootKind) (r : ℕ) → HasRootKind rules kind r → HasRootKind (rules ++ rule ∷ []) kind r
   before kind r (x, at, is) = (x, get-append_left rules (rule ∷ []) r x at, is)

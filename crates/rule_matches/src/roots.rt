@@ -27,8 +27,8 @@ pub struct Group {
     pub rules: Vec<u32>,
 }
 
-/// Rules by the kinds of their roots, so that at an instruction only those are tried that may match. There are at most as many groups as
-/// kinds, so finding one takes as long however many rules there are.
+/// Rules by the kinds of their roots, so that at an instruction only those are tried that may match. There are at most
+/// as many groups as kinds, so finding one takes as long however many rules there are.
 #[derive(Drop)]
 pub struct RulesByRoot {
     pub groups: Vec<Group>,

@@ -1,4 +1,5 @@
--- Tokens that stand in front of limited tokens stand in front of those that were limited, and leave less room to the others.
+-- Tokens that stand in front of limited tokens stand in front of those that were limited, and leave less room to the
+-- others.
 use Rattle.std.proofs.Common.{◌≡◌, ℕ, zero, suc, ◌+◌, ◌≤◌, Bool, true, false, not, List, [], ◌∷◌, ◌++◌, Option, Some, None, refl, sym, ap, subst, ◌∙◌, append_assoc, arith}
 use Rattle.std.specs.Prelude.{codes, if◌then◌else◌}
 use Rattle.scan.specs.RuleTokens.{is_among}

@@ -25,10 +25,6 @@ module _ (limits : Limits) (version : Version) where
   with_front front (Ok x) = Ok (front ++ x.0, x.1)
   with_front front (Err e) = Err e
 
-  pub with_front-none : {A : Type 0} (read : Read (List A)) → with_front [] read ≡ read
-  with_front-none (Ok x) = refl
-  with_front-none (Err e) = refl
-
   -- one that was read moves from what is still read to the front
   regroup : {A : Type 0} (front : List A) (x : A) (read : Read (List A)) → with_front front (read >>= λ others. Ok (x ∷ others.0, others.1)) ≡ with_front (front ++ x ∷ []) read
   regroup front x (Ok y) = ap (λ (xs : List _). Ok (xs, y.1)) (sym (append_assoc front (x ∷ []) y.0))
@@ -123,10 +119,6 @@ module _ (limits : Limits) (version : Version) where
   rules_grouped : (front : List RawRule) (rule : RawRule) (read : Result (List RawRule) RuleFault) → with_rules front (read >>= λ others. Ok (rule ∷ others)) ≡ with_rules (front ++ rule ∷ []) read
   rules_grouped front rule (Ok rules) = ap (λ (rs : List RawRule). Ok rs) (sym (append_assoc front (rule ∷ []) rules))
   rules_grouped front rule (Err e) = refl
-
-  pub rules-start : (read : Result (List RawRule) RuleFault) → with_rules [] read ≡ read
-  rules-start (Ok rules) = refl
-  rules-start (Err e) = refl
 
   pub rules-more : (front : List RawRule) (last : ℕ) (tokens : List Token) (x : RawRule × List Token) (total : Result (List RawRule) RuleFault) → 0 < length tokens → rule_at limits version last tokens ≡ Ok x → with_rules front (rules_of limits version last tokens) ≡ total → with_rules (front ++ x.0 ∷ []) (rules_of limits version last x.1) ≡ total
   rules-more front last tokens x total some one so_far =

@@ -110,9 +110,6 @@ module _ (limits : Limits) where
   leaf_weighs place (nodes.Choice k) tokens (text, w, choice, le, is) = rw is (node_word text (choice_counts text k choice))
   leaf_weighs place node tokens never = absurd never
 
-  register_enclosed : (name : List ℕ) → Weighs 1 (Mark (codes "(") ∷ Register name ∷ Mark (codes ")") ∷ [])
-  register_enclosed name = enclosed 1 (Register name ∷ []) (register name)
-
   called_weighs : (w : ℕ) (text : List ℕ) (own : List Token) → Weighs 1 (Word text ∷ []) → Weighs w own → Weighs (1 + w) (Word text ∷ Mark (codes "(") ∷ own ++ Mark (codes ")") ∷ [])
   called_weighs w text own front inside = join 1 w (Word text ∷ []) (Mark (codes "(") ∷ own ++ Mark (codes ")") ∷ []) front (enclosed w own inside)
 

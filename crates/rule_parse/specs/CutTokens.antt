@@ -1,4 +1,5 @@
--- Tokens up to and with the first one with which a rule has too many operands, literals, names, operators and functions.
+-- Tokens up to and with the first one with which a rule has too many operands, literals, names, operators and
+-- functions.
 use Rattle.std.specs.Prelude.{ℕ, zero, suc, Bool, true, false, not, ◌||◌, if◌then◌else◌, List, [], ◌∷◌, Option, Some, None, codes}
 use Rattle.std.specs.Str.{bytes_eq}
 use Rattle.scan.specs.RuleTokens.{is_among, ends_primary}
@@ -19,7 +20,8 @@ is_node_word word = ends_primary kinds.Word word || is_among node_words word
 abbrev pub plain_marks : List (List ℕ)
 plain_marks = codes "=" ∷ codes "," ∷ codes "(" ∷ codes ")" ∷ []
 
--- A token is one operand, literal, name, operator or function. The register that begins a line is assigned there, and is none.
+-- A token is one operand, literal, name, operator or function. The register that begins a line is assigned there, and
+-- is none.
 abbrev pub is_counted : Bool → Token → Bool
 is_counted begins (Register name) = not begins
 is_counted begins (Number text) = true
@@ -37,7 +39,8 @@ abbrev pub begins_rule : Token → Bool
 begins_rule (Head text) = bytes_eq text (codes "Name:")
 begins_rule token = false
 
--- how many more tokens of a rule may be counted behind this one, where so many may from it on; none if it is one too many
+-- how many more tokens of a rule may be counted behind this one, where so many may from it on; none if it is one too
+-- many
 abbrev pub one_less : ℕ → Option ℕ
 one_less zero = None
 one_less (suc room) = Some room

@@ -27,6 +27,7 @@ pub record TextsHaveOneReadingOrFault : Type 0 where
 abbrev pub WrittenRulesAreSmall : Type 0
 WrittenRulesAreSmall = (text : List ℕ) (raws : List RawRule) → IsWritten text raws → (k : ℕ) (raw : RawRule) → slice_get raws k ≡ Some raw → raw_weight raw ≤ most_nodes
 
--- tokens are kept whole, where no rule has more than the limit, or else up to and with the first token with which one has
+-- tokens are kept whole, where no rule has more than the limit, or else up to and with the first token with which one
+-- has
 abbrev pub TokensAreKeptUpToTheLimit : Type 0
 TokensAreKeptUpToTheLimit = (tokens : List Token) → (IsWithinLimit tokens × (limited tokens ≡ tokens)) ⊎ IsCut tokens (limited tokens)

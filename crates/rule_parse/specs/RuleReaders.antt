@@ -1,5 +1,5 @@
--- Reading the parts of a rule from left to right: what the tokens spell and the tokens behind it, or the fault of the first token
--- that does not fit.
+-- Reading the parts of a rule from left to right: what the tokens spell and the tokens behind it, or the fault of the
+-- first token that does not fit.
 use Rattle.std.specs.Prelude.{ℕ, zero, suc, Bool, true, false, if◌then◌else◌, List, [], ◌∷◌, ◌++◌, length, drop, Option, None, Some, Result, Ok, Err, codes}
 use Rattle.std.specs.Str.{bytes_eq}
 use Rattle.ops.specs.declared.opcode.Opcode.{Opcode}

@@ -81,8 +81,8 @@ fn room_behind(room: u32, begins: bool, token: &Token<'_>) -> Option<u32>
     }
 }
 
-/// The tokens up to and with the first one with which a rule has too many operands, literals, names, operators and functions. Behind
-/// it stands `Excess`, so that it is told by its own kind where it does not fit.
+/// The tokens up to and with the first one with which a rule has too many operands, literals, names, operators and
+/// functions. Behind it stands `Excess`, so that it is told by its own kind where it does not fit.
 pub(crate) fn limited<'a>(alloc: Global, tokens: &[Token<'a>]) -> Result<Vec<Token<'a>>, AllocError>
     ensures { IfOk result (λ kept. seen kept.items ≡ spelled.limited (seen tokens.now)) }
 {

@@ -18,8 +18,8 @@ pub fn written_rules_are_small()
     ensures { WrittenRulesAreSmall }
 {}
 
-/// Tokens are kept whole where no rule has more than 256 operands, literals, names, operators and functions, or else up to and with
-/// the first token with which one has.
+/// Tokens are kept whole where no rule has more than 256 operands, literals, names, operators and functions, or else up
+/// to and with the first token with which one has.
 pub fn tokens_are_kept_up_to_the_limit()
     ensures { TokensAreKeptUpToTheLimit }
 {}

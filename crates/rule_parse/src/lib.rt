@@ -1,6 +1,7 @@
 //! Rules as they are written in a text, or the first token that does not fit, with its line.
 //!
-//! A text is read in two steps: bytes to tokens with their lines, and those to rules (`rule`, `statement`, `op`, `operand`).
+//! A text is read in two steps: bytes to tokens with their lines, and those to rules (`rule`, `statement`, `op`,
+//! `operand`).
 #![tactic(auto)]
 
 mod excess;

@@ -83,11 +83,6 @@ with_counts_at c [] k x at = elim k as (λ j. slice_get [] j ≡ Some x → slic
 with_counts_at c (s ∷ ss) zero x at = ap (λ (y : Counts × RawStatement). Some y.1) (same_Some (c, s) x at)
 with_counts_at c (s ∷ ss) (suc k) x at = with_counts_at (past_all c (counted_of s.op)) ss k x at
 
-pub at_with_counts : (c : Counts) (ss : List RawStatement) (k : ℕ) (s : RawStatement) → slice_get ss k ≡ Some s → (b : Counts) × (slice_get (with_counts c ss) k ≡ Some (b, s))
-at_with_counts c [] k s at = elim k as (λ j. slice_get [] j ≡ Some s → (b : Counts) × (slice_get [] j ≡ Some (b, s))) [ zero ↦ λ h. cc | suc j ↦ λ h. cc ] at
-at_with_counts c (t ∷ ss) zero s at = (c, ap (λ (y : RawStatement). Some (c, y)) (same_Some t s at))
-at_with_counts c (t ∷ ss) (suc k) s at = at_with_counts (past_all c (counted_of t.op)) ss k s at
-
 with_counts_push : (c : Counts) (ss : List RawStatement) (s : RawStatement) → with_counts c (ss ++ s ∷ []) ≡ with_counts c ss ++ (past_all c (counted_among ss), s) ∷ []
 with_counts_push c [] s = refl
 with_counts_push c (t ∷ ss) s =

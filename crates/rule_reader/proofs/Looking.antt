@@ -7,7 +7,7 @@ use Rattle.std.proofs.lemmas.Option.{slice_get_within, slice_get-get_or}
 use Rattle.std.proofs.lemmas.Slice.Eq.{bytes_eq-Decides}
 use Rattle.rule_parse.specs.declared.raw.RawStatement.{RawStatement}
 use Rattle.rule_reader.specs.Meaning.{AssignsAt, IsRoot}
-use Rattle.rule_reader.proofs.Places.{order, same_at, read_at, map_at, somewhere}
+use Rattle.rule_reader.proofs.Places.{order, same_at, map_at, somewhere}
 
 pub equal_names : (a b : List ℕ) (r : Bool) → r ≡ bytes_eq a b → r ≡ true → a ≡ b
 equal_names a b r is h = (bytes_eq-Decides a b).0 (sym is ∙ h)
@@ -23,9 +23,6 @@ not_more names place other name at differ none k lt here = elim (order k place) 
   | inr (inl e) ↦ differ (same_at names place other name at (subst (λ i. slice_get names i ≡ Some name) e here))
   | inr (inr gt) ↦ absurd (omega arith)
 ]
-
-pub name_of : (statements : List RawStatement) (k : ℕ) (s : RawStatement) → k < length statements → s ≡ get_or statements k s → AssignsAt statements k s.name
-name_of statements k s within is = map_at (λ (s : RawStatement). s.name) statements k s (read_at statements k s within is)
 
 pub not_there : (names : List (List ℕ)) (name : List ℕ) → ((k : ℕ) → k < length names → ¬ (slice_get names k ≡ Some name)) → ¬ Contains names name
 not_there names name none among = let (k, at) = somewhere names name among in none k (slice_get_within names k name at) at

@@ -73,7 +73,8 @@ nodes_upto b [] q x at = elim q as (λ j. slice_get [] j ≡ Some x → (past x.
 nodes_upto b (a ∷ xs) zero x at = subst (λ (y : Counts × RawArgument). (past y.0 y.1).nodes ≤ (past_all (past b a) xs).nodes) (same_Some (b, a) x at) (nodes_grow (past b a) xs)
 nodes_upto b (a ∷ xs) (suc q) x at = nodes_upto (past b a) xs q x at
 
--- what is counted of a statement that is meant: its operands, and a freeze as an `undef` of its class behind its operand
+-- what is counted of a statement that is meant: its operands, and a freeze as an `undef` of its class behind its
+-- operand
 abbrev pub frozen_operand : ℕ → Op → List Operand
 frozen_operand c (ops.Freeze a k) = record { value = arguments.Undef k; written = None; class = c } ∷ []
 frozen_operand c op = []

@@ -103,12 +103,6 @@ module _ (raw : RawRule) (names : Names) where
   pub added_length : (old new : List Term) (nodes : List RawNode) → Added old nodes new → length new ≡ length old + length nodes
   added_length old new nodes (added, is, all) = ap length is ∙ length-append old added ∙ ap (λ n. length old + n) (zip_length (λ w t. NodeMeans raw names (length old) w t.node) nodes added all)
 
-  pub adds_none : (old : List Term) → AddsTerms raw names old [] old
-  adds_none old ts means = subst (λ l. TermsMean raw names l old) (sym (append-nil ts)) means
-
-  pub adds_both : (old between new : List Term) (xs ys : List (List RawNode)) → AddsTerms raw names old xs between → AddsTerms raw names between ys new → AddsTerms raw names old (xs ++ ys) new
-  adds_both old between new xs ys first second ts means = subst (λ l. TermsMean raw names l new) (append_assoc ts xs ys) (second (ts ++ xs) (first ts means))
-
   -- ---- formulas
 
   with_terms_push : (n : ℕ) (fs : List RawFormula) (f : RawFormula) → with_terms n (fs ++ f ∷ []) ≡ with_terms n fs ++ (n + nodes_in (flat_map terms_of_formula fs), f) ∷ []

@@ -1,5 +1,5 @@
--- The nodes of a term that is meant are those of the term as written, behind the nodes of the terms before it. So what stands in it is
--- its own.
+-- The nodes of a term that is meant are those of the term as written, behind the nodes of the terms before it. So what
+-- stands in it is its own.
 use Rattle.std.proofs.Common.{◌≡◌, inl, inr, ℕ, zero, suc, ◌+◌, ◌-◌, ◌<◌, List, [], ◌∷◌, ◌++◌, length, map, Some, refl, sym, ap, subst, ◌∙◌, append_assoc, arith}
 use Rattle.std.specs.Prelude.{slice_get, Contains, flat_map}
 use Rattle.std.proofs.lemmas.List.{append-nil, length-map}

@@ -1,9 +1,8 @@
 -- What stands at a place of a list.
 use Rattle.std.proofs.Common.{◌≡◌, ◌⊎◌, inl, inr, ℕ, zero, suc, ◌+◌, ◌-◌, ◌<◌, List, [], ◌∷◌, ◌++◌, length, take, Some, refl, sym, ap, subst, ◌∙◌, arith, get_or}
-use Rattle.std.specs.Prelude.{slice_get, Contains, map, flat_map}
+use Rattle.std.specs.Prelude.{slice_get, Contains, map}
 use Rattle.std.specs.List.{AllZip}
 use Rattle.std.proofs.lemmas.Bool.{cases_lt}
-use Rattle.std.proofs.lemmas.List.{take_more}
 use Rattle.std.proofs.lemmas.Option.{slice_get-get_or, same_Some}
 
 -- two numbers in their order
@@ -82,12 +81,6 @@ zip_push R [] (b ∷ ys) x y all r = absurd all
 zip_push R (a ∷ xs) [] x y all r = absurd all
 zip_push R (a ∷ xs) (b ∷ ys) x y all r = (all.0, zip_push R xs ys x y all.1 r)
 
--- one more pair
-pub zip_more : {X Y : Type 0} (R : X → Y → Type 0) (xs : List X) (ys zs : List Y) (i : ℕ) (x : X) (y : Y) → i < length xs → x ≡ get_or xs i x → AllZip R (take i xs) ys → zs ≡ ys ++ y ∷ [] → R x y → AllZip R (take (i + 1) xs) zs
-zip_more R xs ys zs i x y within is all more r =
-    subst (λ l. AllZip R l zs) (sym (take_more xs i x within ∙ ap (λ z. take i xs ++ z ∷ []) (sym is)))
-    (subst (AllZip R (take i xs ++ x ∷ [])) (sym more) (zip_push R (take i xs) ys x y all r))
-
 pub zip_length : {X Y : Type 0} (R : X → Y → Type 0) (xs : List X) (ys : List Y) → AllZip R xs ys → length ys ≡ length xs
 zip_length R [] [] all = refl
 zip_length R [] (b ∷ ys) all = absurd all
@@ -99,10 +92,3 @@ zip_append R [] [] xs zs p q = q
 zip_append R [] (b ∷ ys) xs zs p q = absurd p
 zip_append R (a ∷ ws) [] xs zs p q = absurd p
 zip_append R (a ∷ ws) (b ∷ ys) xs zs p q = (p.0, zip_append R ws ys xs zs p.1 q)
-
--- elements that go together are mapped to lists that go together
-pub zip_flat_map : {X Y A B : Type 0} (R : X → Y → Type 0) (S : A → B → Type 0) (f : X → List A) (g : Y → List B) → ((x : X) (y : Y) → R x y → AllZip S (f x) (g y)) → (xs : List X) (ys : List Y) → AllZip R xs ys → AllZip S (flat_map f xs) (flat_map g ys)
-zip_flat_map R S f g go [] [] all = tt
-zip_flat_map R S f g go [] (b ∷ ys) all = absurd all
-zip_flat_map R S f g go (a ∷ xs) [] all = absurd all
-zip_flat_map R S f g go (a ∷ xs) (b ∷ ys) all = zip_append S (f a) (g b) (flat_map f xs) (flat_map g ys) (go a b all.0) (zip_flat_map R S f g go xs ys all.1)

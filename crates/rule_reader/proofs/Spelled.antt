@@ -1,5 +1,5 @@
--- What the grammar says of operations: names are short, flags fit, a source has no copies and no terms, and a target has constant terms.
--- A half is known by what its copies are.
+-- What the grammar says of operations: names are short, flags fit, a source has no copies and no terms, and a target
+-- has constant terms. A half is known by what its copies are.
 use Rattle.std.proofs.Common.{◌≡◌, ℕ, ◌≤◌, Bool, true, false, refl, List, [], ◌∷◌, length, subst}
 use Rattle.std.specs.Prelude.{Contains, flat_map}
 use Rattle.ops.specs.Flags.{flags_of, flags_of_cast}

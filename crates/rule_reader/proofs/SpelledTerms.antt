@@ -1,4 +1,5 @@
--- Terms, formulas and expressions that are spelled: their nodes stand in order, and those of constant terms are no registers.
+-- Terms, formulas and expressions that are spelled: their nodes stand in order, and those of constant terms are no
+-- registers.
 use Rattle.std.proofs.Common.{◌≡◌, inl, inr, ℕ, zero, suc, ◌+◌, ◌<◌, ◌≤◌, List, [], ◌∷◌, ◌++◌, length, Option, Some, None, sym, subst, length-append, arith}
 use Rattle.std.specs.Prelude.{slice_get}
 use Rattle.std.specs.Option.{option_map_or}

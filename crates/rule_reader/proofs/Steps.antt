@@ -1,43 +1,26 @@
 -- Terms and formulas that are added one behind the other.
 use Rattle.std.proofs.Common.{◌≡◌, ℕ, ◌+◌, ◌-◌, ◌<◌, ◌≤◌, List, [], ◌∷◌, ◌++◌, length, Some, sym, ap, subst, ◌∙◌, arith, take, drop, get_or, append_assoc}
-use Rattle.std.specs.Prelude.{slice_get, Contains, flat_map}
+use Rattle.std.specs.Prelude.{slice_get, flat_map}
 use Rattle.std.proofs.lemmas.List.{append-nil, take-append-drop, take_all, take_more}
 use Rattle.std.proofs.lemmas.Grind.{flat_map-append}
 use Rattle.rule_parse.specs.declared.raw.RawRule.{RawRule}
-use Rattle.rule_parse.specs.declared.raw.RawOp.{RawOp}
 use Rattle.rule_terms.specs.declared.raw.RawNode.{RawNode}
-use Rattle.rule_parse.specs.declared.raw.RawArgument.{RawArgument}
 use Rattle.rule_terms.specs.declared.raw.RawFormula.{RawFormula}
 use Rattle.rule_core.specs.declared.rule.Term.{Term}
-use Rattle.rule_core.proofs.Members.{Contains-from_get}
 use Rattle.rule_reader.specs.declared.names.Names.{Names}
 use Rattle.rule_reader.specs.declared.place.Place.TheVariants as places
-use Rattle.rule_parse.specs.Contents.{arguments_of, terms_of_argument, terms_of_formula, formula_of, target_terms, terms_of, expressions_of}
+use Rattle.rule_parse.specs.Contents.{terms_of_formula, formula_of, target_terms, terms_of, expressions_of}
 use Rattle.rule_reader.specs.Meaning.{nodes_in, last_nodes, TermsMean}
 use Rattle.rule_reader.specs.WellFormed.{IsTerm, IsWellFormed}
-use Rattle.rule_reader.specs.FaultKinds.{Each, FormulaIsBound, TermIsBound}
-use Rattle.rule_reader.specs.KnownRules.{TermIsReady, HasReadyTerms, AddsTerms}
+use Rattle.rule_reader.specs.FaultKinds.{Each, FormulaIsBound}
+use Rattle.rule_reader.specs.KnownRules.{HasReadyTerms, AddsTerms}
 use Rattle.rule_reader.proofs.Places.{read_at}
 use Rattle.rule_reader.proofs.Members.{each_at, each_of}
-use Rattle.rule_reader.proofs.Nodes.{nodes_append, terms_length, adds_both, formula_terms_more, last_nodes_push}
+use Rattle.rule_reader.proofs.Nodes.{nodes_append, terms_length, formula_terms_more, last_nodes_push}
 use Rattle.rule_reader.proofs.Building.{formula_term}
 use Rattle.rule_reader.proofs.Weighing.{few_terms, few_expressions}
 
 module _ (raw : RawRule) (names : Names) where
-  pub adds_of_op : (op : RawOp) (old new : List Term) (read : List RawArgument) → arguments_of op ≡ read → AddsTerms raw names old (flat_map terms_of_argument read) new → AddsTerms raw names old (flat_map terms_of_argument (arguments_of op)) new
-  adds_of_op op old new read is adds = subst (λ l. AddsTerms raw names old (flat_map terms_of_argument l) new) (sym is) adds
-
-  pub adds_last : (old new : List Term) (a : RawArgument) → AddsTerms raw names old (terms_of_argument a) new → AddsTerms raw names old (flat_map terms_of_argument (a ∷ [])) new
-  adds_last old new a adds = subst (λ l. AddsTerms raw names old l new) (sym (append-nil (terms_of_argument a))) adds
-
-  pub adds_two : (old between new : List Term) (a b : RawArgument) → AddsTerms raw names old (terms_of_argument a) between → AddsTerms raw names between (terms_of_argument b) new → AddsTerms raw names old (flat_map terms_of_argument (a ∷ b ∷ [])) new
-  adds_two old between new a b first second = adds_both raw names old between new (terms_of_argument a) (flat_map terms_of_argument (b ∷ [])) first (adds_last between new b second)
-
-  pub adds_three : (old between later new : List Term) (a b c : RawArgument) → AddsTerms raw names old (terms_of_argument a) between → AddsTerms raw names between (terms_of_argument b) later → AddsTerms raw names later (terms_of_argument c) new
-      → AddsTerms raw names old (flat_map terms_of_argument (a ∷ b ∷ c ∷ [])) new
-  adds_three old between later new a b c first second third =
-      adds_both raw names old between new (terms_of_argument a) (flat_map terms_of_argument (b ∷ c ∷ [])) first (adds_two between later new b c second third)
-
   -- ---- the formula
 
   abbrev pub upto : List RawFormula → ℕ → List (List RawNode)
@@ -91,11 +74,6 @@ module _ (raw : RawRule) (names : Names) where
       let same : nodes_in ts ≡ nodes_in (expressions_of raw) = ap nodes_in is in
       let few : nodes_in (expressions_of raw) ≤ 256 = few_expressions raw well in
       omega (arith, long, more, whole, same, few)
-
-  pub ready_expression : (ts : List (List RawNode)) (k : ℕ) (t : List RawNode) → IsWellFormed raw → ts ≡ expressions_of raw → Each (TermIsBound raw places.Heading) ts → k < length ts → t ≡ get_or ts k t → TermIsReady raw places.Heading t
-  ready_expression ts k t well is bound within item =
-      let at = read_at ts k t within item in
-      (each_at (TermIsBound raw places.Heading) ts k t bound at, well.expressions t (subst (λ l. Contains l t) is (Contains-from_get ts k t at)))
 
   pub places_more : (ts : List (List RawNode)) (k : ℕ) (t : List RawNode) (terms : List Term) (places new : List ℕ) (n : ℕ) → k < length ts → t ≡ get_or ts k t → TermsMean raw names (take (k + 1) ts) terms → places ≡ last_nodes 0 (take k ts) → n ≡ length terms - 1 → new ≡ places ++ n ∷ [] → new ≡ last_nodes 0 (take (k + 1) ts)
   places_more ts k t terms places new n within item means before is more =

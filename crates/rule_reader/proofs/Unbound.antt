@@ -1,4 +1,5 @@
--- The first line on which something is unbound: that of `Pre:`, of `Wit:`, or the first one of the source or of the target.
+-- The first line on which something is unbound: that of `Pre:`, of `Wit:`, or the first one of the source or of the
+-- target.
 use Rattle.std.proofs.Common.{◌≡◌, ◌⊎◌, inl, inr, ℕ, ◌≤◌, List, Option, None, Some, refl, sym, ap, subst, ◌∙◌, arith}
 use Rattle.std.specs.Prelude.{slice_get}
 use Rattle.std.proofs.lemmas.Option.{same_Some}

@@ -43,9 +43,9 @@ DuplicateAt earlier raw line =
     (HasNameOf earlier raw.name × (raw.line ≡ line))
     ⊎ (StandsAt raw.source (AssignsAgain raw.source) line ⊎ StandsAt raw.target (AssignsAgain raw.target) line)
 
--- What stands at a place may use the register. In a source statement it is an input, or an earlier statement assigns it. In a target
--- statement it is not the root, and it is an input, a temporary of the source, or what an earlier statement assigns. In `Pre:` and
--- `Wit:` it is an input or a temporary of the source.
+-- What stands at a place may use the register. In a source statement it is an input, or an earlier statement assigns
+-- it. In a target statement it is not the root, and it is an input, a temporary of the source, or what an earlier
+-- statement assigns. In `Pre:` and `Wit:` it is an input or a temporary of the source.
 abbrev pub MayUse : RawRule → Place → List ℕ → Type 0
 MayUse raw (places.Source k) name = IsInput raw.source name ⊎ ((j : ℕ) × (j < k) × AssignsAt raw.source j name)
 MayUse raw (places.Target k) name =
@@ -53,8 +53,8 @@ MayUse raw (places.Target k) name =
     × (IsInput raw.source name ⊎ (IsTemporary raw.source name ⊎ ((j : ℕ) × (j < k) × AssignsAt raw.target j name)))
 MayUse raw places.Heading name = IsInput raw.source name ⊎ IsTemporary raw.source name
 
--- What a node of a term at a place names is there to use: a register, also one whose width is asked for, a constant, or a choice of
--- the target.
+-- What a node of a term at a place names is there to use: a register, also one whose width is asked for, a constant, or
+-- a choice of the target.
 abbrev pub NodeIsBound : RawRule → Place → RawNode → Type 0
 NodeIsBound raw place (raw_nodes.Constant name) = IsConstant raw.source name
 NodeIsBound raw place (raw_nodes.Register name) = MayUse raw place name

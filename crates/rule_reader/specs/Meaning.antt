@@ -1,4 +1,5 @@
--- What a rule as written means: the rule whose registers, constants, choices and terms are known by place. It says nothing of classes.
+-- What a rule as written means: the rule whose registers, constants, choices and terms are known by place. It says
+-- nothing of classes.
 use Rattle.std.specs.Prelude.{◌≡◌, ◌↔◌, ℕ, suc, ◌+◌, ◌-◌, ◌<◌, List, [], ◌∷◌, ◌++◌, length, map, flat_map, fold, sum_by, Some, Contains, slice_get}
 use Rattle.std.specs.List.{AllZip}
 use Rattle.rule_parse.specs.declared.raw.RawRule.{RawRule}
@@ -155,8 +156,8 @@ module _ (raw : RawRule) (names : Names) where
   abbrev pub IsConstantOf : ℕ → List ℕ → Type 0
   IsConstantOf k name = slice_get names.constants k ≡ Some name
 
-  -- A name means a register or a constant of that name, a literal or a truth value itself, an `undef` the number of choices before it,
-  -- and a term its last node.
+  -- A name means a register or a constant of that name, a literal or a truth value itself, an `undef` the number of
+  -- choices before it, and a term its last node.
   abbrev pub ArgumentMeans : Counts → RawArgument → Argument → Type 0
   ArgumentMeans before (raw_arguments.Register name) (arguments.Register r) = HasName r name
   ArgumentMeans before (raw_arguments.Literal z) (arguments.Literal number) = number ≡ z

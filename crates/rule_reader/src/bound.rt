@@ -186,7 +186,8 @@ fn unbound_witness(rule: &RawRule, names: &Names) -> Option<usize>
     }
 }
 
-/// The first line on which something is not there, where `Pre:` and `Wit:` stand before the source and that before the target.
+/// The first line on which something is not there, where `Pre:` and `Wit:` stand before the source and that before the
+/// target.
 pub(crate) fn unbound(rule: &RawRule, names: &Names) -> Option<usize>
     requires rule { IsWellFormed rule.now }
     requires names { AreNames rule.now.source names.now }

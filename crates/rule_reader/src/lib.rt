@@ -1,9 +1,9 @@
 //! Rule files, read exactly: the rules of a text, or its first fault with kind and line.
 //!
-//! A text is read in two steps: bytes to rules as written (`rule_parse`), and those to rules whose names are known by place: each
-//! check of a rule in its turn (`checks`, `bound`, `undefs`), and then what it means (`resolve`, `terms`, `precondition`, `witness`).
-//! What the second step means stands in `specs/`: `Meaning` says which rule is meant, `FaultKinds` where a rule has which fault, and
-//! `Faults` which fault is the first.
+//! A text is read in two steps: bytes to rules as written (`rule_parse`), and those to rules whose names are known by
+//! place: each check of a rule in its turn (`checks`, `bound`, `undefs`), and then what it means (`resolve`, `terms`,
+//! `precondition`, `witness`). What the second step means stands in `specs/`: `Meaning` says which rule is meant,
+//! `FaultKinds` where a rule has which fault, and `Faults` which fault is the first.
 #![tactic(auto)]
 
 mod bound;

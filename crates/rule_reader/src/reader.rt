@@ -28,11 +28,11 @@ use std::alloc::Global;
 /// The most bytes of a rule file.
 pub const MOST_BYTES: usize = 1_048_576;
 
-/// The rules of a text, in order, or its first fault: its length, then the first token that does not fit, and then rule by rule the
-/// first kind of [`RuleFaultKind`] in their order, at its first line.
+/// The rules of a text, in order, or its first fault: its length, then the first token that does not fit, and then rule
+/// by rule the first kind of [`RuleFaultKind`] in their order, at its first line.
 ///
-/// It takes as many steps as the text has bytes, and for each rule as many more as the square of its operands and nodes, which are
-/// at most 256.
+/// It takes as many steps as the text has bytes, and for each rule as many more as the square of its operands and
+/// nodes, which are at most 256.
 pub fn read_rules(alloc: Global, bytes: &[u8]) -> Result<Vec<Rule>, RuleError>
     ensures ok { IfOk result (λ rules. IsRuleFile bytes.now rules.items) }
     ensures limit { OnOk result (length bytes.now ≤ most_bytes) }

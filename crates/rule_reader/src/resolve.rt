@@ -55,8 +55,8 @@ fn before_root(rule: &RawRule, names: &Names, name: &[u8]) -> Option<Register>
     }
 }
 
-/// What statement `place` of the target may use by a name: what an earlier one of its statements assigns, a temporary of the
-/// source, or an input, but not the root.
+/// What statement `place` of the target may use by a name: what an earlier one of its statements assigns, a temporary
+/// of the source, or an input, but not the root.
 fn in_target(rule: &RawRule, names: &Names, place: usize, name: &[u8]) -> Option<Register>
     requires rule { IsWellFormed rule.now }
     requires names { AreNames rule.now.source names.now }

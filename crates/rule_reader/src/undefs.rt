@@ -66,7 +66,8 @@ fn is_inside(source: &[RawStatement], place: usize) -> bool
     (place + 1 < source.len() && leaves_open(op)) || reads_undef_alone(op)
 }
 
-/// The first line of the source at which a statement other than the last leaves something open, or one freezes an `undef`.
+/// The first line of the source at which a statement other than the last leaves something open, or one freezes an
+/// `undef`.
 fn undef_in_source(source: &[RawStatement]) -> Option<usize>
     requires { AreInLineOrder source.now }
     ensures { IsFirst (StandsAt source.now (HasUndefInside source.now)) result }
@@ -92,7 +93,8 @@ fn undef_alone(target: &[RawStatement]) -> Option<usize>
     None
 }
 
-/// The first line at which the source leaves something open outside the root, or an `undef` is frozen, or in the target copied.
+/// The first line at which the source leaves something open outside the root, or an `undef` is frozen, or in the target
+/// copied.
 pub(crate) fn undef_inside(rule: &RawRule) -> Option<usize>
     requires { IsWellFormed rule.now }
     ensures { IsFirst (UndefInsideAt rule.now) result }
@@ -103,7 +105,8 @@ pub(crate) fn undef_inside(rule: &RawRule) -> Option<usize>
     }
 }
 
-/// How many expressions `Wit:` has, and the line that a wrong number is told at: where there is no `Wit:`, that of the name.
+/// How many expressions `Wit:` has, and the line that a wrong number is told at: where there is no `Wit:`, that of the
+/// name.
 fn witness_size(rule: &RawRule) -> (usize, usize)
     ensures count { result.0 ≡ length (expressions_of rule.now) }
     ensures line { result.1 ≡ witness_line rule.now }

@@ -128,10 +128,6 @@ module _ (limits : Limits) where
   term_plain (tighter term) = term_plain term
   term_plain (joined_term {front} {back} op level left right) = plain_both front (Mark (operator_mark op) ∷ back) (term_plain left) (plain_more (Mark (operator_mark op)) back (operator_plain op) (term_plain right))
 
-  -- a term begins as a comparison does
-  front_begins : (front back rest : List Token) → 1 ≤ length front → ((behind : List Token) → opening_at (front ++ behind) ≡ Compares) → opening_at ((front ++ back) ++ rest) ≡ Compares
-  front_begins front back rest some begins = rw (append_assoc front back rest) (begins (back ++ rest))
-
   constant_compares : (word : List ℕ) (rest : List Token) → is_constant word ≡ true → opening_at (Word word ∷ rest) ≡ Compares
   unfolding opening_at predicate_in is_constant
   constant_compares [] rest e = absurd cc
@@ -174,10 +170,6 @@ module _ (limits : Limits) where
   term_compares (prefixed {tokens} function mark is operand) rest = prefix_compares function mark (tokens ++ rest) is
   term_compares (tighter term) rest = term_compares term rest
   term_compares (joined_term {front} {back} op level left right) rest = rw (append_assoc front (Mark (operator_mark op) ∷ back) rest) (term_compares left (Mark (operator_mark op) ∷ back ++ rest))
-
-  -- a formula says that it is one, before the parentheses around it end
-  SaysFormula : List Token → Type 0
-  SaysFormula own = (depth : ℕ) (rest : List Token) → opens_formula depth (own ++ rest) ≡ true
 
   pub comparison_says : (pred : Pred) → sign_of (Mark (comparison_mark pred)) ≡ signs.InFormula
   comparison_says Eq = refl

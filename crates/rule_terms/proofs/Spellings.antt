@@ -12,11 +12,11 @@ use Rattle.rule_terms.specs.declared.raw.RawNode.{RawNode}
 use Rattle.rule_terms.specs.declared.raw.RawNode.TheVariants as raw_nodes
 use Rattle.rule_terms.specs.declared.start.Start.TheVariants.{Leaf, Prefix, Parenthesis, Call, Width}
 use Rattle.rule_terms.specs.Grammar.{last_place, SpellsTerm, leaf, width, parenthesised, called, prefixed, tighter, joined, SpellsWholeTerm, EndsTerm}
-use Rattle.rule_terms.specs.TermReaders.{Reader, mark_at, start_at, operator_at, join, whole_chain_at, behind_at, operand_at, add_unary, inside_at, primary_at, term_at, rest_of_term_at}
+use Rattle.rule_terms.specs.TermReaders.{Reader, mark_at, start_at, operator_at, join, whole_chain_at, behind_at, operand_at, add_unary, inside_at, primary_at, term_at}
 use Rattle.rule_terms.specs.Keywords.{operator_mark, operator_in, level_of, loosest}
 use Rattle.rule_terms.proofs.Chains.{chain-more, chain-done}
 use Rattle.rule_terms.proofs.Meanings.{operator_in-of, operator_at-of}
-use Rattle.rule_terms.proofs.Readings.{Adds, join_made, unary_made, operand_shorter, operand_at-is, behind_at-is, primary_at-is}
+use Rattle.rule_terms.proofs.Readings.{Adds, join_made, unary_made, operand_shorter, operand_at-is, primary_at-is}
 use Rattle.rule_terms.proofs.Starts.{mark_at-of, measured_at-of, start_at-of}
 use Rattle.rule_tokens.specs.Limits.{Limits}
 
@@ -136,27 +136,3 @@ module _ (limits : Limits) where
   pub term_at-is : (place : TermPlace) (nesting line : ℕ) (tokens : List Token) (x : List RawNode × List Token) → term_at limits place nesting line tokens ≡ Ok x → TakesTerm place nesting tokens x
   unfolding term_at
   term_at-is place nesting line tokens x e = takes_of (operand_at-is limits place nesting loosest (primary_at limits place line nesting) (primary_at-is limits place line nesting) [] tokens x e)
-
-  -- a term whose first operand is spelled so
-  pub rest_of_term_at-is : (place : TermPlace) (nesting line : ℕ) (first : List RawNode) (front tokens : List Token) (x : List RawNode × List Token) → SpellsTerm limits place nesting 0 0 first front → rest_of_term_at limits place nesting line first tokens ≡ Ok x → TakesTerm place nesting (front ++ tokens) x
-  unfolding rest_of_term_at
-  rest_of_term_at-is place nesting line first front tokens x s e =
-      takes_of (behind_at-is limits place nesting loosest (primary_at limits place line nesting) [] (front ++ tokens) (first, tokens) x (primary_at-is limits place line nesting) (record { nodes = first; own = front; is_own = s; made = refl; whole = refl }) e)
-
-  -- a term that begins with a parenthesis is the term in it, and what goes on behind
-  pub term_at-parenthesis : (place : TermPlace) (nesting line : ℕ) (rest : List Token) →
-      term_at limits place (suc nesting) line (Mark (codes "(") ∷ rest)
-      ≡ (term_at limits place nesting line rest >>= λ inside. (mark_at (codes ")") line inside.1 >>= λ behind. rest_of_term_at limits place (suc nesting) line inside.0 behind))
-  unfolding term_at rest_of_term_at primary_at
-  term_at-parenthesis place nesting line rest =
-      rw (start_at-of limits place line Parenthesis (Mark (codes "(") ∷ rest) rest refl)
-      (through (operand_at (primary_at limits place line nesting) loosest [] rest) (λ inside. mark_at (codes ")") line inside.1) (λ x. behind_at (primary_at limits place line (suc nesting)) loosest x.0 x.1))
-    where
-      through : (r : Result (List RawNode × List Token) RuleFault) (f : List RawNode × List Token → Result (List Token) RuleFault) (g : List RawNode × List Token → Result (List RawNode × List Token) RuleFault)
-          → ((r >>= λ inside. (f inside >>= λ behind. Ok (inside.0, behind))) >>= g) ≡ (r >>= λ inside. (f inside >>= λ behind. g (inside.0, behind)))
-      through (Ok x) f g = last (f x)
-        where
-          last : (s : Result (List Token) RuleFault) → ((s >>= λ behind. Ok (x.0, behind)) >>= g) ≡ (s >>= λ behind. g (x.0, behind))
-          last (Ok y) = refl
-          last (Err e) = refl
-      through (Err e) f g = refl

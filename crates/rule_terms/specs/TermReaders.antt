@@ -151,7 +151,3 @@ primary_at limits place line (suc nesting) before tokens =
 -- a term
 unfoldable pub term_at : Limits → TermPlace → ℕ → ℕ → List Token → Read (List RawNode)
 term_at limits place nesting line tokens = operand_at (primary_at limits place line nesting) loosest [] tokens
-
--- a term that begins with an operand of the level 0 of these nodes
-unfoldable pub rest_of_term_at : Limits → TermPlace → ℕ → ℕ → List RawNode → List Token → Read (List RawNode)
-rest_of_term_at limits place nesting line first tokens = behind_at (primary_at limits place line nesting) loosest first tokens

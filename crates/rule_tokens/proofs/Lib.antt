@@ -1,4 +1,3 @@
-pub mod Decimals
 pub mod Ends
 pub mod Nexts
 pub mod Readers

@@ -1,25 +1,18 @@
 -- What it means that the width of one class is below that of another, in numbers; and where the classes of casts stand.
-use Rattle.std.proofs.Common.{◌≡◌, ◌↔◌, Bool, true, false, not, IsTrue, inl, inr, ℕ, ◌<◌, List, ◌++◌, length, Option, None, Some, refl, sym, subst, arith}
+use Rattle.std.proofs.Common.{◌≡◌, ◌↔◌, Bool, true, false, not, IsTrue, inl, inr, ℕ, ◌<◌, List, ◌++◌, length, Option, None, Some, refl, subst, arith}
 use Rattle.std.specs.Prelude.{slice_index, Contains, IfSome, IfNone, is_some}
 use Rattle.std.proofs.Math.Decide.{map_dec, dec_lt}
 use Rattle.std.proofs.lemmas.Bool.{cases_lt}
 use Rattle.std.proofs.lemmas.List.Elements.{Contains-append_left, Contains-append_right}
 use Rattle.std.proofs.lemmas.Option.{slice_get-get_or, slice_get_within, get_or_from_slice_get, some_pair_parts}
-use Rattle.ops.specs.declared.opcode.Flags.{Flags}
-use Rattle.ops.specs.declared.conversion.Cast.{Cast}
-use Rattle.ops.specs.declared.conversion.Cast.TheVariants.{Trunc, ZExt, SExt}
 use Rattle.rule_core.specs.declared.rule.Rule.{Rule}
 use Rattle.rule_core.specs.declared.rule.Statement.{Statement}
-use Rattle.rule_core.specs.declared.rule.Op.TheVariants.{Convert}
-use Rattle.rule_core.specs.declared.rule.Operand.{Operand}
-use Rattle.rule_core.specs.Positions.{operands_of, classes_of, IsStatementOf, Smaller, truncated, zero_extended, sign_extended}
-use Rattle.rule_core.proofs.Members.{operand_stands, class_stands}
+use Rattle.rule_core.specs.Positions.{Smaller}
 use Rattle.rule_typing.specs.FixedWidths.{smaller_line, IsBelow, IsBroken, MeetsCastLine}
 use Rattle.rule_typing.specs.Solutions.{MeetsSmaller}
 use Rattle.rule_typing.proofs.Among.{each_half}
 use Rattle.rule_typing.proofs.Deciding.{dec_each}
 use Rattle.rule_typing.proofs.FixedLines.{at_cast, each_cast}
-use Rattle.rule_typing.proofs.MappedLines.{operand_class}
 
 pub below_from : (widths : List ℕ) (c d : ℕ) → slice_index widths c < slice_index widths d → IsBelow widths c d
 below_from widths c d less N M at at' =
@@ -51,15 +44,6 @@ in_target rule line (s, among, is) = at_cast rule s s.op line.0 line.1 (Contains
 pub none_broken : (rule : Rule) (widths : List ℕ) (answer : Option (ℕ × ℕ)) → ((s : Statement) → Contains rule.source s → MeetsCastLine widths s) → IfNone answer ((s : Statement) → Contains rule.target s → MeetsCastLine widths s) → IfNone answer (MeetsSmaller rule widths)
 none_broken rule widths (Some line) source target = tt
 none_broken rule widths None source target = (each_cast rule widths).0 ((each_half (MeetsCastLine widths) rule).0 (source, target))
-
--- the classes of a cast stand in the rule
-of_operand : (rule : Rule) (s : Statement) (cast : Cast) (flags : Flags) (a : Operand) (to : Option ℕ) → IsStatementOf rule s → s.op ≡ Convert cast flags a to → Contains (classes_of rule) a.class
-of_operand rule s cast flags a to stands is = operand_class rule a (operand_stands rule s a stands (subst (λ op. Contains (operands_of op) a) (sym is) (0, omega arith, refl)))
-
-pub smaller_stands : (rule : Rule) (c d : ℕ) → Smaller rule c d → Contains (classes_of rule) c × Contains (classes_of rule) d
-smaller_stands rule c d (truncated {s = s} {flags = flags} {a = a} {to = to} stands is) = (class_stands rule s stands, of_operand rule s Trunc flags a to stands is)
-smaller_stands rule c d (zero_extended {s = s} {flags = flags} {a = a} {to = to} stands is) = (of_operand rule s ZExt flags a to stands is, class_stands rule s stands)
-smaller_stands rule c d (sign_extended {s = s} {flags = flags} {a = a} {to = to} stands is) = (of_operand rule s SExt flags a to stands is, class_stands rule s stands)
 
 -- whether casts fit can be decided
 dec_below : (widths : List ℕ) (c d : ℕ) → Dec (IsBelow widths c d)

@@ -17,9 +17,6 @@ use Rattle.rule_core.proofs.Members.{Contains-from_get}
 use Rattle.rule_typing.specs.Classes.{IsClassified, HasClasses}
 use Rattle.rule_typing.specs.FittingWidths.{IsPast}
 
-past_none : IsPast [] 0
-past_none = record { past = λ c (k, within, is). absurd (omega arith); least = λ c less. absurd (omega arith) }
-
 pub past_one : (a n : ℕ) → n ≡ a + 1 → IsPast (a ∷ []) n
 past_one a n is = record {
   past = λ c (k, within, e). let h : k ≡ 0 = omega arith in let same : a ≡ c = subst (λ j. get_or (a ∷ []) j c ≡ c) h e in omega arith;

@@ -15,7 +15,7 @@ use Rattle.rule_core.specs.declared.rule.Choice.{Choice}
 use Rattle.rule_core.specs.declared.rule.Term.{Term}
 use Rattle.rule_core.specs.declared.rule.Node.{Node}
 use Rattle.rule_core.specs.declared.rule.Node.TheVariants as nodes
-use Rattle.rule_core.specs.Positions.{operands_of, operands_among, operands_in, undef_in, frozen_in, choices_of, choices_among, terms_in, classes_of_statement, classes_of_node, classes_of_term, classes_of}
+use Rattle.rule_core.specs.Positions.{operands_of, operands_among, undef_in, frozen_in, choices_of, choices_among, terms_in, classes_of_statement, classes_of_node, classes_of_term, classes_of}
 use Rattle.rule_typing.specs.Relabelled.{mapped_op, mapped_statement, mapped_node, mapped_term, mapped, numbered_op, numbered_statement, numbered_statements, numbered_node, numbered_term, numbered_terms, positions_of, positions_among, numbered}
 use Rattle.rule_typing.proofs.NumberedLists.{none_there, AreFrom, from_both, count-numbered, classes-numbered, numbered_image, numbered_anew}
 
@@ -114,10 +114,6 @@ choices_of-mapped f s =
 
 pub choices-mapped : (f : ℕ → ℕ) (xs : List Statement) → choices_among (map (mapped_statement f) xs) ≡ map (mapped_choice f) (choices_among xs)
 choices-mapped f xs = flat-mapped choices_of (mapped_statement f) (mapped_choice f) (choices_of-mapped f) xs
-
--- the operands of the rule
-pub operands_in-mapped : (f : ℕ → ℕ) (rule : Rule) → operands_in (mapped f rule) ≡ map (mapped_operand f) (operands_in rule)
-operands_in-mapped f rule = ap operands_among (statements_mapped f rule) ∙ operands-mapped f (rule.source ++ rule.target)
 
 -- one map after the other is one map
 mapped_op-mapped_op : (g f : ℕ → ℕ) (op : Op) → mapped_op g (mapped_op f op) ≡ mapped_op (λ c. g (f c)) op

@@ -136,11 +136,6 @@ closed_to (Opens ∷ pending) base is = cc
 closed_to [] base is = absurd cc
 closed_to (role ∷ pending) base is = absurd cc
 
-fewer_negations : (pending : List Role) → length (without_negations pending) ≤ length pending
-fewer_negations (Negates ∷ pending) = let less = fewer_negations pending in omega (arith, less)
-fewer_negations [] = omega arith
-fewer_negations (role ∷ pending) = omega arith
-
 -- ---- chains
 
 module _ (c : Marking) (statements line : ℕ) (few : statements ≤ c.limits.statements) where

@@ -45,7 +45,7 @@ use Rattle.rule_parse.specs.RuleReaders.{known_or_misplaced, source_word, term_a
 use Rattle.rule_parse.proofs.Pieces.{operation_in-is, truth_flag-is}
 use Rattle.rule_terms.specs.declared.place.TermPlace.TheVariants.{Constant}
 use Rattle.rule_terms.specs.TermReaders.{mark_at}
-use Rattle.rule_viable_prefixes.proofs.Marks.{IsMark, bad, excess, Marking, State, Marked, Next, First, ends, stops, token, first, Same, read, told, stands, Meets, refused, left, same_bind, meets_bind, mark_told, cut_told, unexpected_both, misplaced_both, syntax_both}
+use Rattle.rule_viable_prefixes.proofs.Marks.{IsMark, bad, excess, Marking, State, Marked, Next, First, ends, stops, token, first, Same, read, told, stands, Meets, left, same_bind, meets_bind, cut_told, unexpected_both, misplaced_both, syntax_both}
 use Rattle.rule_viable_prefixes.proofs.MarkedTerms.{at, NoStand, IsOperand, long, short, on, operand, mark_met, mark_same, NameRead, too_long, fine, register_read, word_read, word_other, constant_operand, term_same, term_refuses}
 use Rattle.rule_viable_prefixes.proofs.MarkedFormulas.{Ended, line_end_same, line_end_met}
 
@@ -311,22 +311,12 @@ module _ (c : Marking) (statements line : ℕ) (few : statements ≤ c.limits.st
       by Target u v whole (token (Word word) x y text next) = target_word word x y whole next (bytes_eq word (codes "undef")) refl
       by Target u v whole (token t x y text next) = term_argument_same (t ∷ x) (t ∷ y) whole
 
-  argument_met : {A : Type 0} (half : Half) (f : RawArgument × List Token → A × List Token) (rest : List Token) → Meets c line {X = A × List Token} Stops (argument_at c.wider half line (c.mark ∷ rest) >>= λ x. Ok (f x))
-  argument_met {A} half f rest = elim (mark_argument c.mark c.kind c.is_mark c.wider half line rest) as (λ _. Meets c line {X = A × List Token} Stops (argument_at c.wider half line (c.mark ∷ rest) >>= λ x. Ok (f x))) [
-    | inl e ↦ rw (e, mark_told c line rest) refused
-    | inr e ↦ rw (e, term_refuses c statements line few Constant c.wider.nested rest) refused
-  ]
-
   typed_same : (half : Half) (written : Option ℕ) (a b : List Token) → Marked c (here false) a b → ArgumentSame {A = RawOperand} (typed_at c.limits half line written a) (typed_at c.wider half line written b)
   unfolding typed_at
   typed_same half written a b marked =
       same_bind (argument_same half a b marked)
       (λ x y is. read (operand_of written x.0, x.1) (operand_of written y.0, y.1) (ap (operand_of written) is.0, is.1))
       (λ y s. left (operand_of written y.0, y.1) s)
-
-  typed_met : (half : Half) (written : Option ℕ) (rest : List Token) → Meets c line {X = RawOperand × List Token} Stops (typed_at c.wider half line written (c.mark ∷ rest))
-  unfolding typed_at
-  typed_met half written rest = argument_met half (λ x. (operand_of written x.0, x.1)) rest
 
   -- a type that may be missing
   maybe_same : (a b : List Token) → Marked c (here false) a b → ((maybe_type a).0 ≡ (maybe_type b).0) × Marked c (here false) (maybe_type a).1 (maybe_type b).1
@@ -347,9 +337,6 @@ module _ (c : Marking) (statements line : ℕ) (few : statements ≤ c.limits.st
   operand_same half a b marked =
       let m = maybe_same a b marked in
       subst (λ (w : Option ℕ). ArgumentSame {A = RawOperand} (typed_at c.limits half line (maybe_type a).0 (maybe_type a).1) (typed_at c.wider half line w (maybe_type b).1)) m.0 (typed_same half (maybe_type a).0 (maybe_type a).1 (maybe_type b).1 m.1)
-
-  operand_met : (half : Half) (rest : List Token) → Meets c line {X = RawOperand × List Token} Stops (operand_at c.wider half line (c.mark ∷ rest))
-  operand_met half rest = rw (mark_no_type c.mark c.kind c.is_mark rest) (typed_met half None rest)
 
   -- ---- marks and words between operands
 
@@ -384,10 +371,6 @@ module _ (c : Marking) (statements line : ℕ) (few : statements ≤ c.limits.st
       (λ r q same_. subst (λ (left_ : RawOperand). WholeSame {A = RawOperand × RawOperand} (line_end line r.1 >>= λ rest. Ok ((l.0, r.0), rest)) (line_end line q.1 >>= λ rest. Ok ((left_, q.0), rest))) is.0 (ends_same (λ (o : RawOperand). (l.0, o)) r q same_))
       (λ q s_. ends_met (m.0, q.0) q s_)))
       (λ m s_. comma_then_met _ m s_)
-
-  pair_met : (half : Half) (rest : List Token) → NoMeet {A = RawOperand × RawOperand} (pair_at c.wider half line (c.mark ∷ rest))
-  unfolding pair_at
-  pair_met half rest = meets_bind (operand_met half rest) (λ m s_. comma_then_met _ m s_)
 
   -- ---- flags
 

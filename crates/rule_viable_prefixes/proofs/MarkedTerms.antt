@@ -250,9 +250,6 @@ module _ (c : Marking) (statements line : ℕ) (few : statements ≤ c.limits.st
       let most = kept.levels in
       signed function x y (omega (arith, most, same_levels, deep)) (subst (λ (r : Role). Marked c (at (open_with r pending) (ends_operand r)) x y) is more)
 
-  opening_found : (found : List ℕ) (start : Option Start) → opening_in found ≡ start → (rest : List Token) → opening_at line (opening_in found) rest ≡ opening_at line start rest
-  opening_found found start is rest = ap (λ (s : Option Start). opening_at line s rest) is
-
   parenthesis_is : (found : List ℕ) → bytes_eq found (codes "(") ≡ true → opening_in found ≡ Some Parenthesis
   unfolding opening_in
   parenthesis_is found h = rw h refl

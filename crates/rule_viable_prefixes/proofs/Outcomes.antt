@@ -469,13 +469,7 @@ module _ (limits : Limits) where
 
   -- ---- nothing more
 
-  pub done_good : {A : Type 0} {line : ℕ} (x : A) → Good limits (pair limits) (λ ts. Ok (x, ts)) (λ y own. (y ≡ x) × (own ≡ [])) line
-  done_good {A} {line} x = record { sample = (x, [], (refl, refl)); outcome = λ tokens. passed limits (pair limits) (λ ts. Ok (x, ts)) (λ y own. (y ≡ x) × (own ≡ [])) line tokens x (refl, refl) (λ more alike. refl) }
-
   -- ---- small steps
-
-  pub both_same : (front a back b : List Token) → front ≡ a → back ≡ b → front ++ back ≡ a ++ b
-  both_same front a back b p q = ap (λ (ts : List Token). ts ++ back) p ∙ ap (λ (ts : List Token). a ++ ts) q
 
   pub with_none : (P : List Token → Type 0) (front back : List Token) → back ≡ [] → P front → P (front ++ back)
   with_none P front back none is = subst P (sym (ap (λ (ts : List Token). front ++ ts) none ∙ append-nil front)) is

@@ -391,10 +391,6 @@ module _ (spare_bytes deepest spare_statements : ℕ) where
   width_term place nesting name own (le, whole) = λ start.
       (raw_nodes.Width name ∷ [], subst (λ (ts : List Token). SpellsTerm limits place (suc nesting) start 0 (raw_nodes.Width name ∷ []) (Word (codes "width") ∷ Mark (codes "(") ∷ ts)) (sym whole) (width name le))
 
-  pub constant_term : (place : TermPlace) (nesting : ℕ) → IsTerm place nesting 0 (Word (codes "C") ∷ [])
-  unfolding is_constant
-  constant_term place nesting = leaf_term place nesting (raw_nodes.Constant (codes "C")) (Word (codes "C") ∷ []) (refl, omega arith, refl)
-
   -- what fits where a primary may stand
   abbrev FitsAt : TermPlace → ℕ → Fitting
   FitsAt place nesting = Takes limits (Term place nesting 0) []

@@ -1,10 +1,9 @@
 -- What words say for parameters.
 use Rattle.std.proofs.Math.Pow.{pow_mono}
-use Rattle.std.proofs.lemmas.Bool.{eqb-true, eqb-false, ltb-true, ltb-false, leb-true, lt-ltb, le-ltb, le-leb, eq-eqb, ne_eqb, both_ways, and_parts, and_from, or_parts, or_from, false_from_ne_true}
+use Rattle.std.proofs.lemmas.Bool.{eqb-true, eqb-false, ltb-true, ltb-false, leb-true, lt-ltb, le-leb, eq-eqb, and_parts, and_from, or_parts, false_from_ne_true}
 use Rattle.std.proofs.Common.{◌≡◌, ◌≢◌, ℕ, zero, suc, ◌+◌, ◌<◌, ◌≤◌, ◌^◌, Bool, true, false, ◌&&◌, ◌||◌, List, [], ◌∷◌, ◌++◌, Option, Some, None, Result, Ok, length, map, take, get_or, refl, sym, ap, subst, ◌∙◌, arith, Contains}
 use Rattle.std.specs.Prelude.{◌↔◌, IsSome, IfSome, IsSomeAnd, MatchOption, option_map, slice_get, slice_index, nat_lt, nat_le, not, ◌==◌, codes, if◌then◌else◌}
 use Rattle.std.specs.Borrow.{Bor}
-use Rattle.std.specs.Char.{is_ascii_digit}
 use Rattle.std.specs.Str.{all_ascii_digits, bytes_eq}
 use Rattle.std.specs.Str.Parse.{ParsesUnsigned, digits_value}
 use Rattle.std.proofs.lemmas.Str.Parse.{IsNumeralModel, numerals_by_value, tells_all_ascii_digits, parse_plain, parse_gives}
@@ -87,22 +86,6 @@ own = numerals_by_value _ tells_all_ascii_digits
 alone : (zero_first longer one : Bool) → (zero_first && longer) ≡ false → (longer ≡ false → one ≡ true) → (not zero_first || one) ≡ true
 alone true longer one e h = h e
 alone false longer one e h = refl
-
-alone-true : (zero_first longer one : Bool) → (not zero_first || one) ≡ true → (one ≡ true → longer ≡ false) → (zero_first && longer) ≡ false
-alone-true true longer one e h = h e
-alone-true false longer one e h = refl
-
--- what begins as no decimal is none
-pub no_decimal : (text : List ℕ) → begins_as_none text ≡ true → is_decimal text ≡ false
-no_decimal text e = false_from_ne_true (is_decimal text) (λ is.
-    let p = and_parts (all_ascii_digits text && nat_le 1 (length text)) (not (slice_index text 0 == 48) || (length text == 1)) is in
-    let q = and_parts (all_ascii_digits text) (nat_le 1 (length text)) p.0 in
-    let zero : ((slice_index text 0 == 48) && nat_lt 1 (length text)) ≡ false = alone-true (slice_index text 0 == 48) (nat_lt 1 (length text)) (length text == 1) p.1 (λ one. le-ltb 1 (length text) (let l = eqb-true (length text) 1 one in omega arith)) in
-    both_ways (begins_as_none text) (or_from (slice_index text 0 == 43) _ (no_plus text q.0) zero) e)
-  where
-    no_plus : (bs : List ℕ) → all_ascii_digits bs ≡ true → (slice_index bs 0 == 43) ≡ false
-    no_plus [] digits = refl
-    no_plus (b ∷ bs) digits = ne_eqb b 43 (λ same. both_ways (is_ascii_digit b) (rw same refl) (and_parts (is_ascii_digit b) (all_ascii_digits bs) digits).0)
 
 module _ {E : Type 0} (width : ℕ) (text : List ℕ) (r : Result ℕ E) (parsed : ParsesUnsigned 64 10 text r) (first : begins_as_none text ≡ false) where
   parts : ((slice_index text 0 == 43) ≡ false) × (((slice_index text 0 == 48) && nat_lt 1 (length text)) ≡ false)

@@ -5,7 +5,6 @@ use Rattle.std.specs.Str.{bytes_eq}
 use Rattle.std.proofs.lemmas.Bool.{both_ways}
 use Rattle.std.proofs.lemmas.Slice.Eq.{bytes_eq-Decides}
 use Rattle.std.proofs.lemmas.Option.{slice_get-get_or, get_or_from_slice_get}
-use Rattle.std.proofs.lemmas.List.{get_or_default}
 use Rattle.ir_core.specs.declared.module.Module.{Module}
 use Rattle.ir_core.specs.declared.module.Entry.{Entry}
 use Rattle.ir_core.specs.declared.module.Entry.TheVariants as entries
@@ -39,6 +38,3 @@ pub none_named : (m : Module) (name : List ℕ) (n : ℕ) → length m.entries �
 none_named m name n past before f is =
     let lt = is.entry.1 in
     before is.entry.0 (omega arith) f (slice_get-get_or m.entries is.entry.0 (entries.Function f) is.entry.1 ∙ ap (λ (e : Entry). Some e) is.entry.2) is.name_is
-
-pub named_at : (m : Module) (name : List ℕ) (n : ℕ) (d : Entry) (f : Function) → n < length m.entries → get_or m.entries n d ≡ entries.Function f → f.name ≡ name → IsNamed m name f
-named_at m name n d f lt is same = record { entry = (n, lt, get_or_default m.entries n (entries.Function f) d lt ∙ is); name_is = same }

@@ -21,7 +21,8 @@ pub record IsNamed (m : Module) (name : List ℕ) (f : Function) : Type 0 where
   pub entry : Contains m.entries (entries.Function f)
   pub name_is : f.name ≡ name
 
--- what is written of the named function of a module at the values that the words say, after at most so many blocks entered
+-- what is written of the named function of a module at the values that the words say, after at most so many blocks
+-- entered
 pub record IsRun (bytes name : List ℕ) (words : List (List ℕ)) (blocks : ℕ) (text : List ℕ) : Type 0 where
   pub read : Module
   pub source : IsReadAs bytes read

@@ -9,7 +9,8 @@ use lists::List;
 use ops::{Value, Width, Word};
 use std::alloc::{AllocError, Global};
 
-/// Whether a text begins as no decimal does, though `parse` may read it: with a plus sign, or with a zero before other bytes.
+/// Whether a text begins as no decimal does, though `parse` may read it: with a plus sign, or with a zero before other
+/// bytes.
 fn begins_as_none(text: &str) -> bool
     ensures { result ≡ begins_as_none text.now }
 {

@@ -1,7 +1,8 @@
 //! What `run` writes of a function of the text of a module.
 //!
-//! The definitions stand in `specs/`: `Arguments` says which values words say for parameters, `OutcomeText` which line an outcome has,
-//! `Runs` what a run of a named function writes, `RunFaults` why it is refused, and `OutcomeLaws` that there is always an outcome.
+//! The definitions stand in `specs/`: `Arguments` says which values words say for parameters, `OutcomeText` which line
+//! an outcome has, `Runs` what a run of a named function writes, `RunFaults` why it is refused, and `OutcomeLaws` that
+//! there is always an outcome.
 #![tactic(auto)]
 
 mod argument;

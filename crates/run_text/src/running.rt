@@ -14,18 +14,19 @@ use ir_reader::read_module;
 use refusal::Refusal;
 use std::alloc::Global;
 
-/// Runs a function of a module, known by its name without the `@`, at the values that the arguments say, and enters at most `blocks`
-/// blocks. Each number that is left open is 0: what a literal `undef` gives, and what `freeze` gives in place of poison (LangRef,
-/// "Undefined Values", "freeze").
+/// Runs a function of a module, known by its name without the `@`, at the values that the arguments say, and enters at
+/// most `blocks` blocks. Each number that is left open is 0: what a literal `undef` gives, and what `freeze` gives in
+/// place of poison (LangRef, "Undefined Values", "freeze").
 ///
-/// An argument is `poison`, at i1 `true` or `false`, or a decimal from 0 to 2^N - 1 for a parameter of type `iN`. What is written is a
-/// line: `return V`, where V is a literal, `undefined` where the behaviour is undefined, or `running block K` where the run would enter
-/// that block next, counted from 0.
+/// An argument is `poison`, at i1 `true` or `false`, or a decimal from 0 to 2^N - 1 for a parameter of type `iN`. What
+/// is written is a line: `return V`, where V is a literal, `undefined` where the behaviour is undefined, or `running
+/// block K` where the run would enter that block next, counted from 0.
 ///
-/// It is refused for the text's first fault, or where no function has the name or the arguments don't fit its parameters.
+/// It is refused for the text's first fault, or where no function has the name or the arguments don't fit its
+/// parameters.
 ///
-/// Beside [`read_module`]'s it takes as many steps as the module has entries and the run has instructions, where a `phi` goes through
-/// its entries and a `switch` through its cases ([`run_zero`]).
+/// Beside [`read_module`]'s it takes as many steps as the module has entries and the run has instructions, where a
+/// `phi` goes through its entries and a `switch` through its cases ([`run_zero`]).
 #[tactic(auto, using(crate::proofs::RunningLemmas::misnamed, crate::proofs::RunningLemmas::refused_text))]
 pub fn run(
     alloc: Global,

@@ -2,13 +2,12 @@
 use Rattle.std.proofs.Common.{◌≡◌, ℕ, suc, ◌+◌, ◌<◌, List, Some, sym, ap, ◌∙◌, arith, inl, inr, subst, add-one}
 use Rattle.std.specs.Prelude.{slice_get}
 use Rattle.std.proofs.lemmas.Bool.{cases_lt}
-use Rattle.std.proofs.lemmas.List.{append-nil}
-use Rattle.std.proofs.lemmas.List.Elements.{All-append, All-push}
+use Rattle.std.proofs.lemmas.List.Elements.{All-push}
 use Rattle.std.proofs.lemmas.Option.{same_Some}
 use Rattle.clauses.specs.declared.step.Step.{Step}
 use Rattle.clauses.specs.declared.cnf.Cnf.{Cnf}
 use Rattle.clauses.specs.Literal.{IsWithin, VariablesWithin}
-use Rattle.clauses.specs.ClauseSet.{StepFollows, all_clauses, clauses_before}
+use Rattle.clauses.specs.ClauseSet.{StepFollows, clauses_before}
 use Rattle.clauses.proofs.LogSoundness.{clauses_before-suc}
 
 -- each step before this place follows
@@ -26,12 +25,6 @@ FollowsBefore-more set log place step at follows before =
           let same : step ≡ other = same_Some step other (sym at ∙ ap (slice_get log) now ∙ here) in
           subst (λ n. StepFollows set (clauses_before set log n) other) now (subst (StepFollows set (clauses_before set log place)) same follows)
     ]
-
--- the variables of the clauses before each step are the set's
-pub within_start : (set : Cnf) (log : List Step) → VariablesWithin set.count (clauses_before set log 0)
-within_start set log =
-    subst (VariablesWithin set.count) (sym (append-nil (all_clauses set)))
-    (All-append (IsWithin set.count) set.gates set.roots set.gate_variables set.root_variables)
 
 pub within_more : (set : Cnf) (log : List Step) (place : ℕ) (step : Step) → slice_get log place ≡ Some step → StepFollows set (clauses_before set log place) step → VariablesWithin set.count (clauses_before set log place) → VariablesWithin set.count (clauses_before set log (place + 1))
 within_more set log place step at follows within =

@@ -201,10 +201,6 @@ longest_with f g here text n k e a b = longest_along (λ bytes rest. f bytes res
 
 -- ---- words
 
--- the words so far are of no more than n bytes, where the text begins with them
-pub among_none : (text : List ℕ) → IsLongest (λ bytes rest. is_among [] bytes) text 0
-among_none text = longest_none (λ bytes rest. is_among [] bytes) text (λ m h k. refl)
-
 among_push : (words : List (List ℕ)) (word bytes : List ℕ) → is_among (words ++ word ∷ []) bytes ≡ (is_among words bytes || bytes_eq bytes word)
 among_push words word bytes = list_any-append (bytes_eq bytes) words (word ∷ []) ∙ ap (λ (b : Bool). is_among words bytes || b) (or_false (bytes_eq bytes word))
 

@@ -9,7 +9,7 @@ use Rattle.scan.specs.Bytes.{is_digit, is_letter, begins_name, is_name_byte, beg
 use Rattle.scan.specs.Longest.{IsLongest}
 use Rattle.scan.specs.RuleTokens.{is_negative, is_literal}
 use Rattle.scan.specs.IrTokens.{is_name, is_behind, is_label, is_number}
-use Rattle.scan.proofs.Fronts.{which, and_left, and_right, and_both, or_true, longest_none, behind_none, behind_more, run_passes, run_longest}
+use Rattle.scan.proofs.Fronts.{which, and_left, and_right, and_both, or_true, longest_none, behind_none, run_passes, run_longest}
 use Rattle.scan.proofs.PlaceLemmas.{begins_some}
 use Rattle.scan.proofs.NameLemmas.{is_name-empty, shorter_name}
 
@@ -30,10 +30,6 @@ pub behind_short : (c : ℕ) (test : List ℕ → Bool) (text rest : List ℕ) (
 behind_short c test text rest n e none nothing h = subst (λ (t : List ℕ). IsLongest (λ bytes _. is_behind c test bytes) t 0) (sym e)
     (behind_none (λ bytes _. is_behind c test bytes) (λ bytes _. test bytes) c rest (λ _. nothing) (λ bytes _. behind_is c test bytes)
     (subst (λ (m : ℕ). IsLongest (λ bytes _. test bytes) rest m) none h))
-
-pub behind_some : (c : ℕ) (test : List ℕ → Bool) (text rest : List ℕ) (n : ℕ) → text ≡ c ∷ rest → n ≢ 0 → IsLongest (λ bytes _. test bytes) rest n → IsLongest (λ bytes _. is_behind c test bytes) text (n + 1)
-behind_some c test text rest n e some h = subst (λ (t : List ℕ). IsLongest (λ bytes _. is_behind c test bytes) t (n + 1)) (sym e)
-    (behind_more (λ bytes _. is_behind c test bytes) (λ bytes _. test bytes) c rest n (λ bytes _. behind_is c test bytes) (omega arith) h)
 
 -- bytes that pass, or none
 pub behind_any : (c : ℕ) (p : ℕ → Bool) (text rest : List ℕ) (n : ℕ) → text ≡ c ∷ rest → n ≡ prefix_len p rest → IsLongest (λ bytes _. is_behind c (list_all p) bytes) text (n + 1)

@@ -1,18 +1,15 @@
 -- Lists that are changed item by item.
-use Rattle.std.proofs.Common.{◌≡◌, ℕ, suc, ◌+◌, ◌<◌, ◌≤◌, List, [], ◌∷◌, ◌++◌, length, take, drop, map, refl, sym, ap, subst, ◌∙◌, arith, get_or, All}
+use Rattle.std.proofs.Common.{◌≡◌, ℕ, suc, ◌+◌, ◌<◌, List, [], ◌∷◌, ◌++◌, length, take, drop, map, sym, ap, subst, ◌∙◌, arith, get_or, All}
 use Rattle.std.proofs.Math.ListN.{set, length-set}
 use Rattle.std.proofs.Math.Seq.{drop-cons}
 use Rattle.std.proofs.lemmas.List.Elements.{All-get_or}
-use Rattle.std.proofs.lemmas.List.{take_all, take_more, take_more_set, drop-set-lt, map-append}
+use Rattle.std.proofs.lemmas.List.{take_more, take_more_set, drop-set-lt, map-append}
 
 -- the items before the index are changed by f, and from there on all are as they were
 pub record Mapped {A : Type 0} (f : A → A) (all : List A) (i : ℕ) (items : List A) : Type 0 where
   pub done : take i items ≡ map f (take i all)
   pub rest : drop i items ≡ drop i all
   pub size : length items ≡ length all
-
-pub none_mapped : {A : Type 0} (f : A → A) (all : List A) → Mapped f all 0 all
-none_mapped f all = record { done = refl; rest = refl; size = refl }
 
 -- the next item is the old one
 pub next_unmapped : {A : Type 0} (f : A → A) (all : List A) (i : ℕ) (items : List A) (x : A) → Mapped f all i items → i < length items → x ≡ get_or items i x → x ≡ get_or all i x
@@ -39,11 +36,6 @@ map_more f all i items x y m within here is =
       rest = drop-set-lt (i + 1) items i y (omega arith) ∙ ap (λ n. drop n items) (sym next) ∙ tails ∙ ap (λ n. drop n all) next;
       size = length-set items i y ∙ size;
     }
-
-pub all_mapped : {A : Type 0} (f : A → A) (all : List A) (i : ℕ) (items : List A) → Mapped f all i items → length all ≤ i → items ≡ map f all
-all_mapped f all i items m past =
-    let size = m.size in
-    sym (take_all i items (omega arith)) ∙ m.done ∙ ap (map f) (take_all i all past)
 
 -- and what holds of each old item holds of it
 pub next_holds : {A : Type 0} (P : A → Type 0) (f : A → A) (all : List A) (i : ℕ) (items : List A) (x : A) → All P all → Mapped f all i items → i < length items → x ≡ get_or items i x → P (get_or items i x)

@@ -29,10 +29,6 @@ replaced_before : (x : Given) (ys old new zs : List Given) → Replaced x ys old
 replaced_before x ys old new zs (Replaced.here us) = subst (λ l. Replaced x ys (x ∷ us ++ zs) l) (sym (append_assoc ys us zs)) (Replaced.here (us ++ zs))
 replaced_before x ys old new zs (Replaced.later z before after h) = Replaced.later z (before ++ zs) (after ++ zs) (replaced_before x ys before after zs h)
 
--- a name among the new ones is among the old
-Among : List Given → List ℕ → Type 0
-Among xs name = (j : ℕ) × (slice_get xs j ≡ Some (Some name))
-
 member : (x : Given) (ys old new : List Given) → ((i : ℕ) (name : List ℕ) → slice_get ys i ≡ Some (Some name) → x ≡ Some name) → Replaced x ys old new
     → (i : ℕ) (name : List ℕ) → slice_get new i ≡ Some (Some name) → (j : ℕ) × (slice_get old j ≡ Some (Some name))
 member x ys old new named (Replaced.here zs) i name h =

@@ -64,17 +64,6 @@ is_moved w b k =
       | inr h ↦ record { behind = λ same low. let le : k ≤ w.place = h.0 same in absurd (omega arith); unmoved = λ same le. h.1; elsewhere = λ ne. h.1 }
     ]
 
--- the same place
-pub moved_same : (w : Rewrite) (b k m n : ℕ) → IsMoved w b k m → IsMoved w b k n → m ≡ n
-moved_same w b k m n p q =
-    elim (cases_eq b w.block) [
-      | inr ne ↦ p.elsewhere ne ∙ sym (q.elsewhere ne)
-      | inl same ↦ elim (cases_lt w.place k) [
-        | inl lt ↦ p.behind same lt ∙ sym (q.behind same lt)
-        | inr le ↦ p.unmoved same le ∙ sym (q.unmoved same le)
-      ]
-    ]
-
 -- the next place of an instruction other than the root
 next_of : (w : Rewrite) (b k m n : ℕ) → ¬ IsTheRoot w b k → IsMoved w b k m → IsMoved w b (suc k) n → n ≡ suc m
 next_of w b k m n other p q =

@@ -38,10 +38,6 @@ inst_of_width f b k width e =
 number_below : (n : Number) (width : ℕ) → n.width ≡ width → n.number < 2 ^ n.width → n.number < 2 ^ width
 number_below n width e h = subst (λ k. n.number < 2 ^ k) e h
 
--- the register isn't the root's
-pub other_place : (w : Rewrite) (d j : ℕ) → registers.Result d j ≢ root_of w → ¬ IsTheRoot w d j
-other_place w d j ne h = ne (let p = h.0 in let q = h.1 in cc)
-
 pub other_register : (w : Rewrite) (d j : ℕ) → operands.Register (registers.Result d j) ≢ operands.Register (root_of w) → ¬ IsTheRoot w d j
 other_register w d j ne h = ne (let p = h.0 in let q = h.1 in cc)
 

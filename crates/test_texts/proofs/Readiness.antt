@@ -1,16 +1,14 @@
 -- What functions and rules that are read meet.
-use Rattle.std.proofs.Common.{◌≡◌, ℕ, ◌<◌, ◌≤◌, ◌-◌, ◌^◌, ◌++◌, List, length, get_or, refl, sym, ap, ◌∙◌, subst, arith}
-use Rattle.std.specs.Prelude.{All, Some, option_to_list}
-use Rattle.std.proofs.lemmas.List.Elements.{All-pop, All-from_get_or}
-use Rattle.std.proofs.lemmas.Option.{slice_get-get_or, slice_get_within, get_or_from_slice_get}
+use Rattle.std.proofs.Common.{ℕ, ◌<◌, ◌≤◌, ◌-◌, ◌^◌, List, length, get_or, sym, subst, arith}
+use Rattle.std.specs.Prelude.{All}
+use Rattle.std.proofs.lemmas.List.Elements.{All-from_get_or}
+use Rattle.std.proofs.lemmas.Option.{slice_get_within, get_or_from_slice_get}
 use Rattle.ir_core.specs.Blocks.{IsBlock}
-use Rattle.ir_core.specs.Checks.{MeetsChecks, ModuleMeetsChecks}
 use Rattle.ir_core.specs.declared.function.Block.{Block}
 use Rattle.ir_core.specs.declared.function.Function.{Function}
-use Rattle.ir_core.specs.declared.module.Module.{Module}
 use Rattle.ir_core.specs.declared.module.Entry.{Entry}
 use Rattle.ir_core.specs.declared.module.Entry.TheVariants as entries
-use Rattle.ir_text.specs.Forms.{OperandFits, EntryHasForms, FunctionHasForms, ModuleHasForms}
+use Rattle.ir_text.specs.Forms.{OperandFits, FunctionHasForms}
 use Rattle.ir_meaning.specs.HistoryLaws.{NumbersFit}
 use Rattle.rule_core.specs.Checks.{IsRule}
 use Rattle.rule_core.specs.declared.rule.Rule.{Rule}
@@ -24,21 +22,9 @@ use Rattle.test_texts.specs.Ready.{FunctionIsReady, RuleIsReady}
 pub rules_are_ready : (rules : List Rule) → All IsRule rules → All IsClassified rules → All HasNoFault rules → All RuleIsReady rules
 rules_are_ready rules checks classes typed = λ k d lt. record { checks = checks k d lt; classes = classes k d lt; typed = typed k d lt }
 
--- the last entry of a module meets its checks, where it is a function
-pub last_function_meets_checks : (m : Module) (rest : List Entry) (f : Function) → ModuleMeetsChecks m
-    → m.entries ≡ rest ++ option_to_list (Some (entries.Function f)) → MeetsChecks f
-last_function_meets_checks m rest f checks popped =
-    (All-pop (λ (e : Entry). (g : Function) → e ≡ entries.Function g → MeetsChecks g) m.entries rest (Some (entries.Function f)) popped
-    (λ k d lt g is. checks.functions k g (slice_get-get_or m.entries k d lt ∙ ap Some is))).1 f refl
-
 -- the text is made of bytes
 pub are_bytes : (bytes : List ℕ) → ((k : ℕ) → get_or bytes k 0 < 256) → All (λ b. b ≤ 255) bytes
 are_bytes bytes fit = All-from_get_or (λ b. b ≤ 255) bytes 0 (λ k within. let fits = fit k in omega arith)
-
--- and has its forms
-pub last_function_has_forms : (m : Module) (rest : List Entry) (f : Function) → ModuleHasForms m
-    → m.entries ≡ rest ++ option_to_list (Some (entries.Function f)) → FunctionHasForms f
-last_function_has_forms m rest f forms popped = (All-pop EntryHasForms m.entries rest (Some (entries.Function f)) popped forms).1
 
 -- so its numbers are of their widths
 pub numbers_fit : (f : Function) → FunctionHasForms f → NumbersFit f

@@ -93,10 +93,6 @@ module _ (old new : Uses) (b k : ℕ) (row : List ℕ) (is_row : get_or old.resu
   pub result_counted : IsCounted a old new
   result_counted = record { there = result_still_there; named = result_goes_up; others = result_stays }
 
--- what is no register is no use
-pub nothing_counted : (a : Operand) (uses : Uses) → ((register : Register) → a ≡ operands.Register register → ⊥) → IsCounted a uses uses
-nothing_counted a uses none = record { there = λ register has. has; named = λ register this. absurd (none register this); others = λ register other. refl }
-
 -- ---- before the first operand
 
 zero_at : (n k : ℕ) → get_or {A = ℕ} (replicate n 0) k 0 ≡ 0

@@ -102,18 +102,6 @@ zipped_more [] (y ∷ bs) a b e = absurd (omega arith)
 zipped_more (x ∷ as_) [] a b e = absurd (omega arith)
 zipped_more (x ∷ as_) (y ∷ bs) a b e = ap (λ (l : List _). (x, y) ∷ l) (zipped_more as_ bs a b (omega arith))
 
--- no rule yet
-pub no_rules : (widths : List ℕ) (conflicts : ℕ) (verified : Verified) → verified.table ≡ [] → verified.text.items ≡ [] → verified.all_admitted ≡ true → IsVerified [] widths conflicts verified
-no_rules widths conflicts verified table text all =
-    record {
-      findings = [];
-      found = tt;
-      table = table;
-      honest = subst (λ (rows : List Row). IsHonestTable [] conflicts rows) (sym table) (All-nil _);
-      text = text;
-      all_admitted = (λ h. All-nil _, λ h. subst IsTrue (sym all) refl);
-    }
-
 -- ---- honest rows
 
 stays_at : (rules : List Rule) (rule : Rule) (k : ℕ) (at : Rule) → slice_get rules k ≡ Some at → slice_get (rules ++ rule ∷ []) k ≡ Some at

@@ -10,9 +10,6 @@ module _ (rules : List Rule) (table larger : List Row) (grows : (row : Row) → 
   pub admitted_stays : (m : Match) → IsAdmitted table m → IsAdmitted larger m
   admitted_stays m h = (h.0, grows h.0 h.1, h.2, h.3)
 
-  pub turned_down_stays : (m : Match) → IsTurnedDown table m → IsTurnedDown larger m
-  turned_down_stays m h = (h.0, grows h.0 h.1, h.2, h.3)
-
   pub all_turned_down_stay : (ms : List Match) → All (IsTurnedDown table) ms → All (IsTurnedDown larger) ms
   all_turned_down_stay ms all k d lt = (let h = all k d lt in (h.0, grows h.0 h.1, h.2, h.3))
 

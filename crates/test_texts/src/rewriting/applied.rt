@@ -69,7 +69,8 @@ const ROWS: [Row; 33] = [
             "define i4 @g(i4 %a) { %1 = xor i4 %a, -1 %2 = sub i4 4, %a %3 = and i4 %1, %2 ret i4 %3 }",
         ),
     },
-    // The root is read in its own block and behind it, by a phi of its own block, and in a block that isn't reached. It goes.
+    // The root is read in its own block and behind it, by a phi of its own block, and in a block that isn't reached. It
+    // goes.
     Row {
         rule: ADD_ZERO,
         function: "define i8 @f(i8 %n) { entry: br label %l l: %a = phi i8 [ 1, %entry ], [ %r, %l ] %i = phi i8 [ 0, %entry ], [ %j, %l ]

@@ -19,8 +19,8 @@ enum Given {
     Poison,
 }
 
-/// A match: its block and place, the places of its statements' instructions, what its inputs and constants are bound to, and the
-/// widths of its classes.
+/// A match: its block and place, the places of its statements' instructions, what its inputs and constants are bound
+/// to, and the widths of its classes.
 struct Match {
     at: (u32, u32),
     statements: &'static [u32],

@@ -11,8 +11,8 @@ use std::alloc::Global;
 use std::test::Fail;
 use use_counts::{Uses, count_uses, uses_of};
 
-/// A function, the rule that is applied to it, with the block and the place of its root, and what is told then. Without a rule the function
-/// is cleaned.
+/// A function, the rule that is applied to it, with the block and the place of its root, and what is told then. Without
+/// a rule the function is cleaned.
 struct Row {
     rule: Option<(&'static str, u32, u32)>,
     function: &'static str,

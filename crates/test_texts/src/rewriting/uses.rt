@@ -5,8 +5,8 @@ use ir_core::Register;
 use std::test::Fail;
 use use_counts::{count_uses, uses_of};
 
-/// A loop, with a phi that names a parameter and a later result, an instruction that names one result twice, and terminators that name
-/// results.
+/// A loop, with a phi that names a parameter and a later result, an instruction that names one result twice, and
+/// terminators that name results.
 const LOOP: &str =
     "define i8 @f(i8 %n, i8 %z) { entry: br label %l l: %i = phi i8 [ %n, %entry ], [ %k, %l ] %k = mul i8 %i, %i
 %d = add i8 %k, %n %c = icmp ult i8 %k, %n br i1 %c, label %l, label %out out: ret i8 %k }";
