@@ -143,46 +143,50 @@ multiplied_init {state = state} {start = start} {now = now} a b bits digit zero_
     }
 
 -- one row more
-pub multiplied_more : {C L : Type 0} {state : Ghosts C L} {start now mid end : C} {a b bits : List L} {overflow past : L} {i : ℕ} (row : List L) (digit lower lost next : L) → Multiplied state start now a b bits overflow past i → 0 < i → i < length a → length b ≡ length a → All (state.has_literal start) a → All (state.has_literal start) b → digit ≡ get_or b i digit → lower ≡ get_or a (length a - 1 - i) lower → Adds state now mid (row_gates (length a - i) + 3) → Adds state mid end 1 → All (state.has_literal mid) row → length row ≡ length a → state.has_literal mid lost → state.has_literal end next → ((inputs : List Bool) → state.admits now inputs → (carry : Bool) × (number (map (state.value mid inputs) row) + 2 ^ length a * bit carry ≡ number (map (state.value now inputs) bits) + 2 ^ i * (bit (state.value now inputs digit) * (number (map (state.value now inputs) a) % 2 ^ (length a - i)))) × (state.value mid inputs lost ≡ ((state.value now inputs overflow || carry) || (state.value now inputs digit && state.value now inputs past)))) → ((inputs : List Bool) → state.admits mid inputs → state.value end inputs next ≡ (state.value mid inputs past || state.value mid inputs lower)) → Multiplied state start end a b row lost next (i + 1)
-multiplied_more {state = state} {start = start} {now = now} {mid = mid} {end = end} {a = a} {b = b} {bits = bits} {overflow = overflow} {past = past} {i = i} row digit lower lost next before some inside same_width own_a own_b at_digit at_lower first second own_row width own_lost own_next row_is next_is =
+pub multiplied_more : {C L : Type 0} {state : Ghosts C L} {start now s1 s2 s3 : C} {a b bits : List L} {overflow past : L} {i : ℕ} (row : List L) (digit lower carry lost next : L) → Multiplied state start now a b bits overflow past i → 0 < i → i < length a → length b ≡ length a → All (state.has_literal start) a → All (state.has_literal start) b → digit ≡ get_or b i digit → lower ≡ get_or a (length a - 1 - i) lower → Adds state now s1 (row_gates (length a - i)) → Adds state s1 s2 3 → Adds state s2 s3 1 → All (state.has_literal s1) row → state.has_literal s1 carry → length row ≡ length a → state.has_literal s2 lost → state.has_literal s3 next → ((inputs : List Bool) → state.admits now inputs → number (map (state.value s1 inputs) row) + 2 ^ length a * bit (state.value s1 inputs carry) ≡ number (map (state.value now inputs) bits) + 2 ^ i * (bit (state.value now inputs digit) * (number (map (state.value now inputs) a) % 2 ^ (length a - i)))) → ((inputs : List Bool) → state.admits s1 inputs → state.value s2 inputs lost ≡ ((state.value s1 inputs overflow || state.value s1 inputs carry) || (state.value s1 inputs digit && state.value s1 inputs past))) → ((inputs : List Bool) → state.admits s2 inputs → state.value s3 inputs next ≡ (state.value s2 inputs past || state.value s2 inputs lower)) → Multiplied state start s3 a b row lost next (i + 1)
+multiplied_more {state = state} {start = start} {now = now} {s1 = s1} {s2 = s2} {s3 = s3} {a = a} {b = b} {bits = bits} {overflow = overflow} {past = past} {i = i} row digit lower carry lost next before some inside same_width own_a own_b at_digit at_lower first second third own_row own_carry width own_lost own_next row_is lost_is next_is =
     let own_digit = own_at (state.has_literal start) b i digit own_b (omega arith) at_digit in
     let own_lower = own_at (state.has_literal start) a (length a - 1 - i) lower own_a (omega arith) at_lower in
-    let to_mid = Keeps-trans before.adds.keeps first.keeps in
+    let to_s1 = Keeps-trans before.adds.keeps first.keeps in
+    let to_s2 = Keeps-trans to_s1 second.keeps in
+    let later = Keeps-trans second.keeps third.keeps in
     let whole : i + (length a - i) ≡ length a = omega arith in
     let range : 2 ^ length a ≡ 2 ^ i * 2 ^ (length a - i) = ap (λ k. 2 ^ k) (sym whole) ∙ pow-add 2 i (length a - i) in
-    let carry = λ (inputs : List Bool) (admitted : state.admits start inputs). (row_is inputs (before.adds.keeps.admitted inputs admitted)).0 in
     let total = λ (inputs : List Bool) (admitted : state.admits start inputs).
     let digit_kept = before.adds.keeps.values inputs digit admitted own_digit in
     let a_kept = map-kept before.adds.keeps inputs admitted a own_a in
-    rw (digit_kept, a_kept, range) at (row_is inputs (before.adds.keeps.admitted inputs admitted)).1 in
+    rw (digit_kept, a_kept, range) at (row_is inputs (before.adds.keeps.admitted inputs admitted)) in
     let below = λ (inputs : List Bool).
-    let row_width : length (map (state.value mid inputs) row) ≡ length a = length-map row (state.value mid inputs) ∙ width in
-    rw (row_width, range) at (number-below (map (state.value mid inputs) row)) in
+    let row_width : length (map (state.value s1 inputs) row) ≡ length a = length-map row (state.value s1 inputs) ∙ width in
+    rw (row_width, range) at (number-below (map (state.value s1 inputs) row)) in
     record {
-      adds = Adds-weaken (Adds-trans (Adds-trans before.adds first) second) (omega (arith, used_more (length a) i some inside));
-      own_bits = All-kept second.keeps row own_row;
-      own_overflow = second.keeps.literals lost own_lost;
+      adds = Adds-weaken (Adds-trans (Adds-trans (Adds-trans before.adds first) second) third) (used_more (length a) i some inside);
+      own_bits = All-kept later row own_row;
+      own_overflow = third.keeps.literals lost own_lost;
       own_past = own_next;
       width = width;
       product = λ inputs admitted.
-          let row_kept = map-kept second.keeps inputs (to_mid.admitted inputs admitted) row own_row in
+          let row_kept = map-kept later inputs (to_s1.admitted inputs admitted) row own_row in
           rw (row_kept, number-take_more (state.value start inputs) b i digit (omega arith) at_digit, range)
-          (row_number (2 ^ i) (2 ^ (length a - i)) (number (map (state.value start inputs) a)) (number (map (state.value start inputs) (take i b))) (number (map (state.value now inputs) bits)) (number (map (state.value mid inputs) row)) (state.value start inputs digit) (carry inputs admitted) (pow_pos (length a - i)) (subst (λ k. 0 < k) range (pow_pos (length a))) (rw range at (before.product inputs admitted)) (below inputs) (total inputs admitted));
+          (row_number (2 ^ i) (2 ^ (length a - i)) (number (map (state.value start inputs) a)) (number (map (state.value start inputs) (take i b))) (number (map (state.value now inputs) bits)) (number (map (state.value s1 inputs) row)) (state.value start inputs digit) (state.value s1 inputs carry) (pow_pos (length a - i)) (subst (λ k. 0 < k) range (pow_pos (length a))) (rw range at (before.product inputs admitted)) (below inputs) (total inputs admitted));
       overflows = λ inputs admitted.
-          let lost_kept = second.keeps.values inputs lost (to_mid.admitted inputs admitted) own_lost in
-          let lost_is = (row_is inputs (before.adds.keeps.admitted inputs admitted)).2 in
-          let digit_kept = before.adds.keeps.values inputs digit admitted own_digit in
-          rw (lost_kept, lost_is, before.overflows inputs admitted, digit_kept, before.shifted_out inputs admitted, number-take_more (state.value start inputs) b i digit (omega arith) at_digit, range)
-          (sym (row_overflow (2 ^ i) (2 ^ (length a - i)) (number (map (state.value start inputs) a)) (number (map (state.value start inputs) (take i b))) (number (map (state.value now inputs) bits)) (number (map (state.value mid inputs) row)) (state.value start inputs digit) (carry inputs admitted) (pow_pos (length a - i)) (subst (λ k. 0 < k) range (pow_pos (length a))) (rw range at (before.product inputs admitted)) (below inputs) (total inputs admitted)));
+          let now_admitted = before.adds.keeps.admitted inputs admitted in
+          let s1_admitted = to_s1.admitted inputs admitted in
+          let lost_kept = third.keeps.values inputs lost (to_s2.admitted inputs admitted) own_lost in
+          let overflow_kept = first.keeps.values inputs overflow now_admitted before.own_overflow in
+          let digit_kept = to_s1.values inputs digit admitted own_digit in
+          let past_kept = first.keeps.values inputs past now_admitted before.own_past in
+          rw (lost_kept, lost_is inputs s1_admitted, overflow_kept, before.overflows inputs admitted, digit_kept, past_kept, before.shifted_out inputs admitted, number-take_more (state.value start inputs) b i digit (omega arith) at_digit, range)
+          (sym (row_overflow (2 ^ i) (2 ^ (length a - i)) (number (map (state.value start inputs) a)) (number (map (state.value start inputs) (take i b))) (number (map (state.value now inputs) bits)) (number (map (state.value s1 inputs) row)) (state.value start inputs digit) (state.value s1 inputs carry) (pow_pos (length a - i)) (subst (λ k. 0 < k) range (pow_pos (length a))) (rw range at (before.product inputs admitted)) (below inputs) (total inputs admitted)));
       shifted_out = λ inputs admitted.
           let now_admitted = before.adds.keeps.admitted inputs admitted in
-          let past_kept = first.keeps.values inputs past now_admitted before.own_past in
-          let lower_kept = to_mid.values inputs lower admitted own_lower in
+          let past_kept = (Keeps-trans first.keeps second.keeps).values inputs past now_admitted before.own_past in
+          let lower_kept = to_s2.values inputs lower admitted own_lower in
           let place : length a - (i + 1) ≡ length a - 1 - i = omega arith in
           let above : length a - 1 - i + 1 ≡ length a - i = omega arith in
           let reached : nat_le (2 ^ (length a - 1 - i)) (number (map (state.value start inputs) a)) ≡ (nat_le (2 ^ (length a - i)) (number (map (state.value start inputs) a)) || state.value start inputs lower) =
           subst (λ k. nat_le (2 ^ (length a - 1 - i)) (number (map (state.value start inputs) a)) ≡ (nat_le (2 ^ k) (number (map (state.value start inputs) a)) || state.value start inputs lower)) above (bit_above (state.value start inputs) a (length a - 1 - i) lower (omega arith) at_lower) in
-          rw (next_is inputs (to_mid.admitted inputs admitted), past_kept, before.shifted_out inputs admitted, lower_kept, place) (sym reached);
+          rw (next_is inputs (to_s2.admitted inputs admitted), past_kept, before.shifted_out inputs admitted, lower_kept, place) (sym reached);
     }
 
 -- what a row that isn't finished adds

@@ -76,26 +76,21 @@ module _ {L : Type 0} (v0 v1 v2 : L → Bool) (a b size_a size_b : List L) (some
   pub absolute_remainder : (n : ℕ) → n ≡ number (map v2 size_a) % number (map v2 size_b) → n ≡ unsigned_abs (signed (length a) (number (map v0 a))) % unsigned_abs (signed (length a) (number (map v0 b)))
   absolute_remainder n is = is ∙ ap (λ k. k % number (map v2 size_b)) size_of_a ∙ ap (λ k. unsigned_abs (signed (length a) (number (map v0 a))) % k) size_of_b
 
--- the quotient and the remainder of the absolute values, with their signs
-module _ {L : Type 0} (v0 v1 v2 : L → Bool) (a b divided made : List L) (x : L) (some : 0 < length a) (at_x : x ≡ get_or a (length a - 1) x) (width : length divided ≡ length a) (x_kept : v1 x ≡ v0 x) where
-  divided_below : number (map v1 divided) < 2 ^ length a
-  divided_below = subst (λ n. number (map v1 divided) < 2 ^ n) width (number_below v1 divided)
-
-  pub quotient_value : (y : L) → length b ≡ length a → y ≡ get_or b (length b - 1) y → v1 y ≡ v0 y → number (map v1 divided) ≡ unsigned_abs (signed (length a) (number (map v0 a))) / unsigned_abs (signed (length a) (number (map v0 b))) → number (map v2 made) ≡ (if xor (v1 x) (v1 y) then (2 ^ length divided - number (map v1 divided)) % 2 ^ length divided else number (map v1 divided)) → number (map v2 made) ≡ residue (length a) (quotient (signed (length a) (number (map v0 a))) (signed (length a) (number (map v0 b))))
-  quotient_value y same_width at_y y_kept is made_is =
+-- the quotient and the remainder of the absolute values, and whether the signs differ
+module _ {L : Type 0} (v0 v3 : L → Bool) (a b : List L) (x : L) (some : 0 < length a) (at_x : x ≡ get_or a (length a - 1) x) where
+  pub quotient_value : (v4 v5 v6 : L → Bool) (divided made : List L) (y differ : L) → length b ≡ length a → y ≡ get_or b (length b - 1) y → length divided ≡ length a → v3 x ≡ v0 x → v3 y ≡ v0 y → v4 differ ≡ xor (v3 x) (v3 y) → map v4 divided ≡ map v3 divided → number (map v3 divided) ≡ unsigned_abs (signed (length a) (number (map v0 a))) / unsigned_abs (signed (length a) (number (map v0 b))) → number (map v5 made) ≡ (if v4 differ then (2 ^ length divided - number (map v4 divided)) % 2 ^ length divided else number (map v4 divided)) → map v6 made ≡ map v5 made → number (map v6 made) ≡ residue (length a) (quotient (signed (length a) (number (map v0 a))) (signed (length a) (number (map v0 b))))
+  quotient_value v4 v5 v6 divided made y differ same_width at_y width x_kept y_kept differ_is divided_kept is made_is made_kept =
+      let below : number (map v3 divided) < 2 ^ length a = subst (λ n. number (map v3 divided) < 2 ^ n) width (number_below v3 divided) in
       let below_b : number (map v0 b) < 2 ^ length a = subst (λ n. number (map v0 b) < 2 ^ n) same_width (number_below v0 b) in
       let sign_of_b : v0 y ≡ nat_le (2 ^ (length a - 1)) (number (map v0 b)) = highest_bit v0 b y (omega arith) at_y ∙ ap (λ n. nat_le (2 ^ (n - 1)) (number (map v0 b))) same_width in
-      made_is
-      ∙ rw (x_kept, y_kept, width) (signed_quotient (length a) (number (map v0 a)) (number (map v0 b)) (number (map v1 divided)) (v0 x) (v0 y) some (number_below v0 a) below_b divided_below (highest_bit v0 a x some at_x) sign_of_b is)
+      ap number made_kept ∙ made_is
+      ∙ rw (differ_is, x_kept, y_kept, width, divided_kept) (signed_quotient (length a) (number (map v0 a)) (number (map v0 b)) (number (map v3 divided)) (v0 x) (v0 y) some (number_below v0 a) below_b below (highest_bit v0 a x some at_x) sign_of_b is)
 
-  pub remainder_value : number (map v1 divided) ≡ unsigned_abs (signed (length a) (number (map v0 a))) % unsigned_abs (signed (length a) (number (map v0 b))) → number (map v2 made) ≡ (if v1 x then (2 ^ length divided - number (map v1 divided)) % 2 ^ length divided else number (map v1 divided)) → number (map v2 made) ≡ residue (length a) (division.remainder (signed (length a) (number (map v0 a))) (signed (length a) (number (map v0 b))))
-  remainder_value is made_is =
+  pub remainder_value : (v5 v6 : L → Bool) (divided made : List L) → length divided ≡ length a → v5 x ≡ v0 x → map v5 divided ≡ map v3 divided → number (map v3 divided) ≡ unsigned_abs (signed (length a) (number (map v0 a))) % unsigned_abs (signed (length a) (number (map v0 b))) → number (map v6 made) ≡ (if v5 x then (2 ^ length divided - number (map v5 divided)) % 2 ^ length divided else number (map v5 divided)) → number (map v6 made) ≡ residue (length a) (division.remainder (signed (length a) (number (map v0 a))) (signed (length a) (number (map v0 b))))
+  remainder_value v5 v6 divided made width x_kept divided_kept is made_is =
+      let below : number (map v3 divided) < 2 ^ length a = subst (λ n. number (map v3 divided) < 2 ^ n) width (number_below v3 divided) in
       made_is
-      ∙ rw (x_kept, width) (signed_remainder (length a) (number (map v0 a)) (number (map v0 b)) (number (map v1 divided)) (v0 x) some (number_below v0 a) divided_below (highest_bit v0 a x some at_x) is)
-
--- a word that was kept, negated where a literal is true
-pub negated_later : {L : Type 0} (old mid new : L → Bool) (word made : List L) (negative : L) (t : Bool) → mid negative ≡ t → map mid word ≡ map old word → number (map new made) ≡ (if mid negative then (2 ^ length word - number (map mid word)) % 2 ^ length word else number (map mid word)) → number (map new made) ≡ (if t then (2 ^ length word - number (map old word)) % 2 ^ length word else number (map old word))
-negated_later old mid new word made negative t negative_is word_kept made_is = made_is ∙ rw (negative_is, word_kept) refl
+      ∙ rw (x_kept, width, divided_kept) (signed_remainder (length a) (number (map v0 a)) (number (map v0 b)) (number (map v3 divided)) (v0 x) some (number_below v0 a) below (highest_bit v0 a x some at_x) is)
 
 chosen_number : (b : Bool) (yes no : List Bool) → number (if b then yes else no) ≡ (if b then number yes else number no)
 chosen_number true on off = refl

@@ -1,10 +1,9 @@
 //! Products of words, by shifting and adding.
-ghost use Rattle.std.specs.Prelude.{◌≡◌, ◌+◌, ◌-◌, ◌*◌, ◌%◌, ◌^◌, ◌<◌, ◌≤◌, nat_le};
-ghost use Rattle.std.specs.Prelude.{Bool, ◌||◌, ◌&&◌, List as Seq, length, IfOk};
+ghost use Rattle.std.specs.Prelude.{◌≡◌, ◌*◌, ◌%◌, ◌^◌, ◌<◌, nat_le, Bool, List as Seq, length, IfOk};
 ghost use Rattle.std.specs.List.{All};
 ghost use Rattle.circuits.specs.Circuit.{Adds};
-ghost use Rattle.circuits.specs.Word.{bit, number_of};
-ghost use Rattle.circ_muldiv.specs.Gates.{product_gates, row_gates};
+ghost use Rattle.circuits.specs.Word.{number_of};
+ghost use Rattle.circ_muldiv.specs.Gates.{product_gates};
 
 use crate::row::{add_row, loses, masked};
 use circuits::{Bits, Circuit, or};
@@ -71,53 +70,16 @@ pub(crate) fn multiply_with_overflow<C: Circuit>(
         (product_gates (length a.now)) }
 {
     let top = a.len() - 1;
-    let bits = masked(alloc, c, a, b[0])?;
-    let overflow = c.zero();
-    let mut product = Product { bits, overflow };
+    let mut bits = masked(alloc, c, a, b[0])?;
+    let mut overflow = c.zero();
     // whether `a`, shifted to the place of the next row, has a true bit past the width
     let mut past = a[top];
     for i in 1..a.len() {
-        product = with_row(alloc, c, &product, a, b[i], past, i)?;
+        let digit = b[i];
+        let row = add_row(alloc, c, bits.as_slice(), a, digit, i)?;
+        bits = row.bits;
+        overflow = loses(alloc, c, overflow, row.carry, digit, past)?;
         past = or(alloc, c, past, a[top - i])?;
     }
-    Ok(product)
-}
-
-/// A product with one row more: `a` at the row's place where `digit` is true. The row loses a bit where it carries, or
-/// where `digit` is true and `a`, shifted to the row's place, has a true bit past the width.
-fn with_row<C: Circuit>(
-    alloc: Global,
-    c: &mut C,
-    product: &Product<C::Literal>,
-    a: &[C::Literal],
-    digit: C::Literal,
-    past: C::Literal,
-    place: usize,
-) -> Result<Product<C::Literal>, AllocError>
-    requires place { place ≤ length a.now }
-    requires same_width { length product.now.bits ≡ length a.now }
-    requires own_bits { All (C.has_literal c.old) product.now.bits }
-    requires own_overflow { C.has_literal c.old product.now.overflow }
-    requires own_a { All (C.has_literal c.old) a.now }
-    requires own_digit { C.has_literal c.old digit }
-    requires own_past { C.has_literal c.old past }
-    ensures own_bits { IfOk result (λ next. All (C.has_literal c.new) next.bits) }
-    ensures own_overflow { IfOk result (λ next. C.has_literal c.new next.overflow) }
-    ensures width { IfOk result (λ next. length next.bits ≡ length a.now) }
-    ensures sum { IfOk result (λ next. (inputs : Seq Bool) → C.admits c.old inputs → (carry : Bool)
-        × (number_of (C.value c.new inputs) next.bits + 2 ^ length a.now * bit carry
-        ≡ number_of (C.value c.old inputs) product.now.bits + 2 ^ place * (bit (C.value c.old inputs digit)
-        * (number_of (C.value c.old inputs) a.now % 2 ^ (length a.now - place))))
-        × (C.value c.new inputs next.overflow
-        ≡ ((C.value c.old inputs product.now.overflow || carry)
-        || (C.value c.old inputs digit && C.value c.old inputs past)))) }
-    ensures adds { Adds C.State c.old c.new
-        (row_gates (length a.now - place) + 3) }
-{
-    let row = add_row(alloc, c, product.bits.as_slice(), a, digit, place)?;
-    let overflow = loses(alloc, c, product.overflow, row.carry, digit, past)?;
-    Ok(Product {
-        bits: row.bits,
-        overflow,
-    })
+    Ok(Product { bits, overflow })
 }

@@ -1,6 +1,5 @@
 //! Quotients and remainders of words that are read as signed.
 ghost use Rattle.std.specs.Prelude.{◌≡◌, ◌≢◌, ◌+◌, ◌-◌, ◌*◌, ◌/◌, ◌%◌, ◌^◌, ◌<◌, unsigned_abs, Bool, if◌then◌else◌, List as Seq, length, IfOk};
-ghost use Rattle.std.specs.Bool.{xor};
 ghost use Rattle.std.specs.List.{All};
 ghost use Rattle.circuits.specs.Circuit.{Adds};
 ghost use Rattle.circuits.specs.Word.{number_of, signed};
@@ -43,7 +42,15 @@ pub fn divide_signed<C: Circuit>(
         (signed_division_gates (length a.now)) }
 {
     let divided = divide_absolute(alloc, c, a, b)?;
-    with_signs(alloc, c, &divided, sign(a), sign(b))
+    let sign_a = sign(a);
+    let sign_b = sign(b);
+    let differ = c.xor(alloc, sign_a, sign_b)?;
+    let quotient = negated_where(alloc, c, differ, &divided.quotient)?;
+    let remainder = negated_where(alloc, c, sign_a, &divided.remainder)?;
+    Ok(Divided {
+        quotient,
+        remainder,
+    })
 }
 
 /// The quotient and the remainder of the absolute values of two such words.
@@ -77,45 +84,6 @@ fn divide_absolute<C: Circuit>(
     let absolute_a = absolute(alloc, c, a)?;
     let absolute_b = absolute(alloc, c, b)?;
     divide_unsigned(alloc, c, &absolute_a, &absolute_b)
-}
-
-/// The quotient and the remainder of two words, from those of their absolute values and from their signs: negated
-/// modulo 2^N, the quotient where the signs differ, and the remainder where the first is negative.
-fn with_signs<C: Circuit>(
-    alloc: Global,
-    c: &mut C,
-    divided: &Divided<C::Literal>,
-    sign_a: C::Literal,
-    sign_b: C::Literal,
-) -> Result<Divided<C::Literal>, AllocError>
-    requires own_quotient { All (C.has_literal c.old) divided.now.quotient }
-    requires own_remainder { All (C.has_literal c.old) divided.now.remainder }
-    requires own_a { C.has_literal c.old sign_a }
-    requires own_b { C.has_literal c.old sign_b }
-    ensures own_quotient { IfOk result (λ made. All (C.has_literal c.new) made.quotient) }
-    ensures own_remainder { IfOk result (λ made. All (C.has_literal c.new) made.remainder) }
-    ensures quotient_width { IfOk result (λ made. length made.quotient ≡ length divided.now.quotient) }
-    ensures remainder_width { IfOk result (λ made. length made.remainder ≡ length divided.now.remainder) }
-    ensures quotient { IfOk result (λ made. (inputs : Seq Bool) → C.admits c.old inputs →
-        let n = number_of (C.value c.old inputs) divided.now.quotient in
-        number_of (C.value c.new inputs) made.quotient
-        ≡ (if xor (C.value c.old inputs sign_a) (C.value c.old inputs sign_b)
-        then (2 ^ length divided.now.quotient - n) % 2 ^ length divided.now.quotient else n)) }
-    ensures remainder { IfOk result (λ made. (inputs : Seq Bool) → C.admits c.old inputs →
-        let n = number_of (C.value c.old inputs) divided.now.remainder in
-        number_of (C.value c.new inputs) made.remainder
-        ≡ (if C.value c.old inputs sign_a
-        then (2 ^ length divided.now.remainder - n) % 2 ^ length divided.now.remainder else n)) }
-    ensures adds { Adds C.State c.old c.new
-        (1 + absolute_gates (length divided.now.quotient) + absolute_gates (length divided.now.remainder)) }
-{
-    let differ = c.xor(alloc, sign_a, sign_b)?;
-    let quotient = negated_where(alloc, c, differ, &divided.quotient)?;
-    let remainder = negated_where(alloc, c, sign_a, &divided.remainder)?;
-    Ok(Divided {
-        quotient,
-        remainder,
-    })
 }
 
 /// The negation of a word, modulo 2^N, where `negative` is true, and else the word.

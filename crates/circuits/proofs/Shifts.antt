@@ -20,8 +20,7 @@ pub All-moved : {L : Type 0} (P : L → Type 0) (direction : Direction) (fill : 
 All-moved P Up fill s word own_fill own = All-take P (length word) (replicate s fill ++ word) (All-append P (replicate s fill) word (All-replicate P s fill own_fill) own)
 All-moved P Down fill s word own_fill own = All-drop P s (word ++ replicate s fill) (All-append P word (replicate s fill) own (All-replicate P s fill own_fill))
 
--- the values of a word's moved literals
-pub map-moved : {L : Type 0} (value : L → Bool) (direction : Direction) (fill : L) (s : ℕ) (word : List L) → map value (moved direction fill s word) ≡ moved direction (value fill) s (map value word)
+map-moved : {L : Type 0} (value : L → Bool) (direction : Direction) (fill : L) (s : ℕ) (word : List L) → map value (moved direction fill s word) ≡ moved direction (value fill) s (map value word)
 map-moved value Up fill s word = rw (← take-map value (length word) (replicate s fill ++ word), map-append value (replicate s fill) word, map-replicate value s fill, length-map word value) refl
 map-moved value Down fill s word = rw (← drop-map value s (word ++ replicate s fill), map-append value word (replicate s fill), map-replicate value s fill) refl
 
@@ -52,11 +51,12 @@ stage Down i s true t ys w fits e =
     ap (λ x. drop p (x ++ replicate p t)) e ∙ ap (λ x. drop p x) (sym (drop-append-le s (ys ++ replicate s t) (replicate p t) inside)) ∙ drop-drop p s ((ys ++ replicate s t) ++ replicate p t) ∙ ap (λ x. drop (s + p) x) (append_assoc ys (replicate s t) (replicate p t)) ∙ ap (λ x. drop (s + p) (ys ++ x)) (replicate-append-replicate s p t) ∙ ap (λ k. drop k (ys ++ replicate k t)) more
 
 -- of words of literals
-pub moved_more : {L : Type 0} (direction : Direction) (start now next : L → Bool) (a amount word new : List L) (i : ℕ) (b fill : L) → i < length amount → b ≡ get_or amount i b → now b ≡ start b → now fill ≡ start fill → 2 ^ i ≤ length word → map next new ≡ (if now b then moved direction (now fill) (2 ^ i) (map now word) else map now word) → map now word ≡ moved direction (start fill) (number (map start (take i amount))) (map start a) → map next new ≡ moved direction (start fill) (number (map start (take (i + 1) amount))) (map start a)
-moved_more direction start now next a amount word new i b fill in_amount at_b b_kept fill_kept inside new_is before =
+pub moved_more : {L : Type 0} (direction : Direction) (start now next : L → Bool) (a amount word further new : List L) (i : ℕ) (b fill : L) → i < length amount → b ≡ get_or amount i b → now b ≡ start b → now fill ≡ start fill → 2 ^ i ≤ length word → further ≡ moved direction fill (2 ^ i) word → map next new ≡ (if now b then map now further else map now word) → map now word ≡ moved direction (start fill) (number (map start (take i amount))) (map start a) → map next new ≡ moved direction (start fill) (number (map start (take (i + 1) amount))) (map start a)
+moved_more direction start now next a amount word further new i b fill in_amount at_b b_kept fill_kept inside further_is new_is before =
     let fits : 2 ^ i ≤ length (map now word) = omega (arith, length-map word now) in
     let one = stage direction i (number (map start (take i amount))) (start b) (start fill) (map start a) (map now word) fits before in
-    let chosen : map next new ≡ (if start b then moved direction (start fill) (2 ^ i) (map now word) else map now word) = new_is ∙ rw (b_kept, fill_kept) refl in
+    let further_bits : map now further ≡ moved direction (start fill) (2 ^ i) (map now word) = ap (λ w. map now w) further_is ∙ map-moved now direction fill (2 ^ i) word ∙ ap (λ t. moved direction t (2 ^ i) (map now word)) fill_kept in
+    let chosen : map next new ≡ (if start b then moved direction (start fill) (2 ^ i) (map now word) else map now word) = new_is ∙ rw (b_kept, further_bits) refl in
     chosen ∙ one ∙ ap (λ k. moved direction (start fill) k (map start a)) (sym (number-take_more start amount i b in_amount at_b))
 
 -- ---- the higher bits, each of which is worth the width at least

@@ -30,8 +30,8 @@ unfoldable pub stages : ℕ → ℕ
 stages zero = 0
 stages (suc fewer) = let k = stages fewer in if nat_lt fewer (2 ^ k) then k else k + 1
 
--- A shift by a word of `amount_width` bits: a choice for each bit of the amount as far as the stages go, the test whether some
--- higher bit of the amount is true, and a choice by it.
+-- A shift by a word of `amount_width` bits: a choice for each bit of the amount as far as the stages go, the test
+-- whether some higher bit of the amount is true, and a choice by it.
 abbrev pub shift_gates : ℕ → ℕ → ℕ
 shift_gates width amount_width =
     select_gates width * min (stages width) amount_width + any_gates (amount_width - stages width) + select_gates width

@@ -15,6 +15,7 @@ number (low ∷ higher) = bit low + 2 * number higher
 abbrev pub number_of : {L : Type 0} → (L → Bool) → List L → ℕ
 number_of value word = number (map value word)
 
--- A number of `width` bits read as a signed one, in two's complement: less 2 ^ width where it is at least 2 ^ (width - 1).
+-- A number of `width` bits read as a signed one, in two's complement: less 2 ^ width where it is at least 2 ^ (width -
+-- 1).
 abbrev pub signed : ℕ → ℕ → ℤ
 signed width n = if nat_le (2 ^ (width - 1)) n then pos n -ℤ pos (2 ^ width) else pos n

@@ -48,7 +48,8 @@ fn full_adder<C: Circuit>(
     Ok(Added { sum, carry })
 }
 
-/// What adding two words of one width N gives: their whole sum is the number of the bits, and 2^N more where the carry is true.
+/// What adding two words of one width N gives: their whole sum is the number of the bits, and 2^N more where the carry
+/// is true.
 #[derive(Drop)]
 pub struct Sum<L> {
     /// The lowest N bits of the sum.

@@ -8,9 +8,10 @@ use std::alloc::{AllocError, Global};
 
 /// A circuit that grows: inputs and gates are added, and each is named by a literal.
 ///
-/// The laws are the clauses of the calls. A literal has a value under each list of inputs that the circuit admits: the k-th
-/// input made has the list's k-th value, false past its end, and a gate has its truth table over its operands' values. Each
-/// call keeps the values of all older literals. A call that is refused for want of memory leaves the circuit as it was.
+/// The laws are the clauses of the calls. A literal has a value under each list of inputs that the circuit admits: the
+/// k-th input made has the list's k-th value, false past its end, and a gate has its truth table over its operands'
+/// values. Each call keeps the values of all older literals. A call that is refused for want of memory leaves the
+/// circuit as it was.
 pub trait Circuit: State {
     /// The literal that is false.
     fn zero(&self) -> Self::Literal

@@ -36,8 +36,8 @@ pub fn less_unsigned<C: Circuit>(
     Ok(less)
 }
 
-/// Whether a word whose highest bit is `x` is below one whose highest bit is `y`, where `less` says so of the bits below: the
-/// highest bit in which two words differ decides.
+/// Whether a word whose highest bit is `x` is below one whose highest bit is `y`, where `less` says so of the bits
+/// below: the highest bit in which two words differ decides.
 fn less_above<C: Circuit>(
     alloc: Global,
     c: &mut C,
@@ -105,8 +105,8 @@ fn equal_above<C: Circuit>(
     c.and(alloc, same, c.not(differ))
 }
 
-/// Whether a word's signed number, in two's complement, is below another's of the same width N, at least 1. It adds at most
-/// 2 N gates.
+/// Whether a word's signed number, in two's complement, is below another's of the same width N, at least 1. It adds at
+/// most 2 N gates.
 pub fn less_signed<C: Circuit>(
     alloc: Global,
     c: &mut C,

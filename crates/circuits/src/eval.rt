@@ -8,8 +8,8 @@ use lists::List;
 use std::alloc::{AllocError, Global};
 use std::marker::Model;
 
-/// A circuit that keeps no gates: with the values of its inputs given, each literal is its own value, and each truth value is a
-/// literal. An input or a gate takes no memory.
+/// A circuit that keeps no gates: with the values of its inputs given, each literal is its own value, and each truth
+/// value is a literal. An input or a gate takes no memory.
 #[derive(Drop)]
 pub struct EvalCircuit {
     inputs: List<bool>,

@@ -11,8 +11,8 @@ use crate::compare::{less_signed, less_unsigned};
 use crate::word::{Bits, select};
 use std::alloc::{AllocError, Global};
 
-/// The smaller of two words of one width N, at least 1, as unsigned numbers or as signed ones in two's complement. It adds at
-/// most 3 N gates.
+/// The smaller of two words of one width N, at least 1, as unsigned numbers or as signed ones in two's complement. It
+/// adds at most 3 N gates.
 pub fn minimum<C: Circuit>(
     alloc: Global,
     c: &mut C,
@@ -36,8 +36,8 @@ pub fn minimum<C: Circuit>(
     select(alloc, c, a_is_less, a.as_slice(), b.as_slice())
 }
 
-/// The larger of two words of one width N, at least 1, as unsigned numbers or as signed ones in two's complement. It adds at
-/// most 3 N gates.
+/// The larger of two words of one width N, at least 1, as unsigned numbers or as signed ones in two's complement. It
+/// adds at most 3 N gates.
 pub fn maximum<C: Circuit>(
     alloc: Global,
     c: &mut C,

@@ -1,7 +1,8 @@
 //! Circuits of gates, and arithmetic on words of their literals, written once for every lawful circuit.
 //!
-//! The only error of a call is want of memory. A call of a [`Circuit`] that is refused leaves the circuit as it was. A call on
-//! words that is refused may leave gates, no more than it may add; the older literals keep their values, and it makes no input.
+//! The only error of a call is want of memory. A call of a [`Circuit`] that is refused leaves the circuit as it was. A
+//! call on words that is refused may leave gates, no more than it may add; the older literals keep their values, and it
+//! makes no input.
 #![tactic(auto)]
 
 mod adder;

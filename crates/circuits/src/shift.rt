@@ -1,7 +1,8 @@
 //! Shifts of words by a word, in either direction.
 //!
-//! A barrel shifter: a stage for each of the amount's lowest bits moves the word by that bit's power of two, as far as the powers
-//! are below the width N. A higher bit is worth at least N, so where one is true the whole word is what comes in.
+//! A barrel shifter: a stage for each of the amount's lowest bits moves the word by that bit's power of two, as far as
+//! the powers are below the width N. A higher bit is worth at least N, so where one is true the whole word is what
+//! comes in.
 ghost use Rattle.std.specs.Prelude.{◌≡◌, ◌+◌, ◌-◌, ◌*◌, ◌/◌, ◌%◌, ◌^◌, ◌≤◌, Bool, if◌then◌else◌, List as Seq, map, replicate, length, IfOk};
 ghost use Rattle.std.specs.List.{All, list_any};
 ghost use Rattle.circuits.specs.Circuit.{Adds};
@@ -15,9 +16,9 @@ use crate::word::{Bits, repeated, select};
 use lists::List;
 use std::alloc::{AllocError, Global};
 
-/// A word of width N shifted left by the number of another: times 2^amount, modulo 2^N, so that zeros come in, and an amount
-/// not below N leaves zeros alone. It adds at most N gates for each of the amount's ⌈log2 N⌉ lowest bits, one for each higher bit,
-/// and N more.
+/// A word of width N shifted left by the number of another: times 2^amount, modulo 2^N, so that zeros come in, and an
+/// amount not below N leaves zeros alone. It adds at most N gates for each of the amount's ⌈log2 N⌉ lowest bits, one
+/// for each higher bit, and N more.
 pub fn shift_left<C: Circuit>(
     alloc: Global,
     c: &mut C,
@@ -39,8 +40,8 @@ pub fn shift_left<C: Circuit>(
     shift(alloc, c, Direction::Up, a, amount, zero)
 }
 
-/// A word of width N shifted right by the number of another, with `top` coming in: the word with `top` above it as often as the
-/// amount says, divided by 2^amount. It adds at most as many gates as [`shift_left`].
+/// A word of width N shifted right by the number of another, with `top` coming in: the word with `top` above it as
+/// often as the amount says, divided by 2^amount. It adds at most as many gates as [`shift_left`].
 pub fn shift_right<C: Circuit>(
     alloc: Global,
     c: &mut C,
@@ -133,36 +134,10 @@ fn by_stages<C: Circuit>(
 {
     let mut word = List::from_vec(Vec::from_slice(alloc, a)?);
     for (i, bit) in amount.iter().enumerate() {
-        word = moved_where(alloc, c, direction, word.as_slice(), 1 << i, *bit, fill)?;
+        let further = moved_by(alloc, direction, word.as_slice(), 1 << i, fill)?;
+        word = select(alloc, c, *bit, further.as_slice(), word.as_slice())?;
     }
     Ok(word)
-}
-
-/// One stage: the word moved by a distance where `bit` is true, and else as it is.
-fn moved_where<C: Circuit>(
-    alloc: Global,
-    c: &mut C,
-    direction: Direction,
-    word: &[C::Literal],
-    distance: usize,
-    bit: C::Literal,
-    fill: C::Literal,
-) -> Result<Bits<C::Literal>, AllocError>
-    requires distance { distance ≤ length word.now }
-    requires own_word { All (C.has_literal c.old) word.now }
-    requires own_bit { C.has_literal c.old bit }
-    requires own_fill { C.has_literal c.old fill }
-    ensures own { IfOk result (All (C.has_literal c.new)) }
-    ensures width { IfOk result (λ made. length made ≡ length word.now) }
-    ensures values { IfOk result (λ made. (inputs : Seq Bool) → C.admits c.old inputs →
-        map (C.value c.new inputs) made
-        ≡ (if C.value c.old inputs bit
-        then moved direction (C.value c.old inputs fill) distance (map (C.value c.old inputs) word.now)
-        else map (C.value c.old inputs) word.now)) }
-    ensures adds { Adds C.State c.old c.new (select_gates (length word.now)) }
-{
-    let further = moved_by(alloc, direction, word, distance, fill)?;
-    select(alloc, c, bit, further.as_slice(), word)
 }
 
 /// The word, or `fill` at each of its places where some literal of another word is true.
