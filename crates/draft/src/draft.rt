@@ -10,6 +10,7 @@ ghost use Rattle.assigned_flow.specs.Successors.{successors_of};
 ghost use Rattle.bindings.specs.Facts.{AreFactsOf};
 ghost use Rattle.draft.specs.Drafts.{Stands, function_of, orders_of};
 ghost use Rattle.places.specs.Orders.{none};
+ghost use Rattle.readers.specs.Readers.{AreReadersOf};
 ghost use Rattle.draft.specs.Whole.{HasNoCycles, IsWhole, IsSettled};
 
 use assigned_flow::Assigned;
@@ -51,19 +52,15 @@ impl Draft {
         ensures function { IfOk result (λ draft. function_of draft ≡ f) }
         ensures stand { IfOk result (λ draft. (b n : ℕ) → HasInst f b n → Stands draft b n) }
     {
-        let facts = FunctionFacts::of(alloc, &f)?;
-        let orders = orders_of(alloc, &f)?;
-        let stand = all_of(alloc, &f)?;
-        let readers = Readers::of(alloc, &f)?;
-        let has_cycles = has_cycles(&f, &facts.flow);
+        let tables = Tables::of(alloc, &f)?;
         Ok(Draft {
             arena: f,
-            facts,
-            orders,
-            stand,
-            readers,
+            facts: tables.facts,
+            orders: tables.orders,
+            stand: tables.stand,
+            readers: tables.readers,
             fallen: Vec::new(alloc),
-            has_cycles,
+            has_cycles: tables.has_cycles,
         })
     }
 
@@ -106,6 +103,43 @@ impl Draft {
         ensures { IsTrue result ↔ Stands self.now place.block place.number }
     {
         self.stand[place.block as usize].as_slice()[place.number as usize]
+    }
+}
+
+/// What the draft of a function says of it.
+#[derive(Drop)]
+struct Tables {
+    facts: FunctionFacts,
+    orders: Vec<Order>,
+    stand: Vec<List<bool>>,
+    readers: Readers,
+    has_cycles: bool,
+}
+
+impl Tables {
+    /// Those of a function.
+    fn of(alloc: Global, f: &Function) -> Result<Tables, AllocError>
+        requires checks { MeetsChecks f.now }
+        requires blocks { length f.now.blocks < 2 ^ 32 }
+        requires insts { All (λ b. length b.insts ≤ none) f.now.blocks }
+        ensures facts { IfOk result (λ tables. AreFactsOf f.now tables.facts) }
+        ensures orders { IfOk result (λ tables. tables.orders.items ≡ map (λ b. range_with_len 0 (length b.insts)) f.now.blocks) }
+        ensures stand { IfOk result (λ tables. tables.stand.items ≡ map (λ b. replicate (length b.insts) true) f.now.blocks) }
+        ensures readers { IfOk result (λ tables. AreReadersOf f.now tables.readers) }
+        ensures cycles { IfOk result (λ tables. IsFalse tables.has_cycles ↔ HasNoCycles f.now) }
+    {
+        let orders = orders_of(alloc, f)?;
+        let stand = all_of(alloc, f)?;
+        let readers = Readers::of(alloc, f)?;
+        let facts = FunctionFacts::of(alloc, f)?;
+        let has_cycles = has_cycles(f, &facts.flow);
+        Ok(Tables {
+            facts,
+            orders,
+            stand,
+            readers,
+            has_cycles,
+        })
     }
 }
 

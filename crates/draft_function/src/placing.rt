@@ -48,27 +48,28 @@ pub fn function_of(alloc: Global, draft: Draft) -> Result<Function, AllocError>
     requires { IsSettled draft }
     ensures { IfOk result (λ f. f ≡ function_of draft) }
 {
-    let numbers = standing_numbers(alloc, &draft.orders, &draft.stand)?;
-    let places = places_of(alloc, &draft.arena, &numbers)?;
-    let Draft { arena, .. } = draft;
-    placed_function(alloc, arena, &places, &numbers)
+    let mut draft = draft;
+    let placed = place_insts(alloc, &mut draft);
+    let arena = arena_of(draft);
+    placed?;
+    Ok(arena)
 }
 
-/// The function with the instructions that stand there, in order, and each register at its place.
-fn placed_function(
-    alloc: Global,
-    arena: Function,
-    places: &Places,
-    numbers: &[List<u32>],
-) -> Result<Function, AllocError>
-    requires blocks { length numbers.now ≡ length arena.blocks }
-    requires ordered { AreOrdered arena.blocks numbers.now }
-    ensures { IfOk result (λ f. f ≡ record arena { blocks = blocks_of (at_places places.now.rows.items) numbers.now arena.blocks }) }
+/// The instructions of a draft, without what it says of them.
+fn arena_of(draft: Draft) -> Function
+    ensures { result ≡ draft.arena }
 {
-    let mut arena = arena;
-    let blocks = mem::replace(&mut arena.blocks, List::new(alloc));
-    arena.blocks = placed_blocks(alloc, places, numbers, blocks)?;
-    Ok(arena)
+    draft.arena
+}
+
+/// Leaves in a draft the instructions that stand there, in order, and puts each register at its place.
+fn place_insts(alloc: Global, draft: &mut Draft) -> Result<(), AllocError>
+    requires { IsSettled draft.old }
+    ensures { OnOk result (draft.new.arena ≡ function_of draft.old) }
+{
+    let numbers = standing_numbers(alloc, &draft.orders, &draft.stand)?;
+    let places = places_of(alloc, &draft.arena, &numbers)?;
+    place_blocks(alloc, &places, &numbers, &mut draft.arena.blocks)
 }
 
 /// Of each block the numbers of the instructions that stand there, in order.
@@ -135,22 +136,22 @@ fn places_in(alloc: Global, numbers: &[u32], count: usize) -> Result<List<u32>, 
     Ok(List::from_vec(places))
 }
 
-/// The blocks with the instructions that stand there, in order, and each register at its place.
-fn placed_blocks(
+/// Leaves in blocks the instructions of these numbers, in order, and puts each register at its place.
+fn place_blocks(
     alloc: Global,
     places: &Places,
     numbers: &[List<u32>],
-    blocks: List<Block>,
-) -> Result<List<Block>, AllocError>
-    requires blocks { length numbers.now ≡ length blocks }
-    requires ordered { AreOrdered blocks numbers.now }
-    ensures { IfOk result (λ placed. placed ≡ blocks_of (at_places places.now.rows.items) numbers.now blocks) }
+    blocks: &mut List<Block>,
+) -> Result<(), AllocError>
+    requires blocks { length numbers.now ≡ length blocks.old }
+    requires ordered { AreOrdered blocks.old numbers.now }
+    ensures { OnOk result (blocks.new ≡ blocks_of (at_places places.now.rows.items) numbers.now blocks.old) }
 {
-    let mut blocks = blocks.into_vec();
     for index in 0..blocks.len() {
-        place_block(alloc, places, numbers[index].as_slice(), &mut blocks[index])?;
+        let block = blocks.get_mut(index);
+        place_block(alloc, places, numbers[index].as_slice(), block)?;
     }
-    Ok(List::from_vec(blocks))
+    Ok(())
 }
 
 /// The same of one block.

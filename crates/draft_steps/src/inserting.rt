@@ -41,13 +41,13 @@ pub(crate) fn put_before(
     ensures fallen { OnOk result (draft.new.fallen.items
         ≡ draft.old.fallen.items ++ Register.Result at.block (end_of draft.old.arena at.block) ∷ []) }
 {
+    note_phi(&mut draft.has_cycles, &inst);
+    push_inst(&mut draft.arena.blocks, at.block, inst)?;
     let number = put_in_order(&mut draft.orders, at)?;
     let place = Place {
         block: at.block,
         number,
     };
-    note_phi(&mut draft.has_cycles, &inst);
-    push_inst(&mut draft.arena.blocks, at.block, inst)?;
     push_mark(&mut draft.stand, at.block)?;
     push_count(&mut draft.facts.uses, at.block)?;
     draft.readers.push_list(alloc, at.block)?;

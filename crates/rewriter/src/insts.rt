@@ -1,6 +1,6 @@
 //! The instructions that a rule puts in the place of a root.
 
-ghost use Rattle.std.specs.Prelude.{◌≡◌, ◌+◌, ◌<◌, ◌^◌, length, take, Some, IfOk};
+ghost use Rattle.std.specs.Prelude.{◌≡◌, ◌+◌, ◌-◌, ◌<◌, ◌^◌, ◌++◌, flat_map, length, take, Some, None, IfOk, OnOk};
 ghost use Rattle.std.specs.Option.{option_to_list};
 ghost use Rattle.rule_core.specs.Checks.{IsRule};
 ghost use Rattle.rule_core.specs.declared.rule.Statement.{Statement};
@@ -128,6 +128,48 @@ fn inst_put(
     })
 }
 
+/// Puts a target statement as an instruction of this name behind others: a copy puts none.
+fn push_put(
+    rule: &Rule,
+    binding: &Binding,
+    results: &[Operand],
+    name: Option<Text>,
+    statement: &Statement,
+    insts: &mut List<Inst>,
+) -> Result<(), AllocError>
+    requires rule { IsRule rule.now }
+    requires bound { IsBound rule.now binding.now }
+    requires results { results.now ≡ put.results_put rule.now binding.now }
+    requires statement { StatementIsReady rule.now binding.now (length results.now) statement.now }
+    ensures { OnOk result (insts.new ≡ insts.old ++ put.insts_with rule.now binding.now name statement.now) }
+{
+    if let Some(inst) = inst_put(rule, binding, results, name, statement) {
+        insts.push(inst)?;
+    }
+    Ok(())
+}
+
+/// The target's statements but the last one as instructions in order, unnamed.
+fn unnamed_put(
+    alloc: Global,
+    rule: &Rule,
+    binding: &Binding,
+    results: &[Operand],
+) -> Result<List<Inst>, AllocError>
+    requires rule { IsRule rule.now }
+    requires bound { IsBound rule.now binding.now }
+    requires results { results.now ≡ put.results_put rule.now binding.now }
+    ensures { IfOk result (λ insts. insts ≡ flat_map (put.insts_with rule.now binding.now None) (take (length rule.now.target - 1) rule.now.target)) }
+{
+    let target = rule.target.as_slice();
+    let last = target.len() - 1;
+    let mut insts = List::new(alloc);
+    for statement in &target[..last] {
+        push_put(rule, binding, results, None, statement, &mut insts)?;
+    }
+    Ok(insts)
+}
+
 /// The target's statements as instructions in order, unnamed but for the last one.
 fn insts_put(
     alloc: Global,
@@ -141,17 +183,10 @@ fn insts_put(
     requires results { results.now ≡ put.results_put rule.now binding.now }
     ensures { IfOk result (λ insts. insts ≡ put.insts_put rule.now binding.now name rule.now.target) }
 {
+    let mut insts = unnamed_put(alloc, rule, binding, results)?;
     let target = rule.target.as_slice();
-    let last = target.len() - 1;
-    let mut insts = List::new(alloc);
-    for statement in &target[..last] {
-        if let Some(inst) = inst_put(rule, binding, results, None, statement) {
-            insts.push(inst)?;
-        }
-    }
-    if let Some(inst) = inst_put(rule, binding, results, name, &target[last]) {
-        insts.push(inst)?;
-    }
+    let last = &target[target.len() - 1];
+    push_put(rule, binding, results, name, last, &mut insts)?;
     Ok(insts)
 }
 

@@ -1,10 +1,11 @@
-use Rattle.std.proofs.Common.{◌≡◌, inl, inr, true, subst, arith}
+use Rattle.std.proofs.Common.{◌≡◌, inl, inr, true, List, [], ◌∷◌, Contains, sym, subst, arith}
 use Rattle.std.proofs.lemmas.Bool.{iff_false}
+use Rattle.std.proofs.lemmas.List.Elements.{Contains-push}
 use Rattle.ir_core.specs.Blocks.{HasInst}
 use Rattle.draft.proofs.Wholeness.{few_insts, stands_there}
 use Rattle.draft.specs.Drafts.{Stands}
 use Rattle.places.specs.declared.place.Place.{Place}
-use Rattle.draft_steps.proofs.WalkSteps.{only-pushed, walk-more}
+use Rattle.draft_steps.proofs.WalkSteps.{further-same, only-pushed, walk-more}
 use Rattle.draft_steps.proofs.walk.Walk.come_to.Goals as goal
 use Rattle.draft_steps.proofs.walk.Walk.come_to.Goals.{else-place-ne-END-via-then-place-ne-END+then-stands+else-not-has, else-place-ne-END-via-then-place-ne-END+else-stands, else-place-ne-END-via-else-place-ne-END}
 
@@ -39,3 +40,15 @@ returns-in_ok-push-clause-only c = λ b n came.
 
 pub returns-else-place-ne-END-clause-only : goal.returns-else-place-ne-END-clause-only
 returns-else-place-ne-END-clause-only c = λ b n came. inl came
+
+pub returns-in_ok-push-clause-further : goal.returns-in_ok-push-clause-further
+returns-in_ok-push-clause-further c = record { more = c.args.place ∷ []; is = c.in_ok-push.ensures.items }
+
+pub returns-in_ok-push-clause-came : goal.returns-in_ok-push-clause-came
+returns-in_ok-push-clause-came c = λ stands. subst (λ (l : List Place). Contains l c.args.place) (sym c.in_ok-push.ensures.items) (Contains-push c.args.self.now.found.items c.args.place)
+
+pub returns-else-place-ne-END-clause-walk : goal.returns-else-place-ne-END-clause-walk
+returns-else-place-ne-END-clause-walk c = c.requires.walk
+
+pub returns-else-place-ne-END-clause-further : goal.returns-else-place-ne-END-clause-further
+returns-else-place-ne-END-clause-further c = further-same c.args.self.now

@@ -37,6 +37,17 @@ reads_here old new same place p here reads b n (stands, is) = (
   subst (λ (q : Place). IsReader old.arena (registers.Result place.block place.number) q) is (subst (λ (f : Function). IsReader f (registers.Result place.block place.number) p) same.arena reads),
 )
 
+pub loop-reader-init : goal.loop-reader-init
+loop-reader-init c = record {
+  walk = c.requires.walk;
+  further = further-same c.args.self.now;
+  came = λ k below. absurd (omega arith);
+  only = λ b n came. inl came;
+}
+
+pub come_to-requires-clause-whole : goal.come_to-requires-clause-whole
+come_to-requires-clause-whole c = c.trim_readers.ensures.whole
+
 pub come_to-requires-clause-walk : goal.come_to-requires-clause-walk
 come_to-requires-clause-walk c = walk-by c.args.draft.now c.trim_readers.new.self c.loop-reader.self c.trim_readers.ensures.arena c.loop-reader.invariant.walk
 
@@ -79,6 +90,17 @@ loop-reader-preserved c =
             only = subst (CameOnlyTo (ReadsHere old c.args.place) c.args.self.now) (sym w.self-is) l.invariant.only;
           }
     ]
+
+pub returns-clause-draft : goal.returns-clause-draft
+returns-clause-draft c =
+    let trimmed = c.trim_readers.ensures in
+    record { whole = trimmed.whole; arena = trimmed.arena; orders = trimmed.orders; stand = trimmed.stand; fallen = trimmed.fallen }
+
+pub returns-clause-further : goal.returns-clause-further
+returns-clause-further c = c.loop-reader.invariant.further
+
+pub returns-clause-only : goal.returns-clause-only
+returns-clause-only c = c.loop-reader.invariant.only
 
 pub returns-clause-walk : goal.returns-clause-walk
 returns-clause-walk c = walk-by c.args.draft.now c.trim_readers.new.self c.loop-reader.self c.trim_readers.ensures.arena c.loop-reader.invariant.walk

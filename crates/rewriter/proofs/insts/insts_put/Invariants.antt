@@ -1,7 +1,0 @@
-use Rattle.std.proofs.Common.{◌≡◌, take, None, flat_map}
-use Rattle.rewriter.specs.Put.{insts_with}
-use Rattle.rewriter.proofs.insts.insts_put.Given as goal
-
--- the instructions of the statements before the index, and the name of the last one
-abbrev pub invariant-loop-statement : goal.invariant-loop-statement
-invariant-loop-statement l = (l.insts ≡ flat_map (insts_with l.fn.rule l.fn.binding None) (take l.statement-index l.statement-items)) × (l.name ≡ l.fn.name)
