@@ -1,3 +1,4 @@
+mod Described
 mod FaultFree
 mod KnownCommands
 mod RowsFit

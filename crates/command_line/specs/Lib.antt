@@ -1,5 +1,6 @@
 pub mod Arguments
 pub mod Definition
+pub mod Descriptions
 pub mod Laws
 pub mod Leaf
 pub mod Limits

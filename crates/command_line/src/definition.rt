@@ -1,32 +1,18 @@
 //! The command line, as `clap` takes its definition.
 
-ghost use Rattle.std.specs.Prelude.{◌≡◌, true, false, IfOk, codes};
-ghost use Rattle.clap.specs.Words.{App, Shape, app_of, rule_of, with_rule, with_subcommand};
+ghost use Rattle.std.specs.Prelude.{◌≡◌, true, false, IfOk};
+ghost use Rattle.std.specs.List.{AllZip};
+ghost use Rattle.clap.specs.Words.{app_of, rule_of};
 ghost use Rattle.clap.specs.Simple.{new_shape};
-ghost use Rattle.command_line.specs.Definition.{required_argument, required_number, repeated_argument, optional_argument, option_argument, number_argument, flag_argument, conflicts_argument, verify_shape, optimise_shape, run_shape, load_shape, recheck_shape, program};
+ghost use Rattle.command_line.specs.Definition.{required_argument, required_number, repeated_argument, optional_argument, option_argument, number_argument, flag_argument, program};
+ghost use Rattle.command_line.specs.Descriptions.{rule_described, shape_described, app_described, IsDescribedArgument};
 ghost use Rattle.command_line.specs.Leaf.{IsLeaf};
 
+use crate::descriptions::{Argument, COMMANDS, Described, Kind};
 use clap::builder::ValueParser;
 use clap::{Arg, ArgAction, Command};
+use lists::List;
 use std::alloc::{AllocError, Global};
-
-/// The most clauses that a search may be told to learn before its verdict is `budget`.
-const MOST_CONFLICTS: u64 = 1_000_000;
-
-/// The most rewrites of a function.
-const MOST_STEPS: u64 = 100_000;
-
-/// The most blocks that a run may enter.
-const MOST_BLOCKS: u64 = 100_000_000;
-
-/// The greatest number of which a module is made.
-const MOST_NUMBER: u64 = 4_294_967_295;
-
-/// How many clauses a search learns before its verdict is `budget`, where the words tell no number.
-pub const DEFAULT_CONFLICTS: u32 = 20_000;
-
-/// The most rewrites of a function where the words tell no number.
-pub const DEFAULT_STEPS: u32 = 10_000;
 
 /// An argument that has to be given, by its place.
 fn required_argument<'a>(alloc: Global, name: &'a str, shown: &'a str, help: &'a str) -> Arg<'a>
@@ -114,211 +100,98 @@ fn flag_argument<'a>(alloc: Global, name: &'a str, help: &'a str) -> Arg<'a>
         .action(ArgAction::SetTrue)
 }
 
-fn rules_argument<'a>(alloc: Global) -> Arg<'a>
-    ensures rule { rule_of result ≡ required_argument (codes "rules") }
+/// The argument that is described.
+fn described_argument<'a>(alloc: Global, described: &Argument) -> Arg<'a>
+    ensures rule { rule_of result ≡ rule_described described.now }
     ensures local { result.global ≡ false }
 {
-    required_argument(alloc, "rules", "RULES", "The file of rules")
+    let name = described.name;
+    let help = described.help;
+    match described.kind {
+        Kind::Required { shown } => required_argument(alloc, name, shown, help),
+        Kind::RequiredNumber { shown, most } => required_number(alloc, name, shown, most, help),
+        Kind::Repeated { shown } => repeated_argument(alloc, name, shown, help),
+        Kind::Optional { shown } => optional_argument(alloc, name, shown, help),
+        Kind::Defaulted { shown, default } => option_argument(alloc, name, shown, default, help),
+        Kind::Number { most, default } => number_argument(alloc, name, most, default, help),
+        Kind::Flag => flag_argument(alloc, name, help),
+    }
 }
 
-fn module_argument<'a>(alloc: Global) -> Arg<'a>
-    ensures rule { rule_of result ≡ required_argument (codes "module") }
-    ensures local { result.global ≡ false }
+/// The arguments that are described, in order.
+fn described_arguments<'a>(
+    alloc: Global,
+    described: &[Argument],
+) -> Result<List<Arg<'a>>, AllocError>
+    ensures { IfOk result (AllZip IsDescribedArgument described.now) }
 {
-    required_argument(alloc, "module", "MODULE", "The file of the module")
-}
-
-fn conflicts_argument<'a>(alloc: Global) -> Arg<'a>
-    ensures rule { rule_of result ≡ conflicts_argument }
-    ensures local { result.global ≡ false }
-{
-    number_argument(
-        alloc,
-        "conflicts",
-        MOST_CONFLICTS,
-        "20000",
-        "How many clauses a search learns before it ends as budget; with at most 12 bits of input it may learn more",
-    )
+    let mut arguments = List::new(alloc);
+    for argument in described {
+        arguments.push(described_argument(alloc, argument))?;
+    }
+    Ok(arguments)
 }
 
 /// A command of this name, without arguments.
-fn new_command<'a>(alloc: Global, name: &'a str, about: &'a str) -> Result<Command<'a>, AllocError>
-    ensures { IfOk result (IsLeaf (new_shape name.entry.now)) }
+fn new_command<'a>(alloc: Global, name: &'a str, about: &'a str) -> Command<'a>
+    ensures { IsLeaf (new_shape name.entry.now) result }
 {
-    Ok(Command::new(alloc, name).about(about))
+    Command::new(alloc, name).about(about)
 }
 
-/// A command with one more argument, the last.
-fn with_argument<'a>(
-    made: Result<Command<'a>, AllocError>,
-    argument: Arg<'a>,
+/// The command that is described.
+fn described_command<'a>(
+    alloc: Global,
+    described: &Described<'_>,
 ) -> Result<Command<'a>, AllocError>
-    requires { argument.global ≡ false }
-    ensures { (app : App) → IfOk made.entry (λ command. app_of command ≡ app)
-        → IfOk result (λ command. app_of command ≡ with_rule app (rule_of argument.entry)) }
+    ensures { IfOk result (IsLeaf (shape_described described.entry.now)) }
 {
-    let command = made?;
-    command.arg(argument)
+    let arguments = described_arguments(alloc, described.arguments)?;
+    new_command(alloc, described.name, described.about).args(arguments.into_vec())
 }
 
-/// A command with one more command of its own, the last.
-fn with_command<'a>(
-    made: Result<Command<'a>, AllocError>,
-    added: Result<Command<'a>, AllocError>,
+/// The commands that are described, in order.
+fn described_commands<'a>(
+    alloc: Global,
+    described: &[Described<'_>],
+) -> Result<List<Command<'a>>, AllocError>
+    ensures { IfOk result (AllZip (λ one. IsLeaf (shape_described one)) described.entry.now) }
+{
+    let mut commands = List::new(alloc);
+    for one in described {
+        commands.push(described_command(alloc, one)?)?;
+    }
+    Ok(commands)
+}
+
+/// The program, without its commands, of which one has to be given.
+fn program_alone<'a>(alloc: Global) -> Command<'a>
+    ensures { IsLeaf (record program.top { is_leaf = true }) result }
+{
+    new_command(
+        alloc,
+        "alive",
+        "Verifies rewrite rules, optimises LLVM IR by them, and runs it",
+    )
+    .version("0.1.0")
+    .subcommand_required(true)
+    .disable_help_subcommand(true)
+}
+
+/// The program with the commands that are described.
+fn described_program<'a>(
+    alloc: Global,
+    described: &[Described<'_>],
 ) -> Result<Command<'a>, AllocError>
-    ensures { (app : App) (shape : Shape) → shape.is_plain ≡ true → IfOk made.entry (λ command. app_of command ≡ app)
-        → IfOk added.entry (IsLeaf shape) → IfOk result (λ command. app_of command ≡ with_subcommand app shape) }
+    ensures { IfOk result (λ command. app_of command ≡ app_described described.entry.now) }
 {
-    let command = made?;
-    let added = added?;
-    command.subcommand(added)
-}
-
-/// `verify RULES [--widths LIST] [--conflicts N] [--logs]`.
-fn verify<'a>(alloc: Global) -> Result<Command<'a>, AllocError>
-    ensures { IfOk result (IsLeaf verify_shape) }
-{
-    let made = new_command(alloc, "verify", "Decides each rule of a file");
-    let made = with_argument(made, rules_argument(alloc));
-    let made = with_argument(
-        made,
-        option_argument(
-            alloc,
-            "widths",
-            "LIST",
-            "1-8,16,32,64",
-            "The widths that types may have, as 1-8,16",
-        ),
-    );
-    let made = with_argument(made, conflicts_argument(alloc));
-    with_argument(
-        made,
-        flag_argument(alloc, "logs", "Writes proofs in place of verdicts"),
-    )
-}
-
-/// `optimise RULES MODULE [--conflicts N] [--steps N] [--logs LOGS]`.
-fn optimise<'a>(alloc: Global) -> Result<Command<'a>, AllocError>
-    ensures { IfOk result (IsLeaf optimise_shape) }
-{
-    let made = new_command(
-        alloc,
-        "optimise",
-        "Rewrites a module by the rules of a file",
-    );
-    let made = with_argument(made, rules_argument(alloc));
-    let made = with_argument(made, module_argument(alloc));
-    let made = with_argument(made, conflicts_argument(alloc));
-    let made = with_argument(
-        made,
-        number_argument(
-            alloc,
-            "steps",
-            MOST_STEPS,
-            "10000",
-            "The most rewrites of a function",
-        ),
-    );
-    with_argument(
-        made,
-        optional_argument(
-            alloc,
-            "logs",
-            "LOGS",
-            "The file of proofs that are asked before a search",
-        ),
-    )
-}
-
-/// `run [--blocks N] MODULE NAME [ARG..]`.
-fn run<'a>(alloc: Global) -> Result<Command<'a>, AllocError>
-    ensures { IfOk result (IsLeaf run_shape) }
-{
-    let made = new_command(alloc, "run", "Runs a function of a module");
-    let made = with_argument(made, module_argument(alloc));
-    let made = with_argument(
-        made,
-        required_argument(
-            alloc,
-            "name",
-            "NAME",
-            "The name of the function, without its @",
-        ),
-    );
-    let made = with_argument(
-        made,
-        repeated_argument(alloc, "arguments", "ARG", "The function's arguments"),
-    );
-    with_argument(
-        made,
-        number_argument(
-            alloc,
-            "blocks",
-            MOST_BLOCKS,
-            "1000000",
-            "The most blocks that are entered",
-        ),
-    )
-}
-
-/// `load NUMBER`.
-fn load<'a>(alloc: Global) -> Result<Command<'a>, AllocError>
-    ensures { IfOk result (IsLeaf load_shape) }
-{
-    let made = new_command(
-        alloc,
-        "load",
-        "Optimises a generated module by built-in rules",
-    );
-    with_argument(
-        made,
-        required_number(
-            alloc,
-            "number",
-            "NUMBER",
-            MOST_NUMBER,
-            "The number that the module is made of",
-        ),
-    )
-}
-
-/// `recheck RULES LOGS [--conflicts N]`.
-fn recheck<'a>(alloc: Global) -> Result<Command<'a>, AllocError>
-    ensures { IfOk result (IsLeaf recheck_shape) }
-{
-    let made = new_command(
-        alloc,
-        "recheck",
-        "Decides what the proofs in a file are of, by their logs",
-    );
-    let made = with_argument(made, rules_argument(alloc));
-    let made = with_argument(
-        made,
-        required_argument(alloc, "logs", "LOGS", "The file of proofs"),
-    );
-    with_argument(made, conflicts_argument(alloc))
-}
-
-/// The program, without its commands.
-fn program_alone<'a>(alloc: Global) -> Result<Command<'a>, AllocError>
-    ensures { IfOk result (IsLeaf (record program.top { is_leaf = true })) }
-{
-    Ok(
-        Command::new(alloc, "alive")
-            .about("Verifies rewrite rules, optimises LLVM IR by them, and runs it")
-            .version("0.1.0")
-            .subcommand_required(true)
-            .disable_help_subcommand(true),
-    )
+    let commands = described_commands(alloc, described)?;
+    program_alone(alloc).subcommands(commands.into_vec())
 }
 
 /// The program with its commands.
 pub(crate) fn definition<'a>(alloc: Global) -> Result<Command<'a>, AllocError>
     ensures { IfOk result (λ command. app_of command ≡ program) }
 {
-    let made = with_command(program_alone(alloc), verify(alloc));
-    let made = with_command(made, optimise(alloc));
-    let made = with_command(made, run(alloc));
-    let made = with_command(made, load(alloc));
-    with_command(made, recheck(alloc))
+    described_program(alloc, &COMMANDS)
 }

@@ -3,6 +3,7 @@
 
 mod command;
 mod definition;
+mod descriptions;
 mod laws;
 mod read;
 mod widths;
@@ -10,6 +11,6 @@ mod widths;
 pub use command::{
     Command, CommandError, OptimiseOptions, RecheckOptions, RunOptions, VerifyOptions,
 };
-pub use definition::{DEFAULT_CONFLICTS, DEFAULT_STEPS};
+pub use descriptions::{DEFAULT_CONFLICTS, DEFAULT_STEPS};
 pub use laws::words_say_one_command;
 pub use read::read_command;

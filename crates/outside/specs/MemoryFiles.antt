@@ -1,5 +1,5 @@
 -- Files in memory, some of whose reads fail.
-use Rattle.std.specs.Prelude.{ℕ, List, [], ◌∷◌, ◌++◌, length, Result, Ok, Err, Contains, IsNone}
+use Rattle.std.specs.Prelude.{◌≡◌, ℕ, List, [], ◌∷◌, ◌++◌, length, take, Some, Result, Ok, Err, Contains, IsNone}
 use Rattle.outside.specs.Faults.{raised}
 use Rattle.outside.specs.StoredFiles.{bytes_of}
 use Rattle.outside.specs.declared.stored_file.StoredFile.{StoredFile}
@@ -21,6 +21,13 @@ IsListed files = Contains files.failing (length files.asked)
 -- Nothing is held under the name.
 abbrev pub IsMissing : MemoryFilesState → List ℕ → Type 0
 IsMissing files name = IsNone (bytes_of files.held name)
+
+-- The read that comes next gives these bytes, of those under the name the first `most`.
+pub record IsReadOf (files : MemoryFilesState) (name : List ℕ) (most : ℕ) (bytes : List ℕ) : Type 0 where
+  pub unlisted : ¬ IsListed files
+  pub held : List ℕ
+  pub found : bytes_of files.held name ≡ Some held
+  pub bytes_are : bytes ≡ take most held
 
 -- the files after a read of the name that had this answer
 abbrev pub files_after : {T : Type 0} → Result T ReadError → MemoryFilesState → List ℕ → MemoryFilesState

@@ -1,9 +1,9 @@
 //! Files in memory, some of whose reads fail.
 
-ghost use Rattle.std.specs.Prelude.{◌≡◌, ◌≤◌, [], ◌∷◌, ◌++◌, take, vec_len, IfOk, IfSome, IsErr, OnOk, OnErr, IsErrOf, Some, IsTrue, ◌↔◌, ◌⊎◌};
-ghost use Rattle.outside.specs.Faults.{Rose};
+ghost use Rattle.std.specs.Prelude.{◌≡◌, ◌≤◌, [], ◌∷◌, ◌++◌, take, vec_len, IfOk, IfSome, IsErr, OnOk, OnErr, IsErrOf, Some, MatchOption, IsTrue, ◌↔◌, ◌⊎◌};
+ghost use Rattle.outside.specs.Faults.{Rose, raised};
 ghost use Rattle.outside.specs.StoredFiles.{bytes_of};
-ghost use Rattle.outside.specs.MemoryFiles.{IsListed, IsMissing, files_after};
+ghost use Rattle.outside.specs.MemoryFiles.{IsListed, IsMissing, IsReadOf, files_after};
 
 use crate::errors::ReadError;
 use crate::files::Files;
@@ -80,6 +80,56 @@ impl MemoryFiles {
         let next = self.asked.len() as u64;
         self.failing.as_slice().contains(&next)
     }
+
+    /// A copy of the first `most` bytes under a name, unless the next read of it fails.
+    fn copy_of(&self, alloc: Global, name: &str, most: usize) -> Result<Option<Vec<u8>>, AllocError>
+        ensures { IfOk result (λ read. MatchOption read (IsListed self.now ⊎ IsMissing self.now name.now)
+            (λ bytes. IsReadOf self.now name.now most bytes.items)) }
+    {
+        if self.is_listed() {
+            return Ok(None);
+        }
+        let Some(bytes) = find_bytes(self.held.as_slice(), name) else {
+            return Ok(None);
+        };
+        Ok(Some(first_bytes(alloc, bytes, most)?))
+    }
+
+    /// Notes that a name was asked for.
+    fn note(&mut self, alloc: Global, name: &str) -> Result<(), AllocError>
+        ensures ok { OnOk result (self.new ≡ record self.old { asked = self.old.asked ++ name.now ∷ [] }) }
+        ensures err { OnErr result (self.new ≡ self.old) }
+    {
+        let name = copied(alloc, name.as_bytes())?;
+        self.asked.push(name)
+    }
+
+    /// What a read gives, which is noted unless memory is refused: nothing, where it fails.
+    fn answer(
+        &mut self,
+        alloc: Global,
+        name: &str,
+        most: usize,
+    ) -> Result<Option<Vec<u8>>, AllocError>
+        ensures read { IfOk result (λ read. MatchOption read (IsListed self.old ⊎ IsMissing self.old name.now)
+            (λ bytes. IsReadOf self.old name.now most bytes.items)) }
+        ensures ok { OnOk result (self.new ≡ record self.old { asked = self.old.asked ++ name.now ∷ [] }) }
+        ensures err { OnErr result (self.new ≡ self.old) }
+    {
+        let read = self.copy_of(alloc, name, most)?;
+        self.note(alloc, name)?;
+        Ok(read)
+    }
+
+    /// Counts a read that fails.
+    fn fail(&mut self) -> ReadError
+        ensures failed { result ≡ ReadError.Failed }
+        ensures counted { self.new ≡ record self.old { faults = raised self.old.faults } }
+        ensures grows { self.old.faults ≤ self.new.faults }
+    {
+        self.faults = self.faults.saturating_add(1);
+        ReadError::Failed
+    }
 }
 
 impl Files for MemoryFiles {
@@ -97,22 +147,9 @@ impl Files for MemoryFiles {
         ensures only { IsErrOf result ReadError.Failed → IsListed self.old ⊎ IsMissing self.old name.now }
         ensures after { self.new ≡ files_after result self.old name.now }
     {
-        let copy = copied(alloc, name.as_bytes())?;
-        let read = if self.is_listed() {
-            None
-        } else {
-            match find_bytes(self.held.as_slice(), name) {
-                Some(bytes) => Some(first_bytes(alloc, bytes, most)?),
-                None => None,
-            }
-        };
-        self.asked.push(copy)?;
-        match read {
+        match self.answer(alloc, name, most)? {
             Some(bytes) => Ok(bytes),
-            None => {
-                self.faults = self.faults.saturating_add(1);
-                Err(ReadError::Failed)
-            }
+            None => Err(self.fail()),
         }
     }
 }

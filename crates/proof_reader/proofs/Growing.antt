@@ -57,7 +57,7 @@ bad_next rules earlier rest proof line fault good line_is bad =
       line = rw front (bad.line_is ∙ line_is);
     }
 
-well_formed_at : (earlier rest : List Proof) (proof : Proof) → AllByRecursion IsWellFormed (earlier ++ proof ∷ rest) → IsWellFormed proof
+pub well_formed_at : (earlier rest : List Proof) (proof : Proof) → AllByRecursion IsWellFormed (earlier ++ proof ∷ rest) → IsWellFormed proof
 well_formed_at [] rest proof all = all.0
 well_formed_at (p ∷ earlier) rest proof all = well_formed_at earlier rest proof all.1
 

@@ -1,6 +1,6 @@
 -- Which proofs the keys of a set are of.
-use Rattle.std.proofs.Common.{◌≡◌, ℕ, zero, suc, Bool, true, false, List, [], ◌∷◌, ◌++◌, map, Global, Some, refl, sym, ap, subst, ◌∙◌, nat_eq, arith}
-use Rattle.std.specs.Prelude.{◌&&◌, ◌||◌, not, slice_get, Vec}
+use Rattle.std.proofs.Common.{◌≡◌, ℕ, zero, suc, Bool, true, false, List, [], ◌∷◌, ◌++◌, map, Some, refl, sym, ap, subst, ◌∙◌, nat_eq, arith}
+use Rattle.std.specs.Prelude.{◌||◌, not, slice_get}
 use Rattle.std.specs.Bool.{Decides}
 use Rattle.std.specs.List.{list_any}
 use Rattle.std.specs.Str.{bytes_eq}
@@ -12,17 +12,10 @@ use Rattle.rule_core.specs.Checks.{AreDistinct}
 use Rattle.proof_text.specs.declared.proof.Proof.{Proof}
 use Rattle.proof_reader.specs.Names.{HasNameAt}
 use Rattle.proof_reader.specs.Faults.{IsAmong}
-use Rattle.proof_reader.specs.Reading.{AreKeysOf}
+use Rattle.proof_reader.specs.Reading.{Key, is_same_key, AreKeysOf}
 use Rattle.proof_reader.proofs.RuleNames.{name_at}
 
-abbrev pub Key : Type 0
-Key = ℕ × Vec ℕ Global
-
--- how a set compares keys
-abbrev pub key_eq : Key → Key → Bool
-key_eq x y = nat_eq x.0 y.0 && bytes_eq x.1.items y.1.items
-
-decided : (x y : Key) → Decides (key_eq x y) ((x.0 ≡ y.0) × (x.1.items ≡ y.1.items))
+decided : (x y : Key) → Decides (is_same_key x y) ((x.0 ≡ y.0) × (x.1.items ≡ y.1.items))
 decided x y = Decides-and (nat_eq x.0 y.0) (bytes_eq x.1.items y.1.items) (Decides-eqb x.0 y.0) (bytes_eq-Decides x.1.items y.1.items)
 
 -- at one place one name
@@ -38,20 +31,20 @@ one_place rules place other name distinct (r, at, is) (q, there, same) =
 
 module _ (rules : List Rule) (proof : Proof) (key : Key) (named : HasNameAt rules key.0 proof.name) (widths : key.1.items ≡ proof.widths) where
   -- a key that the set has is of a proof that is among these
-  pub found : (earlier : List Proof) (keys : List Key) → AreKeysOf rules earlier keys → list_any (key_eq key) keys ≡ true → IsAmong earlier proof
+  pub found : (earlier : List Proof) (keys : List Key) → AreKeysOf rules earlier keys → list_any (is_same_key key) keys ≡ true → IsAmong earlier proof
   found [] [] are has = cc
   found [] (k ∷ keys) are has = absurd are
   found (p ∷ earlier) [] are has = absurd are
-  found (p ∷ earlier) (k ∷ keys) are has = go (key_eq key k) refl (λ later. found earlier keys are.1 later) has
+  found (p ∷ earlier) (k ∷ keys) are has = go (is_same_key key k) refl (λ later. found earlier keys are.1 later) has
     where
-      go : (b : Bool) → key_eq key k ≡ b → (list_any (key_eq key) keys ≡ true → IsAmong earlier proof) → (b || list_any (key_eq key) keys) ≡ true → IsAmong (p ∷ earlier) proof
+      go : (b : Bool) → is_same_key key k ≡ b → (list_any (is_same_key key) keys ≡ true → IsAmong earlier proof) → (b || list_any (is_same_key key) keys) ≡ true → IsAmong (p ∷ earlier) proof
       go true is among has =
           let same = (decided key k).0 is in
           (zero, p, omega arith, refl, (sym (one_name rules key.0 k.0 proof.name p.name same.0 named are.0.0), sym are.0.1 ∙ (sym same.1 ∙ widths)))
       go false is among has = let (n, other, within, at, h) = among has in (suc n, other, omega arith, at, h)
 
   -- one that it lacks is of none of them
-  pub lost : AreDistinct (map (λ (r : Rule). r.name) rules) → (earlier : List Proof) (keys : List Key) → AreKeysOf rules earlier keys → list_any (key_eq key) keys ≡ false → IsAmong earlier proof → ⊥
+  pub lost : AreDistinct (map (λ (r : Rule). r.name) rules) → (earlier : List Proof) (keys : List Key) → AreKeysOf rules earlier keys → list_any (is_same_key key) keys ≡ false → IsAmong earlier proof → ⊥
   lost distinct [] keys are has (n, other, within, at, h) = omega arith
   lost distinct (p ∷ earlier) [] are has among = are
   lost distinct (p ∷ earlier) (k ∷ keys) are has (zero, other, within, at, h) =
@@ -59,12 +52,12 @@ module _ (rules : List Rule) (proof : Proof) (key : Key) (named : HasNameAt rule
       let name : p.name ≡ proof.name = ap (λ (x : Proof). x.name) is ∙ h.0 in
       let place : key.0 ≡ k.0 = one_place rules key.0 k.0 proof.name distinct named (subst (λ (n : List ℕ). HasNameAt rules k.0 n) name are.0.0) in
       let items : key.1.items ≡ k.1.items = widths ∙ sym (are.0.1 ∙ (ap (λ (x : Proof). x.widths) is ∙ h.1)) in
-      not_first (key_eq key k) (list_any (key_eq key) keys) ((decided key k).1 (place, items)) has
+      not_first (is_same_key key k) (list_any (is_same_key key) keys) ((decided key k).1 (place, items)) has
     where
       not_first : (a b : Bool) → a ≡ true → (a || b) ≡ false → ⊥
       not_first true b is none = absurd cc
       not_first false b is none = absurd cc
-  lost distinct (p ∷ earlier) (k ∷ keys) are has (suc n, other, within, at, h) = lost distinct earlier keys are.1 (not_later (key_eq key k) (list_any (key_eq key) keys) has) (n, other, omega arith, at, h)
+  lost distinct (p ∷ earlier) (k ∷ keys) are has (suc n, other, within, at, h) = lost distinct earlier keys are.1 (not_later (is_same_key key k) (list_any (is_same_key key) keys) has) (n, other, omega arith, at, h)
     where
       not_later : (a b : Bool) → (a || b) ≡ false → b ≡ false
       not_later true b none = absurd cc

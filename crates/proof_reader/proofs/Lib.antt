@@ -1,5 +1,6 @@
 pub mod Growing
 pub mod Keys
 pub mod Lines
+pub mod Refusing
 pub mod RuleNames
 pub mod Typed

@@ -1,83 +1,71 @@
-use Rattle.std.proofs.Common.{◌≡◌, ℕ, Bool, List, [], ◌∷◌, ◌++◌, if◌then◌else◌, sym, subst, ap, ◌∙◌, refl}
-use Rattle.std.proofs.lemmas.Option.{slice_get_within, same_Some}
-use Rattle.rule_core.specs.declared.rule.Rule.{Rule}
+use Rattle.std.proofs.Common.{◌≡◌, ℕ, List, [], ◌∷◌, ◌++◌, map, sym, subst, ap, refl}
+use Rattle.std.specs.Prelude.{Result, Ok, Err, IfOk, OnOk}
+use Rattle.std.proofs.lemmas.Result.{IfErr-weaker, err_from_is_err_and}
+use Rattle.rule_core.specs.Checks.{AreDistinct}
 use Rattle.rule_core.specs.Typing.{IsTyping}
-use Rattle.rule_typing.specs.Classes.{IsClassified}
-use Rattle.proof_reader.specs.Names.{IsNamed, HasNameAt}
-use Rattle.proof_reader.specs.Faults.{unknown, badly_typed, repeated}
-use Rattle.proof_reader.specs.Reading.{AreKeysOf}
-use Rattle.proof_reader.proofs.Keys.{Key, found, lost, keys_more, lacked, had}
-use Rattle.proof_reader.proofs.RuleNames.{read_at, same_rule}
+use Rattle.rule_core.specs.declared.rule.Rule.{Rule}
+use Rattle.proof_text.specs.declared.fault.LogFaultKind.TheVariants.{Repeated}
+use Rattle.proof_text.specs.declared.proof.Proof.{Proof}
+use Rattle.proof_text.specs.Faults.{LogFault}
+use Rattle.proof_reader.specs.declared.proof.RuleProof.{RuleProof}
+use Rattle.proof_reader.specs.Names.{HasNameAt}
+use Rattle.proof_reader.specs.Faults.{IsBad, repeated}
+use Rattle.proof_reader.specs.Reading.{Key, IsProofOf, IsTypedAt, AreKeysOf, AddsKey, HasKey, TakesProof, RefusesProof}
+use Rattle.proof_reader.proofs.Keys.{found, lost, keys_more}
+use Rattle.proof_reader.proofs.Refusing.{IfRefused-weaker}
 use Rattle.proof_reader.proofs.reader.checked.Goals as goal
 
-pub returns-in_default-clause-refused : goal.returns-in_default-clause-refused
-returns-in_default-clause-refused c =
-    let none : IsNamed c.args.rules.now c.args.proof.name → ⊥ = subst (λ (n : List ℕ). IsNamed c.args.rules.now n → ⊥) c.as_slice.ensures c.in_default.ensures in
-    rw c.refused.ensures (λ earlier keys. record { bad = unknown none; line_is = refl })
+-- what holds of a value, and what holds where there is one
+both : {T E : Type 0} (r : Result T E) (P : T → Type 0) (Q : Type 0) (R : T → Type 0) → ((x : T) → P x → Q → R x) → IfOk r P → OnOk r Q → IfOk r R
+both (Ok x) P Q R so p q = so x p q
+both (Err e) P Q R so p q = tt
 
-pub bounds-rules-rule : goal.bounds-rules-rule
-bounds-rules-rule c = slice_get_within c.args.rules.now c.in-Some.rule c.in-Some.ensures.0 c.in-Some.ensures.1
+module _ (rules : List Rule) (proof : Proof) (place : ℕ) (typing : List ℕ) (at : IsTypedAt rules proof place typing) where
+  -- the key's rule has the proof's name too
+  named : (k : ℕ) → k ≡ place → HasNameAt rules k proof.name
+  named k is = subst (λ (n : ℕ). HasNameAt rules n proof.name) (sym is) (at.rule, at.is, at.named)
 
-pub typing_of-requires : goal.typing_of-requires
-typing_of-requires c =
-    let within = slice_get_within c.args.rules.now c.in-Some.rule c.in-Some.ensures.0 c.in-Some.ensures.1 in
-    subst IsClassified (sym c.index-rules-rule.is) (c.requires.classes c.in-Some.rule c.index-rules-rule.result within)
+  is_typing : IsTyping at.rule proof.widths
+  is_typing = subst (λ (ws : List ℕ). IsTyping at.rule ws) at.widths at.typed
 
-pub returns-in_default-2-clause-refused : goal.returns-in_default-2-clause-refused
-returns-in_default-2-clause-refused c =
-    let rules = c.args.rules.now in
-    let place = c.in-Some.rule in
-    let rule = c.index-rules-rule.result in
-    let within = slice_get_within rules place c.in-Some.ensures.0 c.in-Some.ensures.1 in
-    let named : HasNameAt rules place c.args.proof.name = subst (λ (n : List ℕ). HasNameAt rules place n) c.as_slice.ensures c.in-Some.ensures in
-    let untyped = rw c.in_default-2.is at c.in_ok-typing.ensures in
-    let widths : c.as_slice-2.result.now ≡ c.args.proof.widths = c.as_slice-2.ensures.value ∙ c.into_vec-widths.ensures in
-    let at = read_at rules place rule within c.index-rules-rule.is in
-    rw c.refused-in_default-2.ensures (λ earlier keys. record {
-      bad = badly_typed (place, named) (λ other is typed.
-          let same : named.0 ≡ other = same_rule rules c.args.proof place named.0 other c.requires.names named.1 named.2 is in
-          let same' : other ≡ rule = sym same ∙ sym (let e = sym at ∙ named.1 in cc) in
-          untyped (subst (λ (ws : List ℕ). IsTyping rule ws) (sym widths) (subst (λ (r : Rule). IsTyping r c.args.proof.widths) same' typed)));
-      line_is = refl;
-    })
+  takes : (earlier : List Proof) (old new : List Key) (read : RuleProof) → AreDistinct (map (λ (r : Rule). r.name) rules) → read ≡ record { rule = place; typing = typing; log = proof.log }
+      → AddsKey old place proof.widths new → AreKeysOf rules earlier old → TakesProof rules earlier proof read new
+  takes earlier old new read distinct is adds keys =
+      let name = named adds.key.0 adds.rule_is in
+      record {
+        good = record {
+          rule = at.rule;
+          is = ((place, at.is), at.named);
+          typing = is_typing;
+          new = lost rules proof adds.key name adds.widths_are distinct earlier old keys adds.lacked;
+        };
+        is = subst (IsProofOf rules proof) (sym is) (record { rule = at.rule; is = at.is; named = at.named; typing = at.widths; typed = at.typed; log = refl });
+        keys_are = subst (AreKeysOf rules (earlier ++ proof ∷ [])) (sym adds.added) (keys_more rules earlier old proof adds.key keys name adds.widths_are);
+      }
 
-pub returns-then-not-branch-clause-refused : goal.returns-then-not-branch-clause-refused
-returns-then-not-branch-clause-refused c =
-    let rules = c.args.rules.now in
-    let place = c.in-Some.rule in
-    let rule = c.index-rules-rule.result in
-    let within = slice_get_within rules place c.in-Some.ensures.0 c.in-Some.ensures.1 in
-    let named : HasNameAt rules place c.args.proof.name = subst (λ (n : List ℕ). HasNameAt rules place n) c.as_slice.ensures c.in-Some.ensures in
-    let typed = rw c.in-Some-2.is at c.in_ok-typing.ensures in
-    let widths : c.as_slice-2.result.now ≡ c.args.proof.widths = c.as_slice-2.ensures.value ∙ c.into_vec-widths.ensures in
-    let at = read_at rules place rule within c.index-rules-rule.is in
-    let same : named.0 ≡ rule = same_Some named.0 rule (sym named.1 ∙ at) in
-    let is : IsTyping rule c.args.proof.widths = subst (λ (ws : List ℕ). IsTyping rule ws) (typed.0 ∙ widths) typed.1 in
-    rw c.refused-then-not-branch.ensures (λ earlier keys. record {
-      bad = repeated rule ((place, at), ap (λ (r : Rule). r.name) (sym same) ∙ named.2) is
-          (found rules c.args.proof (place, c.into_vec-widths.result) named c.into_vec-widths.ensures earlier c.args.seen.now.keys keys (had _ _ c.in_ok-insert.ensures.added c.if-not-branch.true));
-      line_is = refl;
-    })
+  refuses : (earlier : List Proof) (old : List Key) (line : ℕ) (fault : LogFault) → fault ≡ record { line = line; kind = Repeated } → HasKey old place proof.widths
+      → AreKeysOf rules earlier old → RefusesProof rules earlier proof line fault
+  refuses earlier old line fault is has keys =
+      let among = found rules proof has.key (named has.key.0 has.rule_is) has.widths_are earlier old keys has.had in
+      record {
+        bad = subst (IsBad rules earlier proof) (sym (ap (λ (f : LogFault). f.kind) is)) (repeated at.rule ((place, at.is), at.named) is_typing among);
+        line_is = ap (λ (f : LogFault). f.line) is;
+      }
+
+pub returns-in_err-rule-clause-refused : goal.returns-in_err-rule-clause-refused
+returns-in_err-rule-clause-refused c =
+    let p = err_from_is_err_and c.from_residual.result c.from_residual.ensures.1 in
+    rw (p.1, p.2) (IfRefused-weaker c.in_err-rule.field-0.0 _ _ (λ fault bad earlier keys. bad earlier) c.in_err-rule.ensures.refused)
 
 pub returns-clause-ok : goal.returns-clause-ok
 returns-clause-ok c =
-    let rules = c.args.rules.now in
-    let place = c.in-Some.rule in
-    let rule = c.index-rules-rule.result in
-    let within = slice_get_within rules place c.in-Some.ensures.0 c.in-Some.ensures.1 in
-    let named : HasNameAt rules place c.args.proof.name = subst (λ (n : List ℕ). HasNameAt rules place n) c.as_slice.ensures c.in-Some.ensures in
-    let typed = rw c.in-Some-2.is at c.in_ok-typing.ensures in
-    let widths : c.as_slice-2.result.now ≡ c.args.proof.widths = c.as_slice-2.ensures.value ∙ c.into_vec-widths.ensures in
-    let at = read_at rules place rule within c.index-rules-rule.is in
-    let same : named.0 ≡ rule = same_Some named.0 rule (sym named.1 ∙ at) in
-    let name_is : rule.name ≡ c.args.proof.name = ap (λ (r : Rule). r.name) (sym same) ∙ named.2 in
-    let is : IsTyping rule c.args.proof.widths = subst (λ (ws : List ℕ). IsTyping rule ws) (typed.0 ∙ widths) typed.1 in
-    let key : Key = (place, c.into_vec-widths.result) in
-    let new = lacked _ _ c.in_ok-insert.ensures.added c.if-not-branch.false in
-    let old = c.args.seen.now.keys in
-    let added : c.insert.new.self.keys ≡ old ++ key ∷ [] = c.in_ok-insert.ensures.keys ∙ ap (λ (b : Bool). if b then old else old ++ key ∷ []) new in
-    λ earlier keys. record {
-      good = record { rule = rule; is = ((place, at), name_is); typing = is; new = lost rules c.args.proof key named c.into_vec-widths.ensures c.requires.names earlier old keys new };
-      is = record { rule = rule; is = at; named = name_is; typing = typed.0 ∙ widths; typed = typed.1; log = refl };
-      keys_are = subst (AreKeysOf rules (earlier ++ c.args.proof ∷ [])) (sym added) (keys_more rules earlier old c.args.proof key keys named c.into_vec-widths.ensures);
-    }
+    let at = c.in_ok-rule.ensures.ok in
+    both c.unless_repeated.result _ _ _ (λ read is adds earlier keys.
+    takes c.args.rules.now c.args.proof c.in_ok-rule.rule c.in_ok-rule.typing at earlier c.args.seen.now.keys _ read c.requires.names is adds keys)
+    c.unless_repeated.ensures.read c.unless_repeated.ensures.added
+
+pub returns-clause-refused : goal.returns-clause-refused
+returns-clause-refused c =
+    let at = c.in_ok-rule.ensures.ok in
+    IfErr-weaker c.unless_repeated.result _ _ (λ e. IfRefused-weaker e _ _ (λ fault has earlier keys.
+    refuses c.args.rules.now c.args.proof c.in_ok-rule.rule c.in_ok-rule.typing at earlier c.args.seen.now.keys c.args.line fault has.0 has.1 keys)) c.unless_repeated.ensures.refused

@@ -1,0 +1,8 @@
+-- What a refusal says, and what follows from it.
+use Rattle.refusal.specs.declared.refusal.Refusal.{Refusal}
+use Rattle.refusal.specs.declared.refusal.Refusal.TheVariants.{Refused, NoMemory}
+use Rattle.refusal.specs.Refusals.{IfRefused}
+
+pub IfRefused-weaker : {F : Type 0} (e : Refusal F) (P Q : F → Type 0) → ((fault : F) → P fault → Q fault) → IfRefused e P → IfRefused e Q
+IfRefused-weaker (Refused fault) P Q so h = so fault h
+IfRefused-weaker NoMemory P Q so h = tt

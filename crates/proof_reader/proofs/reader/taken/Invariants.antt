@@ -1,0 +1,12 @@
+use Rattle.std.proofs.Common.{◌≡◌, ◌++◌}
+use Rattle.std.specs.Vec.Iter.{into_iter_items}
+use Rattle.proof_reader.specs.Reading.{AreTaken}
+use Rattle.proof_reader.proofs.reader.taken.Given as goal
+
+-- the proofs so far are taken, and the others are left
+abbrev pub invariant-loop-proof : goal.invariant-loop-proof
+invariant-loop-proof l =
+    record {
+      taken : AreTaken l.rules l.yielded l.so_far.seen.keys l.so_far.read l.so_far.line;
+      left : l.yielded ++ into_iter_items l.proof-iterator ≡ l.fn.proofs.items;
+    }
