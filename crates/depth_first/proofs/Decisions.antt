@@ -1,8 +1,6 @@
 -- The decisions and the reasons of a trail, entry by entry.
 use Rattle.std.proofs.Common.{◌≡◌, ℕ, suc, ◌+◌, Bool, true, false, cond, List, [], ◌∷◌, ◌++◌, Some, None, Option, length, take, filter, get_or, ◌<◌, refl, sym, ap, ◌∙◌, arith, subst}
 use Rattle.std.specs.Prelude.{slice_get, MatchOption}
-use Rattle.std.specs.List.{cons_option}
-use Rattle.std.specs.Option.{option_to_list}
 use Rattle.clauses.specs.Literal.{Lit, negation_of}
 use Rattle.clauses.specs.Propagation.{negations_of}
 use Rattle.std.proofs.lemmas.List.{append-nil, map-append}
@@ -75,45 +73,23 @@ not_decided InputDecision n some = cc
 not_decided NonInputDecision n some = cc
 not_decided (Reason number) n some = refl
 
-reasons_next : (entries : List Entry) (k : ℕ) (e : Entry) (o : Option ℕ) → slice_get entries k ≡ Some e → reason_of e.cause ≡ o → reasons (take (k + 1) entries) ≡ reasons (take k entries) ++ option_to_list o
-reasons_next entries k e o at is =
-    let next : k + 1 ≡ suc k = omega arith in
-    ap (λ n. reasons (take n entries)) next
-    ∙ ap reasons (take_next entries k e at)
-    ∙ reasons-append (take k entries) (e ∷ [])
-    ∙ ap (λ ns. reasons (take k entries) ++ ns) (one (reason_of e.cause) ∙ ap option_to_list is)
-  where
-    one : (o : Option ℕ) → cons_option o [] ≡ option_to_list o
-    one None = refl
-    one (Some n) = refl
+-- the clause of one entry
+pub clause_of_decision : (e : Entry) (n : Lit) → reason_of e.cause ≡ None → n ≡ negation_of e.literal → n ∷ [] ≡ negations_of (decisions (e ∷ []))
+clause_of_decision e n none is = ap (λ l. l ∷ []) is ∙ sym (ap negations_of (decisions_one e true (decided_without_reason e.cause none)))
 
--- the clause and the hints of a conflict, entry by entry
-pub clause_at_decision : (entries items : List Entry) (k : ℕ) (d : Entry) (clause next : List Lit) (o : Option ℕ) (n : Lit) → items ≡ entries → k < length items → o ≡ reason_of (get_or items k d).cause → o ≡ None → n ≡ negation_of (get_or items k d).literal → clause ≡ negations_of (decisions (take k entries)) → next ≡ clause ++ n ∷ [] → next ≡ negations_of (decisions (take (k + 1) entries))
-clause_at_decision entries items k d clause next o n same within is none is_n so_far e =
-    let x = get_or items k d in
-    let at : slice_get entries k ≡ Some x = read_at entries items k d same within in
-    let decided : is_decision x.cause ≡ true = decided_without_reason x.cause (sym is ∙ none) in
+pub no_clause_of_reason : (e : Entry) (n : ℕ) → reason_of e.cause ≡ Some n → decisions (e ∷ []) ≡ []
+no_clause_of_reason e n some = decisions_one e false (not_decided e.cause n some)
+
+-- the clause of a conflict, entry by entry
+pub clause_more : (entries items : List Entry) (k : ℕ) (d : Entry) (clause next : List Lit) → items ≡ entries → k < length items → d ≡ get_or items k d → clause ≡ negations_of (decisions (take k entries)) → next ≡ clause ++ negations_of (decisions (d ∷ [])) → next ≡ negations_of (decisions (take (k + 1) entries))
+clause_more entries items k d clause next same within read so_far e =
+    let at : slice_get entries k ≡ Some d = read_at entries items k d same within ∙ ap Some (sym read) in
+    let suc_k : k + 1 ≡ suc k = omega arith in
     e
-    ∙ ap (λ c. c ++ n ∷ []) so_far
-    ∙ ap (λ m. negations_of (decisions (take k entries)) ++ m ∷ []) is_n
-    ∙ sym (map-append negation_of (decisions (take k entries)) (x.literal ∷ []))
-    ∙ sym (ap negations_of (decisions_next entries k x true at decided))
-
-pub clause_at_reason : (entries items : List Entry) (k : ℕ) (d : Entry) (clause next : List Lit) (o : Option ℕ) (n : ℕ) → items ≡ entries → k < length items → o ≡ reason_of (get_or items k d).cause → o ≡ Some n → clause ≡ negations_of (decisions (take k entries)) → next ≡ clause → next ≡ negations_of (decisions (take (k + 1) entries))
-clause_at_reason entries items k d clause next o n same within is some so_far e =
-    let x = get_or items k d in
-    let at : slice_get entries k ≡ Some x = read_at entries items k d same within in
-    let forced : is_decision x.cause ≡ false = not_decided x.cause n (sym is ∙ some) in
-    e ∙ so_far
-    ∙ sym (ap negations_of (decisions_next entries k x false at forced ∙ append-nil (decisions (take k entries))))
-
-pub hints_at_decision : (entries items : List Entry) (k : ℕ) (d : Entry) (hints next : List ℕ) (o : Option ℕ) → items ≡ entries → k < length items → o ≡ reason_of (get_or items k d).cause → o ≡ None → hints ≡ reasons (take k entries) → next ≡ hints → next ≡ reasons (take (k + 1) entries)
-hints_at_decision entries items k d hints next o same within is none so_far e =
-    let x = get_or items k d in
-    e ∙ so_far ∙ sym (reasons_next entries k x None (read_at entries items k d same within) (sym is ∙ none) ∙ append-nil (reasons (take k entries)))
-
-pub hints_at_reason : (entries items : List Entry) (k : ℕ) (d : Entry) (hints next : List ℕ) (o : Option ℕ) (n : ℕ) → items ≡ entries → k < length items → o ≡ reason_of (get_or items k d).cause → o ≡ Some n → hints ≡ reasons (take k entries) → next ≡ hints ++ n ∷ [] → next ≡ reasons (take (k + 1) entries)
-hints_at_reason entries items k d hints next o n same within is some so_far e =
-    let x = get_or items k d in
-    e ∙ ap (λ ns. ns ++ n ∷ []) so_far
-    ∙ sym (reasons_next entries k x (Some n) (read_at entries items k d same within) (sym is ∙ some))
+    ∙ ap (λ c. c ++ negations_of (decisions (d ∷ []))) so_far
+    ∙ sym (
+    ap (λ n. negations_of (decisions (take n entries))) suc_k
+    ∙ ap (λ es. negations_of (decisions es)) (take_next entries k d at)
+    ∙ ap negations_of (decisions-append (take k entries) (d ∷ []))
+    ∙ map-append negation_of (decisions (take k entries)) (decisions (d ∷ []))
+    )
