@@ -73,22 +73,23 @@ not_decided InputDecision n some = cc
 not_decided NonInputDecision n some = cc
 not_decided (Reason number) n some = refl
 
--- the clause and the hints of a conflict, entry by entry
-pub clause_at_decision : (entries items : List Entry) (k : ℕ) (d : Entry) (clause next : List Lit) (o : Option ℕ) (n : Lit) → items ≡ entries → k < length items → o ≡ reason_of (get_or items k d).cause → o ≡ None → n ≡ negation_of (get_or items k d).literal → clause ≡ negations_of (decisions (take k entries)) → next ≡ clause ++ n ∷ [] → next ≡ negations_of (decisions (take (k + 1) entries))
-clause_at_decision entries items k d clause next o n same within is none is_n so_far e =
-    let x = get_or items k d in
-    let at : slice_get entries k ≡ Some x = read_at entries items k d same within in
-    let decided : is_decision x.cause ≡ true = decided_without_reason x.cause (sym is ∙ none) in
-    e
-    ∙ ap (λ c. c ++ n ∷ []) so_far
-    ∙ ap (λ m. negations_of (decisions (take k entries)) ++ m ∷ []) is_n
-    ∙ sym (map-append negation_of (decisions (take k entries)) (x.literal ∷ []))
-    ∙ sym (ap negations_of (decisions_next entries k x true at decided))
+-- the clause of one entry
+pub clause_of_decision : (e : Entry) (n : Lit) → reason_of e.cause ≡ None → n ≡ negation_of e.literal → n ∷ [] ≡ negations_of (decisions (e ∷ []))
+clause_of_decision e n none is = ap (λ l. l ∷ []) is ∙ sym (ap negations_of (decisions_one e true (decided_without_reason e.cause none)))
 
-pub clause_at_reason : (entries items : List Entry) (k : ℕ) (d : Entry) (clause next : List Lit) (o : Option ℕ) (n : ℕ) → items ≡ entries → k < length items → o ≡ reason_of (get_or items k d).cause → o ≡ Some n → clause ≡ negations_of (decisions (take k entries)) → next ≡ clause → next ≡ negations_of (decisions (take (k + 1) entries))
-clause_at_reason entries items k d clause next o n same within is some so_far e =
-    let x = get_or items k d in
-    let at : slice_get entries k ≡ Some x = read_at entries items k d same within in
-    let forced : is_decision x.cause ≡ false = not_decided x.cause n (sym is ∙ some) in
-    e ∙ so_far
-    ∙ sym (ap negations_of (decisions_next entries k x false at forced ∙ append-nil (decisions (take k entries))))
+pub no_clause_of_reason : (e : Entry) (n : ℕ) → reason_of e.cause ≡ Some n → decisions (e ∷ []) ≡ []
+no_clause_of_reason e n some = decisions_one e false (not_decided e.cause n some)
+
+-- the clause of a conflict, entry by entry
+pub clause_more : (entries items : List Entry) (k : ℕ) (d : Entry) (clause next : List Lit) → items ≡ entries → k < length items → d ≡ get_or items k d → clause ≡ negations_of (decisions (take k entries)) → next ≡ clause ++ negations_of (decisions (d ∷ [])) → next ≡ negations_of (decisions (take (k + 1) entries))
+clause_more entries items k d clause next same within read so_far e =
+    let at : slice_get entries k ≡ Some d = read_at entries items k d same within ∙ ap Some (sym read) in
+    let suc_k : k + 1 ≡ suc k = omega arith in
+    e
+    ∙ ap (λ c. c ++ negations_of (decisions (d ∷ []))) so_far
+    ∙ sym (
+    ap (λ n. negations_of (decisions (take n entries))) suc_k
+    ∙ ap (λ es. negations_of (decisions es)) (take_next entries k d at)
+    ∙ ap negations_of (decisions-append (take k entries) (d ∷ []))
+    ∙ map-append negation_of (decisions (take k entries)) (decisions (d ∷ []))
+    )

@@ -2,7 +2,7 @@
 use Rattle.std.proofs.Common.{◌≡◌, ℕ, zero, suc, ◌+◌, ◌<◌, Bool, true, false, cond, None, List, [], ◌∷◌, ◌++◌, Some, length, take, set, get_or, refl, sym, ap, ◌∙◌, arith, inl, inr, subst}
 use Rattle.std.specs.Prelude.{slice_get, ◌⊎◌, Option}
 use Rattle.std.proofs.lemmas.Bool.{cases_Bool, cases_eq, cases_order}
-use Rattle.std.proofs.lemmas.List.{get_or-set_same, get_or-set_other, get_or_read}
+use Rattle.std.proofs.lemmas.List.{get_or-set_same, get_or-set_other}
 use Rattle.clauses.specs.declared.cnf.Cnf.{Cnf}
 use Rattle.clauses.specs.declared.step.Step.{Step}
 use Rattle.clauses.specs.Literal.{Lit, negation_of, IsWithin}
@@ -15,12 +15,19 @@ use Rattle.depth_first.specs.declared.trail.Cause.TheVariants.{InputDecision, No
 use Rattle.depth_first.specs.TrailEntries.{literals, EachFresh, IsOpen, reasons, reason_of, EachForced}
 use Rattle.depth_first.specs.Learned.{is_marked, AllMarked, Marks, NamesMarked, IsInvolved, marked_entries}
 use Rattle.depth_first.proofs.Lists.{some_same, take_next, slice_get_cases, slice_get_in_take, take_take_below}
-use Rattle.depth_first.proofs.HeldLists.{held_left, held_cases, held_one_same, held_last, both_held, open_not_held, open_not_false, literal_at, HeldWithin-take}
-use Rattle.depth_first.proofs.Derived.{next_reasons}
-use Rattle.depth_first.proofs.Decisions.{read_at}
+use Rattle.depth_first.proofs.HeldLists.{held_left, held_cases, held_one_same, held_last, not_held_nil, both_held, open_not_held, open_not_false, literal_at, HeldWithin-take}
+use Rattle.std.proofs.lemmas.List.Elements.{filter-append}
+use Rattle.depth_first.proofs.Decisions.{read_at, reasons-append}
 use Rattle.std.specs.List.{cons_option}
-use Rattle.std.specs.Option.{option_to_list}
 use Rattle.depth_first.proofs.Sets.{clause_within}
+
+pub Marks-start : (marks : List Bool) → Marks [] marks marks
+Marks-start marks =
+    record {
+      all = λ l h. absurd (not_held_nil l h);
+      kept = λ n h. h;
+      only = λ n h. inl h;
+    }
 
 -- a literal of the clause more
 pub Marks-next : (clause : List Lit) (old mid : List Bool) (k : ℕ) (l : Lit) → slice_get clause k ≡ Some l → l.variable < length mid → Marks (take k clause) old mid → Marks (take (k + 1) clause) old (set mid l.variable true)
@@ -140,6 +147,11 @@ step_at [] j clause at = cc
 step_at (s ∷ ss) zero clause at = (s, refl, some_same s.clause clause at)
 step_at (s ∷ ss) (suc j) clause at = step_at ss j clause at
 
+pub clause_of_step : (log : List Step) (j : ℕ) (s : Step) → slice_get log j ≡ Some s → slice_get (clauses_of_steps log) j ≡ Some s.clause
+clause_of_step [] j s at = cc
+clause_of_step (t ∷ ts) zero s at = let same : t ≡ s = cc in ap (λ (u : Step). Some u.clause) same
+clause_of_step (t ∷ ts) (suc j) s at = clause_of_step ts j s at
+
 -- the variables of the set's and the log's clauses are the set's
 pub with_within : (set : Cnf) (log : List Step) (number : ℕ) (clause : List Lit) → LogFollows set log → slice_get (clauses_with set log) number ≡ Some clause → IsWithin set.count clause
 with_within set log number clause follows at =
@@ -157,35 +169,30 @@ cause_of_reason (Reason number) n some = let e : number ≡ n = cc in ap Reason 
 pub no_reason : (cause : Cause) (n : ℕ) → reason_of cause ≡ None → cause ≡ Reason n → ⊥
 no_reason cause n none is = let e : Some n ≡ None = sym (ap reason_of is) ∙ none in cc
 
--- the hints, entry by entry
-pub hints_next : (entries items : List Entry) (k : ℕ) (d : Entry) (marks : List Bool) (hints next added : List ℕ) (o : Option ℕ) (b : Bool) → items ≡ entries → k < length items → o ≡ reason_of (get_or items k d).cause → is_marked marks (get_or items k d).literal.variable ≡ b → cond b (option_to_list o) [] ≡ added → hints ≡ reasons (marked_entries marks (take k entries)) → next ≡ hints ++ added → next ≡ reasons (marked_entries marks (take (k + 1) entries))
-hints_next entries items k d marks hints next added o b same within is marked adds so_far e =
-    let x = get_or items k d in
-    let suc_k : k + 1 ≡ suc k = omega arith in
-    let at : slice_get entries k ≡ Some x = read_at entries items k d same within in
-    e
-    ∙ ap (λ ns. ns ++ added) so_far
-    ∙ ap (λ ns. reasons (marked_entries marks (take k entries)) ++ ns) (sym adds ∙ one b (reason_of x.cause) is ∙ all x b)
-    ∙ sym (ap (λ n. reasons (marked_entries marks (take n entries))) suc_k ∙ next_reasons entries marks k x b at marked)
+-- the hints of one entry
+pub hint_of_marked : (marks : List Bool) (e : Entry) (n : ℕ) → is_marked marks e.literal.variable ≡ true → reason_of e.cause ≡ Some n → reasons (marked_entries marks (e ∷ [])) ≡ n ∷ []
+hint_of_marked marks e n marked some = ap (λ b. reasons (cond b (e ∷ []) [])) marked ∙ ap (λ o. cons_option o []) some
+
+pub no_hint_unmarked : (marks : List Bool) (e : Entry) → is_marked marks e.literal.variable ≡ false → reasons (marked_entries marks (e ∷ [])) ≡ []
+no_hint_unmarked marks e unmarked = ap (λ b. reasons (cond b (e ∷ []) [])) unmarked
+
+pub no_hint_of_decision : (marks : List Bool) (e : Entry) → reason_of e.cause ≡ None → reasons (marked_entries marks (e ∷ [])) ≡ []
+no_hint_of_decision marks e none = one (is_marked marks e.literal.variable)
   where
-    one : (b : Bool) (r : Option ℕ) → o ≡ r → cond b (option_to_list o) [] ≡ cond b (option_to_list r) []
-    one b r is = ap (λ p. cond b (option_to_list p) []) is
+    one : (b : Bool) → reasons (cond b (e ∷ []) []) ≡ []
+    one true = ap (λ o. cons_option o []) none
+    one false = refl
 
-    options : (p : Option ℕ) → option_to_list p ≡ cons_option p []
-    options None = refl
-    options (Some n) = refl
-
-    all : (x : Entry) (b : Bool) → cond b (option_to_list (reason_of x.cause)) [] ≡ reasons (cond b (x ∷ []) [])
-    all x true = options (reason_of x.cause)
-    all x false = refl
-
-pub none_added : (b : Bool) (o : Option ℕ) → o ≡ None → cond b (option_to_list o) [] ≡ []
-none_added true o none = ap option_to_list none
-none_added false o none = refl
-
--- the mark that is read for an entry's variable
-pub mark_read : (entries items : List Entry) (k : ℕ) (d : Entry) (values : List (Option Bool)) (marks : List Bool) (mark b : Bool) → EachFresh values entries → length marks ≡ length values → items ≡ entries → k < length items → mark ≡ get_or marks (get_or items k d).literal.variable mark → mark ≡ b → is_marked marks (get_or items k d).literal.variable ≡ b
-mark_read entries items k d values marks mark b fresh size same within read is =
-    let x = get_or items k d in
-    let room = (fresh k x (read_at entries items k d same within)).1 in
-    sym (get_or_read marks x.literal.variable mark (omega (arith, room, size)) read false) ∙ is
+-- the hints of a conflict, entry by entry
+pub hints_more : (entries items : List Entry) (k : ℕ) (d : Entry) (marks : List Bool) (hints next : List ℕ) → items ≡ entries → k < length items → d ≡ get_or items k d → hints ≡ reasons (marked_entries marks (take k entries)) → next ≡ hints ++ reasons (marked_entries marks (d ∷ [])) → next ≡ reasons (marked_entries marks (take (k + 1) entries))
+hints_more entries items k d marks hints next same within read so_far e =
+    let at : slice_get entries k ≡ Some d = read_at entries items k d same within ∙ ap Some (sym read) in
+    let suc_k : k + 1 ≡ suc k = omega arith in
+    e
+    ∙ ap (λ ns. ns ++ reasons (marked_entries marks (d ∷ []))) so_far
+    ∙ sym (
+    ap (λ n. reasons (marked_entries marks (take n entries))) suc_k
+    ∙ ap (λ es. reasons (marked_entries marks es)) (take_next entries k d at)
+    ∙ ap reasons (filter-append (λ (f : Entry). is_marked marks f.literal.variable) (take k entries) (d ∷ []))
+    ∙ reasons-append (marked_entries marks (take k entries)) (marked_entries marks (d ∷ []))
+    )

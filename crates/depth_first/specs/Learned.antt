@@ -1,8 +1,10 @@
 -- What is learned of a conflict: which variables it rests on, and the step that shows it.
 use Rattle.std.specs.Prelude.{◌≡◌, ℕ, ◌≤◌, ◌++◌, ◌⊎◌, Bool, true, false, List, [], ◌∷◌, Some, filter, slice_get, slice_index_or}
 use Rattle.clauses.specs.Literal.{Lit}
+use Rattle.clauses.specs.declared.cnf.Cnf.{Cnf}
 use Rattle.clauses.specs.declared.step.Step.{Step}
 use Rattle.clauses.specs.Propagation.{is_held, negations_of}
+use Rattle.clauses.specs.ClauseSet.{StepFollows, clauses_with}
 use Rattle.depth_first.specs.declared.trail.Entry.{Entry}
 use Rattle.depth_first.specs.declared.trail.Cause.TheVariants.{Reason}
 use Rattle.depth_first.specs.TrailEntries.{decisions, reasons}
@@ -42,3 +44,10 @@ pub record IsLearnedStep (clauses : List (List Lit)) (entries : List Entry) (con
   pub involved : IsInvolved clauses entries conflict 0 marks
   pub clause_is : step.clause ≡ negations_of (decisions entries)
   pub hints_are : step.hints ≡ reasons (marked_entries marks entries) ++ conflict ∷ []
+
+-- The log has one step more: the clause of the negated decisions, which follows.
+pub record Learns (set : Cnf) (entries : List Entry) (old new : List Step) : Type 0 where
+  pub step : Step
+  pub is : new ≡ old ++ step ∷ []
+  pub clause_is : step.clause ≡ negations_of (decisions entries)
+  pub follows : StepFollows set (clauses_with set old) step

@@ -1,20 +1,22 @@
 //! Going down decision by decision.
 
-ghost use Rattle.std.specs.Prelude.{◌≡◌, ◌+◌, ◌^◌, ◌<◌, ◌≤◌, ◌↔◌, ℕ, Contains, length, IfOk, IfSome, IfNone, IsTrue};
+ghost use Rattle.std.specs.Prelude.{◌≡◌, ◌+◌, ◌^◌, ◌<◌, ◌≤◌, ◌↔◌, ℕ, [], Contains, length, IfOk, OnOk, IfSome, IfNone, IsTrue};
 ghost use Rattle.clauses.specs.Literal.{IsVariable};
 ghost use Rattle.clauses.specs.Propagation.{NamesFalse};
-ghost use Rattle.clauses.specs.ClauseSet.{all_clauses};
+ghost use Rattle.clauses.specs.ClauseSet.{LogFollows, all_clauses, clauses_with};
 ghost use Rattle.depth_first.specs.Found.{IsFound, distinct_count, most_conflicts};
-ghost use Rattle.depth_first.specs.TrailEntries.{literals, Grows, IsOpen, IsSet};
+ghost use Rattle.depth_first.specs.TrailEntries.{literals, Grows, IsFlipped, IsOpen, IsSet};
 ghost use Rattle.depth_first.specs.Propagated.{IsPropagatedUpTo};
-ghost use Rattle.depth_first.specs.DepthFirst.{InputsSet, IsNext};
+ghost use Rattle.depth_first.specs.DepthFirst.{EachCaused, InputsSet, IsNext};
+ghost use Rattle.depth_first.specs.Learned.{Learns};
+ghost use Rattle.depth_first.specs.OccurrenceLists.{IsIndexOf};
 
 use crate::Found;
 use crate::learned::{learned, refutation};
 use crate::occurrences::Occurrences;
 use crate::propagation::{propagate, propagate_clauses};
 use crate::trail::{Cause, Entry, Trail};
-use clauses::{Cnf, Lit};
+use clauses::{Cnf, Lit, Step};
 use lists::List;
 use std::alloc::{AllocError, Global};
 
@@ -103,6 +105,94 @@ fn may_give_up(last: Entry) -> bool
     }
 }
 
+/// Learns from the conflict at a clause, and flips the last decision, which stands at `place`.
+fn learn_and_flip(
+    alloc: Global,
+    cnf: &Cnf,
+    log: &mut Vec<Step>,
+    trail: &mut Trail,
+    conflict: u32,
+    place: usize,
+) -> Result<(), AllocError>
+    requires variables { length trail.old.values.items ≡ cnf.now.count + 1 }
+    requires few { length (clauses_with cnf.now log.old.items) < 2 ^ 32 }
+    requires follows { LogFollows cnf.now log.old.items }
+    requires caused { EachCaused cnf.now log.old.items trail.old.entries.items }
+    requires falsified { NamesFalse (clauses_with cnf.now log.old.items) (literals trail.old.entries.items) conflict }
+    requires within { place < length trail.old.entries.items }
+    ensures same_variables { length trail.new.values.items ≡ length trail.old.values.items }
+    ensures learns { OnOk result (Learns cnf.now trail.old.entries.items log.old.items log.new.items) }
+    ensures flipped { OnOk result (IsFlipped trail.old.entries.items place (length (clauses_with cnf.now log.old.items)) trail.new.entries.items) }
+{
+    let number = cnf.clause_count() + log.len() as u32;
+    let step = learned(alloc, cnf, log, trail, conflict)?;
+    log.push(step)?;
+    trail.flip_decision(place, number)?;
+    Ok(())
+}
+
+/// Propagates, decides, and learns where a decision is flipped, first by the entries that the clauses alone force, which
+/// all wait.
+fn decide_and_flip(
+    alloc: Global,
+    cnf: &Cnf,
+    limit: u32,
+    occurrences: &Occurrences,
+    trail: &mut Trail,
+) -> Result<Found, AllocError>
+    requires limit { limit ≤ most_conflicts }
+    requires few { distinct_count cnf.now.inputs ≤ 12 }
+    requires index { IsIndexOf cnf.now occurrences.now }
+    requires variables { length trail.old.values.items ≡ cnf.now.count + 1 }
+    requires grown { Grows (all_clauses cnf.now) [] trail.old.entries.items }
+    requires up_to_head { IsPropagatedUpTo (all_clauses cnf.now) trail.old.entries.items 0 }
+    ensures { IfOk result (IsFound cnf.now limit) }
+{
+    let mut log = Vec::new(alloc);
+    let mut head = 0;
+    loop {
+        let Some(conflict) = propagate(cnf, occurrences, trail, head)? else {
+            let Some(entry) = next_decision(cnf, trail) else {
+                return Ok(Found::Sat(trail.assignment(alloc)?));
+            };
+            head = trail.entries.len();
+            trail.push(entry)?;
+            continue;
+        };
+        let Some(place) = trail.last_decision() else {
+            return Ok(Found::Unsat(refutation(alloc, cnf, trail, log, conflict)?));
+        };
+        if log.len() >= limit as usize && may_give_up(trail.entries[place]) {
+            log.truncate(limit as usize);
+            return Ok(Found::Limit(List::from_vec(log)));
+        }
+        learn_and_flip(alloc, cnf, &mut log, trail, conflict, place)?;
+        head = place;
+    }
+}
+
+/// Searches with a trail that is still empty.
+fn search_in(
+    alloc: Global,
+    cnf: &Cnf,
+    limit: u32,
+    occurrences: &Occurrences,
+    trail: &mut Trail,
+) -> Result<Found, AllocError>
+    requires limit { limit ≤ most_conflicts }
+    requires few { distinct_count cnf.now.inputs ≤ 12 }
+    requires index { IsIndexOf cnf.now occurrences.now }
+    requires variables { length trail.old.values.items ≡ cnf.now.count + 1 }
+    requires empty { trail.old.entries.items ≡ [] }
+    ensures { IfOk result (IsFound cnf.now limit) }
+{
+    if let Some(conflict) = propagate_all_clauses(alloc, cnf, trail)? {
+        let log = Vec::new(alloc);
+        return Ok(Found::Unsat(refutation(alloc, cnf, trail, log, conflict)?));
+    }
+    decide_and_flip(alloc, cnf, limit, occurrences, trail)
+}
+
 /// Searches for a model of all clauses, and gives up after `limit` learned clauses. The empty clause that ends a
 /// refutation isn't counted. A limit is at most 1,000,000, so that clause numbers fit a `u32`.
 ///
@@ -120,31 +210,5 @@ pub fn search(alloc: Global, cnf: &Cnf, limit: u32) -> Result<Found, AllocError>
 {
     let occurrences = Occurrences::new(alloc, cnf)?;
     let mut trail = Trail::new(alloc, cnf.count)?;
-    let mut log = Vec::new(alloc);
-    if let Some(conflict) = propagate_all_clauses(alloc, cnf, &mut trail)? {
-        return Ok(Found::Unsat(refutation(alloc, cnf, &trail, log, conflict)?));
-    }
-    let mut head = 0;
-    loop {
-        let Some(conflict) = propagate(cnf, &occurrences, &mut trail, head)? else {
-            let Some(entry) = next_decision(cnf, &trail) else {
-                return Ok(Found::Sat(trail.assignment(alloc)?));
-            };
-            head = trail.entries.len();
-            trail.push(entry)?;
-            continue;
-        };
-        let Some(place) = trail.last_decision() else {
-            let refutation = refutation(alloc, cnf, &trail, log, conflict)?;
-            return Ok(Found::Unsat(refutation));
-        };
-        if log.len() >= limit as usize && may_give_up(trail.entries[place]) {
-            log.truncate(limit as usize);
-            return Ok(Found::Limit(List::from_vec(log)));
-        }
-        let number = cnf.clause_count() + log.len() as u32;
-        log.push(learned(alloc, cnf, &log, &trail, conflict)?)?;
-        trail.flip_decision(place, number)?;
-        head = place;
-    }
+    search_in(alloc, cnf, limit, &occurrences, &mut trail)
 }

@@ -1,13 +1,13 @@
 //! The clause that a conflict shows.
 
-ghost use Rattle.std.specs.Prelude.{◌≡◌, ◌+◌, ◌<◌, [], length, All, Some, slice_get, IfOk};
-ghost use Rattle.clauses.specs.Propagation.{NamesFalse};
+ghost use Rattle.std.specs.Prelude.{◌≡◌, ◌+◌, ◌<◌, ◌++◌, ◌∷◌, [], length, All, Some, slice_get, IfOk, OnOk};
+ghost use Rattle.clauses.specs.Propagation.{NamesFalse, negations_of};
 ghost use Rattle.clauses.specs.ClauseSet.{LogFollows, StepFollows, IsRefutation, clauses_with};
-ghost use Rattle.depth_first.specs.TrailEntries.{literals, decisions};
+ghost use Rattle.depth_first.specs.TrailEntries.{literals, decisions, reasons};
 ghost use Rattle.depth_first.specs.DepthFirst.{EachCaused};
-ghost use Rattle.depth_first.specs.Learned.{Marks, IsInvolved, IsLearnedStep};
+ghost use Rattle.depth_first.specs.Learned.{Marks, IsInvolved, IsLearnedStep, marked_entries};
 
-use crate::trail::Trail;
+use crate::trail::{Entry, Trail};
 use clauses::{Clause, Cnf, Lit, Log, Step, clause_in};
 use lists::List;
 use std::alloc::{AllocError, Global};
@@ -29,20 +29,41 @@ pub(crate) fn learned(
     ensures follows { IfOk result (StepFollows cnf.now (clauses_with cnf.now log.now)) }
 {
     let involved = involved(alloc, cnf, log, trail, conflict)?;
-    let mut clause = Clause::new(alloc);
-    let mut hints = List::new(alloc);
-    for entry in &trail.entries {
-        match entry.cause.reason() {
-            Some(number) => {
-                if involved[entry.literal.variable() as usize] {
-                    hints.push(number)?;
-                }
-            }
-            None => clause.push(entry.literal.negation())?,
-        }
+    step_of(alloc, trail, &involved, conflict)
+}
+
+/// Adds an entry to a step: the negation of a decision, or the reason of what is marked.
+fn add_entry(entry: &Entry, marked: &[bool], step: &mut Step) -> Result<(), AllocError>
+    requires { entry.now.literal.variable < length marked.now }
+    ensures clause { OnOk result (step.new.clause ≡ step.old.clause ++ negations_of (decisions (entry.now ∷ []))) }
+    ensures hints { OnOk result (step.new.hints ≡ step.old.hints ++ reasons (marked_entries marked.now (entry.now ∷ []))) }
+{
+    let Some(number) = entry.cause.reason() else {
+        step.clause.push(entry.literal.negation())?;
+        return Ok(());
+    };
+    let is_marked = marked[entry.literal.variable() as usize];
+    if is_marked {
+        step.hints.push(number)?;
     }
-    hints.push(conflict)?;
-    Ok(Step { clause, hints })
+    Ok(())
+}
+
+/// The clause of the negated decisions, whose hints are the reasons, in order, of what is marked, and then this number.
+fn step_of(alloc: Global, trail: &Trail, marked: &[bool], conflict: u32) -> Result<Step, AllocError>
+    requires { length marked.now ≡ length trail.now.values.items }
+    ensures clause { IfOk result (λ step. step.clause ≡ negations_of (decisions trail.now.entries.items)) }
+    ensures hints { IfOk result (λ step. step.hints ≡ reasons (marked_entries marked.now trail.now.entries.items) ++ conflict ∷ []) }
+{
+    let mut step = Step {
+        clause: Clause::new(alloc),
+        hints: List::new(alloc),
+    };
+    for entry in &trail.entries {
+        add_entry(entry, marked, &mut step)?;
+    }
+    step.hints.push(conflict)?;
+    Ok(step)
 }
 
 /// The refutation that a conflict without decisions shows: the log, ended by the empty clause.

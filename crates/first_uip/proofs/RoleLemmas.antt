@@ -1,17 +1,17 @@
 -- The parts of variables in a conflict, step by step.
-use Rattle.std.proofs.Common.{◌≡◌, ℕ, zero, suc, ◌+◌, ◌<◌, Bool, true, false, not, cond, List, [], ◌∷◌, ◌++◌, Option, Some, None, length, take, set, refl, sym, ap, ◌∙◌, arith, inl, inr, subst}
-use Rattle.std.specs.Prelude.{slice_get, ◌⊎◌}
+use Rattle.std.proofs.Common.{◌≡◌, ℕ, zero, suc, ◌+◌, ◌<◌, ◌≤◌, Bool, true, false, not, cond, List, [], ◌∷◌, ◌++◌, Option, Some, None, length, take, set, refl, sym, ap, ◌∙◌, arith, inl, inr, subst}
+use Rattle.std.specs.Prelude.{slice_get, replicate, ◌⊎◌}
 use Rattle.std.proofs.lemmas.Bool.{cases_Bool, cases_eq, cases_order, true≢false}
-use Rattle.std.proofs.lemmas.List.{get_or-set_same, get_or-set_other}
+use Rattle.std.proofs.lemmas.List.{get_or-set_same, get_or-set_other, map-append}
 use Rattle.clauses.specs.Literal.{Lit, negation_of}
-use Rattle.clauses.specs.Propagation.{is_held, is_false}
+use Rattle.clauses.specs.Propagation.{is_held, is_false, negations_of}
 use Rattle.clauses.proofs.Units.{unit_only}
 use Rattle.depth_first.specs.declared.trail.Entry.{Entry}
 use Rattle.depth_first.specs.declared.trail.Cause.TheVariants.{InputDecision, NonInputDecision, Reason}
 use Rattle.depth_first.specs.TrailEntries.{literals, EachFresh, IsOpen, is_decision, reason_of, reasons}
 use Rattle.depth_first.specs.declared.trail.Cause.{Cause}
 use Rattle.depth_first.proofs.Lists.{some_same, take_next, slice_get_in_take, take_take_below}
-use Rattle.depth_first.proofs.HeldLists.{held_left, held_cases, held_one_same, held_last, both_held, open_not_held, open_not_false, literal_at, HeldWithin-take}
+use Rattle.depth_first.proofs.HeldLists.{held_left, held_cases, held_one_same, held_last, not_held_nil, both_held, open_not_held, open_not_false, literal_at, literals-append, HeldWithin-take}
 use Rattle.depth_first.specs.TrailEntries.{EachForced}
 use Rattle.depth_first.proofs.Decisions.{reasons-append}
 use Rattle.std.specs.Option.{option_to_list}
@@ -20,7 +20,16 @@ use denote.Enum.Bare.{sameb}
 use Rattle.first_uip.specs.contracts.roles.Role.{the_type}
 use Rattle.first_uip.specs.declared.roles.Role.{Role}
 use Rattle.first_uip.specs.declared.roles.Role.TheVariants.{Unseen, Resolved, Kept}
-use Rattle.first_uip.specs.Conflict.{role_of, is_seen, is_kept, is_resolved, part_of, AllSeen, Sees, NamesSeen, IsResolution, NoneSeen, NoneDecided, resolved_entries}
+use Rattle.first_uip.specs.Conflict.{role_of, is_seen, is_kept, is_resolved, part_of, AllSeen, Sees, NamesSeen, IsResolution, NoneSeen, NoneKept, NoneDecided, kept_entries, resolved_entries}
+
+pub Sees-start : (roles : List Role) → Sees [] roles roles
+Sees-start roles =
+    record {
+      all = λ l h. absurd (not_held_nil l h);
+      still = λ n h. h;
+      same_kept = λ n. refl;
+      only = λ n h. inl h;
+    }
 
 next_clause : (clause : List Lit) (k : ℕ) (l : Lit) → slice_get clause k ≡ Some l → take (k + 1) clause ≡ take k clause ++ l ∷ []
 next_clause clause k l at = let e : k + 1 ≡ suc k = omega arith in ap (λ n. take n clause) e ∙ take_next clause k l at
@@ -43,6 +52,9 @@ Sees-skip clause old mid k l at seen so_far =
             | inr (m, stands, is) ↦ inr (m, ap (λ c. is_held c m) next ∙ held_left (take k clause) (l ∷ []) m stands, is)
           ];
     }
+
+unseen_kept : (r : Role) → r ≡ Unseen → is_kept r ≡ false
+unseen_kept r is = ap is_kept is
 
 -- one whose variable wasn't
 pub Sees-next : (clause : List Lit) (old mid : List Role) (k : ℕ) (l : Lit) → slice_get clause k ≡ Some l → l.variable < length mid → role_of mid l.variable ≡ Unseen → Sees (take k clause) old mid → Sees (take (k + 1) clause) old (set mid l.variable Resolved)
@@ -98,6 +110,21 @@ IsResolution-start clauses entries conflict clause old roles at sees =
     below [] k x at = cc
     below (z ∷ zs) zero x at = omega arith
     below (z ∷ zs) (suc k) x at = let h : k < length zs = below zs k x at in omega arith
+
+-- an entry that isn't seen, or is kept
+pub IsResolution-skip : (clauses : List (List Lit)) (entries : List Entry) (conflict place : ℕ) (e : Entry) (roles : List Role) → slice_get entries place ≡ Some e → (is_seen (part_of roles e) ≡ true → is_kept (part_of roles e) ≡ false → ⊥) → IsResolution clauses entries conflict (place + 1) roles → IsResolution clauses entries conflict place roles
+IsResolution-skip clauses entries conflict place e roles at skips so_far =
+    record {
+      falsified = so_far.falsified;
+      reasons_too = λ k f past there seen kept.
+          elim (cases_order k place) [
+            | inl same ↦
+                let es : f ≡ e = some_same f e (sym there ∙ ap (slice_get entries) same ∙ at) in
+                absurd (skips (sym (ap (λ (g : Entry). is_seen (part_of roles g)) es) ∙ seen) (sym (ap (λ (g : Entry). is_kept (part_of roles g)) es) ∙ kept))
+            | inr (inl less) ↦ absurd (omega arith)
+            | inr (inr more) ↦ so_far.reasons_too k f (omega arith) there seen kept
+          ];
+    }
 
 -- the variables of a reason have values where it forces, so no later entry is of them
 set_before : (values : List (Option Bool)) (entries : List Entry) (place k : ℕ) (e f : Entry) (l : Lit) → EachFresh values entries → slice_get entries place ≡ Some e → slice_get entries k ≡ Some f → place < k → (is_false (literals (take place entries)) l ≡ true) ⊎ (l ≡ e.literal) → l.variable ≡ f.literal.variable → ⊥
@@ -198,6 +225,12 @@ reason_if_undecided InputDecision is none = true≢false is
 reason_if_undecided NonInputDecision is none = true≢false is
 reason_if_undecided (Reason number) is none = cc
 
+-- a table where nothing is seen
+pub unseen_everywhere : (m n : ℕ) → role_of (replicate m Unseen) n ≡ Unseen
+unseen_everywhere zero n = refl
+unseen_everywhere (suc m) zero = refl
+unseen_everywhere (suc m) (suc n) = unseen_everywhere m n
+
 -- tests of a part
 pub unseen_if : (r : Role) → sameb the_type r Unseen ≡ true → r ≡ Unseen
 unseen_if Unseen h = refl
@@ -224,6 +257,29 @@ resolved_is Unseen b h = h
 resolved_is Resolved b h = h
 resolved_is Kept b h = h
 
+pub kept_is : (r : Role) (b : Bool) → sameb the_type r Kept ≡ b → is_kept r ≡ b
+kept_is Unseen b h = h
+kept_is Resolved b h = h
+kept_is Kept b h = h
+
+-- one entry more, before the others, that isn't kept
+pub NoneKept-before : (entries : List Entry) (roles : List Role) (place next to : ℕ) (e : Entry) → next ≤ place + 1 → slice_get entries place ≡ Some e → is_kept (part_of roles e) ≡ false → NoneKept entries roles next to → NoneKept entries roles place to
+NoneKept-before entries roles place next to e near at unkept later k f from below there =
+    elim (cases_order k place) [
+      | inl same ↦ ap (λ (g : Entry). is_kept (part_of roles g)) (some_same f e (sym there ∙ ap (slice_get entries) same ∙ at)) ∙ unkept
+      | inr (inl less) ↦ absurd (omega arith)
+      | inr (inr more) ↦ later k f (omega arith) below there
+    ]
+
+-- and one that wasn't decided
+pub NoneDecided-before : (entries : List Entry) (place next to : ℕ) (e : Entry) → next ≤ place + 1 → slice_get entries place ≡ Some e → is_decision e.cause ≡ false → NoneDecided entries next to → NoneDecided entries place to
+NoneDecided-before entries place next to e near at undecided later k f from below there =
+    elim (cases_order k place) [
+      | inl same ↦ ap (λ (g : Entry). is_decision g.cause) (some_same f e (sym there ∙ ap (slice_get entries) same ∙ at)) ∙ undecided
+      | inr (inl less) ↦ absurd (omega arith)
+      | inr (inr more) ↦ later k f (omega arith) below there
+    ]
+
 pub none_decided_here : (entries : List Entry) (place number : ℕ) (e : Entry) → slice_get entries place ≡ Some e → e.cause ≡ Reason number → NoneDecided entries place (place + 1)
 none_decided_here entries place number e at cause k f from below there =
     let same : k ≡ place = omega arith in
@@ -249,4 +305,21 @@ hints_next entries roles k e hints next added b at resolved adds so_far is =
   where
     one : (c : Bool) → reasons (cond c (e ∷ []) []) ≡ cond c (option_to_list (reason_of e.cause)) []
     one true = reasons_one e.cause e.literal
+    one false = refl
+
+-- the clause, entry by entry
+pub clause_next : (entries : List Entry) (roles : List Role) (k : ℕ) (e : Entry) (clause next added : List Lit) (b : Bool) → slice_get entries k ≡ Some e → is_kept (part_of roles e) ≡ b → added ≡ cond b (negation_of e.literal ∷ []) [] → clause ≡ negations_of (literals (kept_entries roles (take k entries))) → next ≡ clause ++ added → next ≡ negations_of (literals (kept_entries roles (take (k + 1) entries)))
+clause_next entries roles k e clause next added b at kept adds so_far is =
+    let before = kept_entries roles (take k entries) in
+    let suc_k : take (k + 1) entries ≡ take k entries ++ e ∷ [] = let s : k + 1 ≡ suc k = omega arith in ap (λ n. take n entries) s ∙ take_next entries k e at in
+    let parts : negations_of (literals (kept_entries roles (take (k + 1) entries))) ≡ negations_of (literals before) ++ negations_of (literals (cond b (e ∷ []) [])) =
+    ap (λ es. negations_of (literals (kept_entries roles es))) suc_k
+    ∙ ap (λ es. negations_of (literals es)) (filter-append (λ (f : Entry). is_kept (part_of roles f)) (take k entries) (e ∷ []))
+    ∙ ap negations_of (literals-append before (kept_entries roles (e ∷ [])))
+    ∙ map-append negation_of (literals before) (literals (kept_entries roles (e ∷ [])))
+    ∙ ap (λ c. negations_of (literals before) ++ negations_of (literals (cond c (e ∷ []) []))) kept in
+    is ∙ ap (λ ls. ls ++ added) so_far ∙ ap (λ ls. negations_of (literals before) ++ ls) (adds ∙ one b) ∙ sym parts
+  where
+    one : (c : Bool) → cond c (negation_of e.literal ∷ []) [] ≡ negations_of (literals (cond c (e ∷ []) []))
+    one true = refl
     one false = refl

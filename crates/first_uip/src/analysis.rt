@@ -301,6 +301,47 @@ fn learned_of(
     })
 }
 
+/// What the conflict at a clause shows, and the entries on which it rests, by tables where nothing is noted yet.
+fn analyse_in(
+    alloc: Global,
+    cnf: &Cnf,
+    log: &[Step],
+    trail: &Trail,
+    places: &[usize],
+    conflict: u32,
+    start: usize,
+    implied: &mut [Option<bool>],
+    blocks: &mut [bool],
+    roles: &mut [Role],
+) -> Result<(Learned, Vec<Entry>), AllocError>
+    requires variables { length trail.now.values.items ≡ cnf.now.count + 1 }
+    requires places { length places.now ≡ cnf.now.count + 1 }
+    requires placed { IsPlaced places.now trail.now.entries.items (length trail.now.entries.items) }
+    requires implied { length implied.old ≡ cnf.now.count + 1 }
+    requires size { length roles.old ≡ cnf.now.count + 1 }
+    requires unseen { (n : ℕ) → role_of roles.old n ≡ Role.Unseen }
+    requires follows { LogFollows cnf.now log.now }
+    requires forced { EachForced (clauses_with cnf.now log.now) trail.now.entries.items }
+    requires falsified { NamesFalse (clauses_with cnf.now log.now) (literals trail.now.entries.items) conflict }
+    requires last { IsLastLevel trail.now.entries.items start }
+    requires closed { IsClosed (clauses_with cnf.now log.now) (literals (take start trail.now.entries.items)) }
+    ensures follows { IfOk result (λ all. StepFollows cnf.now (clauses_with cnf.now log.now) all.0.step) }
+    ensures new { IfOk result (λ all. IsNew (clauses_with cnf.now log.now) all.0.step.clause) }
+    ensures not_empty { IfOk result (λ all. all.0.step.clause ≡ [] → ⊥) }
+    ensures asserting { IfOk result (λ all. IsAsserting trail.now.entries.items all.0.jump all.0.step.clause all.0.asserted) }
+    ensures other { IfOk result (λ all. IsOther trail.now.entries.items all.0.jump all.0.step.clause all.0.asserted all.0.other) }
+    ensures within { IfOk result (λ all. VariablesBelow (cnf.now.count + 1) all.1.items) }
+{
+    let point = give_parts(
+        cnf, log, trail, places, conflict, start, implied, blocks, roles,
+    );
+    let shown = shown_entries(alloc, trail, blocks, roles)?;
+    let learned = learned_of(
+        alloc, cnf, log, trail, &shown, roles, conflict, start, point,
+    )?;
+    Ok((learned, shown))
+}
+
 /// What the conflict at a clause shows, where the last decision stands at `start`, and the entries on which it rests.
 pub(crate) fn analyse(
     alloc: Global,
@@ -329,7 +370,8 @@ pub(crate) fn analyse(
     let mut roles = no_parts(alloc, cnf.count)?;
     let mut implied = vec![in alloc; None; cnf.count as usize + 1]?;
     let mut blocks = vec![in alloc; false; cnf.count as usize / BLOCK + 1]?;
-    let point = give_parts(
+    analyse_in(
+        alloc,
         cnf,
         log,
         trail,
@@ -339,10 +381,5 @@ pub(crate) fn analyse(
         &mut implied,
         &mut blocks,
         &mut roles,
-    );
-    let shown = shown_entries(alloc, trail, &blocks, &roles)?;
-    let learned = learned_of(
-        alloc, cnf, log, trail, &shown, &roles, conflict, start, point,
-    )?;
-    Ok((learned, shown))
+    )
 }

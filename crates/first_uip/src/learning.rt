@@ -1,12 +1,16 @@
 //! The search by conflict-driven clause learning.
 
 ghost use Rattle.std.specs.Prelude.{◌≡◌, ◌+◌, ◌^◌, ◌<◌, ◌≤◌, [], length, take, IfOk, MatchOption, OnOk};
-ghost use Rattle.clauses.specs.ClauseSet.{IsNew, StepFollows, clauses_with};
+ghost use Rattle.clauses.specs.ClauseSet.{IsNew, StepFollows, all_clauses, clauses_with};
+ghost use Rattle.clauses.specs.Propagation.{NamesFalse};
 ghost use Rattle.depth_first.specs.Found.{IsFound, distinct_count, most_conflicts};
 ghost use Rattle.depth_first.specs.DepthFirst.{IsLearned};
-ghost use Rattle.depth_first.specs.TrailEntries.{EachForced};
+ghost use Rattle.depth_first.specs.TrailEntries.{EachForced, Grows, literals};
 ghost use Rattle.first_uip.specs.Watching.{CoversBelow, IsWatching, IsWatchingUpTo};
-ghost use Rattle.first_uip.specs.Conflict.{DecidedAt, IsAsserting, IsOther};
+ghost use Rattle.first_uip.specs.Conflict.{DecidedAt, IsAsserting, IsLastLevel, IsOther};
+ghost use Rattle.first_uip.specs.Marks.{IsPlaced};
+ghost use Rattle.first_uip.specs.Searching.{IsSearching};
+ghost use Rattle.first_uip.specs.Shown.{VariablesBelow};
 
 use crate::analysis::{Learned, analyse, last_decision};
 use crate::arena::Watched;
@@ -81,6 +85,160 @@ fn learn(
     Ok(())
 }
 
+/// The place of the decision to which a search goes back once it has learned a clause that spans so many levels and
+/// jumps to `jump`: an earlier one at a restart.
+fn place_after(
+    policy: &mut Policy,
+    trail: &Trail,
+    places: &[usize],
+    shown: &[Entry],
+    spanned: u32,
+    jump: usize,
+) -> Result<usize, AllocError>
+    requires variables { length trail.now.values.items ≡ length policy.old.negated.items }
+    requires places { length places.now ≡ length policy.old.negated.items }
+    requires shown { VariablesBelow (length policy.old.negated.items) shown.now }
+    requires decided { DecidedAt trail.now.entries.items jump }
+    ensures sizes { length policy.new.negated.items ≡ length policy.old.negated.items }
+    ensures decided { IfOk result (DecidedAt trail.now.entries.items) }
+    ensures within { IfOk result (λ place. place ≤ jump) }
+{
+    if !policy.count_conflict(shown, spanned) {
+        policy.release(trail, jump)?;
+        return Ok(jump);
+    }
+    let place = policy.restart_place(trail, places, jump)?;
+    policy.release(trail, place)?;
+    Ok(place)
+}
+
+/// Learns from the conflict at a clause, where the last decision stands at `start`, and goes back to the place of a
+/// decision, from which on the entries wait.
+fn learn_from(
+    alloc: Global,
+    cnf: &Cnf,
+    log: &mut Vec<Step>,
+    watches: &mut Watches,
+    trail: &mut Trail,
+    policy: &mut Policy,
+    places: &[usize],
+    levels: &[u32],
+    conflict: u32,
+    start: usize,
+) -> Result<usize, AllocError>
+    requires variables { length trail.old.values.items ≡ cnf.now.count + 1 }
+    requires covers { CoversBelow (cnf.now.count + 1) watches.old }
+    requires few { length (clauses_with cnf.now log.old.items) < 2 ^ 32 }
+    requires log_learned { IsLearned cnf.now log.old.items }
+    requires forced { EachForced (clauses_with cnf.now log.old.items) trail.old.entries.items }
+    requires watching { IsWatching (clauses_with cnf.now log.old.items) watches.old trail.old.entries.items }
+    requires sizes { length policy.old.negated.items ≡ cnf.now.count + 1 }
+    requires places { length places.now ≡ cnf.now.count + 1 }
+    requires placed { IsPlaced places.now trail.old.entries.items (length trail.old.entries.items) }
+    requires falsified { NamesFalse (clauses_with cnf.now log.old.items) (literals trail.old.entries.items) conflict }
+    requires last { IsLastLevel trail.old.entries.items start }
+    ensures same_variables { length trail.new.values.items ≡ length trail.old.values.items }
+    ensures covers { CoversBelow (cnf.now.count + 1) watches.new }
+    ensures sizes { length policy.new.negated.items ≡ length policy.old.negated.items }
+    ensures decided { IfOk result (DecidedAt trail.old.entries.items) }
+    ensures kept { IfOk result (λ place. take place trail.new.entries.items ≡ take place trail.old.entries.items) }
+    ensures longer { OnOk result (length log.new.items ≡ length log.old.items + 1) }
+    ensures state { IfOk result (IsSearching cnf.now log.new.items watches.new trail.new.entries.items) }
+{
+    let (learned, shown) = analyse(alloc, cnf, log, trail, places, conflict, start)?;
+    let spanned = levels_of(learned.step.clause.as_slice(), levels);
+    let place = place_after(policy, trail, places, &shown, spanned, learned.jump)?;
+    learn(cnf, log, watches, trail, learned, place)?;
+    Ok(place)
+}
+
+/// Propagates, decides and learns, first by the entries that the clauses alone force, which all wait.
+fn decide_and_learn(
+    alloc: Global,
+    cnf: &Cnf,
+    limit: u32,
+    watches: &mut Watches,
+    trail: &mut Trail,
+    policy: &mut Policy,
+    places: &mut [usize],
+    levels: &mut [u32],
+) -> Result<Found, AllocError>
+    requires limit { limit ≤ most_conflicts }
+    requires many { 12 < distinct_count cnf.now.inputs }
+    requires variables { length trail.old.values.items ≡ cnf.now.count + 1 }
+    requires covers { CoversBelow (cnf.now.count + 1) watches.old }
+    requires sizes { length policy.old.negated.items ≡ cnf.now.count + 1 }
+    requires places { length places.old ≡ cnf.now.count + 1 }
+    requires levels { length levels.old ≡ cnf.now.count + 1 }
+    requires grown { Grows (all_clauses cnf.now) [] trail.old.entries.items }
+    requires watching { IsWatchingUpTo (all_clauses cnf.now) watches.old trail.old.entries.items 0 }
+    ensures { IfOk result (IsFound cnf.now limit) }
+{
+    let mut log = Vec::new(alloc);
+    let mut noted = 0;
+    let mut head = 0;
+    loop {
+        let Some(conflict) = propagate(watches, trail, head)? else {
+            let Some(literal) = policy.decision(cnf, trail) else {
+                return Ok(Found::Sat(trail.assignment(alloc)?));
+            };
+            head = trail.entries.len();
+            trail.push(Entry {
+                literal,
+                cause: Cause::InputDecision,
+            })?;
+            continue;
+        };
+        let Some(start) = last_decision(trail) else {
+            return Ok(Found::Unsat(refutation(alloc, cnf, trail, log, conflict)?));
+        };
+        if log.len() >= limit as usize {
+            return Ok(Found::Limit(List::from_vec(log)));
+        }
+        note_places(trail, noted, places, levels);
+        let place = learn_from(
+            alloc, cnf, &mut log, watches, trail, policy, places, levels, conflict, start,
+        )?;
+        noted = place;
+        head = place;
+    }
+}
+
+/// Searches in tables where nothing is noted yet.
+fn search_in(
+    alloc: Global,
+    cnf: &Cnf,
+    limit: u32,
+    watches: &mut Watches,
+    trail: &mut Trail,
+) -> Result<Found, AllocError>
+    requires limit { limit ≤ most_conflicts }
+    requires many { 12 < distinct_count cnf.now.inputs }
+    requires variables { length trail.old.values.items ≡ cnf.now.count + 1 }
+    requires covers { CoversBelow (cnf.now.count + 1) watches.old }
+    requires grown { Grows (all_clauses cnf.now) [] trail.old.entries.items }
+    requires watching { IsWatchingUpTo [] watches.old trail.old.entries.items 0 }
+    ensures { IfOk result (IsFound cnf.now limit) }
+{
+    if let Some(conflict) = add_clauses(cnf, watches, trail)? {
+        let log = Vec::new(alloc);
+        return Ok(Found::Unsat(refutation(alloc, cnf, trail, log, conflict)?));
+    }
+    let mut levels = vec![in alloc; 0u32; cnf.count as usize + 1]?;
+    let mut places = vec![in alloc; 0; cnf.count as usize + 1]?;
+    let mut policy = Policy::new(alloc, cnf)?;
+    decide_and_learn(
+        alloc,
+        cnf,
+        limit,
+        watches,
+        trail,
+        &mut policy,
+        &mut places,
+        &mut levels,
+    )
+}
+
 /// Searches for a model of all clauses, and gives up after `limit` learned clauses. The empty clause that ends a
 /// refutation isn't counted. A limit is at most 1,000,000, so that clause numbers fit a `u32`.
 ///
@@ -92,43 +250,5 @@ pub fn search(alloc: Global, cnf: &Cnf, limit: u32) -> Result<Found, AllocError>
 {
     let mut watches = Watches::new(alloc, cnf.count)?;
     let mut trail = Trail::new(alloc, cnf.count)?;
-    let mut log = Vec::new(alloc);
-    if let Some(conflict) = add_clauses(cnf, &mut watches, &mut trail)? {
-        return Ok(Found::Unsat(refutation(alloc, cnf, &trail, log, conflict)?));
-    }
-    let mut policy = Policy::new(alloc, cnf)?;
-    let mut levels = vec![in alloc; 0u32; cnf.count as usize + 1]?;
-    let mut places = vec![in alloc; 0; cnf.count as usize + 1]?;
-    let mut noted = 0;
-    let mut head = 0;
-    loop {
-        let Some(conflict) = propagate(&mut watches, &mut trail, head)? else {
-            let Some(literal) = policy.decision(cnf, &trail) else {
-                return Ok(Found::Sat(trail.assignment(alloc)?));
-            };
-            head = trail.entries.len();
-            trail.push(Entry {
-                literal,
-                cause: Cause::InputDecision,
-            })?;
-            continue;
-        };
-        let Some(start) = last_decision(&trail) else {
-            return Ok(Found::Unsat(refutation(alloc, cnf, &trail, log, conflict)?));
-        };
-        if log.len() >= limit as usize {
-            return Ok(Found::Limit(List::from_vec(log)));
-        }
-        note_places(&trail, noted, &mut places, &mut levels);
-        let (learned, shown) = analyse(alloc, cnf, &log, &trail, &places, conflict, start)?;
-        let spanned = levels_of(learned.step.clause.as_slice(), &levels);
-        head = if policy.count_conflict(&shown, spanned) {
-            policy.restart_place(&trail, &places, learned.jump)?
-        } else {
-            learned.jump
-        };
-        policy.release(&trail, head)?;
-        learn(cnf, &mut log, &mut watches, &mut trail, learned, head)?;
-        noted = head;
-    }
+    search_in(alloc, cnf, limit, &mut watches, &mut trail)
 }

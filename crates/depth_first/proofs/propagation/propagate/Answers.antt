@@ -1,12 +1,13 @@
-use Rattle.std.proofs.Common.{◌≡◌, ◌+◌, Some, false, length, ◌<◌, refl, ap, sym, ◌∙◌, arith}
+use Rattle.std.proofs.Common.{◌≡◌, ◌+◌, Some, false, length, get_or, ◌<◌, refl, ap, sym, ◌∙◌, arith}
 use Rattle.std.specs.Prelude.{slice_get, is_some}
-use Rattle.std.proofs.lemmas.Option.{slice_get_read}
-use Rattle.clauses.specs.Literal.{negation_of}
+use Rattle.std.proofs.lemmas.Option.{slice_get_read, slice_get-get_or}
+use Rattle.clauses.specs.Literal.{Lit, negation_of}
 use Rattle.clauses.specs.ClauseSet.{all_clauses}
 use Rattle.depth_first.specs.declared.trail.Entry.{Entry}
 use Rattle.depth_first.specs.OccurrenceLists.{numbers_of}
-use Rattle.depth_first.specs.Propagated.{PropagatesClauses}
-use Rattle.depth_first.proofs.Options.{IfNone_at}
+use Rattle.depth_first.specs.TrailEntries.{literals}
+use Rattle.depth_first.specs.Propagated.{AllPropagated, PropagatesClauses}
+use Rattle.depth_first.proofs.Options.{IfNone_at, IfNone_absent}
 use Rattle.depth_first.proofs.PropagationLemmas.{Grows-then, IsPropagatedUpTo-next, AllPropagated-end}
 use Rattle.depth_first.proofs.propagation.propagate.Goals as goal
 
@@ -17,6 +18,30 @@ returns-in_err-conflict-clause-grows c =
 pub returns-then-is_some-clause-grows : goal.returns-then-is_some-clause-grows
 returns-then-is_some-clause-grows c =
     Grows-then _ _ _ _ c.loop-head.invariant.grows c.in_ok-conflict.ensures.grows
+
+pub of-requires : goal.of-requires
+of-requires c =
+    let trail = c.loop-head.trail in
+    let entries = trail.entries.items in
+    let e : Entry = c.index.result.now in
+    let at : slice_get entries c.loop-head.head ≡ Some e =
+    slice_get_read entries (length entries) c.loop-head.head e refl (omega (arith, c.loop-head-test.true, c.len.ensures)) c.index.ensures in
+    let known = (trail.fresh c.loop-head.head e at).1 in
+    let variable : c.negation-falsified.result.variable ≡ e.literal.variable = ap (λ (l : Lit). l.variable) c.negation-falsified.ensures in
+    let covers = c.requires.index.covers in
+    record {
+      positive = omega (arith, known, variable, covers.positive, c.loop-head.invariant.same_variables, c.requires.variables);
+      negative = omega (arith, known, variable, covers.negative, c.loop-head.invariant.same_variables, c.requires.variables);
+    }
+
+pub propagate_clauses-requires-clause-known : goal.propagate_clauses-requires-clause-known
+propagate_clauses-requires-clause-known c =
+    λ k d inside.
+    c.requires.index.all.only c.negation-falsified.result k (get_or c.of.result.now k d) (ap (λ ns. slice_get ns k) (sym c.of.ensures) ∙ slice_get-get_or c.of.result.now k d inside)
+
+pub returns-then-is_some-clause-propagated : goal.returns-then-is_some-clause-propagated
+returns-then-is_some-clause-propagated c =
+    IfNone_absent c.in_ok-conflict.conflict (AllPropagated (all_clauses c.args.cnf.now) (literals c.propagate_clauses.new.trail.entries.items)) (sym c.is_some.ensures ∙ c.if-is_some.true)
 
 pub loop-head-preserved : goal.loop-head-preserved
 loop-head-preserved c =

@@ -1,4 +1,4 @@
-use Rattle.std.proofs.Common.{◌≡◌, ℕ, List, [], ◌∷◌, ◌++◌, Some, None, length, refl, sym, ap, ◌∙◌, subst}
+use Rattle.std.proofs.Common.{◌≡◌, ℕ, List, [], ◌∷◌, ◌++◌, Some, None, length, refl, sym, ap, ◌∙◌, subst, arith}
 use Rattle.std.specs.Prelude.{slice_get}
 use Rattle.std.proofs.lemmas.Option.{slice_get_read}
 use Rattle.clauses.specs.declared.step.Step.{Step}
@@ -17,6 +17,19 @@ use Rattle.first_uip.proofs.analysis.learned_of.Goals.{in-Some, in-None}
 -- the literal at the implication point
 asserted_is : (entries : List Entry) (point : ℕ) (e f : Entry) (u : Lit) → slice_get entries point ≡ Some e → slice_get entries point ≡ Some f → u ≡ negation_of f.literal → u ≡ negation_of e.literal
 asserted_is entries point e f u at there is = is ∙ ap (λ (g : Entry). negation_of g.literal) (some_same f e (sym there ∙ at))
+
+pub index-requires : goal.index-requires
+index-requires c =
+    let analysis = c.requires.analysis in
+    omega (arith, slice_get_below c.args.trail.now.entries.items c.args.point analysis.entry analysis.at, c.args.trail.now.entries.ok.0)
+
+pub index-requires-in-Some : goal.index-requires-in-Some
+index-requires-in-Some c =
+    let entries = c.args.trail.now.entries.items in
+    let found = c.jump_from-jump.result in
+    let jump : IsJump entries c.args.roles.now c.args.start found.place (Some c.in-Some.below) =
+    subst (IsJump entries c.args.roles.now c.args.start found.place) c.in-Some.is c.jump_from-jump.ensures in
+    omega (arith, slice_get_below entries c.in-Some.below jump.kept_below.2.0 jump.kept_below.2.1, c.args.trail.now.entries.ok.0)
 
 pub returns-clause-follows : goal.returns-clause-follows
 returns-clause-follows c =

@@ -27,6 +27,16 @@ loop-place-preserved-then-is_redundant c =
       marked = c.resolve.ensures.marked;
     }
 
+pub bounds-roles-variable : goal.bounds-roles-variable
+bounds-roles-variable c =
+    let trail = c.args.trail.now in
+    let entries = trail.entries.items in
+    let place = c.in-Some.place in
+    let e : Entry = c.index.result.now in
+    let at : slice_get entries place ≡ Some e =
+    slice_get_read entries (length entries) place e refl (omega (arith, c.in-Some.ensures.before, c.loop-place.invariant.within, c.requires.within)) c.index.ensures in
+    omega (arith, (trail.fresh place e at).1, c.variable.ensures, c.requires.variables, c.requires.size, c.loop-place.auto.roles)
+
 pub loop-place-preserved : goal.loop-place-preserved
 loop-place-preserved c =
     let cs = clauses_with c.args.cnf.now c.args.log.now in

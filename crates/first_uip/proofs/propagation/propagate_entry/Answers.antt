@@ -18,6 +18,7 @@ use Rattle.first_uip.specs.Clauses.{clauses_in, watched_in}
 use Rattle.first_uip.specs.Looks.{IsLook}
 use Rattle.first_uip.specs.Watching.{CoversBelow, EachBlocked, EachIsWatch, IsListed, IsWatchingUpTo, numbers_of, watchers_of}
 use Rattle.first_uip.proofs.Listing.{IsListed-drop, IsListed-same}
+use Rattle.first_uip.proofs.Sets.{length_by_drop}
 use Rattle.first_uip.proofs.LookLemmas.{EachBlocked-at, EachBlocked-kept, NamesSatisfied-by, blocker_within, number_at, satisfied_by_blocker}
 use Rattle.first_uip.proofs.Guards.{EachGuardedBut, EachGuardedBut-start, EachGuardedBut-stays, EachGuardedBut-left, EachGuardedBut-end, IsWatchingUpTo-stays, IsWatchingUpTo-leaves, LeavesWatch, leaves_unwatched, slice_get_grown, take_grown, HeldWithin-grown}
 use Rattle.first_uip.proofs.propagation.propagate_entry.Goals as goal
@@ -286,3 +287,24 @@ returns-clause-seen c =
       watching = inv.watching.watching;
       guarded = EachGuardedBut-end _ _ _ _ _ _ past inv.but;
     }
+
+pub loop-place-smaller-then-holds : goal.loop-place-smaller-then-holds
+loop-place-smaller-then-holds c =
+    omega (arith, c.loop-place-test.true, ap length c.of.ensures, length-map (watchers_of c.loop-place.watches c.negation-falsified.result) (λ (w : Watcher). w.number))
+
+pub loop-place-smaller-in-Stays : goal.loop-place-smaller-in-Stays
+loop-place-smaller-in-Stays c =
+    let l = c.negation-falsified.result in
+    let numbers : numbers_of c.block.new.self l ≡ numbers_of c.loop-place.watches l = c.block.ensures.numbers l ∙ c.in_ok-held.ensures.same_numbers in
+    omega (arith, c.loop-place-test.true, ap length c.of.ensures, ap length numbers, length-map (watchers_of c.loop-place.watches l) (λ (w : Watcher). w.number))
+
+pub loop-place-smaller : goal.loop-place-smaller
+loop-place-smaller c =
+    let l = c.negation-falsified.result in
+    let old = numbers_of c.loop-place.watches l in
+    let place = c.loop-place.place in
+    let within : place < length old =
+    omega (arith, c.loop-place-test.true, ap length c.of.ensures, length-map (watchers_of c.loop-place.watches l) (λ (w : Watcher). w.number)) in
+    let drops : numbers_of c.drop_number.new.self l ≡ swap_remove old place 0 =
+    c.drop_number.ensures.here ∙ ap (λ ns. swap_remove ns place 0) c.in_ok-held.ensures.same_numbers in
+    omega (arith, within, ap length drops, length_by_drop old place within)

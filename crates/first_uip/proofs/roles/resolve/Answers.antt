@@ -1,4 +1,4 @@
-use Rattle.std.proofs.Common.{◌≡◌, false, Some, length, refl, sym, ◌∙◌, arith}
+use Rattle.std.proofs.Common.{◌≡◌, ◌+◌, false, Some, length, refl, sym, ap, ◌∙◌, arith}
 use Rattle.std.specs.Prelude.{slice_get}
 use Rattle.std.proofs.lemmas.Option.{slice_get_read}
 use Rattle.clauses.specs.ClauseSet.{clauses_with}
@@ -8,7 +8,9 @@ use Rattle.depth_first.specs.TrailEntries.{is_decision}
 use Rattle.depth_first.proofs.Lists.{slice_get_below}
 use Rattle.depth_first.proofs.Sets.{below_from_within}
 use Rattle.depth_first.proofs.Involved.{with_within, cause_of_reason}
-use Rattle.first_uip.proofs.RoleLemmas.{IsResolution-see, reason_if_undecided}
+use Rattle.first_uip.specs.Conflict.{is_seen, part_of, role_of}
+use Rattle.first_uip.proofs.RoleLemmas.{IsResolution-see, IsResolution-unseen, reason_if_undecided, unseen_if}
+use Rattle.first_uip.proofs.Marked.{NoneSeen-one}
 use Rattle.first_uip.proofs.roles.resolve.Goals as goal
 
 pub numbered-requires : goal.numbered-requires
@@ -26,6 +28,26 @@ see-requires-clause-within c =
     let set = c.args.cnf.now in
     below_from_within set.count (length c.args.roles.now) c.numbered.result.now c.requires.size
     (with_within set c.args.log.now c.in-Some.number c.numbered.result.now c.requires.follows c.numbered.ensures)
+
+pub bounds-roles-variable : goal.bounds-roles-variable
+bounds-roles-variable c =
+    let trail = c.args.trail.now in
+    let entries = trail.entries.items in
+    let e : Entry = c.index-entry.result.now in
+    let at : slice_get entries c.args.place ≡ Some e = slice_get_read entries (length entries) c.args.place e refl c.requires.within c.index-entry.ensures in
+    omega (arith, (trail.fresh c.args.place e at).1, c.variable.ensures, c.requires.variables, c.requires.size)
+
+pub returns-then-eq-clause-resolves : goal.returns-then-eq-clause-resolves
+returns-then-eq-clause-resolves c =
+    λ conflict so_far.
+    let entries = c.args.trail.now.entries.items in
+    let roles = c.args.roles.now in
+    let place = c.args.place in
+    let e : Entry = c.index-entry.result.now in
+    let at : slice_get entries place ≡ Some e = slice_get_read entries (length entries) place e refl c.requires.within c.index-entry.ensures in
+    let unseen : is_seen (part_of roles e) ≡ false =
+    sym (ap (λ n. is_seen (role_of roles n)) c.variable.ensures) ∙ ap is_seen (unseen_if (role_of roles c.variable.result) (sym c.eq.ensures ∙ c.if-eq.true)) in
+    IsResolution-unseen (clauses_with c.args.cnf.now c.args.log.now) entries conflict place (place + 1) roles (NoneSeen-one entries roles place e at unseen) so_far
 
 pub returns-in-Some-clause-resolves : goal.returns-in-Some-clause-resolves
 returns-in-Some-clause-resolves c =

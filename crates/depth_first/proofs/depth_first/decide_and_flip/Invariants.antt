@@ -3,7 +3,7 @@ use Rattle.depth_first.specs.OccurrenceLists.{IsIndexOf}
 use Rattle.depth_first.specs.DepthFirst.{IsState}
 use Rattle.depth_first.proofs.Weight.{weight}
 use Rattle.depth_first.proofs.SearchSteps.{IsBounded}
-use Rattle.depth_first.proofs.depth_first.search.Given as goal
+use Rattle.depth_first.proofs.depth_first.decide_and_flip.Given as goal
 
 abbrev pub invariant-loop-log : goal.invariant-loop-log
 invariant-loop-log l =
