@@ -19,6 +19,7 @@ use Rattle.rule_typing.specs.Faults.{IsFault as IsFaultOfClasses, HasTooManyClas
 use Rattle.rule_reader.specs.Meaning.{Means}
 use Rattle.rule_reader.specs.FaultKinds.{ClassesAt, DuplicateAt, UnboundAt, RootMissingAt, RedefinesAt, UnusedTempAt, UndefInsideAt, WitnessCountAt}
 use Rattle.rule_reader.specs.Faults.{Check, Duplicate, Unbound, RootMissing, Redefines, UnusedTemp, UndefInside, WitnessCount, ManyClasses, NoType, OpenType, rank, kind_of, class_check, FailsAt, IsFirstLine, IsFirstRuleFault, IsRuleOf}
+use Rattle.rule_reader.specs.KnownRules.{NamesAreThere}
 use Rattle.rule_reader.specs.ClassFaults.{IsClassifiedAs, IsClassFault}
 use Rattle.rule_reader.proofs.Checked.{IsBound, checked_rule}
 use Rattle.rule_reader.proofs.There.{names_there}
@@ -65,6 +66,31 @@ module _ (earlier : List RawRule) (raw : RawRule) where
 
   pub first_fault : (c : Check) (fault : RuleFault) → Clear (rank c) → fault.kind ≡ kind_of c → IsFirstLine (FailsAt earlier raw c) fault.line → IsFirstRuleFault earlier raw fault
   first_fault c fault clear kind line = record { check = c; kind = kind; line = line; first = clear }
+
+  pub clear_1 : ((line : ℕ) → ¬ DuplicateAt earlier raw line) → Clear 1
+  clear_1 none = clear_more Duplicate clear_none none
+
+  pub clear_2 : Clear 1 → ((line : ℕ) → ¬ UnboundAt raw line) → Clear 2
+  clear_2 clear none = clear_more Unbound clear none
+
+  pub clear_3 : Clear 2 → ((line : ℕ) → ¬ RootMissingAt raw line) → Clear 3
+  clear_3 clear none = clear_more RootMissing clear none
+
+  pub clear_4 : Clear 3 → ((line : ℕ) → ¬ RedefinesAt raw line) → Clear 4
+  clear_4 clear none = clear_more Redefines clear none
+
+  pub clear_5 : Clear 4 → (source : List RawStatement) → source ≡ raw.source → ((line : ℕ) → ¬ UnusedTempAt source line) → Clear 5
+  clear_5 clear source is none = clear_more UnusedTemp clear (subst (λ ss. (line : ℕ) → ¬ UnusedTempAt ss line) is none)
+
+  pub clear_6 : Clear 5 → ((line : ℕ) → ¬ UndefInsideAt raw line) → Clear 6
+  clear_6 clear none = clear_more UndefInside clear none
+
+  pub clear_7 : Clear 6 → ((line : ℕ) → ¬ WitnessCountAt raw line) → Clear 7
+  clear_7 clear none = clear_more WitnessCount clear none
+
+  -- the fault where a check fails
+  pub fault_at : (check : Check) (line : ℕ) → Clear (rank check) → IsFirstLine (FailsAt earlier raw check) line → IsFirstRuleFault earlier raw (record { line = line; kind = kind_of check })
+  fault_at check line clear first = first_fault check (record { line = line; kind = kind_of check }) clear refl first
 
   -- none of the checks of registers fails
   pub bound_of : Clear 7 → IsBound raw
@@ -129,39 +155,18 @@ module _ (raw : RawRule) (is_repeated : Bool) where
   pub checked_so_far : (rule : Rule) → IsWellFormed raw → ForEarlier (λ earlier. Clear earlier raw 7) → Means raw rule → IsRule rule
   checked_so_far rule well clear means = let (earlier, marks) = some_earlier is_repeated raw in checked_rule raw rule well (bound_of earlier raw (clear earlier marks)) means
 
+  pub there_so_far : ForEarlier (λ earlier. Clear earlier raw 7) → NamesAreThere raw
+  there_so_far clear = let (earlier, marks) = some_earlier is_repeated raw in (bound_of earlier raw (clear earlier marks)).there
+
   pub classified_ok : (rule classified : Rule) → ForEarlier (λ earlier. Clear earlier raw 7) → Means raw rule → IsClassifiedAs rule classified → ForEarlier (λ earlier. IsRuleOf earlier raw classified)
   classified_ok rule classified clear means is earlier marks = rule_of earlier raw rule classified (clear earlier marks) means is
 
   pub classified_refused : (rule : Rule) (fault : RuleFault) → ForEarlier (λ earlier. Clear earlier raw 7) → Means raw rule → IsClassFault rule raw.line fault → ForEarlier (λ earlier. IsFirstRuleFault earlier raw fault)
   classified_refused rule fault clear means is earlier marks = fault_of_classes earlier raw rule fault (clear earlier marks) means is
 
-  -- the refusal where a check fails
-  pub refused_at : (check : Check) (line : ℕ) (e : RuleError) → e ≡ Refused (record { line = line; kind = kind_of check }) → ForEarlier (λ earlier. Clear earlier raw (rank check)) → ForEarlier (λ earlier. IsFirstLine (FailsAt earlier raw check) line)
+  -- the refusal where a rule repeats a name
+  pub refused_duplicate : (line : ℕ) (e : RuleError) → e ≡ Refused (record { line = line; kind = kind_of Duplicate }) → ForEarlier (λ earlier. IsFirstLine (DuplicateAt earlier raw) line)
       → IfRefused e (λ fault. ForEarlier (λ earlier. IsFirstRuleFault earlier raw fault))
-  refused_at check line e is clear first =
+  refused_duplicate line e is first =
       subst (λ x. IfRefused x (λ fault. ForEarlier (λ earlier. IsFirstRuleFault earlier raw fault))) (sym is)
-      (λ earlier marks. first_fault earlier raw check (record { line = line; kind = kind_of check }) (clear earlier marks) refl (first earlier marks))
-
-  pub clear_1 : ForEarlier (λ earlier. (line : ℕ) → ¬ DuplicateAt earlier raw line) → ForEarlier (λ earlier. Clear earlier raw 1)
-  clear_1 once earlier marks = clear_more earlier raw Duplicate (clear_none earlier raw) (once earlier marks)
-
-  pub clear_2 : ForEarlier (λ earlier. Clear earlier raw 1) → ((line : ℕ) → ¬ UnboundAt raw line) → ForEarlier (λ earlier. Clear earlier raw 2)
-  clear_2 clear none earlier marks = clear_more earlier raw Unbound (clear earlier marks) none
-
-  pub clear_3 : ForEarlier (λ earlier. Clear earlier raw 2) → ((line : ℕ) → ¬ RootMissingAt raw line) → ForEarlier (λ earlier. Clear earlier raw 3)
-  clear_3 clear none earlier marks = clear_more earlier raw RootMissing (clear earlier marks) none
-
-  pub clear_4 : ForEarlier (λ earlier. Clear earlier raw 3) → ((line : ℕ) → ¬ RedefinesAt raw line) → ForEarlier (λ earlier. Clear earlier raw 4)
-  clear_4 clear none earlier marks = clear_more earlier raw Redefines (clear earlier marks) none
-
-  pub clear_5 : ForEarlier (λ earlier. Clear earlier raw 4) → (source : List RawStatement) → source ≡ raw.source → ((line : ℕ) → ¬ UnusedTempAt source line) → ForEarlier (λ earlier. Clear earlier raw 5)
-  clear_5 clear source is none earlier marks = clear_more earlier raw UnusedTemp (clear earlier marks) (subst (λ ss. (line : ℕ) → ¬ UnusedTempAt ss line) is none)
-
-  pub clear_6 : ForEarlier (λ earlier. Clear earlier raw 5) → ((line : ℕ) → ¬ UndefInsideAt raw line) → ForEarlier (λ earlier. Clear earlier raw 6)
-  clear_6 clear none earlier marks = clear_more earlier raw UndefInside (clear earlier marks) none
-
-  pub clear_7 : ForEarlier (λ earlier. Clear earlier raw 6) → ((line : ℕ) → ¬ WitnessCountAt raw line) → ForEarlier (λ earlier. Clear earlier raw 7)
-  clear_7 clear none earlier marks = clear_more earlier raw WitnessCount (clear earlier marks) none
-
-  pub unused_first : (source : List RawStatement) (line : ℕ) → source ≡ raw.source → IsFirstLine (UnusedTempAt source) line → ForEarlier (λ earlier. IsFirstLine (FailsAt earlier raw UnusedTemp) line)
-  unused_first source line is first earlier marks = subst (λ ss. IsFirstLine (UnusedTempAt ss) line) is first
+      (λ earlier marks. fault_at earlier raw Duplicate line (clear_none earlier raw) (first earlier marks))

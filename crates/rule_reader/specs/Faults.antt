@@ -76,6 +76,10 @@ FailsAt earlier raw OpenType = ClassesAt raw HasOpenClass
 abbrev pub Passes : List RawRule → RawRule → Type 0
 Passes earlier raw = (check : Check) (line : ℕ) → ¬ FailsAt earlier raw check line
 
+-- no check before this one fails
+abbrev pub PassesBefore : List RawRule → RawRule → Check → Type 0
+PassesBefore earlier raw check = (other : Check) (line : ℕ) → rank other < rank check → ¬ FailsAt earlier raw other line
+
 -- the least line at which something holds
 abbrev pub IsFirstLine : (ℕ → Type 0) → ℕ → Type 0
 IsFirstLine Holds line = Holds line × ((other : ℕ) → Holds other → line ≤ other)

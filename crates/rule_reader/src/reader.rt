@@ -10,12 +10,13 @@ ghost use Rattle.rule_reader.specs.WellFormed.{IsWellFormed};
 ghost use Rattle.rule_reader.specs.RepeatedNames.{MarksRule};
 ghost use Rattle.rule_reader.specs.ClassFaults.{IsClassifiedAs, IsClassFault};
 ghost use Rattle.rule_reader.specs.Limits.{most_bytes};
-ghost use Rattle.rule_reader.specs.Faults.{IsRuleOf, IsFirstRuleFault, IsRuleFile, IsFault};
+ghost use Rattle.rule_reader.specs.Meaning.{AreNames};
+ghost use Rattle.rule_reader.specs.Faults.{Unbound, ManyClasses, PassesBefore, IsRuleOf, IsFirstRuleFault, IsRuleFile, IsFault};
 
 use crate::bound::unbound;
 use crate::checks::{duplicate, redefined, root_missing, unused};
 use crate::fault::kind_of_class_fault;
-use crate::names::names_of;
+use crate::names::{Names, names_of};
 use crate::repeated::repeated_names;
 use crate::resolve::resolved;
 use crate::undefs::{undef_inside, witness_count};
@@ -66,26 +67,43 @@ fn checked(alloc: Global, raw: &RawRule, is_repeated: bool) -> Result<Rule, Rule
         return Err(refused(line, RuleFaultKind::Duplicate));
     }
     let names = names_of(alloc, raw.source.as_slice())?;
-    if let Some(line) = unbound(raw, &names) {
-        return Err(refused(line, RuleFaultKind::Unbound));
-    }
-    if let Some(line) = root_missing(raw) {
-        return Err(refused(line, RuleFaultKind::RootMissing));
-    }
-    if let Some(line) = redefined(raw, names.inputs.as_slice()) {
-        return Err(refused(line, RuleFaultKind::Redefines));
-    }
-    if let Some(line) = unused(raw.source.as_slice()) {
-        return Err(refused(line, RuleFaultKind::UnusedTemp));
-    }
-    if let Some(line) = undef_inside(raw) {
-        return Err(refused(line, RuleFaultKind::UndefInside));
-    }
-    if let Some(line) = witness_count(raw) {
-        return Err(refused(line, RuleFaultKind::WitnessCount));
-    }
+    check_uses(raw, &names)?;
     let rule = resolved(alloc, raw, names)?;
     Ok(classified(rule, raw.line)?)
+}
+
+/// That a rule passes the checks behind that of repeated names and before those of classes, or its first fault.
+fn check_uses(raw: &RawRule, names: &Names) -> Result<(), RuleFault>
+    requires rule { IsWellFormed raw.now }
+    requires names { AreNames raw.now.source names.now }
+    ensures ok { IfOk result (λ _. (earlier : Seq written_rule) → PassesBefore earlier raw.now Unbound → PassesBefore earlier raw.now ManyClasses) }
+    ensures refused { IfErr result (λ fault. (earlier : Seq written_rule) → PassesBefore earlier raw.now Unbound → IsFirstRuleFault earlier raw.now fault) }
+{
+    if let Some(line) = unbound(raw, names) {
+        let kind = RuleFaultKind::Unbound;
+        return Err(RuleFault { line, kind });
+    }
+    if let Some(line) = root_missing(raw) {
+        let kind = RuleFaultKind::RootMissing;
+        return Err(RuleFault { line, kind });
+    }
+    if let Some(line) = redefined(raw, names.inputs.as_slice()) {
+        let kind = RuleFaultKind::Redefines;
+        return Err(RuleFault { line, kind });
+    }
+    if let Some(line) = unused(raw.source.as_slice()) {
+        let kind = RuleFaultKind::UnusedTemp;
+        return Err(RuleFault { line, kind });
+    }
+    if let Some(line) = undef_inside(raw) {
+        let kind = RuleFaultKind::UndefInside;
+        return Err(RuleFault { line, kind });
+    }
+    if let Some(line) = witness_count(raw) {
+        let kind = RuleFaultKind::WitnessCount;
+        return Err(RuleFault { line, kind });
+    }
+    Ok(())
 }
 
 /// The rule with its classes, or the fault of these.

@@ -1,8 +1,8 @@
 //! Statements whose names are known by place, from statements as written, whose names are all there to use.
 
 ghost use Rattle.std.specs.Prelude.{◌≡◌, ◌≤◌, ℕ, [], ◌∷◌, length, Contains, Some, slice_get, IfOk, MatchOption};
-ghost use Rattle.rule_parse.specs.Contents.{arguments_of};
-ghost use Rattle.rule_reader.specs.Meaning.{AreNames, IsConstant, IsConstantOf, HasName, ArgumentMeans, OperandMeans, OpMeans, HalfMeans, Means};
+ghost use Rattle.rule_parse.specs.Contents.{arguments_of, formula_of, terms_of, expressions_of};
+ghost use Rattle.rule_reader.specs.Meaning.{AreNames, IsConstant, IsConstantOf, HasName, ArgumentMeans, OperandMeans, OpMeans, HalfMeans, TermsMean, PreconditionMeans, Means, last_nodes};
 ghost use Rattle.rule_reader.specs.WellFormed.{IsWellFormed};
 ghost use Rattle.rule_reader.specs.FaultKinds.{MayUse};
 ghost use Rattle.rule_reader.specs.KnownRules.{half_of, IsPlaceOf, Finds, HalfIsBound, NamesAreThere, AreReady};
@@ -15,7 +15,7 @@ use crate::registers::{assigning, is_root, place_of};
 use crate::terms::target_terms;
 use crate::witness::{Choices, witness};
 use lists::{List, Text};
-use rule_core::{Argument, Op, Operand, Register, Rule, Statement};
+use rule_core::{Argument, Formula, Op, Operand, Register, Rule, Statement, Term};
 use rule_parse::{RawArgument, RawOp, RawOperand, RawRule, RawStatement};
 use std::alloc::{AllocError, Global};
 
@@ -245,6 +245,43 @@ fn statements(
     Ok(statements)
 }
 
+/// The statements of both halves.
+fn halves(
+    alloc: Global,
+    rule: &RawRule,
+    names: &Names,
+) -> Result<(List<Statement>, List<Statement>), AllocError>
+    requires rule { IsWellFormed rule.now }
+    requires names { AreNames rule.now.source names.now }
+    requires bound { NamesAreThere rule.now }
+    ensures source { IfOk result (λ halves. HalfMeans rule.now names.now rule.now.source halves.0) }
+    ensures target { IfOk result (λ halves. HalfMeans rule.now names.now rule.now.target halves.1) }
+{
+    let source = statements(alloc, rule, names, Half::Source)?;
+    let target = statements(alloc, rule, names, Half::Target)?;
+    Ok((source, target))
+}
+
+/// The nodes of the terms of the target and of `Pre:`, those of the formula of `Pre:`, and what `Wit:` says.
+fn heading(
+    alloc: Global,
+    rule: &RawRule,
+    names: &Names,
+) -> Result<(List<Term>, List<Formula>, Choices), AllocError>
+    requires rule { IsWellFormed rule.now }
+    requires names { AreNames rule.now.source names.now }
+    requires bound { NamesAreThere rule.now }
+    ensures terms { IfOk result (λ read. TermsMean rule.now names.now (terms_of rule.now) read.0) }
+    ensures precondition { IfOk result (λ read. PreconditionMeans rule.now names.now (formula_of rule.now) read.1) }
+    ensures witness_terms { IfOk result (λ read. TermsMean rule.now names.now (expressions_of rule.now) read.2.terms) }
+    ensures witnesses { IfOk result (λ read. read.2.places ≡ last_nodes 0 (expressions_of rule.now)) }
+{
+    let mut terms = target_terms(alloc, rule, names)?;
+    let precondition = precondition(alloc, &mut terms, rule, names)?;
+    let choices = witness(alloc, rule, names)?;
+    Ok((terms, precondition, choices))
+}
+
 /// The rule that is meant, but for its classes.
 pub(crate) fn resolved(alloc: Global, rule: &RawRule, names: Names) -> Result<Rule, AllocError>
     requires rule { IsWellFormed rule.now }
@@ -252,24 +289,18 @@ pub(crate) fn resolved(alloc: Global, rule: &RawRule, names: Names) -> Result<Ru
     requires bound { NamesAreThere rule.now }
     ensures { IfOk result (Means rule.now) }
 {
-    let source = statements(alloc, rule, &names, Half::Source)?;
-    let target = statements(alloc, rule, &names, Half::Target)?;
-    let mut terms = target_terms(alloc, rule, &names)?;
-    let precondition = precondition(alloc, &mut terms, rule, &names)?;
-    let Choices {
-        terms: witness_terms,
-        places: witnesses,
-    } = witness(alloc, rule, &names)?;
-    let Names { inputs, constants } = names;
+    let name = Text::from_vec(Vec::from_slice(alloc, rule.name.as_slice())?);
+    let (source, target) = halves(alloc, rule, &names)?;
+    let (terms, precondition, choices) = heading(alloc, rule, &names)?;
     Ok(Rule {
-        name: Text::from_vec(Vec::from_slice(alloc, rule.name.as_slice())?),
-        inputs,
-        constants,
+        name,
+        inputs: names.inputs,
+        constants: names.constants,
         source,
         target,
         terms,
         precondition,
-        witness_terms,
-        witnesses,
+        witness_terms: choices.terms,
+        witnesses: choices.places,
     })
 }
