@@ -54,7 +54,8 @@ at_row_all P id change missing absent each (r ∷ rs) h = go (bytes_eq r.id id) 
 
 -- ---- one use of an argument
 
--- what is asked of an argument: it is the first of its name, and takes one value or more where it is used, or stands for one
+-- what is asked of an argument: it is the first of its name, and takes one value or more where it is used, or stands
+-- for one
 abbrev takes_some : ArgAction → Rule → Bool
 takes_some Set a = nat_le 1 (unwrap_or_range a.range).start_inclusive
 takes_some Append a = nat_le 1 (unwrap_or_range a.range).start_inclusive

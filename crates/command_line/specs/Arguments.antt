@@ -20,7 +20,8 @@ HasNumberUpTo most rows argument = (text : Text) × (first_of argument rows ≡ 
 abbrev pub HasTruth : List Row → Text → Type 0
 HasTruth rows argument = (flag : Bool) × HasFlag rows argument flag × (one_of argument rows ≡ first_of argument rows)
 
--- each argument of `verify` has its value, and so of `optimise`, of `run`, whose ARGs may be none, of `load` and of `recheck`
+-- each argument of `verify` has its value, and so of `optimise`, of `run`, whose ARGs may be none, of `load` and of
+-- `recheck`
 pub record HasVerify (rows : List Row) : Type 0 where
   pub rules_file : HasValue rows (codes "rules")
   pub width_list : HasValue rows (codes "widths")

@@ -214,7 +214,8 @@ fn read_named<'a>(
 
 /// Reads the command that the words say, of which the first is the program's own name.
 ///
-/// `Usage` has `clap`'s text where it doesn't take the words, and else names the list of widths that is outside its form.
+/// `Usage` has `clap`'s text where it doesn't take the words, and else names the list of widths that is outside its
+/// form.
 pub fn read_command<'a>(alloc: Global, words: &'a [String]) -> Result<Command<'a>, CommandError>
     ensures taken { OnOk result (are_taken (map string_bytes words.entry.now) ≡ true) }
     ensures says { IfOk result (Says (map string_bytes words.entry.now)) }

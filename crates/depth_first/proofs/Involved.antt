@@ -15,19 +15,11 @@ use Rattle.depth_first.specs.declared.trail.Cause.TheVariants.{InputDecision, No
 use Rattle.depth_first.specs.TrailEntries.{literals, EachFresh, IsOpen, reasons, reason_of, EachForced}
 use Rattle.depth_first.specs.Learned.{is_marked, AllMarked, Marks, NamesMarked, IsInvolved, marked_entries}
 use Rattle.depth_first.proofs.Lists.{some_same, take_next, slice_get_cases, slice_get_in_take, take_take_below}
-use Rattle.depth_first.proofs.HeldLists.{held_left, held_cases, held_one_same, held_last, not_held_nil, both_held, open_not_held, open_not_false, literal_at, HeldWithin-take}
+use Rattle.depth_first.proofs.HeldLists.{held_left, held_cases, held_one_same, held_last, both_held, open_not_held, open_not_false, literal_at, HeldWithin-take}
 use Rattle.std.proofs.lemmas.List.Elements.{filter-append}
 use Rattle.depth_first.proofs.Decisions.{read_at, reasons-append}
 use Rattle.std.specs.List.{cons_option}
 use Rattle.depth_first.proofs.Sets.{clause_within}
-
-pub Marks-start : (marks : List Bool) → Marks [] marks marks
-Marks-start marks =
-    record {
-      all = λ l h. absurd (not_held_nil l h);
-      kept = λ n h. h;
-      only = λ n h. inl h;
-    }
 
 -- a literal of the clause more
 pub Marks-next : (clause : List Lit) (old mid : List Bool) (k : ℕ) (l : Lit) → slice_get clause k ≡ Some l → l.variable < length mid → Marks (take k clause) old mid → Marks (take (k + 1) clause) old (set mid l.variable true)
@@ -146,11 +138,6 @@ pub step_at : (log : List Step) (j : ℕ) (clause : List Lit) → slice_get (cla
 step_at [] j clause at = cc
 step_at (s ∷ ss) zero clause at = (s, refl, some_same s.clause clause at)
 step_at (s ∷ ss) (suc j) clause at = step_at ss j clause at
-
-pub clause_of_step : (log : List Step) (j : ℕ) (s : Step) → slice_get log j ≡ Some s → slice_get (clauses_of_steps log) j ≡ Some s.clause
-clause_of_step [] j s at = cc
-clause_of_step (t ∷ ts) zero s at = let same : t ≡ s = cc in ap (λ (u : Step). Some u.clause) same
-clause_of_step (t ∷ ts) (suc j) s at = clause_of_step ts j s at
 
 -- the variables of the set's and the log's clauses are the set's
 pub with_within : (set : Cnf) (log : List Step) (number : ℕ) (clause : List Lit) → LogFollows set log → slice_get (clauses_with set log) number ≡ Some clause → IsWithin set.count clause

@@ -131,8 +131,8 @@ fn learn_and_flip(
     Ok(())
 }
 
-/// Propagates, decides, and learns where a decision is flipped, first by the entries that the clauses alone force, which
-/// all wait.
+/// Propagates, decides, and learns where a decision is flipped, first by the entries that the clauses alone force,
+/// which all wait.
 fn decide_and_flip(
     alloc: Global,
     cnf: &Cnf,

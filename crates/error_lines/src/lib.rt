@@ -1,7 +1,7 @@
 //! The lines that say why a command's work was not done.
 //!
-//! The definitions stand in `specs/`: `Lines` says which line there is on a rule file, on a module, on proofs, on a file that could not be read, on
-//! arguments and on memory.
+//! The definitions stand in `specs/`: `Lines` says which line there is on a rule file, on a module, on proofs, on a
+//! file that could not be read, on arguments and on memory.
 #![tactic(auto)]
 
 mod logs;

@@ -5,7 +5,7 @@ use Rattle.std.proofs.lemmas.List.{length-take-le}
 use Rattle.clauses.specs.Literal.{Lit}
 use Rattle.depth_first.specs.declared.trail.Entry.{Entry}
 use Rattle.depth_first.specs.TrailEntries.{Grows}
-use Rattle.depth_first.proofs.Lists.{slice_get_below, take_whole}
+use Rattle.depth_first.proofs.Lists.{slice_get_below}
 use Rattle.first_uip.specs.Marks.{IsPlaced, IsNoted}
 use Rattle.first_uip.proofs.Marked.{IsPlaced-grown, IsPlaced-same}
 
@@ -23,10 +23,6 @@ IsNoted-append places entries more n noted = (omega (arith, noted.0, length_left
 
 pub IsNoted-grows : (clauses : List (List Lit)) (places : List ℕ) (old new : List Entry) (n : ℕ) → Grows clauses old new → IsNoted places old n → IsNoted places new n
 IsNoted-grows clauses places old new n grows noted = subst (λ es. IsNoted places es n) (sym grows.is) (IsNoted-append places old grows.more n noted)
-
--- a table that was lent whole
-pub written_back : (n : ℕ) (new rest : List ℕ) → n ≡ length new → take n (new ++ rest) ≡ new
-written_back n new rest size = ap (λ k. take k (new ++ rest)) size ∙ take_whole new rest
 
 -- after entries are taken back
 pub IsNoted-cut : (places : List ℕ) (old new : List Entry) (n : ℕ) (e : Entry) → slice_get old n ≡ Some e → take n new ≡ take n old → IsPlaced places old (length old) → IsNoted places new n

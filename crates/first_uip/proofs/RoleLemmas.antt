@@ -11,7 +11,7 @@ use Rattle.depth_first.specs.declared.trail.Cause.TheVariants.{InputDecision, No
 use Rattle.depth_first.specs.TrailEntries.{literals, EachFresh, IsOpen, is_decision, reason_of, reasons}
 use Rattle.depth_first.specs.declared.trail.Cause.{Cause}
 use Rattle.depth_first.proofs.Lists.{some_same, take_next, slice_get_in_take, take_take_below}
-use Rattle.depth_first.proofs.HeldLists.{held_left, held_cases, held_one_same, held_last, not_held_nil, both_held, open_not_held, open_not_false, literal_at, literals-append, HeldWithin-take}
+use Rattle.depth_first.proofs.HeldLists.{held_left, held_cases, held_one_same, held_last, both_held, open_not_held, open_not_false, literal_at, literals-append, HeldWithin-take}
 use Rattle.depth_first.specs.TrailEntries.{EachForced}
 use Rattle.depth_first.proofs.Decisions.{reasons-append}
 use Rattle.std.specs.Option.{option_to_list}
@@ -21,15 +21,6 @@ use Rattle.first_uip.specs.contracts.roles.Role.{the_type}
 use Rattle.first_uip.specs.declared.roles.Role.{Role}
 use Rattle.first_uip.specs.declared.roles.Role.TheVariants.{Unseen, Resolved, Kept}
 use Rattle.first_uip.specs.Conflict.{role_of, is_seen, is_kept, is_resolved, part_of, AllSeen, Sees, NamesSeen, IsResolution, NoneSeen, NoneKept, NoneDecided, kept_entries, resolved_entries}
-
-pub Sees-start : (roles : List Role) → Sees [] roles roles
-Sees-start roles =
-    record {
-      all = λ l h. absurd (not_held_nil l h);
-      still = λ n h. h;
-      same_kept = λ n. refl;
-      only = λ n h. inl h;
-    }
 
 next_clause : (clause : List Lit) (k : ℕ) (l : Lit) → slice_get clause k ≡ Some l → take (k + 1) clause ≡ take k clause ++ l ∷ []
 next_clause clause k l at = let e : k + 1 ≡ suc k = omega arith in ap (λ n. take n clause) e ∙ take_next clause k l at
@@ -52,9 +43,6 @@ Sees-skip clause old mid k l at seen so_far =
             | inr (m, stands, is) ↦ inr (m, ap (λ c. is_held c m) next ∙ held_left (take k clause) (l ∷ []) m stands, is)
           ];
     }
-
-unseen_kept : (r : Role) → r ≡ Unseen → is_kept r ≡ false
-unseen_kept r is = ap is_kept is
 
 -- one whose variable wasn't
 pub Sees-next : (clause : List Lit) (old mid : List Role) (k : ℕ) (l : Lit) → slice_get clause k ≡ Some l → l.variable < length mid → role_of mid l.variable ≡ Unseen → Sees (take k clause) old mid → Sees (take (k + 1) clause) old (set mid l.variable Resolved)
@@ -110,21 +98,6 @@ IsResolution-start clauses entries conflict clause old roles at sees =
     below [] k x at = cc
     below (z ∷ zs) zero x at = omega arith
     below (z ∷ zs) (suc k) x at = let h : k < length zs = below zs k x at in omega arith
-
--- an entry that isn't seen, or is kept
-pub IsResolution-skip : (clauses : List (List Lit)) (entries : List Entry) (conflict place : ℕ) (e : Entry) (roles : List Role) → slice_get entries place ≡ Some e → (is_seen (part_of roles e) ≡ true → is_kept (part_of roles e) ≡ false → ⊥) → IsResolution clauses entries conflict (place + 1) roles → IsResolution clauses entries conflict place roles
-IsResolution-skip clauses entries conflict place e roles at skips so_far =
-    record {
-      falsified = so_far.falsified;
-      reasons_too = λ k f past there seen kept.
-          elim (cases_order k place) [
-            | inl same ↦
-                let es : f ≡ e = some_same f e (sym there ∙ ap (slice_get entries) same ∙ at) in
-                absurd (skips (sym (ap (λ (g : Entry). is_seen (part_of roles g)) es) ∙ seen) (sym (ap (λ (g : Entry). is_kept (part_of roles g)) es) ∙ kept))
-            | inr (inl less) ↦ absurd (omega arith)
-            | inr (inr more) ↦ so_far.reasons_too k f (omega arith) there seen kept
-          ];
-    }
 
 -- the variables of a reason have values where it forces, so no later entry is of them
 set_before : (values : List (Option Bool)) (entries : List Entry) (place k : ℕ) (e f : Entry) (l : Lit) → EachFresh values entries → slice_get entries place ≡ Some e → slice_get entries k ≡ Some f → place < k → (is_false (literals (take place entries)) l ≡ true) ⊎ (l ≡ e.literal) → l.variable ≡ f.literal.variable → ⊥

@@ -1,5 +1,5 @@
--- Reading the pieces of instructions from left to right: marks, words, registers, types, operands and attachments. Each reader answers
--- what it reads, or the fault of the first token that does not fit.
+-- Reading the pieces of instructions from left to right: marks, words, registers, types, operands and attachments. Each
+-- reader answers what it reads, or the fault of the first token that does not fit.
 use Rattle.std.specs.Prelude.{ℕ, ◌==◌, Bool, true, false, if◌then◌else◌, List, ◌∷◌, Option, None, Some, Result, Ok, Err, codes}
 use Rattle.std.specs.Str.{bytes_eq}
 use Rattle.ops.specs.Number.{Number as Numeral}

@@ -14,8 +14,8 @@ pub record SinkState : Type 0 where
 abbrev pub SinkFollows : SinkState → SinkState → Type 0
 SinkFollows old new = old.faults ≤ new.faults
 
--- There was one put, which wrote the piece: where the bytes are told, they are the old ones and then the piece, and where
--- puts are counted, there was one more.
+-- There was one put, which wrote the piece: where the bytes are told, they are the old ones and then the piece, and
+-- where puts are counted, there was one more.
 abbrev pub Extends : SinkState → SinkState → List ℕ → Type 0
 Extends old new piece = (new.written ≡ option_map (λ told. told ++ piece) old.written) × (new.puts ≡ option_map raised old.puts)
 

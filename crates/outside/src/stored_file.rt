@@ -39,7 +39,8 @@ pub(crate) fn first_bytes(alloc: Global, bytes: &[u8], most: usize) -> Result<Ve
     Vec::from_slice(alloc, &bytes[..most.min(bytes.len())])
 }
 
-/// The bytes of the first file of a name. It looks at one file after the other, since few are held: files in memory are for tests.
+/// The bytes of the first file of a name. It looks at one file after the other, since few are held: files in memory are
+/// for tests.
 pub(crate) fn find_bytes<'a>(held: &'a [StoredFile], name: &str) -> Option<&'a [u8]>
     ensures { option_copied result ≡ bytes_of held.now name.now }
 {

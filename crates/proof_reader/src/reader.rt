@@ -63,7 +63,8 @@ fn taken(
     Ok(so_far.into_read())
 }
 
-/// The rules, by their places, and the widths of the proofs so far: so a repeated one is found in as long a time however many there are.
+/// The rules, by their places, and the widths of the proofs so far: so a repeated one is found in as long a time
+/// however many there are.
 type Seen = IndexSet<(u32, Vec<u32>)>;
 
 /// What is known of the proofs so far.

@@ -101,7 +101,8 @@ classes_apart rule =
     rw (flat_map-append classes_of_statement rule.source rule.target)
     (append_assoc (flat_map classes_of_statement rule.source) (flat_map classes_of_statement rule.target) (flat_map classes_of_term (terms_in rule)))
 
--- what stands at a place of the first list stands there in both, and what stands in the second one stands behind the first
+-- what stands at a place of the first list stands there in both, and what stands in the second one stands behind the
+-- first
 pub get-append_left : {X : Type 0} (xs ys : List X) (k : ℕ) (x : X) → slice_get xs k ≡ Some x → slice_get (xs ++ ys) k ≡ Some x
 get-append_left [] ys k x at = elim k as (λ j. slice_get [] j ≡ Some x → slice_get ys j ≡ Some x) [ zero ↦ λ h. cc | suc j ↦ λ h. cc ] at
 get-append_left (a ∷ xs) ys zero x at = at

@@ -46,7 +46,8 @@ constant_ready rule typing constants k c N fits named width within =
     let at : slice_get constants k ≡ Some n = slice_get-get_or constants k zero_bits (omega (arith, fits.count)) in
     (n, at, fits.widths k c N n named width at)
 
--- what a register that is assigned holds has the width of each position that names it, and so have a constant and a term
+-- what a register that is assigned holds has the width of each position that names it, and so have a constant and a
+-- term
 module _ (rule : Rule) (typing : List ℕ) (half : List Statement) (given : Given) (held : Held) (typed : IsTyping rule typing) (given_fits : GivenFits rule typing half given) (fits : HeldFits rule typing held) (o : Operand) (N : ℕ) (stands : Contains (operands_in rule) o) (width : slice_get typing o.class ≡ Some N) where
   read_input : (i : ℕ) → o.value ≡ arguments.Register (registers.Input i) → i < length held.inputs → ArgumentIsReady given held N (arguments.Register (registers.Input i))
   read_input i is within =
@@ -158,7 +159,8 @@ statement_ready rule typing given held s typed stands fit ready chosen =
     let w = class_width rule typing s.class typed (class_stands rule s stands) in
     (w.0, w.1, op_ready rule typing given held s w.0 s.op typed stands w.1 refl fit ready chosen)
 
--- source statement k is ready once those before it have run, where what is given fits the statements of a part of the source
+-- source statement k is ready once those before it have run, where what is given fits the statements of a part of the
+-- source
 pub source_ready : (rule : Rule) (typing : List ℕ) (half : List Statement) (given : Given) (held : Held) (k : ℕ) (s : Statement) → IsRule rule → IsTyping rule typing → GivenFits rule typing half given → HeldFits rule typing held
     → slice_get rule.source k ≡ Some s → Contains half s → length held.source ≡ k → StatementIsReady typing given held s
 unfolding AllReady AllChosen

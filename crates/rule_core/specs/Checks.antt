@@ -32,8 +32,8 @@ SourceMayRead rule k (arguments.Constant j) = j < length rule.constants
 SourceMayRead rule k (arguments.Undef j) = suc k ≡ length rule.source
 SourceMayRead rule k (arguments.Term n) = ⊥
 
--- target statement k may read inputs, what source statements but the root's assign, what earlier target statements assign, constants,
--- `undef` and terms
+-- target statement k may read inputs, what source statements but the root's assign, what earlier target statements
+-- assign, constants, `undef` and terms
 abbrev pub TargetMayRead : Rule → ℕ → Argument → Type 0
 TargetMayRead rule k (arguments.Register (registers.Input i)) = i < length rule.inputs
 TargetMayRead rule k (arguments.Register (registers.Source j)) = suc j < length rule.source
@@ -50,13 +50,15 @@ IsBeforeRoot rule (registers.Input i) = i < length rule.inputs
 IsBeforeRoot rule (registers.Source j) = suc j < length rule.source
 IsBeforeRoot rule (registers.Target j) = ⊥
 
--- a register of which a target statement may name the width: one of these, or what a target statement but the root's assigns
+-- a register of which a target statement may name the width: one of these, or what a target statement but the root's
+-- assigns
 abbrev pub HasKnownWidth : Rule → Register → Type 0
 HasKnownWidth rule (registers.Input i) = i < length rule.inputs
 HasKnownWidth rule (registers.Source j) = suc j < length rule.source
 HasKnownWidth rule (registers.Target j) = suc j < length rule.target
 
--- node n of the constant terms may be this one: its operands are earlier nodes, and no register and no `undef` stands in it
+-- node n of the constant terms may be this one: its operands are earlier nodes, and no register and no `undef` stands
+-- in it
 abbrev pub MayBeTerm : Rule → ℕ → Node → Type 0
 MayBeTerm rule n (nodes.Literal z) = Unit {0}
 MayBeTerm rule n (nodes.Constant k) = k < length rule.constants
@@ -91,7 +93,8 @@ MayBeWitness rule n (nodes.Width r c) = IsBeforeRoot rule r
 MayBeWitness rule n (nodes.Unary function a) = a < n
 MayBeWitness rule n (nodes.Binary op a b) = (a < n) × (b < n)
 
--- and node n of the precondition: its operands are earlier nodes, or constant terms, and one use is asked of a source's temporary
+-- and node n of the precondition: its operands are earlier nodes, or constant terms, and one use is asked of a source's
+-- temporary
 abbrev pub MayBeFormula : Rule → ℕ → Formula → Type 0
 MayBeFormula rule n (formulas.Compare pred a b) = (a < length rule.terms) × (b < length rule.terms)
 MayBeFormula rule n (formulas.IsPowerOfTwo a) = a < length rule.terms
@@ -127,7 +130,8 @@ ReadsNoUndefAlone op = Unit {0}
 abbrev pub ChoicesInOrder : List Statement → Type 0
 ChoicesInOrder statements = map (λ c. c.place) (choices_among statements) ≡ range_with_len 0 (length (choices_among statements))
 
--- how many operands, names, literals, operators and functions stand where an operand does: those of its term are counted there
+-- how many operands, names, literals, operators and functions stand where an operand does: those of its term are
+-- counted there
 abbrev pub argument_weight : Argument → ℕ
 argument_weight (arguments.Term n) = 0
 argument_weight argument = 1

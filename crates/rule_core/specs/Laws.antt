@@ -12,8 +12,8 @@ use Rattle.rule_core.specs.Checks.{IsRule}
 use Rattle.rule_core.specs.Typing.{IsTyping}
 use Rattle.rule_core.specs.Valid.{Setting, SettingFits, HaveEffects, IsValid, IsCounterexample}
 
--- At each setting that fits, the two halves have one pair of effects; and `Wit:` one list of choices, but where the source is
--- undefined behaviour.
+-- At each setting that fits, the two halves have one pair of effects; and `Wit:` one list of choices, but where the
+-- source is undefined behaviour.
 abbrev pub RulesHaveOneOutcome : Type 0
 RulesHaveOneOutcome =
     (rule : Rule) (typing : List ℕ) (setting : Setting) → IsRule rule → IsTyping rule typing → SettingFits rule typing setting →
@@ -34,7 +34,8 @@ RulesWithoutCounterexampleAreValid =
     ((setting : Setting) (choices : List Number) (source target : Effect) → IsCounterexample rule typing setting choices source target → ⊥) →
     IsValid rule typing
 
--- where the operands of each node stand before it, there is a value for each node, and it is what the node gives from all of these values
+-- where the operands of each node stand before it, there is a value for each node, and it is what the node gives from
+-- all of these values
 abbrev pub NodesGiveTheirValues : Type 0
 NodesGiveTheirValues =
     (typing : List ℕ) (names : Meanings) (terms : List Term) →

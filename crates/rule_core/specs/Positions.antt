@@ -1,5 +1,5 @@
--- The positions of a rule, which are its results, its operands and the nodes of its terms, and the table of types: what keeps two
--- positions at one width, what fixes a width, and what keeps one width below another.
+-- The positions of a rule, which are its results, its operands and the nodes of its terms, and the table of types: what
+-- keeps two positions at one width, what fixes a width, and what keeps one width below another.
 use Rattle.std.specs.Prelude.{◌≡◌, ℕ, suc, Bool, List, [], ◌∷◌, ◌++◌, length, map, flat_map, Option, Some, Contains, slice_get}
 use Rattle.ops.specs.declared.opcode.Opcode.{Opcode}
 use Rattle.ops.specs.declared.opcode.Unary.{Unary as Intrinsic}
@@ -97,8 +97,9 @@ IsOperandAmong statements o = Contains (operands_among statements) o
 abbrev pub IsTermOf : Rule → Term → Type 0
 IsTermOf rule t = Contains (terms_in rule) t
 
--- A position of class c names the register, the constant or the choice: as the operand or the node that reads it, or as the result
--- that assigns it. The last target statement assigns the root, which is what the last source statement assigns.
+-- A position of class c names the register, the constant or the choice: as the operand or the node that reads it, or as
+-- the result that assigns it. The last target statement assigns the root, which is what the last source statement
+-- assigns.
 pub data Names (rule : Rule) : Name → ℕ → Type 0 where
   reads : {o : Operand} {r : Register} → Contains (operands_in rule) o → o.value ≡ arguments.Register r → Names rule (names.Register r) o.class
   reads_constant : {o : Operand} {k : ℕ} → Contains (operands_in rule) o → o.value ≡ arguments.Constant k → Names rule (names.Constant k) o.class

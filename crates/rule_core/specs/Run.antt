@@ -1,5 +1,5 @@
--- What the halves of a rule do on inputs, constants and one number for each choice of the half, which is an `undef` or a freeze. As
--- relations; registers are known by place.
+-- What the halves of a rule do on inputs, constants and one number for each choice of the half, which is an `undef` or
+-- a freeze. As relations; registers are known by place.
 use Rattle.std.specs.Prelude.{◌≡◌, ℕ, ◌-◌, if◌then◌else◌, List, [], ◌∷◌, ◌++◌, length, take, Option, Some, slice_get}
 use Rattle.ops.specs.Number.{Number}
 use Rattle.ops.specs.Instruction.{instruction}
@@ -67,7 +67,8 @@ GivesLast values e = (v : Value) × (slice_get values (length values - 1) ≡ So
 abbrev pub temporaries_of : Rule → List Statement
 temporaries_of rule = take (length rule.source - 1) rule.source
 
--- what statements read beside registers: a number for each constant, one for each choice of their half, and what terms give
+-- what statements read beside registers: a number for each constant, one for each choice of their half, and what terms
+-- give
 pub record Given : Type 0 where
   pub constants : List Number
   pub choices : List Number
@@ -84,8 +85,8 @@ frozen (Bits a) n = Bits a
 
 -- With a width for each class:
 module _ (typing : List ℕ) (given : Given) where
-  -- a register gives what it holds, a literal itself modulo 2^N, a constant and an `undef` their numbers, and a term what it gives, or
-  -- 0 where it has no value
+  -- a register gives what it holds, a literal itself modulo 2^N, a constant and an `undef` their numbers, and a term
+  -- what it gives, or 0 where it has no value
   abbrev pub ArgumentGives : Held → ℕ → Argument → Value → Type 0
   ArgumentGives held N (arguments.Register r) v = value_of held r ≡ Some v
   ArgumentGives held N (arguments.Literal z) v = v ≡ bits N (residue N z)
@@ -97,9 +98,9 @@ module _ (typing : List ℕ) (given : Given) where
   abbrev pub OperandGives : Held → Operand → Value → Type 0
   OperandGives held o v = (N : ℕ) × (slice_get typing o.class ≡ Some N) × ArgumentGives held N o.value v
 
-  -- An instruction has its effect on what its operands give. It is one over the result's width N, a comparison one over the width of
-  -- its operands, and a cast one from its operand's width to N. A freeze gives its operand's number, or its own where that is poison. A
-  -- copy gives its operand.
+  -- An instruction has its effect on what its operands give. It is one over the result's width N, a comparison one over
+  -- the width of its operands, and a cast one from its operand's width to N. A freeze gives its operand's number, or
+  -- its own where that is poison. A copy gives its operand.
   abbrev pub OpGives : Held → ℕ → Op → Effect → Type 0
   OpGives held N (Binary op flags a b) e = (x : Value) × (y : Value) × OperandGives held a x × OperandGives held b y × (e ≡ instruction op flags N x y)
   OpGives held N (Compare pred samesign a b) e =

@@ -1,4 +1,5 @@
--- What the nodes of terms give, and when a precondition holds. A node gives a value of its class's width; poison stands for no value.
+-- What the nodes of terms give, and when a precondition holds. A node gives a value of its class's width; poison stands
+-- for no value.
 use Rattle.std.specs.Prelude.{◌≡◌, ℕ, ◌<◌, ◌-◌, ◌^◌, ◌==◌, nat_lt, Bool, true, false, not, ◌&&◌, ◌||◌, IsTrue, if◌then◌else◌, List, [], ◌∷◌, ◌++◌, length, find, Option, Some, slice_get, slice_index, slice_index_or}
 use Rattle.std.specs.List.{range_with_len}
 use Rattle.std.specs.Option.{is_some, option_map_or}
@@ -28,7 +29,8 @@ abbrev pub number_or_zero : Value → ℕ
 number_or_zero Poison = 0
 number_or_zero (Bits a) = a.number
 
--- what names in a term stand for: a number for each constant and for each choice of the target, and a value for each register
+-- what names in a term stand for: a number for each constant and for each choice of the target, and a value for each
+-- register
 pub record Meanings : Type 0 where
   pub constants : List Number
   pub choices : List Number
@@ -90,8 +92,8 @@ FormulaReadsBefore n formula = Unit {0}
 
 -- Under a width for each class:
 module _ (typing : List ℕ) where
-  -- A node of iN, from what the nodes before it give. A register that is poison counts as 0. An operator gives what its instruction
-  -- does without flags: nothing where that is undefined behaviour or poison.
+  -- A node of iN, from what the nodes before it give. A register that is poison counts as 0. An operator gives what its
+  -- instruction does without flags: nothing where that is undefined behaviour or poison.
   abbrev pub node_gives : Meanings → List Value → ℕ → Node → Value
   node_gives names before N (nodes.Literal z) = bits N (residue N z)
   node_gives names before N (nodes.Constant k) = number_at names.constants k
@@ -150,7 +152,8 @@ abbrev pub HasNumber : Value → Type 0
 HasNumber Poison = ⊥
 HasNumber (Bits a) = Unit {0}
 
--- The precondition holds: each constant term of the rule, in the target too, has a value, and the formula of `Pre:` holds.
+-- The precondition holds: each constant term of the rule, in the target too, has a value, and the formula of `Pre:`
+-- holds.
 pub record PreconditionHolds (rule : Rule) (typing : List ℕ) (constants : List Number) : Type 0 where
   pub values : (n : ℕ) (v : Value) → slice_get (constant_values typing constants rule) n ≡ Some v → HasNumber v
   pub formula : IsTrue (last_holds (truths_of (constant_values typing constants rule) rule.precondition))

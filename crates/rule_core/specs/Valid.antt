@@ -1,5 +1,5 @@
--- When the target of a rule may stand in the place of its source, and what shows that it may not. (Lopes and others, "Provably
--- Correct Peephole Optimizations with Alive", 2015, with the source's choices written in the rule.)
+-- When the target of a rule may stand in the place of its source, and what shows that it may not. (Lopes and others,
+-- "Provably Correct Peephole Optimizations with Alive", 2015, with the source's choices written in the rule.)
 use Rattle.std.specs.Prelude.{◌≡◌, ℕ, List, length, map, Some, slice_get, slice_index}
 use Rattle.std.specs.Option.{unwrap_or, option_map_or}
 use Rattle.ops.specs.Number.{Number}
@@ -63,8 +63,8 @@ abbrev pub witness_number : Rule → List ℕ → Setting → Held → ℕ → N
 witness_number rule typing setting held n =
     record { width = witness_width rule typing n; number = number_or_zero (value_at (witness_values rule typing setting held) n) }
 
--- The numbers are those that `Wit:` gives for the source's choices, from what the source's temporaries hold. Where one of these is
--- undefined behaviour, there is nothing to choose.
+-- The numbers are those that `Wit:` gives for the source's choices, from what the source's temporaries hold. Where one
+-- of these is undefined behaviour, there is nothing to choose.
 abbrev pub Chooses : Rule → List ℕ → Setting → List Number → Type 0
 Chooses rule typing setting choices =
     (held : Held) → TemporariesEnd typing setting.constants rule setting.inputs (Holds held) → choices ≡ map (witness_number rule typing setting held) rule.witnesses

@@ -1,7 +1,8 @@
 //! Rules of the Alive language as plain values, their runs, and when one is valid.
 //!
-//! The meaning stands in `specs/`: `Checks` says what a rule meets, `Typing` what widths its classes may have, `Terms` what constant
-//! terms give and when a precondition holds, `Run` what the two halves do, and `Valid` when the rule is right.
+//! The meaning stands in `specs/`: `Checks` says what a rule meets, `Typing` what widths its classes may have, `Terms`
+//! what constant terms give and when a precondition holds, `Run` what the two halves do, and `Valid` when the rule is
+//! right.
 #![tactic(auto)]
 
 mod choices;

@@ -1,21 +1,21 @@
 //! A rule and its parts. A register is known by its place; the names are kept for printing.
 //!
-//! The positions of a rule are the results and operands of its statements and the nodes of its terms: the source's statements before
-//! the target's, of each statement the result and then the operands from left to right, and behind them the nodes, in the order in
-//! which they are kept. Positions that have one width in each typing, by the table of types, are of one class, and each position keeps
-//! the number of its class.
+//! The positions of a rule are the results and operands of its statements and the nodes of its terms: the source's
+//! statements before the target's, of each statement the result and then the operands from left to right, and behind
+//! them the nodes, in the order in which they are kept. Positions that have one width in each typing, by the table of
+//! types, are of one class, and each position keeps the number of its class.
 
 use lists::{List, Text};
 use ops::{Cast, Flags, Opcode, Pred, Unary, Width};
 
-/// A rewrite rule: where the source stands, the target may stand in its place. (Lopes and others, "Provably Correct Peephole
-/// Optimizations with Alive", 2015.)
+/// A rewrite rule: where the source stands, the target may stand in its place. (Lopes and others, "Provably Correct
+/// Peephole Optimizations with Alive", 2015.)
 #[derive(Drop)]
 pub struct Rule {
     /// The name, as the rule's first line has it.
     pub name: Text,
-    /// The names, without the `%`, of the registers of the source that no source statement assigns, in the order in which the
-    /// source first names them.
+    /// The names, without the `%`, of the registers of the source that no source statement assigns, in the order in
+    /// which the source first names them.
     pub inputs: List<Text>,
     /// The names of the abstract constants, in the order in which the source first names them.
     pub constants: List<Text>,
@@ -23,10 +23,11 @@ pub struct Rule {
     pub source: List<Statement>,
     /// The statements that come in place of the root's. The last one assigns the root.
     pub target: List<Statement>,
-    /// The nodes of the constant terms: those of the target and then those of the precondition, from left to right, and each behind
-    /// its operands.
+    /// The nodes of the constant terms: those of the target and then those of the precondition, from left to right, and
+    /// each behind its operands.
     pub terms: List<Term>,
-    /// The nodes of the formula of `Pre:`, each behind its operands. The last one is the precondition; a rule without `Pre:` has none.
+    /// The nodes of the formula of `Pre:`, each behind its operands. The last one is the precondition; a rule without
+    /// `Pre:` has none.
     pub precondition: List<Formula>,
     /// The nodes of the expressions of `Wit:`, from left to right, and each behind its operands.
     pub witness_terms: List<Term>,
@@ -49,16 +50,18 @@ pub struct Statement {
 pub enum Op {
     /// A binary operation on two operands of the result's class.
     Binary(Opcode, Flags, Operand, Operand),
-    /// `icmp`, with `samesign` where that is true: a comparison of two operands of one class. The result has the width 1.
+    /// `icmp`, with `samesign` where that is true: a comparison of two operands of one class. The result has the width
+    /// 1.
     Compare(Pred, bool, Operand, Operand),
     /// An intrinsic on one operand of the result's class, with its truth value, which is false where it has none.
     Unary(Unary, bool, Operand),
-    /// `select`: the second operand where the first, of width 1, is 1, and else the third; both are of the result's class.
+    /// `select`: the second operand where the first, of width 1, is 1, and else the third; both are of the result's
+    /// class.
     Select(Operand, Operand, Operand),
     /// A cast of the operand to the result's width, which the last type says, if it is written.
     Convert(Cast, Flags, Operand, Option<Width>),
-    /// `freeze`: the operand, which has the result's class, and where that is poison a number, which is the choice of its half at this
-    /// place. In a source it is the root's alone.
+    /// `freeze`: the operand, which has the result's class, and where that is poison a number, which is the choice of
+    /// its half at this place. In a source it is the root's alone.
     Freeze(Operand, u32),
     /// The operand itself, which has the result's class. It stands in a target alone.
     Copy(Operand),
@@ -79,14 +82,15 @@ pub struct Operand {
 pub enum Argument {
     /// What the register holds.
     Register(Register),
-    /// A number as it is written, with its sign. At a width of N it is from -2^(N-1) to 2^N - 1, and means itself modulo 2^N. One
-    /// past an end of `i128` is held as that end, which fits no width.
+    /// A number as it is written, with its sign. At a width of N it is from -2^(N-1) to 2^N - 1, and means itself
+    /// modulo 2^N. One past an end of `i128` is held as that end, which fits no width.
     Literal(i128),
     /// `true` or `false`: 1 or 0, of width 1.
     Truth(bool),
     /// An abstract constant, by its place.
     Constant(u32),
-    /// An `undef`, by its place among the choices of its half, which are its `undef`s and its freezes in the order of the text.
+    /// An `undef`, by its place among the choices of its half, which are its `undef`s and its freezes in the order of
+    /// the text.
     Undef(u32),
     /// A constant term that is more than a literal or a constant: the place of its node. It stands in a target alone.
     Term(u32),
@@ -144,8 +148,8 @@ pub enum Node {
     /// `width(%x)`: how many bits the register has, which is of this class.
     Width(Register, u32),
     Unary(Function, u32),
-    /// An operator of two operands: `*`, `/`, `/u`, `%`, `%u`, `+`, `-`, `<<`, `>>`, `u>>`, `&`, `^` or `|`. It is known by the
-    /// instruction that computes the same: `/` by `sdiv`, `%` by `srem`, `>>` by `ashr`.
+    /// An operator of two operands: `*`, `/`, `/u`, `%`, `%u`, `+`, `-`, `<<`, `>>`, `u>>`, `&`, `^` or `|`. It is
+    /// known by the instruction that computes the same: `/` by `sdiv`, `%` by `srem`, `>>` by `ashr`.
     Binary(Opcode, u32, u32),
 }
 
@@ -171,8 +175,8 @@ pub enum Formula {
     IsPowerOfTwo(u32),
     /// `isSignBit`: the highest bit of the term alone is set.
     IsSignBit(u32),
-    /// `hasOneUse`: the register that this source statement assigns is used once where the rule is applied. When a rule is decided it
-    /// counts as true.
+    /// `hasOneUse`: the register that this source statement assigns is used once where the rule is applied. When a rule
+    /// is decided it counts as true.
     HasOneUse(u32),
     Not(u32),
     And(u32, u32),

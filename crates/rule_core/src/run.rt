@@ -34,8 +34,8 @@ pub(crate) struct Given<'a> {
     terms: &'a [Value],
 }
 
-/// What the source does on these inputs, constants and one number for each of its choices: its statements in order, and then the
-/// root. Undefined behaviour of one is its effect. It takes as many steps as there are statements.
+/// What the source does on these inputs, constants and one number for each of its choices: its statements in order, and
+/// then the root. Undefined behaviour of one is its effect. It takes as many steps as there are statements.
 pub fn run_source(
     alloc: Global,
     rule: &Rule,
@@ -65,9 +65,9 @@ pub fn run_source(
     Ok(Effect::Gives(values[count - 1]))
 }
 
-/// What the target does on these inputs, constants and one number for each of its choices: the statements of the source but the
-/// root's, then its own in order, and then the root. Undefined behaviour of one is its effect. It takes as many steps as there are
-/// statements.
+/// What the target does on these inputs, constants and one number for each of its choices: the statements of the source
+/// but the root's, then its own in order, and then the root. Undefined behaviour of one is its effect. It takes as many
+/// steps as there are statements.
 pub fn run_target(
     alloc: Global,
     rule: &Rule,

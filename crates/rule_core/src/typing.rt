@@ -8,10 +8,10 @@ ghost use Rattle.rule_core.specs.Typing.{IsTyping, width_at};
 use crate::rule::{Node, Op, Rule, Statement, Term, Typing};
 use ops::Width;
 
-/// The width of a position of the rule. Positions count results, operands and nodes from 0: statement by statement, the source's before
-/// the target's, of each the result and then the operands from left to right; and behind these the nodes of the terms, those of `Wit:`
-/// last, where a node that is a register's width has a second position, which is the register's. It takes as many steps as there are
-/// statements and nodes.
+/// The width of a position of the rule. Positions count results, operands and nodes from 0: statement by statement, the
+/// source's before the target's, of each the result and then the operands from left to right; and behind these the
+/// nodes of the terms, those of `Wit:` last, where a node that is a register's width has a second position, which is
+/// the register's. It takes as many steps as there are statements and nodes.
 pub fn width_at(rule: &Rule, typing: &Typing, position: u32) -> Width
     requires typing { IsTyping rule.now typing.now }
     requires position { position < length (classes_of rule.now) }
