@@ -16,6 +16,9 @@ fewer_rounds m (suc n) room is = same_rounds m n room (omega (arith, is))
     same_rounds : (m n room : ℕ) → m ≡ n → rounds m room + (room + 1) ≤ rounds n room + (room + 1)
     same_rounds m n room e = omega (arith, ap (λ k. rounds k room) e)
 
+pub less_after_decision : (limit learned room before after : ℕ) → before < after → after ≤ room → work_left limit learned room after < work_left limit learned room before
+less_after_decision limit learned room before after more within = omega arith
+
 pub less_after_conflict : (limit learned more room before after : ℕ) → more ≡ learned + 1 → learned < limit → work_left limit more room after < work_left limit learned room before
 less_after_conflict limit learned more room before after is within =
     let fewer = fewer_rounds (limit - more) (limit - learned) room (omega (arith, is, within)) in omega (arith, fewer)

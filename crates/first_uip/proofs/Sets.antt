@@ -1,9 +1,9 @@
 -- Elements of a list of which one is replaced, or dropped as the last takes its place.
-use Rattle.std.proofs.Common.{◌≡◌, ℕ, ◌-◌, ◌<◌, ◌≤◌, List, Some, length, set, get_or, sym, ap, ◌∙◌, arith, inl, inr, length-set}
+use Rattle.std.proofs.Common.{◌≡◌, ℕ, ◌+◌, ◌-◌, ◌<◌, ◌≤◌, List, Some, length, set, get_or, sym, ap, ◌∙◌, arith, inl, inr, length-set}
 use Rattle.std.specs.Prelude.{slice_get, ◌⊎◌}
 use Rattle.std.specs.List.{swap_remove}
 use Rattle.std.proofs.lemmas.Bool.{cases_order}
-use Rattle.std.proofs.lemmas.List.{get_or-set_same, get_or-set_other}
+use Rattle.std.proofs.lemmas.List.{get_or-set_same, get_or-set_other, length-take-le}
 use Rattle.std.proofs.lemmas.Option.{slice_get-get_or, slice_get_past, get_or_from_slice_get}
 use Rattle.depth_first.proofs.Lists.{slice_get_below, slice_get_take, slice_get_in_take, some_same}
 
@@ -63,3 +63,8 @@ module _ (xs : List ℕ) (place : ℕ) (within : place < length xs) where
         | inl here ↦ (length xs - 1, slice_get-get_or xs (length xs - 1) 0 (omega arith) ∙ ap Some here.1)
         | inr other ↦ (j, other.1)
       ]
+
+  pub length_by_drop : length (swap_remove xs place 0) + 1 ≡ length xs
+  length_by_drop =
+      let x = get_or xs (length xs - 1) 0 in
+      omega (arith, within, length-set xs place x, length-take-le (length xs - 1) (set xs place x) (omega (arith, length-set xs place x)))

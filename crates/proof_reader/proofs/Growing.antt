@@ -32,6 +32,9 @@ stood_last [] last (suc k) x past at = absurd (let none : k < 0 = slice_get_with
 stood_last (z ∷ xs) last zero x past at = absurd (omega arith)
 stood_last (z ∷ xs) last (suc k) x past at = let rest = stood_last xs last k x (omega arith) at in (ap suc rest.0, rest.1)
 
+pub none_good : (rules : List Rule) → AreGood rules []
+none_good rules place proof at = absurd (let none : place < 0 = slice_get_within [] place proof at in omega arith)
+
 pub good_more : (rules : List Rule) (earlier : List Proof) (proof : Proof) → AreGood rules earlier → IsGood rules earlier proof → AreGood rules (earlier ++ proof ∷ [])
 good_more rules earlier proof good more place at_place at = elim (cases_lt place (length earlier)) [
   | inl before ↦

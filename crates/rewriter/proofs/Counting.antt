@@ -1,6 +1,7 @@
 -- Statements that are put, counted and in order.
 use Rattle.std.proofs.Common.{◌≡◌, ℕ, ◌+◌, ◌-◌, ◌<◌, ◌≤◌, Bool, true, false, not, List, [], ◌∷◌, ◌++◌, length, length-append, take, None, Some, refl, sym, ap, ◌∙◌, arith, get_or, flat_map, append_assoc, append-nil}
 use Rattle.std.specs.Prelude.{slice_get}
+use Rattle.std.proofs.lemmas.Grind.{flat_map-append}
 use Rattle.std.proofs.lemmas.List.{take_more, take_all}
 use Rattle.std.proofs.lemmas.List.Sums.{count_by_more_yes, count_by_more_no}
 use Rattle.std.proofs.lemmas.Option.{slice_get-get_or}
@@ -66,6 +67,15 @@ module _ (rule : Rule) (binding : Binding) where
   insts_in_order name (t ∷ u ∷ before) s =
       ap (λ l. insts_with rule binding None t ++ l) (insts_in_order name (u ∷ before) s)
       ∙ sym (append_assoc (insts_with rule binding None t) (flat_map (insts_with rule binding None) (u ∷ before)) (insts_with rule binding name s))
+
+  -- the instructions of the first i statements with one more
+  pub insts_more : (i : ℕ) (statements : List Statement) (s : Statement) (insts more : List Inst) → i < length statements → s ≡ get_or statements i s → insts ≡ flat_map (insts_with rule binding None) (take i statements)
+      → more ≡ insts ++ insts_with rule binding None s → more ≡ flat_map (insts_with rule binding None) (take (i + 1) statements)
+  insts_more i statements s insts more within read are is =
+      is ∙ ap (λ l. l ++ insts_with rule binding None s) are
+      ∙ ap (λ l. flat_map (insts_with rule binding None) (take i statements) ++ l) (sym (append-nil (insts_with rule binding None s)))
+      ∙ sym (flat_map-append (insts_with rule binding None) (take i statements) (s ∷ []))
+      ∙ ap (λ l. flat_map (insts_with rule binding None) l) (ap (λ x. take i statements ++ x ∷ []) read ∙ sym (take_more statements i s within))
 
   pub all_insts : (name : Name) (last : ℕ) (statements : List Statement) (s : Statement) (insts all : List Inst) → last + 1 ≡ length rule.target → statements ≡ take last rule.target → s ≡ get_or rule.target last s
       → insts ≡ flat_map (insts_with rule binding None) statements → all ≡ insts ++ insts_with rule binding name s → all ≡ insts_put rule binding name rule.target
