@@ -7,6 +7,7 @@
 mod formula;
 mod function;
 mod numbers;
+mod pair;
 mod power;
 mod scope;
 mod term;
