@@ -7,3 +7,4 @@ pub mod Comparing
 pub mod Formulas
 pub mod Nodes
 pub mod Counts
+pub mod Tests

@@ -1,6 +1,6 @@
 -- Nodes one after the other in literals.
 use Rattle.std.proofs.Common.{◌≡◌, ℕ, zero, suc, ◌+◌, ◌<◌, ◌≤◌, Bool, List, [], ◌∷◌, ◌++◌, length, map, take, Some, refl, sym, ap, subst, ◌∙◌, arith, get_or}
-use Rattle.std.specs.Prelude.{slice_get, slice_index, sum_by}
+use Rattle.std.specs.Prelude.{slice_get, slice_index, sum_by, IsSome}
 use Rattle.std.specs.List.{All}
 use Rattle.std.proofs.lemmas.List.{take_more, map-append, length-map}
 use Rattle.std.proofs.lemmas.List.Sums.{sum_by_push, sum_by-cons}
@@ -29,6 +29,13 @@ own_from_get P xs k x all at = subst P (get_or_from_slice_get xs k x x at) (all 
 pub held_there : {L : Type 0} (held : List (Held L)) (n N : ℕ) → slice_get (widths_of held) n ≡ Some N → n < length held
 held_there held n N width =
     subst (λ m. n < m) (length-map held (λ (x : Held _). length x.bits)) (slice_get_within (widths_of held) n N width)
+
+-- a place where something stands
+pub some_within : {X : Type 0} (xs : List X) (k : ℕ) → IsSome (slice_get xs k) → k < length xs
+some_within [] zero some = cc
+some_within [] (suc k) some = cc
+some_within (x ∷ xs) zero some = omega arith
+some_within (x ∷ xs) (suc k) some = omega (arith, some_within xs k some)
 
 -- sums over one element more, and over fewer
 pub sum-more : {X : Type 0} (f : X → ℕ) (xs : List X) (i : ℕ) (x : X) → i < length xs → x ≡ get_or xs i x → sum_by f (take (i + 1) xs) ≡ sum_by f (take i xs) + f x

@@ -7,9 +7,10 @@ ghost use Rattle.blast_value.specs.Effect.{held_value, widths_of, IsOwn};
 ghost use Rattle.blast_term.specs.Gates.{comparing_gates, power_test_gates, sign_test_gates, formula_gates, formulas_gates, precondition_gates};
 ghost use Rattle.blast_term.specs.Terms.{FormulaIsHeld, FormulasAreHeld, PreconditionMet};
 
+use crate::pair::blast_pair;
 use crate::power::blast_exponent;
-use crate::scope::{at, pair};
-use blast_value::{Held, Instruction, blast_value, equals};
+use crate::scope::at;
+use blast_value::{Held, Instruction, equals};
 use circuits::{Circuit, or};
 use ops::{Pred, Width};
 use rule_core::Formula;
@@ -126,14 +127,8 @@ fn blast_compares<C: Circuit>(
     ensures adds { Adds C.State c.old c.new
         (comparing_gates (length left.now.bits)) }
 {
-    let operands = pair(alloc, left, right)?;
-    let made = blast_value(
-        alloc,
-        c,
-        Instruction::Compare(pred, false),
-        one(),
-        &operands,
-    )?;
+    let what = Instruction::Compare(pred, false);
+    let made = blast_pair(alloc, c, what, one(), left, right)?;
     c.and(alloc, made.bits.as_slice()[0], c.not(made.poison))
 }
 

@@ -5,6 +5,7 @@ ghost use Rattle.ops.specs.Integer.{bits, least};
 ghost use Rattle.ops.specs.Flags.{no_flags};
 ghost use Rattle.ops.specs.Instruction.{instruction};
 ghost use Rattle.circuits.specs.Circuit.{Adds};
+ghost use Rattle.circuits.specs.Gates.{comparison_gates};
 ghost use Rattle.circuits.specs.Word.{number_of};
 ghost use Rattle.rule_core.specs.Terms.{value_given, function_value};
 ghost use Rattle.rule_core.specs.declared.rule.Function.TheVariants as functions;
@@ -13,9 +14,9 @@ ghost use Rattle.blast_value.specs.Gates.{opcode_gates};
 ghost use Rattle.blast_term.specs.Gates.{function_gates};
 
 use crate::numbers::number;
+use crate::pair::blast_pair;
 use crate::power::blast_exponent;
-use crate::scope::pair;
-use blast_value::{Blasted, Held, Instruction, blast_value, constant};
+use blast_value::{Blasted, Held, Instruction, constant};
 use circuits::{Bits, Circuit, less_unsigned, neg, or, select};
 use ops::{Flags, Opcode, Width};
 use rule_core::Function;
@@ -43,12 +44,11 @@ pub(crate) fn blast_operator<C: Circuit>(
     ensures adds { Adds C.State c.old c.new (opcode_gates op width + 1) }
 {
     let what = Instruction::Binary(op, Flags::NONE);
-    let operands = pair(alloc, left, right)?;
     let Blasted {
         bits,
         poison,
         undefined,
-    } = blast_value(alloc, c, what, width, &operands)?;
+    } = blast_pair(alloc, c, what, width, left, right)?;
     let poison = or(alloc, c, poison, undefined)?;
     Ok(Held { bits, poison })
 }
@@ -178,8 +178,25 @@ fn without_sign<C: Circuit>(
     ensures adds { Adds C.State c.old c.new
         (function_gates functions.Abs width) }
 {
-    let least = constant(alloc, c, 1 << (width.bits() - 1), word.len())?;
-    let is_below = less_unsigned(alloc, c, word, &least)?;
+    let is_below = is_below_least(alloc, c, width, word)?;
     let negated = neg(alloc, c, word)?;
     select(alloc, c, is_below, word.as_slice(), negated.as_slice())
+}
+
+/// Whether the number is below the least number, of which the highest bit alone is set.
+fn is_below_least<C: Circuit>(
+    alloc: Global,
+    c: &mut C,
+    width: Width,
+    word: &Bits<C::Literal>,
+) -> Result<C::Literal, AllocError>
+    requires width { length word.now ≡ width }
+    requires own { All (C.has_literal c.old) word.now }
+    ensures value { IfOk result (λ below. (inputs : Seq Bool) → C.admits c.old inputs →
+        C.value c.new inputs below ≡ nat_lt (number_of (C.value c.old inputs) word.now) (least width)) }
+    ensures own { IfOk result (λ below. C.has_literal c.new below) }
+    ensures adds { Adds C.State c.old c.new (comparison_gates width) }
+{
+    let least = constant(alloc, c, 1 << (width.bits() - 1), word.len())?;
+    less_unsigned(alloc, c, word, &least)
 }

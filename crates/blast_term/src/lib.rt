@@ -8,6 +8,7 @@
 mod formula;
 mod function;
 mod numbers;
+mod pair;
 mod power;
 mod scope;
 mod term;

@@ -1,5 +1,5 @@
 //! What statements and terms can read, as literals.
-ghost use Rattle.std.specs.Prelude.{◌≡◌, ◌<◌, [], ◌∷◌, length, slice_get, Some, IsSome, IfOk};
+ghost use Rattle.std.specs.Prelude.{◌≡◌, ◌<◌, length, slice_get, Some, IsSome, IfOk};
 ghost use Rattle.blast_term.specs.Scope.{held_at};
 
 use blast_value::Held;
@@ -52,20 +52,6 @@ pub fn copied<L: Copy>(alloc: Global, held: &Held<L>) -> Result<Held<L>, AllocEr
         bits: word_copied(alloc, &held.bits)?,
         poison: held.poison,
     })
-}
-
-/// What an instruction takes: the literals of two operands once more.
-pub(crate) fn pair<L: Copy>(
-    alloc: Global,
-    left: &Held<L>,
-    right: &Held<L>,
-) -> Result<List<Held<L>>, AllocError>
-    ensures { IfOk result (λ operands. operands ≡ left.now ∷ right.now ∷ []) }
-{
-    let mut operands = List::new(alloc);
-    operands.push(copied(alloc, left)?)?;
-    operands.push(copied(alloc, right)?)?;
-    Ok(operands)
 }
 
 /// The same word once more.

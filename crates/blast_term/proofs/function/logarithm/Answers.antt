@@ -1,9 +1,33 @@
-use Rattle.std.proofs.Common.{◌≡◌, not, ◌||◌, if◌then◌else◌, length, Some, None, ap, sym, ◌∙◌}
+use Rattle.std.proofs.Common.{◌≡◌, not, ◌||◌, if◌then◌else◌, length, Some, None, ap, sym, ◌∙◌, arith}
 use Rattle.circuits.specs.Word.{number, number_of}
-use Rattle.circuits.proofs.Kept.{map-kept}
+use Rattle.circuits.proofs.Kept.{Adds-trans, Adds-weaken, All-kept, map-kept}
 use Rattle.rule_core.specs.Terms.{exponent}
 use Rattle.blast_term.proofs.Functions.{value_or_poison, log-value}
 use Rattle.blast_term.proofs.function.logarithm.Goals as goal
+
+pub blast_exponent-requires-clause-least : goal.blast_exponent-requires-clause-least
+blast_exponent-requires-clause-least g c = c.requires.least
+
+pub blast_exponent-requires-clause-most : goal.blast_exponent-requires-clause-most
+blast_exponent-requires-clause-most g c = c.requires.most
+
+pub blast_exponent-requires-clause-own : goal.blast_exponent-requires-clause-own
+blast_exponent-requires-clause-own g c = c.requires.own.bits
+
+pub not-requires : goal.not-requires
+not-requires g c = c.in_ok-found.ensures.own_exists
+
+pub or-requires-clause-own_a : goal.or-requires-clause-own_a
+or-requires-clause-own_a g c = c.blast_exponent.ensures.adds.keeps.literals c.args.operand.now.poison c.requires.own.poison
+
+pub or-requires-clause-own_b : goal.or-requires-clause-own_b
+or-requires-clause-own_b g c = c.not.ensures.own
+
+pub returns-in_err-found-clause-adds : goal.returns-in_err-found-clause-adds
+returns-in_err-found-clause-adds g c = Adds-weaken c.blast_exponent.ensures.adds (omega arith)
+
+pub returns-in_err-poison-clause-adds : goal.returns-in_err-poison-clause-adds
+returns-in_err-poison-clause-adds g c = Adds-trans c.blast_exponent.ensures.adds c.or.ensures.adds
 
 pub returns-clause-value : goal.returns-clause-value
 returns-clause-value g c = λ inputs admitted.
@@ -23,3 +47,12 @@ returns-clause-value g c = λ inputs admitted.
     rw (keeps.values inputs operand.poison admitted c.requires.own.poison, c.not.ensures.value inputs now) at (c.in_ok-poison.ensures.value inputs now) in
     ap (λ N. value_or_poison (end poison) N (number_of end found.bits)) c.in_ok-found.ensures.width
     ∙ log-value (start operand.poison) (mid found.exists) (end poison) (length operand.bits) (number_of start operand.bits) (number_of end found.bits) power either
+
+pub returns-clause-width : goal.returns-clause-width
+returns-clause-width g c = c.in_ok-found.ensures.width
+
+pub returns-clause-own : goal.returns-clause-own
+returns-clause-own g c = record { bits = All-kept c.or.ensures.adds.keeps c.in_ok-found.found.bits c.in_ok-found.ensures.own_bits; poison = c.in_ok-poison.ensures.own }
+
+pub returns-clause-adds : goal.returns-clause-adds
+returns-clause-adds g c = Adds-trans c.blast_exponent.ensures.adds c.or.ensures.adds

@@ -7,12 +7,19 @@ use Rattle.circuits.specs.Gates.{select_gates}
 use Rattle.circuits.proofs.Kept.{Adds-refl, Adds-weaken}
 use Rattle.blast_value.specs.Effect.{held_value, widths_of, IsOwn}
 use Rattle.blast_value.specs.Gates.{opcode_gates}
+use Rattle.rule_core.specs.Terms.{node_gives, within}
 use Rattle.blast_term.specs.Gates.{function_gates, term_gates}
 use Rattle.blast_term.specs.Terms.{NodeIsHeld}
 use Rattle.blast_term.proofs.Nodes.{width_of_word, width_of_register, register_own, constant-value, choice-value, register-value, unary-value}
 use Rattle.blast_term.proofs.Formulas.{width_read}
 use Rattle.blast_term.proofs.Turns.{binary-value, own_from_get, held_there}
 use Rattle.blast_term.proofs.term.blast_term.Goals as goal
+
+pub width_of-width-requires : goal.width_of-width-requires
+width_of-width-requires g c = c.requires.ready.0
+
+pub width_of-requires : goal.width_of-requires
+width_of-requires g c = subst (NodeIsHeld c.args.typing.now c.args.scope (widths_of c.args.before.now) (slice_index c.args.typing.now c.args.term.class)) c.in-Width.is c.requires.ready.1
 
 pub at-requires : goal.at-requires
 at-requires g c =
@@ -151,3 +158,32 @@ pub returns-in-Binary-clause-adds : goal.returns-in-Binary-clause-adds
 returns-in-Binary-clause-adds g c =
     let few : opcode_gates c.in-Binary.op c.width_of-width.result + 1 ≤ term_gates c.args.typing.now c.args.term = rw (c.in-Binary.is, c.width_of-width.ensures) (omega arith) in
     Adds-weaken c.blast_operator.ensures.adds few
+
+pub returns-in-Width-clause-value : goal.returns-in-Width-clause-value
+returns-in-Width-clause-value g c = IfOk-weaker c.within.result _ _ (λ made known inputs names admitted means.
+    let typing = c.args.typing.now in
+    known inputs admitted
+    ∙ ap (λ n. within c.width_of-width.result n) (c.bits.ensures.bits ∙ c.width_of.ensures)
+    ∙ ap (λ N. within N (slice_index typing c.in-Width.class)) c.width_of-width.ensures
+    ∙ ap (node_gives typing names (map (held_value (g.C.State.value c.args.c.now inputs)) c.args.before.now) (slice_index typing c.args.term.class)) (sym c.in-Width.is)) c.within.ensures.value
+
+pub returns-in-Literal-clause-own : goal.returns-in-Literal-clause-own
+returns-in-Literal-clause-own g c = c.number.ensures.own
+
+pub returns-in-Constant-clause-own : goal.returns-in-Constant-clause-own
+returns-in-Constant-clause-own g c = c.of_word.ensures.own
+
+pub returns-in-Register-clause-own : goal.returns-in-Register-clause-own
+returns-in-Register-clause-own g c = c.of_register.ensures.own
+
+pub returns-in-Choice-clause-own : goal.returns-in-Choice-clause-own
+returns-in-Choice-clause-own g c = c.of_word-in-Choice.ensures.own
+
+pub returns-in-Width-clause-own : goal.returns-in-Width-clause-own
+returns-in-Width-clause-own g c = c.within.ensures.own
+
+pub returns-in-Unary-clause-own : goal.returns-in-Unary-clause-own
+returns-in-Unary-clause-own g c = c.blast_function.ensures.own
+
+pub returns-in-Binary-clause-own : goal.returns-in-Binary-clause-own
+returns-in-Binary-clause-own g c = c.blast_operator.ensures.own

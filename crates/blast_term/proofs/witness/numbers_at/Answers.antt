@@ -1,11 +1,11 @@
-use Rattle.std.proofs.Common.{◌≡◌, ℕ, List, get_or, ◌+◌, ◌<◌, ◌∷◌, [], length, map, sym, ◌∙◌, arith}
+use Rattle.std.proofs.Common.{◌≡◌, ℕ, List, get_or, ◌+◌, ◌<◌, ◌∷◌, [], length, map, take, refl, sym, ap, ◌∙◌, arith}
 use Rattle.std.specs.List.{All}
 use Rattle.std.specs.Prelude.{slice_index}
-use Rattle.std.proofs.lemmas.List.{map-append}
+use Rattle.std.proofs.lemmas.List.{map-append, take_all}
 use Rattle.std.proofs.lemmas.List.Elements.{All-push}
 use Rattle.std.proofs.lemmas.Option.{slice_get-get_or, get_or_from_slice_get}
 use Rattle.circuits.specs.Gates.{select_gates}
-use Rattle.circuits.proofs.Kept.{Adds-trans, Adds-weaken}
+use Rattle.circuits.proofs.Kept.{Adds-none, Adds-trans, Adds-weaken}
 use Rattle.blast_value.specs.Effect.{held_value, widths_of, IsOwn}
 use Rattle.blast_value.specs.Words.{number_held}
 use Rattle.blast_term.specs.Terms.{number_chosen}
@@ -63,3 +63,29 @@ loop-place-preserved g c =
       own = All-push (All (m.has_literal c.number_or_zero.new.c)) words word (AllAll-kept keeps words before.own) c.in_ok-word.ensures.own;
       adds = Adds-weaken (Adds-trans before.adds c.number_or_zero.ensures.adds) (omega (arith, sum-more f c.args.places.now i n within (there c.args.places.now i within), width_chosen values n c.at.result.now c.at.ensures));
     }
+
+pub loop-place-init : goal.loop-place-init
+loop-place-init g c = rw c.new-words.ensures record {
+  numbers = λ inputs admitted. refl;
+  widths = refl;
+  own = λ k d within. absurd (omega arith);
+  adds = Adds-none;
+}
+
+pub returns-clause-numbers : goal.returns-clause-numbers
+returns-clause-numbers g c = λ inputs admitted.
+    let values = c.args.values.now in
+    c.loop-place.invariant.numbers inputs admitted
+    ∙ ap (λ places. map (number_chosen (widths_of values) (map (held_value (g.C.State.value c.args.c.now inputs)) values)) places) (take_all c.loop-place.place-index c.args.places.now c.loop-place-test.false)
+
+pub returns-clause-widths : goal.returns-clause-widths
+returns-clause-widths g c =
+    c.loop-place.invariant.widths ∙ ap (λ places. map (slice_index (widths_of c.args.values.now)) places) (take_all c.loop-place.place-index c.args.places.now c.loop-place-test.false)
+
+pub returns-clause-own : goal.returns-clause-own
+returns-clause-own g c = c.loop-place.invariant.own
+
+pub returns-clause-adds : goal.returns-clause-adds
+returns-clause-adds g c =
+    let whole : take c.loop-place.place-index c.args.places.now ≡ c.args.places.now = take_all c.loop-place.place-index c.args.places.now c.loop-place-test.false in
+    rw whole at c.loop-place.invariant.adds
