@@ -43,6 +43,13 @@ run_gates-within typing statements i within =
     let whole = ap (λ xs. run_gates typing xs) (take_all (length statements) statements (omega arith)) in
     omega (arith, whole, run_gates-fewer typing statements i (length statements) within)
 
+-- a turn's gates, among those of the first n statements, and of all
+pub run_gates-turn : (typing : List ℕ) (statements : List Statement) (i n : ℕ) (s : Statement) → i < n → n ≤ length statements → s ≡ get_or statements i s → run_gates typing (take i statements) + statement_gates typing s ≤ run_gates typing (take n statements)
+run_gates-turn typing statements i n s inside within is = omega (arith, run_gates-more typing statements i s (omega arith) is, run_gates-fewer typing statements (i + 1) n (omega arith))
+
+pub run_gates-turn_of_all : (typing : List ℕ) (statements : List Statement) (i : ℕ) (s : Statement) → i < length statements → s ≡ get_or statements i s → run_gates typing (take i statements) + statement_gates typing s ≤ run_gates typing statements
+run_gates-turn_of_all typing statements i s inside is = omega (arith, run_gates-more typing statements i s inside is, run_gates-within typing statements (i + 1) (omega arith))
+
 -- the shapes of what statements have assigned fit, with one more
 pub shapes_fit-push : {L : Type 0} (typing : List ℕ) (statements : List Statement) (items : List (Held L)) (i : ℕ) (s : Statement) (held : Held L)
     → ValuesFit typing statements (map shape items) → length items ≡ i → slice_get statements i ≡ Some s → slice_get typing s.class ≡ Some (length held.bits) → ValuesFit typing statements (map shape (items ++ held ∷ []))

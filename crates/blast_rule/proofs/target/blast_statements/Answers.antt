@@ -10,7 +10,7 @@ use Rattle.blast_value.proofs.Kept.{AllOwn-kept}
 use Rattle.blast_term.specs.Scope.{holds}
 use Rattle.blast_term.proofs.Kept.{scope_own-kept}
 use Rattle.blast_rule.proofs.Kept.{given-kept}
-use Rattle.blast_rule.proofs.Runs.{run_gates-more, run_gates-within, shapes_fit-push, stands, own_none, target_more, held_after}
+use Rattle.blast_rule.proofs.Runs.{run_gates-more, run_gates-turn_of_all, shapes_fit-push, stands, own_none, target_more, held_after}
 use Rattle.blast_rule.proofs.target.blast_statements.Goals as goal
 
 pub blast_next-requires-clause-ready : goal.blast_next-requires-clause-ready
@@ -47,17 +47,15 @@ loop-statement-init g c = rw c.new-held.ensures.items record {
 
 pub returns-in_err-made-clause-adds : goal.returns-in_err-made-clause-adds
 returns-in_err-made-clause-adds g c =
-    let target = c.args.rule.now.target in
     let is = rw c.as_slice-statement-items.ensures at c.statement-item.is in
-    let more = run_gates-more c.args.typing.now target c.loop-statement.statement-index c.statement-item.result (omega (arith, ap length c.as_slice-statement-items.ensures)) is in
-    Adds-weaken (Adds-trans c.loop-statement.invariant.adds c.blast_next.ensures.adds) (omega (arith, more, run_gates-within c.args.typing.now target (c.loop-statement.statement-index + 1) (omega (arith, ap length c.as_slice-statement-items.ensures))))
+    Adds-weaken (Adds-trans c.loop-statement.invariant.adds c.blast_next.ensures.adds)
+    (run_gates-turn_of_all c.args.typing.now c.args.rule.now.target c.loop-statement.statement-index c.statement-item.result (omega (arith, ap length c.as_slice-statement-items.ensures)) is)
 
 pub returns-in_err-push-clause-adds : goal.returns-in_err-push-clause-adds
 returns-in_err-push-clause-adds g c =
-    let target = c.args.rule.now.target in
     let is = rw c.as_slice-statement-items.ensures at c.statement-item.is in
-    let more = run_gates-more c.args.typing.now target c.loop-statement.statement-index c.statement-item.result (omega (arith, ap length c.as_slice-statement-items.ensures)) is in
-    Adds-weaken (Adds-trans c.loop-statement.invariant.adds c.blast_next.ensures.adds) (omega (arith, more, run_gates-within c.args.typing.now target (c.loop-statement.statement-index + 1) (omega (arith, ap length c.as_slice-statement-items.ensures))))
+    Adds-weaken (Adds-trans c.loop-statement.invariant.adds c.blast_next.ensures.adds)
+    (run_gates-turn_of_all c.args.typing.now c.args.rule.now.target c.loop-statement.statement-index c.statement-item.result (omega (arith, ap length c.as_slice-statement-items.ensures)) is)
 
 pub loop-statement-preserved : goal.loop-statement-preserved
 loop-statement-preserved g c =

@@ -11,7 +11,7 @@ use Rattle.blast_value.proofs.Kept.{AllOwn-kept}
 use Rattle.blast_term.specs.Scope.{holds}
 use Rattle.blast_term.proofs.Kept.{scope_own-kept}
 use Rattle.blast_rule.proofs.Kept.{given-kept}
-use Rattle.blast_rule.proofs.Runs.{run_gates-more, run_gates-fewer, shapes_fit-push, stands, own_none, source_more, held_after}
+use Rattle.blast_rule.proofs.Runs.{run_gates-more, run_gates-turn, shapes_fit-push, stands, own_none, source_more, held_after}
 use Rattle.blast_rule.proofs.temporaries.blast_temporaries.Goals as goal
 
 pub blast_next-requires-clause-ready : goal.blast_next-requires-clause-ready
@@ -51,15 +51,13 @@ pub returns-in_err-made-clause-adds : goal.returns-in_err-made-clause-adds
 returns-in_err-made-clause-adds g c =
     let source = c.args.rule.now.source in
     let is = rw c.as_slice.ensures at c.index-as_slice-place.is in
-    let more = run_gates-more c.args.typing.now source c.loop-place.place c.index-as_slice-place.result (omega arith) is in
-    Adds-weaken (Adds-trans c.loop-place.invariant.adds c.blast_next.ensures.adds) (omega (arith, more, run_gates-fewer c.args.typing.now source (c.loop-place.place + 1) (length source - 1) (omega arith)))
+    Adds-weaken (Adds-trans c.loop-place.invariant.adds c.blast_next.ensures.adds) (run_gates-turn c.args.typing.now source c.loop-place.place (length source - 1) c.index-as_slice-place.result (omega arith) (omega arith) is)
 
 pub returns-in_err-push-clause-adds : goal.returns-in_err-push-clause-adds
 returns-in_err-push-clause-adds g c =
     let source = c.args.rule.now.source in
     let is = rw c.as_slice.ensures at c.index-as_slice-place.is in
-    let more = run_gates-more c.args.typing.now source c.loop-place.place c.index-as_slice-place.result (omega arith) is in
-    Adds-weaken (Adds-trans c.loop-place.invariant.adds c.blast_next.ensures.adds) (omega (arith, more, run_gates-fewer c.args.typing.now source (c.loop-place.place + 1) (length source - 1) (omega arith)))
+    Adds-weaken (Adds-trans c.loop-place.invariant.adds c.blast_next.ensures.adds) (run_gates-turn c.args.typing.now source c.loop-place.place (length source - 1) c.index-as_slice-place.result (omega arith) (omega arith) is)
 
 pub loop-place-preserved : goal.loop-place-preserved
 loop-place-preserved g c =
