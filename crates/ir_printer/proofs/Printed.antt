@@ -1,19 +1,18 @@
 -- The texts of lists, as far as a loop has printed them.
 use Rattle.std.proofs.Common.{◌≡◌, ℕ, suc, ◌+◌, ◌<◌, ◌≤◌, false, cond, eqb, List, [], ◌∷◌, ◌++◌, length, take, get_or, refl, sym, ap, ◌∙◌, append_assoc, arith, rules, tests, zero-add}
-use Rattle.std.specs.Prelude.{codes}
-use Rattle.std.specs.Fmt.{digits}
 use Rattle.std.specs.List.{flat_map, join_by, enumerate_from}
-use Rattle.std.proofs.lemmas.List.{append-nil, take_more, take_all, flat_map_more, length-take-le}
+use Rattle.std.proofs.lemmas.List.{append-nil, take_more, take_all, flat_map_more, get_or_default, length-take-le}
 use Rattle.std.proofs.lemmas.List.Concat.{flat_map-append}
 use Rattle.std.proofs.lemmas.List.FromFn.{length-enumerate_from, get_or-enumerate_from}
-use Rattle.ir_core.specs.declared.function.Function.{Function}
-use Rattle.ir_core.specs.declared.operand.Operand.{Operand}
-use Rattle.ir_text.specs.PrintedText.{type_text, operand_text, typed_text}
 
 -- the text of the first items, and then that of one more
 pub each_more : {X : Type 0} (text : X → List ℕ) (start before after : List ℕ) (xs : List X) (i : ℕ) (x : X) → i < length xs → x ≡ get_or xs i x → before ≡ start ++ flat_map text (take i xs) → after ≡ before ++ text x
     → after ≡ start ++ flat_map text (take (i + 1) xs)
 each_more text start before after xs i x within is so_far more = rw (more, so_far, take_more xs i x within, ← is) (flat_map_more text start (take i xs) x)
+
+pub each_at : {X : Type 0} (text : X → List ℕ) (start before after : List ℕ) (xs : List X) (i : ℕ) (d : X) → i < length xs → before ≡ start ++ flat_map text (take i xs) → after ≡ before ++ text (get_or xs i d)
+    → after ≡ start ++ flat_map text (take (i + 1) xs)
+each_at text start before after xs i d within = each_more text start before after xs i (get_or xs i d) within (get_or_default xs i d (get_or xs i d) within)
 
 -- the place of an item stands beside it
 placed : {X : Type 0} (xs : List X) (i : ℕ) (x : X) → i < length xs → x ≡ get_or xs i x → (i, x) ≡ get_or (enumerate_from 0 xs) i (i, x)
@@ -44,8 +43,3 @@ join_placed_more text separator start before after xs i x within is = join_more 
 -- all items, with their places
 pub take_placed : {X : Type 0} (xs : List X) (i : ℕ) → length xs ≤ i → take i (enumerate_from 0 xs) ≡ enumerate_from 0 xs
 take_placed xs i past = take_all i (enumerate_from 0 xs) (omega (arith, length-enumerate_from 0 xs))
-
--- an operand of one bit
-pub condition_is : (f : Function) (a : Operand) → typed_text f 1 a ≡ codes "i1 " ++ operand_text f a
-unfolding typed_text type_text digits
-condition_is f a = refl

@@ -9,5 +9,6 @@ pub use Rattle.ir_text.specs.PrintedText
 pub use Rattle.ir_text.specs.Report
 pub mod FewNames
 pub mod Gaps
+pub mod Pieces
 pub mod Series
 pub mod Rest

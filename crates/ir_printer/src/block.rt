@@ -1,15 +1,15 @@
 //! Prints blocks.
 
-ghost use Rattle.std.specs.Prelude.{◌≡◌, ◌++◌, OnOk};
+ghost use Rattle.std.specs.Prelude.{◌≡◌, ◌++◌, codes, OnOk};
 ghost use Rattle.std.specs.List.{flat_map, enumerate_from};
-ghost use Rattle.ir_text.specs.PrintedText.{first_head_text, head_text, inst_text, block_text};
+ghost use Rattle.ir_text.specs.PrintedText.{first_head_text, head_text, inst_text, end_text, block_text};
 
 use crate::identifier::Identifier;
 use crate::identifiers::Identifiers;
 use crate::instruction::push_inst;
 use crate::name::push_label;
 use crate::terminator::push_end;
-use ir_core::{Block, Inst};
+use ir_core::{Block, Inst, Terminator};
 use lists::Text;
 use std::alloc::AllocError;
 
@@ -58,6 +58,20 @@ fn push_insts(
     Ok(())
 }
 
+/// Adds the line of how a block ends.
+fn push_end_line(
+    out: &mut Vec<u8>,
+    called: &Identifiers<'_>,
+    end: &Terminator,
+) -> Result<(), AllocError>
+    ensures { OnOk result (out.new.items ≡ out.old.items
+        ++ (codes "  " ++ end_text called.now.function.now end.now ++ codes "\n")) }
+{
+    out.extend_from_slice(b"  ")?;
+    push_end(out, called, end)?;
+    out.extend_from_slice(b"\n")
+}
+
 /// Adds the lines of the block at a place.
 #[tactic(auto, unfolding(ir_text::specs::PrintedText::block_text))]
 fn push_block(
@@ -71,9 +85,7 @@ fn push_block(
 {
     push_head(out, called, place, &block.name)?;
     push_insts(out, called, place, block.insts.as_slice())?;
-    out.extend_from_slice(b"  ")?;
-    push_end(out, called, &block.end)?;
-    out.extend_from_slice(b"\n")
+    push_end_line(out, called, &block.end)
 }
 
 /// Adds the lines of all blocks.

@@ -7,7 +7,8 @@ ghost use Rattle.ir_text.specs.PrintedText.{type_text, function_name_text, item_
 use crate::identifiers::Identifiers;
 use crate::name::{push_function_name, push_parameter_name};
 use crate::number::push_type;
-use ir_core::{Function, Parameter};
+use crate::piece::{Piece, push_comma, push_pieces};
+use ir_core::Parameter;
 use lists::Text;
 use std::alloc::AllocError;
 
@@ -41,12 +42,9 @@ fn push_parameter(
         ≡ out.old.items ++ ((if place == 0 then [] else codes ", ")
         ++ parameter_text called.now.function.now (place, parameter.now))) }
 {
-    if place != 0 {
-        out.extend_from_slice(b", ")?;
-    }
+    push_comma(out, place)?;
     push_type(out, parameter.width)?;
     push_items(out, parameter.items.as_slice())?;
-    out.push(b' ')?;
     push_parameter_name(out, called, place)
 }
 
@@ -67,17 +65,16 @@ fn push_parameters(
 }
 
 /// Adds what stands before the parameters.
-fn push_start(out: &mut Vec<u8>, function: &Function) -> Result<(), AllocError>
+fn push_start(out: &mut Vec<u8>, called: &Identifiers<'_>) -> Result<(), AllocError>
     ensures { OnOk result (out.new.items ≡ out.old.items ++ (codes "define"
-        ++ flat_map item_text function.now.before ++ codes " " ++ type_text function.now.width
-        ++ codes " " ++ function_name_text function.now.name)) }
+        ++ flat_map item_text called.now.function.now.before ++ codes " " ++ type_text called.now.function.now.width
+        ++ codes " " ++ function_name_text called.now.function.now.name)) }
 {
     out.extend_from_slice(b"define")?;
-    push_items(out, function.before.as_slice())?;
-    out.push(b' ')?;
-    push_type(out, function.width)?;
-    out.push(b' ')?;
-    push_function_name(out, function.name.as_slice())
+    push_items(out, called.function.before.as_slice())?;
+    let result = Piece::Type(called.function.width);
+    push_pieces(out, called, &[Piece::Text(b" "), result, Piece::Text(b" ")])?;
+    push_function_name(out, called.function.name.as_slice())
 }
 
 /// Adds the first line of a function.
@@ -85,7 +82,7 @@ fn push_start(out: &mut Vec<u8>, function: &Function) -> Result<(), AllocError>
 pub(crate) fn push_header(out: &mut Vec<u8>, called: &Identifiers<'_>) -> Result<(), AllocError>
     ensures { OnOk result (out.new.items ≡ out.old.items ++ header_text called.now.function.now) }
 {
-    push_start(out, called.function)?;
+    push_start(out, called)?;
     out.push(b'(')?;
     push_parameters(out, called, called.function.parameters.as_slice())?;
     out.push(b')')?;

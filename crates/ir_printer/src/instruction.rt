@@ -5,12 +5,13 @@ ghost use Rattle.std.specs.List.{join_by};
 ghost use Rattle.ir_text.specs.PrintedText.{callee_text, incoming_text, op_text, inst_text, truth_text};
 
 use crate::identifiers::Identifiers;
-use crate::name::{push_block_name, push_result};
+use crate::name::push_assigned;
 use crate::number::push_type;
-use crate::operand::{push_condition, push_operand, push_typed};
-use crate::word::{push_cast, push_flags, push_opcode, push_pred};
+use crate::operand::push_typed;
+use crate::piece::{Piece, push_comma, push_pieces};
+use crate::word::pred_name;
 use ir_core::{Inst, Op, Operand};
-use ops::keywords::{opcode_name, unary_name};
+use ops::keywords::{cast_name, opcode_name, unary_name};
 use ops::{Cast, Flags, Opcode, Pred, Unary, Width};
 use std::alloc::AllocError;
 
@@ -29,45 +30,67 @@ fn push_binary(
         ≡ out.old.items ++ op_text called.now.function.now width (Op.Binary opcode flags left right)) }
 {
     if opcode.is_intrinsic() {
-        push_callee(out, opcode_name(opcode), width)?;
-        out.push(b'(')?;
-        push_typed(out, called, width, left)?;
-        out.extend_from_slice(b", ")?;
-        push_typed(out, called, width, right)?;
-        out.push(b')')?;
-        return Ok(());
+        push_callee(out, called, opcode_name(opcode), width)?;
+        return push_pieces(
+            out,
+            called,
+            &[
+                Piece::Text(b"("),
+                Piece::Typed(width, left),
+                Piece::Text(b", "),
+                Piece::Typed(width, right),
+                Piece::Text(b")"),
+            ],
+        );
     }
-    push_opcode(out, opcode)?;
-    push_flags(out, flags)?;
-    out.push(b' ')?;
-    push_typed(out, called, width, left)?;
-    out.extend_from_slice(b", ")?;
-    push_operand(out, called, right)
+    push_pieces(
+        out,
+        called,
+        &[
+            Piece::Text(opcode_name(opcode).as_bytes()),
+            Piece::Flags(flags),
+            Piece::Text(b" "),
+            Piece::Typed(width, left),
+            Piece::Text(b", "),
+            Piece::Operand(right),
+        ],
+    )
 }
 
 /// Adds what stands before the arguments of a call of the intrinsic with this keyword.
 #[tactic(auto, unfolding(ir_text::specs::PrintedText::callee_text))]
-fn push_callee(out: &mut Vec<u8>, keyword: &str, width: Width) -> Result<(), AllocError>
+fn push_callee(
+    out: &mut Vec<u8>,
+    called: &Identifiers<'_>,
+    keyword: &str,
+    width: Width,
+) -> Result<(), AllocError>
     ensures { OnOk result (out.new.items ≡ out.old.items ++ callee_text keyword.now width) }
 {
-    out.extend_from_slice(b"call ")?;
-    push_type(out, width)?;
-    out.extend_from_slice(b" @llvm.")?;
-    out.extend_from_slice(keyword.as_bytes())?;
-    out.push(b'.')?;
-    push_type(out, width)
+    push_pieces(
+        out,
+        called,
+        &[
+            Piece::Text(b"call "),
+            Piece::Type(width),
+            Piece::Text(b" @llvm."),
+            Piece::Text(keyword.as_bytes()),
+            Piece::Text(b"."),
+            Piece::Type(width),
+        ],
+    )
 }
 
-/// Adds the truth value behind the operand of an intrinsic that has one.
+/// The truth value behind the operand of an intrinsic that has one.
 #[tactic(auto, unfolding(ir_text::specs::PrintedText::truth_text))]
-fn push_truth(out: &mut Vec<u8>, op: Unary, truth: bool) -> Result<(), AllocError>
-    ensures { OnOk result (out.new.items ≡ out.old.items ++ truth_text op truth) }
+fn behind_operand(op: Unary, truth: bool) -> &'static [u8]
+    ensures { result.now ≡ truth_text op truth }
 {
-    if !op.has_truth() {
-        return Ok(());
+    match (op.has_truth(), truth) {
+        (true, true) => b", i1 true",
+        (true, false) => b", i1 false",
+        (false, _) => b"",
     }
-    let text: &[u8] = if truth { b", i1 true" } else { b", i1 false" };
-    out.extend_from_slice(text)
 }
 
 /// Adds a call of an intrinsic with one operand.
@@ -83,12 +106,17 @@ fn push_unary(
     ensures { OnOk result (out.new.items
         ≡ out.old.items ++ op_text called.now.function.now width (Op.Unary op truth operand)) }
 {
-    push_callee(out, unary_name(op), width)?;
-    out.push(b'(')?;
-    push_typed(out, called, width, operand)?;
-    push_truth(out, op, truth)?;
-    out.push(b')')?;
-    Ok(())
+    push_callee(out, called, unary_name(op), width)?;
+    push_pieces(
+        out,
+        called,
+        &[
+            Piece::Text(b"("),
+            Piece::Typed(width, operand),
+            Piece::Text(behind_operand(op, truth)),
+            Piece::Text(b")"),
+        ],
+    )
 }
 
 /// Adds a comparison of operands of the width.
@@ -106,14 +134,20 @@ fn push_compare(
     ensures { OnOk result (out.new.items
         ≡ out.old.items ++ op_text called.now.function.now width (Op.Compare pred samesign compared left right)) }
 {
-    out.extend_from_slice(b"icmp")?;
-    push_flags(out, Flags::of_icmp(samesign))?;
-    out.push(b' ')?;
-    push_pred(out, pred)?;
-    out.push(b' ')?;
-    push_typed(out, called, compared, left)?;
-    out.extend_from_slice(b", ")?;
-    push_operand(out, called, right)
+    push_pieces(
+        out,
+        called,
+        &[
+            Piece::Text(b"icmp"),
+            Piece::Flags(Flags::of_icmp(samesign)),
+            Piece::Text(b" "),
+            Piece::Text(pred_name(pred)),
+            Piece::Text(b" "),
+            Piece::Typed(compared, left),
+            Piece::Text(b", "),
+            Piece::Operand(right),
+        ],
+    )
 }
 
 #[tactic(auto, unfolding(ir_text::specs::PrintedText::op_text))]
@@ -128,12 +162,18 @@ fn push_select(
     ensures { OnOk result (out.new.items
         ≡ out.old.items ++ op_text called.now.function.now width (Op.Select condition first second)) }
 {
-    out.extend_from_slice(b"select ")?;
-    push_condition(out, called, condition)?;
-    out.extend_from_slice(b", ")?;
-    push_typed(out, called, width, first)?;
-    out.extend_from_slice(b", ")?;
-    push_typed(out, called, width, second)
+    push_pieces(
+        out,
+        called,
+        &[
+            Piece::Text(b"select "),
+            Piece::Typed(Width::ONE, condition),
+            Piece::Text(b", "),
+            Piece::Typed(width, first),
+            Piece::Text(b", "),
+            Piece::Typed(width, second),
+        ],
+    )
 }
 
 /// Adds a conversion from one width to another.
@@ -150,12 +190,18 @@ fn push_convert(
     ensures { OnOk result (out.new.items
         ≡ out.old.items ++ op_text called.now.function.now to (Op.Convert cast flags from operand)) }
 {
-    push_cast(out, cast)?;
-    push_flags(out, flags)?;
-    out.push(b' ')?;
-    push_typed(out, called, from, operand)?;
-    out.extend_from_slice(b" to ")?;
-    push_type(out, to)
+    push_pieces(
+        out,
+        called,
+        &[
+            Piece::Text(cast_name(cast).as_bytes()),
+            Piece::Flags(flags),
+            Piece::Text(b" "),
+            Piece::Typed(from, operand),
+            Piece::Text(b" to "),
+            Piece::Type(to),
+        ],
+    )
 }
 
 /// Adds what a phi gives behind a block, behind a comma where it is not the first.
@@ -170,14 +216,18 @@ fn push_incoming(
         ≡ out.old.items ++ ((if place == 0 then [] else codes ", ")
         ++ incoming_text called.now.function.now incoming.now)) }
 {
-    if place != 0 {
-        out.extend_from_slice(b", ")?;
-    }
-    out.extend_from_slice(b"[ ")?;
-    push_operand(out, called, incoming.0)?;
-    out.extend_from_slice(b", ")?;
-    push_block_name(out, called, incoming.1)?;
-    out.extend_from_slice(b" ]")
+    push_comma(out, place)?;
+    push_pieces(
+        out,
+        called,
+        &[
+            Piece::Text(b"[ "),
+            Piece::Operand(incoming.0),
+            Piece::Text(b", "),
+            Piece::Block(incoming.1),
+            Piece::Text(b" ]"),
+        ],
+    )
 }
 
 /// Adds what a phi gives behind each block.
@@ -268,9 +318,7 @@ pub(crate) fn push_inst(
     ensures { OnOk result (out.new.items
         ≡ out.old.items ++ inst_text called.now.function.now block (place, inst.now)) }
 {
-    out.extend_from_slice(b"  ")?;
-    push_result(out, called, block, place)?;
-    out.extend_from_slice(b" = ")?;
+    push_assigned(out, called, block, place)?;
     push_op(out, called, inst.width, &inst.op)?;
     out.extend_from_slice(b"\n")
 }

@@ -10,6 +10,7 @@ mod module;
 mod name;
 mod number;
 mod operand;
+mod piece;
 mod report;
 mod terminator;
 mod word;

@@ -11,20 +11,27 @@ ghost use Rattle.ir_printer.specs.Gaps.{gap_before};
 
 use crate::block::push_blocks;
 use crate::header::push_header;
-use crate::identifiers::identifiers_in;
+use crate::identifiers::{Identifiers, identifiers_in};
 use ir_core::{Entry, Function, Module};
 use std::alloc::{AllocError, Global};
 
-/// Adds the lines of a function.
+/// Adds the lines of a function whose identifiers these are.
 #[tactic(auto, unfolding(ir_text::specs::PrintedText::function_text))]
+fn push_lines(out: &mut Vec<u8>, called: &Identifiers<'_>) -> Result<(), AllocError>
+    ensures { OnOk result (out.new.items ≡ out.old.items ++ function_text called.now.function.now) }
+{
+    push_header(out, called)?;
+    push_blocks(out, called, called.function.blocks.as_slice())?;
+    out.extend_from_slice(b"}\n")
+}
+
+/// Adds the lines of a function.
 fn push_function(alloc: Global, out: &mut Vec<u8>, function: &Function) -> Result<(), AllocError>
     ensures text { OnOk result (out.new.items ≡ out.old.items ++ function_text function.now) }
     ensures few { OnOk result (HasFewNames function.now) }
 {
     let called = identifiers_in(alloc, function)?;
-    push_header(out, &called)?;
-    push_blocks(out, &called, function.blocks.as_slice())?;
-    out.extend_from_slice(b"}\n")
+    push_lines(out, &called)
 }
 
 /// Adds the lines of an entry.

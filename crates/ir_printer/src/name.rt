@@ -1,9 +1,9 @@
 //! Prints names (LangRef, "Identifiers").
 
-ghost use Rattle.std.specs.Prelude.{◌≡◌, ◌<◌, ◌==◌, ◌++◌, ◌||◌, ◌&&◌, not, option_map, OnOk, OnErr};
+ghost use Rattle.std.specs.Prelude.{◌≡◌, ◌<◌, ◌==◌, ◌++◌, ◌||◌, ◌&&◌, not, codes, option_map, OnOk, OnErr};
 ghost use Rattle.scan.specs.Bytes.{is_printable};
 ghost use Rattle.ir_text.specs.NameText.{hex_digit, escaped, quoted_text, name_text};
-ghost use Rattle.ir_text.specs.PrintedText.{identifier_text, register_text, block_name_text, function_name_text, label_text};
+ghost use Rattle.ir_text.specs.PrintedText.{identifier_text, register_text, block_name_text, target_text, function_name_text, label_text};
 ghost use Rattle.ir_printer.specs.Series.{seen};
 
 use crate::identifier::Identifier;
@@ -106,32 +106,33 @@ pub(crate) fn push_register(
     push_identifier(out, called.register(register))
 }
 
-/// Adds the register of a result, by its block and its place there.
+/// Adds what stands before an operation: the register of its result, by its block and its place there.
 #[tactic(auto, unfolding(ir_text::specs::PrintedText::register_text))]
-pub(crate) fn push_result(
+pub(crate) fn push_assigned(
     out: &mut Vec<u8>,
     called: &Identifiers<'_>,
     block: usize,
     inst: usize,
 ) -> Result<(), AllocError>
-    ensures { OnOk result (out.new.items
-        ≡ out.old.items ++ register_text called.now.function.now (Register.Result block inst)) }
+    ensures { OnOk result (out.new.items ≡ out.old.items ++ (codes "  "
+        ++ register_text called.now.function.now (Register.Result block inst) ++ codes " = ")) }
 {
-    out.push(b'%')?;
-    push_identifier(out, called.result(block, inst))
+    out.extend_from_slice(b"  %")?;
+    push_identifier(out, called.result(block, inst))?;
+    out.extend_from_slice(b" = ")
 }
 
-/// Adds the register of a parameter, by its place.
+/// Adds the register of a parameter, by its place, behind a space.
 #[tactic(auto, unfolding(ir_text::specs::PrintedText::register_text))]
 pub(crate) fn push_parameter_name(
     out: &mut Vec<u8>,
     called: &Identifiers<'_>,
     parameter: usize,
 ) -> Result<(), AllocError>
-    ensures { OnOk result (out.new.items
-        ≡ out.old.items ++ register_text called.now.function.now (Register.Parameter parameter)) }
+    ensures { OnOk result (out.new.items ≡ out.old.items ++ (codes " "
+        ++ register_text called.now.function.now (Register.Parameter parameter))) }
 {
-    out.push(b'%')?;
+    out.extend_from_slice(b" %")?;
     push_identifier(out, called.parameter(parameter))
 }
 
@@ -147,6 +148,20 @@ pub(crate) fn push_block_name(
 {
     out.push(b'%')?;
     push_identifier(out, called.block(block as usize))
+}
+
+/// Adds a block to which control may go.
+#[tactic(auto, unfolding(ir_text::specs::PrintedText::target_text))]
+pub(crate) fn push_target(
+    out: &mut Vec<u8>,
+    called: &Identifiers<'_>,
+    block: u32,
+) -> Result<(), AllocError>
+    ensures { OnOk result (out.new.items
+        ≡ out.old.items ++ target_text called.now.function.now block) }
+{
+    out.extend_from_slice(b"label ")?;
+    push_block_name(out, called, block)
 }
 
 /// Adds the line of a label.

@@ -43,17 +43,3 @@ pub(crate) fn push_typed(
     out.push(b' ')?;
     push_operand(out, called, operand)
 }
-
-/// Adds an operand of one bit behind its type.
-#[tactic(auto, using(std::proofs::lemmas::Grind::common_steps, crate::proofs::Printed::condition_is))]
-pub(crate) fn push_condition(
-    out: &mut Vec<u8>,
-    called: &Identifiers<'_>,
-    operand: Operand,
-) -> Result<(), AllocError>
-    ensures { OnOk result (out.new.items
-        ≡ out.old.items ++ typed_text called.now.function.now 1 operand) }
-{
-    out.extend_from_slice(b"i1 ")?;
-    push_operand(out, called, operand)
-}

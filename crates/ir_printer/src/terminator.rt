@@ -2,25 +2,13 @@
 
 ghost use Rattle.std.specs.Prelude.{◌≡◌, ◌++◌, OnOk};
 ghost use Rattle.std.specs.List.{flat_map};
-ghost use Rattle.ir_text.specs.PrintedText.{target_text, case_text, end_text};
+ghost use Rattle.ir_text.specs.PrintedText.{case_text, end_text};
 
 use crate::identifiers::Identifiers;
-use crate::name::push_block_name;
-use crate::number::{push_number, push_type};
-use crate::operand::{push_condition, push_typed};
+use crate::piece::{Piece, push_pieces};
 use ir_core::{Operand, Terminator};
 use ops::{Width, Word};
 use std::alloc::AllocError;
-
-/// Adds a block to which control may go.
-#[tactic(auto, unfolding(ir_text::specs::PrintedText::target_text))]
-fn push_target(out: &mut Vec<u8>, called: &Identifiers<'_>, block: u32) -> Result<(), AllocError>
-    ensures { OnOk result (out.new.items
-        ≡ out.old.items ++ target_text called.now.function.now block) }
-{
-    out.extend_from_slice(b"label ")?;
-    push_block_name(out, called, block)
-}
 
 #[tactic(auto, unfolding(ir_text::specs::PrintedText::end_text))]
 fn push_branch(
@@ -33,12 +21,18 @@ fn push_branch(
     ensures { OnOk result (out.new.items
         ≡ out.old.items ++ end_text called.now.function.now (Terminator.Branch condition to other)) }
 {
-    out.extend_from_slice(b"br ")?;
-    push_condition(out, called, condition)?;
-    out.extend_from_slice(b", ")?;
-    push_target(out, called, to)?;
-    out.extend_from_slice(b", ")?;
-    push_target(out, called, other)
+    push_pieces(
+        out,
+        called,
+        &[
+            Piece::Text(b"br "),
+            Piece::Typed(Width::ONE, condition),
+            Piece::Text(b", "),
+            Piece::Target(to),
+            Piece::Text(b", "),
+            Piece::Target(other),
+        ],
+    )
 }
 
 /// Adds the line of a case of a `switch`.
@@ -51,13 +45,19 @@ fn push_case(
     ensures { OnOk result (out.new.items
         ≡ out.old.items ++ case_text called.now.function.now case.now) }
 {
-    out.extend_from_slice(b"    ")?;
-    push_type(out, case.0.width())?;
-    out.push(b' ')?;
-    push_number(out, case.0)?;
-    out.extend_from_slice(b", ")?;
-    push_target(out, called, case.1)?;
-    out.extend_from_slice(b"\n")
+    push_pieces(
+        out,
+        called,
+        &[
+            Piece::Text(b"    "),
+            Piece::Type(case.0.width()),
+            Piece::Text(b" "),
+            Piece::Number(case.0),
+            Piece::Text(b", "),
+            Piece::Target(case.1),
+            Piece::Text(b"\n"),
+        ],
+    )
 }
 
 fn push_cases(
@@ -87,11 +87,17 @@ fn push_switch(
     ensures { OnOk result (out.new.items ≡ out.old.items
         ++ end_text called.now.function.now (Terminator.Switch operand width other cases.now)) }
 {
-    out.extend_from_slice(b"switch ")?;
-    push_typed(out, called, width, operand)?;
-    out.extend_from_slice(b", ")?;
-    push_target(out, called, other)?;
-    out.extend_from_slice(b" [\n")?;
+    push_pieces(
+        out,
+        called,
+        &[
+            Piece::Text(b"switch "),
+            Piece::Typed(width, operand),
+            Piece::Text(b", "),
+            Piece::Target(other),
+            Piece::Text(b" [\n"),
+        ],
+    )?;
     push_cases(out, called, cases)?;
     out.extend_from_slice(b"  ]")
 }
@@ -108,12 +114,11 @@ pub(crate) fn push_end(
 {
     match end {
         Terminator::Return(operand) => {
-            out.extend_from_slice(b"ret ")?;
-            push_typed(out, called, called.function.width, *operand)
+            let typed = Piece::Typed(called.function.width, *operand);
+            push_pieces(out, called, &[Piece::Text(b"ret "), typed])
         }
         Terminator::Jump(to) => {
-            out.extend_from_slice(b"br ")?;
-            push_target(out, called, *to)
+            push_pieces(out, called, &[Piece::Text(b"br "), Piece::Target(*to)])
         }
         Terminator::Branch(condition, to, other) => {
             push_branch(out, called, *condition, *to, *other)

@@ -1,6 +1,6 @@
 //! The check of phis.
 
-ghost use Rattle.std.specs.Prelude.{◌≡◌, ◌≢◌, ◌↔◌, ℕ, nat_eq, length, All, IsSome, Some, IfOk, OnOk, IfSome, IfNone, IsTrue, Contains};
+ghost use Rattle.std.specs.Prelude.{◌≡◌, ◌≢◌, ◌↔◌, ℕ, nat_eq, length, All, IsSome, None, Some, false, IfOk, OnOk, IsTrue, Contains};
 ghost use Rattle.indexmap.specs.IndexMap.{get};
 ghost use Rattle.indexmap.specs.IndexSet.{contains};
 ghost use Rattle.ir_core.specs.declared.operand.Operand.{Operand as operand_read};
@@ -55,28 +55,29 @@ fn keeps(
     }
 }
 
-/// The operand for each block, unless an entry is for a block that is none of these, or a block has two operands.
-fn operands(
-    alloc: Global,
+/// Adds the operands for their blocks to none. Answers whether each entry is for one of the blocks and none has two
+/// operands.
+fn add_operands(
+    operands: &mut IndexMap<u32, Operand>,
     predecessors: &IndexSet<u32>,
     entries: &[(Operand, u32)],
-) -> Result<Option<IndexMap<u32, Operand>>, AllocError>
-    ensures some { IfOk result (λ found. IfSome found (λ operands. (c : ℕ) (a : operand_read) →
-        (get nat_eq operands c ≡ Some a) ↔ Contains entries.now (a, c))) }
-    ensures among { IfOk result (λ found. IfSome found (λ operands. (c : ℕ) (a : operand_read) →
-        Contains entries.now (a, c) → IsTrue (contains nat_eq predecessors.now c))) }
-    ensures none { IfOk result (λ found. IfNone found (¬ EntriesFitIn predecessors.now entries.now)) }
+) -> Result<bool, AllocError>
+    requires { (c : ℕ) → get nat_eq operands.old c ≡ None }
+    ensures some { IfOk result (λ fit. IsTrue fit → (c : ℕ) (a : operand_read) →
+        (get nat_eq operands.new c ≡ Some a) ↔ Contains entries.now (a, c)) }
+    ensures among { IfOk result (λ fit. IsTrue fit → (c : ℕ) (a : operand_read) →
+        Contains entries.now (a, c) → IsTrue (contains nat_eq predecessors.now c)) }
+    ensures none { IfOk result (λ fit. fit ≡ false → ¬ EntriesFitIn predecessors.now entries.now) }
 {
-    let mut operands = IndexMap::new(alloc);
     for (operand, block) in entries {
         if !predecessors.contains(block) {
-            return Ok(None);
+            return Ok(false);
         }
-        if !keeps(&mut operands, *block, *operand)? {
-            return Ok(None);
+        if !keeps(operands, *block, *operand)? {
+            return Ok(false);
         }
     }
-    Ok(Some(operands))
+    Ok(true)
 }
 
 /// Whether each block has an operand. It looks up to the first that has none, which is at most as often as there are
@@ -95,10 +96,11 @@ fn entries_fit(
 ) -> Result<bool, AllocError>
     ensures { IfOk result (λ fit. IsTrue fit ↔ EntriesFitIn predecessors.now entries.now) }
 {
-    match operands(alloc, predecessors, entries)? {
-        Some(operands) => Ok(have_all(&operands, predecessors.as_slice())),
-        None => Ok(false),
+    let mut operands = IndexMap::new(alloc);
+    if !add_operands(&mut operands, predecessors, entries)? {
+        return Ok(false);
     }
+    Ok(have_all(&operands, predecessors.as_slice()))
 }
 
 /// Whether an instruction is no phi, or fits where these are the predecessors and it is told whether only phis stand

@@ -1,12 +1,13 @@
 //! The module of a text.
 
-ghost use Rattle.std.specs.Prelude.{◌≤◌, ℕ, List as Seq, length, IfOk, OnOk, IfErr};
+ghost use Rattle.std.specs.Prelude.{◌≡◌, ◌≤◌, ℕ, [], ◌∷◌, ◌++◌, List as Seq, length, Ok, IfOk, OnOk, IfErr};
 ghost use Rattle.ir_core.specs.Checks.{ModuleMeetsChecks};
+ghost use Rattle.ir_parse.specs.ModuleReaders.{entry_at};
 ghost use Rattle.ir_parse.specs.Text.{most_bytes, IsTextFault};
 ghost use Rattle.ir_tokens.specs.SeenTokens.{seen};
 ghost use Rattle.ir_tokens.specs.declared.raw.RawEntry.{RawEntry as entry_written};
 ghost use Rattle.ir_tokens.specs.declared.raw.RawFunction.{RawFunction as written_function};
-ghost use Rattle.refusal.specs.Refusals.{IfRefused};
+ghost use Rattle.refusal.specs.Refusals.{Fails, IfRefused};
 ghost use Rattle.ir_reader.specs.RepeatedNames.{MarksEntry};
 ghost use Rattle.ir_reader.specs.WellWritten.{IsWellWrittenEntry};
 ghost use Rattle.ir_reader.specs.EntriesRead.{HasLeft, IsReadingOf, Continues, IsReadingOfText};
@@ -49,10 +50,21 @@ fn module_of(alloc: Global, bytes: &[u8]) -> Result<Module, IrError>
     if bytes.len() > MOST_BYTES {
         return Err(refused(1, IrFaultKind::TooLong));
     }
-    let mut tokens = Vec::new(alloc);
-    let reading = first_entries(alloc, bytes, &mut tokens)?;
-    let reading = last_entries(alloc, tokens.as_slice(), reading)?;
+    let mut reading = Reading::new(alloc);
+    push_entries(alloc, bytes, &mut reading)?;
     Ok(reading.module()?)
+}
+
+/// Reads the entries of a text, or answers the first fault of the text.
+fn push_entries(alloc: Global, bytes: &[u8], reading: &mut Reading) -> Result<(), IrError>
+    requires limit { length bytes.now ≤ most_bytes }
+    requires none { IsReadingOf [] reading.old }
+    ensures ok { OnOk result (IsReadingOfText bytes.now reading.new) }
+    ensures refused { IfErr result (λ e. IfRefused e (IsTextFault bytes.now)) }
+{
+    let mut tokens = Vec::new(alloc);
+    first_entries(alloc, bytes, &mut tokens, reading)?;
+    last_entries(alloc, tokens.as_slice(), reading)
 }
 
 /// Reads the entries in front of a text one by one, each from its own tokens, so that the memory of these serves the
@@ -62,57 +74,71 @@ fn first_entries<'a>(
     alloc: Global,
     bytes: &'a [u8],
     tokens: &mut Vec<Placed<'a>>,
-) -> Result<Reading, AllocError>
-    ensures { IfOk result (λ reading. (front : Seq entry_written)
-        × HasLeft bytes.now front (seen tokens.new.items) × IsReadingOf front reading) }
+    reading: &mut Reading,
+) -> Result<(), AllocError>
+    requires { IsReadingOf [] reading.old }
+    ensures { OnOk result ((front : Seq entry_written)
+        × HasLeft bytes.now front (seen tokens.new.items) × IsReadingOf front reading.new) }
 {
     let mut reader = TokenReader::new(bytes);
-    let mut reading = Reading::new(alloc);
     loop {
         tokens.clear();
         let (behind, are_last) = reader.take_entry(tokens)?;
         if are_last {
-            return Ok(reading);
+            return Ok(());
         }
-        let (read, is_whole) = with_whole(alloc, reading, tokens.as_slice())?;
-        reading = read;
-        if !is_whole {
-            take_rest(behind, tokens)?;
-            return Ok(reading);
+        if !push_whole(alloc, tokens.as_slice(), reading)? {
+            return take_rest(behind, tokens);
         }
         reader = behind;
     }
 }
 
 /// Reads the entry that these tokens are, all of them, if they are one, and answers whether they are.
-fn with_whole(
+fn push_whole(
     alloc: Global,
-    reading: Reading,
     tokens: &[Placed<'_>],
-) -> Result<(Reading, bool), AllocError>
-    ensures { IfOk result (λ (read, is_whole). (front : Seq entry_written) →
-        IsReadingOf front reading → Continues front (seen tokens.now) is_whole read) }
+    reading: &mut Reading,
+) -> Result<bool, AllocError>
+    ensures { IfOk result (λ is_whole. (front : Seq entry_written) →
+        IsReadingOf front reading.old → Continues front (seen tokens.now) is_whole reading.new) }
 {
-    match whole_entry(alloc, tokens)? {
-        Some(written) => Ok((reading.with(alloc, &written)?, true)),
-        None => Ok((reading, false)),
-    }
+    let Some(written) = whole_entry(alloc, tokens)? else {
+        return Ok(false);
+    };
+    reading.push(alloc, written)?;
+    Ok(true)
 }
 
 /// Reads the entries that these tokens are, which are the last of a text, or answers the first fault of the text.
-fn last_entries(alloc: Global, tokens: &[Placed<'_>], reading: Reading) -> Result<Reading, IrError>
-    ensures ok { IfOk result (λ read. (text : Seq ℕ) (front : Seq entry_written) →
-        HasLeft text front (seen tokens.now) → IsReadingOf front reading → IsReadingOfText text read) }
+fn last_entries(alloc: Global, tokens: &[Placed<'_>], reading: &mut Reading) -> Result<(), IrError>
+    ensures ok { OnOk result ((text : Seq ℕ) (front : Seq entry_written) →
+        HasLeft text front (seen tokens.now) → IsReadingOf front reading.old → IsReadingOfText text reading.new) }
     ensures refused { IfErr result (λ e. (text : Seq ℕ) (front : Seq entry_written) →
         HasLeft text front (seen tokens.now) → length text ≤ most_bytes → IfRefused e (IsTextFault text)) }
 {
     let mut left = tokens;
-    let mut reading = reading;
     while !ends(left) {
-        let written = written_entry(alloc, &mut left)?;
-        reading = reading.with(alloc, &written)?;
+        push_next(alloc, &mut left, reading)?;
     }
-    Ok(reading)
+    Ok(())
+}
+
+/// Reads the entry in front of the tokens, which go behind it, or answers the fault of the first that does not fit.
+fn push_next(
+    alloc: Global,
+    tokens: &mut &[Placed<'_>],
+    reading: &mut Reading,
+) -> Result<(), IrError>
+    ensures ok { OnOk result ((entry : entry_written)
+        × (entry_at (seen tokens.old.now) ≡ Ok (entry, seen tokens.new.now))
+        × ((front : Seq entry_written) →
+        IsReadingOf front reading.old → IsReadingOf (front ++ entry ∷ []) reading.new)) }
+    ensures refused { IfErr result (λ e. Fails e (entry_at (seen tokens.old.now))) }
+{
+    let written = written_entry(alloc, tokens)?;
+    reading.push(alloc, written)?;
+    Ok(())
 }
 
 /// An entry, or its first fault.

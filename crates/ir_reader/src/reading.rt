@@ -1,7 +1,8 @@
 //! What is read of a text, entry by entry.
 
-ghost use Rattle.std.specs.Prelude.{[], ◌∷◌, ◌++◌, List as Seq, IfOk, IfErr};
+ghost use Rattle.std.specs.Prelude.{[], ◌∷◌, ◌++◌, List as Seq, IfOk, OnOk, IfErr, IfSome, IfNone};
 ghost use Rattle.ir_tokens.specs.declared.raw.RawEntry.{RawEntry as written_entry};
+ghost use Rattle.ir_reader.specs.declared.reading.Reading.TheVariants.{Faultless, Faulty};
 ghost use Rattle.ir_reader.specs.EntriesRead.{IsReadingOf};
 ghost use Rattle.ir_reader.specs.Faults.{AreEntriesOf, IsFaultOfEntries};
 ghost use Rattle.ir_reader.specs.WellWritten.{IsWellWrittenEntry};
@@ -31,26 +32,27 @@ impl Reading {
         Reading::Faultless(List::new(alloc), IndexSet::new(alloc))
     }
 
-    /// That of one entry more. Behind a fault none is looked at.
-    pub(crate) fn with(self, alloc: Global, written: &RawEntry) -> Result<Reading, AllocError>
-        requires { IsWellWrittenEntry written.now }
-        ensures { IfOk result (λ reading. (front : Seq written_entry) →
-            IsReadingOf front self → IsReadingOf (front ++ written.now ∷ []) reading) }
+    /// Reads one entry more. Behind a fault none is looked at.
+    pub(crate) fn push(&mut self, alloc: Global, written: RawEntry) -> Result<(), AllocError>
+        requires { IsWellWrittenEntry written }
+        ensures { OnOk result ((front : Seq written_entry) →
+            IsReadingOf front self.old → IsReadingOf (front ++ written ∷ []) self.new) }
     {
-        match self {
-            Reading::Faultless(mut entries, mut names) => {
-                let is_repeated = is_repeated(alloc, &mut names, written)?;
-                match entry(alloc, written, is_repeated) {
-                    Ok(entry) => {
-                        entries.push(entry)?;
-                        Ok(Reading::Faultless(entries, names))
-                    }
-                    Err(IrError::Refused(fault)) => Ok(Reading::Faulty(fault)),
-                    Err(IrError::NoMemory) => Err(AllocError),
-                }
-            }
-            Reading::Faulty(fault) => Ok(Reading::Faulty(fault)),
+        self.read(alloc, &written)
+    }
+
+    fn read(&mut self, alloc: Global, written: &RawEntry) -> Result<(), AllocError>
+        requires { IsWellWrittenEntry written.now }
+        ensures { OnOk result ((front : Seq written_entry) →
+            IsReadingOf front self.old → IsReadingOf (front ++ written.now ∷ []) self.new) }
+    {
+        let Reading::Faultless(entries, names) = self else {
+            return Ok(());
+        };
+        if let Some(fault) = push_entry(alloc, entries, names, written)? {
+            *self = Reading::Faulty(fault);
         }
+        Ok(())
     }
 
     /// The module of these entries, or their first fault.
@@ -64,5 +66,31 @@ impl Reading {
             Reading::Faultless(entries, _) => Ok(Module { entries }),
             Reading::Faulty(fault) => Err(fault),
         }
+    }
+}
+
+/// Reads one entry behind those without a fault, or answers its first fault.
+fn push_entry(
+    alloc: Global,
+    entries: &mut List<Entry>,
+    names: &mut IndexSet<Vec<u8>>,
+    written: &RawEntry,
+) -> Result<Option<IrFault>, AllocError>
+    requires { IsWellWrittenEntry written.now }
+    ensures none { IfOk result (λ found. IfNone found ((front : Seq written_entry) →
+        IsReadingOf front (Faultless entries.old names.old) →
+        IsReadingOf (front ++ written.now ∷ []) (Faultless entries.new names.new))) }
+    ensures some { IfOk result (λ found. IfSome found (λ fault. (front : Seq written_entry) →
+        IsReadingOf front (Faultless entries.old names.old) →
+        IsReadingOf (front ++ written.now ∷ []) (Faulty fault))) }
+{
+    let is_repeated = is_repeated(alloc, names, written)?;
+    match entry(alloc, written, is_repeated) {
+        Ok(entry) => {
+            entries.push(entry)?;
+            Ok(None)
+        }
+        Err(IrError::Refused(fault)) => Ok(Some(fault)),
+        Err(IrError::NoMemory) => Err(AllocError),
     }
 }

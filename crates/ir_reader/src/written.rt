@@ -3,15 +3,22 @@
 ghost use Rattle.std.specs.Prelude.{◌≡◌, ℕ, [], ◌∷◌, option_map, slice_get};
 ghost use Rattle.std.specs.Option.{option_copied};
 ghost use Rattle.ir_resolve.specs.TypedReads.{typed, read_by, read_by_call, read_at_end};
-ghost use Rattle.ir_reader.specs.Operands.{written_at};
+ghost use Rattle.ir_reader.specs.Operands.{written_by, written_at};
 
-use ir_tokens::{RawArguments, RawFunction, RawOp, RawOperand, RawTerminator};
+use ir_tokens::{RawArguments, RawBlock, RawFunction, RawOp, RawOperand, RawTerminator};
 
 /// One of the operands that are written at a place of a block; the terminator's place is the number of instructions.
 pub(crate) fn operand(raw: &RawFunction, block: u32, place: u32, index: u32) -> Option<&RawOperand>
     ensures { option_copied result ≡ option_map (λ t. t.operand) (slice_get (written_at raw.now block place) index) }
 {
-    let block = raw.blocks.as_slice().get(block as usize)?;
+    operand_in(raw.blocks.as_slice().get(block as usize)?, place, index)
+}
+
+/// One of the operands that are written at a place of the block.
+fn operand_in(block: &RawBlock, place: u32, index: u32) -> Option<&RawOperand>
+    ensures { option_copied result ≡ option_map (λ t. t.operand)
+        (slice_get (written_by place block.now (slice_get block.now.insts place)) index) }
+{
     match block.insts.as_slice().get(place as usize) {
         Some(inst) => operand_of(&inst.op, index),
         None if place as usize == block.insts.len() => operand_of_end(&block.end, index),
@@ -24,11 +31,9 @@ fn operand_of(op: &RawOp, index: u32) -> Option<&RawOperand>
     ensures { option_copied result ≡ option_map (λ t. t.operand) (slice_get (read_by op.now) index) }
 {
     match op {
-        RawOp::Binary(_, _, _, left, right) | RawOp::Compare(_, _, _, left, right) => match index {
-            0 => Some(left),
-            1 => Some(right),
-            _ => None,
-        },
+        RawOp::Binary(_, _, _, left, right) | RawOp::Compare(_, _, _, left, right) => either(
+            left, right, index,
+        ),
         RawOp::Call(call) => operand_of_call(&call.arguments, index),
         RawOp::Select(condition, first, second) => match index {
             0 => Some(&condition.operand),
@@ -46,11 +51,7 @@ fn operand_of_call(arguments: &RawArguments, index: u32) -> Option<&RawOperand>
     ensures { option_copied result ≡ option_map (λ t. t.operand) (slice_get (read_by_call arguments.now) index) }
 {
     match arguments {
-        RawArguments::Binary(_, left, right) => match index {
-            0 => Some(&left.operand),
-            1 => Some(&right.operand),
-            _ => None,
-        },
+        RawArguments::Binary(_, left, right) => either(&left.operand, &right.operand, index),
         RawArguments::Unary(_, operand, _) => only(&operand.operand, index),
     }
 }
@@ -64,6 +65,18 @@ fn operand_of_end(end: &RawTerminator, index: u32) -> Option<&RawOperand>
         | RawTerminator::Branch(_, operand, _, _)
         | RawTerminator::Switch(_, operand, _, _) => only(operand, index),
         RawTerminator::Unreachable | RawTerminator::Jump(_) => None,
+    }
+}
+
+/// One of two operands.
+fn either<'a>(left: &'a RawOperand, right: &'a RawOperand, index: u32) -> Option<&'a RawOperand>
+    ensures { (width other : ℕ) → option_copied result ≡ option_map (λ t. t.operand)
+        (slice_get (typed width left.now ∷ typed other right.now ∷ []) index) }
+{
+    match index {
+        0 => Some(left),
+        1 => Some(right),
+        _ => None,
     }
 }
 

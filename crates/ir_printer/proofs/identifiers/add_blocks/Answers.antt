@@ -1,6 +1,9 @@
-use Rattle.std.proofs.Common.{◌≡◌, ◌+◌, length, take, arith}
+use Rattle.std.proofs.Common.{◌≡◌, ◌+◌, ◌++◌, length, map, take, ap, subst, ◌∙◌, arith}
 use Rattle.std.specs.List.{flat_map}
+use Rattle.std.proofs.lemmas.List.{take_all}
 use Rattle.ir_core.specs.Names.{block_names}
+use Rattle.ir_resolve.specs.Identifiers.{identifiers_from}
+use Rattle.ir_printer.specs.Series.{seen, AreBlockStarts}
 use Rattle.ir_printer.proofs.Identified.{Adds-all_more, Adds-length, AreBlockStarts-more}
 use Rattle.ir_printer.proofs.identifiers.add_blocks.Goals as goal
 
@@ -14,3 +17,13 @@ loop-block-preserved c =
       counted = c.in_ok-next_number.ensures.counted;
       starts = rw c.in_ok-push.ensures.items (AreBlockStarts-more _ blocks i c.loop-block.starts.items c.len.result c.loop-block-test.true c.loop-block.invariant.starts place);
     }
+
+pub returns-clause-adds : goal.returns-clause-adds
+returns-clause-adds c =
+    let all = take_all c.loop-block.block-index c.args.blocks.now (omega arith) in
+    c.loop-block.invariant.adds.identifiers ∙ ap (λ bs. map seen c.args.in_order.now.items ++ identifiers_from c.args.next_number (flat_map block_names bs)) all
+
+pub returns-clause-starts : goal.returns-clause-starts
+returns-clause-starts c =
+    let all = take_all c.loop-block.block-index c.args.blocks.now (omega arith) in
+    subst (λ bs. AreBlockStarts (length c.args.in_order.now.items) bs c.loop-block.starts.items) all c.loop-block.invariant.starts

@@ -1,7 +1,17 @@
-use Rattle.std.proofs.Common.{◌++◌, sym, ap, ◌∙◌, append-nil}
+use Rattle.std.proofs.Common.{◌≡◌, suc, ◌+◌, ◌++◌, ◌∷◌, drop, drop-cons, add-one, sym, ap, ◌∙◌, append-nil}
 use Rattle.std.proofs.lemmas.List.{drop_all}
 use Rattle.ir_printer.specs.Rest.{rest_of_report}
 use Rattle.ir_printer.proofs.report.print_report.Goals as goal
+
+pub loop-entry-preserved : goal.loop-entry-preserved
+loop-entry-preserved c =
+    let i = c.loop-entry.entry-index in
+    let entries = c.as_slice-entry-items.result.now in
+    let entry = c.entry-item.result in
+    let rest : drop i entries ≡ entry ∷ drop (i + 1) entries = rw add-one (drop-cons entries i entry c.loop-entry-test.true ∙ ap (λ e. e ∷ drop (suc i) entries) (sym c.entry-item.is)) in
+    c.in_ok-place.ensures (drop (i + 1) entries)
+    ∙ ap (λ es. c.loop-entry.out.items ++ rest_of_report es c.args.counts.now c.args.limited.now c.loop-entry.place) (sym rest)
+    ∙ c.loop-entry.invariant
 
 pub returns : goal.returns
 returns c =

@@ -4,8 +4,8 @@ use Rattle.ir_tokens.specs.declared.raw.RawEntry.{RawEntry}
 use Rattle.ir_reader.specs.EntriesRead.{HasRead, IsReadingOf}
 use Rattle.ir_reader.proofs.reader.first_entries.Given as goal
 
-abbrev pub invariant-loop-reading : goal.invariant-loop-reading
-invariant-loop-reading l = (front : List RawEntry) × HasRead l.bytes front l.reader × IsReadingOf front l.reading
+abbrev pub invariant-loop-behind : goal.invariant-loop-behind
+invariant-loop-behind l = (front : List RawEntry) × HasRead l.bytes front l.reader × IsReadingOf front l.reading
 
-abbrev pub decreases-loop-reading : goal.decreases-loop-reading
-decreases-loop-reading l = length l.bytes - l.reader.cursor.at
+abbrev pub decreases-loop-behind : goal.decreases-loop-behind
+decreases-loop-behind l = length l.bytes - l.reader.cursor.at

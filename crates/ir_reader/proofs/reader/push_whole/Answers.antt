@@ -3,14 +3,14 @@ use Rattle.std.specs.Prelude.{IfSome}
 use Rattle.ir_tokens.specs.SeenTokens.{seen}
 use Rattle.ir_parse.specs.Grammar.{SpellsEntry}
 use Rattle.ir_reader.proofs.CheckLemmas.{entry_written}
-use Rattle.ir_reader.proofs.reader.with_whole.Goals as goal
+use Rattle.ir_reader.proofs.reader.push_whole.Goals as goal
 
-pub with-requires : goal.with-requires
-with-requires c =
+pub push-requires : goal.push-requires
+push-requires c =
     let tokens = seen c.args.tokens.now in
     entry_written c.in-Some.written tokens [] (subst (λ o. IfSome o (λ e. SpellsEntry e tokens [])) c.in-Some.is c.in_ok-written.ensures)
 
-pub returns-in_ok-with-in-Some : goal.returns-in_ok-with-in-Some
-returns-in_ok-with-in-Some c = λ front is.
+pub returns : goal.returns
+returns c = λ front is.
     let tokens = seen c.args.tokens.now in
-    (c.in-Some.written, subst (λ o. IfSome o (λ e. SpellsEntry e tokens [])) c.in-Some.is c.in_ok-written.ensures, c.in_ok-with-in-Some.ensures front is)
+    (c.in-Some.written, subst (λ o. IfSome o (λ e. SpellsEntry e tokens [])) c.in-Some.is c.in_ok-written.ensures, c.in_ok-push.ensures front is)

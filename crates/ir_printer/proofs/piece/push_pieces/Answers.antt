@@ -1,0 +1,21 @@
+use Rattle.std.proofs.Common.{◌≡◌, ℕ, List, [], ◌∷◌, ◌++◌, ap, sym, ◌∙◌, append_assoc, append-nil, arith, refl}
+use Rattle.std.specs.List.{flat_map}
+use Rattle.std.proofs.lemmas.List.{take_all}
+use Rattle.ir_core.specs.declared.function.Function.{Function}
+use Rattle.ir_printer.specs.declared.piece.Piece.{Piece}
+use Rattle.ir_printer.specs.Pieces.{piece_text, text_with, pieces_text}
+use Rattle.ir_printer.proofs.piece.push_pieces.Goals as goal
+
+text_with-flat : (f : Function) (text : List ℕ) (pieces : List Piece) → text ++ flat_map (piece_text f) pieces ≡ text_with f text pieces
+text_with-flat f text [] = append-nil text
+text_with-flat f text (piece ∷ pieces) = sym (append_assoc text (piece_text f piece) (flat_map (piece_text f) pieces)) ∙ text_with-flat f (text ++ piece_text f piece) pieces
+
+flat : (f : Function) (pieces : List Piece) → flat_map (piece_text f) pieces ≡ pieces_text f pieces
+flat f [] = refl
+flat f (piece ∷ pieces) = text_with-flat f (piece_text f piece) pieces
+
+pub returns : goal.returns
+returns c =
+    let f = c.args.called.now.function.now in
+    let all = take_all c.loop-piece.piece-index c.args.pieces.now (omega arith) in
+    c.loop-piece.invariant ∙ ap (λ t. c.args.out.now.items ++ t) (ap (flat_map (piece_text f)) all ∙ flat f c.args.pieces.now)

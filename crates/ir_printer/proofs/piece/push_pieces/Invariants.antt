@@ -1,0 +1,7 @@
+use Rattle.std.proofs.Common.{◌≡◌, ◌++◌, take}
+use Rattle.std.specs.List.{flat_map}
+use Rattle.ir_printer.specs.Pieces.{piece_text}
+use Rattle.ir_printer.proofs.piece.push_pieces.Given as goal
+
+abbrev pub invariant-loop-piece : goal.invariant-loop-piece
+invariant-loop-piece l = l.out.items ≡ l.fn.out.items ++ flat_map (piece_text l.called.function.now) (take l.piece-index l.pieces)
