@@ -1,10 +1,14 @@
 -- The text of entries, as far as they are printed.
-use Rattle.std.proofs.Common.{◌≡◌, ℕ, zero, suc, ◌+◌, ◌<◌, List, [], ◌∷◌, ◌++◌, length, take, get_or, Some, sym, ap, ◌∙◌, append_assoc, add-one}
-use Rattle.std.specs.Prelude.{slice_get}
-use Rattle.std.proofs.lemmas.Option.{slice_get-get_or}
+use Rattle.std.proofs.Common.{◌≡◌, ℕ, zero, suc, ◌+◌, ◌<◌, List, [], ◌∷◌, ◌++◌, length, take, get_or, Some, sym, ap, subst, ◌∙◌, append_assoc, add-one}
+use Rattle.std.specs.Prelude.{slice_get, All}
+use Rattle.std.proofs.lemmas.Option.{slice_get-get_or, slice_get_within, get_or_from_slice_get}
+use Rattle.ir_core.specs.declared.module.Module.{Module}
 use Rattle.ir_core.specs.declared.module.Entry.{Entry}
 use Rattle.ir_core.specs.declared.module.Entry.TheVariants as entries
+use Rattle.ir_core.specs.declared.function.Function.{Function}
+use Rattle.ir_text.specs.Laws.{HasFewThings}
 use Rattle.ir_text.specs.PrintedText.{between_text, entry_text, entries_text}
+use Rattle.ir_printer.specs.FewNames.{EntryHasFewNames}
 use Rattle.ir_printer.specs.Gaps.{gap_before}
 
 -- one entry more, and what stands before it
@@ -24,3 +28,9 @@ pub entries_more : (before between after : List ℕ) (es : List Entry) (i : ℕ)
 entries_more before between after es i x within is so_far gap more =
     let at : slice_get es i ≡ Some x = slice_get-get_or es i x within ∙ ap Some (sym is) in
     rw (more, gap, so_far, add-one i) (append_assoc (entries_text (take i es)) (gap_before es i) (entry_text x) ∙ sym (push es i x at))
+
+-- where each entry has few names, each function of the module has
+pub few_things : (m : Module) → All EntryHasFewNames m.entries → HasFewThings m
+few_things m all k f at =
+    let e : Entry = entries.Function f in
+    subst EntryHasFewNames (get_or_from_slice_get m.entries k e e at) (all k e (slice_get_within m.entries k e at))
