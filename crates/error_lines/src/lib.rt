@@ -6,6 +6,7 @@
 
 mod logs;
 mod module;
+mod place;
 mod read_fault;
 mod rules;
 

@@ -3,7 +3,7 @@
 ghost use Rattle.std.specs.Prelude.{◌≡◌, IfOk};
 ghost use Rattle.error_lines.specs.Lines.{log_kind_text, logs_line};
 
-use itoa::Buffer;
+use crate::place::push_place;
 use proof_text::{LogFault, LogFaultKind};
 use std::alloc::{AllocError, Global};
 
@@ -26,10 +26,8 @@ fn word_of(kind: &LogFaultKind) -> &[u8]
 pub fn logs_line(alloc: Global, fault: &LogFault) -> Result<Vec<u8>, AllocError>
     ensures { IfOk result (λ line. line.items ≡ logs_line fault.now) }
 {
-    let mut line = Vec::from_slice(alloc, b"logs: line ")?;
-    let mut digits = Buffer::new();
-    line.extend_from_slice(digits.format(fault.line).as_bytes())?;
-    line.extend_from_slice(b": ")?;
+    let mut line = Vec::new(alloc);
+    push_place(&mut line, b"logs: line ", fault.line)?;
     line.extend_from_slice(word_of(&fault.kind))?;
     line.extend_from_slice(b"\n")?;
     Ok(line)

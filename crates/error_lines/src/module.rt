@@ -3,6 +3,7 @@
 ghost use Rattle.std.specs.Prelude.{◌≡◌, ◌++◌, codes, decimal, IfOk, OnOk};
 ghost use Rattle.error_lines.specs.Lines.{register_text, ir_kind_text, module_line};
 
+use crate::place::push_place;
 use ir_printer::push_name;
 use ir_reader::{Identifier, IrFault, IrFaultKind};
 use itoa::Buffer;
@@ -64,10 +65,8 @@ fn push_ir_kind(out: &mut Vec<u8>, kind: &IrFaultKind) -> Result<(), AllocError>
 pub fn module_line(alloc: Global, fault: &IrFault) -> Result<Vec<u8>, AllocError>
     ensures { IfOk result (λ line. line.items ≡ module_line fault.now) }
 {
-    let mut line = Vec::from_slice(alloc, b"module: line ")?;
-    let mut digits = Buffer::new();
-    line.extend_from_slice(digits.format(fault.line).as_bytes())?;
-    line.extend_from_slice(b": ")?;
+    let mut line = Vec::new(alloc);
+    push_place(&mut line, b"module: line ", fault.line)?;
     push_ir_kind(&mut line, &fault.kind)?;
     line.extend_from_slice(b"\n")?;
     Ok(line)

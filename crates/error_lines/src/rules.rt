@@ -3,7 +3,7 @@
 ghost use Rattle.std.specs.Prelude.{◌≡◌, ◌++◌, IfOk, OnOk};
 ghost use Rattle.error_lines.specs.Lines.{kind_text, rules_line};
 
-use itoa::Buffer;
+use crate::place::push_place;
 use rule_reader::{RuleFault, RuleFaultKind};
 use std::alloc::{AllocError, Global};
 
@@ -43,10 +43,8 @@ fn push_kind(out: &mut Vec<u8>, kind: &RuleFaultKind) -> Result<(), AllocError>
 pub fn rules_line(alloc: Global, fault: &RuleFault) -> Result<Vec<u8>, AllocError>
     ensures { IfOk result (λ line. line.items ≡ rules_line fault.now) }
 {
-    let mut line = Vec::from_slice(alloc, b"rules: line ")?;
-    let mut digits = Buffer::new();
-    line.extend_from_slice(digits.format(fault.line).as_bytes())?;
-    line.extend_from_slice(b": ")?;
+    let mut line = Vec::new(alloc);
+    push_place(&mut line, b"rules: line ", fault.line)?;
     push_kind(&mut line, &fault.kind)?;
     line.extend_from_slice(b"\n")?;
     Ok(line)

@@ -1,6 +1,6 @@
 //! The check of phis.
 
-ghost use Rattle.std.specs.Prelude.{◌≡◌, ◌≢◌, ◌↔◌, ℕ, nat_eq, length, All, IsSome, None, Some, false, IfOk, OnOk, IsTrue, Contains};
+ghost use Rattle.std.specs.Prelude.{◌≡◌, ◌≢◌, ◌↔◌, ℕ, nat_eq, length, All, IsSome, None, Some, IfOk, OnOk, IsTrue};
 ghost use Rattle.indexmap.specs.IndexMap.{get};
 ghost use Rattle.indexmap.specs.IndexSet.{contains};
 ghost use Rattle.ir_core.specs.declared.operand.Operand.{Operand as operand_read};
@@ -55,19 +55,23 @@ fn keeps(
     }
 }
 
-/// Adds the operands for their blocks to none. Answers whether each entry is for one of the blocks and none has two
-/// operands.
-fn add_operands(
+/// Whether each block has an operand. It looks up to the first that has none, which is at most as often as there are
+/// operands, and once more.
+fn have_all(operands: &IndexMap<u32, Operand>, blocks: &[u32]) -> bool
+    ensures { IsTrue result ↔ All (λ c. IsSome (get nat_eq operands.now c)) blocks.now }
+{
+    blocks.iter().all(|block| operands.contains_key(block))
+}
+
+/// Whether entries have one operand for each of these blocks and none for another. The operands are added for their
+/// blocks to none.
+fn fit_with(
     operands: &mut IndexMap<u32, Operand>,
     predecessors: &IndexSet<u32>,
     entries: &[(Operand, u32)],
 ) -> Result<bool, AllocError>
     requires { (c : ℕ) → get nat_eq operands.old c ≡ None }
-    ensures some { IfOk result (λ fit. IsTrue fit → (c : ℕ) (a : operand_read) →
-        (get nat_eq operands.new c ≡ Some a) ↔ Contains entries.now (a, c)) }
-    ensures among { IfOk result (λ fit. IsTrue fit → (c : ℕ) (a : operand_read) →
-        Contains entries.now (a, c) → IsTrue (contains nat_eq predecessors.now c)) }
-    ensures none { IfOk result (λ fit. fit ≡ false → ¬ EntriesFitIn predecessors.now entries.now) }
+    ensures { IfOk result (λ fit. IsTrue fit ↔ EntriesFitIn predecessors.now entries.now) }
 {
     for (operand, block) in entries {
         if !predecessors.contains(block) {
@@ -77,15 +81,7 @@ fn add_operands(
             return Ok(false);
         }
     }
-    Ok(true)
-}
-
-/// Whether each block has an operand. It looks up to the first that has none, which is at most as often as there are
-/// operands, and once more.
-fn have_all(operands: &IndexMap<u32, Operand>, blocks: &[u32]) -> bool
-    ensures { IsTrue result ↔ All (λ c. IsSome (get nat_eq operands.now c)) blocks.now }
-{
-    blocks.iter().all(|block| operands.contains_key(block))
+    Ok(have_all(operands, predecessors.as_slice()))
 }
 
 /// Whether a phi has one operand for each of these blocks and none for another.
@@ -97,10 +93,7 @@ fn entries_fit(
     ensures { IfOk result (λ fit. IsTrue fit ↔ EntriesFitIn predecessors.now entries.now) }
 {
     let mut operands = IndexMap::new(alloc);
-    if !add_operands(&mut operands, predecessors, entries)? {
-        return Ok(false);
-    }
-    Ok(have_all(&operands, predecessors.as_slice()))
+    fit_with(&mut operands, predecessors, entries)
 }
 
 /// Whether an instruction is no phi, or fits where these are the predecessors and it is told whether only phis stand

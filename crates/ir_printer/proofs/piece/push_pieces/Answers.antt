@@ -4,6 +4,7 @@ use Rattle.std.proofs.lemmas.List.{take_all}
 use Rattle.ir_core.specs.declared.function.Function.{Function}
 use Rattle.ir_printer.specs.declared.piece.Piece.{Piece}
 use Rattle.ir_printer.specs.Pieces.{piece_text, text_with, pieces_text}
+use Rattle.ir_printer.proofs.Printed.{each_more}
 use Rattle.ir_printer.proofs.piece.push_pieces.Goals as goal
 
 text_with-flat : (f : Function) (text : List ℕ) (pieces : List Piece) → text ++ flat_map (piece_text f) pieces ≡ text_with f text pieces
@@ -19,3 +20,7 @@ returns c =
     let f = c.args.called.now.function.now in
     let all = take_all c.loop-piece.piece-index c.args.pieces.now (omega arith) in
     c.loop-piece.invariant ∙ ap (λ t. c.args.out.now.items ++ t) (ap (flat_map (piece_text f)) all ∙ flat f c.args.pieces.now)
+
+pub loop-piece-preserved : goal.loop-piece-preserved
+loop-piece-preserved c =
+    each_more (piece_text c.args.called.now.function.now) c.args.out.now.items _ _ c.args.pieces.now c.loop-piece.piece-index c.piece-item.result c.loop-piece-test.true c.piece-item.is c.loop-piece.invariant c.in_ok-push_piece.ensures

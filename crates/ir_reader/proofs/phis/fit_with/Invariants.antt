@@ -4,7 +4,7 @@ use Rattle.std.specs.Prelude.{Contains}
 use Rattle.indexmap.specs.IndexMap.{get}
 use Rattle.indexmap.specs.IndexSet.{contains}
 use Rattle.ir_core.specs.declared.operand.Operand.{Operand}
-use Rattle.ir_reader.proofs.phis.add_operands.Given as goal
+use Rattle.ir_reader.proofs.phis.fit_with.Given as goal
 
 abbrev pub invariant-loop-operand : goal.invariant-loop-operand
 invariant-loop-operand l = record {
