@@ -16,7 +16,7 @@ mod sure;
 mod texts;
 
 use running::{World, run, world_of};
-use std::alloc::Global;
+use std::alloc::{AllocError, Global};
 use std::process::Abort;
 use std::test::Fail;
 
@@ -50,10 +50,15 @@ struct Row {
 }
 
 /// Runs a row's command, and says whether it leaves what the row says.
-fn leaves(alloc: Global, row: &Row) -> Result<bool, Fail> {
+fn leaves(alloc: Global, row: &Row) -> Result<bool, AllocError> {
     let mut world = world_of(alloc, row.rules.as_bytes(), row.source.as_bytes())?;
-    let status = run(alloc, row.words, &mut world)?;
-    Ok(is_left(status, &world, row))
+    leaves_in(alloc, row, &mut world)
+}
+
+/// The same in a world that holds the row's files.
+fn leaves_in(alloc: Global, row: &Row, world: &mut World) -> Result<bool, AllocError> {
+    let status = run(alloc, row.words, world)?;
+    Ok(is_left(status, world, row))
 }
 
 /// Whether that is what the row says.

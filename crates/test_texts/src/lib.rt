@@ -8,3 +8,5 @@ mod modules;
 mod rewriting;
 #[cfg(test)]
 mod rules;
+#[cfg(test)]
+mod unfit;

@@ -1,9 +1,7 @@
 //! Commands whose reads and puts fail, and what they leave.
 
-use super::running::Sinks;
 use super::*;
 use outside::FailingPut;
-use std::alloc::AllocError;
 
 /// The read and the puts that fail, a command, and what it leaves.
 struct FaultyRow {
@@ -281,27 +279,26 @@ const ROWS: [FaultyRow; 20] = [
     },
 ];
 
-/// Lists the puts that fail.
-fn fail_puts(sinks: &mut Sinks, faults: &FaultyRow) -> Result<(), AllocError> {
+/// Lists the read and the puts that fail.
+fn fail_there(world: &mut World, faults: &FaultyRow) -> Result<(), AllocError> {
+    if let Some(read) = faults.read {
+        world.files.fail_at(read)?;
+    }
     if let Some(put) = faults.out {
-        sinks.out.fail_at(put)?;
+        world.sinks.out.fail_at(put)?;
     }
     if let Some(put) = faults.err {
-        sinks.err.fail_at(put)?;
+        world.sinks.err.fail_at(put)?;
     }
     Ok(())
 }
 
 /// Runs a row's command where these faults come, and says whether it leaves what the row says.
-fn faults_leave(alloc: Global, faults: &FaultyRow) -> Result<bool, Fail> {
+fn faults_leave(alloc: Global, faults: &FaultyRow) -> Result<bool, AllocError> {
     let row = &faults.row;
     let mut world = world_of(alloc, row.rules.as_bytes(), row.source.as_bytes())?;
-    if let Some(read) = faults.read {
-        world.files.fail_at(read)?;
-    }
-    fail_puts(&mut world.sinks, faults)?;
-    let status = run(alloc, row.words, &mut world)?;
-    Ok(is_left(status, &world, row))
+    fail_there(&mut world, faults)?;
+    leaves_in(alloc, row, &mut world)
 }
 
 #[test]

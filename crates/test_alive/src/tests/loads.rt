@@ -27,18 +27,17 @@ fn loads_leave_what_they_say(rt: HostRuntime) -> Result<(), Fail> {
     all_leave(&rt, rt.alloc(), &ROWS)
 }
 
+/// The status of `verify` over the built-in rules, and how many lines it writes.
+fn verified(alloc: Global, world: &mut World) -> Result<(u8, usize), AllocError> {
+    let status = run(alloc, "alive verify r --widths 3-5", world)?;
+    let written = world.sinks.out.contents();
+    let lines = written.iter().filter(|byte| **byte == b'\n').count();
+    Ok((status, lines))
+}
+
 #[test]
 fn built_in_rules_are_admitted(rt: HostRuntime) -> Result<(), Fail> {
     let mut world = world_of(rt.alloc(), BUILT_IN.as_bytes(), b"")?;
-    let status = run(rt.alloc(), "alive verify r --widths 3-5", &mut world)?;
-    assert_eq!(rt; status, 0);
-    let lines = world
-        .sinks
-        .out
-        .contents()
-        .iter()
-        .filter(|byte| **byte == b'\n')
-        .count();
-    assert_eq!(rt; lines, 21);
+    assert_eq!(rt; verified(rt.alloc(), &mut world)?, (0, 21));
     Ok(())
 }

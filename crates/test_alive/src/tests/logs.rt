@@ -3,7 +3,7 @@
 use super::modules::CUT_SHORT;
 use super::rules::{ADD_SELF, MUL_ADD, MUL_TWO};
 use super::*;
-use outside::MemorySink;
+use std::fmt::Write;
 
 const NOT_ADD_LINES: &str =
     "not-add [1]: admitted\nnot-add [2]: admitted\nnot-add [3]: admitted\nnot-add [4]: admitted\nnot-add [5]: admitted\n";
@@ -217,71 +217,105 @@ fn proofs_have_their_lines(rt: HostRuntime) -> Result<(), Fail> {
     all_leave(&rt, rt.alloc(), &ROWS)
 }
 
-/// What the words leave on the output, of which there may be much.
-fn written(alloc: Global, words: &str, rules: &str, proofs: &str) -> Result<String, Fail> {
-    let mut world = world_of(alloc, rules.as_bytes(), proofs.as_bytes())?;
-    world.sinks.out = MemorySink::with_room(alloc, 1 << 20)?;
-    let _ = run(alloc, words, &mut world)?;
-    let text = std::str::from_utf8(world.sinks.out.contents())?;
-    Ok(String::from_str(alloc, text)?)
+/// What the words leave on the output.
+fn written(alloc: Global, words: &str, rules: &str, proofs: &[u8]) -> Result<Vec<u8>, AllocError> {
+    let mut world = world_of(alloc, rules.as_bytes(), proofs)?;
+    written_in(alloc, words, &mut world)
+}
+
+/// The same in this world.
+fn written_in(alloc: Global, words: &str, world: &mut World) -> Result<Vec<u8>, AllocError> {
+    let _ = run(alloc, words, world)?;
+    world.sinks.out.contents().to_vec(alloc)
+}
+
+/// Whether `recheck` leaves these lines of the proofs that `verify` writes.
+fn is_rechecked(
+    alloc: Global,
+    verify: &str,
+    recheck: &str,
+    lines: &[u8],
+) -> Result<bool, AllocError> {
+    let proofs = written(alloc, verify, NOT_ADD, b"")?;
+    let rechecked = written(alloc, recheck, NOT_ADD, proofs.as_slice())?;
+    Ok(rechecked.as_slice() == lines)
 }
 
 #[test]
 fn what_was_proved_is_admitted_without_a_search(rt: HostRuntime) -> Result<(), Fail> {
     let alloc = rt.alloc();
-    let proofs = written(alloc, "alive verify r --widths 1-5 --logs", NOT_ADD, "")?;
-    assert_eq!(rt;
-        written(alloc, RECHECK, NOT_ADD, proofs.as_str())?.as_str(),
-        NOT_ADD_LINES
-    );
-    let wide = written(alloc, "alive verify r --widths 1-8 --logs", NOT_ADD, "")?;
-    let found = written(alloc, "alive verify r --widths 1-8", NOT_ADD, "")?;
-    assert_eq!(rt;
-        written(
+    assert!(rt;
+        is_rechecked(
             alloc,
-            "alive recheck r m --conflicts 0",
-            NOT_ADD,
-            wide.as_str()
+            "alive verify r --widths 1-5 --logs",
+            RECHECK,
+            NOT_ADD_LINES.as_bytes()
         )?
-        .as_str(),
-        found.as_str()
+    );
+    let found = written(alloc, "alive verify r --widths 1-8", NOT_ADD, b"")?;
+    assert!(rt;
+        is_rechecked(
+            alloc,
+            "alive verify r --widths 1-8 --logs",
+            "alive recheck r m --conflicts 0",
+            found.as_slice()
+        )?
     );
     Ok(())
 }
 
-/// What `optimise` leaves of the rules, a module of one function, and proofs.
-fn optimised(alloc: Global, options: &str, proofs: &str) -> Result<(u8, World), Fail> {
-    let mut world = world_of(alloc, NOT_ADD.as_bytes(), NOT_ADD_BYTES.as_bytes())?;
-    world.files.add(alloc, "l", proofs.as_bytes())?;
-    let line = format!(in alloc; "alive optimise r m {options}")?;
-    let status = run(alloc, line.as_str(), &mut world)?;
-    Ok((status, world))
-}
+/// A rule is decided by a search, which reads no proof.
+const BY_SEARCH: Row = Row {
+    words: "alive optimise r m --steps 10",
+    rules: NOT_ADD,
+    source: NOT_ADD_BYTES,
+    status: 0,
+    out: NOT_ADD_BYTES_WRITTEN,
+    err: "not-add [8]: admitted\n@f: 1 rewrites\n",
+};
 
-/// Whether the module is rewritten, and the report says so.
-fn is_rewritten(alloc: Global, options: &str, proofs: &str) -> Result<bool, Fail> {
-    let (status, world) = optimised(alloc, options, proofs)?;
-    Ok(
-        status == 0
-            && world.sinks.out.contents() == NOT_ADD_BYTES_WRITTEN.as_bytes()
-            && world.sinks.err.contents() == b"not-add [8]: admitted\n@f: 1 rewrites\n".as_slice(),
-    )
-}
+/// It is decided by a proof, or else by a search.
+const BY_EITHER: Row = Row {
+    words: "alive optimise r m --steps 10 --logs l",
+    rules: NOT_ADD,
+    source: NOT_ADD_BYTES,
+    status: 0,
+    out: NOT_ADD_BYTES_WRITTEN,
+    err: "not-add [8]: admitted\n@f: 1 rewrites\n",
+};
 
-/// Whether the proofs are refused with this line, and nothing is written.
-fn is_refused(alloc: Global, options: &str, proofs: &str, line: &[u8]) -> Result<bool, Fail> {
-    let (status, world) = optimised(alloc, options, proofs)?;
-    Ok(status == 9 && world.sinks.err.contents() == line && world.sinks.out.contents().is_empty())
-}
+/// It is decided by a proof, or not at all.
+const BY_PROOF: Row = Row {
+    words: "alive optimise r m --steps 10 --conflicts 0 --logs l",
+    rules: NOT_ADD,
+    source: NOT_ADD_BYTES,
+    status: 0,
+    out: NOT_ADD_BYTES_WRITTEN,
+    err: "not-add [8]: admitted\n@f: 1 rewrites\n",
+};
 
-/// Options with which a rule is decided by a proof, or not at all.
-const BY_PROOF: &str = "--steps 10 --conflicts 0 --logs l";
+/// The proofs are refused at their first line, and nothing is written.
+const REFUSED: Row = Row {
+    words: "alive optimise r m --steps 10 --conflicts 0 --logs l",
+    rules: NOT_ADD,
+    source: NOT_ADD_BYTES,
+    status: 9,
+    out: "",
+    err: "logs: line 1: Syntax\n",
+};
+
+/// Whether the row's command leaves what the row says, where the file `l` has these proofs.
+fn leaves_by(alloc: Global, row: &Row, proofs: &[u8]) -> Result<bool, AllocError> {
+    let mut world = world_of(alloc, row.rules.as_bytes(), row.source.as_bytes())?;
+    world.files.add(alloc, "l", proofs)?;
+    leaves_in(alloc, row, &mut world)
+}
 
 #[test]
 fn modules_are_rewritten_by_stored_proofs(rt: HostRuntime) -> Result<(), Fail> {
     let alloc = rt.alloc();
-    let proof = written(alloc, "alive verify r --widths 8 --logs", NOT_ADD, "")?;
-    assert!(rt; is_rewritten(alloc, BY_PROOF, proof.as_str())?);
+    let proof = written(alloc, "alive verify r --widths 8 --logs", NOT_ADD, b"")?;
+    assert!(rt; leaves_by(alloc, &BY_PROOF, proof.as_slice())?);
     Ok(())
 }
 
@@ -289,10 +323,10 @@ fn modules_are_rewritten_by_stored_proofs(rt: HostRuntime) -> Result<(), Fail> {
 #[test]
 fn other_proofs_cost_a_search(rt: HostRuntime) -> Result<(), Fail> {
     let alloc = rt.alloc();
-    let other = written(alloc, "alive verify r --widths 4 --logs", NOT_ADD, "")?;
-    for proofs in [other.as_str(), "proof not-add [8]\nlog 0\n"] {
-        assert!(rt; is_rewritten(alloc, "--steps 10 --logs l", proofs)?);
-        assert!(rt; !is_rewritten(alloc, BY_PROOF, proofs)?);
+    let other = written(alloc, "alive verify r --widths 4 --logs", NOT_ADD, b"")?;
+    for proofs in [other.as_slice(), b"proof not-add [8]\nlog 0\n".as_slice()] {
+        assert!(rt; leaves_by(alloc, &BY_EITHER, proofs)?);
+        assert!(rt; !leaves_by(alloc, &BY_PROOF, proofs)?);
     }
     Ok(())
 }
@@ -302,9 +336,9 @@ fn other_proofs_cost_a_search(rt: HostRuntime) -> Result<(), Fail> {
 fn proofs_are_read_where_they_are_named(rt: HostRuntime) -> Result<(), Fail> {
     let alloc = rt.alloc();
     for proofs in ["", "proof"] {
-        assert!(rt; is_rewritten(alloc, "--steps 10", proofs)?);
+        assert!(rt; leaves_by(alloc, &BY_SEARCH, proofs.as_bytes())?);
     }
-    assert!(rt; is_refused(alloc, BY_PROOF, "proof", b"logs: line 1: Syntax\n")?);
+    assert!(rt; leaves_by(alloc, &REFUSED, b"proof")?);
     Ok(())
 }
 
@@ -326,51 +360,61 @@ const LIES: [Lie; 5] = [
     Lie::EmptyBefore,
 ];
 
-/// The lines in the place of the step's, and how many there are.
-fn told(alloc: Global, lie: Lie, step: &str) -> Result<(usize, String), Fail> {
-    Ok(match lie {
-        Lie::LeftOut => (0, String::new(alloc)),
-        Lie::Twice => (2, format!(in alloc; "{step}\n{step}\n")?),
-        Lie::HintAhead => (1, format!(in alloc; "{step} 4294967295\n")?),
-        Lie::Negated => (1, format!(in alloc; "-{step}\n")?),
-        Lie::EmptyBefore => (2, format!(in alloc; ":\n{step}\n")?),
-    })
+/// The parts of the text of one proof whose log has a step.
+#[derive(Clone, Copy)]
+struct Parts<'a> {
+    head: &'a str,
+    step: &'a str,
+    rest: &'a str,
 }
 
-/// The text of one proof, with a lie in its log; or nothing, where it has no step.
-fn lying(alloc: Global, proof: &str, lie: Lie) -> Result<String, Fail> {
-    let lines: Vec<&str> = proof.lines().collect(alloc)?;
-    let [head, _, step, rest @ ..] = lines.as_slice() else {
-        return Ok(String::new(alloc));
-    };
-    let (count, first) = told(alloc, lie, step)?;
-    let mut text = format!(in alloc; "{head}\nlog {}\n{first}", count.saturating_add(rest.len()))?;
-    for line in rest {
-        text.push_str(line)?;
-        text.push('\n')?;
+/// The parts of a text, if it is that of a proof whose log has a step.
+fn parts_of(proof: &str) -> Option<Parts<'_>> {
+    let (head, log) = proof.split_once('\n')?;
+    let (_, steps) = log.split_once('\n')?;
+    let (step, rest) = steps.split_once('\n')?;
+    Some(Parts { head, step, rest })
+}
+
+/// The text of a proof, with a lie in its log.
+fn lying(alloc: Global, proof: &Parts<'_>, lie: Lie) -> Result<String, AllocError> {
+    let Parts { head, step, rest } = proof;
+    let none = rest.lines().count();
+    let one = none.saturating_add(1);
+    let two = none.saturating_add(2);
+    match lie {
+        Lie::LeftOut => format!(in alloc; "{head}\nlog {none}\n{rest}"),
+        Lie::Twice => format!(in alloc; "{head}\nlog {two}\n{step}\n{step}\n{rest}"),
+        Lie::HintAhead => format!(in alloc; "{head}\nlog {one}\n{step} 4294967295\n{rest}"),
+        Lie::Negated => format!(in alloc; "{head}\nlog {one}\n-{step}\n{rest}"),
+        Lie::EmptyBefore => format!(in alloc; "{head}\nlog {two}\n:\n{step}\n{rest}"),
     }
-    Ok(text)
+}
+
+/// Whether `recheck` admits the rule by a search, or refuses the text, where there is a lie in a proof.
+fn costs_a_search(alloc: Global, proof: &Parts<'_>, lie: Lie) -> Result<bool, AllocError> {
+    let text = lying(alloc, proof, lie)?;
+    let out = written(alloc, RECHECK, NOT_ADD, text.as_bytes())?;
+    Ok(out.as_slice() == b"not-add [4]: admitted\n".as_slice() || out.is_empty())
 }
 
 #[test]
 fn a_log_that_lies_costs_a_search(rt: HostRuntime) -> Result<(), Fail> {
     let alloc = rt.alloc();
-    let proof = written(alloc, "alive verify r --widths 4 --logs", NOT_ADD, "")?;
-    for lie in LIES {
-        let text = lying(alloc, proof.as_str(), lie)?;
-        assert!(rt; !text.is_empty());
-        let out = written(alloc, RECHECK, NOT_ADD, text.as_str())?;
-        assert!(rt; out.as_str() == "not-add [4]: admitted\n" || out.as_str() == "");
+    let proof = written(alloc, "alive verify r --widths 4 --logs", NOT_ADD, b"")?;
+    let proof = parts_of(std::str::from_utf8(proof.as_slice())?).ok_or("no step")?;
+    for lie in &LIES {
+        assert!(rt; costs_a_search(alloc, &proof, *lie)?);
     }
     Ok(())
 }
 
 /// As many proofs of a rule of three operands, each at other widths, and then the first of them again.
-fn many_proofs(alloc: Global, count: u32) -> Result<String, Fail> {
+fn many_proofs(alloc: Global, count: u32) -> Result<String, AllocError> {
     let mut text = String::new(alloc);
     for n in 0..count {
         let (x, y, z) = (n % 28 + 1, n / 28 % 28 + 1, n / 784 + 1);
-        text.push_str(format!(in alloc; "proof three [1 {x} {y} {z}]\nlog 0\n")?.as_str())?;
+        write!(text, "proof three [1 {x} {y} {z}]\nlog 0\n")?;
     }
     text.push_str("proof three [1 1 1 1]\nlog 0\n")?;
     Ok(text)
@@ -379,12 +423,17 @@ fn many_proofs(alloc: Global, count: u32) -> Result<String, Fail> {
 const THREE: &str =
     "Name: three\n%a = icmp eq %x, 0\n%b = icmp eq %y, 0\n%c = icmp eq %z, 0\n%d = and %a, %b\n%r = and %d, %c\n=>\n%r = and %c, %d\n";
 
+/// A world with that rule and so many proofs of it.
+fn world_of_many(alloc: Global, count: u32) -> Result<World, AllocError> {
+    let proofs = many_proofs(alloc, count)?;
+    world_of(alloc, THREE.as_bytes(), proofs.as_bytes())
+}
+
 #[test]
 fn many_proofs_are_told_apart(rt: HostRuntime) -> Result<(), Fail> {
-    let alloc = rt.alloc();
-    let proofs = many_proofs(alloc, 20_000)?;
-    let mut world = world_of(alloc, THREE.as_bytes(), proofs.as_bytes())?;
-    assert_eq!(rt; run(alloc, RECHECK, &mut world)?, 9);
+    let mut world = world_of_many(rt.alloc(), 20_000)?;
+    let status = run(rt.alloc(), RECHECK, &mut world)?;
+    assert_eq!(rt; status, 9);
     assert_eq!(rt;
         world.sinks.err.contents(),
         b"logs: line 40001: Repeated\n".as_slice()

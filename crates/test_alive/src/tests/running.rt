@@ -18,35 +18,49 @@ pub(super) struct World {
     pub(super) sinks: Sinks,
 }
 
-/// A rule file `r` and a module `m`.
-fn files_of(alloc: Global, rules: &[u8], source: &[u8]) -> Result<MemoryFiles, AllocError> {
-    let mut files = MemoryFiles::new(alloc);
+/// How many bytes each sink has room for: more than any command of a test writes.
+const ROOM: usize = 1 << 20;
+
+/// Adds a rule file `r` and a module `m`.
+fn add_files(
+    alloc: Global,
+    files: &mut MemoryFiles,
+    rules: &[u8],
+    source: &[u8],
+) -> Result<(), AllocError> {
     files.add(alloc, "r", rules)?;
-    files.add(alloc, "m", source)?;
-    Ok(files)
+    files.add(alloc, "m", source)
 }
 
-/// Empty sinks, with room for what any row writes.
-fn empty_sinks(alloc: Global) -> Result<Sinks, AllocError> {
-    Ok(Sinks {
-        out: MemorySink::with_room(alloc, 10_000)?,
-        err: MemorySink::with_room(alloc, 10_000)?,
+/// No files, and empty sinks.
+fn empty_world(alloc: Global) -> Result<World, AllocError> {
+    let out = MemorySink::with_room(alloc, ROOM)?;
+    let err = MemorySink::with_room(alloc, ROOM)?;
+    Ok(World {
+        files: MemoryFiles::new(alloc),
+        sinks: Sinks { out, err },
     })
 }
 
 /// A rule file `r` and a module `m`, and empty sinks.
 pub(super) fn world_of(alloc: Global, rules: &[u8], source: &[u8]) -> Result<World, AllocError> {
-    Ok(World {
-        files: files_of(alloc, rules, source)?,
-        sinks: empty_sinks(alloc)?,
-    })
+    let mut world = empty_world(alloc)?;
+    add_files(alloc, &mut world.files, rules, source)?;
+    Ok(world)
+}
+
+/// Adds a word.
+fn push_word(alloc: Global, words: &mut Vec<String>, word: &str) -> Result<(), AllocError> {
+    let word = String::from_str(alloc, word)?;
+    words.push(word)?;
+    Ok(())
 }
 
 /// The words of a line, with one blank between two.
 pub(super) fn words_of(alloc: Global, line: &str) -> Result<Vec<String>, AllocError> {
     let mut all = Vec::new(alloc);
     for word in line.split(' ') {
-        all.push(String::from_str(alloc, word)?)?;
+        push_word(alloc, &mut all, word)?;
     }
     Ok(all)
 }

@@ -4,7 +4,7 @@ use super::running::words_of;
 use super::{NOT_ADD, NOT_ADD_SOURCE};
 use crate::sure_status;
 use outside::SureFiles;
-use std::alloc::Global;
+use std::alloc::{AllocError, Global};
 use std::test::Fail;
 
 /// A command, and its status. What is under a name that nothing is held under is empty.
@@ -48,20 +48,31 @@ const ROWS: [Row; 8] = [
     },
 ];
 
-/// The status of a command over a rule file `r` and a module `m`.
-fn status_of(alloc: Global, line: &str) -> Result<u8, Fail> {
+/// A rule file `r` and a module `m`.
+fn files_of(alloc: Global) -> Result<SureFiles, AllocError> {
     let mut files = SureFiles::new(alloc);
     files.add(alloc, "r", NOT_ADD.as_bytes())?;
     files.add(alloc, "m", NOT_ADD_SOURCE.as_bytes())?;
+    Ok(files)
+}
+
+/// The status of the words of a command over these files.
+fn status_of(alloc: Global, words: &Vec<String>) -> Result<u8, AllocError> {
+    let mut files = files_of(alloc)?;
+    Ok(sure_status(alloc, words, &mut files).code())
+}
+
+/// The status of the command of a line.
+fn line_status(alloc: Global, line: &str) -> Result<u8, AllocError> {
     let words = words_of(alloc, line)?;
-    Ok(sure_status(alloc, &words, &mut files).code())
+    status_of(alloc, &words)
 }
 
 #[test]
 fn each_status_comes_over_what_never_fails(rt: HostRuntime) -> Result<(), Fail> {
     for row in &ROWS {
         assert_eq!(rt;
-            status_of(rt.alloc(), row.line)?,
+            line_status(rt.alloc(), row.line)?,
             row.status,
             "{}",
             row.line

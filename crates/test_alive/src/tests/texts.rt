@@ -1,12 +1,12 @@
 //! Files at their limits.
 
 use super::*;
-use std::alloc::AllocError;
+use std::fmt::Write;
 
 /// The status of `optimise` over a rule file and a module.
-fn status_over(alloc: Global, rules: &[u8], source: &[u8]) -> Result<u8, Fail> {
+fn status_over(alloc: Global, rules: &[u8], source: &[u8]) -> Result<u8, AllocError> {
     let mut world = world_of(alloc, rules, source)?;
-    Ok(run(alloc, OPTIMISE, &mut world)?)
+    run(alloc, OPTIMISE, &mut world)
 }
 
 /// Line feeds as the rule file and as the module: how many, and the statuses.
@@ -17,12 +17,22 @@ const LIMITS: [(usize, u8, u8); 4] = [
     (16_777_217, 3, 4),
 ];
 
+/// The statuses over so many line feeds as the rule file, and as the module.
+fn statuses_over(alloc: Global, bytes: usize) -> Result<(u8, u8), AllocError> {
+    let blanks = vec![in alloc; b'\n'; bytes]?;
+    let as_rules = status_over(alloc, blanks.as_slice(), b"")?;
+    let as_source = status_over(alloc, b"", blanks.as_slice())?;
+    Ok((as_rules, as_source))
+}
+
 #[test]
 fn limits_are_exact(rt: HostRuntime) -> Result<(), Fail> {
-    for (bytes, as_rules, as_source) in LIMITS {
-        let blanks = vec![in rt.alloc(); b'\n'; bytes]?;
-        assert_eq!(rt; status_over(rt.alloc(), blanks.as_slice(), b"")?, as_rules);
-        assert_eq!(rt; status_over(rt.alloc(), b"", blanks.as_slice())?, as_source);
+    for (bytes, as_rules, as_source) in &LIMITS {
+        assert_eq!(rt;
+            statuses_over(rt.alloc(), *bytes)?,
+            (*as_rules, *as_source),
+            "{bytes} bytes"
+        );
     }
     Ok(())
 }
@@ -34,9 +44,7 @@ const MANY: u32 = 300;
 fn many_rules(alloc: Global) -> Result<String, AllocError> {
     let mut text = String::new(alloc);
     for number in 0..MANY {
-        text.push_str(format!(in alloc;
-            "Name: rule-{number}\n%r = add %x, 0\n=>\n%r = %x\n"
-        )?.as_str())?;
+        write!(text, "Name: rule-{number}\n%r = add %x, 0\n=>\n%r = %x\n")?;
     }
     Ok(text)
 }

@@ -1,87 +1,118 @@
 //! Command lines, and what they say.
 
-use command_line::{Command, CommandError, read_command};
+use command_line::{Command, CommandError, VerifyOptions, read_command};
 use ops::Width;
-use std::alloc::Global;
+use std::alloc::{AllocError, Global};
+use std::fmt::Write;
 use std::test::Fail;
 
-/// A text with widths behind it.
-fn with_widths(alloc: Global, mut text: String, widths: &[Width]) -> Result<String, Fail> {
+/// Adds widths.
+fn push_widths(text: &mut String, widths: &[Width]) -> Result<(), AllocError> {
     for width in widths {
-        text.push_str(format!(in alloc; " {}", width.bits())?.as_str())?;
+        write!(text, " {}", width.bits())?;
     }
+    Ok(())
+}
+
+/// Adds words.
+fn push_words(text: &mut String, words: &[&str]) -> Result<(), AllocError> {
+    for word in words {
+        write!(text, " {word}")?;
+    }
+    Ok(())
+}
+
+/// `verify` as a text.
+fn verify_shown(alloc: Global, rules: &str, options: &VerifyOptions) -> Result<String, AllocError> {
+    let logs = if options.logs { " logs" } else { "" };
+    let mut text = format!(in alloc; "verify {rules} {}{logs}:", options.conflicts)?;
+    push_widths(&mut text, options.widths.as_slice())?;
     Ok(text)
 }
 
-/// A text with words behind it.
-fn with_words(alloc: Global, mut text: String, words: &[&str]) -> Result<String, Fail> {
-    for word in words {
-        text.push_str(format!(in alloc; " {word}")?.as_str())?;
-    }
+/// `run` as a text.
+fn run_shown(
+    alloc: Global,
+    module: &str,
+    name: &str,
+    arguments: &[&str],
+    blocks: u32,
+) -> Result<String, AllocError> {
+    let mut text = format!(in alloc; "run {module} {name} {blocks}:")?;
+    push_words(&mut text, arguments)?;
     Ok(text)
 }
 
 /// A command as a text.
-fn shown(alloc: Global, command: &Command<'_>) -> Result<String, Fail> {
+fn shown(alloc: Global, command: &Command<'_>) -> Result<String, AllocError> {
     match command {
-        Command::Verify { rules, options } => with_widths(
-            alloc,
-            format!(in alloc;
-                "verify {rules} {}{}:",
-                options.conflicts,
-                if options.logs { " logs" } else { "" }
-            )?,
-            options.widths.as_slice(),
-        ),
+        Command::Verify { rules, options } => verify_shown(alloc, rules, options),
         Command::Optimise {
             rules,
             module,
             logs,
             options,
-        } => Ok(format!(in alloc;
+        } => format!(in alloc;
             "optimise {rules} {module} {} {}{}{}",
             options.conflicts,
             options.steps,
             if logs.is_some() { " logs " } else { "" },
             logs.unwrap_or("")
-        )?),
+        ),
         Command::Run {
             module,
             name,
             arguments,
             options,
-        } => with_words(
-            alloc,
-            format!(in alloc; "run {module} {name} {}:", options.blocks)?,
-            arguments.as_slice(),
-        ),
-        Command::Load { number } => Ok(format!(in alloc; "load {number}")?),
+        } => run_shown(alloc, module, name, arguments.as_slice(), options.blocks),
+        Command::Load { number } => format!(in alloc; "load {number}"),
         Command::Recheck {
             rules,
             logs,
             options,
-        } => Ok(format!(in alloc; "recheck {rules} {logs} {}", options.conflicts)?),
+        } => format!(in alloc; "recheck {rules} {logs} {}", options.conflicts),
     }
 }
 
-/// What the words behind the program's name say, as a text: `clap`'s texts are `usage` alone.
-fn said(alloc: Global, words: &[&str]) -> Result<String, Fail> {
-    let mut all = Vec::new(alloc);
-    all.push(String::from_str(alloc, "alive")?)?;
+/// Adds a word.
+fn push_word(alloc: Global, words: &mut Vec<String>, word: &str) -> Result<(), AllocError> {
+    let word = String::from_str(alloc, word)?;
+    words.push(word)?;
+    Ok(())
+}
+
+/// Adds the program's name, and the words behind it.
+fn push_line(alloc: Global, line: &mut Vec<String>, words: &[&str]) -> Result<(), AllocError> {
+    push_word(alloc, line, "alive")?;
     for word in words {
-        all.push(String::from_str(alloc, word)?)?;
+        push_word(alloc, line, word)?;
     }
-    match read_command(alloc, all.as_slice()) {
+    Ok(())
+}
+
+/// What is left of a text of usage: `clap`'s texts are `usage` alone.
+fn usage(text: &[u8]) -> &str {
+    if text.starts_with(b"error: widths ") {
+        std::str::from_utf8(text).unwrap_or("no text")
+    } else {
+        "usage"
+    }
+}
+
+/// What a line says, as a text.
+fn line_said(alloc: Global, line: &[String]) -> Result<String, AllocError> {
+    match read_command(alloc, line) {
         Ok(command) => shown(alloc, &command),
-        Err(CommandError::Usage(text)) => {
-            if text.as_slice().starts_with(b"error: widths ") {
-                Ok(String::from_utf8(text).ok().ok_or("a text")?)
-            } else {
-                Ok(String::from_str(alloc, "usage")?)
-            }
-        }
-        Err(CommandError::NoMemory) => Ok(String::from_str(alloc, "memory")?),
+        Err(CommandError::Usage(text)) => String::from_str(alloc, usage(text.as_slice())),
+        Err(CommandError::NoMemory) => Err(AllocError),
     }
+}
+
+/// What the words behind the program's name say, as a text.
+fn said(alloc: Global, words: &[&str]) -> Result<String, AllocError> {
+    let mut line = Vec::new(alloc);
+    push_line(alloc, &mut line, words)?;
+    line_said(alloc, line.as_slice())
 }
 
 const TABLE: &[(&[&str], &str)] = &[

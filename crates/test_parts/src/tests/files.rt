@@ -4,7 +4,7 @@ use outside::{
     DiskFiles, Failed, FailingPut, Files, MemoryFiles, MemorySink, ReadError, Sink, StreamSink,
     SureFiles, SureSink,
 };
-use std::alloc::Global;
+use std::alloc::{AllocError, Global};
 use std::io;
 use std::io::Write;
 use std::test::Fail;
@@ -51,50 +51,76 @@ impl Write for Faulty {
     }
 }
 
-fn memory_count(alloc: Global) -> Result<usize, ReadError> {
-    let mut files = MemoryFiles::new(alloc);
+/// Holds five `x`, of which the first read gives four; the second read would fail.
+fn count_in_memory(alloc: Global, files: &mut MemoryFiles) -> Result<usize, ReadError> {
     files.add(alloc, "a", b"xxxxx")?;
     files.fail_at(1)?;
-    read_count(alloc, &mut files, "a", 4)
+    read_count(alloc, files, "a", 4)
+}
+
+fn memory_count(alloc: Global) -> Result<usize, ReadError> {
+    let mut files = MemoryFiles::new(alloc);
+    count_in_memory(alloc, &mut files)
+}
+
+fn count_in_sure(alloc: Global, files: &mut SureFiles) -> Result<usize, ReadError> {
+    files.add(alloc, "a", b"xxxxx")?;
+    read_count(alloc, files, "a", 4)
 }
 
 fn sure_count(alloc: Global) -> Result<usize, ReadError> {
     let mut files = SureFiles::new(alloc);
-    files.add(alloc, "a", b"xxxxx")?;
-    read_count(alloc, &mut files, "a", 4)
+    count_in_sure(alloc, &mut files)
+}
+
+/// The name of a file that the test writes.
+const PATH: &str = "outside_test.tmp";
+
+/// Names, the most bytes that are read, and how many come, of a file of 10,000.
+const READS: [(&str, usize, Result<usize, ReadError>); 6] = [
+    (PATH, 0, Ok(0)),
+    (PATH, 4096, Ok(4096)),
+    (PATH, 9_999, Ok(9_999)),
+    (PATH, 20_000, Ok(10_000)),
+    (".", 5, Err(ReadError::Failed)),
+    ("bad\0name", 5, Err(ReadError::Failed)),
+];
+
+/// Writes a file of 10,000 bytes.
+fn write_file(rt: &HostRuntime) -> Result<(), Fail> {
+    let text = vec![in rt.alloc(); b'x'; 10_000]?;
+    std::fs::write(rt, PATH, text.as_slice())?;
+    Ok(())
 }
 
 #[test]
 fn files_are_read_up_to_the_most(rt: HostRuntime) -> Result<(), Fail> {
     assert_eq!(rt; memory_count(rt.alloc()), Ok(4));
     assert_eq!(rt; sure_count(rt.alloc()), Ok(4));
-    let path = "outside_test.tmp";
-    let text = vec![in rt.alloc(); b'x'; 10_000]?;
-    std::fs::write(&rt, path, text.as_slice())?;
+    write_file(&rt)?;
     let mut files = DiskFiles::new(rt);
-    for (name, most, want) in [
-        (path, 0, Ok(0)),
-        (path, 4096, Ok(4096)),
-        (path, 9_999, Ok(9_999)),
-        (path, 20_000, Ok(10_000)),
-        (".", 5, Err(ReadError::Failed)),
-        ("bad\0name", 5, Err(ReadError::Failed)),
-    ] {
+    for (name, most, want) in &READS {
         assert_eq!(rt;
-            read_count(rt.alloc(), &mut files, name, most),
-            want,
+            read_count(rt.alloc(), &mut files, name, *most),
+            *want,
             "{name}"
         );
     }
     assert_eq!(rt; files.faults(), 2);
-    std::fs::remove_file(&rt, path)?;
+    std::fs::remove_file(&rt, PATH)?;
     Ok(())
+}
+
+/// Lists the second put to fail.
+fn held_sink(alloc: Global) -> Result<MemorySink, AllocError> {
+    let mut held = MemorySink::with_room(alloc, 8)?;
+    held.fail_at(FailingPut { number: 1, most: 1 })?;
+    Ok(held)
 }
 
 #[test]
 fn sinks_take_whole_pieces_or_fail(rt: HostRuntime) -> Result<(), Fail> {
-    let mut held = MemorySink::with_room(rt.alloc(), 8)?;
-    held.fail_at(FailingPut { number: 1, most: 1 })?;
+    let mut held = held_sink(rt.alloc())?;
     assert_eq!(rt; put_piece(&mut held), Ok(()));
     assert_eq!(rt; put_piece(&mut SureSink), Ok(()));
     assert_eq!(rt; put_piece(&mut StreamSink::new(rt.stdout())), Ok(()));

@@ -385,8 +385,8 @@ fn instructions_give(rt: &impl Abort, bits: u32, rows: &[Row]) {
 fn instructions_give_the_worked_effects(rt: HostRuntime) {
     instructions_give(&rt, 1, &ONE_BIT);
     instructions_give(&rt, 2, &TWO_BITS);
-    for bits in [7, 8, 63, 64] {
-        instructions_give(&rt, bits, &EDGES);
+    for bits in &[7, 8, 63, 64] {
+        instructions_give(&rt, *bits, &EDGES);
     }
 }
 
@@ -419,10 +419,9 @@ fn casts_keep_or_break_flags(rt: &impl Abort) {
     }
 }
 
-#[test]
-fn casts_comparisons_and_choices_give_the_worked_values(rt: HostRuntime) {
+fn casts_give(rt: &impl Abort) {
     for &(cast, from, to, a, expected) in &CASTS {
-        let (from, to) = (width(&rt, from), width(&rt, to));
+        let (from, to) = (width(rt, from), width(rt, to));
         assert!(rt;
             (cast == Trunc && to.bits() < from.bits()) || (cast != Trunc && from.bits() < to.bits())
         );
@@ -437,22 +436,44 @@ fn casts_comparisons_and_choices_give_the_worked_values(rt: HostRuntime) {
             "{cast:?}"
         );
     }
+}
+
+fn comparisons_keep_poison(rt: &impl Abort) {
+    let byte = width(rt, 8);
+    let found = compare(Eq, false, byte, value(byte, Poison), value(byte, Is(1)));
+    assert_eq!(rt; found, Value::Poison);
+    let found = compare(Ne, true, byte, value(byte, Is(1)), value(byte, Poison));
+    assert_eq!(rt; found, Value::Poison);
+}
+
+// A condition of one bit, two operands of eight, and the one that is chosen.
+static CHOICES: [(Cell, Cell, Cell, Cell); 6] = [
+    (Is(1), Is(1), Is(2), Is(1)),
+    (Is(0), Is(1), Is(2), Is(2)),
+    (Is(1), Is(1), Poison, Is(1)),
+    (Is(0), Poison, Is(2), Is(2)),
+    (Is(0), Is(1), Poison, Poison),
+    (Poison, Is(1), Is(1), Poison),
+];
+
+fn choices_give(rt: &impl Abort) {
+    let bit = width(rt, 1);
+    let byte = width(rt, 8);
+    for (row, &(condition, yes, no, expected)) in CHOICES.iter().enumerate() {
+        let found = choose(value(bit, condition), value(byte, yes), value(byte, no));
+        assert_eq!(rt; found, value(byte, expected), "row {row}");
+    }
+}
+
+#[test]
+fn casts_comparisons_and_choices_give_the_worked_values(rt: HostRuntime) {
+    casts_give(&rt);
     casts_keep_or_break_flags(&rt);
-    for pred in PREDICATES {
-        for bits in [1, 2, 7, 8, 63, 64] {
-            comparisons_give(&rt, bits, pred);
+    for pred in &PREDICATES {
+        for bits in &[1, 2, 7, 8, 63, 64] {
+            comparisons_give(&rt, *bits, *pred);
         }
     }
-    let bit = width(&rt, 1);
-    let byte = width(&rt, 8);
-    let (yes, no) = (number(bit, 1), number(bit, 0));
-    let (one, two) = (number(byte, 1), number(byte, 2));
-    assert_eq!(rt; compare(Eq, false, byte, Value::Poison, one), Value::Poison);
-    assert_eq!(rt; compare(Ne, true, byte, one, Value::Poison), Value::Poison);
-    assert_eq!(rt; choose(yes, one, two), one);
-    assert_eq!(rt; choose(no, one, two), two);
-    assert_eq!(rt; choose(yes, one, Value::Poison), one);
-    assert_eq!(rt; choose(no, Value::Poison, two), two);
-    assert_eq!(rt; choose(no, one, Value::Poison), Value::Poison);
-    assert_eq!(rt; choose(Value::Poison, one, one), Value::Poison);
+    comparisons_keep_poison(&rt);
+    choices_give(&rt);
 }

@@ -87,18 +87,22 @@ fn singles_give(rt: &impl Abort, bits: u32, rows: &[(Unary, Cell, Cell, Cell)]) 
     }
 }
 
+fn pairs_give(rt: &impl Abort, bits: u32) {
+    let width = width(rt, bits);
+    for (row, &(op, a, b, expected)) in PAIRS.iter().enumerate() {
+        let found = evaluate(op, Flags::NONE, width, value(width, a), value(width, b));
+        assert_eq!(rt;
+            found,
+            Effect::Gives(value(width, expected)),
+            "row {row} at i{bits}"
+        );
+    }
+}
+
 #[test]
 fn intrinsics_give_the_worked_values(rt: HostRuntime) {
-    for bits in [1, 2, 7, 8, 63, 64] {
-        let of = width(&rt, bits);
-        for (row, &(op, a, b, expected)) in PAIRS.iter().enumerate() {
-            let found = evaluate(op, Flags::NONE, of, value(of, a), value(of, b));
-            assert_eq!(&rt;
-                found,
-                Effect::Gives(value(of, expected)),
-                "row {row} at i{bits}"
-            );
-        }
+    for &bits in &[1, 2, 7, 8, 63, 64] {
+        pairs_give(&rt, bits);
         singles_give(&rt, bits, &SINGLES);
         if bits >= 7 {
             singles_give(&rt, bits, &WIDE);

@@ -245,29 +245,29 @@ fn expect_tokens(rt: &impl Abort, text: &[u8], tokens: &[Seen], ending: Result<u
 
 #[test]
 fn modules_have_their_tokens(rt: HostRuntime) {
-    for (text, tokens, ending) in TEXTS {
-        expect_tokens(&rt, text, tokens, ending);
+    for (text, tokens, ending) in &TEXTS {
+        expect_tokens(&rt, text, tokens, *ending);
     }
 }
 
 #[test]
 fn lines_and_groups_are_kept(rt: HostRuntime) {
-    for (text, kept, next, line) in LINES {
+    for (text, kept, next, line) in &LINES {
         let mut cursor = Cursor::new(text);
         assert!(rt; cursor.next_token().is_ok());
         let rest = cursor.take_line();
-        assert_eq!(rt; bytes_of(text, rest), kept);
+        assert_eq!(rt; bytes_of(text, rest), *kept);
         let token = cursor.next_token();
         assert_eq!(rt;
             token.map(|token| (token.kind, token.line)),
-            Ok((next, line))
+            Ok((*next, *line))
         );
     }
-    for (text, kept, next) in GROUPS {
+    for (text, kept, next) in &GROUPS {
         let mut cursor = Cursor::new(text);
         assert!(rt; cursor.next_token().is_ok());
         let group = cursor.take_group();
-        assert_eq!(rt; group.map(|span| bytes_of(text, span)), kept);
-        assert_eq!(rt; cursor.next_token().map(|token| token.kind), Ok(next));
+        assert_eq!(rt; group.map(|span| bytes_of(text, span)), *kept);
+        assert_eq!(rt; cursor.next_token().map(|token| token.kind), Ok(*next));
     }
 }

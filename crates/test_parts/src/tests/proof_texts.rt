@@ -1,8 +1,8 @@
 //! Texts that are read, and written again as they were, or refused.
 
-use proof_text::{LogFaultKind, read_proofs, write_proofs};
+use proof_text::{LogFaultKind, Proof, read_proofs, write_proofs};
 use refusal::Refusal;
-use std::test::Fail;
+use std::alloc::{AllocError, Global};
 
 /// Each text, and its fault: its line, and 2 for `BadByte` or 3 for `Syntax`; 0 and 0 where it has none.
 const TEXTS: [(&[u8], usize, u8); 36] = [
@@ -48,30 +48,34 @@ const TEXTS: [(&[u8], usize, u8); 36] = [
     (b"proof a [1]\nlog 0\n\n", 3, 3),
 ];
 
-#[test]
-fn texts_are_read_or_refused(rt: HostRuntime) -> Result<(), Fail> {
-    for (text, line, kind) in TEXTS {
-        let found = match read_proofs(rt.alloc(), text) {
-            Ok(proofs) => {
-                let again = write_proofs(rt.alloc(), proofs.as_slice())?;
-                if again.as_slice() == text {
-                    (0, 0)
-                } else {
-                    (0, 1)
-                }
-            }
-            Err(Refusal::Refused(fault)) => (
-                fault.line,
-                match fault.kind {
-                    LogFaultKind::TooLong => 1,
-                    LogFaultKind::BadByte => 2,
-                    LogFaultKind::Syntax => 3,
-                    _ => 9,
-                },
-            ),
-            Err(Refusal::NoMemory) => (9, 9),
-        };
-        assert_eq!(rt; found, (line, kind));
+/// 0 where these are the proofs of the text, which is written again as it was, and else 1.
+fn rewriting_code(alloc: Global, proofs: &[Proof], text: &[u8]) -> Result<u8, AllocError> {
+    let again = write_proofs(alloc, proofs)?;
+    Ok(u8::from(again.as_slice() != text))
+}
+
+/// The number of a kind.
+fn kind_code(kind: &LogFaultKind) -> u8 {
+    match kind {
+        LogFaultKind::TooLong => 1,
+        LogFaultKind::BadByte => 2,
+        LogFaultKind::Syntax => 3,
+        _ => 9,
     }
-    Ok(())
+}
+
+/// The fault of a text: its line and the number of its kind.
+fn found(alloc: Global, text: &[u8]) -> Result<(usize, u8), AllocError> {
+    match read_proofs(alloc, text) {
+        Ok(proofs) => Ok((0, rewriting_code(alloc, proofs.as_slice(), text)?)),
+        Err(Refusal::Refused(fault)) => Ok((fault.line, kind_code(&fault.kind))),
+        Err(Refusal::NoMemory) => Err(AllocError),
+    }
+}
+
+#[test]
+fn texts_are_read_or_refused(rt: HostRuntime) {
+    for (text, line, kind) in &TEXTS {
+        assert_eq!(rt; found(rt.alloc(), text), Ok((*line, *kind)));
+    }
 }

@@ -232,14 +232,14 @@ fn expect_tokens(rt: &impl Abort, text: &[u8], tokens: &[Seen], ending: Result<u
 
 #[test]
 fn texts_have_their_tokens(rt: HostRuntime) {
-    for (text, tokens, ending) in TEXTS {
-        expect_tokens(&rt, text, tokens, ending);
+    for (text, tokens, ending) in &TEXTS {
+        expect_tokens(&rt, text, tokens, *ending);
     }
 }
 
 #[test]
 fn names_are_the_rest_of_their_line(rt: HostRuntime) {
-    for (text, name, next) in NAMES {
+    for (text, name, next) in &NAMES {
         let mut cursor = Cursor::new(text);
         assert!(rt; cursor.next_rule_token(false).is_ok());
         let taken = cursor.take_name();
@@ -249,7 +249,7 @@ fn names_are_the_rest_of_their_line(rt: HostRuntime) {
         );
         assert_eq!(rt;
             cursor.next_rule_token(false).map(|token| token.kind),
-            Ok(next)
+            Ok(*next)
         );
     }
 }

@@ -1,8 +1,8 @@
 //! Calls of integer intrinsics: read, run, written and refused.
 
 use super::refused::{Refused, expect_told};
-use super::written::cleaned;
-use alive_top::{RunError, run};
+use super::runs::line;
+use super::written::is_cleaned_to;
 use std::alloc::{AllocError, Global};
 use std::test::Fail;
 
@@ -77,12 +77,10 @@ define i1 @llvm.umax.i8(i1 %a, i64 %b) {
 ];
 
 #[test]
-fn calls_are_written_without_items(rt: HostRuntime) -> Result<(), Fail> {
+fn calls_are_written_without_items(rt: HostRuntime) {
     for (text, expected) in &WRITTEN {
-        let written = cleaned(rt.alloc(), text)?;
-        assert_eq!(rt; std::str::from_utf8(written.out.as_slice())?, *expected);
+        assert!(rt; is_cleaned_to(rt.alloc(), text, expected), "{text}");
     }
-    Ok(())
 }
 
 // A call on %x at i8, an argument, and the line that a run prints.
@@ -111,15 +109,12 @@ const RUNS: [(&str, &str, &str); 22] = [
     ("cttz.i8(i8 %x, i1 0)", "poison", "return poison\n"),
 ];
 
+/// What is written of a run of the call.
 fn ran(alloc: Global, call: &str, argument: &str) -> Result<Vec<u8>, AllocError> {
-    let mut text = Vec::from_slice(alloc, b"define i8 @n(i8 %x) {\n  %1 = call i8 @llvm.")?;
-    text.extend_from_slice(call.as_bytes())?;
-    text.extend_from_slice(b"\n  ret i8 %1\n}\n")?;
-    match run(alloc, text.as_slice(), b"n", &[argument], 5) {
-        Ok(line) => Ok(line),
-        Err(RunError::NoMemory) => Err(AllocError),
-        Err(_) => Vec::from_slice(alloc, b"refused"),
-    }
+    let text = format!(in alloc;
+        "define i8 @f(i8 %x) {{\n  %1 = call i8 @llvm.{call}\n  ret i8 %1\n}}\n"
+    )?;
+    line(alloc, text.as_str(), &[argument], 5)
 }
 
 #[test]

@@ -2,6 +2,7 @@
 
 use ir_printer::print_module;
 use load_gen::generate;
+use std::alloc::{AllocError, Global};
 use std::test::Fail;
 
 const SEVEN: &str = "define i5 @f0(i5 %a, i5 %b) {
@@ -67,10 +68,15 @@ exit:
 }
 ";
 
+/// The text of the module that a number stands for.
+fn generated(alloc: Global, number: u32, functions: u32) -> Result<Vec<u8>, AllocError> {
+    let module = generate(alloc, number, functions)?;
+    print_module(alloc, &module)
+}
+
 #[test]
 fn numbers_stand_for_their_modules(rt: HostRuntime) -> Result<(), Fail> {
-    let module = generate(rt.alloc(), 7, 2)?;
-    let text = print_module(rt.alloc(), &module)?;
+    let text = generated(rt.alloc(), 7, 2)?;
     assert_eq!(rt; std::str::from_utf8(text.as_slice())?, SEVEN);
     Ok(())
 }

@@ -1,7 +1,8 @@
 //! Modules that have more than 2^16 of what is counted: instructions of a block, blocks, parameters, cases, entries of
 //! a phi, functions.
 
-use alive_top::{OptimiseOptions, optimise, run};
+use super::written::is_cleaned_to;
+use alive_top::run;
 use std::alloc::{AllocError, Global};
 use std::fmt::Write;
 use std::test::Fail;
@@ -9,42 +10,47 @@ use std::test::Fail;
 /// How many there are.
 const MANY: u32 = 70_000;
 
-/// A block in which each instruction adds 1 to the one before.
-fn instructions(alloc: Global) -> Result<String, AllocError> {
-    let mut text = String::new(alloc);
+/// What a module has many of.
+#[derive(Clone, Copy)]
+enum Many {
+    Instructions,
+    Blocks,
+    Cases,
+    Functions,
+    Parameters,
+}
+
+/// Adds a block in which each instruction adds 1 to the one before.
+fn push_instructions(text: &mut String) -> Result<(), AllocError> {
     text.push_str("define i32 @f(i32 %0) {\n  %2 = add i32 %0, 1\n")?;
     for number in 2..MANY {
         writeln!(text, "  %{} = add i32 %{number}, 1", number + 1)?;
     }
     writeln!(text, "  ret i32 %{MANY}\n}}")?;
-    Ok(text)
+    Ok(())
 }
 
-/// Blocks that each go to the next one.
-fn blocks(alloc: Global) -> Result<String, AllocError> {
-    let mut text = String::new(alloc);
+/// Adds blocks that each go to the next one.
+fn push_blocks(text: &mut String) -> Result<(), AllocError> {
     text.push_str("define i32 @f(i32 %0) {\n")?;
     for number in 2..MANY {
         writeln!(text, "  br label %{number}\n\n{number}:")?;
     }
-    text.push_str("  ret i32 %0\n}\n")?;
-    Ok(text)
+    text.push_str("  ret i32 %0\n}\n")
 }
 
-/// Parameters, of which the last is returned.
-fn parameters(alloc: Global) -> Result<String, AllocError> {
-    let mut text = String::new(alloc);
+/// Adds parameters, of which the last is returned.
+fn push_parameters(text: &mut String) -> Result<(), AllocError> {
     text.push_str("define i32 @f(")?;
     for number in 0..MANY {
         write!(text, "i32 %{number}, ")?;
     }
     writeln!(text, "i32 %{MANY}) {{\n  ret i32 %{MANY}\n}}")?;
-    Ok(text)
+    Ok(())
 }
 
-/// Cases that each go to a block of their own, and a phi with an entry for each of these.
-fn cases(alloc: Global) -> Result<String, AllocError> {
-    let mut text = String::new(alloc);
+/// Adds cases that each go to a block of their own, and a phi with an entry for each of these.
+fn push_cases(text: &mut String) -> Result<(), AllocError> {
     text.push_str("define i32 @f(i32 %0) {\n  switch i32 %0, label %2 [\n")?;
     for number in 3..MANY {
         writeln!(text, "    i32 {number}, label %{number}")?;
@@ -57,29 +63,26 @@ fn cases(alloc: Global) -> Result<String, AllocError> {
     for number in 3..MANY {
         write!(text, ", [ {number}, %{number} ]")?;
     }
-    text.push_str("\n  ret i32 %r\n}\n")?;
-    Ok(text)
+    text.push_str("\n  ret i32 %r\n}\n")
 }
 
-/// Functions that return at once.
-fn functions(alloc: Global) -> Result<String, AllocError> {
-    let mut text = String::new(alloc);
+/// Adds functions that return at once.
+fn push_functions(text: &mut String) -> Result<(), AllocError> {
     text.push_str("define i32 @f(i32 %0) {\n  ret i32 7\n}\n")?;
     for number in 0..MANY {
         writeln!(text, "\ndefine i32 @f{number}() {{\n  ret i32 {number}\n}}")?;
     }
-    Ok(text)
+    Ok(())
 }
 
-/// Whether a text is that of its module cleaned.
-fn is_clean(alloc: Global, text: &str) -> bool {
-    let options = OptimiseOptions {
-        conflicts: 0,
-        steps: 0,
-    };
-    match optimise(alloc, text.as_bytes(), &[], options) {
-        Ok(optimised) => optimised.out.as_slice() == text.as_bytes(),
-        Err(_) => false,
+/// Adds a module that has many of these.
+fn push(text: &mut String, many: Many) -> Result<(), AllocError> {
+    match many {
+        Many::Instructions => push_instructions(text),
+        Many::Blocks => push_blocks(text),
+        Many::Cases => push_cases(text),
+        Many::Functions => push_functions(text),
+        Many::Parameters => push_parameters(text),
     }
 }
 
@@ -91,18 +94,35 @@ fn returns(alloc: Global, text: &str, said: &str) -> bool {
     }
 }
 
-/// Whether a text is that of its module cleaned, and `@f` returns at 65,537 what is said.
-fn holds(alloc: Global, text: &str, said: &str) -> bool {
-    is_clean(alloc, text) && returns(alloc, text, said)
+/// Whether a text is that of its module cleaned, and `@f` returns at 65,537 what is said, if something is.
+fn are_so(alloc: Global, text: &str, said: Option<&str>) -> bool {
+    is_cleaned_to(alloc, text, text)
+        && match said {
+            Some(said) => returns(alloc, text, said),
+            None => true,
+        }
 }
+
+/// Whether that is so of the text of a module that has many of these.
+fn holds(alloc: Global, many: Many, said: Option<&str>) -> Result<bool, AllocError> {
+    let mut text = String::new(alloc);
+    push(&mut text, many)?;
+    Ok(are_so(alloc, text.as_str(), said))
+}
+
+/// What there are many of, and what `@f` returns at 65,537 if it has one parameter.
+const ROWS: [(Many, Option<&str>); 5] = [
+    (Many::Instructions, Some("return 135536\n")),
+    (Many::Blocks, Some("return 65537\n")),
+    (Many::Cases, Some("return 65537\n")),
+    (Many::Functions, Some("return 7\n")),
+    (Many::Parameters, None),
+];
 
 #[test]
 fn modules_have_more_than_65536_of_each(rt: HostRuntime) -> Result<(), Fail> {
-    let alloc = rt.alloc();
-    assert!(rt; holds(alloc, instructions(alloc)?.as_str(), "return 135536\n"));
-    assert!(rt; holds(alloc, blocks(alloc)?.as_str(), "return 65537\n"));
-    assert!(rt; holds(alloc, cases(alloc)?.as_str(), "return 65537\n"));
-    assert!(rt; holds(alloc, functions(alloc)?.as_str(), "return 7\n"));
-    assert!(rt; is_clean(alloc, parameters(alloc)?.as_str()));
+    for (row, (many, said)) in ROWS.iter().enumerate() {
+        assert!(rt; holds(rt.alloc(), *many, *said)?, "row {row}");
+    }
     Ok(())
 }

@@ -1,6 +1,6 @@
 //! Texts that are refused, and what is told of each.
 
-use ir_reader::{IrError, IrFaultKind, read_module};
+use ir_reader::{IrError, IrFault, IrFaultKind, read_module};
 use ir_tokens::Identifier;
 use std::alloc::{AllocError, Global};
 use std::process::Abort;
@@ -313,38 +313,55 @@ const FUNCTIONS: [Refused; 5] = [
     ),
 ];
 
-/// What is told of the first fault of a text.
-fn told(alloc: Global, text: &[u8]) -> Result<String, Fail> {
-    let fault = match read_module(alloc, text) {
-        Ok(_) => return Ok(String::from_str(alloc, "read")?),
-        Err(IrError::NoMemory) => return Err(AllocError.into()),
-        Err(IrError::Refused(fault)) => fault,
-    };
-    let mut told = format!(in alloc; "{}: {}", fault.line, name(&fault.kind))?;
+/// The bytes of a name, as a text.
+fn shown(name: &[u8]) -> &str {
+    std::str::from_utf8(name).unwrap_or("no text")
+}
+
+/// What is told of a fault.
+fn fault_told(alloc: Global, fault: &IrFault) -> Result<String, AllocError> {
+    let (line, kind) = (fault.line, name(&fault.kind));
     match &fault.kind {
         IrFaultKind::LeftOut(word) => {
-            let word = std::str::from_utf8(word.as_slice())?;
-            told.push_str(format!(in alloc; " {word}")?.as_str())?;
+            format!(in alloc; "{line}: {kind} {}", shown(word.as_slice()))
         }
         IrFaultKind::Unassigned(Identifier::Named(name), block) => {
-            let name = std::str::from_utf8(name.as_slice())?;
-            told.push_str(format!(in alloc; " %{name} in block {block}")?.as_str())?;
+            format!(in alloc;
+                "{line}: {kind} %{} in block {block}",
+                shown(name.as_slice())
+            )
         }
         IrFaultKind::Unassigned(Identifier::Numbered(number), block) => {
-            told.push_str(format!(in alloc; " %{number} in block {block}")?.as_str())?;
+            format!(in alloc; "{line}: {kind} %{number} in block {block}")
         }
-        _ => {}
+        _ => format!(in alloc; "{line}: {kind}"),
     }
-    Ok(told)
+}
+
+/// What is told of the first fault of a text.
+fn told(alloc: Global, text: &str) -> Result<String, AllocError> {
+    match read_module(alloc, text.as_bytes()) {
+        Ok(_) => String::from_str(alloc, "read"),
+        Err(IrError::NoMemory) => Err(AllocError),
+        Err(IrError::Refused(fault)) => fault_told(alloc, &fault),
+    }
+}
+
+/// The same of a text in two parts.
+fn told_of_parts(alloc: Global, begin: &str, rest: &str) -> Result<String, AllocError> {
+    let text = format!(in alloc; "{begin}{rest}")?;
+    told(alloc, text.as_str())
 }
 
 /// Fails unless of each text this is told.
-pub(super) fn expect_told(rt: &impl Abort, alloc: Global, texts: &Refused) -> Result<(), Fail> {
+pub(super) fn expect_told(
+    rt: &impl Abort,
+    alloc: Global,
+    texts: &Refused,
+) -> Result<(), AllocError> {
     let (begin, rests) = texts;
     for (rest, wanted) in *rests {
-        let mut text = Vec::from_slice(alloc, begin.as_bytes())?;
-        text.extend_from_slice(rest.as_bytes())?;
-        let told = told(alloc, text.as_slice())?;
+        let told = told_of_parts(alloc, begin, rest)?;
         assert_eq!(rt; told.as_str(), *wanted, "{rest}");
     }
     Ok(())

@@ -116,8 +116,13 @@ const ROWS: [(&str, &[&str], u32, &str); 29] = [
     (ONE_SIGN, &["127"], 1, "return poison\n"),
 ];
 
-/// What is written of a run.
-fn line(alloc: Global, text: &str, arguments: &[&str], blocks: u32) -> Result<Vec<u8>, AllocError> {
+/// What is written of a run of `@f`.
+pub(super) fn line(
+    alloc: Global,
+    text: &str,
+    arguments: &[&str],
+    blocks: u32,
+) -> Result<Vec<u8>, AllocError> {
     match run(alloc, text.as_bytes(), b"f", arguments, blocks) {
         Ok(line) => Ok(line),
         Err(RunError::Refused(RunFault::Module(_))) => Vec::from_slice(alloc, b"refused"),

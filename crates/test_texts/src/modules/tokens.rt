@@ -9,6 +9,7 @@ use ir_tokens::{
     tokens_of,
 };
 use ops::Width;
+use std::alloc::AllocError;
 use std::process::Abort;
 use std::test::Fail;
 
@@ -138,7 +139,7 @@ fn expect_tokens<'a>(rt: &impl Abort, tokens: &[Placed<'a>], wanted: &[(usize, T
 
 #[test]
 fn texts_have_their_tokens(rt: HostRuntime) -> Result<(), Fail> {
-    for (text, wanted) in TEXTS {
+    for (text, wanted) in &TEXTS {
         let tokens = tokens_of(rt.alloc(), text)?;
         expect_tokens(&rt, tokens.as_slice(), wanted);
     }
@@ -146,45 +147,55 @@ fn texts_have_their_tokens(rt: HostRuntime) -> Result<(), Fail> {
 }
 
 /// A kept line, a function and the end, each an entry.
+const ENTRIES: &[u8] = b"declare x ; c\n\ndefine y\n{ z }\n";
+
+/// The tokens of the first entry, and those of the first two.
+const FIRST: [(usize, Token); 1] = [(1, Kept(b"declare x ; c"))];
+
+const FIRST_TWO: [(usize, Token); 6] = [
+    (1, Kept(b"declare x ; c")),
+    (3, Word(b"define")),
+    (3, Word(b"y")),
+    (4, Mark(b'{')),
+    (4, Word(b"z")),
+    (4, Mark(b'}')),
+];
+
+/// Fails unless the entries are taken in turn, behind those that are there.
+fn expect_entries(rt: &impl Abort, tokens: &mut Vec<Placed<'static>>) -> Result<(), AllocError> {
+    let (reader, are_last) = TokenReader::new(ENTRIES).take_entry(tokens)?;
+    assert!(rt; !are_last);
+    expect_tokens(rt, tokens.as_slice(), &FIRST);
+    let (reader, are_last) = reader.take_entry(tokens)?;
+    assert!(rt; !are_last);
+    expect_tokens(rt, tokens.as_slice(), &FIRST_TWO);
+    tokens.clear();
+    let (_, are_last) = reader.take_entry(tokens)?;
+    assert!(rt; are_last);
+    expect_tokens(rt, tokens.as_slice(), &[(4, End)]);
+    Ok(())
+}
+
 #[test]
 fn entries_are_taken_in_turn(rt: HostRuntime) -> Result<(), Fail> {
-    let reader = TokenReader::new(b"declare x ; c\n\ndefine y\n{ z }\n");
     let mut tokens = Vec::new(rt.alloc());
-    let (reader, are_last) = reader.take_entry(&mut tokens)?;
-    assert!(rt; !are_last);
-    let line = (1, Kept(b"declare x ; c"));
-    expect_tokens(&rt, tokens.as_slice(), &[line]);
-    let (reader, are_last) = reader.take_entry(&mut tokens)?;
-    assert!(rt; !are_last);
-    let function = [
-        line,
-        (3, Word(b"define")),
-        (3, Word(b"y")),
-        (4, Mark(b'{')),
-        (4, Word(b"z")),
-        (4, Mark(b'}')),
-    ];
-    expect_tokens(&rt, tokens.as_slice(), &function);
-    tokens.clear();
-    let (_, are_last) = reader.take_entry(&mut tokens)?;
-    assert!(rt; are_last);
-    expect_tokens(&rt, tokens.as_slice(), &[(4, End)]);
+    expect_entries(&rt, &mut tokens)?;
     Ok(())
 }
 
 #[test]
 fn names_and_numbers_are_read(rt: HostRuntime) -> Result<(), Fail> {
-    for (written, wanted) in CALLED {
+    for (written, wanted) in &CALLED {
         let called = identifier(rt.alloc(), written)?;
         let found = match &called {
             Identifier::Named(name) => Ok(name.as_slice()),
             Identifier::Numbered(number) => Err(*number),
         };
-        assert_eq!(rt; found, wanted);
+        assert_eq!(rt; found, *wanted);
     }
-    for (digits, bits, wanted) in CONSTANTS {
-        let width = Width::new(bits).ok_or("no width")?;
-        assert_eq!(rt; constant(digits, width).map(|word| word.number()), wanted);
+    for (digits, bits, wanted) in &CONSTANTS {
+        let width = Width::new(*bits).ok_or("no width")?;
+        assert_eq!(rt; constant(digits, width).map(|word| word.number()), *wanted);
     }
     assert!(rt; is_number(b"-5") && !is_number(b"-") && !is_number(b"5a") && !is_number(b""));
     assert!(rt; is_plain_name(b"-5") && !is_plain_name(b"5a") && !is_plain_name(b""));

@@ -6,6 +6,7 @@ use super::reading::{
     ADD_ZERO, MUL_TWO, NOT_ADD, NOT_ADD_ONCE, SEL_INC, ZEXT_TWICE, function_of, match_there,
     rule_of,
 };
+use crate::unfit::Unfit;
 use bindings::Binding;
 use ir_core::{Function, Operand, Register, end_of};
 use rule_core::Rule;
@@ -357,7 +358,7 @@ fn push_in_block(
     block: u32,
     rule: &Rule,
     found: &mut Vec<Binding>,
-) -> Result<(), Fail>
+) -> Result<(), Unfit>
     requires function { FunctionIsReady f.now }
     requires rule { RuleIsReady rule.now }
 {
@@ -370,14 +371,29 @@ fn push_in_block(
 }
 
 /// The bindings with which a rule matches in a function, block by block.
-fn matches_of(alloc: Global, rule: &str, function: &str) -> Result<Vec<Binding>, Fail> {
-    let rule = rule_of(alloc, rule)?;
-    let f = function_of(alloc, function)?;
+fn matches_in(alloc: Global, f: &Function, rule: &Rule) -> Result<Vec<Binding>, Unfit>
+    requires function { FunctionIsReady f.now }
+    requires rule { RuleIsReady rule.now }
+{
     let mut found = Vec::new(alloc);
     for block in 0..f.blocks.len() as u32 {
-        push_in_block(alloc, &f, block, &rule, &mut found)?;
+        push_in_block(alloc, f, block, rule, &mut found)?;
     }
     Ok(found)
+}
+
+/// The same in the function of a text.
+fn matches_in_text(alloc: Global, rule: &Rule, function: &str) -> Result<Vec<Binding>, Unfit>
+    requires { RuleIsReady rule.now }
+{
+    let f = function_of(alloc, function)?;
+    matches_in(alloc, &f, rule)
+}
+
+/// The same of the rule of a text.
+fn matches_of(alloc: Global, rule: &str, function: &str) -> Result<Vec<Binding>, Unfit> {
+    let rule = rule_of(alloc, rule)?;
+    matches_in_text(alloc, &rule, function)
 }
 
 /// Whether an input is bound to this.

@@ -7,15 +7,15 @@ ghost use Rattle.ir_text.specs.Forms.{FunctionHasForms, ModuleHasForms};
 ghost use Rattle.bindings.specs.Match.{IsMatch};
 ghost use Rattle.test_texts.specs.Ready.{FunctionIsReady, RuleIsReady};
 
+use crate::unfit::Unfit;
 use bindings::Binding;
 use ir_core::{Entry, Function, Module};
 use ir_reader::{IrError, read_module};
 use ir_round_trip::module_texts_have_forms;
 use matcher::match_at;
 use rule_core::Rule;
-use rule_reader::read_rules;
+use rule_reader::{RuleError, read_rules};
 use std::alloc::Global;
-use std::test::Fail;
 
 pub(crate) const NOT_ADD: &str =
     "Name: not-add\n%1 = xor %x, -1\n%2 = add %1, C\n=>\n%2 = sub C-1, %x\n";
@@ -46,13 +46,14 @@ pub(crate) const TZ_READ: &str =
     "Version: 2\nName: tz-read\n%t = cttz %x\n%r = add %t, C\n=>\n%r = sub %t, -C\n";
 
 /// The module of a text.
-pub(crate) fn module_of(alloc: Global, text: &str) -> Result<Module, Fail>
+fn module_of(alloc: Global, text: &str) -> Result<Module, Unfit>
     ensures checks { IfOk result ModuleMeetsChecks }
     ensures forms { IfOk result ModuleHasForms }
 {
     match read_formed(alloc, text.as_bytes()) {
         Ok(module) => Ok(module),
-        Err(_) => Err(format!(in alloc; "no module: {text}")?)?,
+        Err(IrError::NoMemory) => Err(Unfit::NoMemory),
+        Err(IrError::Refused(_)) => Err(Unfit::NoModule),
     }
 }
 
@@ -67,44 +68,49 @@ fn read_formed(alloc: Global, bytes: &[u8]) -> Result<Module, IrError>
 }
 
 /// The function that a text ends with.
-pub(crate) fn function_of(alloc: Global, text: &str) -> Result<Function, Fail>
+pub(crate) fn function_of(alloc: Global, text: &str) -> Result<Function, Unfit>
     ensures { IfOk result FunctionIsReady }
 {
     let module = module_of(alloc, text)?;
     let mut entries = module.entries.into_vec();
     match entries.pop() {
         Some(Entry::Function(f)) => small(f),
-        _ => Err("no function")?,
+        _ => Err(Unfit::NoFunction),
     }
 }
 
 /// The function, if it has fewer than 2^32 blocks, and each block fewer than 2^32 - 32 instructions.
-fn small(f: Function) -> Result<Function, Fail>
+fn small(f: Function) -> Result<Function, Unfit>
     requires checks { MeetsChecks f }
     requires forms { FunctionHasForms f }
     ensures { IfOk result FunctionIsReady }
 {
-    if has_few(&f) { Ok(f) } else { Err("too many")? }
+    if has_few(&f) {
+        Ok(f)
+    } else {
+        Err(Unfit::TooLarge)
+    }
 }
 
 /// The rules of a text.
-pub(crate) fn rules_of(alloc: Global, text: &str) -> Result<Vec<Rule>, Fail>
+fn rules_of(alloc: Global, text: &str) -> Result<Vec<Rule>, Unfit>
     ensures { IfOk result (λ rules. All RuleIsReady rules.items) }
 {
     match read_rules(alloc, text.as_bytes()) {
         Ok(rules) => Ok(rules),
-        Err(_) => Err(format!(in alloc; "no rule file: {text}")?)?,
+        Err(RuleError::NoMemory) => Err(Unfit::NoMemory),
+        Err(RuleError::Refused(_)) => Err(Unfit::NoRules),
     }
 }
 
 /// The rule that a text ends with.
-pub(crate) fn rule_of(alloc: Global, text: &str) -> Result<Rule, Fail>
+pub(crate) fn rule_of(alloc: Global, text: &str) -> Result<Rule, Unfit>
     ensures { IfOk result RuleIsReady }
 {
     let mut rules = rules_of(alloc, text)?;
     match rules.pop() {
         Some(rule) => Ok(rule),
-        None => Err("no rule")?,
+        None => Err(Unfit::NoRule),
     }
 }
 
@@ -137,13 +143,13 @@ pub(crate) fn match_there(
     block: u32,
     place: u32,
     rule: &Rule,
-) -> Result<Option<Binding>, Fail>
+) -> Result<Option<Binding>, Unfit>
     requires function { FunctionIsReady f.now }
     requires rule { RuleIsReady rule.now }
     ensures { IfOk result (λ found. IfSome found (IsMatch f.now block place rule.now)) }
 {
     if !has_inst(f, block, place) {
-        return Err("no such place")?;
+        return Err(Unfit::NoPlace);
     }
     Ok(match_at(alloc, f, block, place, rule)?)
 }

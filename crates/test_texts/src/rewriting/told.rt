@@ -4,6 +4,7 @@ ghost use Rattle.test_texts.specs.Ready.{FunctionIsReady, RuleIsReady};
 ghost use Rattle.use_counts.specs.Tables.{AreCounts};
 
 use super::reading::{ADD_ZERO, NOT_ADD, SEL_INC, function_of, match_there, rule_of};
+use crate::unfit::Unfit;
 use changes::{Changes, apply_at, clean_at};
 use ir_core::{Function, Register};
 use rule_core::Rule;
@@ -100,48 +101,62 @@ fn apply_there(
     place: u32,
     rule: &Rule,
     uses: &mut Uses,
-) -> Result<Changes, Fail>
+) -> Result<Changes, Unfit>
     requires function { FunctionIsReady f.old }
     requires rule { RuleIsReady rule.now }
     requires uses { AreCounts f.old uses.old }
 {
     let Some(binding) = match_there(alloc, f, block, place, rule)? else {
-        return Err("no match")?;
+        return Err(Unfit::NoMatch);
     };
     Ok(apply_at(alloc, f, &binding, rule, uses)?)
 }
 
-/// What is told at a row, and how often registers are used then.
-fn told_at(alloc: Global, row: &Row) -> Result<(Changes, Uses), Fail> {
-    let mut f = function_of(alloc, row.function)?;
-    let mut uses = count_uses(alloc, &f)?;
-    let Some((text, block, place)) = row.rule else {
-        let changes = clean_at(alloc, &mut f, &mut uses)?;
-        return Ok((changes, uses));
+/// What is told where a rule is applied to a function, or the function is cleaned.
+fn told_in(
+    alloc: Global,
+    f: &mut Function,
+    rule: Option<(&str, u32, u32)>,
+    uses: &mut Uses,
+) -> Result<Changes, Unfit>
+    requires function { FunctionIsReady f.old }
+    requires uses { AreCounts f.old uses.old }
+{
+    let Some((text, block, place)) = rule else {
+        return Ok(clean_at(alloc, f, uses)?);
     };
     let rule = rule_of(alloc, text)?;
-    let changes = apply_there(alloc, &mut f, block, place, &rule, &mut uses)?;
+    apply_there(alloc, f, block, place, &rule, uses)
+}
+
+/// What is told in the function of a row, and how often registers are used then.
+fn told_with(alloc: Global, row: &Row, f: &mut Function) -> Result<(Changes, Uses), Unfit>
+    requires { FunctionIsReady f.old }
+{
+    let mut uses = count_uses(alloc, f)?;
+    let changes = told_in(alloc, f, row.rule, &mut uses)?;
     Ok((changes, uses))
+}
+
+/// What is told at a row, and how often registers are used then.
+fn told_at(alloc: Global, row: &Row) -> Result<(Changes, Uses), Unfit> {
+    let mut f = function_of(alloc, row.function)?;
+    told_with(alloc, row, &mut f)
+}
+
+/// Whether that is told.
+fn is_told(changes: &Changes, uses: &Uses, told: &Told) -> bool {
+    changes.went.as_slice() == told.went
+        && changes.came.as_slice() == told.came
+        && changes.changed.as_slice() == told.changed
+        && uses_of(uses, Register::Parameter(0)) == told.uses
 }
 
 #[test]
 fn what_changed_is_told(rt: HostRuntime) -> Result<(), Fail> {
-    let alloc = rt.alloc();
     for row in &ROWS {
-        let (changes, uses) = told_at(alloc, row)?;
-        assert_eq!(rt; changes.went.as_slice(), row.told.went, "{}", row.function);
-        assert_eq!(rt; changes.came.as_slice(), row.told.came, "{}", row.function);
-        assert_eq!(rt;
-            changes.changed.as_slice(),
-            row.told.changed,
-            "{}",
-            row.function
-        );
-        assert!(rt;
-            uses_of(&uses, Register::Parameter(0)) == row.told.uses,
-            "{}",
-            row.function
-        );
+        let (changes, uses) = told_at(rt.alloc(), row)?;
+        assert!(rt; is_told(&changes, &uses, &row.told), "{}", row.function);
     }
     Ok(())
 }

@@ -1,9 +1,11 @@
 //! How often the registers of a function are used.
 
 use super::reading::function_of;
+use crate::unfit::Unfit;
 use ir_core::Register;
+use std::alloc::Global;
 use std::test::Fail;
-use use_counts::{count_uses, uses_of};
+use use_counts::{Uses, count_uses, uses_of};
 
 /// A loop, with a phi that names a parameter and a later result, an instruction that names one result twice, and
 /// terminators that name results.
@@ -24,10 +26,15 @@ const COUNTS: [(Register, usize); 9] = [
     (Register::Parameter(2), 0),
 ];
 
+/// How often the registers of a text's function are used.
+fn uses(alloc: Global, text: &str) -> Result<Uses, Unfit> {
+    let f = function_of(alloc, text)?;
+    Ok(count_uses(alloc, &f)?)
+}
+
 #[test]
 fn uses_are_counted(rt: HostRuntime) -> Result<(), Fail> {
-    let f = function_of(rt.alloc(), LOOP)?;
-    let uses = count_uses(rt.alloc(), &f)?;
+    let uses = uses(rt.alloc(), LOOP)?;
     for (register, count) in &COUNTS {
         assert!(rt; uses_of(&uses, *register) == *count, "{register:?}");
     }

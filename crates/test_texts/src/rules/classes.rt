@@ -4,6 +4,7 @@ ghost use Rattle.rule_core.specs.Checks.{IsRule};
 ghost use Rattle.verdict.specs.Findings.{IsReadRule};
 
 use super::verdicts::rules_of;
+use crate::unfit::Unfit;
 use rule_core::{Rule, class_at, positions};
 use rule_typing::classify;
 use std::alloc::Global;
@@ -40,14 +41,22 @@ const ROWS: [(&str, &str, &[u32]); 7] = [
 ];
 
 /// The only rule of a text.
-pub(crate) fn only_rule(alloc: Global, text: &[u8]) -> Result<Rule, Fail>
+pub(crate) fn only_rule(alloc: Global, text: &str) -> Result<Rule, Unfit>
     ensures { IfOk result IsReadRule }
 {
-    let mut rules = rules_of(alloc, text)?;
+    let mut rules = rules_of(alloc, text.as_bytes())?;
     match rules.pop() {
         Some(rule) if rules.is_empty() => Ok(rule),
-        _ => Err("not one rule")?,
+        _ => Err(Unfit::NoRule),
     }
+}
+
+/// The rule of version 2 with this source and this target.
+fn rule_with(alloc: Global, source: &str, target: &str) -> Result<Rule, Unfit>
+    ensures { IfOk result IsReadRule }
+{
+    let text = format!(in alloc; "Version: 2\nName: r\n{source}\n=>\n{target}\n")?;
+    only_rule(alloc, text.as_str())
 }
 
 /// Looks at the classes of a rule.
@@ -68,8 +77,7 @@ fn are_classes(rt: &impl Abort, rule: &Rule, classes: &[u32])
 #[test]
 fn positions_have_their_classes(rt: HostRuntime) -> Result<(), Fail> {
     for (source, target, classes) in ROWS {
-        let text = format!(in rt.alloc(); "Version: 2\nName: r\n{source}\n=>\n{target}\n")?;
-        let mut rule = only_rule(rt.alloc(), text.as_bytes())?;
+        let mut rule = rule_with(rt.alloc(), source, target)?;
         assert!(rt; classify(&mut rule).is_ok(), "{classes:?}");
         are_classes(&rt, &rule, classes);
     }

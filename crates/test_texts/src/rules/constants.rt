@@ -2,7 +2,7 @@
 //! hand, and have one alone; the verdicts on the others are those of a program apart from this one, which enumerated
 //! their settings.
 
-use super::verdicts::{verified, widths};
+use super::verdicts::lines;
 use std::test::Fail;
 
 /// A rule, the least and the greatest of the widths, and the lines of the verdicts.
@@ -137,11 +137,9 @@ const ROWS: [(&str, u32, u32, &str); 20] = [
 
 #[test]
 fn constants_have_their_verdicts(rt: HostRuntime) -> Result<(), Fail> {
-    let alloc = rt.alloc();
-    for (rule, least, most, lines) in &ROWS {
-        let widths = widths(alloc, *least, *most)?;
-        let verified = verified(alloc, rule.as_bytes(), &widths)?;
-        assert!(rt; verified.text.as_slice() == lines.as_bytes(), "{rule}");
+    for (rule, least, most, wanted) in &ROWS {
+        let found = lines(rt.alloc(), rule, *least, *most)?;
+        assert!(rt; found.as_slice() == wanted.as_bytes(), "{rule}");
     }
     Ok(())
 }

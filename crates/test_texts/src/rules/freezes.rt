@@ -1,6 +1,6 @@
 //! Rules with freezes, whose verdicts were worked out by hand.
 
-use super::verdicts::{verified, widths};
+use super::verdicts::lines_in_version_2;
 use std::test::Fail;
 
 /// A rule of version 2, the least and the greatest of the widths, and the lines of the verdicts; where a rule has more
@@ -115,15 +115,9 @@ const ROWS: [(&str, u32, u32, &str); 16] = [
 
 #[test]
 fn freezes_have_their_verdicts(rt: HostRuntime) -> Result<(), Fail> {
-    let alloc = rt.alloc();
-    for (rule, least, most, lines) in &ROWS {
-        let text = format!(in alloc; "Version: 2\n{rule}")?;
-        let widths = widths(alloc, *least, *most)?;
-        let verified = verified(alloc, text.as_bytes(), &widths)?;
-        assert!(rt;
-            verified.text.as_slice().starts_with(lines.as_bytes()),
-            "{rule}"
-        );
+    for (rule, least, most, wanted) in &ROWS {
+        let found = lines_in_version_2(rt.alloc(), rule, *least, *most)?;
+        assert!(rt; found.as_slice().starts_with(wanted.as_bytes()), "{rule}");
     }
     Ok(())
 }

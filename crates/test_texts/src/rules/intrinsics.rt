@@ -1,8 +1,7 @@
 //! Rules with integer intrinsics: verdicts, faults and files, worked out by hand.
 
-use super::verdicts::{verified, widths};
+use super::verdicts::{lines_in_version_2, rule_count};
 use super::versions::told;
-use rule_reader::read_rules;
 use std::alloc::{AllocError, Global};
 use std::test::Fail;
 
@@ -319,38 +318,29 @@ const FILES: [&str; 8] = [
 
 #[test]
 fn intrinsics_have_their_verdicts(rt: HostRuntime) -> Result<(), Fail> {
-    let alloc = rt.alloc();
-    for (rule, least, most, lines) in &ROWS {
-        let text = format!(in alloc; "Version: 2\n{rule}")?;
-        let widths = widths(alloc, *least, *most)?;
-        let verified = verified(alloc, text.as_bytes(), &widths)?;
-        assert!(rt;
-            verified.text.as_slice().starts_with(lines.as_bytes()),
-            "{rule}"
+    for (rule, least, most, wanted) in &ROWS {
+        let found = lines_in_version_2(rt.alloc(), rule, *least, *most)?;
+        assert!(rt; found.as_slice().starts_with(wanted.as_bytes()), "{rule}");
+    }
+    Ok(())
+}
+
+#[test]
+fn faults_of_intrinsics_are_told(rt: HostRuntime) {
+    for (text, line, name) in &FAULTS {
+        assert_eq!(rt;
+            told(rt.alloc(), text.as_bytes()),
+            Some((*line, *name)),
+            "{text}"
         );
     }
-    Ok(())
 }
 
 #[test]
-fn faults_of_intrinsics_are_told(rt: HostRuntime) -> Result<(), Fail> {
-    for (text, line, name) in &FAULTS {
-        let (found, kind) = told(rt.alloc(), text.as_bytes()).ok_or("no fault")?;
-        assert_eq!(rt; kind, *name, "{text}");
-        assert_eq!(rt; found, *line, "{text}");
-    }
-    Ok(())
-}
-
-#[test]
-fn files_with_intrinsics_are_read(rt: HostRuntime) -> Result<(), Fail> {
+fn files_with_intrinsics_are_read(rt: HostRuntime) {
     for text in &FILES {
-        let Ok(rules) = read_rules(rt.alloc(), text.as_bytes()) else {
-            return Err(format!(in rt.alloc(); "no rule file: {text}")?)?;
-        };
-        assert_eq!(rt; rules.len(), 1, "{text}");
+        assert_eq!(rt; rule_count(rt.alloc(), text), Ok(1), "{text}");
     }
-    Ok(())
 }
 
 /// A rule of version 2 with so many members in its `Pre:`, and this in its target.
@@ -364,19 +354,24 @@ fn with_members(alloc: Global, count: u32, target: &str) -> Result<String, Alloc
     Ok(text)
 }
 
+/// What is told of a rule with 63 members in its `Pre:`, and this in its target.
+fn told_with_members(
+    alloc: Global,
+    target: &str,
+) -> Result<Option<(usize, &'static str)>, AllocError> {
+    let text = with_members(alloc, 63, target)?;
+    Ok(told(alloc, text.as_bytes()))
+}
+
 /// A `Pre:` of 63 members has 251 nodes, and the source 3.
 #[test]
-fn an_opcode_is_no_node(rt: HostRuntime) -> Result<(), Fail> {
+fn an_opcode_is_no_node(rt: HostRuntime) {
     let alloc = rt.alloc();
-    let opcode = with_members(alloc, 63, "abs (~C)\n")?;
-    let function = with_members(alloc, 63, "abs(~C)\n")?;
-    let shorter = with_members(alloc, 63, "abs(C)\n")?;
-    assert_eq!(rt; told(alloc, opcode.as_bytes()), None, "opcode");
+    assert_eq!(rt; told_with_members(alloc, "abs (~C)\n"), Ok(None), "opcode");
     assert_eq!(rt;
-        told(alloc, function.as_bytes()),
-        Some((7, "TooMany")),
+        told_with_members(alloc, "abs(~C)\n"),
+        Ok(Some((7, "TooMany"))),
         "function"
     );
-    assert_eq!(rt; told(alloc, shorter.as_bytes()), None, "shorter");
-    Ok(())
+    assert_eq!(rt; told_with_members(alloc, "abs(C)\n"), Ok(None), "shorter");
 }

@@ -1,7 +1,8 @@
 //! Rules of one statement over each opcode and flag. Their classes and verdicts were worked out by hand, and a program
 //! apart from this one enumerated their settings: each refuted rule has one counterexample.
 
-use super::verdicts::{verified, widths};
+use super::verdicts::lines;
+use crate::unfit::Unfit;
 use std::alloc::Global;
 use std::test::Fail;
 
@@ -170,25 +171,18 @@ const ROWS: [(&str, &str, &str); 58] = [
     ),
 ];
 
-/// A file of the rule that computes this in its source and its target.
-fn rule_file(alloc: Global, source: &str, target: &str) -> Result<Vec<u8>, Fail> {
-    let mut text = Vec::from_slice(alloc, b"Name: r\n%r = ")?;
-    text.extend_from_slice(source.as_bytes())?;
-    text.extend_from_slice(b"\n=>\n%r = ")?;
-    text.extend_from_slice(target.as_bytes())?;
-    text.push(b'\n')?;
-    Ok(text)
+/// The lines of the verdicts on the rule that computes this in its source and its target.
+fn verdicts(alloc: Global, source: &str, target: &str) -> Result<Vec<u8>, Unfit> {
+    let text = format!(in alloc; "Name: r\n%r = {source}\n=>\n%r = {target}\n")?;
+    lines(alloc, text.as_str(), 1, 4)
 }
 
 #[test]
 fn each_opcode_and_flag_has_its_verdicts(rt: HostRuntime) -> Result<(), Fail> {
-    let alloc = rt.alloc();
-    let widths = widths(alloc, 1, 4)?;
-    for (source, target, lines) in &ROWS {
-        let text = rule_file(alloc, source, target)?;
-        let verified = verified(alloc, &text, &widths)?;
+    for (source, target, wanted) in &ROWS {
+        let found = verdicts(rt.alloc(), source, target)?;
         assert!(rt;
-            verified.text.as_slice() == lines.as_bytes(),
+            found.as_slice() == wanted.as_bytes(),
             "{source} => {target}"
         );
     }

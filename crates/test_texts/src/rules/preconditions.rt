@@ -1,17 +1,17 @@
 //! Preconditions and constant terms as they are read, at constants of eight bits. What they come to was worked out by
 //! hand.
-ghost use Rattle.std.specs.Prelude.{◌<◌, ◌↔◌, length, IsTrue, IfOk, All};
+ghost use Rattle.std.specs.Prelude.{◌≡◌, ◌<◌, ◌↔◌, [], ◌∷◌, length, IsTrue, IfOk, IfSome, All};
 ghost use Rattle.ops.specs.Value.{IsValueOf};
 ghost use Rattle.verdict.specs.Findings.{IsReadRule};
 
-use super::verdicts::rules_of;
+use super::classes::only_rule;
+use crate::unfit::Unfit;
 use lists::List;
 use ops::{Value, Width, Word};
 use precond::{holds, term};
-use rule_core::{Argument, Op, Rule};
+use rule_core::{Argument, Op, Rule, Typing};
 use rule_typing::is_typing;
-use std::alloc::Global;
-use std::test::Fail;
+use std::alloc::{AllocError, Global};
 
 /// A precondition, a term, the constants `C1`, `C2` and `C`, whether the precondition holds, and what the term gives.
 const ROWS: [(&str, &str, [u64; 3], bool, Option<u64>); 40] = [
@@ -103,7 +103,7 @@ const ROWS: [(&str, &str, [u64; 3], bool, Option<u64>); 40] = [
 ];
 
 /// The numbers at a width.
-fn words(alloc: Global, width: Width, numbers: &[u64]) -> Result<List<Word>, Fail>
+fn words(alloc: Global, width: Width, numbers: &[u64]) -> Result<List<Word>, AllocError>
     ensures { IfOk result (λ words. All (λ word. IsValueOf width (Value.Bits word)) words) }
 {
     let mut words = List::new(alloc);
@@ -121,58 +121,91 @@ fn is_node(rule: &Rule, node: u32) -> bool
 }
 
 /// The place of the term that a statement of the target is.
-fn target_term(rule: &Rule) -> Result<u32, Fail>
-    ensures { IfOk result (λ node. node < length rule.now.terms) }
+fn target_term(rule: &Rule) -> Option<u32>
+    ensures { IfSome result (λ node. node < length rule.now.terms) }
 {
     for statement in rule.target.as_slice() {
         if let Op::Copy(operand) = statement.op {
             if let Argument::Term(node) = operand.value {
                 if is_node(rule, node) {
-                    return Ok(node);
+                    return Some(node);
                 }
             }
         }
     }
-    Err("no term")?
+    None
 }
 
-/// Whether the precondition of a rule of one class holds, and what the term of its target gives.
+/// Whether the precondition of a rule of one class holds at these constants, and what the term of its target gives.
 #[tactic(auto, using(crate::proofs::ConstantLists::constants_fit))]
-fn judged(alloc: Global, rule: &Rule, numbers: &[u64]) -> Result<(bool, Option<u64>), Fail>
-    requires { IsReadRule rule.now }
+fn judged_at(
+    rule: &Rule,
+    width: Width,
+    typing: &Typing,
+    constants: &List<Word>,
+) -> Result<(bool, Option<u64>), Unfit>
+    requires rule { IsReadRule rule.now }
+    requires typing { typing.now ≡ width ∷ [] }
+    requires constants { All (λ word. IsValueOf width (Value.Bits word)) constants.now }
 {
-    let width = Width::new(8).ok_or("no width")?;
-    let mut typing = List::new(alloc);
-    typing.push(width)?;
-    let constants = words(alloc, width, numbers)?;
-    if !is_typing(rule, &typing) || constants.len() != rule.constants.len() {
-        return Err("no setting")?;
+    if !is_typing(rule, typing) || constants.len() != rule.constants.len() {
+        return Err(Unfit::NoTyping);
     }
-    let node = target_term(rule)?;
-    let given = term(rule, node, &typing, &constants);
+    let node = target_term(rule).ok_or(Unfit::NoTerm)?;
+    let given = term(rule, node, typing, constants);
     Ok((
-        holds(rule, &typing, &constants),
+        holds(rule, typing, constants),
         given.map(|word| word.number()),
     ))
 }
 
+/// The typing of one class.
+fn single(alloc: Global, width: Width) -> Result<Typing, AllocError>
+    ensures { IfOk result (λ typing. typing ≡ width ∷ []) }
+{
+    let mut typing = List::new(alloc);
+    typing.push(width)?;
+    Ok(typing)
+}
+
+/// The same at eight bits and these numbers.
+fn judged(alloc: Global, rule: &Rule, numbers: &[u64]) -> Result<(bool, Option<u64>), Unfit>
+    requires { IsReadRule rule.now }
+{
+    let width = Width::new(8).ok_or(Unfit::NoWidth)?;
+    let typing = single(alloc, width)?;
+    let constants = words(alloc, width, numbers)?;
+    judged_at(rule, width, &typing, &constants)
+}
+
+/// The rule with this precondition and this term.
+fn rule_with(alloc: Global, precondition: &str, term: &str) -> Result<Rule, Unfit>
+    ensures { IfOk result IsReadRule }
+{
+    let text = format!(in alloc;
+        "Name: r\nPre: {precondition}\n%a = add i8 %x, C1\n%b = add %a, C2\n%r = add %b, C\n=>\n%r = i8 {term}\n"
+    )?;
+    only_rule(alloc, text.as_str())
+}
+
+/// Whether that precondition holds at these numbers, and what the term gives.
+fn judged_row(
+    alloc: Global,
+    precondition: &str,
+    term: &str,
+    numbers: &[u64],
+) -> Result<(bool, Option<u64>), Unfit> {
+    let rule = rule_with(alloc, precondition, term)?;
+    judged(alloc, &rule, numbers)
+}
+
 #[test]
-fn preconditions_hold_as_they_are_read(rt: HostRuntime) -> Result<(), Fail> {
-    let alloc = rt.alloc();
+fn preconditions_hold_as_they_are_read(rt: HostRuntime) {
     for (precondition, term, numbers, holds, given) in &ROWS {
-        let text = format!(in alloc;
-            "Name: r\nPre: {precondition}\n%a = add i8 %x, C1\n%b = add %a, C2\n%r = add %b, C\n=>\n%r = i8 {term}\n"
-        )?;
-        let rules = rules_of(alloc, text.as_bytes())?;
-        for rule in rules.as_slice() {
-            let judged = judged(alloc, rule, numbers)?;
-            assert_eq!(rt;
-                judged,
-                (*holds, *given),
-                "{precondition}, {term} at {numbers:?}"
-            );
-        }
-        assert_eq!(rt; rules.len(), 1);
+        assert_eq!(rt;
+            judged_row(rt.alloc(), precondition, term, numbers),
+            Ok((*holds, *given)),
+            "{precondition}, {term} at {numbers:?}"
+        );
     }
-    Ok(())
 }

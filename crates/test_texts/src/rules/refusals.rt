@@ -2,8 +2,7 @@
 //! of the first fault, worked out by hand.
 
 use rule_reader::{RuleError, RuleFault, RuleFaultKind, read_rules};
-use std::alloc::Global;
-use std::test::Fail;
+use std::alloc::{AllocError, Global};
 
 /// How many comparisons of two numbers `Pre:` has, the text behind them, and the line and the kind of the first fault.
 /// They are three nodes each, and each `&&` between two is one.
@@ -66,15 +65,13 @@ const ROWS: [(u32, &str, usize, &str); 23] = [
     ),
 ];
 
-/// A rule with so many comparisons in `Pre:`, and the text behind them.
-fn rule_of(alloc: Global, comparisons: u32, rest: &str) -> Result<Vec<u8>, Fail> {
-    let mut bytes = Vec::new(alloc);
-    bytes.extend_from_slice("Name: a\nPre: 1 == 1".as_bytes())?;
+/// Adds a rule with so many comparisons in `Pre:`, and the text behind them.
+fn push_rule(text: &mut String, comparisons: u32, rest: &str) -> Result<(), AllocError> {
+    text.push_str("Name: a\nPre: 1 == 1")?;
     for _ in 1..comparisons {
-        bytes.extend_from_slice(" && 1 == 1".as_bytes())?;
+        text.push_str(" && 1 == 1")?;
     }
-    bytes.extend_from_slice(rest.as_bytes())?;
-    Ok(bytes)
+    text.push_str(rest)
 }
 
 /// The name of a kind that a parser tells.
@@ -96,13 +93,24 @@ fn told(alloc: Global, text: &[u8]) -> Option<(usize, &'static str)> {
     }
 }
 
+/// The line and the kind of the first fault of that rule.
+fn told_of_rule(
+    alloc: Global,
+    comparisons: u32,
+    rest: &str,
+) -> Result<Option<(usize, &'static str)>, AllocError> {
+    let mut text = String::new(alloc);
+    push_rule(&mut text, comparisons, rest)?;
+    Ok(told(alloc, text.as_bytes()))
+}
+
 #[test]
-fn faults_are_told_by_their_own_kind(rt: HostRuntime) -> Result<(), Fail> {
+fn faults_are_told_by_their_own_kind(rt: HostRuntime) {
     for (comparisons, rest, line, name) in &ROWS {
-        let text = rule_of(rt.alloc(), *comparisons, *rest)?;
-        let (found, kind) = told(rt.alloc(), text.as_slice()).ok_or("no fault")?;
-        assert_eq!(rt; kind, *name, "{rest}");
-        assert_eq!(rt; found, *line, "{rest}");
+        assert_eq!(rt;
+            told_of_rule(rt.alloc(), *comparisons, rest),
+            Ok(Some((*line, *name))),
+            "{rest}"
+        );
     }
-    Ok(())
 }

@@ -3,12 +3,12 @@ ghost use Rattle.verdict.specs.Findings.{IsReadRule};
 
 use super::classes::only_rule;
 use super::verdicts::widths;
+use crate::unfit::Unfit;
 use lists::List;
 use ops::{Effect, Value};
 use rule_core::{Rule, Typing, run_source, run_target};
 use rule_typing::is_typing;
 use std::alloc::Global;
-use std::test::Fail;
 use verdict::decide;
 use verdict_core::Verdict;
 
@@ -54,14 +54,14 @@ fn seen(effect: &Effect) -> Does {
 
 /// What the source and the target do at the counterexample that refutes the rule.
 #[tactic(auto, using(crate::proofs::Choices::no_source_choices))]
-fn halves(alloc: Global, rule: &Rule, typing: &Typing) -> Result<(Does, Does), Fail>
+fn halves(alloc: Global, rule: &Rule, typing: &Typing) -> Result<(Does, Does), Unfit>
     requires { IsReadRule rule.now }
 {
     if !is_typing(rule, typing) {
-        return Err("no typing")?;
+        return Err(Unfit::NoTyping);
     }
     let Verdict::Refuted(example) = decide(alloc, rule, typing, 0)? else {
-        return Err("no counterexample")?;
+        return Err(Unfit::NoCounterexample);
     };
     let none = List::new(alloc);
     let (inputs, constants) = (&example.inputs, &example.constants);
@@ -71,13 +71,20 @@ fn halves(alloc: Global, rule: &Rule, typing: &Typing) -> Result<(Does, Does), F
     Ok((seen(&source), seen(&target)))
 }
 
+/// The same of the only rule of a text, of so many bits.
+fn halves_of(alloc: Global, text: &str, bits: u32) -> Result<(Does, Does), Unfit> {
+    let typing = widths(alloc, bits, bits)?;
+    let rule = only_rule(alloc, text)?;
+    halves(alloc, &rule, &typing)
+}
+
 #[test]
-fn halves_have_their_effects(rt: HostRuntime) -> Result<(), Fail> {
-    for (text, bits, source, target) in ROWS {
-        let typing = widths(rt.alloc(), bits, bits)?;
-        let rule = only_rule(rt.alloc(), text.as_bytes())?;
-        let found = halves(rt.alloc(), &rule, &typing)?;
-        assert_eq!(rt; found, (source, target), "{text}");
+fn halves_have_their_effects(rt: HostRuntime) {
+    for (text, bits, source, target) in &ROWS {
+        assert_eq!(rt;
+            halves_of(rt.alloc(), text, *bits),
+            Ok((*source, *target)),
+            "{text}"
+        );
     }
-    Ok(())
 }

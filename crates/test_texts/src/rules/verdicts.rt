@@ -2,10 +2,11 @@
 ghost use Rattle.std.specs.Prelude.{IfOk, All};
 ghost use Rattle.verdict.specs.Findings.{IsReadRule};
 
+use crate::unfit::Unfit;
 use lists::List;
 use ops::Width;
 use rule_core::Rule;
-use rule_reader::read_rules;
+use rule_reader::{RuleError, read_rules};
 use std::alloc::Global;
 use std::test::Fail;
 use verdict::{Verified, verify};
@@ -100,31 +101,62 @@ const VERDICTS: [&str; 12] = [
 const MOST_RULES: usize = 100;
 
 /// The rules of a text.
-pub(crate) fn rules_of(alloc: Global, text: &[u8]) -> Result<Vec<Rule>, Fail>
+pub(crate) fn rules_of(alloc: Global, text: &[u8]) -> Result<Vec<Rule>, Unfit>
     ensures { IfOk result (λ rules. All IsReadRule rules.items) }
 {
     match read_rules(alloc, text) {
         Ok(rules) => Ok(rules),
-        Err(_) => Err("no rule file")?,
+        Err(RuleError::NoMemory) => Err(Unfit::NoMemory),
+        Err(RuleError::Refused(_)) => Err(Unfit::NoRules),
     }
+}
+
+/// How many rules a text has, if it is a rule file.
+pub(crate) fn rule_count(alloc: Global, text: &str) -> Result<usize, Unfit> {
+    let rules = rules_of(alloc, text.as_bytes())?;
+    Ok(rules.len())
+}
+
+/// The verdicts on rules over widths.
+fn verified_rules(alloc: Global, rules: &[Rule], widths: &List<Width>) -> Result<Verified, Unfit>
+    requires { All IsReadRule rules.now }
+{
+    if rules.len() > MOST_RULES {
+        return Err(Unfit::TooLarge);
+    }
+    Ok(verify(alloc, rules, widths, 20_000)?)
 }
 
 /// The verdicts on the rules of a text over widths.
-pub(crate) fn verified(alloc: Global, text: &[u8], widths: &List<Width>) -> Result<Verified, Fail> {
+fn verified(alloc: Global, text: &[u8], widths: &List<Width>) -> Result<Verified, Unfit> {
     let rules = rules_of(alloc, text)?;
-    if rules.len() > MOST_RULES {
-        return Err("too many rules")?;
-    }
-    Ok(verify(alloc, rules.as_slice(), widths, 20_000)?)
+    verified_rules(alloc, rules.as_slice(), widths)
 }
 
 /// The widths from one to another.
-pub(crate) fn widths(alloc: Global, least: u32, most: u32) -> Result<List<Width>, Fail> {
+pub(crate) fn widths(alloc: Global, least: u32, most: u32) -> Result<List<Width>, Unfit> {
     let mut widths = List::new(alloc);
     for bits in least..=most {
-        widths.push(Width::new(bits).ok_or("no width")?)?;
+        widths.push(Width::new(bits).ok_or(Unfit::NoWidth)?)?;
     }
     Ok(widths)
+}
+
+/// The lines of the verdicts on the rules of a text over the widths from one to another.
+pub(crate) fn lines(alloc: Global, text: &str, least: u32, most: u32) -> Result<Vec<u8>, Unfit> {
+    let widths = widths(alloc, least, most)?;
+    Ok(verified(alloc, text.as_bytes(), &widths)?.text)
+}
+
+/// The same of a rule of version 2.
+pub(crate) fn lines_in_version_2(
+    alloc: Global,
+    rule: &str,
+    least: u32,
+    most: u32,
+) -> Result<Vec<u8>, Unfit> {
+    let text = format!(in alloc; "Version: 2\n{rule}")?;
+    lines(alloc, text.as_str(), least, most)
 }
 
 /// What the program calls a verdict.

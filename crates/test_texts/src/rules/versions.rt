@@ -1,9 +1,9 @@
 //! Lines that say versions, and what is refused of freezes: the kind and the line of the first fault, worked out by
 //! hand.
 
+use super::verdicts::rule_count;
 use rule_reader::{RuleError, RuleFault, RuleFaultKind, read_rules};
 use std::alloc::Global;
-use std::test::Fail;
 
 /// Texts, and the line and the kind of the first fault.
 const FAULTS: [(&str, usize, &str); 22] = [
@@ -135,22 +135,19 @@ pub(crate) fn told(alloc: Global, text: &[u8]) -> Option<(usize, &'static str)> 
 }
 
 #[test]
-fn faults_are_told_with_their_lines(rt: HostRuntime) -> Result<(), Fail> {
+fn faults_are_told_with_their_lines(rt: HostRuntime) {
     for (text, line, name) in &FAULTS {
-        let (found, kind) = told(rt.alloc(), text.as_bytes()).ok_or("no fault")?;
-        assert_eq!(rt; kind, *name, "{text}");
-        assert_eq!(rt; found, *line, "{text}");
+        assert_eq!(rt;
+            told(rt.alloc(), text.as_bytes()),
+            Some((*line, *name)),
+            "{text}"
+        );
     }
-    Ok(())
 }
 
 #[test]
-fn versions_are_read(rt: HostRuntime) -> Result<(), Fail> {
+fn versions_are_read(rt: HostRuntime) {
     for (text, count) in &FILES {
-        let Ok(rules) = read_rules(rt.alloc(), text.as_bytes()) else {
-            return Err("no rule file")?;
-        };
-        assert_eq!(rt; rules.len(), *count, "{text}");
+        assert_eq!(rt; rule_count(rt.alloc(), text), Ok(*count), "{text}");
     }
-    Ok(())
 }
