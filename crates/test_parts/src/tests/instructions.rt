@@ -328,7 +328,8 @@ static BROKEN: [(Cast, Flags, u32, u32, Cell, bool); 37] = [
 
 static PREDICATES: [Pred; 10] = [Eq, Ne, Ugt, Uge, Ult, Ule, Sgt, Sge, Slt, Sle];
 
-// The least width at which the row holds, two operands, whether they have one sign, and the predicates that hold of them.
+// The least width at which the row holds, two operands, whether they have one sign, and the predicates that hold of
+// them.
 static COMPARISONS: [(u32, Cell, Cell, bool, &[Pred]); 5] = [
     (1, Is(0), Is(-1), false, &[Ne, Ult, Ule, Sgt, Sge]),
     (1, Half(0), Half(-1), false, &[Ne, Ugt, Uge, Slt, Sle]),

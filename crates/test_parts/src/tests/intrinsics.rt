@@ -1,5 +1,5 @@
-//! Integer intrinsics and what they give, worked out by hand at the least number, at 0 and at all ones, and for all short operands
-//! bit by bit.
+//! Integer intrinsics and what they give, worked out by hand at the least number, at 0 and at all ones, and for all
+//! short operands bit by bit.
 
 use super::instructions::{Cell, value, width};
 use Cell::{Half, Is, Poison, Width as Bits};

@@ -213,7 +213,8 @@ const LINES: [(&[u8], &[u8], TokenKind, usize); 5] = [
     (b"x y", b" y", End, 1),
 ];
 
-/// What follows a `(`, and the bytes up to the `)` that closes it; none where there is none. Then the next token's kind.
+/// What follows a `(`, and the bytes up to the `)` that closes it; none where there is none. Then the next token's
+/// kind.
 const GROUPS: [(&[u8], Option<&[u8]>, TokenKind); 9] = [
     (b"()", Some(b")"), End),
     (b"(a(b)(c))%d)", Some(b"a(b)(c))"), Register),

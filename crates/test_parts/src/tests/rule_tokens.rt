@@ -9,8 +9,8 @@ use std::rt::HostRuntime;
 /// A token: its kind, its line and its bytes.
 type Seen<'a> = (RuleKind, usize, &'a str);
 
-/// Texts and their tokens, each taken as in an operator's place where the one before it ends a primary; and the line on which the text
-/// ends, or on which a byte stands that may not.
+/// Texts and their tokens, each taken as in an operator's place where the one before it ends a primary; and the line on
+/// which the text ends, or on which a byte stands that may not.
 const TEXTS: [(&[u8], &[Seen], Result<usize, usize>); 36] = [
     (b"", &[], Ok(1)),
     (b"\n\n", &[], Ok(2)),
