@@ -11,7 +11,7 @@ struct FaultyRow {
     row: Row,
 }
 
-const ROWS: [FaultyRow; 20] = [
+static ROWS: [FaultyRow; 20] = [
     FaultyRow {
         read: None,
         out: Some(FailingPut { number: 0, most: 3 }),

@@ -111,7 +111,7 @@ fn holds(alloc: Global, many: Many, said: Option<&str>) -> Result<bool, AllocErr
 }
 
 /// What there are many of, and what `@f` returns at 65,537 if it has one parameter.
-const ROWS: [(Many, Option<&str>); 5] = [
+static ROWS: [(Many, Option<&str>); 5] = [
     (Many::Instructions, Some("return 135536\n")),
     (Many::Blocks, Some("return 65537\n")),
     (Many::Cases, Some("return 65537\n")),

@@ -84,7 +84,7 @@ const ONE_SIGN: &str = "define i1 @f(i8 %x) {
 ";
 
 /// A text, the arguments of `@f`, the most blocks entered, and the line that is written, or `argument`.
-const ROWS: [(&str, &[&str], u32, &str); 29] = [
+static ROWS: [(&str, &[&str], u32, &str); 29] = [
     (SWAP, &["2"], 10, "return 1\n"),
     (SWAP, &["3"], 10, "return 2\n"),
     (SWAP, &["3"], 3, "running block 1\n"),

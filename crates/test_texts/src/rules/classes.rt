@@ -76,7 +76,7 @@ fn are_classes(rt: &impl Abort, rule: &Rule, classes: &[u32])
 
 #[test]
 fn positions_have_their_classes(rt: HostRuntime) -> Result<(), Fail> {
-    for (source, target, classes) in ROWS {
+    for (source, target, classes) in &ROWS {
         let mut rule = rule_with(rt.alloc(), source, target)?;
         assert!(rt; classify(&mut rule).is_ok(), "{classes:?}");
         are_classes(&rt, &rule, classes);
