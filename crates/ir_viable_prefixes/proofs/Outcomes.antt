@@ -23,7 +23,7 @@ use Rattle.ops.specs.declared.keywords.flag.Flag.{Flag}
 use Rattle.ops.specs.FlagKeywords.{flag_keyword}
 use Rattle.ir_viable_prefixes.specs.Calls.{CallStands, EndsArgument}
 use Rattle.ir_viable_prefixes.specs.Misfits as nouns
-use Rattle.ir_viable_prefixes.proofs.FlagRuns.{FollowsFlag, IsAgain, NoFlag, NoFlagNext, Parted, new_behind, none_repeated, ReadsApart, Splits, leaves_both, done_apart, both_apart, IsLeft, LeavesNothingOut}
+use Rattle.ir_viable_prefixes.proofs.FlagRuns.{FollowsFlag, IsAgain, NoFlag, NoFlagNext, Parted, new_behind, none_repeated, ReadsApart, Splits, apart_splits, both_splits, leaves_both, done_apart, both_apart, IsLeft, LeavesNothingOut}
 use Rattle.ir_viable_prefixes.proofs.Reasons.{a_type, a_pred, an_end, a_group, Like, like_word, NoRecord, NoGroup, Maps, Reason, reason_map}
 
 -- ---- what stands next
@@ -815,6 +815,14 @@ pub record GoodOpen {A : Type 0} (E : Follow) (R : Reader A) (F : Follow) : Type
   pub sample : Sample E R F
   pub outcome : OutcomesIf (Unit {0}) E R F (Unit {0})
   pub splits : Splits R
+
+infixr 15 ◌then_open◌
+pub ◌then_open◌ : {A B : Type 0} {E F G : Follow} {R : Reader A} {S : A → Reader B} → Good E R F → ((x : A) → GoodOpen F (S x) G) → GoodOpen E (R >>= S) G
+◌then_open◌ {A} {B} {E} {F} {G} {R} {S} r s = record {
+  sample = sample_both E F G R S r.sample (λ x. (s x).sample);
+  outcome = λ tokens e. both (Unit {0}) (Unit {0}) (Unit {0}) E F G R S r.apart (λ x. (s x).sample) tokens (r.outcome tokens e) (λ x is ended. (s x.0).outcome x.1 ended);
+  splits = both_splits R S (apart_splits r.apart) (λ x. (s x).splits);
+}
 
 -- ---- one reader behind another that is open
 
