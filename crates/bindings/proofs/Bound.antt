@@ -49,7 +49,7 @@ has_inst f rule binding j b k s at m =
     subst (λ (d : ℕ). HasInst f d k) (sym block) (subst (λ (p : ℕ). HasInst f binding.block p) (sym place)
     (m.is_inst.block, m.is_inst.is_block, slice_get_within m.is_inst.block.insts m.place m.inst m.is_inst.is_inst))
 
--- it matches, where the instruction does
+-- the statement matches, where the instruction matches it
 pub matches_there : (f : Function) (rule : Rule) (binding : Binding) (j b k : ℕ) (s : Statement) (inst : Inst) → slice_get binding.statements j ≡ Some (registers.Result b k) → b ≡ binding.block → IsInst f b k inst → InstMatches f rule binding j s k inst → StatementMatches f rule binding j s
 matches_there f rule binding j b k s inst at block is matches = record {
   place = k;
@@ -59,20 +59,20 @@ matches_there f rule binding j b k s inst at block is matches = record {
   matches = matches;
 }
 
--- there is a statement at each place
+-- there is a statement with each index
 pub statement_at : (rule : Rule) (j : ℕ) → j < length rule.source → (s : Statement) × (slice_get rule.source j ≡ Some s)
 statement_at rule j within = elim (slice_get_cases rule.source j).1 [
   | inl (s, lt, at, is) ↦ (s, at)
   | inr (past, at) ↦ absurd (omega arith)
 ]
 
--- a statement that cannot match leaves the answer false
+-- for a statement that matches nothing the answer is false
 pub never : (f : Function) (rule : Rule) (binding : Binding) (j : ℕ) → j < length rule.source → ((s : Statement) → StatementMatches f rule binding j s → ⊥)
     → IsTrue false ↔ ((s : Statement) → slice_get rule.source j ≡ Some s → StatementMatches f rule binding j s)
 never f rule binding j within none =
     (λ h. absurd cc, λ all. let (s, at) = statement_at rule j within in absurd (none s (all s at)))
 
--- what is read at a place of a slice
+-- the item that is read from a slice
 pub read_off : {X : Type 0} (xs ys : List X) (j : ℕ) (d x : X) → xs ≡ ys → j < length ys → get_or xs j d ≡ x → slice_get ys j ≡ Some x
 read_off xs ys j d x same within is = slice_get-get_or ys j d within ∙ ap (λ y. Some y) (ap (λ l. get_or l j d) (sym same) ∙ is)
 
@@ -94,7 +94,7 @@ met f rule binding j k s inst root exact within is_root is_exact stands operatio
   operands = operands;
 }
 
--- what it meets, as the code asks for it
+-- what it has to meet, in the form in which the code checks it
 behind : (j n : ℕ) (root : Bool) → j < n → (IsTrue root ↔ (suc j ≡ n)) → ¬ IsTrue root → suc j < n
 behind j n root within is_root none = let other : ¬ (suc j ≡ n) = λ last. none (is_root.1 last) in omega arith
 
@@ -108,6 +108,6 @@ pub asked_flags : (f : Function) (rule : Rule) (binding : Binding) (j k : ℕ) (
 asked_flags f rule binding j k s inst root exact within is_root is_exact m =
     (m.flags, λ held none. m.no_more_flags (behind j (length rule.source) root within is_root none) (is_exact.0 held))
 
--- it is the one that stands at the place
+-- the statement is the one with this index
 pub matches_as : (f : Function) (rule : Rule) (binding : Binding) (j k : ℕ) (s t : Statement) (inst : Inst) → s ≡ t → InstMatches f rule binding j t k inst → InstMatches f rule binding j s k inst
 matches_as f rule binding j k s t inst same m = subst (λ (u : Statement). InstMatches f rule binding j u k inst) (sym same) m

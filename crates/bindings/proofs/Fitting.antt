@@ -1,4 +1,4 @@
--- What the source of a rule names is met, and the constants of a binding fit.
+-- What the operands of a source match, and that the constants of a binding fit their widths.
 use Rattle.std.proofs.Common.{◌≡◌, ℕ, length, Some, sym, subst, ◌∙◌, arith}
 use Rattle.std.specs.Prelude.{slice_get, Contains}
 use Rattle.std.proofs.lemmas.Option.{slice_get_within, same_Some}
@@ -25,7 +25,7 @@ use Rattle.bindings.specs.declared.binding.Binding.{Binding}
 use Rattle.bindings.proofs.Lists.{place_of, from_flat_map}
 use Rattle.bindings.proofs.Reading.{is_read}
 
--- where an operand of the source stands: operand i of statement j
+-- where the operand is in the source: operand i of statement j
 pub record SourceOperand (rule : Rule) (o : RuleOperand) : Type 0 where
   pub j : ℕ
   pub s : Statement
@@ -48,7 +48,7 @@ is_of_rule rule o stands =
 abbrev pub AllMatch : Function → Rule → Binding → Type 0
 AllMatch f rule binding = (j : ℕ) (s : Statement) → slice_get rule.source j ≡ Some s → StatementMatches f rule binding j s
 
--- what is met at an operand of the source
+-- the operand of an instruction that an operand of the source matches
 pub record Met (f : Function) (binding : Binding) (o : RuleOperand) (k i : ℕ) : Type 0 where
   pub read : Read
   pub is_read : IsRead f binding.block k i read
@@ -59,7 +59,7 @@ met_at f rule binding j s m i o at =
     let (r, is) = is_read f binding.block m.place m.inst s.op m.is_inst m.matches.operation i o at in
     record { read = r; is_read = is; matches = m.matches.operands i o r at is }
 
--- the number of a constant, where the constant is read
+-- the number of a constant, where an instruction reads it
 constant_met : (binding : Binding) (N k : ℕ) (a : Argument) (b : Operand) → a ≡ arguments.Constant k → StandsFor binding N a b → (n : Number) × (slice_get binding.constants k ≡ Some n) × IsValueOf N (Bits n) × (b ≡ operands.Number n)
 constant_met binding N k a b is stands = let h : StandsFor binding N (arguments.Constant k) b = subst (λ (x : Argument). StandsFor binding N x b) is stands in h
 

@@ -1,26 +1,26 @@
--- Lists, their elements and their places, and what is there or is not.
+-- Lists, their items by index, and what is or isn't there.
 use Rattle.std.proofs.Common.{◌≡◌, ◌≢◌, inl, inr, ℕ, zero, suc, ◌<◌, ◌≤◌, List, [], ◌∷◌, ◌++◌, length, map, take, get_or, slice_set, Option, None, Some, refl, sym, ap, ◌∙◌, arith, get_or-set_other, get_or-set_same, ◌↔◌, ◌+◌, ◌-◌, false, IsTrue, subst}
 use Rattle.std.specs.Prelude.{slice_get, Contains, flat_map, IfNone}
 use Rattle.std.proofs.lemmas.List.{length-set, map-append, take_more}
 use Rattle.std.proofs.lemmas.Option.{slice_get-get_or, slice_get_past, slice_get_within, get_or_from_slice_get, same_Some}
 use Rattle.std.proofs.lemmas.List.Elements.{Contains-append_cases}
 
--- an element stands at some place
+-- an item has an index
 pub place_of : {X : Type 0} (xs : List X) (x : X) → Contains xs x → (k : ℕ) × (slice_get xs k ≡ Some x)
 place_of xs x (k, within, is) = (k, slice_get-get_or xs k x within ∙ ap (λ y. Some y) is)
 
--- what is written at a place stands there
+-- an item that is written is at its index
 pub set_here : {X : Type 0} (xs : List X) (i : ℕ) (x : X) → i < length xs → slice_get (slice_set xs i x) i ≡ Some x
 set_here xs i x within =
     slice_get-get_or (slice_set xs i x) i x (omega (arith, length-set xs i x)) ∙ ap (λ y. Some y) (get_or-set_same xs i x x within)
 
--- and what stood at another stands there still
+-- and all others are where they were
 pub set_elsewhere : {X : Type 0} (xs : List X) (i k : ℕ) (x y : X) → k ≢ i → slice_get xs k ≡ Some y → slice_get (slice_set xs i x) k ≡ Some y
 set_elsewhere xs i k x y other at =
     let within : k < length xs = slice_get_within xs k y at in
     slice_get-get_or (slice_set xs i x) k y (omega (arith, length-set xs i x)) ∙ ap (λ z. Some z) (get_or-set_other xs i k x y other ∙ get_or_from_slice_get xs k y y at)
 
--- an element of what elements are mapped to stands in what one of them is mapped to
+-- an item of a flattened list is one of the list of some item
 pub from_flat_map : {X Y : Type 0} (f : X → List Y) (xs : List X) (y : Y) → Contains (flat_map f xs) y → (j : ℕ) × (x : X) × (slice_get xs j ≡ Some x) × Contains (f x) y
 from_flat_map f [] y (k, lt, e) = absurd (omega arith)
 from_flat_map f (a ∷ xs) y among =
@@ -29,7 +29,7 @@ from_flat_map f (a ∷ xs) y among =
       | inr there ↦ let rest = from_flat_map f xs y there in (suc rest.0, rest.1, rest.2, rest.3)
     ]
 
--- two lists with the same elements at the same places are one
+-- two lists with the same items at each index are equal
 pub same_list : {X : Type 0} (xs ys : List X) → length xs ≡ length ys → ((k : ℕ) → k < length xs → slice_get xs k ≡ slice_get ys k) → xs ≡ ys
 same_list [] [] same at = refl
 same_list [] (y ∷ ys) same at = absurd (omega arith)
@@ -49,7 +49,7 @@ all_filled (o ∷ slots) (x ∷ xs) same at =
     let rest : slots ≡ map Some xs = all_filled slots xs (omega arith) (λ k lt. at (suc k) (omega arith)) in
     cc
 
--- one map of one list
+-- equal lists of filled slots have equal values
 pub map_Some_same : {X : Type 0} (xs ys : List X) → map Some xs ≡ map Some ys → xs ≡ ys
 map_Some_same [] [] e = refl
 map_Some_same [] (y ∷ ys) e = cc
@@ -84,7 +84,7 @@ one_more_value {X} slots n values more o x so_far within here filled pushed =
     ap (λ (l : List X). map Some l) pushed ∙ map-append Some values (x ∷ []) ∙ ap (λ (l : List (Option X)). l ++ Some x ∷ []) so_far
     ∙ ap (λ (p : Option X). take n slots ++ p ∷ []) (sym filled ∙ here) ∙ sym (take_more slots n o within)
 
--- what is lent stands at its place
+-- the item that a borrow refers to
 pub lent : {X : Type 0} (xs ys : List X) (i : ℕ) (x : X) → xs ≡ ys → i < length xs → ((d : X) → x ≡ get_or xs i d) → slice_get ys i ≡ Some x
 lent {X} xs ys i x same within is =
     ap (λ (l : List X). slice_get l i) (sym same) ∙ slice_get-get_or xs i x within ∙ ap (λ (y : X). Some y) (sym (is x))
@@ -98,11 +98,11 @@ last_of {X} xs ys x same some is =
     let within : length xs - 1 < length xs = omega (arith, ap length same) in
     subst (λ (l : List X). slice_get l (length l - 1) ≡ Some x) same (slice_get-get_or xs (length xs - 1) x within ∙ ap (λ (y : X). Some y) (sym is))
 
--- what holds, holds where there is nothing
+-- what holds anyway holds where there is nothing
 pub if_none : {X : Type 0} (r : Option X) (P : Type 0) → P → IfNone r P
 if_none None P holds = holds
 if_none (Some x) P holds = tt
 
--- what never holds is told by false
+-- what never holds is decided by false
 pub never_met : {P : Type 0} → (P → ⊥) → IsTrue false ↔ P
 never_met none = (λ h. absurd cc, λ p. absurd (none p))

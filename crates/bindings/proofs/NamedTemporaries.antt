@@ -1,4 +1,4 @@
--- Which statements name temporaries, and in which terms widths of them stand.
+-- Which statements name registers that the source assigns, and which terms have widths of them.
 use Rattle.std.proofs.Common.{◌≡◌, ◌↔◌, ◌⊎◌, inl, inr, ℕ, ◌+◌, ◌<◌, ◌≤◌, List, length, true, false, IsTrue, Some, refl, sym, ap, subst, ◌∙◌, arith}
 use Rattle.std.specs.Prelude.{slice_get, Contains}
 use Rattle.std.proofs.lemmas.Bool.{cases_eq}
@@ -22,12 +22,12 @@ use Rattle.bindings.specs.Nodes.{Has, HasExactly, HasOperandOf, IsTemporaryWidth
 use Rattle.bindings.specs.Statements.{MeasuresTemporary, NamesTemporary, OneNamesTemporary}
 use Rattle.bindings.specs.declared.nodes.Nodes.{Nodes}
 
--- one of the statements does
+-- one of the statements names one
 pub one_names : (set : Nodes) (statements : List Statement) (s : Statement) → Contains statements s → OneNamesAmong set (operands_of s.op) → IsTrue true ↔ OneNamesAmong set (operands_among statements)
 one_names set statements s among (o, here, temporary) =
     (λ h. (o, Contains-flat_map (λ (t : Statement). operands_of t.op) statements s o among here, temporary), λ h. refl)
 
--- none of them does
+-- none of them names one
 pub none_names : (set : Nodes) (statements : List Statement) (i : ℕ) → SoFar (λ (s : Statement). OneNamesAmong set (operands_of s.op) → ⊥) statements i → length statements ≤ i
     → IsTrue false ↔ OneNamesAmong set (operands_among statements)
 none_names set statements i none past = (
@@ -37,7 +37,7 @@ none_names set statements i none past = (
       absurd (none j s (omega (arith, slice_get_within statements j s at)) at (o, here, temporary)),
 )
 
--- the nodes of the set being those whose terms name widths of temporaries, both name the same
+-- where the set has the nodes whose terms have such widths, both definitions are the same
 module _ (terms : List Term) (set : Nodes) (exactly : HasExactly set (MeasuresTemporary terms)) where
   is_named : (a : Argument) → NamesAmong set a ↔ NamesTemporary terms a
   is_named (arguments.Register (names.Input i)) = (λ h. h, λ h. h)
@@ -52,7 +52,7 @@ module _ (terms : List Term) (set : Nodes) (exactly : HasExactly set (MeasuresTe
   pub one_is_named : (operands : List Operand) → OneNamesAmong set operands ↔ OneNamesTemporary terms operands
   one_is_named operands = (λ (o, among, named). (o, among, (is_named o.value).0 named), λ (o, among, named). (o, among, (is_named o.value).1 named))
 
--- what is the width of a temporary
+-- a node that is the width of a register that the source assigns
 width_of : (node : Node) → IsTemporaryWidth node → (j c : ℕ) × (node ≡ nodes.Width (names.Source j) c)
 width_of (nodes.Width (names.Source j) c) is = (j, c, refl)
 width_of (nodes.Width (names.Input i) c) is = absurd is
@@ -67,7 +67,7 @@ width_of (nodes.Binary op a b) is = absurd is
 is_width : (node : Node) (j c : ℕ) → node ≡ nodes.Width (names.Source j) c → IsTemporaryWidth node
 is_width node j c is = subst IsTemporaryWidth (sym is) tt
 
--- the operands of a node stand before it
+-- the operands of a node have a lower index
 operand_before : (rule : Rule) (n a : ℕ) (node : Node) → MayBeTerm rule n node → IsOperandOf a node → a < n
 operand_before rule n a (nodes.Unary function b) before same = omega (arith, before, same)
 operand_before rule n a (nodes.Binary op b c) before (inl same) = omega (arith, before.0, same)
@@ -78,7 +78,7 @@ operand_before rule n a (nodes.Register r) before is = absurd is
 operand_before rule n a (nodes.Choice k) before is = absurd is
 operand_before rule n a (nodes.Width r c) before is = absurd is
 
--- what stands in the term of a node is the node, or stands in the term of an operand
+-- what is in the term of a node is the node, or is in the term of an operand
 stands_below : (terms : List Term) (m n : ℕ) → StandsIn terms m n → (m ≡ n) ⊎ ((a : ℕ) × (t : Term) × (slice_get terms n ≡ Some t) × IsOperandOf a t.node × StandsIn terms m a)
 stands_below terms m n itself = inl refl
 stands_below terms m n (operand a t at is stands) = inr (a, t, at, is, stands)
@@ -90,7 +90,7 @@ node_within terms n (j, (m, c, u, stands, there, is)) = elim (stands_below terms
   | inr (a, t, at, is, below) ↦ slice_get_within terms n t at
 ]
 
--- the term of a node names the width of a temporary where the node is one, or the term of an operand does
+-- the term of a node has such a width where the node is one, or the term of an operand has one
 measures : (terms : List Term) (n : ℕ) (t : Term) → slice_get terms n ≡ Some t → (IsTemporaryWidth t.node ⊎ ((a : ℕ) × IsOperandOf a t.node × MeasuresTemporary terms a)) → MeasuresTemporary terms n
 measures terms n t at (inl width) = let (j, c, is) = width_of t.node width in (j, (n, c, t, itself, at, is))
 measures terms n t at (inr (a, is, (j, (m, c, u, stands, there, width)))) = (j, (m, c, u, operand a t at is stands, there, width))
@@ -104,9 +104,9 @@ measured terms n t at (j, (m, c, u, stands, there, width)) = elim (stands_below 
       inr (a, subst (λ (x : Term). IsOperandOf a x.node) (same_Some t' t (sym at' ∙ at)) is, (j, (m, c, u, below, there, width)))
 ]
 
--- a walk over the nodes, whose set has those so far
+-- the loop over the nodes, whose set has those so far
 module _ (rule : Rule) (checked : IsRule rule) (n : ℕ) (set : Nodes) (so_far : HasExactly set (λ m. (m < n) × MeasuresTemporary rule.terms m)) where
-  -- what is told of the next one
+  -- what is decided of the next node
   pub next_measures : (t : Term) → slice_get rule.terms n ≡ Some t → (IsTemporaryWidth t.node ⊎ HasOperandOf set t.node) → MeasuresTemporary rule.terms n
   next_measures t at (inl width) = measures rule.terms n t at (inl width)
   next_measures t at (inr (a, is, has)) = measures rule.terms n t at (inr (a, is, ((so_far a).0 has).1))

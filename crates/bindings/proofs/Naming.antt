@@ -1,4 +1,4 @@
--- What registers of a rule's source stand for.
+-- What the names of a rule's source stand for.
 use Rattle.std.proofs.Common.{◌≡◌, ◌↔◌, ℕ, Bool, false, Option, None, Some, IsTrue, sym, ap, subst, ◌∙◌}
 use Rattle.std.specs.Prelude.{slice_get}
 use Rattle.std.proofs.lemmas.Option.{same_Some}
@@ -42,7 +42,7 @@ no_source m N j name a is none = subst (λ (n : Name). IsTrue false ↔ StandsFo
 pub no_target : (m : Binding) (N j : ℕ) (name : Name) (a : Operand) → name ≡ names.Target j → IsTrue false ↔ StandsFor m N (arguments.Register name) a
 no_target m N j name a is = subst (λ (n : Name). IsTrue false ↔ StandsFor m N (arguments.Register n) a) (sym is) (λ h. absurd cc, λ there. absurd there)
 
--- what is bound, where a name stands for an operand
+-- what the name is bound to, where it stands for an operand
 stands_as : (m : Binding) (N : ℕ) (name other : Name) (a : Operand) → name ≡ other → StandsFor m N (arguments.Register name) a → StandsFor m N (arguments.Register other) a
 stands_as m N name other a is stands = subst (λ (n : Name). StandsFor m N (arguments.Register n) a) is stands
 

@@ -1,4 +1,4 @@
--- Promises that are the same.
+-- Equal promises.
 use Rattle.std.proofs.Common.{◌≡◌, ◌↔◌, Bool, true, false, ◌&&◌, IsTrue, refl, sym, ap, ◌∙◌}
 use Rattle.std.specs.Bool.{beq}
 use Rattle.ops.proofs.FlagSets.{both}
@@ -18,7 +18,7 @@ beq-itself : (a : Bool) → beq a a ≡ true
 beq-itself true = refl
 beq-itself false = refl
 
--- the test of the flags, then of the truth value
+-- flags are compared, and then truth values
 pub promises_equal : (p q : Promises) (flags equal : Bool) → (IsTrue flags ↔ p.flags ≡ q.flags) → equal ≡ (flags && beq p.truth q.truth) → IsTrue equal ↔ p ≡ q
 promises_equal p q flags equal of_flags is = (
   (λ holds. let parts = both _ _ (sym is ∙ holds) in same_promises p q (of_flags.0 parts.0) (beq-is _ _ parts.1)),

@@ -1,4 +1,4 @@
--- What instructions read, and which operands of a rule that stands for.
+-- What instructions read, and which operands of a rule it stands for.
 use Rattle.std.proofs.Common.{◌≡◌, inl, inr, ℕ, zero, suc, ◌<◌, ◌≤◌, List, length, Option, None, Some, refl, sym, ap, subst, ◌∙◌, arith, Bor}
 use Rattle.std.specs.Prelude.{slice_get, option_and_then, option_map, IfNone, IfSome}
 use Rattle.std.specs.Slice.{IsItemAt}
@@ -20,7 +20,7 @@ use Rattle.rule_core.specs.declared.rule.Operand.{Operand as RuleOperand}
 use Rattle.bindings.specs.Statements.{IsSameOperation}
 use Rattle.bindings.proofs.Lists.{lent}
 
--- what stands at the place of an instruction reads what the instruction does
+-- what is read at the index of an instruction is what the instruction reads
 pub reads_at_inst : (f : Function) (b k : ℕ) (inst : Inst) → IsInst f b k inst → reads_at f b k ≡ reads_of f b k inst.width inst.op
 reads_at_inst f b k inst is =
     ap (reads_in f b k) is.is_block ∙ ap (reads_by f b k is.block) is.is_inst
@@ -29,7 +29,7 @@ reads_at_inst f b k inst is =
 pub has_inst_at : (f : Function) (b k : ℕ) (inst : Inst) → IsInst f b k inst → HasInst f b k
 has_inst_at f b k inst is = (is.block, is.is_block, slice_get_within is.block.insts k inst is.is_inst)
 
--- what is lent of a block's instructions
+-- the instruction of a block that a borrow refers to
 pub lent_inst : (f : Function) (b k : ℕ) (block : Block) (insts : List Inst) (found : Option (Bor Inst)) → IsBlock f b block → insts ≡ block.insts → IsItemAt insts k found → IfSome found (λ inst. IsInst f b k inst.now)
 lent_inst f b k block insts None is same item = tt
 lent_inst f b k block insts (Some inst) is same item =
@@ -85,7 +85,7 @@ reads_too f b k N (rule_ops.Freeze a j) (ops.Freeze x) same zero o at = (read b 
 reads_too f b k N (rule_ops.Freeze a j) (ops.Freeze x) same (suc i) o at = absurd cc
 reads_too f b k N s op same i o at = absurd same
 
--- at the place of the instruction there is a read for each operand
+-- an instruction of the same operation reads an operand for each of the rule's
 pub is_read : (f : Function) (b k : ℕ) (inst : Inst) (s : RuleOp) → IsInst f b k inst → IsSameOperation s inst.op → (i : ℕ) (o : RuleOperand) → slice_get (operands_of s) i ≡ Some o → (r : Read) × IsRead f b k i r
 is_read f b k inst s is same i o at =
     let (r, at_r) = reads_too f b k inst.width s inst.op same i o at in

@@ -1,4 +1,4 @@
--- The root of a rule and the instruction at which it matches are one operation.
+-- The root of a rule and the instruction at which it matches are the same operation.
 use Rattle.std.proofs.Common.{◌≡◌, ◌↔◌, ◌∙◌, ℕ, suc, ◌-◌, length, Bool, false, IsTrue, Some, sym, subst, arith}
 use Rattle.std.specs.Prelude.{slice_get}
 use Rattle.std.proofs.lemmas.Option.{same_Some}
@@ -31,7 +31,7 @@ matched_operation f b k rule m is_rule is =
       operation = bound.matches.operation;
     }
 
--- the operation of the one root and of the one instruction there tells
+-- whether they are is decided by the operations of the root and of the instruction there
 pub root_operation : (f : Function) (b k : ℕ) (rule : Rule) (s : Statement) (inst : Inst) (same : Bool) → slice_get rule.source (length rule.source - 1) ≡ Some s → IsInst f b k inst
     → (IsTrue same ↔ IsSameOperation s.op inst.op) → IsTrue same ↔ IsRootOperation f b k rule
 root_operation f b k rule s inst same at is operation = (
@@ -43,7 +43,7 @@ root_operation f b k rule s inst same at is operation = (
 pub no_root_operation : (f : Function) (b k : ℕ) (rule : Rule) → ¬ HasInst f b k → IsTrue false ↔ IsRootOperation f b k rule
 no_root_operation f b k rule none = (λ h. absurd cc, λ root. absurd (none (has_inst_at f b k root.inst root.is_inst)))
 
--- a match stands where it says
+-- a match is at the instruction that its binding names
 pub match_there : {Before : ℕ → ℕ → Type 0} (f : Function) (b k : ℕ) (rule : Rule) (m n : Binding) → MatchesWhere Before f b k rule m → n ≡ m → MatchesWhere Before f n.block n.place rule n
 match_there {Before = Before} f b k rule m n is same =
     subst (λ (x : Binding). MatchesWhere Before f x.block x.place rule x) (sym same)
@@ -53,7 +53,7 @@ pub match_here : {Before : ℕ → ℕ → Type 0} (f : Function) (b k : ℕ) (r
 match_here {Before = Before} f b k rule m there is =
     subst (λ (p : ℕ). MatchesWhere Before f b p rule m) there.1 (subst (λ (d : ℕ). MatchesWhere Before f d m.place rule m) there.0 is)
 
--- a match is one in any order
+-- a match in order is one without regard to the order
 pub in_any_order : (f : Function) (b k : ℕ) (rule : Rule) (m : Binding) → IsMatch f b k rule m → MatchesInAnyOrder f b k rule m
 in_any_order f b k rule m is = record {
   block = is.block;

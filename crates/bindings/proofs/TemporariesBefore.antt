@@ -1,4 +1,4 @@
--- Temporaries stand before the root, since each is read on the way there.
+-- Temporaries stand before the root, since it reads from each through a chain of operands.
 use Rattle.std.proofs.Common.{◌≡◌, inl, inr, ℕ, zero, suc, ◌+◌, ◌<◌, ◌≤◌, List, length, Some, refl, sym, ap, subst, ◌∙◌, arith}
 use Rattle.std.specs.Prelude.{Contains, flat_map, slice_get}
 use Rattle.std.proofs.lemmas.Bool.{cases_lt}
@@ -30,7 +30,7 @@ use Rattle.bindings.specs.declared.binding.Binding.{Binding}
 use Rattle.bindings.proofs.Reading.{reads_at_inst}
 use Rattle.bindings.specs.Laws.{ReadsStandBefore, TemporariesStandBefore}
 
--- what a statement matches reads as many operands, and is no phi
+-- an instruction that a statement matches reads as many operands, and is no phi
 count_same : (f : Function) (b k w : ℕ) (s : RuleOp) (i : Op) → IsSameOperation s i → length (operands_of s) ≡ length (reads_of f b k w i)
 count_same f b k w (rule_ops.Binary opcode flags a d) (ops.Binary opcode' flags' x y) same = refl
 count_same f b k w (rule_ops.Compare pred samesign a d) (ops.Compare pred' samesign' width x y) same = refl
@@ -50,7 +50,7 @@ no_phi (rule_ops.Freeze a j) (ops.Freeze x) same = λ phi. phi
 no_phi s i same = absurd same
 
 module _ (stands_before : ReadsStandBefore) (f : Function) (b k : ℕ) (rule : Rule) (m : Binding) (checks : MeetsChecks f) (good : IsRule rule) (is : MatchesInAnyOrder f b k rule m) where
-  -- what a statement reads of another stands before it
+  -- where a statement reads the result of another, that one's instruction stands before its own
   reads_before : (j i p : ℕ) (s : Statement) (o : RuleOperand) → slice_get m.statements j ≡ Some (registers.Result m.block p)
       → slice_get rule.source i ≡ Some s → (h : StatementMatches f rule m i s) → Contains (operands_of s.op) o → o.value ≡ arguments.Register (names.Source j) → p < h.place
   reads_before j i p s o at is_statement h among names_it =
@@ -63,7 +63,7 @@ module _ (stands_before : ReadsStandBefore) (f : Function) (b k : ℕ) (rule : R
       let same : reg ≡ registers.Result m.block p = same_Some reg (registers.Result m.block p) (sym bound ∙ at) in
       stands_before f m.block h.place p n h.inst r checks (subst (IsReached f) (sym is.block) is.reached) h.is_inst (no_phi s.op h.inst.op h.matches.operation) is_read (reads ∙ ap operands.Register same)
 
-  -- one of the last n statements but the root
+  -- one of the last n statements, other than the root
   before_root : (n j p : ℕ) → length rule.source ≤ n + suc j → suc j < length rule.source → slice_get m.statements j ≡ Some (registers.Result m.block p) → p < m.place
   before_root zero j p few less at = absurd (omega arith)
   before_root (suc n) j p few less at =

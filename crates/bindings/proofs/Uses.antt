@@ -1,4 +1,4 @@
--- What counts of uses tell.
+-- What exact counts of uses say of the registers of which one use is asked.
 use Rattle.std.proofs.Common.{◌≡◌, ◌↔◌, ℕ, Some, subst}
 use Rattle.std.specs.Prelude.{slice_get, Contains}
 use Rattle.ir_core.specs.declared.function.Function.{Function}
@@ -14,7 +14,7 @@ use Rattle.bindings.specs.Facts.{AreFactsOf}
 use Rattle.bindings.specs.declared.binding.Binding.{Binding}
 use Rattle.bindings.specs.declared.facts.FunctionFacts.{FunctionFacts}
 
--- a count of one is one use
+-- a count of one is exactly one use
 one_is_once : (f : Function) (facts : FunctionFacts) → AreFactsOf f facts → (r : Register) → (count_of facts.uses r ≡ 1) ↔ IsUsedOnce f r
 one_is_once f facts are r = (
   λ one. (count_of_one f r).0 (subst (λ (n : ℕ). IsUseCount f r n) one (are.uses.exact r)),

@@ -1,4 +1,4 @@
--- Parts of a match, as the code looks at them.
+-- Parts of the definition of a match, in the form in which the code checks them.
 use Rattle.std.specs.Prelude.{◌≡◌, ℕ, ◌-◌, length, Some, slice_get}
 use Rattle.ir_core.specs.Checks.{IsInst}
 use Rattle.ir_core.specs.Reads.{Read, IsRead}
@@ -18,16 +18,16 @@ use Rattle.bindings.specs.Statements.{IsSameOperation}
 use Rattle.bindings.specs.declared.binding.Binding.{Binding}
 use Rattle.bindings.specs.declared.facts.FunctionFacts.{FunctionFacts}
 
--- what an instruction reads as operand i matches that of an operation, if there are both
+-- operand i of the instruction matches that of the operation, if there are both
 abbrev pub MatchesAt : Function → Binding → Op → ℕ → ℕ → ℕ → Type 0
 MatchesAt f binding op b p i = (o : Operand) (r : Read) → slice_get (operands_of op) i ≡ Some o → IsRead f b p i r → OperandMatches binding o r
 
--- the register that a formula asks one use of, if it does, has one by the counts
+-- the register of which a formula asks for one use, if it does, is counted once
 abbrev pub IsOneUse : FunctionFacts → Binding → Formula → Type 0
 IsOneUse facts binding (formulas.HasOneUse j) = (r : Register) → slice_get binding.statements j ≡ Some r → count_of facts.uses r ≡ 1
 IsOneUse facts binding formula = Unit {0}
 
--- instruction k of block b is one operation with the root of the source
+-- instruction k of block b is the same operation as the root of the source
 pub record IsRootOperation (f : Function) (b k : ℕ) (rule : Rule) : Type 0 where
   pub root : Statement
   pub inst : Inst

@@ -1,4 +1,4 @@
--- The laws of the order in which what a match is bound to stands.
+-- The laws of the order of the instructions that a match is bound to.
 use Rattle.std.specs.Prelude.{◌≡◌, ℕ, ◌<◌}
 use Rattle.ir_core.specs.Checks.{IsInst, IsPhi, MeetsChecks}
 use Rattle.ir_core.specs.Reads.{Read, IsRead}
@@ -13,14 +13,14 @@ use Rattle.rule_core.specs.declared.rule.Rule.{Rule}
 use Rattle.bindings.specs.Match.{IsMatch, MatchesInAnyOrder}
 use Rattle.bindings.specs.declared.binding.Binding.{Binding}
 
--- In a block that is reached, what an instruction that is no phi reads of the block's own results stands before it: so
--- temporaries of a match stand before its root, since each is read on the way there.
+-- In a reached block, an instruction that is no phi stands behind those instructions of the block whose results it
+-- reads. So temporaries of a match stand before its root, which reads from each through a chain of operands.
 abbrev pub ReadsStandBefore : Type 0
 ReadsStandBefore = (f : Function) (b k p i : ℕ) (inst : Inst) (r : Read)
     → MeetsChecks f → IsReached f b → IsInst f b k inst → ¬ IsPhi inst.op
     → IsRead f b k i r → r.operand ≡ operands.Register (registers.Result b p) → p < k
 
--- So a rule matches in a function that meets its checks where it matches but for the order in which instructions stand.
+-- So a rule matches in a function that meets its checks where it matches without regard to the order of instructions.
 abbrev pub TemporariesStandBefore : Type 0
 TemporariesStandBefore = (f : Function) (b k : ℕ) (rule : Rule) (m : Binding)
     → MeetsChecks f → IsRule rule → MatchesInAnyOrder f b k rule m → IsMatch f b k rule m

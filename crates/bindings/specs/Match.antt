@@ -1,4 +1,4 @@
--- When a rule may be applied at an instruction: what its names are bound to there.
+-- When a rule may be applied at an instruction, and what its names are bound to there.
 use Rattle.std.specs.Prelude.{◌≡◌, ℕ, suc, ◌<◌, length, Some, Contains, slice_get}
 use Rattle.ir_core.specs.Walks.{IsReached}
 use Rattle.ir_core.specs.declared.function.Function.{Function}
@@ -14,8 +14,8 @@ use Rattle.use_counts.specs.Uses.{IsUsedOnce}
 use Rattle.bindings.specs.Statements.{StatementMatches}
 use Rattle.bindings.specs.declared.binding.Binding.{Binding}
 
--- The rule matches at instruction k of block b of the function, with this binding, where temporaries stand to the root
--- as is said.
+-- The rule matches at instruction k of block b of the function, with this binding. `Before` relates the index of each
+-- temporary's instruction to the root's.
 pub record MatchesWhere (Before : ℕ → ℕ → Type 0) (f : Function) (b k : ℕ) (rule : Rule) (binding : Binding) : Type 0 where
   -- the root is instruction k of block b, which the entry reaches
   pub block : binding.block ≡ b
@@ -24,7 +24,7 @@ pub record MatchesWhere (Before : ℕ → ℕ → Type 0) (f : Function) (b k : 
   -- each source statement is bound to an instruction that it matches
   pub statement_count : length binding.statements ≡ length rule.source
   pub statements : (j : ℕ) (s : Statement) → slice_get rule.source j ≡ Some s → StatementMatches f rule binding j s
-  -- temporaries stand before the root
+  -- each temporary is related to the root
   pub before : (j p : ℕ) → suc j < length rule.source → slice_get binding.statements j ≡ Some (registers.Result binding.block p) → Before p binding.place
   -- each input is bound to an operand that is no `undef`, and each constant to a number
   pub input_count : length binding.inputs ≡ length rule.inputs
@@ -33,14 +33,14 @@ pub record MatchesWhere (Before : ℕ → ℕ → Type 0) (f : Function) (b k : 
   -- the widths are a typing, and the precondition holds
   pub typing : IsTyping rule binding.typing
   pub precondition : PreconditionHolds rule binding.typing binding.constants
-  -- each register that is to have one use is named by exactly one operand of the function
+  -- each register of which one use is asked is named by exactly one operand of the function
   pub one_use : (j : ℕ) (r : Register) → Contains rule.precondition (formulas.HasOneUse j) → slice_get binding.statements j ≡ Some r → IsUsedOnce f r
 
--- where the instructions of a block stand in the order of their places
+-- where temporaries stand before the root: the instructions of a block are in the order of their index
 abbrev pub IsMatch : Function → ℕ → ℕ → Rule → Binding → Type 0
 IsMatch = MatchesWhere (λ p k. p < k)
 
--- And where it isn't told in which order they stand: in a function that meets its checks temporaries stand before the
--- root all the same, since each is read on the way there.
+-- And where their order isn't asked for, as an index in a draft's arena doesn't tell it. In a function that meets its
+-- checks temporaries stand before the root all the same, since it reads from each through a chain of operands.
 abbrev pub MatchesInAnyOrder : Function → ℕ → ℕ → Rule → Binding → Type 0
 MatchesInAnyOrder = MatchesWhere (λ p k. Unit {0})

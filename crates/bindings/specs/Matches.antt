@@ -1,4 +1,4 @@
--- Where the rules of a file match in a function, in the order in which a search comes to them.
+-- Where the rules of a file match in a function, in the order in which a search finds the matches.
 use Rattle.std.specs.Prelude.{◌≡◌, ℕ, ◌<◌, List, Some, All, AllPairs, Contains, slice_get}
 use Rattle.ir_core.specs.Assigned.{IsBefore}
 use Rattle.ir_core.specs.declared.function.Function.{Function}
@@ -6,22 +6,21 @@ use Rattle.rule_core.specs.declared.rule.Rule.{Rule}
 use Rattle.bindings.specs.Match.{MatchesWhere}
 use Rattle.bindings.specs.declared.rule_match.Match.{Match}
 
--- the rule that it names matches in the function, at the place and with what its binding says, where temporaries stand
--- to the root as is said
+-- the rule that the match names matches in the function, at the instruction and with the names that its binding has;
+-- `Before` relates temporaries to the root
 pub record MatchesAmong (Before : ℕ → ℕ → Type 0) (rules : List Rule) (f : Function) (m : Match) : Type 0 where
   pub rule : Rule
   pub is_rule : slice_get rules m.rule ≡ Some rule
   pub matches : MatchesWhere Before f m.binding.block m.binding.place rule m.binding
 
--- where the instructions of a block stand in the order of their places, and where it isn't told in which order they
--- stand
+-- where temporaries stand before the root, and where their order isn't asked for
 abbrev pub IsMatchAmong : List Rule → Function → Match → Type 0
 IsMatchAmong = MatchesAmong (λ p k. p < k)
 
 abbrev pub IsMatchInAnyOrder : List Rule → Function → Match → Type 0
 IsMatchInAnyOrder = MatchesAmong (λ p k. Unit {0})
 
--- the first comes before the second: in order of blocks, in a block of places, and at an instruction of rules
+-- the first comes before the second: in order of blocks, in a block of instructions, and at an instruction of rules
 abbrev pub ComesBefore : Match → Match → Type 0
 ComesBefore m n = IsBefore m.binding.block m.binding.place m.rule n.binding.block n.binding.place n.rule
 
@@ -31,7 +30,7 @@ pub record AreMatches (rules : List Rule) (f : Function) (matches : List Match) 
   pub all : (m : Match) → IsMatchAmong rules f m → Contains matches m
   pub in_order : AllPairs ComesBefore matches
 
--- these are all of which this holds, in order
+-- these are all matches with a property, in order
 pub record AreMatchesAmong (Before : ℕ → ℕ → Type 0) (rules : List Rule) (f : Function) (P : Match → Type 0) (matches : List Match) : Type 0 where
   pub each : All (λ m. MatchesAmong Before rules f m × P m) matches
   pub all : (m : Match) → MatchesAmong Before rules f m → P m → Contains matches m
@@ -43,10 +42,10 @@ AreMatchesWhere = AreMatchesAmong (λ p k. p < k)
 abbrev pub AreMatchesInAnyOrder : List Rule → Function → (Match → Type 0) → List Match → Type 0
 AreMatchesInAnyOrder = AreMatchesAmong (λ p k. Unit {0})
 
--- and these all that come before this one
+-- these are all that come before this one, in order
 abbrev pub AreMatchesBefore : List Rule → Function → Match → List Match → Type 0
 AreMatchesBefore rules f chosen matches = AreMatchesWhere rules f (λ m. ComesBefore m chosen) matches
 
--- the match stands at this instruction
+-- the match is at this instruction
 abbrev pub IsAt : ℕ → ℕ → Match → Type 0
 IsAt b k m = (m.binding.block ≡ b) × (m.binding.place ≡ k)

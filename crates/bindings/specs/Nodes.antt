@@ -1,4 +1,4 @@
--- Nodes of a rule's constant terms, as the code looks at them.
+-- Nodes of a rule's constant terms, in the form in which the code checks them.
 use Rattle.std.specs.Prelude.{◌≡◌, ◌↔◌, ℕ, true, List, Some, Contains, slice_get}
 use Rattle.rule_core.specs.TermNodes.{IsOperandOf}
 use Rattle.rule_core.specs.declared.rule.Argument.{Argument}
@@ -9,7 +9,7 @@ use Rattle.rule_core.specs.declared.rule.Operand.{Operand}
 use Rattle.rule_core.specs.declared.rule.Register.TheVariants as names
 use Rattle.bindings.specs.declared.nodes.Nodes.{Nodes}
 
--- the node at the place is in the set
+-- the node with this index is in the set
 abbrev pub Has : Nodes → ℕ → Type 0
 Has set n = slice_get set.has n ≡ Some true
 
@@ -21,12 +21,12 @@ HasExactly set P = (n : ℕ) → Has set n ↔ P n
 abbrev pub HasOperandOf : Nodes → Node → Type 0
 HasOperandOf set node = (a : ℕ) × IsOperandOf a node × Has set a
 
--- the node is the width of what a statement of the source assigns
+-- the node is the width of a register that a statement of the source assigns
 abbrev pub IsTemporaryWidth : Node → Type 0
 IsTemporaryWidth (nodes.Width (names.Source j) c) = Unit {0}
 IsTemporaryWidth node = ⊥
 
--- an argument is what a statement of the source assigns, or a node of the set
+-- an argument is a register that a statement of the source assigns, or a node of the set
 abbrev pub NamesAmong : Nodes → Argument → Type 0
 NamesAmong set (arguments.Register (names.Source j)) = Unit {0}
 NamesAmong set (arguments.Term n) = Has set n

@@ -1,4 +1,4 @@
--- What an operation is written to promise: its flags, and the truth value of an intrinsic, which is one more.
+-- What an operation promises: its flags, and the truth value of an intrinsic, which counts as one more.
 use Rattle.std.specs.Prelude.{◌≡◌, Bool, false, ◌&&◌}
 use Rattle.ops.specs.Flags.{AreWithin, no_flags}
 use Rattle.ops.specs.declared.opcode.Flags.{Flags}
@@ -14,6 +14,6 @@ by_truth truth = record { flags = no_flags; truth = truth }
 abbrev pub no_promises : Promises
 no_promises = by_flags no_flags
 
--- each promise of the first stands in the second
+-- each promise of the first is one of the second
 abbrev pub AreKept : Promises → Promises → Type 0
 AreKept p q = AreWithin p.flags q.flags × ((p.truth && q.truth) ≡ p.truth)

@@ -24,7 +24,7 @@ use Rattle.bindings.specs.Promises.{by_flags, by_truth, no_promises, AreKept}
 use Rattle.bindings.specs.declared.promises.Promises.{Promises}
 use Rattle.bindings.specs.declared.binding.Binding.{Binding}
 
--- both are one operation: of one opcode, one predicate, one intrinsic or one cast, or both a select or a freeze
+-- both are the same operation: of the same opcode, predicate, intrinsic or cast, or both a select or a freeze
 abbrev pub IsSameOperation : RuleOp → Op → Type 0
 IsSameOperation (rule_ops.Binary opcode flags a b) (ops.Binary opcode' flags' x y) = opcode ≡ opcode'
 IsSameOperation (rule_ops.Compare pred samesign a b) (ops.Compare pred' samesign' width x y) = pred ≡ pred'
@@ -49,12 +49,12 @@ promises_of_inst (ops.Unary op truth x) = by_truth truth
 promises_of_inst (ops.Convert cast flags from x) = by_flags flags
 promises_of_inst op = no_promises
 
--- the term of the node names the width of what a statement of the source assigns
+-- the term of the node has the width of a register that a statement of the source assigns
 abbrev pub MeasuresTemporary : List Term → ℕ → Type 0
 MeasuresTemporary terms n = (j : ℕ) × NamesWidth terms n (names.Source j)
 
--- an argument of the target names what a statement of the source assigns: it is that register, or its term names the
--- width of one
+-- an argument of the target names a register that a statement of the source assigns: it is that register, or its term
+-- has the width of one
 abbrev pub NamesTemporary : List Term → Argument → Type 0
 NamesTemporary terms (arguments.Register (names.Source j)) = Unit {0}
 NamesTemporary terms (arguments.Term n) = MeasuresTemporary terms n
@@ -64,13 +64,13 @@ NamesTemporary terms argument = ⊥
 abbrev pub OneNamesTemporary : List Term → List RuleOperand → Type 0
 OneNamesTemporary terms operands = (o : RuleOperand) × Contains operands o × NamesTemporary terms o.value
 
--- the target names what a statement of the source assigns: as an operand, as what it copies, or in `width( )`
+-- the target names a register that a statement of the source assigns: as an operand, as a copied one, or in `width( )`
 abbrev pub TargetNamesTemporary : Rule → Type 0
 TargetNamesTemporary rule = OneNamesTemporary rule.terms (operands_among rule.target)
 
--- instruction k of the binding's block is what source statement j, which is this one, looks for
+-- instruction k of the binding's block matches source statement j, which is this one
 pub record InstMatches (f : Function) (rule : Rule) (binding : Binding) (j : ℕ) (s : Statement) (k : ℕ) (inst : Inst) : Type 0 where
-  -- the root's is that at which the match stands
+  -- the root's instruction is the one at which the match is
   pub root : suc j ≡ length rule.source → k ≡ binding.place
   -- the same opcode, predicate, intrinsic or cast
   pub operation : IsSameOperation s.op inst.op

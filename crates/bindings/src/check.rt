@@ -26,8 +26,8 @@ use rule_core::{Formula, Op, Rule};
 use rule_typing::is_typing;
 use use_counts::uses_of;
 
-/// Whether the rule matches with this binding at the instruction that the binding names, in whatever order instructions
-/// stand.
+/// Whether the rule matches with this binding at the instruction that the binding names. The order of the instructions
+/// in the block is not asked for, as their index in a draft's arena doesn't tell it.
 pub fn is_match(f: &Function, facts: &FunctionFacts, rule: &Rule, binding: &Binding) -> bool
     requires insts { All (λ b. length b.insts < 2 ^ 32) f.now.blocks }
     requires facts { AreFactsOf f.now facts.now }
@@ -47,7 +47,7 @@ pub fn is_match(f: &Function, facts: &FunctionFacts, rule: &Rule, binding: &Bind
     have_one_use(facts, binding, rule.precondition.as_slice())
 }
 
-/// Whether there is something for each statement, each input and each constant of the rule.
+/// Whether the binding has an entry for each statement, each input and each constant of the rule.
 fn has_sizes(rule: &Rule, binding: &Binding) -> bool
     ensures { IsTrue result ↔ ((length binding.now.statements ≡ length rule.now.source)
         × (length binding.now.inputs ≡ length rule.now.inputs)
@@ -74,8 +74,8 @@ fn statements_match(f: &Function, rule: &Rule, binding: &Binding) -> bool
     true
 }
 
-/// Whether a statement of the source matches the instruction that it is bound to, with no more flags where they are to
-/// be exact.
+/// Whether a statement of the source matches the instruction that it is bound to. With `exact`, the instruction of a
+/// temporary may have no flags that the statement hasn't.
 fn statement_matches(f: &Function, rule: &Rule, binding: &Binding, exact: bool, j: usize) -> bool
     requires insts { All (λ b. length b.insts < 2 ^ 32) f.now.blocks }
     requires count { length binding.now.statements ≡ length rule.now.source }
@@ -95,7 +95,7 @@ fn statement_matches(f: &Function, rule: &Rule, binding: &Binding, exact: bool, 
     }
 }
 
-/// Whether an instruction of the binding's block is what a statement of the source looks for.
+/// Whether an instruction of the binding's block matches a statement of the source.
 fn inst_matches(
     f: &Function,
     rule: &Rule,
@@ -128,14 +128,15 @@ fn inst_matches(
     operands_match(f, binding, &statement.op, binding.block, place)
 }
 
-/// Whether the root is at the place of the match.
+/// Whether the statement is no root, or its instruction is the one at which the match is.
 fn stands_well(binding: &Binding, is_root: bool, place: u32) -> bool
     ensures { IsTrue result ↔ (IsTrue is_root → place ≡ binding.now.place) }
 {
     !is_root || place == binding.place
 }
 
-/// Whether an instruction has the statement's flags, and, where they are to be exact and it is no root's, no others.
+/// Whether an instruction has the statement's flags; and, where `exact` asks for it and the statement is no root, no
+/// others.
 fn flags_match(statement: Op, inst: &InstOp, exact: bool, is_root: bool) -> bool
     ensures { IsTrue result ↔ (AreKept (promises_of_statement statement) (promises_of_inst inst.now)
         × (IsTrue exact → ¬ IsTrue is_root → promises_of_inst inst.now ≡ promises_of_statement statement)) }
@@ -144,7 +145,7 @@ fn flags_match(statement: Op, inst: &InstOp, exact: bool, is_root: bool) -> bool
     asked.are_within(found) && (is_root || !exact || are_same(found, asked))
 }
 
-/// Whether both have the same flags.
+/// Whether both are the same flags and truth value.
 fn are_same(found: Promises, asked: Promises) -> bool
     ensures { IsTrue result ↔ found ≡ asked }
 {
@@ -159,7 +160,7 @@ fn is_root(rule: &Rule, j: usize) -> bool
     j == rule.source.len() - 1
 }
 
-/// Whether what an instruction reads matches the operands of an operation, as far as there are both.
+/// Whether the operands that an instruction reads match those of an operation, as far as there are both.
 fn operands_match(f: &Function, binding: &Binding, op: &Op, block: u32, place: u32) -> bool
     requires { All (λ b. length b.insts < 2 ^ 32) f.now.blocks }
     ensures { IsTrue result ↔ ((i : ℕ) → MatchesAt f.now binding.now op.now block place i) }
@@ -197,7 +198,7 @@ fn has_undef(operands: &[Operand]) -> bool
     operands.contains(&Operand::Undef)
 }
 
-/// Whether each register of which these formulas ask one use has one.
+/// Whether each register of which these formulas ask for one use has exactly one.
 fn have_one_use(facts: &FunctionFacts, binding: &Binding, formulas: &[Formula]) -> bool
     ensures { IsTrue result ↔ ((formula : Asked) → Contains formulas.now formula → IsOneUse facts.now binding.now formula) }
 {
@@ -209,7 +210,7 @@ fn have_one_use(facts: &FunctionFacts, binding: &Binding, formulas: &[Formula]) 
     true
 }
 
-/// Whether the register that a formula asks one use of, if it does, has one.
+/// Whether the register of which a formula asks for one use, if it does, has exactly one.
 fn has_one_use(facts: &FunctionFacts, binding: &Binding, formula: Formula) -> bool
     ensures { IsTrue result ↔ IsOneUse facts.now binding.now formula }
 {

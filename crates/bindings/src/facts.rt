@@ -9,7 +9,7 @@ use ir_core::Function;
 use std::alloc::{AllocError, Global};
 use use_counts::{Uses, count_uses};
 
-/// Which blocks of a function are reached, and how often its registers are used.
+/// Which blocks of a function are reached, and each register's count of uses.
 #[derive(Drop)]
 pub struct FunctionFacts {
     pub flow: Assigned,
@@ -17,7 +17,7 @@ pub struct FunctionFacts {
 }
 
 impl FunctionFacts {
-    /// Those of a function, in one pass over it beside the search for the reached blocks. The only error is want of
+    /// The facts of a function, from one pass over it and the search for reached blocks. The only error is want of
     /// memory.
     pub fn of(alloc: Global, f: &Function) -> Result<FunctionFacts, AllocError>
         requires checks { MeetsChecks f.now }

@@ -1,4 +1,4 @@
-//! Instructions by their places.
+//! Instructions by block and index.
 
 ghost use Rattle.std.specs.Prelude.{IfSome, IfNone};
 ghost use Rattle.ir_core.specs.Blocks.{HasInst};

@@ -1,10 +1,10 @@
 //! What a match of a rule is, and whether a binding is one.
 //!
-//! The definitions stand in `specs/`: `Match` says when a rule matches at an instruction with a binding, `Statements`
+//! The definitions are in `specs/`: `Match` says when a rule matches at an instruction with a binding, `Statements`
 //! which instructions its statements match, and `Operands` what its operands stand for; `Uses` of `use_counts` says how
 //! often a register is used. `Matches` says which matches the rules of a file have in a function, and in which order;
-//! `Ready` what a rule that is read meets; `Laws` that temporaries stand before the root. `Facts`, `Checks` and `Nodes`
-//! serve the code.
+//! `Ready` what a rule that was read from a file meets; `Laws` that temporaries stand before the root. `Facts`,
+//! `Checks` and `Nodes` serve the code.
 #![tactic(auto)]
 
 mod binding;

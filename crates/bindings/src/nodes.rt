@@ -6,10 +6,10 @@ ghost use Rattle.bindings.specs.Nodes.{Has, HasExactly};
 /// How many nodes the terms of a rule have at most.
 const MOST_NODES: usize = 256;
 
-/// A set of nodes, which are known by their places. It takes no memory.
+/// A set of nodes, which are given by their index among the terms. It takes no memory.
 #[derive(Clone, Copy)]
 pub(crate) struct Nodes {
-    /// Whether the node at the place is in the set.
+    /// For each index whether its node is in the set.
     has: [bool; MOST_NODES],
 }
 

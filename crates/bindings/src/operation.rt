@@ -1,4 +1,4 @@
-//! Operations of rules beside those of functions.
+//! Operations of rules compared with those of functions.
 
 ghost use Rattle.std.specs.Prelude.{◌≡◌, ◌↔◌, IsTrue, slice_get};
 ghost use Rattle.rule_core.specs.Positions.{operands_of};
@@ -33,8 +33,7 @@ fn one_of(operands: &[RuleOperand], index: usize) -> Option<RuleOperand>
     operands.get(index).copied()
 }
 
-/// Whether both are one operation: of one opcode, one predicate, one intrinsic or one cast, or both a select or a
-/// freeze.
+/// Whether both are the same operation: of the same opcode, predicate, intrinsic or cast, or both a select or a freeze.
 pub(crate) fn is_same_operation(statement: RuleOp, inst: &Op) -> bool
     ensures { IsTrue result ↔ IsSameOperation statement inst.now }
 {

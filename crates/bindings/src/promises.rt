@@ -1,12 +1,12 @@
-//! What an operation is written to promise.
+//! What an operation promises by its flags.
 
 ghost use Rattle.std.specs.Prelude.{◌≡◌, ◌↔◌, IsTrue};
 ghost use Rattle.bindings.specs.Promises as meaning;
 
 use ops::Flags;
 
-/// The flags of an operation, and the truth value of an intrinsic, which is one more. One that is broken makes the
-/// result poison.
+/// The flags of an operation, and the truth value of an intrinsic, which counts as one more. If one of them is violated
+/// the result is poison.
 #[derive(Clone, Copy, PartialEq, Eq)]
 pub struct Promises {
     pub flags: Flags,
@@ -40,7 +40,7 @@ impl Promises {
         }
     }
 
-    /// Whether each of them stands in `others` too.
+    /// Whether each of them is among others too.
     pub(crate) fn are_within(self, others: Promises) -> bool
         ensures { IsTrue result ↔ meaning.AreKept self others }
     {

@@ -10,7 +10,8 @@ use crate::operation::is_same_operation;
 use ir_core::Function;
 use rule_core::Rule;
 
-/// Whether an instruction is one operation with the root of a rule: no rule matches at another. It takes no memory.
+/// Whether an instruction is the same operation as the root of a rule: the rule matches at no other. It takes no
+/// memory.
 pub fn is_root_operation(f: &Function, block: u32, place: u32, rule: &Rule) -> bool
     requires place { HasInst f.now block place }
     requires rule { IsRule rule.now }

@@ -1,4 +1,4 @@
-//! What operands of a rule stand for, under a binding.
+//! Which operands of instructions the operands of a rule stand for, under a binding.
 
 ghost use Rattle.std.specs.Prelude.{◌≡◌, ◌↔◌, ℕ, IsTrue, Some, slice_get};
 ghost use Rattle.bindings.specs.Operands.{StandsFor, OperandMatches};
@@ -8,7 +8,7 @@ use ir_core::{Operand, Read};
 use ops::{Width, Word, residue};
 use rule_core::{Argument, Operand as RuleOperand, Register as Name};
 
-/// Whether an operand of the source matches what is read.
+/// Whether an operand of the source matches an operand of an instruction.
 pub(crate) fn operand_matches(binding: &Binding, operand: RuleOperand, read: Read) -> bool
     ensures { IsTrue result ↔ OperandMatches binding.now operand read }
 {
@@ -26,7 +26,7 @@ pub(crate) fn has_width(binding: &Binding, class: u32, width: Width) -> bool
     }
 }
 
-/// Whether an argument of the source may stand for an operand that is read at this width.
+/// Whether an argument of the source may stand for an operand that an instruction reads at this width.
 fn stands_for(binding: &Binding, width: Width, argument: Argument, operand: Operand) -> bool
     ensures { IsTrue result ↔ StandsFor binding.now width argument operand }
 {

@@ -1,4 +1,4 @@
-//! Whether the target of a rule names what statements of its source assign.
+//! Whether the target of a rule names registers that statements of its source assign.
 
 ghost use Rattle.std.specs.Prelude.{◌↔◌, ◌⊎◌, IsTrue};
 ghost use Rattle.rule_core.specs.Checks.{IsRule};
@@ -9,7 +9,8 @@ ghost use Rattle.bindings.specs.Statements.{MeasuresTemporary, TargetNamesTempor
 use crate::nodes::Nodes;
 use rule_core::{Argument, Node, Op, Register as Name, Rule, Statement};
 
-/// Whether the target names what a statement of the source assigns: as an operand, as what it copies, or in `width( )`.
+/// Whether the target names a register that a statement of the source assigns: as an operand, as what it copies, or in
+/// `width( )`.
 pub(crate) fn target_names_temporary(rule: &Rule) -> bool
     requires { IsRule rule.now }
     ensures { IsTrue result ↔ TargetNamesTemporary rule.now }
@@ -17,7 +18,7 @@ pub(crate) fn target_names_temporary(rule: &Rule) -> bool
     name_temporary(&measuring_nodes(rule), rule.target.as_slice())
 }
 
-/// The nodes of a rule in whose terms a width of what a statement of the source assigns stands.
+/// The nodes whose terms have the width of a register that a statement of the source assigns.
 fn measuring_nodes(rule: &Rule) -> Nodes
     requires { IsRule rule.now }
     ensures { HasExactly result (MeasuresTemporary rule.now.terms) }
@@ -31,7 +32,8 @@ fn measuring_nodes(rule: &Rule) -> Nodes
     measuring
 }
 
-/// Whether a node is the width of what a statement of the source assigns, or one of its operands is in the set.
+/// Whether a node is the width of a register that a statement of the source assigns, or one of its operands is in the
+/// set.
 fn measures_temporary(measuring: &Nodes, node: Node) -> bool
     ensures { IsTrue result ↔ (IsTemporaryWidth node ⊎ HasOperandOf measuring.now node) }
 {
@@ -44,7 +46,8 @@ fn measures_temporary(measuring: &Nodes, node: Node) -> bool
     }
 }
 
-/// Whether an operand of one of these statements is what a statement of the source assigns, or a node of the set.
+/// Whether an operand of one of these statements is a register that a statement of the source assigns, or a node of the
+/// set.
 fn name_temporary(measuring: &Nodes, statements: &[Statement]) -> bool
     ensures { IsTrue result ↔ OneNamesAmong measuring.now (operands_among statements.now) }
 {
@@ -56,7 +59,7 @@ fn name_temporary(measuring: &Nodes, statements: &[Statement]) -> bool
     false
 }
 
-/// Whether an operand of an operation is.
+/// The same for the operands of one operation.
 fn op_names_temporary(measuring: &Nodes, op: Op) -> bool
     ensures { IsTrue result ↔ OneNamesAmong measuring.now (operands_of op) }
 {
@@ -75,7 +78,7 @@ fn op_names_temporary(measuring: &Nodes, op: Op) -> bool
     }
 }
 
-/// Whether an argument is.
+/// The same for one argument.
 fn names_temporary(measuring: &Nodes, argument: Argument) -> bool
     ensures { IsTrue result ↔ NamesAmong measuring.now argument }
 {

@@ -1,4 +1,4 @@
--- What a call answers, told in other words.
+-- The answer of a call, weakened to what follows from it.
 use Rattle.std.proofs.Common.{Result, Ok, Err}
 use Rattle.std.specs.Prelude.{IfOk}
 

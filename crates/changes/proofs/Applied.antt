@@ -28,7 +28,7 @@ use Rattle.changes.specs.declared.changed.Changes.{Changes}
 use Rattle.changes.proofs.Put.{some_put, last_result}
 use Rattle.changes.proofs.Few.{AreFew, as_many_rewritten, few_rewritten}
 
--- a rule was applied to what a copy is of
+-- a rule that was applied to a copy of a function
 pub applied_to : (f copy new : Function) (rule : Rule) (binding : Binding) → copy ≡ f → IsRewritten copy binding rule new → IsRewritten f binding rule new
 applied_to f copy new rule binding same is = subst (λ (g : Function). IsRewritten g binding rule new) same is
 
@@ -61,7 +61,7 @@ module _ (f new : Function) (rule : Rule) (binding : Binding) (checked : IsRule 
     abbrev IsAnew : ℕ → ℕ → Type 0
     IsAnew b k = (b ≡ binding.block) × (k ≡ binding.place)
 
-    -- the root went
+    -- the root is removed
     pub where_copied : (changes : Changes) → root_is_copy rule ≡ true
         → ((v : Rewrite) (root : Inst) → IsPutFor v put → IsInst f v.block v.place root → AreChanges f (rewritten_function v f) (rewritten_moves v true) (λ b k. (b ≡ v.block) × (k ≡ v.place)) changes)
         → AreChangesOfRule f binding rule new changes

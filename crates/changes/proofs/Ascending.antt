@@ -20,7 +20,7 @@ same_listed P Q places to back are = record {
   each = λ b k. (λ there. to b k ((are.each b k).0 there), λ q. (are.each b k).1 (back b k q));
 }
 
--- a place behind all that are listed
+-- one more place, behind all that are listed
 pub one_more : (P Q : ℕ → ℕ → Type 0) (places new : List (ℕ × ℕ)) (c n : ℕ) → new ≡ places ++ (c, n) ∷ [] → AreAscending P places
     → ((b k : ℕ) → P b k → StandsBefore (b, k) (c, n)) → ((b k : ℕ) → P b k → Q b k) → Q c n → ((b k : ℕ) → Q b k → P b k ⊎ ((b ≡ c) × (k ≡ n))) → AreAscending Q new
 one_more P Q places new c n is are before still here split = subst (λ (l : List (ℕ × ℕ)). AreAscending Q l) (sym is) (record {

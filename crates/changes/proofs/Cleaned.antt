@@ -1,4 +1,4 @@
--- What went where a function was cleaned; nothing came or changed.
+-- Which instructions were removed where a function was cleaned; none was inserted or changed.
 use Rattle.std.proofs.Common.{◌≡◌, inl, inr, ℕ, ◌+◌, Bool, true, false, cond, List, [], ◌∷◌, Option, None, Some, refl, sym, ap, subst, ◌∙◌, arith, map}
 use Rattle.std.specs.Prelude.{slice_get, option_map, Contains}
 use Rattle.std.proofs.lemmas.Bool.{cases_Bool}
@@ -28,7 +28,7 @@ use Rattle.changes.specs.Calls.{kept_moves}
 use Rattle.changes.proofs.Ascending.{none_listed, same_listed}
 use Rattle.changes.proofs.Rewritten.{has_of, inst_of}
 
--- ---- registers where they stand then, as a substitution
+-- ---- the new names of registers, as a substitution
 
 module _ (kept : KeptMarks) where
   abbrev to : Substitution
@@ -84,7 +84,7 @@ module _ (f : Function) (known : AllKnown f) (kept : KeptMarks) (keeps : KeepsNe
         is_inst = kept_at kept b 0 at.block.insts k (kept_before kept b k) inst at.is_inst (ap (kept b) same ∙ keep) (omega (arith, ap (kept_before kept b) same));
       }
 
-  -- an instruction that is left is a kept one
+  -- an instruction of the cleaned function is a kept one
   record IsLeft (b l : ℕ) : Type 0 where
     place : ℕ
     inst : Inst
@@ -113,7 +113,7 @@ module _ (f : Function) (known : AllKnown f) (kept : KeptMarks) (keeps : KeepsNe
       let h : IsLeft b l = left b l now.0 now.1 in
       none (h.place, (has_of f b h.place h.inst h.at, moves_kept b h.place h.keep ∙ ap (λ (n : ℕ). Some n) h.count)))
 
-  -- what is kept reads what is kept
+  -- what is kept reads only results of what is kept
   called : (b k : ℕ) (inst : Inst) → IsInst f b k inst → kept b k ≡ true → (r : Register) → Contains (operands_of inst.op) (operands.Register r) → option_map operands.Register (register_then (kept_moves kept) r) ≡ Some (to kept r)
   called b k inst at keep (registers.Parameter q) there = refl
   called b k inst at keep (registers.Result d j) there =

@@ -1,4 +1,4 @@
--- Functions that are rewritten or cleaned have as many blocks as before, and few instructions in each.
+-- A function that is rewritten or cleaned has as many blocks as before, and few instructions in each.
 use Rattle.std.proofs.Common.{◌≡◌, ℕ, suc, ◌+◌, ◌-◌, ◌<◌, ◌≤◌, ◌^◌, inl, inr, List, [], ◌∷◌, length, get_or, sym, ap, subst, ◌∙◌, arith, All}
 use Rattle.std.proofs.lemmas.Bool.{cases_eq}
 use Rattle.std.proofs.lemmas.Option.{slice_get-get_or, get_or_from_slice_get, slice_get_within, same_Some}
@@ -38,7 +38,7 @@ pub as_many_rewritten : (w : Rewrite) (f : Function) → length (rewritten_funct
 as_many_rewritten w f = blocks_rewritten w 0 f.blocks
 
 module _ (w : Rewrite) (f : Function) (root : Block) (at_root : IsBlock f w.block root) (inside : w.place < length root.insts) where
-  -- the root's block has the root's instruction less, and all that is put more
+  -- the root's block loses the root, and gets the inserted instructions
   pub root_block : (block : Block) → IsBlock f w.block block → length (rewritten_insts w w.block 0 block.insts) ≡ length block.insts - 1 + length w.put
   root_block block at =
       let same : length block.insts ≡ length root.insts = ap (λ (x : Block). length x.insts) (same_Some block root (sym at ∙ at_root)) in
@@ -68,7 +68,7 @@ module _ (w : Rewrite) (f : Function) (root : Block) (at_root : IsBlock f w.bloc
 abbrev Ends : Rewrite → Function → Function → ℕ → Type 0
 Ends w f g c = (end_of g c ≡ end_of f c - 1 + length w.put) × (0 < end_of f c)
 
--- where its instructions end then
+-- how many instructions the root's block has then
 pub end_rewritten : (w : Rewrite) (f new : Function) (b k : ℕ) (root : Inst) → w.block ≡ b → w.place ≡ k → IsInst f b k root → new ≡ rewritten_function w f → (end_of new b ≡ end_of f b - 1 + length w.put) × (0 < end_of f b)
 end_rewritten w f new b k root block place at is =
     subst (λ (g : Function). Ends w f g b) (sym is) (subst (λ (c : ℕ). Ends w f (rewritten_function w f) c) block (by there))

@@ -19,7 +19,7 @@ use Rattle.changes.proofs.Ascending.{none_listed, same_listed, one_more}
 pub before_end : (f : Function) (b k : ℕ) → HasInst f b k → k < end_of f b
 before_end f b k has = let (block, at, within) = has in omega (arith, end_of-is f b block at)
 
--- and each place before it has one
+-- and before the end there is an instruction at each place
 pub inst_before_end : (f : Function) (b k : ℕ) → k < end_of f b → HasInst f b k
 inst_before_end f b k less = by (slice_get f.blocks b) refl less
   where
@@ -27,7 +27,7 @@ inst_before_end f b k less = by (slice_get f.blocks b) refl less
     by None at lt = absurd (omega arith)
     by (Some block) at lt = (block, at, lt)
 
--- what is in a set is listed by its own place
+-- in a set each place is given itself
 pub one_place : (rows : Rows) (b k l m : ℕ) → IsIn rows b k l → IsIn rows b k m → l ≡ m
 one_place rows b k l m x y = x.1 ∙ sym y.1
 
@@ -57,7 +57,7 @@ module _ (f : Function) (R : ℕ → ℕ → ℕ → Type 0) where
   pub none_yet : AreAscending (ListedTo f R 0 0) []
   none_yet = none_listed (ListedTo f R 0 0) (λ b l x. let (k, past, has, r) = x in elim past [ inl less ↦ omega arith | inr both ↦ omega arith ])
 
-  -- each place is listed by one, and what stands behind another behind that one's
+  -- each instruction is given one place at most, and a later one a later place
   module _ (one : (b k l m : ℕ) → R b k l → R b k m → l ≡ m) (up : (b j k l m : ℕ) → j < k → R b j l → R b k m → l < m) where
     pub listed_more : (c n l : ℕ) (places new : List (ℕ × ℕ)) → new ≡ places ++ (c, l) ∷ [] → HasInst f c n → R c n l → AreAscending (ListedTo f R c n) places → AreAscending (ListedTo f R c (n + 1)) new
     listed_more c n l places new is there here are = one_more (ListedTo f R c n) (ListedTo f R c (n + 1)) places new c l is are

@@ -1,4 +1,4 @@
--- What stands for the root where a rule puts a new instruction for it.
+-- The register that replaces the root's where the root of the target is no copy.
 use Rattle.std.proofs.Common.{◌≡◌, ℕ, suc, ◌+◌, ◌-◌, ◌<◌, false, length, Option, Some, refl, sym, ap, ◌∙◌, arith}
 use Rattle.std.specs.Prelude.{slice_get}
 use Rattle.std.specs.Option.{option_map_or}

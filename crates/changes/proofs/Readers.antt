@@ -1,4 +1,4 @@
--- What reads the root, and where it stands then.
+-- The instructions that read the root, and their new places.
 use Rattle.std.proofs.Common.{◌≡◌, ℕ, ◌<◌, ◌^◌, true, List, length, Some, sym, subst, ◌∙◌, arith}
 use Rattle.std.specs.Prelude.{slice_get, Contains}
 use Rattle.std.proofs.lemmas.Option.{same_Some, slice_get_within}
@@ -26,7 +26,7 @@ use Rattle.changes.proofs.Few.{AreFew, block_few}
 use Rattle.changes.proofs.Rewritten.{inst_of, root_moves, other_moves}
 
 module _ (w : Rewrite) where
-  -- a reader is listed by one place, and in order
+  -- each is given one place, and they are in order
   pub one_place : (f : Function) (b k l m : ℕ) → ReadsRoot f w b k l → ReadsRoot f w b k m → l ≡ m
   one_place f b k l m x y = same_Some l m (sym x.3 ∙ y.3)
 
@@ -47,7 +47,7 @@ module _ (w : Rewrite) where
       by l m p q lt e g = omega arith
 
   module _ (put : Put) (p : IsPutFor w put) where
-    -- ---- where an instruction stands then
+    -- ---- new places
 
     -- ---- what reads the root
 

@@ -1,4 +1,4 @@
--- What went, came and changed where other instructions stand in the place of the root.
+-- Which instructions were removed, inserted and changed where others stand in the place of the root.
 use Rattle.std.proofs.Common.{◌≡◌, ◌⊎◌, inl, inr, ℕ, zero, suc, ◌+◌, ◌-◌, ◌<◌, ◌≤◌, Bool, true, false, cond, List, [], ◌∷◌, length, Option, None, Some, refl, sym, ap, subst, ◌∙◌, arith}
 use Rattle.std.specs.Prelude.{slice_get, option_map, Contains}
 use Rattle.std.proofs.lemmas.Option.{same_Some, slice_get_within}
@@ -64,7 +64,7 @@ is_read r (a ∷ reads) = elim (is_it a r) [
   ]
 ]
 
--- ---- where instructions are then
+-- ---- new places
 
 pub root_moves : (w : Rewrite) (goes : Bool) (b k : ℕ) → IsTheRoot w b k → rewritten_moves w goes b k ≡ cond goes None (Some (w.place + length w.put - 1))
 root_moves w goes b k here = ap (λ c. cond c (cond goes None (Some (w.place + length w.put - 1))) (Some (moved_place w b k))) (root_is w b k here)
@@ -103,7 +103,7 @@ module _ (f : Function) (w : Rewrite) (root : Inst) (at_root : IsInst f w.block 
   root_goes : (b k l : ℕ) → IsTheRoot w b k → rewritten_moves w true b k ≡ Some l → ⊥
   root_goes b k l here m = let gone : rewritten_moves w true b k ≡ None = moves_root true b k here in cc
 
-  -- the register is called as what stands for it
+  -- the new name of the register is the operand that the substitution gives for it
   abbrev IsCalled : Bool → Register → Type 0
   IsCalled goes r = option_map operands.Register (register_then (rewritten_moves w goes) r) ≡ Some (stands_for w r)
 
@@ -124,7 +124,7 @@ module _ (f : Function) (w : Rewrite) (root : Inst) (at_root : IsInst f w.block 
       subst (λ (n : ℕ). IsUnchanged f new (rewritten_moves w goes) b k n) (moved_is goes b k l other m)
       (inst, substituted_inst (stands_for w) inst, at, inst_on w f b k inst at other, record { to = stands_for w; called = called; is = refl })
 
-  -- ---- what came
+  -- ---- the inserted instructions
 
   came_put : (goes : Bool) (b l : ℕ) → Came f new (rewritten_moves w goes) b l → (b ≡ w.block) × (w.place ≤ l) × (l < w.place + length w.put)
   came_put goes b l (has, none) =
@@ -153,7 +153,7 @@ module _ (f : Function) (w : Rewrite) (root : Inst) (at_root : IsInst f w.block 
       )
 
   module _ (put : Put) (p : IsPutFor w put) where
-    -- ---- where the root goes
+    -- ---- where the root is removed
 
     pub went_root : (places : List (ℕ × ℕ)) → AreAscending (λ b k. (b ≡ put.block) × (k ≡ put.place)) places → AreAscending (Went f new (rewritten_moves w true)) places
     went_root places are = same_listed (λ b k. (b ≡ put.block) × (k ≡ put.place)) (Went f new (rewritten_moves w true)) places

@@ -1,4 +1,5 @@
--- Where instructions are in a function to which a rule is applied, and in one that is cleaned, and what changed there.
+-- How instructions move in a function to which a rule is applied, and in one from which dead code is removed, and what
+-- changed there.
 use Rattle.std.specs.Prelude.{◌≡◌, ◌+◌, ◌-◌, if◌then◌else◌, Bool, false, length, None, Some, slice_get}
 use Rattle.std.specs.Option.{option_map_or}
 use Rattle.ir_core.specs.Checks.{IsInst}
@@ -18,7 +19,7 @@ use Rattle.changes.specs.declared.changed.Changes.{Changes}
 abbrev pub root_is_copy : Rule → Bool
 root_is_copy rule = option_map_or (λ s. is_copy s.op) (slice_get rule.target (length rule.target - 1)) false
 
--- The root goes, or becomes the last instruction that is put; each other instruction stays.
+-- The root is removed, or becomes the last of the inserted instructions; each other instruction stays.
 abbrev pub rewritten_moves : Rewrite → Bool → Moves
 rewritten_moves w goes b k = if is_root w b k then (if goes then None else Some (w.place + length w.put - 1)) else Some (moved_place w b k)
 
@@ -28,7 +29,7 @@ pub record AreChangesOfRule (f : Function) (binding : Binding) (rule : Rule) (ne
   pub is_root : IsInst f binding.block binding.place root
   pub are : AreChanges f new (rewritten_moves (rewrite_of rule binding root.name) (root_is_copy rule)) (λ b k. (b ≡ binding.block) × (k ≡ binding.place)) changes
 
--- what is kept stands behind what is kept before it, and all else goes
+-- what is kept has as its new place how many are kept before it, and all else is removed
 abbrev pub kept_moves : KeptMarks → Moves
 kept_moves kept b k = if kept b k then Some (kept_before kept b k) else None
 

@@ -16,23 +16,23 @@ use Rattle.changes.specs.declared.applying.Put.{Put}
 abbrev pub IsPast : ℕ → ℕ → ℕ → ℕ → Type 0
 IsPast c n b k = (b < c) ⊎ ((b ≡ c) × (k < n))
 
--- an instruction of the first ones is listed so
+-- l is a place that R gives for one of the instructions before place n of block c, in block b
 abbrev pub ListedTo : Function → (ℕ → ℕ → ℕ → Type 0) → ℕ → ℕ → ℕ → ℕ → Type 0
 ListedTo f R c n b l = (k : ℕ) × IsPast c n b k × HasInst f b k × R b k l
 
 abbrev pub Listed : Function → (ℕ → ℕ → ℕ → Type 0) → ℕ → ℕ → Type 0
 Listed f R b l = (k : ℕ) × HasInst f b k × R b k l
 
--- it is in the set, and listed by its own place
+-- it is in the set, and is given its own place
 abbrev pub IsIn : Rows → ℕ → ℕ → ℕ → Type 0
 IsIn rows b k l = Has rows b k × (l ≡ k)
 
--- so many instructions are put in the place of the root
+-- so many instructions are inserted in the place of the root
 pub record IsPutFor (w : Rewrite) (put : Put) : Type 0 where
   pub block : w.block ≡ put.block
   pub place : w.place ≡ put.place
   pub count : length w.put ≡ put.count
 
--- the instruction reads the root, and is listed by its place where the root goes
+-- the instruction reads the root, and is given its new place after the root is removed
 abbrev pub ReadsRoot : Function → Rewrite → ℕ → ℕ → ℕ → Type 0
 ReadsRoot f w b k l = (inst : Inst) × IsInst f b k inst × Contains (operands_of inst.op) (operands.Register (root_of w)) × (rewritten_moves w true b k ≡ Some l)

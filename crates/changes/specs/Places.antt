@@ -1,7 +1,7 @@
--- Lists of places of instructions, by block and place.
+-- Lists of places of instructions, by block and position in it.
 use Rattle.std.specs.Prelude.{◌≡◌, ℕ, ◌<◌, ◌↔◌, ◌⊎◌, List, AllPairs, Contains}
 
--- one stands before another: in an earlier block, or before it in its block
+-- the first place comes before the second: in an earlier block, or before it in the same
 abbrev pub StandsBefore : ℕ × ℕ → ℕ × ℕ → Type 0
 StandsBefore (b, k) (c, l) = (b < c) ⊎ ((b ≡ c) × (k < l))
 

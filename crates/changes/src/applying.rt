@@ -1,4 +1,4 @@
-//! Rules applied to functions, and what changed.
+//! Rules applied to functions, with the instructions that were removed, inserted and changed.
 
 ghost use Rattle.std.specs.Prelude.{◌≡◌, ◌+◌, ◌-◌, ◌<◌, ◌≤◌, ◌^◌, ◌↔◌, ℕ, length, true, false, All, Some, IfOk, OnOk, OnErr};
 ghost use Rattle.ir_core.specs.Blocks.{HasInst, IsBlock};
@@ -33,21 +33,21 @@ use rule_core::{Op, Rule};
 use std::alloc::{AllocError, Global};
 use use_counts::{Uses, count_uses};
 
-/// So many instructions that stand in the place of one, the root.
+/// So many instructions that replace one, the root.
 #[derive(Clone, Copy)]
 struct Put {
     /// The root's block.
     block: u32,
-    /// The root's place there.
+    /// The root's position there.
     place: u32,
     count: u32,
 }
 
-/// Applies a rule to a function where it matches with this binding, as `apply` does, with its counts of uses, and tells
-/// what changed.
+/// Applies a rule to a function where it matches with this binding, as `apply` does, brings its counts of uses up to
+/// date, and returns what changed.
 ///
-/// Where the target's root is a copy, the root went, all that is put came, and what read the root changed. Else the
-/// root stays as the last instruction that is put, which changed; the others that are put came.
+/// Where the target's root is a copy, the root is removed, all instructions of the target are inserted, and what read
+/// the root changes. Else the root stays as the last of these instructions, which is changed; the others are inserted.
 ///
 /// It takes its memory before it changes anything, so function and counts stay as they were where that is refused. It
 /// takes as many steps as the function is long and, for each constant term that the target reads, as the rule has
@@ -66,7 +66,7 @@ pub fn apply_at(
     // Numbers are of their widths.
     requires numbers { NumbersFit f.old }
 
-    // Blocks, and the instructions of each, are counted in 32 bits, and a rule puts 32 instructions at most.
+    // Blocks, and the instructions of each, are counted in 32 bits, and a rule inserts 32 instructions at most.
     requires blocks { length f.old.blocks < 2 ^ 32 }
     requires insts { All (λ b. length b.insts < 2 ^ 32) f.old.blocks }
     requires places { (block : Block) → IsBlock f.old binding.now.block block
@@ -109,7 +109,7 @@ fn changes_of(
     changes_with(alloc, put)
 }
 
-/// How many instructions a rule put in the place of its root.
+/// How many instructions a rule inserted in the place of its root.
 fn put_at(f: &Function, binding: &Binding, rule: &Rule, new: &Function) -> Put
     requires places { All (λ b. length b.insts < 2 ^ 32) new.now.blocks }
     requires insts { All (λ b. length b.insts < 2 ^ 32) f.now.blocks }
@@ -146,7 +146,7 @@ fn copies(op: Op) -> bool
     }
 }
 
-/// What changed where the root became the last instruction that is put.
+/// What changed where the root became the last of the inserted instructions.
 fn changes_with(alloc: Global, put: Put) -> Result<Changes, AllocError>
     requires some { 0 < put.count }
     requires room { put.place + put.count ≤ 2 ^ 32 }
@@ -164,7 +164,7 @@ fn changes_with(alloc: Global, put: Put) -> Result<Changes, AllocError>
     })
 }
 
-/// What changed where the root went, and what was copied is read in its place.
+/// What changed where the root was removed, and the operand that the target copies is read in its place.
 fn changes_without(alloc: Global, f: &Function, put: Put) -> Result<Changes, AllocError>
     requires few { length f.now.blocks < 2 ^ 32 }
     requires insts { All (λ b. length b.insts < 2 ^ 32) f.now.blocks }
@@ -183,7 +183,7 @@ fn changes_without(alloc: Global, f: &Function, put: Put) -> Result<Changes, All
     })
 }
 
-/// The places then of what read the root.
+/// The new places of the instructions that read the root.
 fn readers_of(alloc: Global, f: &Function, put: Put) -> Result<List<(u32, u32)>, AllocError>
     requires few { length f.now.blocks < 2 ^ 32 }
     requires insts { All (λ b. length b.insts < 2 ^ 32) f.now.blocks }
@@ -197,7 +197,7 @@ fn readers_of(alloc: Global, f: &Function, put: Put) -> Result<List<(u32, u32)>,
     Ok(places)
 }
 
-/// Puts the places then of what read the root in a block behind those of the blocks before it.
+/// Appends the new places of a block's instructions that read the root to those of the blocks before it.
 fn push_readers(
     f: &Function,
     put: Put,
@@ -217,7 +217,7 @@ fn push_readers(
     Ok(())
 }
 
-/// The place then of an instruction, if it is another than the root and read that.
+/// The new place of an instruction, if it read the root and is another one.
 fn reader_at(f: &Function, put: Put, block: u32, place: u32) -> Option<u32>
     requires insts { All (λ b. length b.insts < 2 ^ 32) f.now.blocks }
     requires there { HasInst f.now block place }
@@ -232,7 +232,7 @@ fn reader_at(f: &Function, put: Put, block: u32, place: u32) -> Option<u32>
     place_then(put, block, place)
 }
 
-/// Where an instruction stands then, if it is another than the root.
+/// The new place of an instruction, if it is another than the root.
 fn place_then(put: Put, block: u32, place: u32) -> Option<u32>
     requires { block ≡ put.block → place + put.count ≤ 2 ^ 32 }
     ensures { (w : Rewrite) → IsPutFor w put → result ≡ rewritten_moves w true block place }

@@ -1,4 +1,4 @@
-//! Functions cleaned, and which instructions went.
+//! Dead code elimination in functions, with the instructions that were removed.
 
 ghost use Rattle.std.specs.Prelude.{◌≡◌, ◌<◌, ◌^◌, ℕ, length, All, IfOk, OnOk, OnErr};
 ghost use Rattle.ir_core.specs.Blocks.{HasInst};
@@ -19,8 +19,9 @@ use needed::{clean, unneeded_insts};
 use std::alloc::{AllocError, Global};
 use use_counts::{Uses, count_uses};
 
-/// Keeps exactly those instructions of a function whose results are needed, as `clean` does, with its counts of uses,
-/// and tells which went. None comes or changes: what is needed reads only what is needed.
+/// Keeps exactly the live instructions of a function, whose results are needed, as `clean` does, brings its counts of
+/// uses up to date, and returns which instructions were removed. None is inserted or changed: a live instruction reads
+/// only results of live ones.
 ///
 /// It takes its memory before it changes anything, so function and counts stay as they were where that is refused. It
 /// is linear in the function's size.
@@ -51,7 +52,7 @@ pub fn clean_at(alloc: Global, f: &mut Function, uses: &mut Uses) -> Result<Chan
     })
 }
 
-/// The places of the instructions whose results are not needed.
+/// The places of the dead instructions.
 fn unneeded(alloc: Global, f: &Function) -> Result<List<(u32, u32)>, AllocError>
     requires blocks { length f.now.blocks < 2 ^ 32 }
     requires insts { All (λ b. length b.insts < 2 ^ 32) f.now.blocks }

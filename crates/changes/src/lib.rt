@@ -1,11 +1,12 @@
-//! Rules applied to functions, and functions cleaned, with what changed told and counts of uses kept exact.
+//! Rules applied to functions, and dead code removed from functions, each with a list of what changed, and with counts
+//! of uses that stay exact.
 //!
-//! These calls are for who rewrites functions as lists of instructions and keeps counts of uses beside them. Each reads
-//! the whole function once more, as `rewriter::apply` does, since places move. The program rewrites drafts, whose
-//! instructions keep their numbers and whose counts go up and down with the operands that change.
+//! These calls are for callers who rewrite functions as lists of instructions and keep counts of uses beside them. Each
+//! reads the whole function once more, as `rewriter::apply` does, since instructions move. The program rewrites drafts,
+//! whose instructions keep their numbers and whose counts go up and down with the operands that change.
 //!
-//! In `specs/`, `Changed` says what went, came and changed, in which lists by `Places`, and `Calls` how instructions
-//! move where a rule is applied or a function cleaned. `Listing` serves the private functions.
+//! In `specs/`, `Changed` says which instructions were removed, inserted and changed, in which lists by `Places`, and
+//! `Calls` how instructions move where a rule is applied or a function cleaned. `Listing` serves the private functions.
 #![tactic(auto)]
 
 mod applying;

@@ -54,7 +54,7 @@ pub(crate) fn marked(
     Ok(places)
 }
 
-/// Puts the places of a block that are in a set behind those of the blocks before it.
+/// Appends the places of a block that are in a set to those of the blocks before it.
 fn push_marked(
     f: &Function,
     marks: &Marks,

@@ -1,4 +1,4 @@
--- A draft stays whole where what is read at one place of its arena is changed.
+-- A draft keeps its invariant where the operands at one place of its arena change.
 use Rattle.std.proofs.Common.{◌≡◌, ◌⊎◌, inl, inr, ℕ, ◌<◌, Bool, false, List, [], ◌∷◌, length, get_or, slice_set, Some, sym, ap, subst, ◌∙◌, arith, get_or-set_other, get_or-set_same}
 use Rattle.std.specs.Prelude.{Contains, slice_get}
 use Rattle.std.proofs.lemmas.List.{length-set}
@@ -24,8 +24,8 @@ use Rattle.draft.proofs.Exchanging.{block_cases, inst_count, inst_differs, read_
 use Rattle.readers.proofs.Places.{AreFew, DiffersAt, IsListedToo, reads_known, still_facts, still_known, still_readers}
 use Rattle.draft.proofs.Wholeness.{all_known, few_insts, rows_less}
 
--- what else was done where one place was changed: its old operands are counted no more, its new ones are, and it is
--- listed for them
+-- the tables follow the change: the counts of the old operands at the place are taken back, its new ones are counted,
+-- and the place is in their use lists
 pub record IsRecounted (old new : Draft) (p : Place) : Type 0 where
   pub mid : Uses
   pub flow : new.facts.flow ≡ old.facts.flow
@@ -76,7 +76,7 @@ module _ (old new : Draft) (b n : ℕ) (change : Inst → Inst) (whole : IsWhole
   pub reads_are_known : ((a : Operand) → Contains (operands_of (change inst).op) a → IsKnown old.arena a) → (a : Operand) → Contains (operands_at new.arena place) a → IsKnown old.arena a
   reads_are_known known a there = known a (subst (λ (l : List Operand). Contains l a) reads there)
 
--- one that is taken out
+-- an instruction that is removed
 pub whole_taken_out : (old new : Draft) (b n : ℕ) (block : Block) (was : Inst) → IsWhole old → IsBlock old.arena b block → slice_get block.insts n ≡ Some was
     → new.arena ≡ taken_out old.arena b n → new.orders.items ≡ old.orders.items → new.stand.items ≡ slice_set old.stand.items b (slice_set (get_or old.stand.items b []) n false)
     → IsRecounted old new (record { block = b; number = n }) → IsWhole new

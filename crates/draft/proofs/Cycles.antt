@@ -1,4 +1,4 @@
--- Arenas stay without cycles where no phi comes, and each terminator names the blocks that it named.
+-- An arena has no cycles as before, where no phi is inserted and each terminator has the same successors.
 use Rattle.std.proofs.Common.{◌≡◌, ◌⊎◌, inl, inr, ℕ, zero, suc, List, [], ◌∷◌, ◌++◌, length, Some, sym, ap, subst, ◌∙◌, arith}
 use Rattle.std.specs.Prelude.{Contains, option_map, slice_get}
 use Rattle.std.proofs.lemmas.List.{length-map}
@@ -20,7 +20,7 @@ use Rattle.draft.specs.Whole.{HasNoCycles, HasNoPhi}
 use Rattle.draft.proofs.Exchanging.{block_cases}
 use Rattle.draft.proofs.Reached.{reached_along}
 
--- no phi comes of what is put for registers
+-- a substitution of operands makes no phi
 pub no_phi_substituted : (to : Substitution) (op : Op) → ¬ IsPhi op → ¬ IsPhi (substituted_op to op)
 no_phi_substituted to (Binary op flags x y) other = other
 no_phi_substituted to (Compare pred samesign compared x y) other = other

@@ -1,4 +1,4 @@
--- What the parts of an exchange and of a removal ask for.
+-- What is asked of an arena where operands are replaced, or an instruction is removed.
 use Rattle.std.proofs.Common.{inl, ◌≤◌, List}
 use Rattle.ir_core.specs.Blocks.{HasInst}
 use Rattle.ir_core.specs.declared.function.Block.{Block}
@@ -19,7 +19,7 @@ use Rattle.draft.proofs.Wholeness.{all_known, few_insts}
 abbrev pub with_blocks : Draft → List Block → Draft
 with_blocks d blocks = record { arena = record { name = d.arena.name; before = d.arena.before; width = d.arena.width; parameters = d.arena.parameters; after = d.arena.after; blocks = blocks }; facts = d.facts; orders = d.orders; stand = d.stand; readers = d.readers; fallen = d.fallen; has_cycles = d.has_cycles }
 
--- an instruction of the arena is a place there
+-- an instruction of the arena has a place there
 pub inside : (f : Function) (p : Place) → HasInst f p.block p.number → IsPlaceIn f p
 inside f p (block, at, within) = (block, at, inl within)
 

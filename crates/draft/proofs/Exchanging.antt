@@ -1,4 +1,4 @@
--- Arenas in which an instruction or a terminator is another.
+-- Arenas in which one instruction or one terminator is changed.
 use Rattle.std.proofs.Common.{◌≡◌, ◌⊎◌, ◌↔◌, inl, inr, ℕ, zero, suc, ◌+◌, ◌<◌, List, [], ◌∷◌, length, Some, map, refl, sym, ap, subst, ◌∙◌, arith}
 use Rattle.std.specs.Prelude.{slice_get}
 use Rattle.std.proofs.lemmas.Bool.{cases_eq}
@@ -41,7 +41,7 @@ module _ (f : Function) (b : ℕ) (change : Block → Block) (block : Block) (at
   pub block_is : (c : ℕ) (x : Block) → c ≡ b → IsBlock f c x → x ≡ block
   block_is c x same is = same_Some x block (sym is ∙ ap (slice_get f.blocks) same ∙ at)
 
-  -- what is read in other blocks
+  -- the operands at places of other blocks are the same
   pub read_in_other : AreFew f → (q : Place) → (q.block ≡ b → ⊥) → IsPlaceIn f q → operands_at (with_block f b change) q ≡ operands_at f q
   read_in_other few q apart (x, is, inside) =
       let there = block_other q.block x apart is in
@@ -56,7 +56,7 @@ module _ (f : Function) (b : ℕ) (change : Block → Block) (block : Block) (at
       ]
 
 module _ (f : Function) (b : ℕ) (change : Block → Block) (block : Block) (at : IsBlock f b block) (same_count : (x : Block) → length (change x).insts ≡ length x.insts) where
-  -- each block has as many instructions
+  -- each block has as many instructions as before
   pub counted_block : (c : ℕ) (x : Block) → IsBlock f c x → (y : Block) × IsBlock (with_block f b change) c y × (length y.insts ≡ length x.insts)
   counted_block c x is = elim (cases_eq c b) [
     | inl same ↦ (change block, subst (λ (d : ℕ). IsBlock (with_block f b change) d (change block)) (sym same) (block_now f b change block at), same_count block ∙ ap (λ (z : Block). length z.insts) (sym (block_is f b change block at c x same is)))

@@ -1,4 +1,4 @@
--- The draft of a function as it begins: each instruction stands, at the place of its number.
+-- The draft of a function when it is made: every instruction stands, and its number is its position.
 use Rattle.std.proofs.Common.{◌≡◌, ℕ, zero, suc, ◌+◌, ◌<◌, ◌≤◌, ◌^◌, inl, inr, Bool, true, false, List, [], ◌∷◌, length, map, replicate, get_or, All, Some, refl, sym, ap, subst, ◌∙◌, arith}
 use Rattle.std.specs.Prelude.{Contains, IsFalse, slice_get, option_map}
 use Rattle.std.specs.List.{range_with_len}
@@ -111,7 +111,7 @@ numbers_all (block ∷ blocks) =
 pub row_at : {A : Type 0} (g : Block → List A) (blocks : List Block) (b : ℕ) (block : Block) → slice_get blocks b ≡ Some block → get_or (map g blocks) b [] ≡ g block
 row_at g blocks b block at = get_or_from_slice_get (map g blocks) b (g block) [] (slice_get-map g blocks b ∙ ap (option_map g) at)
 
--- ---- by its places the function is itself
+-- ---- with positions in place of numbers the function is itself
 
 inst_itself : (inst : Inst) → substituted_inst itself inst ≡ inst
 inst_itself inst = ap (λ (op : Op). let i : Inst = record { name = inst.name; width = inst.width; op = op } in i) (op_itself inst.op)
@@ -137,7 +137,7 @@ blocks_itself [] = refl
 blocks_itself (block ∷ blocks) = ap (λ (x : Block). x ∷ blocks_of itself (map all_of blocks) blocks) (block_itself block) ∙ ap (λ (l : List Block). block ∷ l) (blocks_itself blocks)
 
 module _ (f : Function) (known : AreKnown f) (few : AreFew f) where
-  -- a register that is read stands for itself
+  -- the substitution leaves a register that is read as it is
   read_itself : (p : Place) (a : Operand) → IsPlaceIn f p → Contains (operands_at f p) a → substituted_operand (placed (map all_of f.blocks)) a ≡ substituted_operand itself a
   read_itself p (operands.Register (registers.Parameter q)) inside there = refl
   read_itself p (operands.Register (registers.Result b n)) inside there =

@@ -1,4 +1,4 @@
--- The instructions of a function by their places: those of the numbers that stand.
+-- The instructions of a draft's function by position: those whose numbers stand.
 use Rattle.std.proofs.Common.{◌≡◌, ℕ, zero, suc, ◌<◌, List, [], ◌∷◌, ◌++◌, length, map, Option, None, Some, refl, sym, ap, ◌∙◌}
 use Rattle.std.specs.Prelude.{Contains, slice_get, option_to_list}
 use Rattle.std.proofs.lemmas.Option.{same_Some}
@@ -8,7 +8,7 @@ use Rattle.ir_meaning.proofs.Pieces.{first_in, later_in, some_at}
 use Rattle.substitution.specs.Substitution.{Substitution, substituted_inst}
 use Rattle.draft.specs.Drafts.{insts_of, block_of, blocks_of}
 
--- what two options give together
+-- a function of two values, if there are both
 abbrev pub both : {A B C : Type 0} → (A → B → C) → Option A → Option B → Option C
 both f None y = None
 both f (Some x) None = None
@@ -24,7 +24,7 @@ get_blocks to (row ∷ rows) [] b = sym (both_none (block_of to) (slice_get (row
 get_blocks to (row ∷ rows) (block ∷ blocks) zero = refl
 get_blocks to (row ∷ rows) (block ∷ blocks) (suc b) = get_blocks to rows blocks b
 
--- each number is one of an instruction
+-- each number is that of an instruction
 abbrev pub AreNumbersOf : List Inst → List ℕ → Type 0
 AreNumbersOf insts row = (n : ℕ) → Contains row n → n < length insts
 
@@ -54,7 +54,7 @@ module _ (to : Substitution) (insts : List Inst) where
       let (i, at) = first_number n row all in
       ap length (insts_more n row i at) ∙ ap suc (length-insts_of row (rest_numbers n row all))
 
-  -- the instruction of the number at a place
+  -- the instruction at a position is that of the number there
   pub inst_at : (row : List ℕ) (k n : ℕ) (i : Inst) → AreNumbersOf insts row → slice_get row k ≡ Some n → slice_get insts n ≡ Some i → slice_get (insts_of to insts row) k ≡ Some (substituted_inst to i)
   inst_at [] k n i all at is = absurd cc
   inst_at (m ∷ row) zero n i all at is =

@@ -1,4 +1,4 @@
--- Heaps stay where numbers are put between others.
+-- Worklists stay worklists where new numbers are inserted.
 use Rattle.std.proofs.Common.{◌≡◌, ℕ, suc, ◌<◌, inl, inr, List, [], ◌∷◌, length, get_or, set, refl, sym, ap, subst, ◌∙◌, arith, Contains, length-set, get_or-set_same, get_or-set_other}
 use Rattle.std.proofs.lemmas.Bool.{cases_eq}
 use Rattle.std.proofs.lemmas.List.Elements.{All-weaker}
@@ -16,7 +16,7 @@ heap-stays old new heap keeps h = record {
       h.ordered k over below within (keeps.order (place_at heap k) (place_at heap over) (h.numbered k nowhere within) (h.numbered over nowhere above) before));
 }
 
--- numbers keep their order where another is put between them
+-- numbers keep their order where another is inserted
 pub put-order : (ns : List ℕ) (at n x y : ℕ) → Contains ns x → Contains ns y → ¬ Contains ns n → place_in (put_before ns at n) x < place_in (put_before ns at n) y → place_in ns x < place_in ns y
 put-order [] at n x y in_x in_y new lt = absurd (contains_none x in_x)
 put-order (m ∷ ns) at n x y in_x in_y new lt =
@@ -47,7 +47,7 @@ put-order (m ∷ ns) at n x y in_x in_y new lt =
           ]
     ]
 
--- the orders of all blocks stay where a number is put in one
+-- the orders of all blocks are kept where a number is inserted in one
 pub put-keeps : (orders : List (List ℕ)) (b at n : ℕ) → b < length orders → Contains (get_or orders b []) at → ¬ Contains (get_or orders b []) n → KeepsOrders orders (set orders b (put_before (get_or orders b []) at n))
 put-keeps orders b at n within there new = record {
   blocks = length-set orders b row;

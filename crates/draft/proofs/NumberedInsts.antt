@@ -1,4 +1,4 @@
--- The instructions of a draft are what its orders number.
+-- The instructions of a draft's arena are those that its orders have numbers of.
 use Rattle.std.proofs.Common.{◌≡◌, ℕ, ◌<◌, List, [], length, get_or, set, sym, subst, arith}
 use Rattle.std.proofs.lemmas.Option.{slice_get_within}
 use Rattle.ir_core.specs.Blocks.{HasInst}
@@ -24,7 +24,7 @@ numbered-inst d p whole numbered =
     let (k, there) = contained_at (get_or d.orders.items p.block []) p.number numbered in
     (block, at, (whole.rows p.block block at).ordering.below k p.number there)
 
--- the orders are kept where the next number is put before an instruction that stands
+-- orders are kept where the next number is inserted before an instruction that stands
 pub next-keeps : (d : Draft) (p : Place) → IsWhole d → Stands d p.block p.number
     → KeepsOrders d.orders.items (set d.orders.items p.block (put_before (get_or d.orders.items p.block []) p.number (length (get_or d.orders.items p.block []))))
 next-keeps d p whole stands =
@@ -35,7 +35,7 @@ next-keeps d p whole stands =
     put-keeps d.orders.items p.block p.number (length row) (subst (λ n. p.block < n) (sym whole.ordered) inside) (stands_marked d whole p.block block at p.number stands).0
     (λ has. let (k, there) = contained_at row (length row) has in absurd (omega (arith, rows.ordering.below k (length row) there, rows.ordered)))
 
--- what has no other orders has the same instructions
+-- where the orders are the same, so are the instructions that there are
 pub insts-stay : (old new : Draft) → IsWhole old → IsWhole new → new.orders.items ≡ old.orders.items → (b n : ℕ) → HasInst old.arena b n → HasInst new.arena b n
 insts-stay old new was is same b n inst =
     let p : Place = record { block = b; number = n } in

@@ -1,4 +1,4 @@
--- A draft stays whole where an instruction is put before another.
+-- A draft keeps its invariant where an instruction is inserted before another.
 use Rattle.std.proofs.Common.{◌≡◌, inl, inr, ℕ, zero, suc, ◌+◌, ◌<◌, ◌≤◌, Bool, true, List, [], ◌∷◌, ◌++◌, length, get_or, slice_set, All, sym, ap, subst, ◌∙◌, arith, get_or-set_other, get_or-set_same}
 use Rattle.std.specs.Prelude.{Contains, IsFalse, slice_get}
 use Rattle.std.proofs.lemmas.List.{length-set}
@@ -31,8 +31,8 @@ use Rattle.draft.proofs.Putting.{count_kept, facts_put, few_put, flow_put, known
 use Rattle.readers.proofs.Tables.{row_within}
 use Rattle.draft.proofs.Wholeness.{all_known, few_insts, rows_more}
 
--- what was done: one more instruction in the arena, in the order of its block, that stands, and has rows; its operands
--- are counted and listed
+-- what an insertion does: the arena and the order of the block have one more instruction, which stands; each table has
+-- an entry for it; and its operands are counted and listed
 pub record IsPut (old new : Draft) (b at : ℕ) (block : Block) (inst : Inst) : Type 0 where
   pub arena : new.arena ≡ put_in old.arena b inst
   pub orders : new.orders.items ≡ slice_set old.orders.items b (put_before (get_or old.orders.items b []) at (length block.insts))

@@ -1,4 +1,4 @@
--- Arenas with one more instruction in a block, and tables with one more entry in its row.
+-- Arenas with one more instruction in a block, and tables with one more entry for it.
 use Rattle.std.proofs.Common.{◌≡◌, ◌⊎◌, inl, inr, ℕ, zero, suc, ◌+◌, ◌<◌, ◌≤◌, List, [], ◌∷◌, ◌++◌, length, get_or, slice_set, Some, refl, sym, ap, subst, ◌∙◌, arith, get_or-set_other, get_or-set_same}
 use Rattle.std.specs.Prelude.{Contains, slice_get}
 use Rattle.std.proofs.lemmas.Bool.{cases_eq, cases_lt}
@@ -73,7 +73,7 @@ module _ (f : Function) (few : AreFew f) (b : ℕ) (block : Block) (at : IsBlock
     ];
   }
 
-  -- an instruction of the new function: one that was there, or what is put
+  -- an instruction of the new function was there before, or is the inserted one
   pub has_back : (d j : ℕ) → HasInst new d j → HasInst f d j ⊎ (registers.Result d j ≡ registers.Result b number)
   has_back d j (x, is, within) = elim (block_cases f b more block at d x is) [
     | inl (same, x_is) ↦
@@ -246,7 +246,7 @@ module _ {A : Type 0} (d : A) (results : List (List A)) (b : ℕ) (within : b < 
         ]
   ]
 
--- a count for one more register, which is not used
+-- a count for one more register, which has no uses
 module _ (old mid : Uses) (b n : ℕ) (within : b < length old.results.items) (low : n ≤ length (get_or old.results.items b [])) (parameters : mid.parameters ≡ old.parameters)
     (results : mid.results.items ≡ slice_set old.results.items b (get_or old.results.items b [] ++ 0 ∷ [])) where
   pub count_kept : (r : Register) → count_of mid r ≡ count_of old r
@@ -262,7 +262,7 @@ module _ (old mid : Uses) (b n : ℕ) (within : b < length old.results.items) (l
       let number : m ≡ n = cc in
       subst (λ (l : List (List ℕ)). m < length (get_or l c [])) (sym results) (entry_there 0 old.results.items b within c m (inr (block, omega arith)))
 
--- a list for one more register, which nothing reads
+-- an empty use list for one more register
 module _ (old mid : Readers) (b n : ℕ) (within : b < length old.results.items) (low : n ≤ length (get_or old.results.items b [])) (parameters : mid.parameters ≡ old.parameters)
     (results : mid.results.items ≡ slice_set old.results.items b (get_or old.results.items b [] ++ [] ∷ [])) where
   pub list_kept : (r : Register) → listed_for mid r ≡ listed_for old r

@@ -1,4 +1,4 @@
--- Blocks are reached where each names what it named.
+-- Blocks that are reached are so in a function in which each block names what it named, and perhaps more.
 use Rattle.std.proofs.Common.{ℕ, List, [], ◌∷◌}
 use Rattle.ir_core.specs.Blocks.{Names}
 use Rattle.ir_core.specs.Walks.{IsReached, IsWalk}

@@ -1,4 +1,4 @@
--- An operand is put for a register at one place, and so at all places that read it.
+-- The uses of a register are replaced at one place, and so place by place at all of them.
 use Rattle.std.proofs.Common.{◌≡◌, ◌⊎◌, inl, inr, ℕ, List, [], ◌∷◌, length, Some, map, refl, sym, ap, subst, ◌∙◌, arith}
 use Rattle.std.specs.Prelude.{Contains, slice_get}
 use Rattle.std.proofs.lemmas.Bool.{cases_eq}
@@ -115,7 +115,7 @@ module _ (old new : Draft) (from : Register) (to : Operand) (p : Place) (whole :
 
 -- ---- at all places
 
--- The operand is put at all places but these that are left, where the register may be read.
+-- The uses of the register are replaced at all places but those that are left.
 pub record IsReplacing (old now : Draft) (from : Register) (to : Operand) (left : List Place) : Type 0 where
   pub whole : IsWhole now
   pub arena : replaced now.arena from to ≡ replaced old.arena from to

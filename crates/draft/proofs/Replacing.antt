@@ -1,4 +1,4 @@
--- Arenas in which an operand is put wherever a register is read, place by place.
+-- Arenas in which the uses of a register are replaced by an operand, place by place.
 use Rattle.std.proofs.Common.{◌≡◌, inl, inr, ℕ, suc, eqb, true, List, [], ◌∷◌, Some, map, refl, sym, ap, subst, ◌∙◌, arith}
 use Rattle.std.specs.Prelude.{Contains, slice_get}
 use Rattle.std.proofs.lemmas.Bool.{cases_Bool, cases_eq, cond-true, cond-false, eq-eqb, ne_eqb}
@@ -43,7 +43,7 @@ module _ (from : Register) (to : Operand) where
   unread_stays operands.Undef other = refl
   unread_stays operands.Poison other = refl
 
-  -- what was put stays
+  -- the operand itself isn't replaced
   put_stays : (a : Operand) → a ≡ to → substituted_operand (instead from to) a ≡ a
   put_stays (operands.Register r) is = elim (cases_Bool (same_register r from)) [
     | inl same ↦ instead_same r (same_register_is r from same) ∙ sym is
@@ -64,9 +64,9 @@ module _ (from : Register) (to : Operand) where
   twice operands.Undef = refl
   twice operands.Poison = refl
 
-  -- ---- what reads nothing that is replaced stays
+  -- ---- what doesn't read the register stays
 
-  -- each of these operands stands for itself
+  -- the replacement leaves each of these operands as it is
   abbrev pub Stay : List Operand → Type 0
   Stay reads = (a : Operand) → Contains reads a → substituted_operand (instead from to) a ≡ a
 
@@ -97,7 +97,7 @@ module _ (from : Register) (to : Operand) where
       ap (λ (l : List Block). let g : Function = record { name = f.name; before = f.before; width = f.width; parameters = f.parameters; after = f.after; blocks = l } in g)
       (map_same (substituted_block (instead from to)) f.blocks blocks_stay)
 
-  -- ---- what is replaced at one place first
+  -- ---- the uses at one place first
 
   pub stay_twice : (reads old : List Operand) → reads ≡ map (substituted_operand (instead from to)) old → Stay reads
   stay_twice reads old is a there =

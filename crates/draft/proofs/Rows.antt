@@ -1,4 +1,4 @@
--- The numbers of a block that stand, and the numbers with one more or one less.
+-- The numbers of a block that stand, and its numbers with one inserted or removed.
 use Rattle.std.proofs.Common.{◌≡◌, ◌⊎◌, ◌↔◌, inl, inr, ℕ, zero, suc, ◌+◌, ◌-◌, ◌<◌, Bool, true, false, cond, eqb, List, [], ◌∷◌, ◌++◌, length, get_or, slice_set, take, Option, None, Some, refl, sym, ap, subst, ◌∙◌, arith, get_or-set_other, get_or-set_same}
 use Rattle.std.specs.Prelude.{Contains, slice_get}
 use Rattle.std.proofs.lemmas.Bool.{cases_Bool, cases_eq, cases_lt, cond-false, cond-true, eq-eqb, ne_eqb}
@@ -22,7 +22,7 @@ pub first_or_later : {A : Type 0} (x : A) (xs : List A) (y : A) → Contains (x 
 first_or_later x xs y (zero, within, is) = inl (sym is)
 first_or_later x xs y (suc k, within, is) = inr (k, omega arith, is)
 
--- the numbers that stand among a first one and others, where it does and where it doesn't
+-- where the first number is marked it is among those that stand, and else it isn't
 pub first_stands : (stand : List Bool) (n : ℕ) (numbers : List ℕ) → marked stand n ≡ true → standing_in stand (n ∷ numbers) ≡ n ∷ standing_in stand numbers
 first_stands stand n numbers marked_so = ap (λ (t : Bool). cond t (n ∷ []) [] ++ standing_in stand numbers) marked_so
 
@@ -61,7 +61,7 @@ place_first m n numbers same = cond-true (eqb m n) 0 (suc (place_in numbers n)) 
 pub place_later : (m n : ℕ) (numbers : List ℕ) → (m ≡ n → ⊥) → place_in (m ∷ numbers) n ≡ suc (place_in numbers n)
 place_later m n numbers apart = cond-false (eqb m n) 0 (suc (place_in numbers n)) (ne_eqb m n apart)
 
--- of two that stand, the same stands first among those that stand
+-- two numbers that stand have the same order among those that stand
 pub same_order : (stand : List Bool) (numbers : List ℕ) (n m : ℕ) → marked stand n ≡ true → marked stand m ≡ true
     → (place_in numbers n < place_in numbers m) ↔ (place_in (standing_in stand numbers) n < place_in (standing_in stand numbers) m)
 same_order stand [] n m yes_n yes_m = (λ h. h, λ h. h)
@@ -166,7 +166,7 @@ module _ (stand : List Bool) where
             ]
       ]
 
--- the numbers with one more: that one and those
+-- with one inserted the numbers are that one and those that there were
 pub put_contains : (numbers : List ℕ) (at n k : ℕ) → Contains (put_before numbers at n) k → Contains numbers k ⊎ (k ≡ n)
 put_contains [] at n k h = absurd (nothing_in k h)
 put_contains (m ∷ numbers) at n k h = elim (cases_eq m at) [
@@ -347,13 +347,13 @@ standing_append stand (x ∷ xs) ys =
     ap (λ (l : List ℕ). cond (marked stand x) (x ∷ []) [] ++ l) (standing_append stand xs ys)
     ∙ sym (append_assoc (cond (marked stand x) (x ∷ []) []) (standing_in stand xs) (standing_in stand ys))
 
--- the numbers before the k-th were looked at, and this one comes next
+-- the first numbers of the order were looked at, and this one comes next
 pub record Walked (stand : List Bool) (order : List ℕ) (at : Option ℕ) (numbers : List ℕ) : Type 0 where
   pub count : ℕ
   pub next : at ≡ slice_get order count
   pub done : numbers ≡ standing_in stand (take count order)
 
--- how many are left
+-- how many numbers are left
 abbrev pub left : List ℕ → Option ℕ → ℕ
 left order None = 0
 left order (Some n) = length order - place_in order n

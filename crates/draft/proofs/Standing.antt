@@ -1,4 +1,4 @@
--- What is read of a settled draft has a place among what stands.
+-- In a draft between steps each result that is read is at a position of the function.
 use Rattle.std.proofs.Common.{◌≡◌, inl, inr, ℕ, suc, ◌<◌, ◌≤◌, Bool, List, [], ◌∷◌, ◌++◌, length, get_or, Option, None, Some, map, refl, sym, ap, subst, ◌∙◌, arith}
 use Rattle.std.specs.Prelude.{Contains, option_to_list, slice_get}
 use Rattle.std.proofs.lemmas.Bool.{cases_Bool}
@@ -25,7 +25,7 @@ use Rattle.readers.proofs.Reading.{operands_at_inst, operands_at_terminator, wri
 use Rattle.draft.proofs.Rows.{Distinct, distinct_once, first_gone, first_stands, marked, once_distinct, standing_at, standing_length, stands_is}
 use Rattle.draft.proofs.Substituted.{Agree, end_agrees, inst_agrees}
 
--- ---- what stands is listed once too
+-- ---- the numbers that stand are there once too
 
 standing_distinct : (stand : List Bool) (numbers : List ℕ) → Distinct numbers → Distinct (standing_in stand numbers)
 standing_distinct stand [] distinct = tt
@@ -61,7 +61,7 @@ module _ (d : Draft) (whole : IsWhole d) where
       subst (IsOrdering (length block.insts)) (sym (standing_at d.stand.items d.orders.items b (omega arith)))
       (standing_ordering (get_or d.stand.items b []) (get_or d.orders.items b []) (length block.insts) (whole.rows b block at).ordering)
 
--- ---- blocks in which what is read stands for the same
+-- ---- blocks on whose operands two substitutions agree
 
 module _ (to to' : Substitution) where
   insts_agree : (insts : List Inst) (numbers : List ℕ) → ((n : ℕ) (inst : Inst) → Contains numbers n → slice_get insts n ≡ Some inst → Agree to to' (operands_of inst.op)) → insts_of to insts numbers ≡ insts_of to' insts numbers
@@ -75,7 +75,7 @@ module _ (to to' : Substitution) where
       one None agree = refl
       one (Some inst) agree = ap (λ (i : Inst). i ∷ []) (inst_agrees to to' inst (agree inst refl))
 
-  -- what the instructions of these numbers and the terminators read
+  -- the two substitutions agree on the operands of these instructions and of the terminators
   pub record BlocksAgree (rows : List (List ℕ)) (blocks : List Block) : Type 0 where
     pub insts : (b n : ℕ) (block : Block) (inst : Inst) → slice_get blocks b ≡ Some block → Contains (get_or rows b []) n → slice_get block.insts n ≡ Some inst → Agree to to' (operands_of inst.op)
     pub ends : (b : ℕ) (block : Block) → slice_get blocks b ≡ Some block → Agree to to' (operands_at_end block.end)

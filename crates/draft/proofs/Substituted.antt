@@ -1,4 +1,4 @@
--- Substitutions that agree on what is read, and what is read once operands are substituted.
+-- Substitutions that agree on some operands, and the operands after a substitution.
 use Rattle.std.proofs.Common.{◌≡◌, ℕ, List, [], ◌∷◌, map, refl, ap, ◌∙◌}
 use Rattle.std.specs.Prelude.{Contains}
 use Rattle.ir_core.specs.declared.instruction.Inst.{Inst}
@@ -12,7 +12,7 @@ use Rattle.needed.specs.Operands.{operands_of, operands_at_end}
 use Rattle.needed.proofs.Counting.{contains_first, contains_later}
 use Rattle.substitution.specs.Substitution.{Substitution, substituted_end, substituted_entries, substituted_inst, substituted_op, substituted_operand}
 
--- what stands for each of these is the same
+-- both substitutions give the same for each of these operands
 abbrev pub Agree : Substitution → Substitution → List Operand → Type 0
 Agree to to' reads = (a : Operand) → Contains reads a → substituted_operand to a ≡ substituted_operand to' a
 
@@ -94,7 +94,7 @@ end_itself (terminators.Branch c b other) = ap (λ (x : Operand). terminators.Br
 end_itself (terminators.Switch a width other cases) = ap (λ (x : Operand). terminators.Switch x width other cases) (operand_itself a)
 end_itself terminators.Unreachable = refl
 
--- ---- what is read then
+-- ---- operands after a substitution
 
 entries_read : (to : Substitution) (entries : List (Operand × ℕ)) → map (λ (e : Operand × ℕ). e.0) (substituted_entries to entries) ≡ map (substituted_operand to) (map (λ (e : Operand × ℕ). e.0) entries)
 entries_read to [] = refl

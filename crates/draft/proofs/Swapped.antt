@@ -1,4 +1,4 @@
--- A draft stays whole where an operand is put for a register at one place.
+-- A draft keeps its invariant where the uses of a register at one place are replaced.
 use Rattle.std.proofs.Common.{◌≡◌, ◌⊎◌, inl, inr, ℕ, Bool, List, [], length, get_or, Some, map, refl, sym, ap, subst, ◌∙◌}
 use Rattle.std.specs.Prelude.{Contains, slice_get}
 use Rattle.std.proofs.lemmas.Bool.{cases_Bool, cond-false}
@@ -43,7 +43,7 @@ targets_stay to (terminators.Switch a width other cases) = refl
 targets_stay to terminators.Unreachable = refl
 
 module _ (f : Function) (from : Register) (to : Operand) (p : Place) (now : List Operand) (read_now_is : now ≡ map (substituted_operand (instead from to)) (operands_at f p)) where
-  -- what is read now is what stands for something that was
+  -- an operand then is the replacement of one that there was
   was_read : (a : Operand) → Contains now a → (x : Operand) × Contains (operands_at f p) x × (substituted_operand (instead from to) x ≡ a)
   was_read a there =
       let at : (k : ℕ) × (slice_get now k ≡ Some a) = contained_at now a there in
@@ -51,7 +51,7 @@ module _ (f : Function) (from : Register) (to : Operand) (p : Place) (now : List
       mapped (substituted_operand (instead from to)) (slice_get (operands_at f p) at.0) a (sym (slice_get-map (substituted_operand (instead from to)) (operands_at f p) at.0) ∙ ap (λ (l : List Operand). slice_get l at.0) (sym read_now_is) ∙ at.1) in
       (found.0, contains_at (operands_at f p) found.0 at.0 found.1, found.2)
 
-  -- so it is a register of the function
+  -- so it is known to the function
   operand_known : (x : Operand) → IsKnown f to → IsKnown f x → IsKnown f (substituted_operand (instead from to) x)
   operand_known (operands.Register r) known_to known = elim (cases_Bool (same_register r from)) [
     | inl same ↦ subst (IsKnown f) (sym (instead_same from to r (same_register_is r from same))) known_to
@@ -66,7 +66,7 @@ module _ (f : Function) (from : Register) (to : Operand) (p : Place) (now : List
       let (x, read, is) = was_read a there in
       subst (IsKnown f) is (operand_known x known_to (known p x inside read))
 
-  -- and the place is listed for it, or it was put
+  -- a register that is read then was read at the place, or is the one that replaces
   register_listed : (x : Operand) (r : Register) → substituted_operand (instead from to) x ≡ operands.Register r → (x ≡ operands.Register r) ⊎ (to ≡ operands.Register r)
   register_listed (operands.Register s) r is = elim (cases_Bool (same_register s from)) [
     | inl same ↦ inr (sym (instead_same from to s (same_register_is s from same)) ∙ is)

@@ -1,4 +1,4 @@
--- Lists of readers that are trimmed.
+-- Use lists from which places are dropped that don't read the register.
 use Rattle.std.proofs.Common.{◌≡◌, ◌↔◌, inl, inr, List, sym, subst, ◌∙◌}
 use Rattle.std.specs.Prelude.{Contains}
 use Rattle.ir_core.specs.declared.function.Function.{Function}

@@ -1,4 +1,4 @@
--- Drafts stay whole where their arena changes.
+-- The invariant of drafts, and the order and flags of a block where its instructions change.
 use Rattle.std.proofs.Common.{◌≡◌, inl, inr, ℕ, zero, suc, ◌+◌, ◌<◌, ◌≤◌, ◌^◌, Bool, true, false, List, [], ◌∷◌, ◌++◌, length, get_or, slice_set, Some, All, refl, sym, ap, subst, ◌∙◌, arith}
 use Rattle.std.specs.Prelude.{Contains, slice_get}
 use Rattle.std.proofs.lemmas.Bool.{cases_eq, cases_lt}
@@ -34,7 +34,7 @@ module _ (d : Draft) (whole : IsWhole d) where
   pub few_insts : AreFew d.arena
   few_insts b block at = (whole.rows b block at).few
 
-  -- each block has so few instructions that they are counted in 32 bits
+  -- the instructions of each block are fewer than 2 ^ 32
   pub counted_insts : All (λ (b : Block). length b.insts < 2 ^ 32) d.arena.blocks
   counted_insts k e within =
       let at : IsBlock d.arena k (get_or d.arena.blocks k e) = slice_get-get_or d.arena.blocks k e within in
@@ -48,7 +48,7 @@ module _ (d : Draft) (whole : IsWhole d) where
     pub block_within : b < length d.arena.blocks
     block_within = slice_get_within d.arena.blocks b block at
 
-    -- the numbers that stand in the block
+    -- the numbers that stand in a block are those of its order that are marked
     pub numbers_are : numbers_in d b ≡ standing_in (get_or d.stand.items b []) (get_or d.orders.items b [])
     numbers_are =
         let within = block_within in
@@ -78,7 +78,7 @@ module _ (d : Draft) (whole : IsWhole d) where
 
 -- ---- rows
 
--- rows fit a block with as many instructions, of which those that don't stand read nothing
+-- the order and flags fit a block with as many instructions, where those that don't stand read no register
 pub rows_kept : (block block' : Block) (order : List ℕ) (stand : List Bool) → AreRowsOf block order stand → length block'.insts ≡ length block.insts
     → ((n : ℕ) (inst : Inst) → slice_get block'.insts n ≡ Some inst → marked stand n ≡ false → inst.op ≡ Freeze operands.Poison)
     → AreRowsOf block' order stand
@@ -91,7 +91,7 @@ rows_kept block block' order stand rows same gone_reads = record {
   gone = gone_reads;
 }
 
--- one that is changed without a read of its own
+-- an instruction is changed, where one that reads no register still reads none
 pub rows_swapped : (block : Block) (order : List ℕ) (stand : List Bool) (n : ℕ) (change : Inst → Inst) → AreRowsOf block order stand
     → ((inst : Inst) → inst.op ≡ Freeze operands.Poison → (change inst).op ≡ Freeze operands.Poison)
     → AreRowsOf (inst_changed n change block) order stand
@@ -102,7 +102,7 @@ rows_swapped block order stand n change rows none_came =
       | inr (apart, old) ↦ rows.gone m inst old unmarked
     ])
 
--- one that is taken out
+-- an instruction is removed
 pub rows_less : (block : Block) (order : List ℕ) (stand : List Bool) (n : ℕ) → AreRowsOf block order stand
     → AreRowsOf (inst_changed n gone block) order (slice_set stand n false)
 rows_less block order stand n rows = record {
@@ -117,7 +117,7 @@ rows_less block order stand n rows = record {
   ];
 }
 
--- one that is put before another
+-- an instruction is inserted before another
 pub rows_more : (block : Block) (order : List ℕ) (stand : List Bool) (at : ℕ) (inst : Inst) → AreRowsOf block order stand → Contains order at → length block.insts + 1 ≤ none
     → AreRowsOf (inst_put inst block) (put_before order at (length block.insts)) (stand ++ true ∷ [])
 rows_more block order stand at inst rows there room =

@@ -1,4 +1,4 @@
--- What the tables of a draft say of its arena.
+-- The invariant of drafts: what the tables say of the arena.
 use Rattle.std.specs.Prelude.{◌≡◌, ℕ, ◌<◌, ◌≤◌, ◌^◌, Bool, false, IsFalse, List, [], length, Some, Contains, slice_get, slice_index_or}
 use Rattle.ir_core.specs.Blocks.{IsBlock}
 use Rattle.ir_core.specs.Checks.{IsInst, IsKnown, IsPhi}
@@ -18,8 +18,8 @@ use Rattle.places.specs.Orders.{none}
 use Rattle.draft.specs.Placing.{IsOrdering}
 use Rattle.readers.specs.Readers.{AreReadersOf, IsPlaceIn, IsReader}
 
--- In order stand the numbers of the instructions of a block, each once, whether it was taken out or not; what was reads
--- nothing.
+-- The order of a block has the number of each of its instructions once, of removed ones too, and there is a flag for
+-- each. A removed instruction reads no register.
 pub record AreRowsOf (block : Block) (order : List ℕ) (stand : List Bool) : Type 0 where
   pub few : length block.insts ≤ none
   pub ordered : length order ≡ length block.insts
@@ -32,12 +32,13 @@ pub record AreRowsOf (block : Block) (order : List ℕ) (stand : List Bool) : Ty
 abbrev pub HasNoPhi : Function → Type 0
 HasNoPhi f = (b k : ℕ) (inst : Inst) → IsInst f b k inst → ¬ IsPhi inst.op
 
--- Nor is there a block that isn't reached. So no register is read on a way that leads back to it.
+-- There is no phi, and each block is reached. So def-use chains have no cycles where a function meets its checks.
 pub record HasNoCycles (f : Function) : Type 0 where
   pub reached : (b : ℕ) → b < length f.blocks → IsReached f b
   pub no_phi : HasNoPhi f
 
--- The tables say what the arena is. What is read in it may have been taken out.
+-- The tables fit the arena: there is an order and a row of flags for each block, counts of uses are exact, and use
+-- lists complete. Operands are known to the arena, but may name results of removed instructions.
 pub record IsWhole (d : Draft) : Type 0 where
   pub few : length d.arena.blocks < 2 ^ 32
   pub ordered : length d.orders.items ≡ length d.arena.blocks
@@ -48,7 +49,8 @@ pub record IsWhole (d : Draft) : Type 0 where
   pub readers : AreReadersOf d.arena d.readers
   pub cycles : IsFalse d.has_cycles → HasNoCycles d.arena
 
--- Between steps: what is read stands, and no register waits.
+-- A draft between steps: each result that is read is that of an instruction that stands, and the worklist of dead code
+-- elimination is empty.
 pub record IsSettled (d : Draft) : Type 0 where
   pub whole : IsWhole d
   pub read_stands : (b n : ℕ) (p : Place) → IsPlaceIn d.arena p → IsReader d.arena (registers.Result b n) p → Stands d b n

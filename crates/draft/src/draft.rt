@@ -1,4 +1,4 @@
-//! A function whose instructions have numbers.
+//! Drafts: functions that are rewritten in place.
 
 ghost use Rattle.std.specs.Prelude.{◌≡◌, ◌<◌, ◌≤◌, ◌^◌, ◌↔◌, ℕ, length, map, replicate, true, false, All, IsFalse, IsTrue, IfOk, Some, slice_get};
 ghost use Rattle.std.specs.List.{range_with_len};
@@ -21,28 +21,29 @@ use places::{Order, Place};
 use readers::Readers;
 use std::alloc::{AllocError, Global};
 
-/// A function whose instructions keep their numbers.
+/// A function that is rewritten in place. Its instructions are in an arena, where each keeps its number, the index in
+/// its block there, while others are inserted before it or removed.
 #[derive(Drop)]
 pub struct Draft {
-    /// The instructions of each block by their numbers: what reads a register names its number. One that was taken out
-    /// reads nothing.
+    /// The arena: the instructions of each block by number, and its terminator. Operands name a result by the number of
+    /// its instruction. A removed instruction stays, but reads no register.
     pub arena: Function,
-    /// Which blocks are reached, and how often each register is used.
+    /// Which blocks are reached from the entry, and each register's count of uses.
     pub facts: FunctionFacts,
-    /// In which order the instructions of each block stand.
+    /// The order of each block: the numbers of its instructions, of removed ones too.
     pub orders: Vec<Order>,
-    /// Which instructions stand in the function.
+    /// Which instructions of the arena are in the function: those that weren't removed.
     pub stand: Vec<List<bool>>,
-    /// For each register the places that may read it.
+    /// The use list of each register: all places that read it, and perhaps some that ceased to.
     pub readers: Readers,
-    /// Registers that were read at a place that reads them no more, and those of instructions that came.
+    /// The worklist of dead code elimination: registers that a removed instruction read, and results of inserted ones.
     pub fallen: Vec<Register>,
-    /// Whether a register may be read on a way that leads back to it: by a phi, or in a block that isn't reached.
+    /// Whether def-use chains may have cycles. Where it is false there is no phi, and each block is reached.
     pub has_cycles: bool,
 }
 
 impl Draft {
-    /// The draft of a function. It takes as many steps as the function is long.
+    /// The draft of a function. It is linear in the function's size.
     pub fn of(alloc: Global, f: Function) -> Result<Draft, AllocError>
         requires checks { MeetsChecks f }
         requires blocks { length f.blocks < 2 ^ 32 }
@@ -64,14 +65,14 @@ impl Draft {
         })
     }
 
-    /// The instructions of each block by their numbers.
+    /// The arena: the instructions of each block by number.
     pub fn arena(&self) -> &Function
         ensures { result.now ≡ self.now.arena }
     {
         &self.arena
     }
 
-    /// Which blocks are reached, and how often each register is used.
+    /// Which blocks are reached from the entry, and each register's count of uses.
     pub fn facts(&self) -> &FunctionFacts
         requires { IsWhole self.now }
         ensures { AreFactsOf self.now.arena result.now }
@@ -87,7 +88,7 @@ impl Draft {
         self.arena.blocks.len() as u32
     }
 
-    /// How many numbers the instructions of a block have.
+    /// How many instructions the arena has of a block, removed ones among them.
     pub fn count_in(&self, block: u32) -> u32
         requires whole { IsWhole self.now }
         requires block { block < length self.now.arena.blocks }
@@ -96,7 +97,7 @@ impl Draft {
         self.arena.blocks.as_slice()[block as usize].insts.len() as u32
     }
 
-    /// Whether an instruction stands in the function.
+    /// Whether an instruction of the arena is in the function: it wasn't removed.
     pub fn stands(&self, place: Place) -> bool
         requires whole { IsWhole self.now }
         requires inst { HasInst self.now.arena place.block place.number }
@@ -106,7 +107,7 @@ impl Draft {
     }
 }
 
-/// What the draft of a function says of it.
+/// What the draft of a function keeps beside the arena.
 #[derive(Drop)]
 struct Tables {
     facts: FunctionFacts,
@@ -117,7 +118,7 @@ struct Tables {
 }
 
 impl Tables {
-    /// Those of a function.
+    /// The tables of a function from which nothing was removed.
     fn of(alloc: Global, f: &Function) -> Result<Tables, AllocError>
         requires checks { MeetsChecks f.now }
         requires blocks { length f.now.blocks < 2 ^ 32 }
@@ -155,7 +156,7 @@ fn orders_of(alloc: Global, f: &Function) -> Result<Vec<Order>, AllocError>
     Ok(rows)
 }
 
-/// That each instruction stands in the function.
+/// A flag for each instruction, which says that it is in the function.
 fn all_of(alloc: Global, f: &Function) -> Result<Vec<List<bool>>, AllocError>
     ensures { IfOk result (λ rows. rows.items ≡ map (λ b. replicate (length b.insts) true) f.now.blocks) }
 {

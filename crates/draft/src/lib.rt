@@ -1,7 +1,9 @@
-//! Drafts: functions whose instructions keep their numbers while others are put before them or taken out.
+//! Drafts: functions that are rewritten in place. Each instruction has a number, its index in an arena, which it keeps
+//! while others are inserted before it or removed.
 //!
-//! A draft stands for a function: the instructions of each block in their order, each register at its place. What
-//! changes it, as `draft_steps` does, costs what it changes, and nothing behind it moves.
+//! A draft stands for a function: the instructions of each block that weren't removed, in order, where operands name a
+//! result by its position in the block in place of its number. An edit, as in `draft_steps`, costs what it changes:
+//! nothing behind it moves.
 #![tactic(auto)]
 
 mod draft;

@@ -1,4 +1,4 @@
-//! What is read at the places of a draft.
+//! The use lists of a draft.
 
 ghost use Rattle.std.specs.Prelude.{◌≡◌, ◌↔◌, Contains, IsTrue};
 ghost use Rattle.ir_core.specs.Checks.{IsKnown};
@@ -15,7 +15,7 @@ use readers::{readers_among, reads};
 use std::alloc::Global;
 
 impl Draft {
-    /// Whether what stands at a place reads the register.
+    /// Whether the instruction or terminator at a place reads the register.
     pub fn reads(&self, place: Place, register: Register) -> bool
         requires { IsWhole self.now }
         ensures { IsTrue result ↔ IsReader self.now.arena register place }
@@ -23,8 +23,8 @@ impl Draft {
         reads(&self.arena, place, register)
     }
 
-    /// Forgets what reads a register no more: then the places that are listed are those that read it. All else of the
-    /// draft stays.
+    /// Trims a register's use list: what ceased to read the register is dropped, so the list has exactly the places
+    /// that read it. All else of the draft stays.
     pub fn trim_readers(&mut self, alloc: Global, register: Register)
         requires whole { IsWhole self.old }
         requires known { IsKnown self.old.arena (Operand.Register register) }
@@ -43,7 +43,7 @@ impl Draft {
         let _ = self.readers.exchange(register, listed);
     }
 
-    /// The places that are listed for a register: all that read it, and none else once its readers are trimmed.
+    /// A register's use list: all places that read it, and no others once it is trimmed.
     pub fn readers_of(&self, register: Register) -> &[Place]
         requires whole { IsWhole self.now }
         requires known { IsKnown self.now.arena (Operand.Register register) }

@@ -1,4 +1,4 @@
--- Instructions and blocks that go to their places one by one.
+-- Tables of positions, and instructions and blocks that are done one by one.
 use Rattle.std.proofs.Common.{◌≡◌, inl, inr, ℕ, zero, suc, ◌+◌, ◌<◌, ◌≤◌, min, List, [], ◌∷◌, ◌++◌, length, get_or, set, take, drop, Option, Some, map, refl, sym, ap, subst, ◌∙◌, arith, get_or-set_other, get_or-set_same}
 use Rattle.std.specs.Prelude.{option_to_list, slice_get}
 use Rattle.std.proofs.Math.ListN.{length-set}
@@ -20,7 +20,7 @@ insts_of_more to insts (m ∷ numbers) n inst at =
     ap (λ (l : List Inst). map (substituted_inst to) (option_to_list (slice_get insts m)) ++ l) (insts_of_more to insts numbers n inst at)
     ∙ sym (append_assoc (map (substituted_inst to) (option_to_list (slice_get insts m))) (insts_of to insts numbers) (substituted_inst to inst ∷ []))
 
--- The instructions of the first i numbers went to their places, and those of the others are as they were.
+-- The instructions of the first i numbers are moved out, and those of the others are as they were.
 pub record InstsPlaced (to : Substitution) (all : List Inst) (numbers : List ℕ) (i : ℕ) (insts placed : List Inst) : Type 0 where
   pub size : length insts ≡ length all
   pub done : placed ≡ insts_of to all (take i numbers)
@@ -103,9 +103,9 @@ module _ (to : Substitution) (rows : List (List ℕ)) (all : List Block) (i : �
         size = length-set items i new ∙ so_far.size;
       }
 
--- ---- the table of a block's places
+-- ---- the positions in one block
 
--- each of the first i numbers has its place
+-- the table has the position of each of the first i numbers
 pub record PlacesKept (count : ℕ) (numbers : List ℕ) (i : ℕ) (places : List ℕ) : Type 0 where
   pub size : length places ≡ count
   pub done : (k n : ℕ) → k < i → slice_get numbers k ≡ Some n → get_or places n 0 ≡ k
@@ -131,7 +131,7 @@ place_kept count numbers i places n so_far ordering within here =
       ];
     }
 
--- ---- the tables of all blocks
+-- ---- the positions in all blocks
 
 pub record TablesKept (numbers : List (List ℕ)) (i : ℕ) (rows : List (List ℕ)) : Type 0 where
   pub size : length rows ≡ i
@@ -151,7 +151,7 @@ table_kept numbers i rows row so_far table =
       ];
     }
 
--- the numbers of the next block are its
+-- the numbers of the next block fit it
 pub next_ordering : (to : Substitution) (rows : List (List ℕ)) (all : List Block) (i : ℕ) (items : List Block) → BlocksPlaced to rows all i items → length rows ≡ length all → i < length items → (block : Block) → block ≡ get_or items i block
     → AreOrdered all rows → (row : List ℕ) → row ≡ get_or rows i row → IsOrdering (length block.insts) row
 next_ordering to rows all i items so_far same within block here ordered row row_is =
@@ -162,7 +162,7 @@ next_ordering to rows all i items so_far same within block here ordered row row_
     let is : row ≡ get_or rows i [] = row_is ∙ get_or_default rows i row [] (omega arith) in
     subst (IsOrdering (length block.insts)) (sym is) (ordered i block at)
 
--- the numbers of a block, as they are read
+-- the numbers of a block, as the loop reads them
 pub ordering_at : (blocks : List Block) (rows : List (List ℕ)) (b count : ℕ) (read : List Block) (block : Block) (row found : List ℕ) → AreOrdered blocks rows → length rows ≡ length blocks → b < length rows → read ≡ blocks → count ≡ length (get_or read b block).insts
     → row ≡ found → found ≡ get_or rows b found → IsOrdering count row
 ordering_at blocks rows b count read block row found ordered same within is size row_is found_is =

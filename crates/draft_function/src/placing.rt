@@ -14,7 +14,7 @@ use readers::{Substitute, substitute_end, substitute_inst};
 use std::alloc::{AllocError, Global};
 use std::mem;
 
-/// For each number of each block the place of its instruction.
+/// For each instruction of the arena, by block and number, its position in the function.
 #[derive(Drop)]
 struct Places {
     rows: Vec<List<u32>>,
@@ -32,7 +32,7 @@ impl Substitute for Places {
 }
 
 impl Places {
-    /// The place of an instruction, and 0 where there is none.
+    /// The position of an instruction, and 0 for one that the table doesn't have.
     fn place(&self, block: u32, number: u32) -> u32
         ensures { result ≡ slice_index_or (slice_index_or self.now.rows.items block []) number 0 }
     {
@@ -43,7 +43,7 @@ impl Places {
     }
 }
 
-/// The function that a draft stands for. It takes as many steps as there are numbers.
+/// The function that a draft stands for. It is linear in the size of the arena.
 pub fn function_of(alloc: Global, draft: Draft) -> Result<Function, AllocError>
     requires { IsSettled draft }
     ensures { IfOk result (λ f. f ≡ function_of draft) }
@@ -55,14 +55,15 @@ pub fn function_of(alloc: Global, draft: Draft) -> Result<Function, AllocError>
     Ok(arena)
 }
 
-/// The instructions of a draft, without what it says of them.
+/// The arena of a draft, without its tables.
 fn arena_of(draft: Draft) -> Function
     ensures { result ≡ draft.arena }
 {
     draft.arena
 }
 
-/// Leaves in a draft the instructions that stand there, in order, and puts each register at its place.
+/// Turns the arena into the function: leaves the instructions that stand, in order, and renames results from numbers to
+/// positions.
 fn place_insts(alloc: Global, draft: &mut Draft) -> Result<(), AllocError>
     requires { IsSettled draft.old }
     ensures { OnOk result (draft.new.arena ≡ function_of draft.old) }
@@ -72,7 +73,7 @@ fn place_insts(alloc: Global, draft: &mut Draft) -> Result<(), AllocError>
     place_blocks(alloc, &places, &numbers, &mut draft.arena.blocks)
 }
 
-/// Of each block the numbers of the instructions that stand there, in order.
+/// Of each block the numbers of the instructions that stand, in order.
 fn standing_numbers(
     alloc: Global,
     orders: &[Order],
@@ -105,7 +106,7 @@ fn standing_in(alloc: Global, order: &Order, stand: &[bool]) -> Result<List<u32>
     Ok(numbers)
 }
 
-/// For each number of each block its place among those that stand there.
+/// For each instruction of the arena its position among those that stand in its block.
 fn places_of(alloc: Global, arena: &Function, numbers: &[List<u32>]) -> Result<Places, AllocError>
     requires blocks { length numbers.now ≡ length arena.now.blocks }
     requires insts { All (λ b. length b.insts < 2 ^ 32) arena.now.blocks }
@@ -122,7 +123,7 @@ fn places_of(alloc: Global, arena: &Function, numbers: &[List<u32>]) -> Result<P
     Ok(Places { rows })
 }
 
-/// The same of one block, which has so many numbers.
+/// The same of one block, of which the arena has so many instructions.
 fn places_in(alloc: Global, numbers: &[u32], count: usize) -> Result<List<u32>, AllocError>
     requires count { count < 2 ^ 32 }
     requires ordered { IsOrdering count numbers.now }
@@ -136,7 +137,7 @@ fn places_in(alloc: Global, numbers: &[u32], count: usize) -> Result<List<u32>, 
     Ok(List::from_vec(places))
 }
 
-/// Leaves in blocks the instructions of these numbers, in order, and puts each register at its place.
+/// Leaves in blocks the instructions with these numbers, in order, and renames results from numbers to positions.
 fn place_blocks(
     alloc: Global,
     places: &Places,
@@ -170,7 +171,7 @@ fn place_block(
     Ok(())
 }
 
-/// The instructions of these numbers, with each register at its place.
+/// The instructions with these numbers, where results are renamed from numbers to positions.
 fn placed_insts(
     alloc: Global,
     places: &Places,
@@ -188,7 +189,8 @@ fn placed_insts(
     Ok(placed)
 }
 
-/// An instruction with each register at its place; what is left in its stead reads nothing.
+/// Moves an instruction out, and renames results in it from numbers to positions. What is left in its stead reads no
+/// register.
 fn placed_inst(places: &Places, inst: &mut Inst) -> Inst
     ensures { result ≡ substituted_inst (at_places places.now.rows.items) inst.old }
 {

@@ -1,4 +1,4 @@
--- The matches of an arena are those of its function.
+-- The matches in an arena are those in its function.
 use Rattle.std.proofs.Common.{◌≡◌, ℕ, List, Some, refl, sym, ap, subst, ◌∙◌}
 use Rattle.std.specs.Prelude.{Contains, slice_get}
 use Rattle.std.proofs.lemmas.Option.{get_or_from_slice_get}
@@ -41,10 +41,10 @@ module _ (arena : Function) (rows : List (List ℕ)) (are : AreArranged arena ro
   abbrev F : Function
   F = arranged arena rows
 
-  -- ---- from the arena
+  -- ---- from the arena to the function
 
   module _ (is : MatchesInAnyOrder arena m.block m.place rule m) (stands : Contains (row_of rows m.block) m.place) where
-    -- each statement stands, since it is read
+    -- the instruction that a statement is bound to stands: it is the root's, or its result is read
     each_stands : (j p : ℕ) → slice_get m.statements j ≡ Some (registers.Result m.block p) → Contains (row_of rows m.block) p
     each_stands j p at =
         (each_come arena rule m good is (λ t q. Contains (row_of rows m.block) q) stands (λ t p q i s inst r less has is_inst same is_read reads. are.read_stands m.block p i m.block q r is_read reads) j p at).2
@@ -74,7 +74,7 @@ module _ (arena : Function) (rows : List (List ℕ)) (are : AreArranged arena ro
   -- ---- and back
 
   module _ (n : ℕ) (is : MatchesInAnyOrder F m.block m.place rule m) (at_root : slice_get (row_of rows m.block) m.place ≡ Some n) where
-    -- what an instruction of the arena reads stands
+    -- an instruction of the arena reads only results of instructions that stand
     reads_stand : (b k : ℕ) (inst : Inst) → IsInst arena b k inst → (i : ℕ) (r : Read) → slice_get (reads_of arena b k inst.width inst.op) i ≡ Some r → (s : Register) → r.operand ≡ operands.Register s → IsStanding rows s
     reads_stand b k inst is_inst i r at (registers.Parameter p) reads = tt
     reads_stand b k inst is_inst i r at (registers.Result c d) reads =
@@ -83,7 +83,7 @@ module _ (arena : Function) (rows : List (List ℕ)) (are : AreArranged arena ro
     number_of : (q d : ℕ) → slice_get (row_of rows m.block) q ≡ Some d → numbered rows (registers.Result m.block q) ≡ operands.Register (registers.Result m.block d)
     number_of q d at = ap (λ (k : ℕ). operands.Register (registers.Result m.block k)) (get_or_from_slice_get (row_of rows m.block) q d 0 at)
 
-    -- what a statement is bound to is at the place of a number
+    -- a statement is bound to the position of an instruction of the arena
     record AtNumber (q : ℕ) : Type 0 where
       number : ℕ
       at_place : slice_get (row_of rows m.block) q ≡ Some number

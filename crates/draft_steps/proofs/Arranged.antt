@@ -1,4 +1,4 @@
--- A draft between steps is arranged, and tells what is used once.
+-- A settled draft is given by its arena and the numbers that stand, and tells which registers have exactly one use.
 use Rattle.std.proofs.Common.{◌≡◌, ◌⊎◌, inl, inr, ◌<◌, ℕ, zero, suc, List, [], ◌∷◌, length, get_or, Some, refl, sym, ap, subst, ◌∙◌, arith}
 use Rattle.std.specs.Prelude.{Contains, slice_get}
 use Rattle.std.proofs.lemmas.Bool.{cases_Bool, cases_eq}
@@ -29,7 +29,7 @@ use Rattle.draft.proofs.Rows.{marked, standing_length}
 use Rattle.draft.proofs.Standing.{numbers_ordered}
 use Rattle.draft.proofs.Wholeness.{marked_stands, stands_there}
 
--- what is left where an instruction was taken out reads no register
+-- what is left of a removed instruction reads no register
 gone_reads : (f : Function) (b n w i : ℕ) (op : Op) (r : Read) (register : Register) → op ≡ Freeze operands.Poison → slice_get (reads_of f b n w op) i ≡ Some r
     → r.operand ≡ operands.Register register → ⊥
 gone_reads f b n w i op r register gone at reads = by i (subst (λ (o : Op). slice_get (reads_of f b n w o) i ≡ Some r) gone at)

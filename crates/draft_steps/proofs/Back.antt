@@ -1,4 +1,4 @@
--- What stands for a register of the arena stands for no other: numbers are told from places.
+-- Different instructions have different positions, so positions can be renamed back to numbers.
 use Rattle.std.proofs.Common.{◌≡◌, ℕ, suc, List, [], ◌∷◌, get_or, map, Some, refl, ap, ◌∙◌}
 use Rattle.std.specs.Prelude.{slice_get}
 use Rattle.std.proofs.lemmas.Option.{get_or_from_slice_get}
@@ -18,7 +18,7 @@ use Rattle.draft_steps.specs.Arranged.{row_of}
 use Rattle.draft_steps.proofs.Places.{IsStanding}
 use Rattle.draft_steps.proofs.Rows.{number_there}
 
--- for each register by its place the one of the arena
+-- names a result by its number in the arena, in place of its position
 abbrev pub numbered : List (List ℕ) → Substitution
 numbered rows (registers.Parameter p) = operands.Register (registers.Parameter p)
 numbered rows (registers.Result b k) = operands.Register (registers.Result b (get_or (row_of rows b) k 0))
@@ -29,7 +29,7 @@ module _ (rows : List (List ℕ)) where
   register_back (registers.Result b n) stands =
       ap (λ (m : ℕ). operands.Register (registers.Result b m)) (get_or_from_slice_get (row_of rows b) (place_in (row_of rows b) n) n 0 (number_there (row_of rows b) n stands))
 
-  -- each register that it is stands
+  -- the operand is no result, or one of an instruction that stands
   abbrev pub Stands : Operand → Type 0
   Stands a = (r : Register) → a ≡ operands.Register r → IsStanding rows r
 

@@ -1,4 +1,4 @@
--- A draft of which exactly what isn't needed was taken out has as its function the cleaned one.
+-- Where exactly the dead instructions were removed from a draft, its function is the cleaned one.
 use Rattle.std.proofs.Common.{◌≡◌, ℕ, true, ◌↔◌, List, [], refl, sym, subst}
 use Rattle.std.specs.Prelude.{Contains, slice_index_or}
 use Rattle.ir_core.specs.Reads.{end_of}

@@ -1,4 +1,4 @@
--- When a draft is clean: all that is left of it is needed.
+-- When a draft has no dead code: every instruction that is left is live.
 use Rattle.std.proofs.Common.{◌≡◌, ℕ, Bool, true, cond, inl, inr, List, [], ◌++◌, length, Option, None, Some, refl, sym, ap, subst, ◌∙◌, arith}
 use Rattle.std.specs.Prelude.{Contains, slice_get}
 use Rattle.std.proofs.lemmas.Bool.{cases_eq, eq-eqb, ne_eqb}
@@ -38,18 +38,18 @@ use Rattle.draft_steps.proofs.WhoReads.{InstReads, who}
 use Rattle.draft_steps.proofs.WholeRows.{whole_rows}
 use Rattle.draft.proofs.Wholeness.{stands_there}
 
--- what a terminator reads is needed
+-- what a terminator reads is live
 pub end_needed : (f : Function) (p : Place) (r : Register) → IsReader f r p → p.number ≡ none → IsNeeded f r
 end_needed f p r h end = by_end p.block (subst (λ (k : ℕ). ReadsRegister f p.block k r) (ap (λ c. cond c (end_of f p.block) p.number) (eq-eqb p.number none end)) h)
 
--- what is read at a place is needed, where that is of a terminator or of what is needed
+-- what is read at a place is live, where a terminator or a live instruction is there
 pub read_needed : (f : Function) (p : Place) (r : Register) → IsReader f r p → IsNeeded f (registers.Result p.block p.number) → IsNeeded f r
 read_needed f p r h need = elim (cases_eq p.number none) [
   | inl end ↦ end_needed f p r h end
   | inr inst ↦ by_inst p.block p.number need (subst (λ (k : ℕ). ReadsRegister f p.block k r) (ap (λ c. cond c (end_of f p.block) p.number) (ne_eqb p.number none inst)) h)
 ]
 
--- at first all waits that would be needed with these
+-- dead code elimination may begin with a worklist with which each instruction that stands would be live
 pub cleaning_starts : (d : Draft) (waits : List Register) → ((b n : ℕ) → Stands d b n → IsNeededWith d.arena waits (registers.Result b n)) → IsCleaning d.arena (numbers_of d) d.arena (numbers_of d) (waits ++ [])
 cleaning_starts d waits all =
     subst (λ (l : List Register). IsCleaning d.arena (numbers_of d) d.arena (numbers_of d) l) (sym (append_none waits))
@@ -60,7 +60,7 @@ module _ (old new : Draft) (whole : IsWhole old) (whole_now : IsWhole new) (root
   was_kept b n stands =
       kept_of (is.keep b) (numbers_in old b) n (subst (λ (l : List ℕ). Contains l n) (left_row is.keep old.arena (numbers_of old) new.arena (numbers_of new) is.is_left b) stands)
 
-  -- what stands stood
+  -- an instruction that stands stood before
   pub stood_first : (b n : ℕ) → Stands new b n → Stands old b n
   stood_first b n stands = (was_kept b n stands).0
 
@@ -69,14 +69,14 @@ module _ (old new : Draft) (whole : IsWhole old) (whole_now : IsWhole new) (root
   block_kept keep (Some z) None x y at at' left = absurd cc
   block_kept keep (Some z) (Some z') x y at at' left = subst (λ (w : Block). IsBlockLeft keep w y) (same_Some z x at) (subst (IsBlockLeft keep z) (same_Some z' y at') left)
 
-  -- and is what it was
+  -- and it is the same as before
   pub inst_left : (b n : ℕ) (inst : Inst) → Stands new b n → IsInst old.arena b n inst → IsInst new.arena b n inst
   inst_left b n inst stands at =
       let (block, is_block, lt) = stands_there new whole_now b n stands in
       let left : IsBlockLeft (is.keep b) at.block block = block_kept (is.keep b) (slice_get old.arena.blocks b) (slice_get new.arena.blocks b) at.block block at.is_block is_block (is.is_left.blocks b) in
       record { block = block; is_block = is_block; is_inst = left.kept n inst (was_kept b n stands).1 at.is_inst }
 
-  -- and reads what it read
+  -- and it reads what it read before
   read_first : (b k : ℕ) (r : Register) → Stands new b k → ReadsRegister new.arena b k r → (i : InstReads old.arena b k r) × IsInst new.arena b k i.inst
   read_first b k r stands h =
       elim (who new.arena b k r h) [
@@ -93,7 +93,7 @@ module _ (old new : Draft) (whole : IsWhole old) (whole_now : IsWhole new) (root
             (record { block = block; is_block = is_block; inst = inst; is_inst = here; has = subst (λ (x : Inst). Contains (operands_of x.op) (operands.Register r)) same i.has }, now)
       ]
 
-  -- and each block names what it named
+  -- and each block has the same successors
   names_first : (b c : ℕ) → Names new.arena b c → Names old.arena b c
   names_first b c (block, is_block, named) = by (slice_get old.arena.blocks b) (slice_get new.arena.blocks b) refl is_block (is.is_left.blocks b)
     where
@@ -105,7 +105,7 @@ module _ (old new : Draft) (whole : IsWhole old) (whole_now : IsWhole new) (root
           let end : block.end ≡ x.end = ap (λ (z : Block). z.end) (sym (same_Some y block at')) ∙ left.end in
           (x, at, subst (λ (t : Terminator). Contains (targets_of t) c) end named)
 
-  -- where there are no cycles all that is read is needed
+  -- without cycles, where each instruction that stands has a use, each is live
   pub needed_without_cycles : AreRows old.arena (numbers_of old) → MeetsChecks (function_of old) → HasNoCycles new.arena → AreRead new [] → (b n : ℕ) → Stands new b n → IsNeeded new.arena (registers.Result b n)
   needed_without_cycles good checks none read =
       all_needed new whole_now (IsAssignedAt old)
@@ -116,7 +116,7 @@ module _ (old new : Draft) (whole : IsWhole old) (whole_now : IsWhole new) (root
       (λ b n c k stands h. let (i, now) = read_first c k (registers.Result b n) stands h in assigned_there old good checks b n c k i (stood_first c k stands) (none.no_phi c k i.inst now))
       read
 
--- what was clean and is cleaned again is clean
+-- a draft without dead code has none once it is cleaned again
 module _ (f : Function) (rows : List (List ℕ)) (old new : Draft) (whole : IsWhole old) (whole_now : IsWhole new) (waits used : List Register) (clean : IsCleaning f rows old.arena (numbers_of old) [])
     (again : (f : Function) (rows : List (List ℕ)) → IsCleaning f rows old.arena (numbers_of old) waits → IsCleaning f rows new.arena (numbers_of new) used) where
   own : IsCleaning old.arena (numbers_of old) new.arena (numbers_of new) used
@@ -129,20 +129,20 @@ module _ (f : Function) (rows : List (List ℕ)) (old new : Draft) (whole : IsWh
       (λ b n among stands. own.needed (registers.Result b n) (needed_alone old.arena (registers.Result b n) (clean.waits b n (stood_first old new whole whole_now used own b n stands))))
       (again f rows (cleaning_dropping old whole f rows [] waits (λ r none. absurd (not_in_empty r none)) clean))
 
--- ---- a draft of which what nothing reads was taken out
+-- ---- a draft from which the instructions without uses were removed
 
 module _ (old mid : Draft) (whole : IsWhole old) (whole_mid : IsWhole mid) (used : List Register)
     (is : IsCleaning old.arena (numbers_of old) mid.arena (numbers_of mid) used) where
-  -- is clean where it has no cycles
+  -- has no dead code where its def-use chains have no cycles
   pub clean_without_cycles : ReadsStand old → MeetsChecks (function_of old) → HasNoCycles mid.arena → AreRead mid [] → IsCleaning old.arena (numbers_of old) mid.arena (numbers_of mid) []
   clean_without_cycles stand checks none read =
       cleaning_done mid whole_mid old.arena (numbers_of old) used (λ b n among stands. needed_without_cycles old mid whole whole_mid used is (whole_rows old whole stand) checks none read b n stands) is
 
-  -- and where what is still used is needed
+  -- and where the registers that lost a use and still have one are live
   pub clean_by_uses : ((b n : ℕ) → Contains used (registers.Result b n) → Stands mid b n → IsNeeded mid.arena (registers.Result b n)) → IsCleaning old.arena (numbers_of old) mid.arena (numbers_of mid) []
   clean_by_uses all = cleaning_done mid whole_mid old.arena (numbers_of old) used all is
 
--- what is told of a draft that was cleaned
+-- what is said of a draft from which dead code was removed
 pub record IsMadeClean (old new : Draft) (used : List Register) : Type 0 where
   pub whole : IsWhole new
   pub orders : orders_of new ≡ orders_of old

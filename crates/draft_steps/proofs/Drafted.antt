@@ -17,7 +17,7 @@ pub of_the_arena : TemporariesStandBefore → MatchesOfTheArena
 of_the_arena stand_before rules d b n matches ready settled checks stands found =
     placed_matches stand_before rules ready (arena_of d) (numbers_of d) (is_arranged d settled) checks b n stands matches found
 
--- it is reached through so many operands, and stands
+-- instruction p stands, and a chain of at most so many operands leads to it
 abbrev Come : Draft → ℕ → ℕ → ℕ → ℕ → Type 0
 Come d b n t p = Reaches d t b n p × Stands d b p
 

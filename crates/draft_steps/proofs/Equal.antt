@@ -1,4 +1,4 @@
--- Blocks and functions whose parts are equal.
+-- Blocks and functions are equal where their parts are.
 use Rattle.std.proofs.Common.{◌≡◌, ℕ, List, ap, ◌∙◌}
 use Rattle.ir_core.specs.Names.{Name}
 use Rattle.ir_core.specs.declared.function.Block.{Block}

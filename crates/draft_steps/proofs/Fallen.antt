@@ -1,4 +1,4 @@
--- Of what fell the last is looked at.
+-- The last register is taken off the worklist of dead code elimination.
 use Rattle.std.proofs.Common.{◌≡◌, ℕ, ◌⊎◌, inl, inr, List, [], ◌∷◌, ◌++◌, sym, ap, subst, arith}
 use Rattle.std.specs.Prelude.{Contains, slice_index_or}
 use Rattle.std.proofs.lemmas.List.Elements.{Contains-append_cases, Contains-append_left, Contains-append_right, Contains-push_cases}
@@ -26,7 +26,7 @@ among_last fallen rest used last is r has =
       | inl early ↦ elim (last_among fallen rest last is r early) [ inl old ↦ inl (Contains-append_left rest used r old) | inr it ↦ inr it ]
     ]
 
--- the same arena, of which the same stands
+-- the arena is the same, and so are the instructions that stand
 module _ (old new : Draft) (arena : new.arena ≡ old.arena) where
   pub now_have : (these : List Register) → HaveInsts old these → HaveInsts new these
   now_have these had = λ b n has. subst (λ (f : Function). HasInst f b n) (sym arena) (had b n has)

@@ -1,4 +1,4 @@
--- Those of a list of which something holds, where that is decided for each.
+-- The items of a list with a property that is decided for each.
 use Rattle.std.proofs.Common.{◌⊎◌, inl, inr, List, [], ◌∷◌, get_or, sym, subst}
 use Rattle.std.specs.Prelude.{AllPairs, Contains}
 use Rattle.std.proofs.lemmas.List.Elements.{All-contains, Contains-get_or}

@@ -3,7 +3,7 @@ use Rattle.std.proofs.Common.{◌≡◌, ◌⊎◌, inl, inr, ℕ, zero, suc, �
 use Rattle.std.specs.Prelude.{Contains}
 use Rattle.ir_meaning.proofs.Pieces.{cases_in, first_in, later_in, not_in_empty}
 
--- all but one of them
+-- the list without one of its items
 record Others {A : Type 0} (xs : List A) (x : A) : Type 0 where
   others : List A
   fewer : length xs ≡ suc (length others)
@@ -29,7 +29,7 @@ others_of (z ∷ xs) x there = elim (cases_in z xs x there) [
       }
 ]
 
--- what holds of each where it holds of all behind it
+-- a property that an item has where all behind it have it, is one of all items
 module _ {A : Type 0} (Before : A → A → Type 0) (apart : (x : A) → ¬ Before x x) (transitive : (x y z : A) → Before x y → Before y z → Before x z)
     (P : A → Type 0) (step : (x : A) → ((y : A) → Before x y → P y) → P x) where
   before_few : (n : ℕ) (xs : List A) → length xs ≤ n → (x : A) → ((y : A) → Before x y → Contains xs y) → P x

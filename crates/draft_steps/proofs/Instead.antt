@@ -1,4 +1,4 @@
--- An arena with what is put in it, and an operand that stands for the root's register.
+-- An arena with inserted instructions, in which the root's register is replaced by an operand.
 use Rattle.std.proofs.Common.{◌≡◌, ◌≢◌, ℕ, ◌⊎◌, inl, inr, cond, List, ◌∷◌, ◌++◌, map, Some, refl, sym, ap, subst, ◌∙◌}
 use Rattle.std.specs.Prelude.{Contains, slice_get, option_map}
 use Rattle.std.proofs.lemmas.Bool.{cases_eq}
@@ -27,7 +27,7 @@ use Rattle.draft_steps.proofs.OneChange.{changed_here, changed_other}
 use Rattle.draft_steps.proofs.Silencing.{taken_out_is_silenced}
 use Rattle.draft_steps.proofs.WhoReads.{EndReads, InstReads, end_reads_it, inst_reads_it, no_inst_at_end, who}
 
--- ---- one register, and the others
+-- ---- the root's register, and the others
 
 pub instead_it : (from : Register) (to : Operand) (r : Register) → r ≡ from → instead from to r ≡ to
 instead_it from to r same = ap (λ (s : Register). instead from to s) same ∙ ap (λ c. cond c to (operands.Register from)) (same_register_self from)
@@ -45,7 +45,7 @@ module _ (f : Function) (b n : ℕ) (put : List Inst) (result : Operand) (no_roo
   abbrev g : Function
   g = replaced (with_put f b put) root result
 
-  -- the block with what is put
+  -- the block with the inserted instructions
   abbrev with_more : Block → Block
   with_more block = record { name = block.name; insts = block.insts ++ put; end = block.end }
 
@@ -66,7 +66,7 @@ module _ (f : Function) (b n : ℕ) (put : List Inst) (result : Operand) (no_roo
   pub block_back : (c : ℕ) (new : Block) → IsBlock g c new → (more : Block) × IsBlock (with_put f b put) c more × (substituted_block sigma more ≡ new)
   block_back c new is = mapped (substituted_block sigma) (slice_get (with_put f b put).blocks c) new (sym (slice_get-map (substituted_block sigma) (with_put f b put).blocks c) ∙ is)
 
-  -- ---- what reads a register reads what stands for it
+  -- ---- what read a register reads its replacement
 
   inst_on : (c k : ℕ) (r s : Register) → sigma r ≡ operands.Register s → InstReads f c k r → ReadsRegister g c k s
   inst_on c k r s stands i =
@@ -82,7 +82,7 @@ module _ (f : Function) (b n : ℕ) (put : List Inst) (result : Operand) (no_roo
       let there : Contains (map (substituted_operand sigma) (operands_at_end more.end)) (operands.Register s) = subst (λ x. Contains (map (substituted_operand sigma) (operands_at_end x)) (operands.Register s)) (sym same_end) has in
       end_reads_it g c (substituted_block sigma more) s (block_on c more is) (subst (λ (l : List Operand). Contains l (operands.Register s)) (sym (end_substituted sigma more.end)) there)
 
-  -- ---- nothing reads the root
+  -- ---- nothing reads the root's register
 
   no_operand : (a : Operand) → substituted_operand sigma a ≡ operands.Register root → ⊥
   no_operand (operands.Register r) e =
@@ -117,7 +117,7 @@ module _ (f : Function) (b n : ℕ) (put : List Inst) (result : Operand) (no_roo
       by r (by_end c h) is = none_reads_root c (end_of g c) (subst (ReadsRegister g c (end_of g c)) is h)
       by r (by_inst c k need h) is = none_reads_root c k (subst (ReadsRegister g c k) is h)
 
-  -- ---- what was needed would be, if the root were
+  -- ---- what was live would be so, if the root were
 
   module _ (others : List Register) where
     pub needed_with_root : (r : Register) → IsNeeded f r → IsNeededWith g (root ∷ others) r
@@ -142,7 +142,7 @@ module _ (f : Function) (b n : ℕ) (put : List Inst) (result : Operand) (no_roo
         by r (by_end c h) (inr other) = by_terminator c r h other
         by r (by_inst c k need h) (inr other) = by_reader c k r h (by (registers.Result c k) need (is_same_register (registers.Result c k) root)) other
 
-  -- and what stands for the root's register is needed, where the root was
+  -- the operand that replaced the root's register is live, where the root was
   module _ (s : Register) (stands : result ≡ operands.Register s) where
     result_or : (r : Register) → IsNeeded f r → (IsNeeded g r × ¬ (r ≡ root)) ⊎ IsNeeded g s
     result_or r (by_end c h) =

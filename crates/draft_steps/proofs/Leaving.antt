@@ -1,4 +1,4 @@
--- A draft of which instructions are taken out has as its function what is kept.
+-- Where instructions are removed from a draft, its function is the old one with those that are kept.
 use Rattle.std.proofs.Common.{◌≡◌, ℕ, suc, ◌+◌, Bool, true, false, cond, List, [], ◌∷◌, Option, None, Some, refl, sym, ap, ◌∙◌, arith}
 use Rattle.std.specs.Prelude.{Contains, slice_get, slice_index_or, option_map, unwrap_or}
 use Rattle.std.specs.List.{filter}
@@ -24,15 +24,15 @@ use Rattle.draft_steps.proofs.Mapping.{moved_end_is_at, moved_inst_is_at}
 use Rattle.draft_steps.proofs.RowPlaces.{Marks, is_in, marks_here, marks_later, place_kept}
 use Rattle.draft.proofs.InstsOf.{AreNumbersOf, both, get_blocks, insts_more, rest_numbers}
 
--- the function of these instructions and numbers
+-- the function of an arena and the numbers that stand in each block
 abbrev pub function_at : Function → List (List ℕ) → Function
 function_at f rows = record { name = f.name; before = f.before; width = f.width; parameters = f.parameters; after = f.after; blocks = blocks_of (placed rows) rows f.blocks }
 
--- of each place whether the number there is kept
+-- for each position whether the instruction there is kept
 abbrev pub marks_of : (ℕ → ℕ → Bool) → List (List ℕ) → KeptMarks
 marks_of keep rows b k = keep b (slice_index_or (slice_index_or rows b []) k 0)
 
--- the register's instruction stands, and is kept
+-- the operand is no result, or one of an instruction that stands and is kept
 abbrev pub StaysIn : (ℕ → ℕ → Bool) → List (List ℕ) → Operand → Type 0
 StaysIn keep rows (operands.Register (registers.Result c m)) = Contains (slice_index_or rows c []) m × (keep c m ≡ true)
 StaysIn keep rows (operands.Register (registers.Parameter p)) = Unit {0}
@@ -40,7 +40,7 @@ StaysIn keep rows (operands.Number n) = Unit {0}
 StaysIn keep rows operands.Undef = Unit {0}
 StaysIn keep rows operands.Poison = Unit {0}
 
--- what is kept reads what is kept
+-- what is kept reads only results of what is kept
 pub record ReadsStay (keep : ℕ → ℕ → Bool) (f : Function) (rows : List (List ℕ)) : Type 0 where
   pub insts : (b n : ℕ) (block : Block) (row : List ℕ) (i : Inst) → IsBlock f b block → slice_get rows b ≡ Some row → slice_get block.insts n ≡ Some i → Contains row n → keep b n ≡ true
       → (a : Operand) → Contains (operands_of i.op) a → StaysIn keep rows a
@@ -77,7 +77,7 @@ module _ (keep : ℕ → ℕ → Bool) (f : Function) (rows : List (List ℕ)) (
   stays_moved operands.Undef stays = refl
   stays_moved operands.Poison stays = refl
 
-  -- the instructions of a block, from a place on
+  -- the instructions of a block, from a position on
   insts_left : (b j : ℕ) (old new : List Inst) (row : List ℕ) → AreNumbersOf old row
       → Marks (marks_of keep rows) b (keep b) j row
       → ((n : ℕ) (i : Inst) → keep b n ≡ true → slice_get old n ≡ Some i → slice_get new n ≡ Some i)

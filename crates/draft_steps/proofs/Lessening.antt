@@ -1,4 +1,4 @@
--- A draft of which instructions that aren't needed are taken out.
+-- A draft from which dead instructions are removed.
 use Rattle.std.proofs.Common.{◌≡◌, ℕ, inl, List, [], ◌++◌, refl, sym, subst, ◌∙◌}
 use Rattle.std.specs.List.{filter_map}
 use Rattle.std.proofs.lemmas.List.Elements.{Contains-append_right}
@@ -51,7 +51,7 @@ module _ (old mid new : Draft) (less : IsLess old mid) (b n : ℕ) (stands : Sta
   un_now : ¬ IsNeeded mid.arena (registers.Result b n)
   un_now need = un (less.was_needed (registers.Result b n) need)
 
-  -- what stands did, and is another
+  -- what stands then stood before, and is another
   pub stood_other : (c m : ℕ) → Stands new c m → Stands mid c m × ((c ≡ b) × (m ≡ n) → ⊥)
   stood_other = stood mid new less.whole b n has arena numbers fallen
 
@@ -66,7 +66,7 @@ module _ (old mid new : Draft) (less : IsLess old mid) (b n : ℕ) (stands : Sta
     reads = λ was fell keeps. uses_less mid new less.whole b n has arena numbers fallen was (mid.fallen.items ++ fell) fell (λ r among. inl among) (less.reads was fell keeps);
   }
 
--- where what is left was needed, all of it is
+-- where all that is left was live, it is live
 pub all_less : (old new : Draft) → IsWhole old → IsWhole new → ((r : Register) → IsNeeded old.arena r → IsNeeded new.arena r) → ((b n : ℕ) → Stands new b n → IsNeeded old.arena (registers.Result b n))
     → (f : Function) (rows : List (List ℕ)) (waits : List Register)
     → (IsCleaning f rows old.arena (numbers_of old) (old.fallen.items ++ waits) → IsCleaning f rows new.arena (numbers_of new) (new.fallen.items ++ waits))

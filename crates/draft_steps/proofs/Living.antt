@@ -1,4 +1,4 @@
--- What is needed, or would be, where an instruction reads nothing any more.
+-- What is live, or would be if some registers were, where one instruction comes to read nothing.
 use Rattle.std.proofs.Common.{◌≡◌, ℕ, ◌<◌, ◌⊎◌, inl, inr, List, [], sym, subst, arith}
 use Rattle.std.specs.Prelude.{Contains}
 use Rattle.ir_core.specs.Reads.{end_of}
@@ -14,13 +14,13 @@ needed_alone f r (ends b h) = by_end b h
 needed_alone f r (reads b k need h) = by_inst b k (needed_alone f (registers.Result b k) need) h
 needed_alone f r (is_one has) = absurd (not_in_empty r has)
 
--- where each of these would be needed with those
+-- one worklist can be exchanged for another with which each of its registers would be live
 pub needed_through : (f : Function) (roots others : List Register) → ((r : Register) → Contains roots r → IsNeededWith f others r) → (r : Register) → IsNeededWith f roots r → IsNeededWith f others r
 needed_through f roots others all r (ends b h) = ends b h
 needed_through f roots others all r (reads b k need h) = reads b k (needed_through f roots others all (registers.Result b k) need) h
 needed_through f roots others all r (is_one has) = all r has
 
--- One instruction reads nothing in the second, and all else reads what it did.
+-- One instruction reads no register in the second function, and all else reads what it does in the first.
 pub record IsSilenced (f g : Function) (b n : ℕ) : Type 0 where
   pub within : n < end_of f b
   pub end : (c : ℕ) → end_of g c ≡ end_of f c
@@ -57,7 +57,7 @@ module _ (f g : Function) (b n : ℕ) (is : IsSilenced f g b n) where
   needed_was r (by_end c h) = by_end c (subst (λ (k : ℕ). ReadsRegister f c k r) (is.end c) (is.back c (end_of g c) r h))
   needed_was r (by_inst c k need h) = by_inst c k (needed_was (registers.Result c k) need) (is.back c k r h)
 
-  -- where what it read is among the others, and so is each root but it
+  -- the worklist gets all that the instruction read, and loses only its own register
   module _ (roots others : List Register) (all : (r : Register) → Contains roots r → Contains others r ⊎ (r ≡ registers.Result b n)) (read : (r : Register) → ReadsRegister f b n r → Contains others r) where
     pub needed_less : (r : Register) → IsNeededWith f roots r → IsNeededWith g others r ⊎ (r ≡ registers.Result b n)
     needed_less r (ends c h) = inl (ends c (end_stays c r h))

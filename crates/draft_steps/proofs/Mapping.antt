@@ -1,4 +1,4 @@
--- Instructions and terminators with what a function makes of each operand.
+-- Instructions and terminators in which each operand is changed.
 use Rattle.std.proofs.Common.{◌≡◌, ℕ, List, [], ◌∷◌, refl, ap, ◌∙◌, map, sym}
 use Rattle.std.specs.Prelude.{Contains}
 use Rattle.ir_core.specs.declared.instruction.Inst.{Inst}
@@ -37,7 +37,7 @@ changed_end to (terminators.Branch c b other) = terminators.Branch (to c) b othe
 changed_end to (terminators.Switch a width other cases) = terminators.Switch (to a) width other cases
 changed_end to terminators.Unreachable = terminators.Unreachable
 
--- ---- what substitutions and moves are
+-- ---- substitutions and moves are such changes
 
 substituted_is : (to : Substitution) (op : Op) → substituted_op to op ≡ changed_op (substituted_operand to) op
 substituted_is to (Binary op flags x y) = refl
@@ -80,7 +80,7 @@ moved_end_is kept (terminators.Branch c b other) = refl
 moved_end_is kept (terminators.Switch a width other cases) = refl
 moved_end_is kept terminators.Unreachable = refl
 
--- ---- two changes that agree on what is read
+-- ---- two changes that agree on the operands
 
 abbrev pub Agree : Change → Change → List Operand → Type 0
 Agree f g reads = (a : Operand) → Contains reads a → f a ≡ g a
@@ -145,7 +145,7 @@ end_twice f g terminators.Unreachable = refl
 
 -- ---- substitutions one after another
 
--- what stands for each operand in two steps is what stands for it in two others
+-- two ways in two steps, which lead from each operand to the same one
 pub insts_meet : (f f' : Change) (to to' : Substitution) (inst : Inst)
     → Agree (λ a. f (substituted_operand to a)) (λ a. f' (substituted_operand to' a)) (operands_of inst.op)
     → changed_inst f (substituted_inst to inst) ≡ changed_inst f' (substituted_inst to' inst)
@@ -162,7 +162,7 @@ ends_meet f f' to to' end same =
     ∙ (end_agree (λ a. f (substituted_operand to a)) (λ a. f' (substituted_operand to' a)) end same
     ∙ (sym (end_twice f' (substituted_operand to') end) ∙ ap (changed_end f') (sym (substituted_end_is to' end)))))
 
--- an instruction at its place that is moved is that instruction at another
+-- an instruction whose results are renamed to positions, and then moved, is that with results renamed to the new ones
 pub moved_inst_is_at : (kept : KeptMarks) (to to' : Substitution) (inst : Inst) → Agree (λ a. moved_operand kept (substituted_operand to a)) (substituted_operand to') (operands_of inst.op)
     → moved_inst kept (substituted_inst to inst) ≡ substituted_inst to' inst
 moved_inst_is_at kept to to' inst same =
@@ -175,7 +175,7 @@ moved_end_is_at kept to to' end same =
     moved_end_is kept (substituted_end to end) ∙ (ap (changed_end (moved_operand kept)) (substituted_end_is to end)
     ∙ (end_twice (moved_operand kept) (substituted_operand to) end ∙ (end_agree (λ a. moved_operand kept (substituted_operand to a)) (substituted_operand to') end same ∙ sym (substituted_end_is to' end))))
 
--- what is read then is what stands for what was read
+-- the operands after a substitution are those before it, each substituted
 pub operands_substituted : (to : Substitution) (op : Op) → operands_of (substituted_op to op) ≡ map (substituted_operand to) (operands_of op)
 operands_substituted to (Binary op flags x y) = refl
 operands_substituted to (Compare pred samesign width x y) = refl
@@ -196,7 +196,7 @@ end_substituted to (terminators.Branch c b other) = refl
 end_substituted to (terminators.Switch a width other cases) = refl
 end_substituted to terminators.Unreachable = refl
 
--- two substitutions, one after the other, are two others where they agree on what is read
+-- two substitutions, one after the other, are two others where they agree on the operands
 pub insts_follow : (a b c d : Substitution) (inst : Inst) → Agree (λ x. substituted_operand a (substituted_operand b x)) (λ x. substituted_operand c (substituted_operand d x)) (operands_of inst.op)
     → substituted_inst a (substituted_inst b inst) ≡ substituted_inst c (substituted_inst d inst)
 insts_follow a b c d inst same = substituted_inst_is a (substituted_inst b inst) ∙ (insts_meet (substituted_operand a) (substituted_operand c) b d inst same ∙ sym (substituted_inst_is c (substituted_inst d inst)))

@@ -1,4 +1,4 @@
--- Where instructions are put, and an operand for a register, all other registers are read by as many operands as
+-- Where instructions are inserted and the uses of one register are replaced, every other register has as many uses as
 -- before, or more.
 use Rattle.std.proofs.Common.{◌≡◌, ℕ, zero, suc, ◌≤◌, inl, inr, cond, List, [], ◌∷◌, ◌++◌, map, ap, ◌∙◌, arith}
 use Rattle.std.specs.Prelude.{sum_by}

@@ -1,4 +1,4 @@
--- What is needed in a draft's function is what is needed in its arena.
+-- The same instructions are live in a draft's function and in its arena.
 use Rattle.std.proofs.Common.{◌≡◌, ℕ, ◌<◌, Bool, true, ◌⊎◌, inl, inr, ◌↔◌, List, [], length, map, Option, None, Some, refl, sym, ap, subst, ◌∙◌, arith}
 use Rattle.std.specs.Prelude.{Contains, slice_get, slice_index_or, unwrap_or}
 use Rattle.std.proofs.lemmas.Option.{same_Some, slice_get_within, unwrap_or-slice_get}
@@ -25,7 +25,7 @@ use Rattle.draft_steps.proofs.WhoReads.{EndReads, InstReads, end_of-is, end_read
 use Rattle.draft_steps.proofs.RowPlaces.{at_place, is_in, one_place}
 use Rattle.draft.proofs.InstsOf.{AreNumbersOf, both, get_blocks, inst_at, inst_from, length-insts_of}
 
--- a register that is named by its number, by its place
+-- a result named by its position, in place of its number
 abbrev pub placed_register : List (List ℕ) → Register → Register
 placed_register rows (registers.Parameter p) = registers.Parameter p
 placed_register rows (registers.Result b n) = registers.Result b (place_in (slice_index_or rows b []) n)
@@ -34,12 +34,12 @@ placed_is : (rows : List (List ℕ)) (r : Register) → placed rows r ≡ operan
 placed_is rows (registers.Parameter p) = refl
 placed_is rows (registers.Result b n) = refl
 
--- somebody reads what is needed
+-- a live register has a use
 pub reader_of : (f : Function) (r : Register) → IsNeeded f r → (b : ℕ) × (k : ℕ) × ReadsRegister f b k r
 reader_of f r (by_end b h) = (b, end_of f b, h)
 reader_of f r (by_inst b k need h) = (b, k, h)
 
--- The rows name instructions of the arena, each once, and what is read stands in them.
+-- The rows have numbers of instructions of the arena, each once, and each result that is read is of one of them.
 pub record AreRows (f : Function) (rows : List (List ℕ)) : Type 0 where
   pub row : (b : ℕ) (block : Block) → IsBlock f b block → (numbers : List ℕ) × (slice_get rows b ≡ Some numbers)
   pub numbers : (b : ℕ) (block : Block) (row : List ℕ) → IsBlock f b block → slice_get rows b ≡ Some row → AreNumbersOf block.insts row
@@ -49,7 +49,7 @@ pub record AreRows (f : Function) (rows : List (List ℕ)) : Type 0 where
 pub row_is : (rows : List (List ℕ)) (b : ℕ) (row : List ℕ) → slice_get rows b ≡ Some row → slice_index_or rows b [] ≡ row
 row_is rows b row at = sym (unwrap_or-slice_get rows b []) ∙ ap (λ (o : Option (List ℕ)). unwrap_or o []) at
 
--- a block of the function at its places is one of the arena
+-- a block of the function is one of the arena, where results are named by position
 pub record IsPlacedBlock (f : Function) (rows : List (List ℕ)) (b : ℕ) (new : Block) : Type 0 where
   pub row : List ℕ
   pub block : Block
@@ -75,7 +75,7 @@ module _ (f : Function) (rows : List (List ℕ)) (good : AreRows f rows) where
       by (Some row) None at is h = absurd cc
       by (Some row) (Some block) at is h = record { row = row; block = block; at = at; is_block = is; is = same_Some (block_of to row block) new h }
 
-  -- a number of a row, at its place
+  -- a number of a row is at its position
   pub place_of : (b : ℕ) (block : Block) (row : List ℕ) (n : ℕ) → slice_get rows b ≡ Some row → Contains (slice_index_or rows b []) n → slice_get row (place_in (slice_index_or rows b []) n) ≡ Some n
   place_of b block row n at has = ap (λ (l : List ℕ). slice_get l (place_in (slice_index_or rows b []) n)) (sym (row_is rows b row at)) ∙ at_place (slice_index_or rows b []) n (is_in (slice_index_or rows b []) n has)
 
@@ -116,9 +116,9 @@ module _ (f : Function) (rows : List (List ℕ)) (good : AreRows f rows) where
         | inr e ↦ absurd (let lt : k < length e.block.insts = within b e.block k e.is_block stands in let last : k ≡ length e.block.insts = e.last in omega arith)
       ]
 
-  -- ---- and the other way round
+  -- ---- and back
 
-  -- an operand that is this register at its place is the register
+  -- an operand that is named so is a result at this position
   origin : (b j : ℕ) (a : Operand) → substituted_operand to a ≡ operands.Register (registers.Result b j) → (m : ℕ) × (a ≡ operands.Register (registers.Result b m)) × (place_in (slice_index_or rows b []) m ≡ j)
   origin b j (operands.Register (registers.Result c m)) e =
       let same : operands.Register (registers.Result c (place_in (slice_index_or rows c []) m)) ≡ operands.Register (registers.Result b j) = e in
@@ -130,14 +130,14 @@ module _ (f : Function) (rows : List (List ℕ)) (good : AreRows f rows) where
   origin b j operands.Undef e = absurd cc
   origin b j operands.Poison e = absurd cc
 
-  -- how many instructions a block has then
+  -- how many instructions the function has of a block
   count_of : (c : ℕ) (new : Block) → IsBlock F c new → end_of F c ≡ length (slice_index_or rows c [])
   count_of c new is =
       let p = block_back c new is in
       end_of-is F c new is ∙ (sym (ap (λ (x : Block). length x.insts) p.is)
       ∙ (length-insts_of to p.block.insts p.row (good.numbers c p.block p.row p.is_block p.at) ∙ sym (ap (λ (l : List ℕ). length l) (row_is rows c p.row p.at))))
 
-  -- who reads a place reads the number that stands there
+  -- what reads a register at a position reads it at the number there
   abbrev pub EndsRead : ℕ → ℕ → Register → Type 0
   EndsRead c l r = (l ≡ end_of F c) × ReadsRegister f c (end_of f c) r
 
@@ -188,7 +188,7 @@ module _ (f : Function) (rows : List (List ℕ)) (good : AreRows f rows) where
       let row : List ℕ = slice_index_or rows c [] in
       good.once c (place_in row n) l n (at_place row n (is_in row n (contains_at row l n at))) at
 
-  -- what is needed stands before the end
+  -- a live instruction has a position in its block
   needed_before_end : (c k : ℕ) → IsNeeded F (registers.Result c k) → k < length (slice_index_or rows c [])
   needed_before_end c k need =
       let reader = reader_of F (registers.Result c k) need in
@@ -216,7 +216,7 @@ module _ (f : Function) (rows : List (List ℕ)) (good : AreRows f rows) where
             (subst (λ (m : ℕ). ReadsRegister f c inst.0 (registers.Result b m)) number inst.3)
       ]
 
-  -- where exactly what is needed in the arena is kept, so it is in the function
+  -- where exactly the live instructions of the arena are kept, exactly those of the function are
   module _ (keep : ℕ → ℕ → Bool) (keeps : (b n : ℕ) → Contains (slice_index_or rows b []) n → (keep b n ≡ true) ↔ IsNeeded f (registers.Result b n)) where
     pub keeps_needed : KeepsNeeded F (marks_of keep rows)
     keeps_needed b k (new, is_block, lt) =

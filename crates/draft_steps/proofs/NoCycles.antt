@@ -1,5 +1,5 @@
--- What an instruction reads is assigned there, in the function of a draft that meets its checks: an order of what
--- stands in reached blocks.
+-- In the function of a draft that meets its checks, a register is assigned wherever it is read, but by a phi. That is a
+-- strict order of the instructions in reached blocks.
 use Rattle.std.proofs.Common.{ℕ, List, sym, ap, subst, ◌∙◌}
 use Rattle.std.specs.Prelude.{Contains, slice_get}
 use Rattle.ir_core.specs.Assigned.{IsAssigned}

@@ -1,4 +1,4 @@
--- A rule that matches in a draft's function is applied to it by what it puts in the arena.
+-- A rewrite of a draft is the rewrite of its function, where the rule matches in the function.
 use Rattle.std.proofs.Common.{◌≡◌, ◌≢◌, ℕ, zero, suc, ◌+◌, ◌-◌, ◌<◌, ◌≤◌, inl, inr, cond, not, List, [], ◌∷◌, length, map, Option, None, Some, refl, sym, ap, subst, ◌∙◌, arith}
 use Rattle.std.specs.Prelude.{Contains, flat_map, slice_get, slice_index_or, option_map, unwrap_or}
 use Rattle.std.specs.List.{range_with_len}
@@ -69,7 +69,7 @@ range_has a zero i lt = absurd (omega arith)
 range_has a (suc l) zero lt = let here : a ≡ a + 0 = omega arith in subst (Contains (a ∷ range_with_len (a + 1) l)) here (first_in a (range_with_len (a + 1) l))
 range_has a (suc l) (suc i) lt = let next : a + 1 + i ≡ a + suc i = omega arith in later_in a (range_with_len (a + 1) l) (a + suc i) (subst (Contains (range_with_len (a + 1) l)) next (range_has (a + 1) l i (omega arith)))
 
--- ---- as many instructions are put as are counted
+-- ---- as many instructions are inserted as the target has that are no copies
 
 one_put : (rule : Rule) (m : Binding) (name : Name) (N : ℕ) (op : RuleOp) → length (insts_of_op rule m name N op) ≡ cond (not (is_copy op)) 1 0
 one_put rule m name N (rule_ops.Binary opcode flags a b) = refl
@@ -99,7 +99,7 @@ module _ (stands_before : ReadsStandBefore) (rule : Rule) (f : Function) (rows :
   abbrev to : Substitution
   to = placed rows
 
-  -- the root's block and place
+  -- the numbers of the root's block
   abbrev row : List ℕ
   row = slice_index_or rows m.block []
 
@@ -109,12 +109,12 @@ module _ (stands_before : ReadsStandBefore) (rule : Rule) (f : Function) (rows :
   abbrev pm : Binding
   pm = moved_binding to P m
 
-  -- an operand that stands at the root, and before it where it is of the root's block
+  -- the operand is no result, or one of an instruction that stands, before the root if it is in the root's block
   abbrev IsLow : Operand → Type 0
   IsLow a = (c q : ℕ) → a ≡ operands.Register (registers.Result c q) → Contains (slice_index_or rows c []) q × (c ≡ m.block → place_in row q < P)
 
   module _ (checks : MeetsChecks F) (is_rule : IsRule rule) (is : IsMatch F m.block P rule pm) where
-    -- a register of which the place is read in the function stands
+    -- a result that is read in the function is of an instruction that stands
     stands_read : (c l d q : ℕ) → ReadsRegister F c l (registers.Result d (place_in (slice_index_or rows d []) q)) → Contains (slice_index_or rows d []) q
     stands_read c l d q h =
         let from = read_back f rows good c l d (place_in (slice_index_or rows d []) q) (registers.Result d (place_in (slice_index_or rows d []) q)) refl h in
@@ -131,7 +131,7 @@ module _ (stands_before : ReadsStandBefore) (rule : Rule) (f : Function) (rows :
               omega arith
         ]
 
-    -- an input is read by an instruction that is no phi and doesn't stand behind the root
+    -- a rule's input is bound to what is read by an instruction that is no phi and not behind the root
     record IsInputRead (a : Operand) : Type 0 where
       pub place : ℕ
       pub inst : Inst
@@ -180,7 +180,7 @@ module _ (stands_before : ReadsStandBefore) (rule : Rule) (f : Function) (rows :
               omega (arith, early, le),
         )
 
-    -- and it is known
+    -- and it is known to the function
     pub input_known : (i : ℕ) (a : Operand) → i < length rule.inputs → slice_get m.inputs i ≡ Some a → IsKnown F (substituted_operand to a)
     input_known i a lt at = let x = input_read i a lt at in subst (IsKnown F) x.operand (checks.formed.registers m.block x.place x.index x.read x.is_read)
 
@@ -200,7 +200,7 @@ module _ (stands_before : ReadsStandBefore) (rule : Rule) (f : Function) (rows :
             let here : place_in row q ≡ place = subst (λ (d : ℕ). place_in (slice_index_or rows d []) q ≡ place) block number in
             (q, ap (λ d. registers.Result d q) block, subst (λ (k : ℕ). k < P) (sym here) lt)
 
-    -- ---- what is put
+    -- ---- the inserted instructions
 
     -- the root stands, and is an instruction of the arena
     pub record IsRootIn : Type 0 where
@@ -249,7 +249,7 @@ module _ (stands_before : ReadsStandBefore) (rule : Rule) (f : Function) (rows :
       abbrev g : Operand → Operand
       g a = substituted_operand (placed rows') (substituted_operand sigma a)
 
-      -- as many are put as are counted
+      -- as many are inserted as the target has that are no copies
       count : length w.put ≡ count_put rule.target
       count = put_count rule (numbered f m) name rule.target
 
@@ -262,7 +262,7 @@ module _ (stands_before : ReadsStandBefore) (rule : Rule) (f : Function) (rows :
           above : (p q : ℕ) → p ≡ q → p < q → ⊥
           above p q same lt = omega arith
 
-      -- what stands before the root is the same then
+      -- an operand from before the root has the same name in the new function
       low_same : (a : Operand) → IsLow a → g a ≡ substituted_operand to a
       low_same (operands.Register (registers.Result c q)) low =
           let (has, before) = low c q refl in
@@ -325,7 +325,7 @@ module _ (stands_before : ReadsStandBefore) (rule : Rule) (f : Function) (rows :
               ap (substituted_operand (placed rows')) (instead_other (registers.Result m.block m.place) w.result (registers.Result m.block q) (not_root m.block q (λ same. low)))
               ∙ ap (λ k. operands.Register (registers.Result m.block k)) (low_place f rows good m.block m.place (length w.put) root.block root.is_block root.stands q low)
 
-      -- ---- what is read of it stands
+      -- ---- what they read is of instructions that stand
 
       abbrev Stands : Operand → Type 0
       Stands = StandsThen f rows good m.block m.place w.put w.result root.block root.is_block root.stands
@@ -354,7 +354,7 @@ module _ (stands_before : ReadsStandBefore) (rule : Rule) (f : Function) (rows :
       input_is : (i : ℕ) (P' : Operand → Type 0) (a : Operand) → slice_get m.inputs i ≡ Some a → P' a → P' (slice_index_or m.inputs i operands.Poison)
       input_is i P' a at h = subst P' (sym (get_or_from_slice_get m.inputs i a operands.Poison at)) h
 
-      -- a temporary of the source
+      -- a temporary of the source stands before the root
       temporary_low : (j : ℕ) (r : Register) → suc j < length rule.source → slice_get m.statements j ≡ Some r → IsLow (operands.Register r)
       temporary_low j r early at c q same =
           let (k, is_result, low) = source_of j r early at in
@@ -396,7 +396,7 @@ module _ (stands_before : ReadsStandBefore) (rule : Rule) (f : Function) (rows :
       pub not_own : w.result ≢ operands.Register (registers.Result m.block m.place)
       not_own = no_root f rows good m.block m.place w.put w.result root.block root.is_block root.stands put_stand result_stands
 
-      -- ---- and is known
+      -- ---- and it is known
 
       low_known : (a : Operand) → IsLow a → IsKnown F (substituted_operand to a) → IsKnown f a
       low_known (operands.Register (registers.Result c q)) low known =
@@ -432,7 +432,7 @@ module _ (stands_before : ReadsStandBefore) (rule : Rule) (f : Function) (rows :
       pub result_known : MayRead f m.block (length w.put) w.result
       result_known = subst (λ (k : ℕ). MayRead f m.block k w.result) (sym count) (last_holds rule m (end_of f m.block) (MayRead f m.block) is_rule closed_known)
 
-      -- The result isn't the root's own register.
+      -- The result isn't the root's register.
       module _ (other : w.result ≢ operands.Register (registers.Result m.block m.place)) where
         result_same : substituted_operand (placed rows') w.result ≡ (target.rewrite_of rule pm name).result
         result_same = ap (substituted_operand (placed rows')) (sym (unchanged w.result other)) ∙ last_same rule m (end_of f m.block) P to g is_rule agrees

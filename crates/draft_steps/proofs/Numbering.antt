@@ -1,4 +1,4 @@
--- What a rule puts is the same by numbers and by places, but for what stands for what it reads.
+-- A rule inserts the same instructions in the arena as in the function, but for the names of what they read.
 use Rattle.std.proofs.Common.{◌≡◌, ℕ, zero, suc, ◌+◌, ◌-◌, ◌<◌, false, cond, not, List, [], ◌∷◌, ◌++◌, length, map, take, Option, None, Some, refl, sym, ap, subst, ◌∙◌, arith}
 use Rattle.std.specs.Prelude.{Contains, slice_get, slice_index_or}
 use Rattle.std.specs.Option.{option_map_or}
@@ -34,7 +34,7 @@ use Rattle.moved_matches.specs.Moved.{moved_binding}
 use Rattle.rewriter.specs.Put.{argument_put, class_width, count_put, insts_of_op, insts_put, insts_with, is_copy, literal_of, operand_put, result_of_op, result_put, results_put}
 use Rattle.draft_steps.proofs.Mapping.{changed_inst}
 
--- ---- how many are put
+-- ---- how many are inserted
 
 put_here : (s : Statement) (statements : List Statement) → is_copy s.op ≡ false → count_put (s ∷ statements) ≡ suc (count_put statements)
 put_here s statements kept =
@@ -52,7 +52,7 @@ put_more s xs ys lt =
     by : (a b c m n : ℕ) → a ≡ c + m → b ≡ c + n → m < n → a < b
     by a b c m n p q lt = omega arith
 
--- what is put for the first t statements is less than all, where one more is put for the next
+-- a statement that is no copy has an instruction of its own among those that are inserted
 put_below : (statements : List Statement) (t : ℕ) (s : Statement) → slice_get statements t ≡ Some s → is_copy s.op ≡ false → count_put (take t statements) < count_put statements
 put_below [] t s at kept = absurd cc
 put_below (x ∷ statements) zero s at kept =
@@ -67,14 +67,14 @@ put_below (x ∷ statements) (suc t) s at kept = put_more x (take t statements) 
 -- ---- operands
 
 module _ (rule : Rule) (m : Binding) (first k : ℕ) (to : Substitution) (g : Operand → Operand) where
-  -- by numbers, where what is put gets these from the first on; and by places, where the root is the k-th
+  -- the binding to numbers, with the number of the first inserted instruction; and that to positions, with the root's
   abbrev num : Binding
   num = record m { place = first }
 
   abbrev pl : Binding
   pl = moved_binding to k m
 
-  -- What g makes of what may be read by numbers is what is read by places.
+  -- g renames what the binding to numbers names to what the one to positions names.
   pub record Agrees : Type 0 where
     pub number : (n : Number) → g (operands.Number n) ≡ operands.Number n
     pub undefined : g operands.Undef ≡ operands.Undef
@@ -114,7 +114,7 @@ module _ (rule : Rule) (m : Binding) (first k : ℕ) (to : Substitution) (g : Op
     operand_same : (results : List Operand) (t : ℕ) (o : RuleOperand) → TargetMayRead rule t o.value → g (operand_put rule num results o) ≡ operand_put rule pl (map g results) o
     operand_same results t o may = argument_same results (class_width rule num o.class) t o.value may
 
-    -- ---- what stands for registers
+    -- ---- operands for the target's registers
 
     put_same : (done : List Operand) → count_put (take (length done) rule.target) < count_put rule.target
         → g (operands.Register (registers.Result m.block (first + count_put (take (length done) rule.target)))) ≡ operands.Register (registers.Result m.block (k + count_put (take (length (map g done)) rule.target)))

@@ -1,4 +1,4 @@
--- A register is used once where another is that is named at the same places.
+-- A register has exactly one use where another one has, whose uses are at the same places.
 use Rattle.std.proofs.Common.{◌≡◌, ℕ, subst}
 use Rattle.ir_core.specs.declared.function.Function.{Function}
 use Rattle.ir_core.specs.declared.operand.Register.{Register}

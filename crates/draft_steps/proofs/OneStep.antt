@@ -1,4 +1,4 @@
--- One step of rewriting: a rule is applied to the function of a draft, which is cleaned.
+-- One step of rewriting: a rule is applied to a draft, and the dead code is removed.
 use Rattle.std.proofs.Common.{◌≡◌, ◌≢◌, ℕ, suc, ◌<◌, ◌≤◌, ◌⊎◌, inl, inr, List, [], ◌++◌, length, map, Option, None, Some, All, refl, sym, ap, subst, ◌∙◌, arith}
 use Rattle.std.specs.Prelude.{Contains, slice_get, slice_index_or, option_map}
 use Rattle.std.specs.List.{filter_map}
@@ -72,11 +72,11 @@ use Rattle.draft_steps.proofs.WhoReads.{inst_reads_it}
 use Rattle.draft_steps.proofs.WholeRows.{settled_rows, whole_rows}
 use Rattle.draft.proofs.Wholeness.{few_insts, stands_there}
 
--- a place by its number
+-- a place by block and number
 abbrev at_number : ℕ → ℕ → Place
 at_number b n = record { block = b; number = n }
 
--- a block that is there is there with what is put
+-- a block of the arena is one of the arena with the inserted instructions
 there_too : (v : Rewrite) (n : ℕ) (sigma : Substitution) (d : ℕ) (o o' : Option Block) (x : Block) → o ≡ Some x → ArePut v n sigma d o o' → (y : Block) × (o' ≡ Some y) × IsPutBlock v n sigma d x y
 there_too v n sigma d None o' x e are = absurd cc
 there_too v n sigma d (Some z) None x e are = absurd are
@@ -149,7 +149,7 @@ module _ (stands_before : ReadsStandBefore) (old : Draft) (settled : IsSettled o
     abbrev Put : Function
     Put = put_for old.arena w m.place
 
-    -- what is read then stands
+    -- what is read after the rewrite is of instructions that stand
     read_then : (c k d q : ℕ) → ReadsRegister mid.arena c k (registers.Result d q) → Stands mid d q
     read_then c k d q h =
         subst (λ (l : List (List ℕ)). Contains (slice_index_or l d []) q) (sym put.numbers)
@@ -161,7 +161,7 @@ module _ (stands_before : ReadsStandBefore) (old : Draft) (settled : IsSettled o
     pub good_then : AreRows mid.arena (numbers_of mid)
     good_then = whole_rows mid whole read_then
 
-    -- it is the function to which the rule is applied
+    -- its function is that to which the rule is applied
     pub is_rewritten : IsRewritten (function_of old) (placed_binding old m) rule (function_of mid)
     is_rewritten =
         subst (λ (h : Function). IsRewritten (function_of old) (placed_binding old m) rule (function_at h (numbers_of mid))) (sym put.arena)
@@ -182,7 +182,7 @@ module _ (stands_before : ReadsStandBefore) (old : Draft) (settled : IsSettled o
         ])
 
     module _ (clean : IsClean old) where
-      -- what stands then would be needed, if what fell were
+      -- each instruction that stands then is live, or would be if the registers on the worklist were
       pub waits : (b n : ℕ) → Stands mid b n → IsNeededWith mid.arena mid.fallen.items (registers.Result b n)
       waits b n stands =
           let few : length root.block.insts ≤ none = (settled.whole.rows m.block root.block root.is_block).few in
@@ -206,7 +206,7 @@ module _ (stands_before : ReadsStandBefore) (old : Draft) (settled : IsSettled o
           by r (reads c k need h) = inl (c, k, h)
           by r (is_one has) = inr has
 
-      -- and what stands for the root's register is
+      -- the operand that replaced the root's register is live
       pub result_is_needed : (r : Register) → told.result ≡ operands.Register r → IsNeeded mid.arena r
       result_is_needed r is =
           subst (λ (h : Function). IsNeeded h r) (sym put.arena)
@@ -216,7 +216,7 @@ module _ (stands_before : ReadsStandBefore) (old : Draft) (settled : IsSettled o
     pub room_then : (steps : ℕ) → HasRoomFor (suc steps) old → HasRoomFor steps mid
     room_then steps room = room_after_put steps old mid w m.place put.arena (most_put rule (numbered old.arena m) is_rule root.inst.name) room
 
-    -- what stands then stood, or came
+    -- an instruction that stands then stood before, or was inserted
     stood_or_put : (b n : ℕ) → Stands mid b n → (Stands old b n × ¬ (registers.Result b n ≡ registers.Result m.block m.place)) ⊎ ((b ≡ m.block) × Contains (put_numbers old.arena w) n)
     stood_or_put b n stands =
         stood_or_came old.arena (numbers_of old) good m.block m.place w.put w.result root.block root.is_block root.stands b n (subst (λ (l : List (List ℕ)). Contains (slice_index_or l b []) n) put.numbers stands)
@@ -227,7 +227,7 @@ module _ (stands_before : ReadsStandBefore) (old : Draft) (settled : IsSettled o
         let low = few_insts mid whole c y (subst (λ (h : Function). IsBlock h c y) (sym put.arena) there) in
         omega arith
 
-    -- it is read by as many operands, or its register falls
+    -- its register has as many uses as before, or more, or is on the worklist
     pub keeps_then : KeepsUses old mid mid.fallen.items
     keeps_then = λ b n stands. elim (stood_or_put b n stands) [
       | inr (same, came) ↦ inr (fell_then (registers.Result b n) (Contains-append_left (map (λ number. registers.Result m.block number) (put_numbers old.arena w)) (filter_map register_of (operands_at g (record { block = m.block; number = m.place })))
@@ -242,7 +242,7 @@ module _ (stands_before : ReadsStandBefore) (old : Draft) (settled : IsSettled o
       ]
     ]
 
-    -- where it doesn't read the root it is the same instruction
+    -- it is the same instruction as before, where it didn't read the root's register
     same_then : (b n : ℕ) (inst : Inst) → ¬ (registers.Result b n ≡ registers.Result m.block m.place) → IsInst old.arena b n inst
         → ((a : Operand) → Contains (operands_of inst.op) a → a ≢ operands.Register (registers.Result m.block m.place)) → IsInst mid.arena b n inst
     same_then b n inst other at unread =
@@ -253,7 +253,7 @@ module _ (stands_before : ReadsStandBefore) (old : Draft) (settled : IsSettled o
         block.other n inst (λ e. other (ap (λ (c : ℕ). registers.Result c n) e.0 ∙ ap (λ (k : ℕ). registers.Result m.block k) e.1)) at.is_inst in
         subst (λ (h : Function). IsInst h b n inst) (sym put.arena) (record { block = y; is_block = is; is_inst = here ∙ ap (λ (i : Inst). Some i) sigma_inst })
 
-    -- what reads the root is told
+    -- where it did, it is among the places that are returned
     reader_told : (b n : ℕ) (inst : Inst) → IsInst old.arena b n inst → Contains (operands_of inst.op) (operands.Register (registers.Result m.block m.place)) → Contains told.replaced.items (record { block = b; number = n })
     reader_told b n inst at among =
         let q : Place = record { block = b; number = n } in
@@ -268,7 +268,7 @@ module _ (stands_before : ReadsStandBefore) (old : Draft) (settled : IsSettled o
               (inst_reads_it (with_put old.arena m.block w.put) b n there.block inst (registers.Result m.block m.place) there.is_block there.is_inst among),
         )
 
-    -- ---- places
+    -- ---- the places that are returned
 
     place_then : (p : Place) → IsPlaceIn (with_put old.arena m.block w.put) p → IsPlaceIn mid.arena p
     place_then p (x, is, inside) =
@@ -315,7 +315,7 @@ module _ (stands_before : ReadsStandBefore) (old : Draft) (settled : IsSettled o
     module _ (clean : IsClean old) (new : Draft) (whole_now : IsWhole new) (is : IsCleaning mid.arena (numbers_of mid) new.arena (numbers_of new) []) (used : List Register) (keeps : KeepsUses old new used)
         (places : List Place) (has_put : (p : Place) → Contains told.put.items p → Contains places p) (has_replaced : (p : Place) → Contains told.replaced.items p → Contains places p)
         (has_used : (b n : ℕ) → Contains used (registers.Result b n) → IsUseCount new.arena (registers.Result b n) 1 → Contains places (record { block = b; number = n })) where
-      -- what is read once now was read once
+      -- a register with exactly one use had exactly one before
       once_before : (b n : ℕ) → Stands new b n → Stands old b n → ¬ Contains places (record { block = b; number = n }) → IsUsedOnce new.arena (registers.Result b n) → IsUsedOnce old.arena (registers.Result b n)
       once_before b n stands stood out once_now =
           let one : IsUseCount new.arena (registers.Result b n) 1 = (count_of_one new.arena (registers.Result b n)).1 once_now in

@@ -1,4 +1,4 @@
--- The matches at an instruction of an arena, by places.
+-- The matches at an instruction of an arena, as matches in its function.
 use Rattle.std.proofs.Common.{◌≡◌, inl, inr, ℕ, ◌<◌, List, [], ◌∷◌, get_or, map, Some, refl, sym, ap, subst, ◌∙◌, arith}
 use Rattle.std.specs.Prelude.{All, AllPairs, Contains, slice_get}
 use Rattle.std.proofs.lemmas.List.Elements.{All-contains, Contains-get_or}
@@ -26,11 +26,11 @@ use Rattle.draft_steps.proofs.Arena.{numbered_match, placed_match}
 use Rattle.draft_steps.proofs.Back.{numbered}
 use Rattle.draft_steps.proofs.Rows.{number_there}
 
--- the match by places
+-- the match with positions in place of numbers
 abbrev pub put_in_place : List (List ℕ) → Match → Match
 put_in_place rows m = record { rule = m.rule; binding = moved_binding (placed rows) (place_in (row_of rows m.binding.block) m.binding.place) m.binding }
 
--- at one instruction rules tell the order
+-- matches at one instruction are in the order of their rules
 rule_less : (b n : ℕ) (x y : Match) → IsAt b n x → IsAt b n y → ComesBefore x y → x.rule < y.rule
 rule_less b n x y at_x at_y before = elim before [
   | inl p ↦ absurd (omega (arith, p, at_x.0, at_y.0))
@@ -74,7 +74,7 @@ module _ (stand_before : TemporariesStandBefore) (rules : List Rule) (ready : Ar
       subst (λ (x : Rule). IsMatch F b k x m.binding) same
       (subst (λ (p : ℕ). IsMatch F b p is.rule m.binding) of.1 (subst (λ (d : ℕ). IsMatch F d m.binding.place is.rule m.binding) of.0 is.matches))
 
-  -- a match there is one that was put there
+  -- a match in the function is one of the arena with positions in place of numbers
   was_put : (ms : List Match) → AreMatchesInAnyOrder rules arena (IsAt b n) ms → (m : Match) → IsMatchAmong rules F m → IsAt b k m → Contains (map put ms) m
   was_put ms found m is of =
       let good = (ready m.rule is.rule is.is_rule).checks in

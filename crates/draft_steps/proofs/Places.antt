@@ -1,4 +1,4 @@
--- The function of an arena has what the arena has, each number at its place.
+-- The function of an arena has the instructions that stand, each at the position of its number.
 use Rattle.std.proofs.Common.{◌≡◌, ◌⊎◌, inl, inr, ℕ, ◌<◌, List, length, map, Option, Some, refl, sym, ap, subst, ◌∙◌, arith}
 use Rattle.std.specs.Prelude.{Contains, option_map, slice_get, unwrap_or}
 use Rattle.std.proofs.lemmas.Option.{same_Some, slice_get_cases, slice_get_within}
@@ -27,7 +27,7 @@ use Rattle.draft.proofs.Reached.{reached_along}
 use Rattle.draft_steps.proofs.Reading.{end_substituted, operands_read, read_cases, reads_substituted, targets_substituted}
 use Rattle.draft_steps.proofs.Rows.{as_many_insts, block_at, block_back, inst_at, inst_back, number_there}
 
--- the register for which one of the arena stands
+-- a result named by its position, in place of its number
 abbrev pub placed_register : List (List ℕ) → Register → Register
 placed_register rows (registers.Parameter p) = registers.Parameter p
 placed_register rows (registers.Result b n) = registers.Result b (place_in (row_of rows b) n)
@@ -36,7 +36,7 @@ pub placed-is : (rows : List (List ℕ)) (r : Register) → placed rows r ≡ op
 placed-is rows (registers.Parameter p) = refl
 placed-is rows (registers.Result b n) = refl
 
--- the register stands
+-- the register is a parameter, or the result of an instruction that stands
 abbrev pub IsStanding : List (List ℕ) → Register → Type 0
 IsStanding rows (registers.Parameter p) = Unit {0}
 IsStanding rows (registers.Result b n) = Contains (row_of rows b) n
@@ -73,7 +73,7 @@ module _ (arena : Function) (rows : List (List ℕ)) (are : AreArranged arena ro
   pub reached_back : (b : ℕ) → IsReached F b → IsReached arena b
   reached_back = reached_along F arena names_back
 
-  -- a place before the end of a block is that of a number
+  -- a position before the end of a block is that of a number
   pub number_at : (b k : ℕ) → k < end_of F b → (n : ℕ) × (slice_get (row_of rows b) k ≡ Some n)
   number_at b k less = elim (slice_get_cases F.blocks b).1 [
     | inr (past, none) ↦ absurd (let end : end_of F b ≡ 0 = ap (λ (o : Option Block). unwrap_or (option_map (λ (x : Block). length x.insts) o) 0) none in omega (arith, less, end))
@@ -106,9 +106,9 @@ module _ (arena : Function) (rows : List (List ℕ)) (are : AreArranged arena ro
       let was = inst_back to block.insts (row_of rows b) k new (known_in b block at) here in
       record { n = was.n; inst = was.inst; number = was.number; is_inst = record { block = block; is_block = at; is_inst = was.is_inst }; same = was.same }
 
-  -- ---- what is read
+  -- ---- the operands
 
-  -- instruction k of the arena's block stands at place q, or both are the terminator's
+  -- instruction k of the arena's block is at position q, or both are the terminator's
   abbrev pub SamePlace : ℕ → ℕ → ℕ → Type 0
   SamePlace b k q = (slice_get (row_of rows b) q ≡ Some k) ⊎ ((block : Block) × IsBlock arena b block × (k ≡ length block.insts) × (q ≡ length (row_of rows b)))
 
@@ -146,7 +146,7 @@ module _ (arena : Function) (rows : List (List ℕ)) (are : AreArranged arena ro
       ∙ ap (λ (l : List Read). map (substituted_operand to) (operands_read l)) (sym (reads_at-end arena b block at))
       ∙ ap (λ (p : ℕ). map (substituted_operand to) (operands_at arena b p)) (sym end)
 
-  -- ---- what names a register
+  -- ---- the uses of a register
 
   operand_named : (f : Function) (b k i : ℕ) (r : Register) → IsNamedAt f r b k i → slice_get (operands_at f b k) i ≡ Some (operands.Register r)
   operand_named f b k i r (read, is_read, names) = get-map (λ (x : Read). x.operand) (reads_at f b k) i read is_read ∙ ap Some names
@@ -171,7 +171,7 @@ module _ (arena : Function) (rows : List (List ℕ)) (are : AreArranged arena ro
       by (inr (block, at, end)) =
           (length (row_of rows b), inr (block, at, end, refl), there (length (row_of rows b)) (inr (block, at, end, refl)))
 
-  -- registers that stand are placed apart
+  -- registers with one name in the function are the same
   apart : (r s : Register) → IsStanding rows r → IsStanding rows s → placed_register rows r ≡ placed_register rows s → r ≡ s
   apart (registers.Parameter p) (registers.Parameter q) x y same = same
   apart (registers.Parameter p) (registers.Result c m) x y same = absurd cc
@@ -188,7 +188,7 @@ module _ (arena : Function) (rows : List (List ℕ)) (are : AreArranged arena ro
   standing_read b k i (registers.Parameter p) named = tt
   standing_read b k i (registers.Result c n) named = are.read_stands b k i c n named.0 named.1 named.2
 
-  -- what is placed as a register that stands is that register
+  -- an operand with the name of a register is that register
   same_operand : (b k i : ℕ) (r : Register) → IsStanding rows r → (x : Operand) → ((s : Register) → x ≡ operands.Register s → IsNamedAt arena s b k i)
       → substituted_operand to x ≡ operands.Register (placed_register rows r) → x ≡ operands.Register r
   same_operand b k i r stands (operands.Register s) named is =
@@ -219,7 +219,7 @@ module _ (arena : Function) (rows : List (List ℕ)) (are : AreArranged arena ro
           let last : q ≡ length (row_of rows b) = end ∙ count in
           (length block.insts, inr (block, at_block, refl, last), was (length block.insts) (inr (block, at_block, refl, last)))
 
-  -- ---- what is used once
+  -- ---- registers with exactly one use
 
   pub used_once_on : (r : Register) → IsStanding rows r → IsUsedOnce arena r → IsUsedOnce F (placed_register rows r)
   used_once_on r stands = once_on arena F r (placed_register rows r) SamePlace (on r) (back r stands) one_place

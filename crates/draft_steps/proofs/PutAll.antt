@@ -1,4 +1,4 @@
--- Instructions are put before one of a draft, one after another.
+-- Instructions are inserted into a draft before one of it, one after another.
 use Rattle.std.proofs.Common.{◌≡◌, inl, inr, ℕ, zero, suc, ◌+◌, ◌<◌, ◌≤◌, List, [], ◌∷◌, ◌++◌, length, map, Some, All, refl, sym, ap, subst, ◌∙◌, arith, append_assoc}
 use Rattle.std.specs.Prelude.{Contains, slice_get, slice_index_or, option_map}
 use Rattle.std.specs.List.{range_with_len}
@@ -33,7 +33,7 @@ use Rattle.draft.proofs.Rows.{put_keeps}
 use Rattle.draft_steps.proofs.WhoReads.{end_of-is}
 use Rattle.draft.proofs.Wholeness.{stands_there}
 
--- ---- a change of one item behind another
+-- ---- one item of a list changed twice
 
 changed_both : {A : Type 0} (k : ℕ) (first then both : A → A) (xs : List A) → ((x : A) → then (first x) ≡ both x) → changed_at k then (changed_at k first xs) ≡ changed_at k both xs
 changed_both k first then both [] same = refl
@@ -107,7 +107,7 @@ module _ (f : Function) (b : ℕ) where
     ];
   }
 
-  -- an instruction of the arena is one with what is put
+  -- an instruction of the arena is one of the arena with inserted instructions
   pub with_inst : (put : List Inst) (c k : ℕ) (inst : Inst) → IsInst f c k inst → IsInst (with_put f b put) c k inst
   with_inst put c k inst at = elim (cases_eq c b) [
     | inl same ↦ record {
@@ -137,7 +137,7 @@ module _ (f : Function) (b : ℕ) where
 
 -- ---- the draft
 
--- of the instructions that are put these were, and their places are given
+-- these first ones of the instructions were inserted, and their places collected
 pub record ArePut (old new : Draft) (at : Place) (done : List Inst) (given : List Place) : Type 0 where
   pub whole : IsWhole new
   pub arena : new.arena ≡ with_put old.arena at.block done
@@ -157,7 +157,7 @@ none_put old at whole = record {
 }
 
 module _ (old mid : Draft) (at : Place) (done : List Inst) (given : List Place) (whole : IsWhole old) (stands : Stands old at.block at.number) (put : ArePut old mid at done given) where
-  -- what they are put before stands
+  -- the instruction before which they are inserted still stands
   pub still_stands : Stands mid at.block at.number
   still_stands =
       let numbers : List ℕ = range_with_len (end_of old.arena at.block) (length done) in
@@ -181,7 +181,7 @@ module _ (old mid : Draft) (at : Place) (done : List Inst) (given : List Place) 
         subst (λ (f : Function). All (IsKnown f) (operands_of inst.op)) (sym put.arena)
         (All-weaker (MayRead old.arena at.block (length done)) (IsKnown (with_put old.arena at.block done)) (with_known old.arena at.block block is_block done) (operands_of inst.op) (readable (length done) inst next_is))
 
-  -- and one more is put
+  -- one more is inserted
   pub put_more : (new : Draft) (inst : Inst) (place : Place) → IsWhole new → new.arena ≡ put_in mid.arena at.block inst
       → (place.block ≡ at.block) × (place.number ≡ end_of mid.arena at.block)
       → numbers_of new ≡ changed_at at.block (λ row. put_before row at.number (end_of mid.arena at.block)) (numbers_of mid)

@@ -1,4 +1,4 @@
--- What is put for an instruction of a draft is what a rewrite puts.
+-- A rewrite of an instruction in a draft is a rewrite of the draft's function.
 use Rattle.std.proofs.Common.{◌≡◌, ◌≢◌, ℕ, zero, suc, ◌+◌, ◌<◌, ◌≤◌, inl, inr, cond, List, [], ◌∷◌, ◌++◌, length, map, Option, None, Some, refl, sym, ap, subst, ◌∙◌, arith}
 use Rattle.std.specs.Prelude.{Contains, slice_get, slice_index_or, option_map}
 use Rattle.std.specs.List.{range_with_len}
@@ -105,7 +105,7 @@ range_out a l m lt =
       | inl there ↦ absurd (let le : a ≤ m = range_above a l m (contained (range_with_len a l) m there) in omega arith)
     ]
 
--- the instructions of the next numbers
+-- the instructions with the next numbers are the inserted ones
 insts_next : (to sigma : Substitution) (insts : List Inst) (a : ℕ) (put : List Inst)
     → ((j : ℕ) (i : Inst) → slice_get put j ≡ Some i → slice_get insts (a + j) ≡ Some (substituted_inst sigma i))
     → insts_of to insts (range_with_len a (length put)) ≡ map (changed_inst (λ x. substituted_operand to (substituted_operand sigma x))) put
@@ -117,7 +117,7 @@ insts_next to sigma insts a (i ∷ put) at =
     ∙ (ap (λ (x : Inst). x ∷ insts_of to insts (range_with_len (a + 1) (length put))) (changed_twice to sigma i)
     ∙ ap (λ (l : List Inst). changed_inst (λ x. substituted_operand to (substituted_operand sigma x)) i ∷ l) rest)
 
--- where they stand
+-- the positions of the next numbers, which are in order
 place_range : (a l j : ℕ) (after : List ℕ) → j < l → place_in (range_with_len a l ++ after) (a + j) ≡ j
 place_range a zero j after lt = absurd (omega arith)
 place_range a (suc l) zero after lt = let here : a ≡ a + 0 = omega arith in place_here a (range_with_len (a + 1) l ++ after) (a + 0) here
@@ -135,7 +135,7 @@ length_map : {A B : Type 0} (h : A → B) (xs : List A) → length (map h xs) �
 length_map h [] = refl
 length_map h (x ∷ xs) = ap suc (length_map h xs)
 
--- ---- the row of the root
+-- ---- the numbers of the root's block
 
 module _ (f : Function) (rows : List (List ℕ)) (good : AreRows f rows) (b n count : ℕ) where
   abbrev news : List ℕ
@@ -196,7 +196,7 @@ module _ (f : Function) (rows : List (List ℕ)) (good : AreRows f rows) (b n co
     new_is : slice_index_or rows_then b [] ≡ parts.before ++ (news ++ parts.after)
     new_is = row_is rows_then b (parts.before ++ (news ++ parts.after)) new_row
 
-    -- what stands before the root stays where it is
+    -- a number before the root keeps its position
     pub low_place : (q : ℕ) → place_in row q < place_in row n → place_in (slice_index_or rows_then b []) q ≡ place_in row q
     low_place q lt =
         let was : place_in row q ≡ place_in (parts.before ++ n ∷ parts.after) q = ap (λ (l : List ℕ). place_in l q) parts.is in
@@ -208,7 +208,7 @@ module _ (f : Function) (rows : List (List ℕ)) (good : AreRows f rows) (b n co
         past : (p r l x : ℕ) → p ≡ l + x → r ≡ l → p < r → ⊥
         past p r l x a c lt = omega arith
 
-    -- and the next numbers stand from the root's place on
+    -- the next numbers have the positions from the root's on
     pub new_place : (j : ℕ) → j < count → place_in (slice_index_or rows_then b []) (end_of f b + j) ≡ place_in row n + j
     new_place j lt =
         elim (in_or_out parts.before (end_of f b + j)) [
@@ -226,7 +226,7 @@ module _ (f : Function) (rows : List (List ℕ)) (good : AreRows f rows) (b n co
 -- ---- the rewrite
 
 module _ (f : Function) (rows : List (List ℕ)) (good : AreRows f rows) (b n c k : ℕ) (put put' : List Inst) (result result' : Operand) where
-  -- by numbers, and by places
+  -- the rewrite by numbers of the arena, and the one by positions in the function
   abbrev w : Rewrite
   w = record { block = b; place = c; put = put; result = result }
 

@@ -1,4 +1,4 @@
--- What is put for an instruction of a draft, once it goes.
+-- Instructions are inserted for an instruction of a draft, which is removed.
 use Rattle.std.proofs.Common.{◌≡◌, ◌↔◌, ℕ, List, ◌++◌, length, map, sym, ap, subst, ◌∙◌}
 use Rattle.std.specs.Prelude.{Contains}
 use Rattle.std.specs.List.{filter_map, range_with_len}
@@ -17,7 +17,7 @@ use Rattle.places.specs.declared.place.Place.{Place}
 use Rattle.draft_steps.specs.declared.rewriting.Rewritten.{Rewritten}
 
 module _ (old mid new : Draft) (w : Rewrite) (n : ℕ) (told : Rewritten) where
-  -- What is put stands before instruction n of block b, and it goes.
+  -- Instructions are inserted before instruction n of block b, and that is removed.
   pub record IsPutInstead (b : ℕ) : Type 0 where
     pub arena_then : mid.arena ≡ with_put old.arena b w.put
     pub numbers_then : numbers_of mid ≡ rows_with (numbers_of old) b n (range_with_len (end_of old.arena b) (length w.put))

@@ -1,4 +1,4 @@
--- What the instructions read that a rule puts: what the source names, and what is put before them.
+-- What the instructions read that a rule inserts: what its source is bound to, and the results of those before them.
 use Rattle.std.proofs.Common.{◌≡◌, ℕ, zero, suc, ◌+◌, ◌-◌, ◌<◌, ◌≤◌, inl, inr, false, cond, not, List, [], ◌∷◌, ◌++◌, length, take, Option, None, Some, refl, sym, ap, subst, ◌∙◌, arith}
 use Rattle.std.specs.Prelude.{Contains, slice_get, slice_index_or}
 use Rattle.std.specs.Option.{option_map_or}
@@ -32,7 +32,7 @@ use Rattle.substitution.proofs.Pieces.{get_cases}
 use Rattle.bindings.specs.declared.binding.Binding.{Binding}
 use Rattle.rewriter.specs.Put.{argument_put, class_width, count_put, insts_of_op, insts_put, insts_with, is_copy, literal_of, operand_put, result_of_op, result_put, results_put}
 
--- ---- how many are put for the first statements
+-- ---- how many are inserted for the first statements
 
 put_step : (statements : List Statement) (t : ℕ) (s : Statement) → slice_get statements t ≡ Some s → count_put (take (suc t) statements) ≡ count_put (take t statements) + cond (not (is_copy s.op)) 1 0
 put_step [] t s at = absurd cc
@@ -67,14 +67,14 @@ put_up (x ∷ statements) (suc t) (suc u) le =
     by : (p q a m n : ℕ) → p ≡ a + m → q ≡ a + n → m ≤ n → p ≤ q
     by p q a m n e h le = omega arith
 
--- ---- a fact of operands
+-- ---- a property of operands
 
 module _ (rule : Rule) (m : Binding) (first : ℕ) (Q : ℕ → Operand → Type 0) where
   abbrev num : Binding
   num = record m { place = first }
 
-  -- It holds of what the source names and of numbers; of a register that is put, for what is put behind it; and it is
-  -- kept on the way.
+  -- All that an inserted instruction may read has the property: numbers, what the source is bound to, and, for those
+  -- behind it, the result of an inserted instruction. What has it for one instruction has it for those behind it.
   pub record Closed : Type 0 where
     pub more : (j k : ℕ) (a : Operand) → j ≤ k → Q j a → Q k a
     pub number : (k : ℕ) (n : Number) → Q k (operands.Number n)
@@ -84,7 +84,7 @@ module _ (rule : Rule) (m : Binding) (first : ℕ) (Q : ℕ → Operand → Type
     pub source : (k j : ℕ) → suc j < length rule.source → Q k (option_map_or operands.Register (slice_get m.statements j) operands.Poison)
     pub result : (k i : ℕ) → i < k → Q k (operands.Register (registers.Result m.block (first + i)))
 
-  -- how many are put for the statements before the t-th
+  -- how many are inserted for the statements before the t-th
   abbrev before : ℕ → ℕ
   before t = count_put (take t rule.target)
 
@@ -97,7 +97,7 @@ module _ (rule : Rule) (m : Binding) (first : ℕ) (Q : ℕ → Operand → Type
     literal_holds k values.Poison = closed.poison k
     literal_holds k (values.Bits n) = closed.number k n
 
-    -- of each of the first results, for what is put behind it
+    -- the first results have it, each for the instructions behind it
     abbrev Hold : ℕ → List Operand → Type 0
     Hold t results = (j : ℕ) → j < t → Q (before (suc j)) (slice_index_or results j operands.Poison)
 
@@ -179,7 +179,7 @@ module _ (rule : Rule) (m : Binding) (first : ℕ) (Q : ℕ → Operand → Type
     pub results_hold : Hold (length rule.target) (results_put rule num)
     results_hold = λ j lt. turns_hold [] rule.target from_target (λ i none. absurd (omega arith)) j (omega (arith, lt))
 
-    -- what stands for the root's register
+    -- the operand that replaces the root's register
     pub last_holds : Q (count_put rule.target) (slice_index_or (results_put rule num) (length rule.target - 1) operands.Poison)
     last_holds =
         let some : 0 < length rule.target = good.target_root in
@@ -191,7 +191,7 @@ module _ (rule : Rule) (m : Binding) (first : ℕ) (Q : ℕ → Operand → Type
         all [] = refl
         all (x ∷ xs) = ap (λ (l : List Statement). x ∷ l) (all xs)
 
-    -- ---- instructions
+    -- ---- inserted instructions
 
     read_holds : (t : ℕ) (o : RuleOperand) → TargetMayRead rule t o.value → t < length rule.target → Q (before t) (operand_put rule num (results_put rule num) o)
     read_holds t o may lt = operand_holds (results_put rule num) t o may (λ j early. results_hold j (omega (arith, early, lt)))

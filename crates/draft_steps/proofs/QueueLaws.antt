@@ -1,4 +1,4 @@
--- Queues stay where orders are kept.
+-- Worklists stay worklists where orders are kept.
 use Rattle.std.proofs.Common.{ℕ, List, sym, ◌∙◌}
 use Rattle.draft.specs.KeptOrders.{KeepsOrders}
 use Rattle.draft_steps.specs.declared.queue.Queue.{Queue}

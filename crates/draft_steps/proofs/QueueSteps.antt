@@ -1,4 +1,4 @@
--- What a draft's instructions are to a queue.
+-- The order of a draft's instructions, and the order in which a worklist gives them.
 use Rattle.std.proofs.Common.{ℕ, ◌<◌, inl, inr, List, [], length, All, get_or, sym, subst}
 use Rattle.std.proofs.lemmas.List.Elements.{All-contains, All-weaker}
 use Rattle.std.proofs.lemmas.Option.{slice_get_within}
@@ -28,7 +28,7 @@ walk-inside d w walk =
     All-weaker (λ (p : Place). HasInst d.arena p.block p.number) (λ (p : Place). p.block < length w.reached)
     (λ p inst. subst (λ n. p.block < n) (sym walk.blocks) (slice_get_within d.arena.blocks p.block inst.0 inst.1)) w.found.items walk.insts
 
--- what stands before another comes before it
+-- where an instruction that stands is before another, its place comes before the other's in the orders
 pub stands-comes : (d : Draft) (p q : Place) → IsWhole d → Stands d p.block p.number → Stands d q.block q.number → StandsBefore d p.block p.number q.block q.number
     → ComesBefore d.orders.items p q
 stands-comes d p q whole here there before = elim before [

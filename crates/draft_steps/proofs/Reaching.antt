@@ -1,4 +1,4 @@
--- What an instruction reaches through operands of its block.
+-- Chains of operands inside a block.
 use Rattle.std.proofs.Common.{◌≡◌, inl, inr, ℕ, zero, suc, ◌≤◌, refl, sym, subst, arith}
 use Rattle.ir_core.specs.Reads.{Read, IsRead}
 use Rattle.ir_core.specs.declared.operand.Operand.TheVariants as operands
@@ -11,7 +11,7 @@ module _ (d : Draft) (b : ℕ) where
   itself zero n = refl
   itself (suc t) n = inl refl
 
-  -- through one operand more
+  -- a chain with one operand more
   pub and_on : (t n p q i : ℕ) (r : Read) → Reaches d t b n p → Stands d b p → IsRead (arena_of d) b p i r → r.operand ≡ operands.Register (registers.Result b q) → Reaches d (suc t) b n q
   and_on zero n p q i r here stands is_read reads = subst (λ (x : ℕ). Reaches d (suc zero) b x q) (sym here) (inr (q, i, r, stands, is_read, reads, refl))
   and_on (suc t) n p q i r come stands is_read reads = elim come [
@@ -19,7 +19,7 @@ module _ (d : Draft) (b : ℕ) where
     | inr first ↦ inr (first.0, first.1, first.2, first.3, first.4, first.5, and_on t first.0 p q i r first.6 stands is_read reads)
   ]
 
-  -- and through fewer
+  -- a chain is one of at most more operands too
   pub within_more : (t s n p : ℕ) → t ≤ s → Reaches d t b n p → Reaches d s b n p
   within_more zero zero n p less here = here
   within_more zero (suc s) n p less here = inl here

@@ -1,4 +1,4 @@
--- What is read in the function of an arena, and what in the arena.
+-- What is read in the function of an arena, and what is read in the arena.
 use Rattle.std.proofs.Common.{◌≡◌, ◌⊎◌, inl, inr, ℕ, List, [], ◌∷◌, length, map, Option, Some, refl, sym, ap, ◌∙◌}
 use Rattle.std.specs.Prelude.{slice_get}
 use Rattle.std.proofs.lemmas.Bool.{cases_eq, ne_eqb, cond-false}

@@ -1,4 +1,4 @@
--- A draft in which other instructions stand before a root, or in its place, has as its function the rewritten one.
+-- Where other instructions take the place of a root, the function of the arena and its rows is the rewritten one.
 use Rattle.std.proofs.Common.{◌≡◌, ◌≢◌, ℕ, suc, ◌+◌, ◌-◌, ◌<◌, ◌≤◌, ◌⊎◌, inl, inr, List, [], ◌∷◌, ◌++◌, length, Option, None, Some, refl, sym, ap, subst, ◌∙◌, arith}
 use Rattle.std.specs.Prelude.{Contains, slice_get, slice_index_or, option_map, unwrap_or}
 use Rattle.std.proofs.lemmas.Bool.{cases_eq}
@@ -29,7 +29,7 @@ use Rattle.draft_steps.proofs.WhoReads.{end_reads_it, inst_reads_it}
 use Rattle.draft_steps.proofs.RowPlaces.{IsIn, IsOut, in_or_out, is_in, one_place, place_later, place_left, place_right, place_split}
 use Rattle.draft.proofs.InstsOf.{both, both_none, get_blocks, insts_append, insts_more}
 
--- ---- where a number stands then
+-- ---- the position of a number after the rewrite
 
 module _ (w : Rewrite) (before after news : List ℕ) (root : ℕ) (place : w.place ≡ length before) (count : length news ≡ length w.put) (first : IsOut before root) where
   left_of : (p : ℕ) → p < length before → p ≤ w.place
@@ -41,7 +41,7 @@ module _ (w : Rewrite) (before after news : List ℕ) (root : ℕ) (place : w.pl
   behind : (p q n m : ℕ) → p ≡ length before + suc q → n ≡ length before + (length news + q) → m ≡ p - 1 + length w.put → n ≡ m
   behind p q n m a b c = omega arith
 
-  -- one that isn't put, and isn't the root
+  -- a number that is not the root's, nor an inserted instruction's
   moved_row : (k : ℕ) → k ≢ root → IsOut news k → place_in (before ++ (news ++ after)) k ≡ moved_place w w.block (place_in (before ++ root ∷ after) k)
   moved_row k ne out =
       by (moved_place w w.block (place_in (before ++ root ∷ after) k)) (is_moved w w.block (place_in (before ++ root ∷ after) k))
@@ -63,7 +63,7 @@ module _ (w : Rewrite) (before after news : List ℕ) (root : ℕ) (place : w.pl
 
 -- ---- instructions of a rewritten block
 
--- each instruction of a row is in both, the same but for what stands for what it reads
+-- each instruction of a row is in both blocks, and has the same operands after the renaming
 abbrev Follow : Substitution → Substitution → Substitution → List Inst → List Inst → List ℕ → Type 0
 Follow to stands to' insts insts' row = (m : ℕ) → Contains row m
     → (i : Inst) × (i' : Inst) × (slice_get insts m ≡ Some i) × (slice_get insts' m ≡ Some i') × (substituted_inst to' i' ≡ substituted_inst stands (substituted_inst to i))
@@ -114,8 +114,8 @@ module _ (w : Rewrite) (to to' : Substitution) (insts insts' : List Inst) (b : �
 
 -- ---- the function
 
--- Block b with what is put, where n was the number of the root: each other instruction is there, with what stands for
--- what it reads.
+-- A block after the rewrite of the root, number n of its block: each other instruction is there, after the substitution
+-- of its operands.
 pub record IsPutBlock (w : Rewrite) (n : ℕ) (sigma : Substitution) (b : ℕ) (old new : Block) : Type 0 where
   pub name : new.name ≡ old.name
   pub end : new.end ≡ substituted_end sigma old.end
@@ -127,7 +127,7 @@ ArePut w n sigma b None (Some new) = ⊥
 ArePut w n sigma b (Some old) None = ⊥
 ArePut w n sigma b (Some old) (Some new) = IsPutBlock w n sigma b old new
 
--- The arena and its numbers with other instructions in the place of the root, number n.
+-- The arena and its rows, with other instructions in the place of the root, which has number n.
 pub record IsPut (w : Rewrite) (n : ℕ) (sigma : Substitution) (f : Function) (rows : List (List ℕ)) (f' : Function) (rows' : List (List ℕ)) : Type 0 where
   pub name : f'.name ≡ f.name
   pub before_name : f'.before ≡ f.before
@@ -140,7 +140,7 @@ pub record IsPut (w : Rewrite) (n : ℕ) (sigma : Substitution) (f : Function) (
   pub is_block : IsBlock f w.block block
   pub root : Inst
   pub is_root : slice_get block.insts n ≡ Some root
-  -- the numbers before the root, and behind it
+  -- the numbers before the root, and those behind it
   pub before : List ℕ
   pub after : List ℕ
   pub news : List ℕ
@@ -150,11 +150,11 @@ pub record IsPut (w : Rewrite) (n : ℕ) (sigma : Substitution) (f : Function) (
   pub place : w.place ≡ length before
   pub row' : slice_get rows' w.block ≡ Some (before ++ (news ++ after))
   pub others : (c : ℕ) → c ≢ w.block → slice_get rows' c ≡ slice_get rows c
-  -- what is put has new numbers, but for the root's
+  -- the instructions that take the root's place have new numbers, or the root's
   pub new : (m : ℕ) → m < length block.insts → m ≢ n → IsOut news m
   pub count : length news ≡ length w.put
   pub put : (block : Block) → IsBlock f' w.block block → insts_of (placed rows') block.insts news ≡ w.put
-  -- each register but the root's stands for itself
+  -- the substitution leaves each register but the root's
   pub other : (c m : ℕ) → ((c ≡ w.block) × (m ≡ n) → ⊥) → sigma (registers.Result c m) ≡ operands.Register (registers.Result c m)
   pub parameter : (p : ℕ) → sigma (registers.Parameter p) ≡ operands.Register (registers.Parameter p)
   pub result : substituted_operand (placed rows') (sigma (registers.Result w.block n)) ≡ w.result
@@ -197,7 +197,7 @@ module _ (w : Rewrite) (n : ℕ) (sigma : Substitution) (f : Function) (rows : L
       let here : place_in root_row m ≡ w.place = subst (λ (d : ℕ). place_in (slice_index_or rows d []) m ≡ w.place) h.0 h.1 in
       other (h.0, sym (one_place root_row n m root_in (place_root ∙ sym here)))
 
-  -- where a number stands then, other than the root's
+  -- the position of a number after the rewrite, other than the root's
   moved_number : (c m : ℕ) → ((c ≡ w.block) × (m ≡ n) → ⊥) → Contains (slice_index_or rows c []) m → place_in (slice_index_or rows' c []) m ≡ moved_place w c (place_in (slice_index_or rows c []) m)
   moved_number c m other has =
       elim (cases_eq c w.block) [
@@ -215,7 +215,7 @@ module _ (w : Rewrite) (n : ℕ) (sigma : Substitution) (f : Function) (rows : L
           ap (λ (l : List ℕ). place_in l m) (row_is rows' w.block (is.before ++ (is.news ++ is.after)) is.row')
           ∙ (moved_row w is.before is.after is.news n is.place is.count is.first m ne (is.new m lt ne) ∙ ap (λ (l : List ℕ). moved_place w w.block (place_in l m)) (sym at_row))
 
-  -- what stands for an operand that stands is the same in both ways
+  -- renaming to positions and the substitution can be exchanged on what the instructions read
   agree : (a : Operand) → ((c m : ℕ) → a ≡ operands.Register (registers.Result c m) → Contains (slice_index_or rows c []) m)
       → substituted_operand to' (substituted_operand sigma a) ≡ substituted_operand (stands_for w) (substituted_operand to a)
   agree (operands.Register (registers.Result c m)) stands =

@@ -1,4 +1,4 @@
--- How many numbers a step takes: at most 32 of each block.
+-- How many numbers a step uses up: at most 32 in each block.
 use Rattle.std.proofs.Common.{◌≡◌, ℕ, suc, ◌+◌, ◌<◌, ◌≤◌, inl, inr, List, [], ◌++◌, length, get_or, Some, sym, ap, subst, ◌∙◌, arith}
 use Rattle.std.specs.Prelude.{slice_get}
 use Rattle.std.proofs.lemmas.List.{length-append, length-map}
@@ -18,7 +18,7 @@ use Rattle.draft.specs.Whole.{IsWhole}
 use Rattle.draft.specs.declared.draft.Draft.{Draft}
 use Rattle.readers.proofs.Changing.{changed_cases, changed_length}
 
--- the block was there, with at least so many instructions but for some
+-- the block was there, with fewer instructions by at most so many
 abbrev pub WasIn : Function → ℕ → Block → ℕ → Type 0
 WasIn f c x more = (block : Block) × IsBlock f c block × (length x.insts ≤ length block.insts + more)
 
@@ -54,7 +54,7 @@ module _ (f : Function) (w : Rewrite) (n : ℕ) where
     | inr (apart, there) ↦ replaced_same c x there
   ]
 
--- after what a rule puts there is room for one rule less
+-- after a rewrite there is room for one less
 pub room_after_put : (steps : ℕ) (old new : Draft) (w : Rewrite) (n : ℕ) → new.arena ≡ put_for old.arena w n → length w.put ≤ 32 → HasRoomFor (suc steps) old → HasRoomFor steps new
 room_after_put steps old new w n arena most room k x lt =
     let now : IsBlock new.arena k (get_or new.arena.blocks k x) = slice_get-get_or new.arena.blocks k x lt in
@@ -63,7 +63,7 @@ room_after_put steps old new w n arena most room k x lt =
     let same = ap (λ (z : Block). length z.insts) (get_or_from_slice_get old.arena.blocks k block block was) in
     omega (arith, longer, most, here, same)
 
--- what keeps its orders keeps its room
+-- where the orders are the same there is the same room
 pub room_stays : (steps : ℕ) (old new : Draft) → IsWhole old → IsWhole new → new.orders.items ≡ old.orders.items → HasRoomFor steps old → HasRoomFor steps new
 room_stays steps old new was is same room k x lt =
     let now : IsBlock new.arena k (get_or new.arena.blocks k x) = slice_get-get_or new.arena.blocks k x lt in

@@ -1,4 +1,4 @@
--- From the root of a match each statement is come to, from what reads it.
+-- A chain of operands leads from the root of a match to the instruction of every statement.
 use Rattle.std.proofs.Common.{◌≡◌, inl, inr, ℕ, zero, suc, ◌+◌, ◌<◌, ◌≤◌, length, Some, sym, ap, subst, ◌∙◌, arith}
 use Rattle.std.specs.Prelude.{flat_map, slice_get}
 use Rattle.std.proofs.lemmas.Bool.{cases_lt}
@@ -41,7 +41,7 @@ module _ (f : Function) (rule : Rule) (m : Binding) (good : IsRule rule) (is : M
       let h = is.statements j s is_statement in
       (h.inst, subst (λ (k : ℕ). IsInst f m.block k h.inst) (bound_place j p s h at) h.is_inst)
 
-  -- what every statement is bound to
+  -- what a statement is bound to
   pub bound_there : (j : ℕ) (r : Register) → slice_get m.statements j ≡ Some r → (p : ℕ) × (r ≡ registers.Result m.block p) × (slice_get m.statements j ≡ Some (registers.Result m.block p))
   bound_there j r at =
       let within : j < length m.statements = slice_get_within m.statements j r at in
@@ -74,8 +74,8 @@ module _ (f : Function) (rule : Rule) (m : Binding) (good : IsRule rule) (is : M
       let same : reg ≡ registers.Result m.block p = same_Some reg (registers.Result m.block p) (sym bound ∙ at) in
       record { i = i; s = s; later = earlier; is_statement = is_statement; matched = h; n = n; r = r; is_read_there = read_there; reads = reads ∙ ap operands.Register same }
 
-  -- what holds of the root, and of what is read by what it holds of, holds of each, told how many reads it is from the
-  -- root
+  -- A property by distance, which the root has at 0, and which passes from an instruction to those that it reads from,
+  -- one further, is one of every instruction that a statement is bound to.
   module _ (G : ℕ → ℕ → Type 0) (root : G 0 m.place)
       (step : (t p q i : ℕ) (s : RuleOp) (inst : Inst) (r : Read) → suc t < length rule.source → G t p → IsInst f m.block p inst → IsSameOperation s inst.op → IsRead f m.block p i r
       → r.operand ≡ operands.Register (registers.Result m.block q) → G (suc t) q) where
@@ -90,7 +90,7 @@ module _ (f : Function) (rule : Rule) (m : Binding) (good : IsRule rule) (is : M
         let here : m.place ≡ p = sym (h.matches.root (omega (arith, within, is.statement_count))) ∙ bound_place j p s h at in
         (0, omega (arith, within, is.statement_count), subst (G 0) here root)
 
-    -- of the last n statements, and one more
+    -- it is one of the last n + 1 statements
     from_root : (n j p : ℕ) → length rule.source ≤ n + suc j → slice_get m.statements j ≡ Some (registers.Result m.block p) → Come j p
     from_root zero j p few at = at_root j p (omega (arith, few)) at
     from_root (suc n) j p few at = elim (cases_lt (suc j) (length rule.source)) [

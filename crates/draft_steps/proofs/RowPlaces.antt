@@ -1,4 +1,4 @@
--- Where numbers stand in a row, once others are put there or taken out.
+-- The positions of numbers in a row, once others are inserted or removed.
 use Rattle.std.proofs.Common.{◌≡◌, ◌≢◌, ℕ, suc, ◌+◌, ◌<◌, ◌⊎◌, inl, inr, Bool, true, false, cond, List, [], ◌∷◌, ◌++◌, length, Some, refl, sym, ap, subst, ◌∙◌, arith}
 use Rattle.std.specs.Prelude.{Contains, slice_get}
 use Rattle.std.specs.List.{filter}
@@ -77,7 +77,7 @@ at_place (m ∷ row) n there =
       | inr ne ↦ ap (slice_get (m ∷ row)) (place_later m row n ne) ∙ at_place row n (down (place_in (m ∷ row) n) (place_in row n) (length row) (place_later m row n ne) there)
     ]
 
--- two that are among them stand at different places
+-- numbers of a row at one position are the same
 pub one_place : (row : List ℕ) (j k : ℕ) → IsIn row j → place_in row j ≡ place_in row k → j ≡ k
 one_place [] j k there same = absurd (let lt : 0 < 0 = there in omega arith)
 one_place (m ∷ row) j k there same =
@@ -161,7 +161,7 @@ kept_more keep m row e = ap (λ c. cond c (m ∷ filter keep row) (filter keep r
 kept_same : (keep : ℕ → Bool) (m : ℕ) (row : List ℕ) → keep m ≡ false → filter keep (m ∷ row) ≡ filter keep row
 kept_same keep m row e = ap (λ c. cond c (m ∷ filter keep row) (filter keep row)) e
 
--- what is kept was there, and is kept
+-- a number of the filtered row is one of the row, and is kept
 pub kept_of : (keep : ℕ → Bool) (row : List ℕ) (n : ℕ) → Contains (filter keep row) n → Contains row n × (keep n ≡ true)
 kept_of keep [] n has = absurd (not_in_empty n has)
 kept_of keep (m ∷ row) n has =
@@ -187,7 +187,7 @@ kept_in keep (m ∷ row) n has is =
       ])
     ] refl
 
--- Where marks say of each place whether the number there is kept, a number that is kept stands where so many are kept
+-- Marks say for each position whether the number there is kept. The position of a kept number is then how many are kept
 -- before it.
 module _ (kept : KeptMarks) (b : ℕ) (keep : ℕ → Bool) where
   abbrev pub Marks : ℕ → List ℕ → Type 0

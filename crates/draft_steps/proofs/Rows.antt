@@ -1,4 +1,4 @@
--- Numbers and their places, and the instructions of some numbers.
+-- Numbers and their positions, and the instructions with some numbers.
 use Rattle.std.proofs.Common.{◌≡◌, ◌<◌, inl, inr, ℕ, zero, suc, Bool, List, [], ◌∷◌, ◌++◌, length, get_or, map, Option, Some, refl, sym, ap, ◌∙◌, arith}
 use Rattle.std.specs.Prelude.{Contains, if◌then◌else◌, option_to_list, slice_get}
 use Rattle.std.proofs.lemmas.Bool.{cases_eq, eq-eqb, ne_eqb}
@@ -10,7 +10,7 @@ use Rattle.substitution.specs.Substitution.{Substitution, substituted_inst}
 use Rattle.draft.specs.Drafts.{block_of, blocks_of, insts_of}
 use Rattle.places.specs.Orders.{place_in}
 
--- ---- the place of a number
+-- ---- the position of a number
 
 abbrev chosen : ℕ → List ℕ → Bool → ℕ
 chosen n numbers here = if here then 0 else suc (place_in numbers n)
@@ -31,7 +31,7 @@ number_there (m ∷ numbers) n has = elim (cases_eq m n) [
   ]
 ]
 
--- ---- the instructions of some numbers
+-- ---- the instructions with some numbers
 
 module _ (to : Substitution) (insts : List Inst) where
   abbrev pub AreKnown : List ℕ → Type 0

@@ -21,7 +21,7 @@ use Rattle.bindings.specs.Statements.{IsSameOperation, StatementMatches}
 use Rattle.bindings.specs.declared.binding.Binding.{Binding}
 use Rattle.bindings.proofs.Reading.{reads_at_inst}
 
--- what a statement matches reads the same in each function
+-- an operation that a statement matches reads the same in each function
 pub same_reads : (f f' : Function) (b k w : ℕ) (s : RuleOp) (op : Op) → IsSameOperation s op → reads_of f b k w op ≡ reads_of f' b k w op
 same_reads f f' b k w (rule_ops.Binary opcode flags a d) (ops.Binary opcode' flags' x y) same = refl
 same_reads f f' b k w (rule_ops.Compare pred samesign a d) (ops.Compare pred' samesign' width x y) same = refl

@@ -1,4 +1,4 @@
--- A draft of which only what is listed for its registers differs has the same instructions.
+-- Drafts that differ in use lists alone have the same instructions.
 use Rattle.std.proofs.Common.{◌≡◌, ℕ, Bool, List, [], sym, ap, subst, ◌∙◌}
 use Rattle.std.specs.Prelude.{Contains, slice_index_or}
 use Rattle.draft.specs.Drafts.{Stands, numbers_of, standing}

@@ -1,4 +1,5 @@
--- A draft is settled and clean again once all that isn't needed was taken out, and its function is the cleaned one.
+-- Once all dead instructions are removed, a draft is settled again and has no dead code, and its function is the
+-- cleaned one.
 use Rattle.std.proofs.Common.{◌≡◌, ℕ, inl, inr, List, [], sym, subst}
 use Rattle.std.specs.Prelude.{Contains, slice_index_or}
 use Rattle.ir_core.specs.declared.operand.Register.TheVariants as registers
@@ -21,7 +22,7 @@ module _ (old new : Draft) (whole : IsWhole new) (good : AreRows old.arena (numb
   pub is_clean : IsClean new
   is_clean b n stands = needed_alone new.arena (registers.Result b n) (is.waits b n stands)
 
-  -- what is needed stands
+  -- a live instruction stands
   needed_stands : (b n : ℕ) → IsNeeded new.arena (registers.Result b n) → Stands new b n
   needed_stands b n need =
       let was : IsNeeded old.arena (registers.Result b n) = is.was_needed (registers.Result b n) need in

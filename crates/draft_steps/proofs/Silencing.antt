@@ -1,4 +1,4 @@
--- What is taken out reads nothing, and what is left is less.
+-- A removed instruction reads nothing, and is not among those that are left.
 use Rattle.std.proofs.Common.{◌≡◌, ◌≢◌, ℕ, ◌==◌, ◌&&◌, ◌⊎◌, inl, inr, Bool, true, false, cond, List, [], ◌∷◌, length, Option, None, Some, refl, sym, ap, subst, ◌∙◌, arith}
 use Rattle.std.specs.Prelude.{Contains, slice_get, slice_index_or, option_map, unwrap_or}
 use Rattle.std.specs.List.{filter}
@@ -27,7 +27,7 @@ module _ (f : Function) (b n : ℕ) where
   abbrev g : Function
   g = taken_out f b n
 
-  -- the block without it
+  -- the block with the instruction removed
   abbrev less_block : Block → Block
   less_block block = record { name = block.name; insts = changed_at n gone block.insts; end = block.end }
 
@@ -127,7 +127,7 @@ less_other keep b n c m ne = ap (λ x. cond x false (keep c m)) (and_right (c ==
 less_it : (keep : ℕ → ℕ → Bool) (b n c m : ℕ) → c ≡ b → m ≡ n → less keep b n c m ≡ false
 less_it keep b n c m same it = ap (λ x. cond x false (keep c m)) (and_from (c == b) (m == n) (eq-eqb c b same) (eq-eqb m n it))
 
--- what is kept of less was kept, and is another
+-- what is kept then was kept before, and is another
 kept_other : (keep : ℕ → ℕ → Bool) (b n c m : ℕ) → c ≡ b → less keep b n c m ≡ true → (m ≢ n) × (keep c m ≡ true)
 kept_other keep b n c m same is =
     elim (cases_eq m n) [
@@ -205,9 +205,9 @@ module _ (keep : ℕ → ℕ → Bool) (old : Function) (rows : List (List ℕ))
     ];
   }
 
--- ---- one step of cleaning
+-- ---- one step of dead code elimination
 
--- what stands in a row without a number stood there, and is another
+-- a number of a row without one is a number of the row, and another
 pub without_of : (n : ℕ) (row : List ℕ) (m : ℕ) → Contains (without n row) m → Contains row m × (m ≢ n)
 without_of n [] m has = absurd (not_in_empty m has)
 without_of n (k ∷ row) m has =
@@ -236,7 +236,7 @@ row_here left b n c same =
     by (Some row) = refl
 
 module _ (old : Function) (rows : List (List ℕ)) (new : Function) (left : List (List ℕ)) (b n : ℕ) (roots others : List Register) where
-  -- what isn't needed is taken out, and what it read waits
+  -- a dead instruction is removed, and the registers that it read go on the worklist
   pub cleaning_less : IsCleaning old rows new left roots → HasInst new b n → ¬ IsNeeded new (registers.Result b n)
       → ((r : Register) → Contains roots r → Contains others r ⊎ (r ≡ registers.Result b n)) → ((r : Register) → ReadsRegister new b n r → Contains others r)
       → IsCleaning old rows (taken_out new b n) (changed_at b (without n) left) others

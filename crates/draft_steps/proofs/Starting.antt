@@ -1,5 +1,5 @@
--- A draft as cleaning begins, where something was put for an instruction: what is read stands, and what stands is
--- needed, or would be if what fell were.
+-- A draft after a rewrite, as dead code elimination begins: each result that is read is of an instruction that stands,
+-- and each that stands is live, or would be if the registers on the worklist were.
 use Rattle.std.proofs.Common.{◌≡◌, ◌≢◌, ℕ, ◌<◌, ◌⊎◌, inl, inr, true, List, [], ◌∷◌, ◌++◌, length, map, Option, None, Some, refl, sym, ap, subst, ◌∙◌, arith}
 use Rattle.std.specs.Prelude.{Contains, slice_get, slice_index_or, option_map, unwrap_or}
 use Rattle.std.specs.List.{filter, range_with_len}
@@ -41,7 +41,7 @@ filter_all : (row : List ℕ) → filter (λ n. true) row ≡ row
 filter_all [] = refl
 filter_all (n ∷ row) = ap (λ (l : List ℕ). n ∷ l) (filter_all row)
 
--- where what stands is needed with these, cleaning begins
+-- dead code elimination may begin with a worklist with which each instruction that stands would be live
 pub cleaning_begins : (f : Function) (rows : List (List ℕ)) (waits : List Register) → ((b n : ℕ) → Contains (slice_index_or rows b []) n → IsNeededWith f waits (registers.Result b n)) → IsCleaning f rows f rows waits
 cleaning_begins f rows waits all = record {
   keep = λ b n. true;
@@ -68,7 +68,7 @@ cleaning_begins f rows waits all = record {
     same_row None = refl
     same_row (Some row) = ap (λ (l : List ℕ). Some l) (sym (filter_all row))
 
--- ---- where something was put for instruction n
+-- ---- where instruction n was rewritten
 
 module _ (f : Function) (rows : List (List ℕ)) (good : AreRows f rows) (b n : ℕ) (put : List Inst) (result : Operand) (block : Block) (is_block : IsBlock f b block) (stands : Contains (slice_index_or rows b []) n) where
   abbrev root : Register
@@ -95,7 +95,7 @@ module _ (f : Function) (rows : List (List ℕ)) (good : AreRows f rows) (b n : 
   left_other : (c : ℕ) → c ≢ b → slice_index_or left c [] ≡ slice_index_or rows c []
   left_other c ne = sym (unwrap_or-slice_get left c []) ∙ (ap (λ (o : Option (List ℕ)). unwrap_or o []) (other_row f rows good b n (length put) c ne) ∙ unwrap_or-slice_get rows c [])
 
-  -- an instruction stands then: what stood, but the root, and what is put
+  -- all that stood before stands, but the root; and so do the inserted instructions
   pub stays : (c q : ℕ) → Contains (slice_index_or rows c []) q → ¬ (registers.Result c q ≡ root) → Contains (slice_index_or left c []) q
   stays c q has other =
       elim (cases_eq c b) [
@@ -121,7 +121,7 @@ module _ (f : Function) (rows : List (List ℕ)) (good : AreRows f rows) (b n : 
       let split = parts f rows good b n (length put) block is_block stands in
       subst (λ (l : List ℕ). Contains l q) (sym left_is) (Contains-append_right split.before (news ++ split.after) q (Contains-append_left news split.after q has))
 
-  -- and nothing else does
+  -- nothing else does
   pub stood_or_came : (c q : ℕ) → Contains (slice_index_or left c []) q → (Contains (slice_index_or rows c []) q × ¬ (registers.Result c q ≡ root)) ⊎ ((c ≡ b) × Contains news q)
   stood_or_came c q has =
       elim (cases_eq c b) [
@@ -153,12 +153,13 @@ module _ (f : Function) (rows : List (List ℕ)) (good : AreRows f rows) (b n : 
       not_it : (c q : ℕ) → (q ≡ n → ⊥) → ¬ (registers.Result c q ≡ root)
       not_it c q ne e = ne (let number : q ≡ n = cc in number)
 
-  -- an operand of which the instruction stands then, and isn't the root
+  -- the operand is no result, or that of an instruction that stands then and isn't the root
   abbrev pub StandsThen : Operand → Type 0
   StandsThen a = (c q : ℕ) → a ≡ operands.Register (registers.Result c q) → Contains (slice_index_or left c []) q × ¬ (registers.Result c q ≡ root)
 
   module _ (put_stand : (j : ℕ) (i : Inst) → slice_get put j ≡ Some i → (a : Operand) → Contains (operands_of i.op) a → StandsThen a) (result_stands : StandsThen result) where
-    -- what stands for an operand that the arena had, or that is put
+    -- an operand of the arena or of an inserted instruction, after the replacement: if it is a result, its instruction
+    -- stands
     stands_for_old : (a : Operand) → ((c q : ℕ) → a ≡ operands.Register (registers.Result c q) → Contains (slice_index_or rows c []) q) → (c q : ℕ) → substituted_operand sigma a ≡ operands.Register (registers.Result c q) → Contains (slice_index_or left c []) q
     stands_for_old (operands.Register r) old c q is =
         elim (is_same_register r root) [
@@ -185,7 +186,7 @@ module _ (f : Function) (rows : List (List ℕ)) (good : AreRows f rows) (b n : 
     abbrev with_more : Block → Block
     with_more block = record { name = block.name; insts = block.insts ++ put; end = block.end }
 
-    -- an instruction of the arena with what is put is old, or put
+    -- an instruction of the arena then was there before, or is an inserted one
     old_or_put : (c k : ℕ) (more : Block) (i : Inst) → IsBlock (with_put f b put) c more → slice_get more.insts k ≡ Some i → ((a : Operand) → Contains (operands_of i.op) a → (d q : ℕ) → substituted_operand sigma a ≡ operands.Register (registers.Result d q) → Contains (slice_index_or left d []) q)
     old_or_put c k more i is at a has d q stands_is =
         elim (cases_eq c b) [
@@ -219,7 +220,7 @@ module _ (f : Function) (rows : List (List ℕ)) (good : AreRows f rows) (b n : 
     pub no_root : result ≢ operands.Register root
     no_root e = (result_stands b n e).1 refl
 
-    -- what is read with what stands for the root's register stands
+    -- each result that is read after the replacement is of an instruction that stands
     read_stands : (c k d q : ℕ) → ReadsRegister g c k (registers.Result d q) → Contains (slice_index_or left d []) q
     read_stands c k d q h =
         elim (who g c k (registers.Result d q) h) [
@@ -246,7 +247,8 @@ module _ (f : Function) (rows : List (List ℕ)) (good : AreRows f rows) (b n : 
       pub read_stands_then : (c k d q : ℕ) → ReadsRegister (taken_out g b n) c k (registers.Result d q) → Contains (slice_index_or left d []) q
       read_stands_then c k d q h = read_stands c k d q (silent.back c k (registers.Result d q) h)
 
-      -- where all was needed, and these are the registers of what came and of what the root read
+      -- all was live before, and the worklist has the results of the inserted instructions and the registers that the
+      -- root read
       module _ (clean : (c m : ℕ) → Contains (slice_index_or rows c []) m → IsNeeded f (registers.Result c m)) (fell : List Register)
           (came : (m : ℕ) → Contains news m → Contains fell (registers.Result b m)) (read : (r : Register) → ReadsRegister g b n r → Contains fell r) where
         pub begins : IsCleaning (taken_out g b n) left (taken_out g b n) left fell

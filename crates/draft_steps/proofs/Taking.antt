@@ -1,4 +1,4 @@
--- Cleaning a draft, step by step.
+-- Dead code elimination in a draft, step by step.
 use Rattle.std.proofs.Common.{◌≡◌, ℕ, zero, suc, ◌<◌, ◌≤◌, ◌⊎◌, inl, inr, Bool, true, false, ◌↔◌, List, [], ◌∷◌, ◌++◌, length, map, get_or, refl, sym, ap, subst, ◌∙◌, arith}
 use Rattle.std.specs.Prelude.{Contains}
 use Rattle.std.specs.List.{filter_map}
@@ -48,7 +48,7 @@ has_all (row ∷ rows) (suc b) n has =
     Contains-append_right (map (λ n. (0, n)) row) (map (λ (p : ℕ × ℕ). (suc p.0, p.1)) (all_in rows)) (suc b, n)
     (map_in (λ (p : ℕ × ℕ). (suc p.0, p.1)) (all_in rows) (b, n) (has_all rows b n has))
 
--- the register is of no instruction that stands
+-- the register is not the result of an instruction that stands
 abbrev pub IsGone : Draft → Register → Type 0
 IsGone d r = (b n : ℕ) → r ≡ registers.Result b n → ¬ Stands d b n
 
@@ -63,7 +63,7 @@ module _ (d : Draft) (whole : IsWhole d) where
       apart : (p l : ℕ) → p ≡ l → p < l → ⊥
       apart p l same lt = omega arith
 
-  -- an instruction stands where it is marked
+  -- an instruction stands where its flag is set
   pub stands_marks : (b n : ℕ) → (get_or (get_or d.stand.items b []) n false ≡ true) ↔ Stands d b n
   stands_marks b n = (
     λ there. elim (slice_get_cases d.arena.blocks b).1 [
@@ -79,7 +79,7 @@ module _ (d : Draft) (whole : IsWhole d) where
     λ stands. let (block, is, lt) = stands_there d whole b n stands in (stands_marked d whole b block is n stands).1,
   )
 
-  -- what doesn't stand reads nothing
+  -- an instruction that doesn't stand reads no register
   pub gone_reads_nothing : (b n : ℕ) (r : Register) → ¬ Stands d b n → InstReads d.arena b n r → ⊥
   gone_reads_nothing b n r out i =
       elim (cases_Bool (marked (get_or d.stand.items b []) n)) [
@@ -92,7 +92,7 @@ module _ (d : Draft) (whole : IsWhole d) where
   pub end_reads_there : (b k : ℕ) (r : Register) → EndReads d.arena b k r → ReadsRegister d.arena b (end_of d.arena b) r
   end_reads_there b k r e = end_reads_it d.arena b e.block r e.is_block e.has
 
-  -- roots that are gone, or needed, may be left out
+  -- registers that are live, or not of instructions that stand, may be dropped from the worklist
   needed_dropping : (roots others : List Register) → ((r : Register) → Contains roots r → Contains others r ⊎ (IsNeeded d.arena r ⊎ IsGone d r)) → (r : Register) → IsNeededWith d.arena roots r → IsNeededWith d.arena others r ⊎ IsGone d r
   needed_dropping roots others all r (ends b h) = inl (ends b h)
   needed_dropping roots others all r (reads b k need h) =
@@ -128,7 +128,7 @@ module _ (d : Draft) (whole : IsWhole d) where
     ];
   }
 
-  -- where each root that stands is needed, all that stands is
+  -- where each register of the worklist whose instruction stands is live, all that stands is
   pub cleaning_done : (f : Function) (rows : List (List ℕ)) (roots : List Register) → ((b n : ℕ) → Contains roots (registers.Result b n) → Stands d b n → IsNeeded d.arena (registers.Result b n))
       → IsCleaning f rows d.arena (numbers_of d) roots → IsCleaning f rows d.arena (numbers_of d) []
   cleaning_done f rows roots all is = cleaning_dropping f rows roots [] (λ r has. inr (by r has)) is
@@ -144,7 +144,7 @@ module _ (d : Draft) (whole : IsWhole d) where
                 subst (λ (k : ℕ). ¬ Stands d c k) number (subst (λ (x : ℕ). ¬ Stands d x n) block out))
           ]
 
-  -- where each instruction is read, and comes in a strict order before what reads it, each is needed
+  -- where each instruction has a use, and is before its users in a strict order, each is live
   module _ (Before : ℕ × ℕ → ℕ × ℕ → Type 0) (apart : (p : ℕ × ℕ) → Stands d p.0 p.1 → ¬ Before p p) (transitive : (p q r : ℕ × ℕ) → Before p q → Before q r → Before p r)
       (up : (b n c k : ℕ) → Stands d c k → ReadsRegister d.arena c k (registers.Result b n) → Before (b, n) (c, k)) (read : AreRead d []) where
     abbrev BeforeStanding : ℕ × ℕ → ℕ × ℕ → Type 0
@@ -172,7 +172,7 @@ module _ (d : Draft) (whole : IsWhole d) where
         from_last BeforeStanding (λ p own. apart p own.0 own.1) (λ p q r one two. (two.0, transitive p q r one.1 two.1)) NeededThere needed_through_readers
         (all_in (numbers_of d)) (λ p q behind. has_all (numbers_of d) q.0 q.1 behind.0) (b, n)
 
--- ---- what nothing reads is taken out
+-- ---- an instruction without uses is removed
 
 -- registers among operands
 pub registers_among : (xs : List Operand) (r : Register) → Contains xs (operands.Register r) → Contains (filter_map register_of xs) r
@@ -186,13 +186,13 @@ registers_among (operands.Number n ∷ xs) r has = registers_among xs r (elim (c
 registers_among (operands.Undef ∷ xs) r has = registers_among xs r (elim (cases_in operands.Undef xs (operands.Register r) has) [ inl same ↦ absurd cc | inr later ↦ later ])
 registers_among (operands.Poison ∷ xs) r has = registers_among xs r (elim (cases_in operands.Poison xs (operands.Register r) has) [ inl same ↦ absurd cc | inr later ↦ later ])
 
--- what an instruction reads is among the registers that fall
+-- the registers that an instruction reads go on the worklist
 pub reads_fall : (f : Function) (p : Place) (r : Register) → p.number < none → ReadsRegister f p.block p.number r → Contains (filter_map register_of (operands_at f p)) r
 reads_fall f p r less h =
     let here : p.number ≡ arena_place f p = sym (arena_place_inst f p less) in
     registers_among (operands_at f p) r (reads_written f p.block (arena_place f p) r (subst (λ (k : ℕ). ReadsRegister f p.block k r) here h))
 
--- what is used nowhere isn't needed
+-- a register without uses is dead
 pub unused : (f : Function) (r : Register) → IsUseCount f r 0 → ¬ IsNeeded f r
 unused f r (places, are, none_of) need =
     let (b, k, h) = reader_of f r need in

@@ -1,4 +1,4 @@
--- Places that are put behind others.
+-- Lists of places with more of them appended.
 use Rattle.std.proofs.Common.{◌≡◌, ℕ, ◌+◌, ◌<◌, List, [], ◌∷◌, ◌++◌, All, length, get_or, take, sym, subst}
 use Rattle.std.specs.Prelude.{Contains}
 use Rattle.std.proofs.lemmas.List.Elements.{All-append, All-more, All-push, All-weaker, Contains-append_left, Contains-append_right, Contains-get_or, Contains-push}
@@ -24,7 +24,7 @@ module _ (put replaced slice one two three : List Place) (root : Place) (pushed 
   pub all_among : (P : Place → Type 0) → All P put → P root → All P replaced → All P two
   all_among P puts is rest = subst (All P) (sym extended) (All-append P one slice (subst (All P) (sym pushed) (All-push P put root puts is)) (subst (All P) (sym same) rest))
 
--- the place of a register that is read once is among these
+-- if the register has exactly one use, the place of its instruction is among these
 abbrev pub IsTold : Function → List Place → Register → Type 0
 IsTold f places r = (b n : ℕ) → r ≡ registers.Result b n → IsUseCount f (registers.Result b n) 1 → Contains places (record { block = b; number = n })
 
@@ -33,7 +33,7 @@ pub told_more : (f : Function) (old new : List Place) (used : List Register) (in
 told_more f old new used index d lt keeps all here =
     All-more (IsTold f new) used index d lt (All-weaker (IsTold f old) (IsTold f new) (λ r told b n is once. keeps (record { block = b; number = n }) (told b n is once)) (take index used) all) here
 
--- where the register is this one, or is of no instruction
+-- the register is the next one of the list, or of no instruction
 pub told_here : (f : Function) (old new : List Place) (used : List Register) (index : ℕ) (d r : Register) → get_or used index d ≡ r → index < length used → ((p : Place) → Contains old p → Contains new p)
     → All (IsTold f old) (take index used) → IsTold f new r → All (IsTold f new) (take (index + 1) used)
 told_here f old new used index d r is lt keeps all here = told_more f old new used index d lt keeps all (subst (IsTold f new) (sym is) here)

@@ -1,4 +1,4 @@
--- A draft of which only what is listed for its registers differs is settled and clean as before.
+-- A draft of which only use lists change is settled, and has no dead code, as before.
 use Rattle.std.proofs.Common.{sym, subst, ◌∙◌}
 use Rattle.ir_core.specs.declared.function.Function.{Function}
 use Rattle.ir_core.specs.declared.operand.Register.TheVariants as registers

@@ -1,5 +1,5 @@
--- The matches at an instruction whose statements are untouched are those that were there, but for what is asked to be
--- used once.
+-- Where the statements of matches at an instruction are bound to untouched ones, the matches are those that were there,
+-- but perhaps for some whose rule asks for a register with one use.
 use Rattle.std.proofs.Common.{◌≡◌, ◌⊎◌, inl, inr, ℕ, suc, ◌<◌, ◌≤◌, List, [], ◌∷◌, length, get_or, None, Some, refl, sym, ap, subst, ◌∙◌, arith}
 use Rattle.std.specs.Prelude.{Contains, slice_get}
 use Rattle.std.proofs.lemmas.List.Elements.{All-contains, Contains-get_or}
@@ -29,7 +29,8 @@ use Rattle.draft_steps.proofs.Filtered.{Filtered, filtered}
 use Rattle.draft_steps.proofs.Rooted.{bound_there, each_come}
 use Rattle.draft_steps.proofs.Same.{match_too, same_reads}
 
--- the instruction is the same in both, and is used once now only where it was
+-- the instruction is the same in both functions, and has exactly one use in the new one only where it has in the old
+-- one
 pub record IsSameInst (old new : Function) (b p : ℕ) : Type 0 where
   pub inst : Inst
   pub was : IsInst old b p inst
@@ -43,7 +44,7 @@ module _ (rules : List Rule) (ready : AreReady rules) (old new : Function) (b n 
     (more : (t p q i : ℕ) (r : Read) → t < depth → G t p → IsRead new b p i r → r.operand ≡ operands.Register (registers.Result b q) → G (suc t) q)
     (same : (t p : ℕ) → t ≤ depth → G t p → IsSameInst old new b p)
     (once_or_not : (p : ℕ) → IsUsedOnce new (registers.Result b p) ⊎ ¬ IsUsedOnce new (registers.Result b p)) where
-  -- what statements are bound to is the same
+  -- the instructions that statements are bound to are the same
   module _ (m : Match) (of : IsAt b n m) (rule : Rule) (at_rule : slice_get rules m.rule ≡ Some rule) where
     abbrev x : Binding
     x = m.binding
@@ -54,7 +55,7 @@ module _ (rules : List Rule) (ready : AreReady rules) (old new : Function) (b n 
     abbrev Bound : ℕ → ℕ → Type 0
     Bound j p = slice_get x.statements j ≡ Some (registers.Result x.block p)
 
-    -- of a match that is there now
+    -- for a match in the new function
     module _ (is : MatchesInAnyOrder new x.block x.place rule x) where
       now_same : (j p : ℕ) → Bound j p → IsSameInst old new b p
       now_same j p at =
@@ -76,7 +77,7 @@ module _ (rules : List Rule) (ready : AreReady rules) (old new : Function) (b n 
           let once : IsUsedOnce new (registers.Result b p) = subst (IsUsedOnce new) (is_r ∙ here) (is.one_use j r asked at) in
           subst (IsUsedOnce old) (sym (is_r ∙ here)) ((now_same j p bound).once once))
 
-    -- of a match that was there
+    -- for a match in the old one
     module _ (is : MatchesInAnyOrder old x.block x.place rule x) where
       then_same : (j p : ℕ) → Bound j p → IsSameInst old new b p
       then_same j p at =
@@ -96,7 +97,7 @@ module _ (rules : List Rule) (ready : AreReady rules) (old new : Function) (b n 
               ap (λ (l : List Read). slice_get l i) (reads_at_inst new b p inst now ∙ sym (same_reads old new b p inst.width s inst.op operation) ∙ sym (reads_at_inst old b p inst was)) ∙ read_old in
               more t p q i r (omega (arith, most, less)) g read_new (reads ∙ ap (λ (c : ℕ). operands.Register (registers.Result c q)) of.0)
 
-      -- what these formulas ask to be used once is
+      -- the registers of which these formulas ask for one use have exactly one
       abbrev AreUsedOnce : List Formula → Type 0
       AreUsedOnce asked = (j : ℕ) (r : Register) → Contains asked (formulas.HasOneUse j) → slice_get x.statements j ≡ Some r → IsUsedOnce new r
 

@@ -1,4 +1,5 @@
--- What is read of a draft where an instruction is taken out: all else is read where it was, and what it read falls.
+-- The uses in a draft from which an instruction is removed: all others are there as before, and the registers that it
+-- read go on the worklist.
 use Rattle.std.proofs.Common.{◌≡◌, ℕ, zero, suc, ◌+◌, ◌<◌, ◌≤◌, ◌⊎◌, inl, inr, cond, List, [], ◌∷◌, ◌++◌, length, refl, sym, ap, subst, ◌∙◌, arith}
 use Rattle.std.specs.Prelude.{Contains, slice_index_or, sum_by}
 use Rattle.std.specs.List.{filter_map}
@@ -36,7 +37,7 @@ use Rattle.draft_steps.proofs.Silencing.{taken_out_is_silenced, without_of}
 use Rattle.draft_steps.proofs.Taking.{IsGone, reads_fall, registers_among}
 use Rattle.draft.proofs.Wholeness.{few_insts}
 
--- what is counted among operands is there
+-- a register that is counted among operands is one of them
 counted_contains : (r : Register) (xs : List Operand) → (times r xs ≡ 0 → ⊥) → Contains xs (operands.Register r)
 counted_contains r [] some = absurd (some refl)
 counted_contains r (x ∷ xs) some =
@@ -48,7 +49,7 @@ counted_contains r (x ∷ xs) some =
           later_in x xs (operands.Register r) (counted_contains r xs (λ none. some (omega (arith, none, first, counts))))
     ]
 
--- where an instruction is taken out a register is read by as many operands, or that one read it
+-- where an instruction is removed, a register has as many uses as before, or the instruction read it
 pub less_often : (f : Function) → AreFew f → (b n : ℕ) → HasInst f b n → (r : Register)
     → (times_in_function r f ≤ times_in_function r (taken_out f b n)) ⊎ Contains (filter_map register_of (operands_at f (record { block = b; number = n }))) r
 less_often f few b n has r =
@@ -64,7 +65,7 @@ less_often f few b n has r =
 
 -- ---- what stands
 
--- what stands without a number stood, and is another
+-- what stands in rows without a number stood before, and is another
 pub less_in : (rows : List (List ℕ)) (b n c m : ℕ) → Contains (slice_index_or (changed_at b (without n) rows) c []) m → Contains (slice_index_or rows c []) m × ((c ≡ b) × (m ≡ n) → ⊥)
 less_in [] b n c m has = absurd (not_in_empty m has)
 less_in (row ∷ rows) zero n zero m has = let (had, ne) = without_of n row m has in (had, λ e. ne e.1)
@@ -76,14 +77,14 @@ less_in (row ∷ rows) (suc b) n (suc c) m has =
 
 -- ---- the draft
 
--- where a register is of nothing that stands, no use of it is told
+-- a register may be dropped from the worklist where its instruction doesn't stand
 pub uses_dropping : (was d : Draft) (roots others : List Register) → ((r : Register) → Contains roots r → Contains others r ⊎ IsGone d r) → KeepsUses was d roots → KeepsUses was d others
 uses_dropping was d roots others all keeps = λ b n stands. elim (keeps b n stands) [
   | inl enough ↦ inl enough
   | inr waits ↦ elim (all (registers.Result b n) waits) [ inl other ↦ inr other | inr gone ↦ absurd (gone b n refl stands) ]
 ]
 
--- nor is it read
+-- and where it has a use
 pub read_dropping : (d : Draft) (roots others : List Register) → ((r : Register) → Contains roots r → Contains others r ⊎ (IsGone d r ⊎ ((b : ℕ) × (k : ℕ) × ReadsRegister d.arena b k r))) → AreRead d roots → AreRead d others
 read_dropping d roots others all are = λ b n stands. elim (are b n stands) [
   | inl read ↦ inl read
@@ -99,7 +100,7 @@ module _ (d d' : Draft) (whole : IsWhole d) (b n : ℕ) (has : HasInst d.arena b
   pub stood : (c m : ℕ) → Stands d' c m → Stands d c m × ((c ≡ b) × (m ≡ n) → ⊥)
   stood c m stands = less_in (numbers_of d) b n c m (subst (λ (rows : List (List ℕ)). Contains (slice_index_or rows c []) m) numbers stands)
 
-  -- what it read falls
+  -- a register that the instruction read is on the worklist
   falls : (r : Register) → ReadsRegister d.arena b n r → Contains d'.fallen.items r
   falls r h =
       let (block, is_block, lt) = has in
@@ -110,7 +111,7 @@ module _ (d d' : Draft) (whole : IsWhole d) (b n : ℕ) (has : HasInst d.arena b
   still_falls : (r : Register) → Contains d.fallen.items r → Contains d'.fallen.items r
   still_falls r old = subst (λ (l : List Register). Contains l r) (sym fell) (Contains-append_left d.fallen.items (filter_map register_of (operands_at d.arena (record { block = b; number = n }))) r old)
 
-  -- what reads a register does, or it falls
+  -- what read a register still does, or the register is on the worklist
   read_stays : (c k : ℕ) (r : Register) → ReadsRegister d.arena c k r → ReadsRegister d'.arena c k r ⊎ Contains d'.fallen.items r
   read_stays c k r h =
       elim ((taken_out_is_silenced d.arena b n has).stay c k r h) [
@@ -118,7 +119,7 @@ module _ (d d' : Draft) (whole : IsWhole d) (b n : ℕ) (has : HasInst d.arena b
         | inr same ↦ inr (falls r (subst (λ (j : ℕ). ReadsRegister d.arena b j r) same.1 (subst (λ (x : ℕ). ReadsRegister d.arena x k r) same.0 h)))
       ]
 
-  -- it is read by as many operands, or its register falls
+  -- it has as many uses, or is on the worklist
   as_often : (r : Register) → (times_in_function r d.arena ≤ times_in_function r d'.arena) ⊎ Contains d'.fallen.items r
   as_often r = elim (less_often d.arena (few_insts d whole) b n has r) [
     | inl enough ↦ inl (let arenas = ap (times_in_function r) arena in omega arith)
@@ -159,7 +160,7 @@ module _ (d d' : Draft) (whole : IsWhole d) (b n : ℕ) (has : HasInst d.arena b
         ]
       ]
 
-  -- as many registers are read and wait as before
+  -- operands that are registers, and registers on the worklist, are as many as before
   pub as_many_read : registers_read d'.arena + length d'.fallen.items ≡ registers_read d.arena + length d.fallen.items
   as_many_read =
       let (block, inst, is_block, here) = inst_there d.arena b n has in
@@ -173,7 +174,7 @@ module _ (d d' : Draft) (whole : IsWhole d) (b n : ℕ) (has : HasInst d.arena b
       ap length fell ∙ (length-append d.fallen.items (filter_map register_of (operands_at d.arena (record { block = b; number = n }))) ∙ ap (λ (l : List Operand). length d.fallen.items + length (filter_map register_of l)) reads) in
       omega arith
 
--- a register that is used is read somewhere
+-- a register with a use is read somewhere
 pub used_is_read : (f : Function) (r : Register) (count : ℕ) → IsUseCount f r count → 0 < count → (b : ℕ) × (k : ℕ) × ReadsRegister f b k r
 used_is_read f r count (places, are, many) some =
     let found = some_at places 0 (omega (arith, many, some)) in

@@ -1,4 +1,4 @@
--- Walks over drafts of which only what is listed for registers differs.
+-- Searches in drafts that differ in use lists alone.
 use Rattle.std.proofs.Common.{◌≡◌, ℕ, zero, suc, ◌<◌, inl, List, length, All, Contains, refl, sym, ap, subst, ◌∙◌}
 use Rattle.std.proofs.lemmas.List.{get_or_append_left}
 use Rattle.std.proofs.lemmas.Option.{slice_get-get_or}

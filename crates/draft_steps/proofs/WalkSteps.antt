@@ -1,4 +1,4 @@
--- Walks that go on.
+-- Searches that find more.
 use Rattle.std.proofs.Common.{◌≡◌, ◌⊎◌, ℕ, inl, inr, [], ◌∷◌, ◌++◌, length, All, Contains, sym, ap, subst, ◌∙◌, append-nil, append_assoc}
 use Rattle.std.proofs.lemmas.List.Elements.{All-push, Contains-append_left, Contains-push, Contains-push_cases}
 use Rattle.ir_core.specs.Blocks.{HasInst}
@@ -21,7 +21,7 @@ pub came-further : (v w : Walk) (b n : ℕ) → IsFurther v w → Came v b n →
 came-further v w b n further came =
     subst (λ l. Contains l (record { block = b; number = n })) (sym further.is) (Contains-append_left v.found.items further.more (record { block = b; number = n }) came)
 
--- one more place
+-- one more instruction is found
 pub walk-more : (d : Draft) (old new : Walk) (p : Place) → IsWalk d old → HasInst d.arena p.block p.number → length new.reached ≡ length old.reached → IsAdded old.reached new.reached p → new.found.items ≡ old.found.items ++ p ∷ []
     → IsWalk d new
 walk-more d old new p walk inst blocks added found = record {
@@ -34,7 +34,7 @@ walk-more d old new p walk inst blocks added found = record {
   ]);
 }
 
--- what two walks came to, one after the other
+-- what two searches found, one after the other
 pub only-twice : (IsSuch : ℕ → ℕ → Type 0) (u v w : Walk) → CameOnlyTo IsSuch u v → CameOnlyTo IsSuch v w → CameOnlyTo IsSuch u w
 only-twice IsSuch u v w one two b n came = elim (two b n came) [
   | inl before ↦ one b n before

@@ -1,4 +1,4 @@
--- A walk that forgets place by place.
+-- A search forgets what it found, place by place.
 use Rattle.std.proofs.Common.{ℕ, List, Contains}
 use Rattle.places.specs.declared.place.Place.{Place}
 use Rattle.places.specs.Sets.{Rows, Has}

@@ -1,4 +1,4 @@
--- What stands at a place reads the registers that are among its operands.
+-- An instruction or a terminator reads the registers that are among its operands.
 use Rattle.std.proofs.Common.{◌≡◌, ℕ, ◌<◌, cond, ◌⊎◌, inl, inr, List, [], ◌∷◌, length, Option, None, Some, map, refl, sym, ap, ◌∙◌, arith}
 use Rattle.std.specs.Prelude.{Contains, slice_get, option_map, unwrap_or}
 use Rattle.std.proofs.lemmas.Bool.{cases_eq, eq-eqb, ne_eqb}
@@ -42,7 +42,7 @@ operands-at_end f b k (terminators.Branch c to other) = refl
 operands-at_end f b k (terminators.Switch a width other cases) = refl
 operands-at_end f b k terminators.Unreachable = refl
 
--- these operands are what is written at the place to be read
+-- these are the operands that are read at the place
 abbrev Reads : Function → ℕ → ℕ → List Operand → Type 0
 Reads f b k reads = operands_in (reads_at f b k) ≡ reads
 
@@ -119,7 +119,7 @@ who f b k r h = by (slice_get f.blocks b) refl
     by None none = absurd (none_read f b k r h (ap (reads_in f b k) none))
     by (Some block) at = in_block block at (slice_get block.insts k) refl
 
--- no instruction stands where the terminator does
+-- an instruction isn't where the terminator is
 pub no_inst_at_end : (f : Function) (b k : ℕ) (r : Register) → k ≡ end_of f b → InstReads f b k r → ⊥
 no_inst_at_end f b k r last i =
     let lt : k < length i.block.insts = slice_get_within i.block.insts k i.inst i.is_inst in

@@ -1,4 +1,4 @@
--- The rows of a whole draft, and what is read in a settled one.
+-- The numbers that stand in a draft, and what is read in a settled one.
 use Rattle.std.proofs.Common.{◌≡◌, ℕ, ◌<◌, ◌≤◌, inl, inr, List, [], length, get_or, Some, refl, sym, subst, ◌∙◌, arith}
 use Rattle.std.specs.Prelude.{Contains, slice_get}
 use Rattle.ir_core.specs.Blocks.{IsBlock}
@@ -48,7 +48,7 @@ module _ (d : Draft) (whole : IsWhole d) where
     read = read;
   }
 
--- what is read in a settled draft stands
+-- a result that is read in a settled draft is of an instruction that stands
 pub settled_reads : (d : Draft) → IsSettled d → (b k c m : ℕ) → ReadsRegister d.arena b k (registers.Result c m) → Stands d c m
 settled_reads d settled b k c m h =
     elim (who d.arena b k (registers.Result c m) h) [

@@ -1,4 +1,4 @@
--- Functions that are kept as arenas: of each block the numbers of the instructions that stand there, in order.
+-- Functions that are kept as an arena and, for each block, the numbers of the instructions that stand there, in order.
 use Rattle.std.specs.Prelude.{◌≡◌, ℕ, List, [], length, Some, Contains, slice_get, slice_index_or}
 use Rattle.ir_core.specs.Blocks.{HasInst}
 use Rattle.ir_core.specs.Checks.{IsInst}
@@ -11,12 +11,12 @@ use Rattle.ir_core.specs.declared.operand.Register.TheVariants as registers
 use Rattle.draft.specs.Drafts.{placed, blocks_of}
 use Rattle.places.specs.Orders.{place_in}
 
--- the numbers of a block
+-- the numbers of the instructions that stand in a block, in order
 abbrev pub row_of : List (List ℕ) → ℕ → List ℕ
 row_of rows b = slice_index_or rows b []
 
--- Each number of a block is that of an instruction, and stands there once. What reads a register stands, and what is
--- read does.
+-- Each number in the row of a block is that of an instruction, and is there once. An instruction that reads a register
+-- stands, and so does one whose result is read.
 pub record AreArranged (arena : Function) (rows : List (List ℕ)) : Type 0 where
   pub as_many : length rows ≡ length arena.blocks
   pub there : (b n : ℕ) → Contains (row_of rows b) n → HasInst arena b n
@@ -25,6 +25,6 @@ pub record AreArranged (arena : Function) (rows : List (List ℕ)) : Type 0 wher
       → r.operand ≡ operands.Register register → Contains (row_of rows b) n
   pub read_stands : (b k i c n : ℕ) (r : Read) → IsRead arena b k i r → r.operand ≡ operands.Register (registers.Result c n) → Contains (row_of rows c) n
 
--- the function that the arena is kept for
+-- the function of the arena and these rows
 abbrev pub arranged : Function → List (List ℕ) → Function
 arranged arena rows = record { name = arena.name; before = arena.before; width = arena.width; parameters = arena.parameters; after = arena.after; blocks = blocks_of (placed rows) rows arena.blocks }

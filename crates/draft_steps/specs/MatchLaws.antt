@@ -12,24 +12,24 @@ use Rattle.draft.specs.Drafts.{AreTouched, Reaches, Stands, function_of, numbers
 use Rattle.places.specs.Orders.{place_in}
 use Rattle.draft.specs.Whole.{IsSettled}
 
--- a match that names numbers, by places
+-- a match in the arena, as one in the function: with positions in place of numbers
 abbrev pub placed_match : Draft → Match → Match
 placed_match d m = record { rule = m.rule; binding = placed_binding d m.binding }
 
--- the matches at an instruction of the arena, whatever the order of its numbers, are by places those of the draft's
--- function
+-- the matches at an instruction of the arena, whatever the order of the numbers that their statements have, are those
+-- at its position in the draft's function, with numbers in place of positions
 abbrev pub MatchesOfTheArena : Type 0
 MatchesOfTheArena = (rules : List Rule) (d : Draft) (b n : ℕ) (matches : List Match)
     → AreReady rules → IsSettled d → MeetsChecks (function_of d) → Stands d b n
     → AreMatchesInAnyOrder rules (arena_of d) (IsAt b n) matches
     → AreMatchesWhere rules (function_of d) (IsAt b (place_in (numbers_in d b) n)) (map (placed_match d) matches)
 
--- no source has more statements than one more than so many
+-- no rule's source has more than `depth` + 1 statements
 abbrev pub AreSourcesWithin : ℕ → List Rule → Type 0
 AreSourcesWithin depth rules = (r : ℕ) (rule : Rule) → slice_get rules r ≡ Some rule → length rule.source ≤ suc depth
 
--- An instruction that reaches nothing that was touched, through as many operands as a source has, has no match that it
--- didn't have.
+-- Where no chain of at most `depth` operands leads from an instruction to a touched one, it has no match that it didn't
+-- have before.
 abbrev pub MatchesOfTheUntouched : Type 0
 MatchesOfTheUntouched = (rules : List Rule) (old new : Draft) (touched : List Place) (depth b n : ℕ) (matches : List Match)
     → AreReady rules → AreSourcesWithin depth rules → IsSettled new → AreTouched old new touched → (IsReached (arena_of old) b ↔ IsReached (arena_of new) b)

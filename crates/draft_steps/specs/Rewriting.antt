@@ -1,5 +1,5 @@
--- What a rule makes of a draft: the instructions that it puts get the next numbers and stand before the root, what
--- stands for the root's register is put for it, and the root goes.
+-- One rewrite of a draft: the target's instructions get the next numbers and are inserted before the root, all uses of
+-- the root's register are replaced, and the root is removed.
 use Rattle.std.specs.Prelude.{◌≡◌, ◌↔◌, ◌⊎◌, ℕ, ◌+◌, ◌<◌, List, [], ◌∷◌, ◌++◌, length, map, Some, All, Contains, slice_get}
 use Rattle.std.specs.List.{filter_map, range_with_len}
 use Rattle.ir_core.specs.Checks.{IsKnown}
@@ -22,11 +22,11 @@ use Rattle.draft.specs.declared.draft.Draft.{Draft}
 use Rattle.places.specs.declared.place.Place.{Place}
 use Rattle.draft_steps.specs.declared.rewriting.Rewritten.{Rewritten}
 
--- with more instructions in block b, which get the next numbers
+-- the arena with more instructions in block b, which get the next numbers
 abbrev pub with_put : Function → ℕ → List Inst → Function
 with_put f b put = record { name = f.name; before = f.before; width = f.width; parameters = f.parameters; after = f.after; blocks = changed_at b (λ (block : Block). record { name = block.name; insts = block.insts ++ put; end = block.end }) f.blocks }
 
--- the numbers with others before one of them, in order
+-- the numbers of a block with others inserted before one of them, in order
 abbrev pub all_before : List ℕ → ℕ → List ℕ → List ℕ
 all_before row at [] = row
 all_before row at (n ∷ numbers) = all_before (put_before row at n) at numbers
@@ -35,31 +35,33 @@ all_before row at (n ∷ numbers) = all_before (put_before row at n) at numbers
 abbrev pub rows_with : List (List ℕ) → ℕ → ℕ → List ℕ → List (List ℕ)
 rows_with rows b at numbers = changed_at b (λ row. all_before row at numbers) rows
 
--- a binding where what is put has the next numbers
+-- the binding with the next number for its root, so that inserted instructions are numbered from there on
 abbrev pub numbered : Function → Binding → Binding
 numbered f m = record m { place = end_of f m.block }
 
--- the numbers of what is put
+-- the numbers of the inserted instructions
 abbrev pub put_numbers : Function → Rewrite → List ℕ
 put_numbers f w = range_with_len (end_of f w.block) (length w.put)
 
--- what may be read by the j-th of instructions that are put: what is known, and what those before it give
+-- an operand that the j-th inserted instruction may read: one known to the arena, or the result of one inserted before
+-- it
 abbrev pub MayRead : Function → ℕ → ℕ → Operand → Type 0
 MayRead f b j a = IsKnown f a ⊎ ((i : ℕ) × (i < j) × (a ≡ operands.Register (registers.Result b (end_of f b + i))))
 
--- what is put reads these
+-- each inserted instruction reads only such operands
 abbrev pub MayPut : Function → ℕ → List Inst → Type 0
 MayPut f b put = (j : ℕ) (inst : Inst) → slice_get put j ≡ Some inst → All (MayRead f b j) (operands_of inst.op)
 
--- the arena with what is put for instruction n of the block
+-- the arena once instruction n of the block is rewritten: instructions are inserted, its uses replaced, and it is
+-- removed
 abbrev pub put_for : Function → Rewrite → ℕ → Function
 put_for f w n = taken_out (replaced (with_put f w.block w.put) (registers.Result w.block n) w.result) w.block n
 
--- and its numbers
+-- and the numbers of its blocks
 abbrev pub rows_put_for : Function → List (List ℕ) → Rewrite → ℕ → List (List ℕ)
 rows_put_for f rows w n = changed_at w.block (without n) (rows_with rows w.block n (put_numbers f w))
 
--- The draft is the old one with what is put for its instruction n; and this is told of it.
+-- The new draft is the old one once its instruction n is rewritten, and `told` says what was done.
 pub record IsPutFor (old new : Draft) (w : Rewrite) (n : ℕ) (told : Rewritten) : Type 0 where
   pub arena : new.arena ≡ put_for old.arena w n
   pub numbers : numbers_of new ≡ rows_put_for old.arena (numbers_of old) w n
@@ -67,6 +69,6 @@ pub record IsPutFor (old new : Draft) (w : Rewrite) (n : ℕ) (told : Rewritten)
   pub places : (p : Place) → Contains told.replaced.items p
       ↔ (IsPlaceIn (with_put old.arena w.block w.put) p × IsReader (with_put old.arena w.block w.put) (registers.Result w.block n) p)
   pub result : told.result ≡ w.result
-  -- registers of what came, and what the root read
+  -- the results of the inserted instructions, and the registers that the root read
   pub fell : new.fallen.items ≡ old.fallen.items ++ map (λ number. registers.Result w.block number) (put_numbers old.arena w)
       ++ filter_map register_of (operands_at (replaced (with_put old.arena w.block w.put) (registers.Result w.block n) w.result) (record { block = w.block; number = n }))

@@ -1,4 +1,4 @@
--- Walks from places to what reads them in their block.
+-- Searches along def-use chains, from instructions to their users in the same block.
 use Rattle.std.specs.Prelude.{◌≡◌, ◌⊎◌, ℕ, ◌++◌, List, [], length, All, Contains}
 use Rattle.draft.specs.declared.draft.Draft.{Draft}
 use Rattle.places.specs.declared.place.Place.{Place}
@@ -10,28 +10,28 @@ use Rattle.readers.specs.Readers.{IsReader}
 use Rattle.places.specs.Sets.{Has}
 use Rattle.draft.specs.Whole.{IsWhole}
 
--- the walk came to number n of block b
+-- the search found instruction n of block b
 abbrev pub Came : Walk → ℕ → ℕ → Type 0
 Came w b n = Contains w.found.items (record { block = b; number = n })
 
--- It came to no place of so many blocks.
+-- It found nothing yet, over so many blocks.
 pub record IsIdle (blocks : ℕ) (w : Walk) : Type 0 where
   pub blocks_are : length w.reached ≡ blocks
   pub unmarked : (b n : ℕ) → ¬ Has w.reached b n
   pub none : w.found.items ≡ []
 
--- It came to instructions of the draft. What is marked is among them.
+-- It found instructions of the draft. What it marked is among them.
 pub record IsWalk (d : Draft) (w : Walk) : Type 0 where
   pub blocks : length w.reached ≡ length d.arena.blocks
   pub insts : All (λ p. HasInst d.arena p.block p.number) w.found.items
   pub marked : (b n : ℕ) → Has w.reached b n → Came w b n
 
--- It goes on from where it came to.
+-- The new search found what the old one did, and perhaps more.
 pub record IsFurther (old new : Walk) : Type 0 where
   pub more : List Place
   pub is : new.found.items ≡ old.found.items ++ more
 
--- Only of what reads registers less may be listed.
+-- The same draft, but that use lists may be others.
 pub record IsSameDraft (old new : Draft) : Type 0 where
   pub whole : IsWhole new
   pub arena : new.arena ≡ old.arena
@@ -39,28 +39,29 @@ pub record IsSameDraft (old new : Draft) : Type 0 where
   pub stand : new.stand.items ≡ old.stand.items
   pub fallen : new.fallen.items ≡ old.fallen.items
 
--- it came to what reads an instruction in its block and stands
+-- it found the users of an instruction that stand in its block
 abbrev pub ReadersCame : Draft → Walk → Place → Type 0
 ReadersCame d w p = (n : ℕ) → Stands d p.block n → IsReader d.arena (registers.Result p.block p.number) (record { block = p.block; number = n }) → Came w p.block n
 
--- what the new walk came to and the old one didn't is such a place
+-- what the new search found and the old one didn't is such an instruction
 abbrev pub CameOnlyTo : (ℕ → ℕ → Type 0) → Walk → Walk → Type 0
 CameOnlyTo IsSuch old new = (b n : ℕ) → Came new b n → Came old b n ⊎ IsSuch b n
 
--- number n of block b stands at the place, or at one of the places
+-- instruction n of block b stands, and is at this place, or at one of these places
 abbrev pub StandsAt : Draft → Place → ℕ → ℕ → Type 0
 StandsAt d p b n = Stands d b n × (p ≡ record { block = b; number = n })
 
 abbrev pub StandsAtOneOf : Draft → List Place → ℕ → ℕ → Type 0
 StandsAtOneOf d places b n = Stands d b n × Contains places (record { block = b; number = n })
 
--- number n of block b stands and reads the instruction at a place of the block, or at one of the places
+-- instruction n of block b stands, and is a user of the one at this place of its block, or at one of these places
 abbrev pub ReadsHere : Draft → Place → ℕ → ℕ → Type 0
 ReadsHere d p b n = (b ≡ p.block) × Stands d b n × IsReader d.arena (registers.Result p.block p.number) (record { block = b; number = n })
 
 abbrev pub ReadsOneOf : Draft → List Place → ℕ → ℕ → Type 0
 ReadsOneOf d places b n = (p : Place) × Contains places p × ReadsHere d p b n
 
--- number n of block b stands and reaches one of the places through at most so many operands of its block
+-- instruction n of block b stands, and reads from one of these places through a chain of at most so many operands in
+-- its block
 abbrev pub ReachesOneOf : Draft → ℕ → List Place → ℕ → ℕ → Type 0
 ReachesOneOf d depth places b n = (p : Place) × Contains places p × (b ≡ p.block) × Stands d b n × Reaches d depth b n p.number

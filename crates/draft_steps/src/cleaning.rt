@@ -1,4 +1,4 @@
-//! Cleaning drafts.
+//! Dead code elimination in drafts.
 
 ghost use Rattle.std.specs.Prelude.{◌≡◌, ◌+◌, ◌++◌, ◌∷◌, [], ◌↔◌, ◌⊎◌, ◌<◌, ℕ, List as Seq, length, Contains, IsTrue, IsFalse, false, slice_index_or, IfSome, IfNone, IfOk, OnOk};
 ghost use Rattle.ir_core.specs.Checks.{MeetsChecks};
@@ -21,12 +21,12 @@ use readers::is;
 use std::alloc::{AllocError, Global};
 use use_counts::uses_of;
 
-/// Takes out what is needed no more since a rewrite, and gives the registers of which a use went and which are still
-/// used.
+/// Removes what a rewrite left dead, and returns those registers of the worklist that are still used.
 ///
-/// What nothing reads goes, and with it what it alone read. In a function without cycles all else is needed, since what
-/// reads an instruction leads to a terminator. In others what is left of a cycle may read itself alone: there a walk
-/// from the terminators finds what is needed, but where each register that lost a use is seen to be.
+/// An instruction without uses is removed, and then each whose last use that was. Where def-use chains have no cycles,
+/// all others are live (needed): a chain of users leads from each to a terminator. Where they may have cycles, the
+/// instructions of a cycle may have only one another as users. There a mark phase from the terminators finds what is
+/// live, unless each register that lost a use is seen to be live without it.
 pub(crate) fn clean_draft(
     alloc: Global,
     draft: &mut Draft,
@@ -54,7 +54,7 @@ pub(crate) fn clean_draft(
     Ok(used)
 }
 
-/// The register that fell last, if one is left.
+/// Takes the last register off the worklist.
 fn next_fallen(draft: &mut Draft) -> Option<Register>
     requires { IsWhole draft.old }
     ensures whole { IsWhole draft.new }
@@ -67,7 +67,7 @@ fn next_fallen(draft: &mut Draft) -> Option<Register>
     draft.fallen.pop()
 }
 
-/// Takes out what nothing reads, of what fell, and lists the rest.
+/// Works off the worklist: removes the instructions without uses, and lists the registers that have some.
 fn take_unused(draft: &mut Draft, used: &mut Vec<Register>) -> Result<(), AllocError>
     requires { IsWhole draft.old }
     ensures whole { OnOk result (IsWhole draft.new) }
@@ -87,7 +87,8 @@ fn take_unused(draft: &mut Draft, used: &mut Vec<Register>) -> Result<(), AllocE
     Ok(())
 }
 
-/// Takes out the instruction of a register that fell, where nothing reads it, and else lists the register.
+/// Removes the instruction of a register from the worklist where the register has no uses, and else lists the register.
+/// For a parameter, and where the instruction was removed before, there is nothing to do.
 fn take_or_list(
     draft: &mut Draft,
     used: &mut Vec<Register>,
@@ -121,7 +122,7 @@ fn take_or_list(
     Ok(())
 }
 
-/// Whether each register, where its instruction stands, is seen to be needed.
+/// Whether each of these registers whose instruction stands is seen to be live.
 fn are_needed(draft: &Draft, rewritten: &Rewritten, used: &[Register]) -> bool
     requires whole { IsWhole draft.now }
     requires result { (r : Named) → rewritten.now.result ≡ operands.Register r → IsNeeded draft.now.arena r }
@@ -135,8 +136,8 @@ fn are_needed(draft: &Draft, rewritten: &Rewritten, used: &[Register]) -> bool
     true
 }
 
-/// Whether what was put leads from a register to what stands for the root's, or it leads to a terminator within a few
-/// readers; or it has no instruction that stands.
+/// Whether a register's instruction was removed, or is seen to be live: a chain of inserted instructions leads from it
+/// to the operand that replaced the root's register, or a short chain of users to a terminator.
 fn is_seen_needed(draft: &Draft, rewritten: &Rewritten, register: Register) -> bool
     requires whole { IsWhole draft.now }
     requires result { (r : Named) → rewritten.now.result ≡ operands.Register r → IsNeeded draft.now.arena r }
@@ -160,7 +161,7 @@ fn is_seen_needed(draft: &Draft, rewritten: &Rewritten, register: Register) -> b
     leads_to_a_terminator(draft, register)
 }
 
-/// Whether the register is one of an instruction that stands.
+/// Whether the register is the result of an instruction that stands.
 fn is_standing(draft: &Draft, register: Register) -> bool
     requires { IsWhole draft.now }
     ensures result { (b n : ℕ) → register ≡ Register.Result b n → IsTrue result ↔ Stands draft.now b n }
@@ -185,7 +186,7 @@ fn is_marked(row: &[bool], number: u32) -> bool
     }
 }
 
-/// Takes out all that isn't needed.
+/// Removes all dead instructions: those that a mark phase from the terminators doesn't reach.
 fn take_unneeded(alloc: Global, draft: &mut Draft) -> Result<(), AllocError>
     requires { IsWhole draft.old }
     ensures whole { OnOk result (IsWhole draft.new) }
@@ -201,7 +202,7 @@ fn take_unneeded(alloc: Global, draft: &mut Draft) -> Result<(), AllocError>
     Ok(())
 }
 
-/// Takes out instructions that aren't needed, where they stand.
+/// Removes these dead instructions, as far as they stand.
 fn take_all(draft: &mut Draft, unneeded: &[(u32, u32)]) -> Result<(), AllocError>
     requires whole { IsWhole draft.old }
     requires unneeded { (b n : ℕ) → Contains unneeded.now (b, n) → ¬ IsNeeded draft.old.arena (Register.Result b n) }

@@ -1,4 +1,4 @@
-//! Instructions put into drafts.
+//! Instructions inserted into drafts.
 
 ghost use Rattle.std.specs.Prelude.{◌≡◌, ◌+◌, ◌<◌, ◌≤◌, ◌++◌, ◌∷◌, [], ◌↔◌, length, true, All, Contains, IsFalse, IfOk, OnOk, slice_index_or, slice_set};
 ghost use Rattle.ir_core.specs.Blocks.{IsBlock};
@@ -21,7 +21,8 @@ use readers::{count_reads, list_reads};
 use std::alloc::{AllocError, Global};
 use use_counts::Uses;
 
-/// Puts an instruction before another, and gives its number.
+/// Inserts an instruction before another, and returns its place. Its register goes on the worklist of dead code
+/// elimination.
 pub(crate) fn put_before(
     alloc: Global,
     draft: &mut Draft,
@@ -57,7 +58,7 @@ pub(crate) fn put_before(
     Ok(place)
 }
 
-/// Puts a number before another in the order of its block.
+/// Inserts the next number before another in the order of its block, and returns it.
 fn put_in_order(orders: &mut Vec<Order>, at: Place) -> Result<u32, AllocError>
     requires block { at.block < length orders.old.items }
     requires at { Contains (slice_index_or orders.old.items at.block []) at.number }
@@ -69,7 +70,7 @@ fn put_in_order(orders: &mut Vec<Order>, at: Place) -> Result<u32, AllocError>
     orders[at.block as usize].put_before(at.number)
 }
 
-/// Notes that a register may be read on a way that leads back to it, where a phi comes.
+/// Notes that def-use chains may have cycles, where the instruction is a phi.
 fn note_phi(has_cycles: &mut bool, inst: &Inst)
     ensures { IsFalse has_cycles.new ↔ (IsFalse has_cycles.old × ¬ IsPhi inst.now.op) }
 {
@@ -78,7 +79,7 @@ fn note_phi(has_cycles: &mut bool, inst: &Inst)
     }
 }
 
-/// Puts an instruction behind those of its block.
+/// Appends an instruction to those that the arena has of a block.
 fn push_inst(blocks: &mut List<Block>, block: u32, inst: Inst) -> Result<(), AllocError>
     requires { block < length blocks.old }
     ensures { OnOk result (blocks.new ≡ changed_at block (inst_put inst) blocks.old) }
@@ -86,7 +87,7 @@ fn push_inst(blocks: &mut List<Block>, block: u32, inst: Inst) -> Result<(), All
     blocks.get_mut(block as usize).insts.push(inst)
 }
 
-/// One more instruction of a block stands.
+/// Appends a flag for one more instruction of a block, which stands.
 fn push_mark(stand: &mut Vec<List<bool>>, block: u32) -> Result<(), AllocError>
     requires { block < length stand.old.items }
     ensures { OnOk result (stand.new.items ≡ slice_set stand.old.items block (slice_index_or stand.old.items block [] ++ true ∷ [])) }
@@ -94,7 +95,7 @@ fn push_mark(stand: &mut Vec<List<bool>>, block: u32) -> Result<(), AllocError>
     stand[block as usize].push(true)
 }
 
-/// One more instruction of a block is not used.
+/// Appends a count for one more instruction of a block, which has no uses.
 fn push_count(uses: &mut Uses, block: u32) -> Result<(), AllocError>
     requires { block < length uses.old.results.items }
     ensures parameters { OnOk result (uses.new.parameters ≡ uses.old.parameters) }

@@ -6,21 +6,21 @@ ghost use Rattle.draft_steps.specs.MatchLaws.{MatchesOfTheArena, MatchesOfTheUnt
 
 use bindings::temporaries_stand_before_roots;
 
-/// Where a number is put before another, all that had numbers keeps its order, and a queue of places stays one.
+/// Where a new number is inserted before another, all old numbers keep their order, and a worklist stays one.
 pub fn orders_are_kept()
     ensures put { PutsKeepOrders }
     ensures twice { KeepingIsTransitive }
     ensures queues { QueuesStay }
 {}
 
-/// The matches at an instruction of a draft's arena are by places those of its function.
+/// The matches at an instruction of a draft's arena are those at its position in the function.
 pub fn matches_of_the_arena()
     ensures { MatchesOfTheArena }
 {
     temporaries_stand_before_roots();
 }
 
-/// An instruction that reaches nothing that was touched has no match that it didn't have.
+/// An instruction from which no chain of operands leads to a touched one has no match that it didn't have before.
 pub fn matches_of_the_untouched()
     ensures { MatchesOfTheUntouched }
 {}

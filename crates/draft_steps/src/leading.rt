@@ -1,4 +1,4 @@
-//! What leads to a terminator.
+//! Chains of users that lead to a terminator.
 
 ghost use Rattle.std.specs.Prelude.{IsTrue, IfSome};
 ghost use Rattle.ir_core.specs.Checks.{IsKnown};
@@ -10,11 +10,11 @@ use draft::Draft;
 use ir_core::{Operand, Register};
 use places::{END, Place};
 
-/// How far readers are followed.
+/// How many users are followed along a chain.
 const MOST_FOLLOWED: u32 = 64;
 
-/// Whether a register is seen to be needed: what was listed last of what reads it, and of what reads that, is a
-/// terminator in the end, before so many of them.
+/// Whether a register is seen to be live: a chain from user to user, always to the last of the use list, comes to a
+/// terminator within so many.
 pub(crate) fn leads_to_a_terminator(draft: &Draft, register: Register) -> bool
     requires whole { IsWhole draft.now }
     requires known { IsKnown draft.now.arena (Operand.Register register) }
@@ -33,7 +33,7 @@ pub(crate) fn leads_to_a_terminator(draft: &Draft, register: Register) -> bool
     false
 }
 
-/// The place that was listed last for a register, where it is still read there.
+/// The last place of a register's use list, if the register is still read there.
 fn last_reader(draft: &Draft, register: Register) -> Option<Place>
     requires whole { IsWhole draft.now }
     requires known { IsKnown draft.now.arena (Operand.Register register) }

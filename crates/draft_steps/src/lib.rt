@@ -1,10 +1,11 @@
-//! Steps of a draft: rules applied, and what is needed no more taken out; queues of the places of a draft, and walks
-//! from places to what reads them in their block; and which matches a draft has.
+//! Rewriting of drafts: steps, in each of which a rule is applied and the dead code that this leaves is removed;
+//! worklists of instructions; searches along def-use chains inside a block; and which matches a draft has.
 //!
 //! What changes a draft takes it by value, and gives it back changed: where memory is refused halfway, it is dropped.
 //!
-//! Laws say that the matches of the arena are by places those of the draft's function, and that an instruction that
-//! reaches nothing that was touched has no match that it didn't have: `specs/MatchLaws`.
+//! Laws say that the matches in the arena are those in the draft's function, with numbers in place of positions, and
+//! that an instruction from which no chain of operands leads to a touched one has no match that it didn't have before:
+//! `specs/MatchLaws`.
 #![tactic(auto)]
 
 mod cleaning;

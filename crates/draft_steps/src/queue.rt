@@ -1,4 +1,4 @@
-//! The places at which a match may have come or gone, in order of place.
+//! The worklist of rewriting: the places at which a match may have come or gone, by their order.
 
 ghost use Rattle.std.specs.Prelude.{◌≡◌, ◌↔◌, ◌<◌, ◌⊎◌, ℕ, length, All, Contains, IfOk, OnOk, IfSome, IfNone};
 ghost use Rattle.ir_core.specs.Walks.{IsReached};
@@ -18,11 +18,11 @@ use places::{Order, Place, Waiting};
 use std::alloc::{AllocError, Global};
 use std::marker::Model;
 
-/// Places, each once, of which the first in order is taken first.
+/// A worklist of places, each once, from which the first in the order of a draft is taken first.
 #[derive(Drop)]
 pub struct Queue {
     waiting: Waiting,
-    /// A walk that came to no place: what it takes is kept for the next.
+    /// A search that found nothing, kept so that the next one uses its memory again.
     walk: Walk,
 }
 
@@ -39,7 +39,7 @@ impl Model for Queue {
 }
 
 impl Queue {
-    /// All places of a draft's reached blocks.
+    /// All instructions that stand in a draft's reached blocks.
     pub fn all(alloc: Global, draft: &Draft) -> Result<Queue, AllocError>
         requires { IsWhole draft.now }
         ensures queue { IfOk result (IsQueueOf draft.now) }
@@ -57,7 +57,7 @@ impl Queue {
         Ok(queue)
     }
 
-    /// Puts all places of a block into the queue.
+    /// Adds the instructions of a block that stand.
     fn insert_block(&mut self, draft: &Draft, block: u32) -> Result<(), AllocError>
         requires whole { IsWhole draft.now }
         requires block { block < length draft.now.arena.blocks }
@@ -74,7 +74,7 @@ impl Queue {
         Ok(())
     }
 
-    /// Puts a place into the queue, where it isn't there.
+    /// Adds a place, where it isn't on the worklist already.
     fn insert(&mut self, draft: &Draft, place: Place) -> Result<(), AllocError>
         requires queue { IsQueueOf draft.now self.old }
         requires place { IsNumbered (orders_of draft.now) place }
@@ -85,7 +85,7 @@ impl Queue {
         Ok(())
     }
 
-    /// Takes the first place out.
+    /// Takes the first place off the worklist. Its instruction may have been removed since it was added.
     pub fn take_first(&mut self, draft: &Draft) -> Option<Place>
         requires whole { IsWhole draft.now }
         requires queue { IsQueueOf draft.now self.old }
@@ -99,8 +99,9 @@ impl Queue {
         self.waiting.take_first(draft.orders.as_slice())
     }
 
-    /// Puts places into the queue that stand, and those that reach them through so many operands of their block. Of the
-    /// draft only what is listed for registers may be less. Where memory is refused, both are dropped.
+    /// Adds these instructions and those that read from them through chains of at most so many operands in their block,
+    /// as far as they stand. Of the draft only use lists change, which are trimmed. Where memory is refused, both are
+    /// dropped.
     pub fn insert_reaching(
         self,
         alloc: Global,
@@ -130,7 +131,7 @@ impl Queue {
     }
 }
 
-/// Puts places in.
+/// Adds places to a worklist.
 fn insert_all(waiting: &mut Waiting, orders: &[Order], places: &[Place]) -> Result<(), AllocError>
     requires arranged { IsArranged orders.now waiting.old }
     requires places { All (IsNumbered orders.now) places.now }

@@ -1,4 +1,4 @@
-//! Instructions taken out of drafts.
+//! Instructions removed from drafts.
 
 ghost use Rattle.std.specs.Prelude.{◌≡◌, ◌<◌, ◌++◌, [], false, length, OnOk, Some, slice_get, slice_index_or, slice_set};
 ghost use Rattle.std.specs.List.{filter_map};
@@ -16,7 +16,7 @@ use places::Place;
 use readers::{forget_reads, push_reads};
 use std::alloc::AllocError;
 
-/// Takes an instruction out.
+/// Removes an instruction. The registers that it read go on the worklist of dead code elimination.
 pub(crate) fn take_out(draft: &mut Draft, at: Place) -> Result<(), AllocError>
     requires whole { IsWhole draft.old }
     requires at { HasInst draft.old.arena at.block at.number }
@@ -34,7 +34,7 @@ pub(crate) fn take_out(draft: &mut Draft, at: Place) -> Result<(), AllocError>
     Ok(())
 }
 
-/// Leaves an instruction that reads nothing in the place of one.
+/// Overwrites an instruction of the arena with `freeze poison`, which reads no register.
 fn empty_inst(blocks: &mut List<Block>, at: Place)
     requires { (block : Written) × (slice_get blocks.old at.block ≡ Some block) × (at.number < length block.insts) }
     ensures { blocks.new ≡ changed_at at.block (inst_changed at.number gone) blocks.old }
@@ -47,7 +47,7 @@ fn empty_inst(blocks: &mut List<Block>, at: Place)
     inst.op = Op::Freeze(Operand::Poison);
 }
 
-/// An instruction stands no more.
+/// Marks an instruction as removed.
 fn clear_mark(stand: &mut Vec<List<bool>>, at: Place)
     requires block { at.block < length stand.old.items }
     requires number { at.number < length (slice_index_or stand.old.items at.block []) }

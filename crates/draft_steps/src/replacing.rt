@@ -1,4 +1,4 @@
-//! Operands put for a register.
+//! All uses of a register replaced by an operand.
 
 ghost use Rattle.std.specs.Prelude.{◌≡◌, ◌↔◌, ◌⊎◌, ◌<◌, length, slice_get, Some, Contains, OnOk, IfOk};
 ghost use Rattle.ir_core.specs.declared.function.Block.{Block as Written};
@@ -18,12 +18,12 @@ use places::{END, Place};
 use readers::{Substitute, count_reads, forget_reads, substitute_end, substitute_inst};
 use std::alloc::{AllocError, Global};
 
-/// An operand that is put for a register.
+/// A register, and the operand that replaces it.
 #[derive(Clone, Copy)]
 pub(crate) struct Swap {
     /// The register.
     pub(crate) from: Register,
-    /// What is put for it.
+    /// The operand.
     pub(crate) to: Operand,
 }
 
@@ -39,7 +39,7 @@ impl Substitute for Swap {
     }
 }
 
-/// Puts an operand wherever a register is read, and gives the places.
+/// Replaces all uses of a register by an operand, and returns their places.
 pub(crate) fn replace(
     alloc: Global,
     draft: &mut Draft,
@@ -64,7 +64,7 @@ pub(crate) fn replace(
     Ok(places)
 }
 
-/// Puts it at a place.
+/// Replaces the uses at one place, keeping counts of uses and use lists.
 fn replace_at(draft: &mut Draft, place: Place, swap: &Swap) -> Result<(), AllocError>
     requires whole { IsWhole draft.old }
     requires place { IsPlaceIn draft.old.arena place }
@@ -84,7 +84,7 @@ fn replace_at(draft: &mut Draft, place: Place, swap: &Swap) -> Result<(), AllocE
     }
 }
 
-/// Puts an operand wherever a register is read at a place.
+/// Writes the operand wherever the register is read at a place.
 fn swap_at(blocks: &mut List<Block>, place: Place, swap: &Swap)
     requires block { place.block < length blocks.old }
     requires inst { (block : Written) → slice_get blocks.old place.block ≡ Some block → (place.number < length block.insts) ⊎ (place.number ≡ none) }

@@ -33,19 +33,20 @@ use rule_core::Rule;
 use std::alloc::{AllocError, Global};
 use substitution::Rewrite;
 
-/// What a rule put.
+/// What a rewrite did to a draft.
 #[derive(Drop)]
 pub(crate) struct Rewritten {
-    /// The instructions of its target.
+    /// The places of the inserted instructions, which are the target's.
     pub(crate) put: Vec<Place>,
-    /// Where what stands for the root's register was put for it.
+    /// The places at which the root's register was replaced.
     pub(crate) replaced: Vec<Place>,
-    /// What stands for it.
+    /// The operand that replaced it: the result of the target.
     pub(crate) result: Operand,
 }
 
-/// Applies a rule where it matches with this binding, which names numbers: what it puts gets the next numbers and
-/// stands before the root, what stands for the root's register is put for it, and the root goes.
+/// Applies a rule where it matches with this binding to numbers of the arena: the target's instructions get the next
+/// numbers and are inserted before the root, all uses of the root's register are replaced by the target's result, and
+/// the root is removed.
 pub(crate) fn rewrite_draft(
     alloc: Global,
     draft: &mut Draft,
@@ -76,7 +77,8 @@ pub(crate) fn rewrite_draft(
     put_for(alloc, draft, root, rewrite)
 }
 
-/// Puts instructions before another, whose register what stands for it is put for, and which goes.
+/// Inserts the instructions of a rewrite before its root, replaces all uses of the root's register, and removes the
+/// root.
 fn put_for(
     alloc: Global,
     draft: &mut Draft,
@@ -104,7 +106,8 @@ fn put_for(
     })
 }
 
-/// Puts an operand for the register of an instruction, which goes, and gives the places where it was read.
+/// Replaces all uses of an instruction's register by an operand, removes the instruction, and returns the places of the
+/// uses.
 fn replace_root(
     alloc: Global,
     draft: &mut Draft,
@@ -145,7 +148,7 @@ fn name_at(alloc: Global, draft: &Draft, at: Place) -> Result<Option<Text>, Allo
     }
 }
 
-/// Puts instructions before another, and gives their places.
+/// Inserts instructions before another, in order, and returns their places.
 fn put_all(
     alloc: Global,
     draft: &mut Draft,
@@ -173,7 +176,7 @@ fn put_all(
     Ok(put)
 }
 
-/// The same binding, where what is put gets numbers from this one on.
+/// The same binding with this number for its root, so that inserted instructions are numbered from there on.
 fn at_number(alloc: Global, binding: &Binding, number: u32) -> Result<Binding, AllocError>
     ensures { IfOk result (λ numbered. numbered ≡ record binding.now { place = number }) }
 {

@@ -28,12 +28,13 @@ use rule_core::Rule;
 use std::alloc::{AllocError, Global};
 use use_counts::uses_of;
 
-/// Applies a rule where it matches with this binding, which names numbers, and cleans the draft. It gives the places
-/// that were touched: the root's, and those of what came, of what reads something else, and of what is read by one
-/// operand alone since then. Some of them were taken out. Where memory is refused, the draft is dropped.
+/// Applies a rule where it matches with this binding to numbers of the arena, and removes the code that this leaves
+/// dead. It returns the touched places: the root's, those of inserted instructions, those at which an operand was
+/// replaced, and those of instructions with exactly one use left. Some of the instructions were removed. Where memory
+/// is refused, the draft is dropped.
 ///
-/// It takes as many steps as the rule is long, places read the root, and instructions go; and where what lost a use may
-/// be read by a cycle alone, as many as the arena is long.
+/// Its time is linear in the size of the rule, the uses of the root, and the instructions that are removed; and where a
+/// register that lost a use may be read by a cycle alone, in the size of the arena.
 pub fn step(
     alloc: Global,
     draft: Draft,
@@ -103,7 +104,7 @@ fn step_in(
     Ok(touched)
 }
 
-/// Puts the places of registers that are read by one operand alone behind others.
+/// Appends the places of those registers that have exactly one use.
 fn push_used(draft: &Draft, places: &mut Vec<Place>, used: &[Register]) -> Result<(), AllocError>
     requires whole { IsWhole draft.now }
     requires used { HaveInsts draft.now used.now }

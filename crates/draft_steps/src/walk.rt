@@ -1,4 +1,4 @@
-//! What reaches places through operands of their block.
+//! Searches along def-use chains, from instructions to their users in the same block, level by level.
 
 ghost use Rattle.std.specs.Prelude.{◌<◌, ◌≤◌, ℕ, length, All, Contains, IfOk, OnOk};
 ghost use Rattle.ir_core.specs.Blocks.{HasInst};
@@ -15,7 +15,7 @@ use ir_core::Register;
 use places::{END, Marks, Place};
 use std::alloc::{AllocError, Global};
 
-/// Places of instructions that a walk came to, each once.
+/// The instructions that a search found, each once.
 #[derive(Drop)]
 pub(crate) struct Walk {
     reached: Marks,
@@ -23,7 +23,7 @@ pub(crate) struct Walk {
 }
 
 impl Walk {
-    /// A walk that came to no place of so many blocks.
+    /// A search over so many blocks, which found nothing yet.
     pub(crate) fn none(alloc: Global, blocks: u32) -> Result<Walk, AllocError>
         ensures { IfOk result (IsIdle blocks) }
     {
@@ -32,7 +32,8 @@ impl Walk {
         Ok(Walk { reached, found })
     }
 
-    /// Comes to places that stand, and to what reaches them through so many operands of their block.
+    /// Finds these instructions and those that read from them through chains of at most so many operands in their
+    /// block, as far as they stand.
     pub(crate) fn reach(
         &mut self,
         alloc: Global,
@@ -59,7 +60,7 @@ impl Walk {
         Ok(())
     }
 
-    /// Forgets what it came to.
+    /// Forgets what was found.
     pub(crate) fn clear(&mut self)
         requires marked { (b n : ℕ) → Has self.old.reached b n → Came self.old b n }
         requires blocks { All (λ p. p.block < length self.old.reached) self.old.found.items }
@@ -85,7 +86,7 @@ impl Walk {
         Ok(())
     }
 
-    /// Comes to what reads the places from one on up to another.
+    /// Finds the users of one level: of what was found from one index up to another.
     fn follow(
         &mut self,
         alloc: Global,
@@ -109,7 +110,7 @@ impl Walk {
         Ok(())
     }
 
-    /// Comes to what reads an instruction in its block.
+    /// Finds the users of an instruction that are in its block.
     fn come_to_readers(
         &mut self,
         alloc: Global,
@@ -135,7 +136,7 @@ impl Walk {
         Ok(())
     }
 
-    /// Comes to a place, where an instruction stands there and the walk didn't come there before.
+    /// Finds a place, if an instruction stands there and it wasn't found before.
     fn come_to(&mut self, draft: &Draft, place: Place) -> Result<(), AllocError>
         requires whole { IsWhole draft.now }
         requires walk { IsWalk draft.now self.old }

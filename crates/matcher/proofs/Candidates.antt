@@ -1,4 +1,4 @@
--- What is read from the root of a match down.
+-- What is read off from the root of a match down.
 use Rattle.std.proofs.Common.{◌≡◌, inl, inr, ℕ, ◌+◌, ◌<◌, ◌≤◌, List, length, Option, Some, Ok, Err, sym, ap, subst, ◌∙◌, arith}
 use Rattle.std.specs.Prelude.{slice_get, IfOk, Result}
 use Rattle.std.proofs.lemmas.Bool.{cases_eq}
@@ -28,7 +28,7 @@ use Rattle.bindings.proofs.Lists.{place_of, all_filled}
 use Rattle.bindings.proofs.Reading.{width_of_inst}
 use Rattle.matcher.proofs.Widths.{as_many, stable}
 
--- the root is bound to the instruction at which the match stands
+-- the root is bound to the instruction at which the match is
 pub root_bound : (f : Function) (b p : ℕ) (rule : Rule) (m : Binding) → MatchesInAnyOrder f b p rule m → (k : ℕ) → k + 1 ≡ length rule.source → slice_get m.statements k ≡ Some (registers.Result b p)
 root_bound f b p rule m is k last =
     let (s, at) = statement_at rule k (omega arith) in
@@ -36,7 +36,7 @@ root_bound f b p rule m is k last =
     let place : bound.place ≡ p = bound.matches.root (omega arith) ∙ is.place in
     bound.bound ∙ ap (λ (x : ℕ). Some (registers.Result x bound.place)) is.block ∙ ap (λ (x : ℕ). Some (registers.Result b x)) place
 
--- an operand of the source from statement j on is known
+-- the slots of an operand that a statement from j on has are filled
 known_operand : (rule : Rule) (j : ℕ) (slots : Slots) (m : Binding) (o : Operand) → KnowsFrom rule j slots m → (stands : SourceOperand rule o) → j ≤ stands.j → KnowsOperand slots m o
 known_operand rule j slots m o knows stands late =
     let (width, operands) = knows.statements stands.j stands.s late stands.statement in
@@ -46,7 +46,7 @@ known_operand rule j slots m o knows stands late =
 known_name : (slots : Slots) (m : Binding) (a b : Argument) → a ≡ b → KnowsName slots m a → KnowsName slots m b
 known_name slots m a b is knows = subst (λ (x : Argument). KnowsName slots m x) is knows
 
--- so is what a statement is bound to, once those behind it are looked at
+-- so is the slot of a statement, once those behind it are done
 pub known_statement : (rule : Rule) → IsRule rule → (j : ℕ) (slots : Slots) (m : Binding) → j < length rule.source → KnowsFrom rule (j + 1) slots m → Knows slots.statements.items m.statements j
 known_statement rule is_rule j slots m within knows = elim (cases_eq (j + 1) (length rule.source)) [
   | inl last ↦ knows.root j last
@@ -59,7 +59,7 @@ known_statement rule is_rule j slots m within knows = elim (cases_eq (j + 1) (le
       known_name slots m o.value (arguments.Register (names.Source j)) is known.1
 ]
 
--- what is needed to take a statement, under a match
+-- what is asked of the slots to take a statement, if there is a match
 pub record Takes (f : Function) (slots : Slots) (m : Binding) (j : ℕ) (s : Statement) : Type 0 where
   pub b : ℕ
   pub p : ℕ
@@ -93,7 +93,7 @@ knows_more rule j old new m s at keeps here knows = record {
   ];
 }
 
--- the width of each class is known
+-- the slot of the width of each class is filled
 known_class : (rule : Rule) (slots : Slots) (m : Binding) → KnowsFrom rule 0 slots m → (c : ℕ) → IsNamedInSource rule c → Knows slots.widths.items m.typing c
 known_class rule slots m knows c (s, among, inl result) =
     let (k, at) = place_of rule.source s among in
@@ -129,7 +129,7 @@ knows_width rule slots m no_fault classes count knows c within =
 later : (rule : Rule) (k : ℕ) (slots : Slots) (m : Binding) → KnowsFrom rule 0 slots m → KnowsFrom rule (k + 1) slots m
 later rule k slots m knows = record { root = knows.root; fixed = knows.fixed; statements = λ i s late at. knows.statements i s (omega arith) at }
 
--- in the end all slots are filled as the match has it
+-- in the end all slots are filled, with what the match has
 pub filled_as : (f : Function) (b p : ℕ) (rule : Rule) (slots : Slots) (m : Binding) → IsRule rule → HasNoFault rule → MatchesInAnyOrder f b p rule m → AreSlotsOf rule slots → KnowsFrom rule 0 slots m → IsFilledAs slots m
 filled_as f b p rule slots m is_rule no_fault is are knows =
     let widths : length slots.widths.items ≡ length m.typing = as_many rule m.typing (length slots.widths.items) is.typing are.widths in
@@ -145,7 +145,7 @@ filled_as f b p rule slots m is_rule no_fault is are knows =
       widths = all_filled slots.widths.items m.typing widths (knows_width rule slots m no_fault are.widths widths knows);
     }
 
--- what holds of a result holds of what follows from it
+-- a result with a property has what follows from it
 pub ok_then : {A E : Type 0} {P Q : A → Type 0} (r : Result A E) → IfOk r P → ((x : A) → P x → Q x) → IfOk r Q
 ok_then (Ok x) p then = then x p
 ok_then (Err e) p then = tt

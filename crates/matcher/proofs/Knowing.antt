@@ -1,4 +1,4 @@
--- What slots know.
+-- What slots are filled with.
 use Rattle.std.proofs.Common.{◌≡◌, inl, inr, ℕ, ◌<◌, List, length, get_or, slice_set, Option, Some, refl, sym, ap, subst, ◌∙◌, arith}
 use Rattle.std.specs.Prelude.{slice_get, All}
 use Rattle.std.proofs.lemmas.Bool.{cases_eq}
@@ -15,7 +15,7 @@ use Rattle.bindings.specs.declared.binding.Binding.{Binding}
 use Rattle.matcher.specs.declared.slots.Slots.{Slots}
 use Rattle.bindings.proofs.Lists.{set_here, set_elsewhere}
 
--- what is kept stays known
+-- a name whose slot is filled keeps it
 pub keeps_name : (m : Binding) (old new : Slots) (a : Argument) → Keeps m old new → KnowsName old m a → KnowsName new m a
 keeps_name m old new (arguments.Register (names.Input i)) keeps knows = keeps.inputs i knows
 keeps_name m old new (arguments.Register (names.Source j)) keeps knows = keeps.statements j knows
@@ -44,7 +44,7 @@ keeps_along m a b c first second = record {
   widths = λ k h. second.widths k (first.widths k h);
 }
 
--- as many slots have the same names
+-- where there are as many slots, there are slots for the same names
 has_name : (old new : Slots) (a : Argument) → AreAsMany old new → HasName old a → HasName new a
 has_name old new (arguments.Register (names.Input i)) same has = omega (arith, same.inputs)
 has_name old new (arguments.Register (names.Source j)) same has = omega (arith, same.statements)
@@ -72,15 +72,15 @@ as_many_along a b c first second = record {
   widths = second.widths ∙ first.widths;
 }
 
--- what is known of each operand by its place is known of each
+-- a property of each operand by index is one of all of them
 pub each_operand : (m : Binding) (slots : Slots) (os : List Operand) → ((i : ℕ) (o : Operand) → slice_get os i ≡ Some o → KnowsOperand slots m o) → All (KnowsOperand slots m) os
 each_operand m slots os each i d lt = each i (get_or os i d) (slice_get-get_or os i d lt)
 
--- a slot that is filled is known
+-- a slot is filled with a value
 pub knows_here : {T : Type 0} (slots : List (Option T)) (values : List T) (i : ℕ) (x : T) → i < length slots → slice_get values i ≡ Some x → Knows (slice_set slots i (Some x)) values i
 knows_here {T} slots values i x within at = set_here slots i (Some x) within ∙ ap (λ (o : Option T). Some o) (sym at)
 
--- and what was known still is
+-- and those that were filled keep theirs
 pub keeps_slots : {T : Type 0} (slots : List (Option T)) (values : List T) (i : ℕ) (x : T) → i < length slots → slice_get values i ≡ Some x → (k : ℕ) → Knows slots values k → Knows (slice_set slots i (Some x)) values k
 keeps_slots {T} slots values i x within at k knows = elim (cases_eq k i) [
   | inl same ↦ subst (λ (j : ℕ). Knows (slice_set slots i (Some x)) values j) (sym same) (knows_here slots values i x within at)
@@ -91,7 +91,7 @@ keeps_slots {T} slots values i x within at k knows = elim (cases_eq k i) [
 pub as_many_themselves : (slots : Slots) → AreAsMany slots slots
 as_many_themselves slots = record { statements = refl; inputs = refl; constants = refl; widths = refl }
 
--- what a name that is neither a register's nor a constant's stands for fills no slot
+-- an argument that is neither a register nor a constant has no slot
 pub knows_nothing : (slots : Slots) (m : Binding) (a : Argument) → ((n : Name) → a ≡ arguments.Register n → ⊥) → ((k : ℕ) → a ≡ arguments.Constant k → ⊥) → KnowsName slots m a
 knows_nothing slots m (arguments.Register n) no_register no_constant = absurd (no_register n refl)
 knows_nothing slots m (arguments.Constant k) no_register no_constant = absurd (no_constant k refl)

@@ -42,7 +42,7 @@ one_register a r q is_r is_q = let e : operands.Register r ≡ operands.Register
 one_number : (a : Operand) (n k : Number) → a ≡ operands.Number n → a ≡ operands.Number k → n ≡ k
 one_number a n k is_n is_k = let e : operands.Number n ≡ operands.Number k = sym is_n ∙ is_k in cc
 
--- an argument stands for what the equal one does
+-- equal arguments stand for the same
 stands_as : (z : Binding) (N : ℕ) (a c : Argument) (o : Operand) → a ≡ c → StandsFor z N a o → StandsFor z N c o
 stands_as z N a c o is stands = subst (λ (d : Argument). StandsFor z N d o) is stands
 
@@ -67,14 +67,14 @@ same_binding x y block place statements inputs constants typing =
     ∙ ap (λ v. made y.block y.place y.statements y.inputs y.constants v) typing
 
 module _ (f : Function) (b p : ℕ) (rule : Rule) (is_rule : IsRule rule) (x y : Binding) (is_x : MatchesInAnyOrder f b p rule x) (is_y : MatchesInAnyOrder f b p rule y) where
-  -- statement j is bound to one register
+  -- both bindings have one register for statement j
   abbrev Agree : ℕ → Type 0
   Agree j = slice_get x.statements j ≡ slice_get y.statements j
 
   same_block : x.block ≡ y.block
   same_block = is_x.block ∙ sym is_y.block
 
-  -- it is bound to one instruction then
+  -- and so one instruction
   one_place : (j : ℕ) (s : Statement) → slice_get rule.source j ≡ Some s → Agree j → (m : StatementMatches f rule x j s) → (n : StatementMatches f rule y j s) → m.place ≡ n.place
   one_place j s at agree m n =
       same_place x.block y.block m.place n.place (same_Some (registers.Result x.block m.place) (registers.Result y.block n.place) (sym m.bound ∙ agree ∙ n.bound))
@@ -84,7 +84,7 @@ module _ (f : Function) (b p : ℕ) (rule : Rule) (is_rule : IsRule rule) (x y :
       same_inst f y.block n.place m.inst n.inst
       (subst (λ (k : ℕ). IsInst f y.block k m.inst) (one_place j s at agree m n) (subst (λ (d : ℕ). IsInst f d m.place m.inst) same_block m.is_inst)) n.is_inst
 
-  -- what is read at an operand of the source matches it under the one binding and the other
+  -- an operand of the source matches the same operand of an instruction under both bindings
   record BothRead (o : RuleOperand) : Type 0 where
     read : Read
     in_x : OperandMatches x o read
@@ -121,7 +121,7 @@ module _ (f : Function) (b p : ℕ) (rule : Rule) (is_rule : IsRule rule) (x y :
   on_root : (j : ℕ) → j + 1 ≡ length rule.source → Agree j
   on_root j last = root_bound f b p rule x is_x j last ∙ sym (root_bound f b p rule y is_y j last)
 
-  -- from the root down, by how many statements stand behind
+  -- from the root down, by how many statements are behind
   from_root : (n j : ℕ) → j < length rule.source → length rule.source ≤ j + n + 1 → Agree j
   from_root zero j within near = on_root j (omega arith)
   from_root (suc n) j within near = elim (cases_eq (j + 1) (length rule.source)) [
@@ -176,7 +176,7 @@ module _ (f : Function) (b p : ℕ) (rule : Rule) (is_rule : IsRule rule) (x y :
       let (q, (o, at, read)) = is_rule.constants_read k (omega (arith, is_x.constant_count)) in on_constant k o read (read_of o (source_operand rule q o at))))
       (same_list x.typing y.typing same_count (on_class no_fault))
 
--- in whatever order instructions stand
+-- without regard to the order of instructions
 pub one_in_any_order : (f : Function) (b k : ℕ) (rule : Rule) (x y : Binding) → IsRule rule → HasNoFault rule → MatchesInAnyOrder f b k rule x → MatchesInAnyOrder f b k rule y → x ≡ y
 one_in_any_order f b k rule x y is_rule no_fault is_x is_y = one_binding f b k rule is_rule x y is_x is_y no_fault
 

@@ -1,4 +1,4 @@
--- What matches in whatever order instructions stand, in a function that meets its checks.
+-- Matches without regard to the order of instructions are matches in a function that meets its checks.
 use Rattle.std.proofs.Common.{ℕ, Option, None, Some, Ok, Err}
 use Rattle.std.specs.Prelude.{IfOk, IfSome, IfNone, Result}
 use Rattle.ir_core.specs.Checks.{MeetsChecks}

@@ -60,7 +60,7 @@ still_slots rule old new same are = record {
   each = λ k d within. has_statement old new (get_or rule.source k d) same (are.each k d within);
 }
 
--- what is known before the first statement
+-- what slots are filled with before the first statement is taken
 pub known_first : (rule : Rule) (slots : Slots) (m : Binding) (unfilled : List (Option Result)) (root : Result) → length unfilled ≡ length rule.source
     → slots.statements.items ≡ slice_set unfilled (length unfilled - 1) (Some root)
     → HasClasses rule (length slots.widths.items)

@@ -8,7 +8,7 @@ use Rattle.rule_core.specs.Typing.{IsTyping}
 use Rattle.rule_core.specs.declared.rule.Rule.{Rule}
 use Rattle.rule_typing.specs.Classes.{HasClasses}
 
--- what stands at a place once an element is added
+-- the items of a list to which one is appended
 pub pushed : {X : Type 0} (xs : List X) (x : X) (k : ℕ) (y : X) → slice_get (xs ++ x ∷ []) k ≡ Some y → (slice_get xs k ≡ Some y) ⊎ ((k ≡ length xs) × (x ≡ y))
 pushed [] x zero y at = inr (refl, same_Some x y at)
 pushed [] x (suc k) y at = absurd cc
@@ -18,7 +18,7 @@ pushed (a ∷ xs) x (suc k) y at = elim (pushed xs x k y at) [
   | inr (here, is) ↦ inr (omega arith, is)
 ]
 
--- a width that is fixed for its class, or that none is
+-- the width is fixed for the class, or none is
 abbrev pub IsFixed : Rule → ℕ → Option ℕ → Type 0
 IsFixed rule c w = IfSome w (λ N. Fixed rule c N) × IfNone w ((N : ℕ) → ¬ Fixed rule c N)
 
@@ -54,7 +54,7 @@ as_many rule typing n typed classes = elim (cases_eq n (length typing)) [
   | inr apart ↦ absurd (no_gap n (length typing) apart (λ c lt. typed.classes c ((classes c).1 lt)) (λ c lt. (classes c).0 (typed.no_more c lt)))
 ]
 
--- an equation of a width holds where its refusal is refused
+-- an equation of a width that can't be refuted holds
 pub stable : (o : Option ℕ) (N : ℕ) → ((o ≡ Some N → ⊥) → ⊥) → o ≡ Some N
 stable None N h = absurd (h (λ e. cc))
 stable (Some M) N h = elim (cases_eq M N) [

@@ -7,7 +7,7 @@ use Rattle.rule_typing.specs.Faults.{HasNoFault}
 use Rattle.bindings.specs.Match.{IsMatch}
 use Rattle.bindings.specs.declared.binding.Binding.{Binding}
 
--- a rule that is read matches at an instruction with one binding at most
+-- a rule that was read from a file matches at an instruction with one binding at most
 abbrev pub MatchesHaveOneBinding : Type 0
 MatchesHaveOneBinding =
     (f : Function) (b k : ℕ) (rule : Rule) (x y : Binding) → IsRule rule → HasNoFault rule → IsMatch f b k rule x → IsMatch f b k rule y → x ≡ y

@@ -1,4 +1,4 @@
--- What is met from the root of a match down.
+-- Slots for what a match binds, which are filled from the root down.
 use Rattle.std.specs.Prelude.{◌≡◌, ℕ, ◌+◌, ◌<◌, ◌≤◌, List, length, map, Option, Some, All, slice_get}
 use Rattle.ir_core.specs.Reads.{Read, IsRead}
 use Rattle.ir_core.specs.declared.function.Function.{Function}
@@ -15,11 +15,11 @@ use Rattle.bindings.specs.Operands.{OperandMatches}
 use Rattle.bindings.specs.declared.binding.Binding.{Binding}
 use Rattle.matcher.specs.declared.slots.Slots.{Slots}
 
--- slot i is filled with the value at i
+-- slot i is filled with the i-th of these values
 abbrev pub Knows : {T : Type 0} → List (Option T) → List T → ℕ → Type 0
 Knows {T} slots values i = slice_get slots i ≡ Some (slice_get values i)
 
--- the slots of a name are filled as a binding has it
+-- the slot of a name is filled with what the binding has
 abbrev pub KnowsName : Slots → Binding → Argument → Type 0
 KnowsName slots m (arguments.Register (names.Input i)) = Knows slots.inputs.items m.inputs i
 KnowsName slots m (arguments.Register (names.Source j)) = Knows slots.statements.items m.statements j
@@ -30,15 +30,15 @@ KnowsName slots m (arguments.Truth b) = Unit {0}
 KnowsName slots m (arguments.Undef k) = Unit {0}
 KnowsName slots m (arguments.Term n) = Unit {0}
 
--- and that of an operand's class
+-- and so is that of the operand's class
 abbrev pub KnowsOperand : Slots → Binding → RuleOperand → Type 0
 KnowsOperand slots m o = Knows slots.widths.items m.typing o.class × KnowsName slots m o.value
 
--- and those of a statement
+-- the slots of a statement's class and operands are filled with what the binding has
 abbrev pub KnowsStatement : Slots → Binding → Statement → Type 0
 KnowsStatement slots m s = Knows slots.widths.items m.typing s.class × All (KnowsOperand slots m) (operands_of s.op)
 
--- what the old slots know, the new ones do
+-- slots that were filled with what the binding has still are
 pub record Keeps (m : Binding) (old new : Slots) : Type 0 where
   pub statements : (j : ℕ) → Knows old.statements.items m.statements j → Knows new.statements.items m.statements j
   pub inputs : (i : ℕ) → Knows old.inputs.items m.inputs i → Knows new.inputs.items m.inputs i
@@ -77,13 +77,13 @@ pub record AreSlotsOf (rule : Rule) (slots : Slots) : Type 0 where
   pub widths : HasClasses rule (length slots.widths.items)
   pub each : All (HasStatement slots) rule.source
 
--- what is known from the root down to source statement j
+-- the slots of the root, of fixed widths, and of the source statements from j on are filled with what the binding has
 pub record KnowsFrom (rule : Rule) (j : ℕ) (slots : Slots) (m : Binding) : Type 0 where
   pub root : (k : ℕ) → k + 1 ≡ length rule.source → Knows slots.statements.items m.statements k
   pub fixed : (c N : ℕ) → Fixed rule c N → Knows slots.widths.items m.typing c
   pub statements : (k : ℕ) (s : Statement) → j ≤ k → slice_get rule.source k ≡ Some s → KnowsStatement slots m s
 
--- what an instruction reads matches the operands of an operation
+-- the operands that an instruction reads match those of an operation
 abbrev pub OperandsMatch : Function → Binding → ℕ → ℕ → Op → Type 0
 OperandsMatch f m b p op = (i : ℕ) (o : RuleOperand) → slice_get (operands_of op) i ≡ Some o → (r : Read) × IsRead f b p i r × OperandMatches m o r
 

@@ -13,8 +13,8 @@ use ir_core::{Function, Register};
 use rule_core::Rule;
 use std::alloc::{AllocError, Global};
 
-/// The one binding with which the rule can match at an instruction. It is read off from the root down: each statement
-/// but the root's is read by a later one, and so its register is known when its turn comes.
+/// The one binding with which the rule can match at an instruction. It is read off from the root down: a later
+/// statement reads the result of each other one, so what that is bound to is known when its turn comes.
 pub(crate) fn candidate(
     alloc: Global,
     f: &Function,

@@ -19,9 +19,8 @@ use rule_core::Rule;
 use std::alloc::{AllocError, Global};
 
 /// The binding with which a rule matches at an instruction of a function, or `None` where it doesn't match there.
-///
-/// Where the instruction is one operation with the rule's root, all blocks are looked at, for which are reached and how
-/// often registers are used: [`match_in`] takes that as an argument. Elsewhere it takes no memory.
+/// Where the instruction is the same operation as the rule's root, all blocks are searched for reached ones and for
+/// uses of registers: [`match_in`] takes these as an argument. Elsewhere it takes no memory.
 pub fn match_at(
     alloc: Global,
     f: &Function,
@@ -35,7 +34,7 @@ pub fn match_at(
     requires insts { All (λ b. length b.insts < 2 ^ 32) f.now.blocks }
     requires place { HasInst f.now block place }
 
-    // The rule is one that is read.
+    // The rule is one that was read from a file.
     requires rule { IsRule rule.now }
     requires classes { IsClassified rule.now }
     requires typed { HasNoFault rule.now }
@@ -50,10 +49,11 @@ pub fn match_at(
     match_in(alloc, f, &facts, block, place, rule)
 }
 
-/// The same, with what is known of the whole function, and in whatever order instructions stand.
+/// The same, with the facts of the whole function as an argument, and without regard to the order of instructions in
+/// the block.
 ///
 /// It takes as many steps as the rule has operands and nodes, for each of its classes; and no memory where the block
-/// isn't reached, or the instruction isn't one operation with the rule's root.
+/// isn't reached, or the instruction isn't the same operation as the rule's root.
 #[tactic(auto, using(crate::proofs::Rooted::matched_operation))]
 pub fn match_in(
     alloc: Global,

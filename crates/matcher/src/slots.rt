@@ -1,4 +1,4 @@
-//! What is met from the root of a match down.
+//! Slots for what a match binds, which are filled from the root down.
 
 ghost use Rattle.std.specs.Prelude.{◌≡◌, ◌+◌, ◌<◌, ◌^◌, ℕ, List as Seq, length, map, All, IfOk, IfSome, None, Some, slice_get, IsTrue};
 ghost use Rattle.ir_core.specs.Names.{width_of};
@@ -19,7 +19,8 @@ use rule_core::{Argument, Op, Operand as RuleOperand, Register as Name, Rule, St
 use rule_typing::{class_count, fixed_width};
 use std::alloc::{AllocError, Global};
 
-/// A slot for each name of a rule's source and for each class, filled as the name or the class is met.
+/// A slot for each name of a rule's source and for each class, which is filled when an instruction's operand shows its
+/// value.
 #[derive(Drop)]
 pub(crate) struct Slots {
     /// For each statement, the register that it is bound to.
@@ -53,8 +54,8 @@ impl Slots {
         })
     }
 
-    /// Fills the slots of what a statement names by the instruction that its register stands for. It is false where the
-    /// slot of the statement isn't filled, or the function has no such instruction or fewer operands there.
+    /// Fills the slots of a statement's class and operands from the instruction that it is bound to. It is false where
+    /// the statement isn't bound, or the function has no such instruction or fewer operands there.
     pub(crate) fn take_statement(&mut self, f: &Function, j: usize, statement: &Statement) -> bool
         requires insts { All (λ b. length b.insts < 2 ^ 32) f.now.blocks }
         requires place { j < length self.old.statements.items }
@@ -88,8 +89,8 @@ impl Slots {
         self.widths[class as usize] = Some(width);
     }
 
-    /// Fills the slots of what the operands of an operation name by what an instruction reads. It is false where that
-    /// reads fewer.
+    /// Fills the slots of an operation's operands from those of an instruction. It is false where the instruction has
+    /// fewer.
     fn take_operands(&mut self, f: &Function, block: u32, place: u32, op: &Op) -> bool
         requires insts { All (λ b. length b.insts < 2 ^ 32) f.now.blocks }
         requires slots { All (HasOperand self.old) (operands_of op.now) }
@@ -105,7 +106,7 @@ impl Slots {
         true
     }
 
-    /// The same for one operand, if there is one at the place.
+    /// The same for one operand, if the operation has it.
     fn take_operand_at(
         &mut self,
         f: &Function,
@@ -130,7 +131,7 @@ impl Slots {
         }
     }
 
-    /// Fills the slots of the name and the class of an operand by what is read.
+    /// Fills the slots of an operand's name and class from an operand that an instruction reads.
     fn take_operand(&mut self, operand: RuleOperand, read: Read)
         requires { HasOperand self.old operand }
         ensures sizes { AreAsMany self.old self.new }

@@ -1,4 +1,4 @@
--- A match stays where what it stands on does.
+-- A match stays where what it depends on does.
 use Rattle.std.proofs.Common.{◌≡◌, ℕ, zero, suc, ◌<◌, List, [], ◌∷◌, length, map, Some, refl, sym, ap, subst, ◌∙◌, arith}
 use Rattle.std.specs.Prelude.{Contains, slice_get}
 use Rattle.std.proofs.lemmas.List.{length-map}
@@ -35,7 +35,7 @@ use Rattle.bindings.proofs.Reading.{reads_at_inst, same_inst}
 use Rattle.moved_matches.specs.Moved.{StandsAt, StandsThere, moved_binding, register_or}
 use Rattle.moved_matches.specs.Laws.{MatchesStay}
 
--- what an instruction does, and its flags, do not go by what stands for its registers
+-- a substitution leaves the operation of an instruction, and its flags
 same_operation : (to : Substitution) (s : RuleOp) (op : Op) → IsSameOperation s op → IsSameOperation s (substituted_op to op)
 same_operation to (rule_ops.Binary opcode flags a b) (ops.Binary opcode' flags' x y) same = same
 same_operation to (rule_ops.Compare pred samesign a b) (ops.Compare pred' samesign' width x y) same = same
@@ -54,7 +54,8 @@ same_promises to (ops.Convert cast flags from x) = refl
 same_promises to (ops.Freeze x) = refl
 same_promises to (ops.Phi entries) = refl
 
--- what was read where one is read now
+-- where the instruction in the other function reads an operand, this one reads one for which the substitution gives
+-- that
 pub record WasRead (f : Function) (to : Substitution) (b p N : ℕ) (op : Op) (i : ℕ) (r : Read) : Type 0 where
   pub old : Read
   pub is_read : slice_get (reads_of f b p N op) i ≡ Some old
@@ -81,7 +82,7 @@ was_read f f' to b p q N (rule_ops.Freeze a j) (ops.Freeze x) zero r same at = r
 was_read f f' to b p q N (rule_ops.Freeze a j) (ops.Freeze x) (suc i) r same at = absurd cc
 was_read f f' to b p q N s op i r same at = absurd same
 
--- what stands for an operand is `undef` where the operand is
+-- a substitution gives `undef` for `undef` alone
 was_undef : (to : Substitution) (a : Operand) → IsDefinite to → operands.Undef ≡ substituted_operand to a → a ≡ operands.Undef
 was_undef to (operands.Register r) definite is = absurd (definite r (sym is))
 was_undef to (operands.Number n) definite is = absurd cc
@@ -94,13 +95,13 @@ some_at (a ∷ xs) zero within = (a, refl)
 some_at (a ∷ xs) (suc k) within = some_at xs k (omega arith)
 
 module _ (Before Before' : ℕ → ℕ → Type 0) (f f' : Function) (to : Substitution) (rule : Rule) (m : Binding) (k : ℕ) (definite : IsDefinite to) (is : MatchesWhere Before f m.block m.place rule m) (there : StandsThere Before Before' f f' to m k) where
-  -- what a statement is bound to then
+  -- the instruction of a statement in the other function
   bound_then : (j p q : ℕ) → slice_get m.statements j ≡ Some (registers.Result m.block p) → StandsAt f f' to m.block p q
       → slice_get (map (λ r. register_or r (to r)) m.statements) j ≡ Some (registers.Result m.block q)
   bound_then j p q at stands =
       get-map (λ r. register_or r (to r)) m.statements j (registers.Result m.block p) at ∙ ap (λ (a : Operand). Some (register_or (registers.Result m.block p) a)) stands.register
 
-  -- a name stands for what stands for what it stood for
+  -- under the moved binding a name stands for the substituted operand
   stands_for_then : (N : ℕ) (value : Argument) (a : Operand) → StandsFor m N value a → StandsFor (moved_binding to k m) N value (substituted_operand to a)
   stands_for_then N (arguments.Register (names.Input i)) a h = get-map (substituted_operand to) m.inputs i a h
   stands_for_then N (arguments.Register (names.Source j)) a (r, at, reads) =
@@ -126,7 +127,7 @@ module _ (Before Before' : ℕ → ℕ → Type 0) (f f' : Function) (to : Subst
         (subst (StandsFor (moved_binding to k m) old.width o.value) operand (stands_for_then old.width o.value old.operand h.value));
   }
 
-  -- and so is each statement bound
+  -- each statement matches its instruction in the other function
   statement_then : (j : ℕ) (s : Statement) → slice_get rule.source j ≡ Some s → StatementMatches f' rule (moved_binding to k m) j s
   statement_then j s at =
       let h = is.statements j s at in

@@ -10,15 +10,15 @@ use Rattle.bindings.specs.Match.{MatchesWhere}
 use Rattle.bindings.specs.declared.binding.Binding.{Binding}
 use Rattle.moved_matches.specs.Moved.{StandsThere, moved_binding}
 
--- Where all that a match stands on stands in another function, the rule matches there too, at the same widths and with
--- the same constants; in whatever order is asked of temporaries in each. Told of a substitution there and of one back,
--- no other match stands there.
+-- Where all that a match depends on is in another function, the rule matches there too, at the same widths and with the
+-- same constants. `Before` and `Before'` relate temporaries to the root in each. With a substitution to the other
+-- function and one back, these are all the matches there.
 abbrev pub MatchesStay : (ℕ → ℕ → Type 0) → (ℕ → ℕ → Type 0) → Type 0
 MatchesStay Before Before' = (f f' : Function) (to : Substitution) (rule : Rule) (m : Binding) (k : ℕ)
     → IsDefinite to → MatchesWhere Before f m.block m.place rule m → StandsThere Before Before' f f' to m k
     → MatchesWhere Before' f' m.block k rule (moved_binding to k m)
 
--- temporaries are asked to stand before the root, and their order isn't asked for
+-- temporaries have to stand before the root, or their order isn't asked for
 abbrev pub InOrder : ℕ → ℕ → Type 0
 InOrder p k = p < k
 

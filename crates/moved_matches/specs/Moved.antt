@@ -1,4 +1,4 @@
--- What of one function stands in another, where its registers may be others.
+-- Instructions of one function in another, where registers may have other names.
 use Rattle.std.specs.Prelude.{◌≡◌, ℕ, map, Some, Contains, slice_get}
 use Rattle.ir_core.specs.Checks.{IsInst}
 use Rattle.ir_core.specs.Walks.{IsReached}
@@ -12,26 +12,26 @@ use Rattle.use_counts.specs.Uses.{IsUsedOnce}
 use Rattle.substitution.specs.Substitution.{Substitution, substituted_operand, substituted_inst}
 use Rattle.bindings.specs.declared.binding.Binding.{Binding}
 
--- the register that stands for another, and that one where none does
+-- the register that a substitution gives for one, and that one itself where it gives no register
 abbrev pub register_or : Register → Operand → Register
 register_or r (operands.Register s) = s
 register_or r a = r
 
--- a binding, with what stands for each register, of a root at this place
+-- a binding after a substitution of the registers, with its root at this place
 abbrev pub moved_binding : Substitution → ℕ → Binding → Binding
 moved_binding to k m = record { block = m.block; place = k; statements = map (λ r. register_or r (to r)) m.statements; inputs = map (substituted_operand to) m.inputs; constants = m.constants; typing = m.typing }
 
--- Instruction p of block b stands at place q there in the other function: the same but for what stands for the
--- registers that it reads.
+-- Instruction p of block b is at place q of that block in the other function: it is the same after the substitution of
+-- its operands, and the substitution gives the register there for its own.
 pub record StandsAt (f f' : Function) (to : Substitution) (b p q : ℕ) : Type 0 where
   pub inst : Inst
   pub was : IsInst f b p inst
   pub is : IsInst f' b q (substituted_inst to inst)
   pub register : to (registers.Result b p) ≡ operands.Register (registers.Result b q)
 
--- What a match stands on stands in the other function, where its root is instruction k of its block: the block is
--- reached, the instructions that statements are bound to stand there, to the root as in the first, and what is used
--- once is used once.
+-- What a match depends on is in the other function, with its root at place k of its block: the block is reached, the
+-- instructions of its statements are there, temporaries are related to the root if they were, and a register with
+-- exactly one use has exactly one.
 pub record StandsThere (Before Before' : ℕ → ℕ → Type 0) (f f' : Function) (to : Substitution) (m : Binding) (k : ℕ) : Type 0 where
   pub reached : IsReached f m.block → IsReached f' m.block
   pub root : to (registers.Result m.block m.place) ≡ operands.Register (registers.Result m.block k)

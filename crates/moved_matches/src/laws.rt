@@ -2,8 +2,7 @@
 
 ghost use Rattle.moved_matches.specs.Laws.{InAnyOrder, InOrder, MatchesStay};
 
-/// A rule that matches in a function matches in another one where what the match stands on does, with the binding that
-/// says where it stands there.
+/// Where what a match depends on is in another function too, the rule matches there, with the moved binding.
 pub fn matches_stay_where_instructions_move()
     ensures in_order { MatchesStay InOrder InOrder }
     ensures any_order { MatchesStay InAnyOrder InAnyOrder }

@@ -1,7 +1,8 @@
-//! Which matches stay where a function changes: those whose instructions only move, and only name registers that moved.
+//! Which matches stay where a function changes: those whose instructions only move, and whose operands only get other
+//! names.
 //!
-//! The definitions stand in `specs/`: `Moved` says where an instruction stands in another function, and what a match
-//! has to stand on, `Laws` that such a match stands there too. It has no code.
+//! The definitions are in `specs/`: `Moved` says what a match depends on, and where an instruction is in another
+//! function; `Laws` that a match is in the other function where all that it depends on is. There is no code.
 #![tactic(auto)]
 
 mod laws;

@@ -1,4 +1,4 @@
--- Labels that are given out anew, and those of numbers in order.
+-- Labels of a list in which all are given anew, and of a new list.
 use Rattle.std.proofs.Common.{◌≡◌, ℕ, zero, suc, ◌+◌, ◌-◌, ◌*◌, ◌<◌, ◌≤◌, cond, eqb, inl, inr, List, [], ◌∷◌, length, get_or, refl, sym, ap, subst, ◌∙◌, arith}
 use Rattle.std.specs.List.{range_with_len}
 use Rattle.std.proofs.lemmas.Bool.{cases_eq, cond-true, cond-false, eq-eqb, ne_eqb}
@@ -10,7 +10,7 @@ use Rattle.places.specs.Links.{node_of, no_node, AreLinked, IsListing, first_nod
 use Rattle.places.proofs.Members.{at_place}
 use Rattle.places.proofs.Linking.{linked-room}
 
--- labels that go up by more than this go up
+-- labels that increase by more than d increase
 pub linked-less : (nodes : List Node) (d q a : ℕ) (ns : List ℕ) → AreLinked nodes d q a ns → AreLinked nodes 0 q a ns
 linked-less nodes d q a [] h = h
 linked-less nodes d q a (n ∷ ns) h =
@@ -19,7 +19,7 @@ linked-less nodes d q a (n ∷ ns) h =
 pub listing-less : (nodes : List Node) (d first : ℕ) (ns : List ℕ) → IsListing nodes d first ns → IsListing nodes 0 first ns
 listing-less nodes d first ns h = record { few = h.few; many = h.many; all = h.all; linked = linked-less nodes d none first ns h.linked }
 
--- there is room below the label of each number
+-- the label of each number is above that of the one before it by more than d
 pub listing-room : (nodes : List Node) (d first : ℕ) (ns : List ℕ) (at : ℕ) → IsListing nodes d first ns → at < length nodes → (node_of nodes (node_of nodes at).before).label + d < (node_of nodes at).label
 listing-room nodes d first ns at h within =
     let there = at_place ns at (h.all at within) in
@@ -31,7 +31,7 @@ pub record SameLinks (old new : List Node) : Type 0 where
   pub before : (n : ℕ) → (node_of new n).before ≡ (node_of old n).before
   pub after : (n : ℕ) → (node_of new n).after ≡ (node_of old n).after
 
--- the first of these numbers have labels that are so far apart
+-- the first of these numbers have the multiples of the gap as labels, in order
 abbrev pub AreLabelled : List Node → ℕ → List ℕ → ℕ → Type 0
 AreLabelled nodes gap ns i = (k : ℕ) → k < i → (node_of nodes (get_or ns k none)).label ≡ (k + 1) * gap
 
@@ -61,7 +61,7 @@ relabelled old new gap first ns h same wide labels =
       linked = relinked old new 0 gap 0 none first ns same wide unset (λ k lt. labels k lt ∙ (let e : k + 1 ≡ 0 + k + 1 = omega arith in ap (λ m. m * gap) e)) h.linked;
     }
 
--- numbers in order
+-- a new list is linked, and its labels increase
 linked-first : (nodes : List Node) (count gap : ℕ) → 0 < gap → length nodes ≡ count → ((k : ℕ) → k < count → node_of nodes k ≡ first_node_at count gap k)
     → (k m q : ℕ) → k + m ≡ count → q ≡ cond (eqb k 0) none (k - 1) → (node_of nodes q).label ≡ k * gap → AreLinked nodes 0 q (cond (eqb k count) none k) (range_with_len k m)
 linked-first nodes count gap wide many are k zero q all before label = cond-true _ _ _ (eq-eqb k count (omega arith))

@@ -20,7 +20,7 @@ pub record IsPut (old new : List Node) (m at p : ℕ) : Type 0 where
   pub befores : (k : ℕ) → k < m → (node_of new k).before ≡ cond (eqb at k) m (node_of old k).before
   pub afters : (k : ℕ) → k < m → (node_of new k).after ≡ cond (eqb p k) m (node_of old k).after
 
--- what stands behind is as it was
+-- what is linked behind the inserted number is as it was
 linked-kept : (old new : List Node) (m at p : ℕ) → IsPut old new m at p → (q a : ℕ) (ns : List ℕ) → (q ≡ m → ⊥) → (node_of old at).label ≤ (node_of old q).label → AreLinked old 0 q a ns → AreLinked new 0 q a ns
 linked-kept old new m at p put q a [] free above h = h
 linked-kept old new m at p put q a (n ∷ ns) free above h =
@@ -41,7 +41,7 @@ linked-kept old new m at p put q a (n ∷ ns) free above h =
           (linked-kept old new m at p put n _ ns other (omega arith) h.1),
     )
 
--- what stands before a number further on has a label that is no lower
+-- the predecessor of a number of the list has a label no lower than that of what the list stands behind
 linked-behind : (nodes : List Node) (d n a at : ℕ) (ns : List ℕ) → AreLinked nodes d n a ns → Contains ns at → (node_of nodes n).label ≤ (node_of nodes (node_of nodes at).before).label
 linked-behind nodes d n a at [] h c = absurd (contains_none at c)
 linked-behind nodes d n a at (x ∷ ns) h c =

@@ -1,4 +1,4 @@
--- What links say of the number at a place: its neighbours, and that labels go up.
+-- What links say of the number at a place: its neighbours, and that labels increase.
 use Rattle.std.proofs.Common.{◌≡◌, ℕ, zero, suc, ◌+◌, ◌<◌, ◌≤◌, cond, eqb, ◌⊎◌, inl, inr, List, [], ◌∷◌, length, get_or, None, Some, refl, sym, ap, subst, ◌∙◌, arith}
 use Rattle.std.specs.Prelude.{◌↔◌, slice_get}
 use Rattle.std.proofs.lemmas.Bool.{cases_lt, cases_order, cond-true, cond-false, eq-eqb, ne_eqb}
@@ -29,7 +29,7 @@ linked-room nodes d q a [] k h lt = absurd (omega arith)
 linked-room nodes d q a (n ∷ ns) zero h lt = subst (λ p. (node_of nodes p).label + d < (node_of nodes n).label) (sym h.0.back) h.0.up
 linked-room nodes d q a (n ∷ ns) (suc k) h lt = linked-room nodes d n _ ns k h.1 (omega arith)
 
--- what stands before a number is none or a number
+-- the predecessor of a number is that of the first, or a number of the list
 pub linked-before : (nodes : List Node) (d q a : ℕ) (ns : List ℕ) (k : ℕ) → AreLinked nodes d q a ns → k < length ns → ((node_of nodes (get_or ns k none)).before ≡ q) ⊎ ((node_of nodes (get_or ns k none)).before < length nodes)
 linked-before nodes d q a [] k h lt = absurd (omega arith)
 linked-before nodes d q a (n ∷ ns) zero h lt = inl h.0.back
@@ -44,7 +44,7 @@ linked-above nodes d q a [] k h lt = absurd (omega arith)
 linked-above nodes d q a (n ∷ ns) zero h lt = let up = h.0.up in omega arith
 linked-above nodes d q a (n ∷ ns) (suc k) h lt = let up = h.0.up in let above = linked-above nodes d n _ ns k h.1 (omega arith) in omega arith
 
--- labels go up
+-- labels increase along the list
 pub linked-up : (nodes : List Node) (d q a : ℕ) (ns : List ℕ) (j k : ℕ) → AreLinked nodes d q a ns → j < k → k < length ns → (node_of nodes (get_or ns j none)).label < (node_of nodes (get_or ns k none)).label
 linked-up nodes d q a [] j k h up lt = absurd (omega arith)
 linked-up nodes d q a (n ∷ ns) j zero h up lt = absurd (omega arith)
@@ -78,7 +78,7 @@ some-at nodes d q a ns k n few h is =
       | inr ge ↦ cond-true _ _ _ (eq-eqb n none (is ∙ get_or_past ns k none ge)) ∙ sym (slice_get_past ns k ge)
     ]
 
--- of two numbers that which has the lower label stands before the other
+-- of two numbers the one with the lower label stands first
 pub labels-order : (nodes : List Node) (d q a : ℕ) (ns : List ℕ) (m n : ℕ) → AreLinked nodes d q a ns → AtPlace ns m → AtPlace ns n → ((node_of nodes m).label < (node_of nodes n).label) ↔ (place_in ns m < place_in ns n)
 labels-order nodes d q a ns m n h at_m at_n =
     let j = place_in ns m in

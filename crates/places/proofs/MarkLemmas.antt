@@ -1,9 +1,9 @@
--- Rows of marks: none, one more, and a mark that is put.
+-- Rows of flags: none set, one more row, and a flag that is set.
 use Rattle.std.proofs.Common.{◌≡◌, ℕ, zero, suc, true, [], ◌∷◌, ◌++◌, get_or, Some, refl, subst}
 use Rattle.std.specs.Prelude.{slice_get}
 use Rattle.places.specs.Sets.{Rows, Has}
 
--- one more row without marks
+-- one more row without flags
 pub empty_row : (rows : Rows) (b : ℕ) → get_or (rows ++ [] ∷ []) b [] ≡ get_or rows b []
 empty_row [] zero = refl
 empty_row [] (suc b) = refl

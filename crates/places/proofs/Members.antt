@@ -1,4 +1,4 @@
--- Where a number stands in a list, and what a list has once one more is put into it.
+-- Where a number stands in a list, and what a list has once a number is inserted.
 use Rattle.std.proofs.Common.{◌≡◌, ℕ, zero, suc, ◌<◌, ◌⊎◌, inl, inr, List, [], ◌∷◌, length, get_or, refl, sym, ap, subst, ◌∙◌, arith, Contains}
 use Rattle.std.proofs.lemmas.Bool.{cases_eq, cond-true, cond-false, eq-eqb, ne_eqb}
 use Rattle.places.specs.Orders.{none, place_in, put_before}
@@ -31,7 +31,7 @@ put-here m at n ns e = cond-true _ _ _ (eq-eqb m at e)
 pub put-later : (m at n : ℕ) (ns : List ℕ) → (m ≡ at → ⊥) → put_before (m ∷ ns) at n ≡ m ∷ put_before ns at n
 put-later m at n ns ne = cond-false _ _ _ (ne_eqb m at ne)
 
--- a number of a list stands at its place
+-- a number of a list is found at its place
 pub record AtPlace (ns : List ℕ) (n : ℕ) : Type 0 where
   pub within : place_in ns n < length ns
   pub is : get_or ns (place_in ns n) none ≡ n

@@ -11,7 +11,7 @@ use Rattle.places.proofs.Members.{at_place}
 use Rattle.places.proofs.Labelling.{SameLinks, AreLabelled}
 use Rattle.places.proofs.LinkedIn.{IsPut, put-listing}
 
--- a write leaves what it writes again as it is
+-- a write that leaves a field of the node as it was leaves it in all nodes
 pub kept-field : {A : Type 0} (f : Node → A) (nodes : List Node) (i : ℕ) (y : Node) → f y ≡ f (node_of nodes i) → (k : ℕ) → f (node_of (set nodes i y) k) ≡ f (node_of nodes k)
 kept-field f nodes i y same k =
     elim (cases_eq i k) [
@@ -31,7 +31,7 @@ written-field f nodes i y v is k within =
       | inr ne ↦ ap f (get_or-set_other nodes i k y no_node (λ e. ne (sym e))) ∙ sym (cond-false _ _ _ (ne_eqb i k ne))
     ]
 
--- one more of these numbers has its label
+-- one more of these numbers gets its label
 pub labels-more : (old nodes : List Node) (gap first i number label : ℕ) (ns : List ℕ) → IsListing old 0 first ns → SameLinks old nodes → AreLabelled nodes gap ns i → i < length ns → number ≡ get_or ns i none → label ≡ (i + 1) * gap
     → SameLinks old (with_label nodes number label) × AreLabelled (with_label nodes number label) gap ns (i + 1)
 labels-more old nodes gap first i number label ns h same labels within is label_is = (
@@ -63,7 +63,7 @@ labels-more old nodes gap first i number label ns h same labels within is label_
               ap (λ (x : Node). x.label) (get_or-set_other nodes number (get_or ns k none) y no_node other) ∙ labels k before
         ]
 
--- the nodes with one more behind them, which is linked in before another
+-- the nodes with a new one pushed and linked in before another
 abbrev pub put_in : List Node → ℕ → ℕ → ℕ → List Node
 put_in nodes at p label = linked_in (nodes ++ record { label = label; before = p; after = at } ∷ []) at p (length nodes)
 
@@ -127,11 +127,11 @@ put_in-is nodes at p label within outside few was low high = record {
           | inr ge ↦ get_or_past more k no_node (omega (arith, more_length)) ∙ sym (get_or_past nodes k no_node ge)
         ]
 
--- a listing is that of the walk
+-- numbers that the list is are those that its links lead through
 pub listing-own : (nodes : List Node) (d first : ℕ) (ns : List ℕ) → IsListing nodes d first ns → IsListing nodes d first (numbers_from nodes first)
 listing-own nodes d first ns h = subst (IsListing nodes d first) (sym (numbers-listing nodes d first ns h)) h
 
--- once one more is linked in
+-- one more number is linked in
 pub put-done : (nodes new : List Node) (first at p label number : ℕ) (ns : List ℕ) → IsListing nodes 0 first ns → at < length nodes → length nodes + 1 ≤ none → p ≡ (node_of nodes at).before → number ≡ length nodes
     → (node_of nodes p).label < label → label < (node_of nodes at).label → new ≡ linked_in (nodes ++ record { label = label; before = p; after = at } ∷ []) at p number → IsListing new 0 (cond (eqb p none) number first) (put_before ns at number)
 put-done nodes new first at p label number ns h within few was is low high new_is =
@@ -157,7 +157,7 @@ listing-next nodes d first ns n h c =
 pub listing-order : (nodes : List Node) (d first : ℕ) (ns : List ℕ) (m n : ℕ) → IsListing nodes d first ns → Contains ns m → Contains ns n → ((node_of nodes m).label < (node_of nodes n).label) ↔ (place_in ns m < place_in ns n)
 listing-order nodes d first ns m n h in_m in_n = labels-order nodes d none first ns m n h.linked (at_place ns m in_m) (at_place ns n in_n)
 
--- the numbers are the same where labels were given out in place
+-- the numbers are the same where labels were given anew
 pub made-room : (items was new : List Node) (first len : ℕ) → was ≡ items → length new ≡ len → IsListing new 0 first (numbers_from was first) → numbers_from (take len (new ++ drop (length new) items)) first ≡ numbers_from items first
 made-room items was new first len is lengths h =
     ap (λ l. numbers_from l first) (take_at new (drop (length new) items) len lengths) ∙ numbers-listing new 0 first (numbers_from was first) h ∙ ap (λ l. numbers_from l first) is

@@ -1,4 +1,4 @@
--- Ranks of places, and how they stand in a heap while one of them rises or sinks.
+-- Ranks of places, and ranks in a heap while an entry is sifted up or down.
 use Rattle.std.proofs.Common.{◌≡◌, ℕ, zero, suc, ◌+◌, ◌-◌, ◌*◌, ◌/◌, ◌<◌, ◌≤◌, ◌⊎◌, inl, inr, List, [], ◌∷◌, ◌++◌, length, get_or, sum_by, sym, ap, subst, ◌∙◌, arith, All, Contains}
 use Rattle.std.proofs.Math.Nat.{mul-le-mul_right}
 use Rattle.std.proofs.lemmas.Bool.{cases_eq, cases_lt, cases_order}
@@ -29,7 +29,7 @@ row-most orders b =
 inside : (orders : List (List ℕ)) (b n : ℕ) → place_in (get_or orders b []) n < suc (sum_by length orders)
 inside orders b n = let most = place_in-most (get_or orders b []) n in let row = row-most orders b in omega arith
 
--- where rows are so wide, what is in an earlier row comes before
+-- in rows of this width, what is in an earlier row comes before
 earlier_row : (width b c i j : ℕ) → i < width → b < c → b * width + i < c * width + j
 earlier_row width b c i j lt earlier = let rows : suc b * width ≤ c * width = mul-le-mul_right width earlier in let more : suc b * width ≡ b * width + width = omega arith in omega arith
 
@@ -56,7 +56,7 @@ before-rank orders p q lower =
       ]
     ]
 
--- each rank is at least that above it
+-- each rank is at least its parent's
 abbrev pub AreHeaped : (ℕ → ℕ) → ℕ → Type 0
 AreHeaped ranks count = (k over : ℕ) → IsBelow k over → k < count → ranks over ≤ ranks k
 
@@ -89,7 +89,7 @@ least-within ranks count (suc most) k h le within =
 pub first-least : (ranks : ℕ → ℕ) (count k : ℕ) → AreHeaped ranks count → k < count → ranks 0 ≤ ranks k
 first-least ranks count k h within = least-within ranks count k k h (omega arith) within
 
--- where the one that rises isn't below the one above it, it has risen
+-- where the rank that is sifted up is at least its parent's, the ranks are those of a heap
 pub risen : (ranks : ℕ → ℕ) (count at : ℕ) → IsRising ranks count at → ((over : ℕ) → IsBelow at over → ranks over ≤ ranks at) → AreHeaped ranks count
 risen ranks count at h last k over below within =
     elim (cases_eq k at) [
@@ -97,7 +97,7 @@ risen ranks count at h last k over below within =
       | inr ne ↦ h.others k over below within ne
     ]
 
--- the one above k is one alone
+-- an index has one parent
 above-one : (k over other : ℕ) → IsBelow k over → IsBelow k other → over ≡ other
 above-one k over other one two = let a = one.0 in let b = one.1 in let c = two.0 in let d = two.1 in omega arith
 
@@ -161,7 +161,7 @@ rise-step old new count at over h within below lower swap = record { others = ot
               omega arith
         ]
 
--- where none below the one that sinks is lower, it has sunk
+-- where no child of the rank that is sifted down is lower, the ranks are those of a heap
 pub sunk : (ranks : ℕ → ℕ) (count at : ℕ) → IsSinking ranks count at → ((k : ℕ) → IsBelow k at → k < count → ranks at ≤ ranks k) → AreHeaped ranks count
 sunk ranks count at h last k over below within =
     elim (cases_eq over at) [
@@ -234,7 +234,7 @@ ranks-swapped orders heap new a b in_a in_b is =
     let s = swapped_from_swap heap new a b nowhere in_a in_b is in
     (ap (rank orders) s.0, ap (rank orders) s.1, λ m not_a not_b. ap (rank orders) (s.2 m not_a not_b))
 
--- a place behind a heap rises
+-- a place that is pushed onto a heap is to be sifted up
 pub rising-pushed : (orders : List (List ℕ)) (heap : List Place) (p : Place) → IsHeap orders heap → IsRising (rank_at orders (heap ++ p ∷ [])) (length (heap ++ p ∷ [])) (length heap)
 rising-pushed orders heap p h =
     let more = length_push heap p in
@@ -250,7 +250,7 @@ rising-pushed orders heap p h =
       around = λ k over above below within. absurd (let beyond = below.0 in omega arith);
     }
 
--- what stands first in place of what was taken out sinks
+-- what takes the place of the root that was popped is to be sifted down
 pub sinking-removed : (orders : List (List ℕ)) (heap rest : List Place) → IsHeap orders heap → length rest + 1 ≡ length heap → ((k : ℕ) → (k ≡ 0 → ⊥) → k + 1 < length heap → place_at rest k ≡ place_at heap k) → IsSinking (rank_at orders rest) (length rest) 0
 sinking-removed orders heap rest h shorter kept = record {
   others = λ k over below within other.
@@ -262,7 +262,7 @@ sinking-removed orders heap rest h shorter kept = record {
   around = λ k over above below within. absurd (let beyond = above.0 in omega arith);
 }
 
--- none comes before the first of a heap
+-- none comes before the root of a heap
 pub first-comes : (orders : List (List ℕ)) (heap : List Place) (p : Place) → IsHeap orders heap → 0 < length heap → p ≡ get_or heap 0 p → All (λ other. ¬ ComesBefore orders other p) heap
 first-comes orders heap p h some is k d within before =
     let first : p ≡ place_at heap 0 = is ∙ get_or_default heap 0 p nowhere some in
@@ -301,14 +301,14 @@ least-left ranks count at within le = record {
   ];
 }
 
--- where the one above it isn't lower, what rises has risen
+-- where the entry doesn't come before its parent, sifting up ends
 pub risen-here : (orders : List (List ℕ)) (heap : List Place) (at : ℕ) → All (IsNumbered orders) heap → IsRising (rank_at orders heap) (length heap) at
     → (0 < at → rank_at orders heap ((at - 1) / 2) ≤ rank_at orders heap at) → IsHeap orders heap
 risen-here orders heap at numbered rising last =
     ranks-heap orders heap numbered (risen (rank_at orders heap) (length heap) at rising (λ over below.
     (let low = below.0 in let high = below.1 in let e : (at - 1) / 2 ≡ over = omega arith in subst (λ i. rank_at orders heap i ≤ rank_at orders heap at) e (last (omega arith)))))
 
--- where none of the two below it is lower, what sinks has sunk
+-- where no child comes before the entry, sifting down ends
 pub sunk-here : (orders : List (List ℕ)) (heap : List Place) (at below : ℕ) → All (IsNumbered orders) heap → IsSinking (rank_at orders heap) (length heap) at
     → IsLeastBelow (rank_at orders heap) (length heap) at below → rank_at orders heap at ≤ rank_at orders heap below → IsHeap orders heap
 sunk-here orders heap at below numbered sinking least le =

@@ -118,7 +118,7 @@ marked-popped old new heap rest p h removed moved = record {
   ]);
 }
 
--- what a heap gives first
+-- what is popped is the first of the set
 pub first-marked : (orders : List (List ℕ)) (marks : Rows) (heap rest : List Place) (p : Place) → AreMarked marks heap → IsPermutation heap (p ∷ rest) → All (λ other. ¬ ComesBefore orders other p) heap → IsFirst orders marks p
 first-marked orders marks heap rest p h moved least = record {
   there = contains-marked marks heap p h (Contains-permutation (p ∷ rest) heap p (IsPermutation-sym heap (p ∷ rest) moved) (contains_first p rest));

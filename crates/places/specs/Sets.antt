@@ -2,7 +2,7 @@
 use Rattle.std.specs.Prelude.{◌≡◌, ℕ, ◌↔◌, ◌⊎◌, Bool, true, List, [], Some, slice_get, slice_index_or}
 use Rattle.places.specs.declared.place.Place.{Place}
 
--- for each block a row that says of each number whether it is in the set; a number behind its end is not
+-- for each block a row of flags, which says of each number whether it is in the set; a number past its end is not
 abbrev pub Rows : Type 0
 Rows = List (List Bool)
 
@@ -17,11 +17,11 @@ IsPlace p b n = (p.block ≡ b) × (p.number ≡ n)
 abbrev pub IsSameSet : Rows → Rows → Type 0
 IsSameSet old new = (b n : ℕ) → Has new b n ↔ Has old b n
 
--- one place is in the set, and all else is as it was
+-- the new set is the old one and this place
 abbrev pub IsAdded : Rows → Rows → Place → Type 0
 IsAdded old new p = (b n : ℕ) → Has new b n ↔ (IsPlace p b n ⊎ Has old b n)
 
--- one place is not, and all else is as it was
+-- the new set is the old one without this place
 abbrev pub IsRemoved : Rows → Rows → Place → Type 0
 IsRemoved old new p = (b n : ℕ) → Has new b n ↔ (¬ IsPlace p b n × Has old b n)
 
@@ -29,6 +29,6 @@ IsRemoved old new p = (b n : ℕ) → Has new b n ↔ (¬ IsPlace p b n × Has o
 abbrev pub AreSameMarks : List Bool → List Bool → Type 0
 AreSameMarks old new = (n : ℕ) → (slice_get new n ≡ Some true) ↔ (slice_get old n ≡ Some true)
 
--- of the numbers of a row one is in the set, and all else is as it was
+-- the new row has number i and those of the old one
 abbrev pub IsMarkedIn : List Bool → List Bool → ℕ → Type 0
 IsMarkedIn old new i = (n : ℕ) → (slice_get new n ≡ Some true) ↔ ((i ≡ n) ⊎ (slice_get old n ≡ Some true))

@@ -1,5 +1,5 @@
-//! Places in a heap, of which none comes before the one above it: below the one at a place stand those at twice that
-//! place and one or two more.
+//! A binary heap of places, with one at the root that no other comes before: the children of the entry at index k are
+//! at 2k + 1 and 2k + 2.
 
 ghost use Rattle.std.specs.Prelude.{◌≡◌, ◌+◌, ◌*◌, ◌<◌, ◌≤◌, ◌↔◌, [], ◌∷◌, length, All, IsTrue, IfSome, IfNone, vec_len, vec_capacity};
 ghost use Rattle.std.specs.List.Sorted.{IsPermutation};
@@ -8,7 +8,8 @@ ghost use Rattle.places.specs.Heaps.{IsNumbered, ComesBefore, IsHeap, IsRising, 
 use crate::order::Order;
 use crate::place::Place;
 
-/// Whether the first comes before the second: those too that were taken out keep their order.
+/// Whether the first comes before the second, by block and then in the order of the block, which removed instructions
+/// stay in.
 pub(crate) fn comes_before(orders: &[Order], one: Place, other: Place) -> bool
     requires one { IsNumbered orders.now one }
     requires other { IsNumbered orders.now other }
@@ -20,7 +21,7 @@ pub(crate) fn comes_before(orders: &[Order], one: Place, other: Place) -> bool
     orders[one.block as usize].is_before(one.number, other.number)
 }
 
-/// Puts a place into the heap, which has room for it.
+/// Pushes a place onto the heap, whose vector has room for it.
 pub(crate) fn push(orders: &[Order], heap: &mut Vec<Place>, place: Place)
     requires place { IsNumbered orders.now place }
     requires heap { IsHeap orders.now heap.old.items }
@@ -33,7 +34,7 @@ pub(crate) fn push(orders: &[Order], heap: &mut Vec<Place>, place: Place)
     rise(orders, heap.as_mut_slice(), last);
 }
 
-/// Takes the first place out.
+/// Pops the root, before which no place of the heap comes.
 pub(crate) fn pop(orders: &[Order], heap: &mut Vec<Place>) -> Option<Place>
     requires { IsHeap orders.now heap.old.items }
     ensures heap { IsHeap orders.now heap.new.items }
@@ -50,7 +51,7 @@ pub(crate) fn pop(orders: &[Order], heap: &mut Vec<Place>) -> Option<Place>
     Some(first)
 }
 
-/// Moves the place there up to where it belongs.
+/// Sifts an entry up, past each parent that it comes before.
 fn rise(orders: &[Order], heap: &mut [Place], mut at: usize)
     requires numbered { All (IsNumbered orders.now) heap.old }
     requires at { at < length heap.old }
@@ -69,7 +70,7 @@ fn rise(orders: &[Order], heap: &mut [Place], mut at: usize)
     }
 }
 
-/// Moves the first place down to where it belongs.
+/// Sifts the root down, past the child that comes first, as long as that comes before it.
 fn sink(orders: &[Order], heap: &mut [Place])
     requires numbered { All (IsNumbered orders.now) heap.old }
     requires sinking { IsSinking (rank_at orders.now heap.old) (length heap.old) 0 }
@@ -87,7 +88,7 @@ fn sink(orders: &[Order], heap: &mut [Place])
     }
 }
 
-/// Where the first of the two below a place stands, if any stand there.
+/// The index of the child that comes first, where there is a child.
 fn least_below(orders: &[Order], heap: &[Place], at: usize) -> Option<usize>
     requires numbered { All (IsNumbered orders.now) heap.now }
     requires at { at ≤ length heap.now }

@@ -1,5 +1,5 @@
-//! Places of instructions: in which order they stand, sets of them, and queues of which the first in order is taken
-//! first.
+//! Places of instructions: the order of the instructions in a block, sets of places, and worklists that give the first
+//! place in order first.
 #![tactic(auto)]
 
 mod heap;

@@ -1,4 +1,5 @@
-//! Links between numbers, and labels that go up along them.
+//! A doubly linked list of numbers with labels that increase along it: which of two numbers stands first is told by
+//! comparing their labels (order maintenance).
 
 ghost use Rattle.std.specs.Prelude.{◌≡◌, ◌==◌, ◌+◌, ◌*◌, ◌<◌, ◌≤◌, ◌↔◌, if◌then◌else◌, suc, length, Contains, IsTrue, IfOk, OnErr, slice_get};
 ghost use Rattle.std.specs.List.{range_with_len};
@@ -9,10 +10,10 @@ ghost use Rattle.places.specs.Numbers.{numbers_in};
 
 use std::alloc::{AllocError, Global};
 
-/// What stands for none: behind the last number, and before the first.
+/// No number: what follows the last one, and what precedes the first.
 const NONE: u32 = u32::MAX;
 
-/// Numbers in order.
+/// A linked list of numbers, with a node for each at its index.
 #[derive(Drop)]
 pub(crate) struct Links {
     nodes: Vec<Node>,
@@ -20,7 +21,7 @@ pub(crate) struct Links {
 }
 
 impl Links {
-    /// So many numbers, in their order.
+    /// The numbers below a count, in ascending order.
     pub(crate) fn new(alloc: Global, count: u32) -> Result<Links, AllocError>
         ensures { IfOk result (λ links. IsListing links.nodes.items 0 links.first (range_with_len 0 count)) }
     {
@@ -41,7 +42,7 @@ impl Links {
         some(self.first)
     }
 
-    /// The number behind one.
+    /// The number after this one, unless it is the last.
     pub(crate) fn next(&self, number: u32) -> Option<u32>
         requires listing { IsListing self.now.nodes.items 0 self.now.first (numbers_in self.now) }
         requires number { Contains (numbers_in self.now) number }
@@ -63,7 +64,7 @@ impl Links {
         low < high
     }
 
-    /// Puts one more before a number, and gives it.
+    /// Inserts a new number before another, and returns it: how many there were.
     pub(crate) fn put_before(&mut self, at: u32) -> Result<u32, AllocError>
         requires listing { IsListing self.old.nodes.items 0 self.old.first (numbers_in self.old) }
         requires at { Contains (numbers_in self.old) at }
@@ -77,7 +78,7 @@ impl Links {
         Ok(number)
     }
 
-    /// The same where there is a label for it.
+    /// The same where there is a free label between that of `at` and its predecessor's.
     fn push_before(&mut self, at: u32) -> Result<u32, AllocError>
         requires listing { IsListing self.old.nodes.items 0 self.old.first (numbers_in self.old) }
         requires at { at < length self.old.nodes.items }
@@ -109,14 +110,14 @@ fn if_none(count: u32, first: u32) -> u32
     if count == 0 { NONE } else { first }
 }
 
-/// The first number, once one is put behind another, or first.
+/// The head of the list once a number is inserted behind `before`, which is `NONE` where it becomes the first.
 fn if_first(before: u32, number: u32, first: u32) -> u32
     ensures { result ≡ (if before == none then number else first) }
 {
     if before == NONE { number } else { first }
 }
 
-/// Where a number stands: its label, which goes up along the links, and its neighbours.
+/// The label of a number, which increases along the list, and its neighbours in the list.
 #[derive(Clone, Copy)]
 struct Node {
     label: u64,
@@ -131,7 +132,7 @@ fn some(number: u32) -> Option<u32>
     if number == NONE { None } else { Some(number) }
 }
 
-/// The label of a number, or what is below all labels for none.
+/// The label of a number, and for `NONE` 0, which is below all labels.
 fn label_of(nodes: &[Node], number: u32) -> u64
     ensures { result ≡ (node_of nodes.now number).label }
 {
@@ -141,7 +142,7 @@ fn label_of(nodes: &[Node], number: u32) -> u64
     }
 }
 
-/// Where a number stands.
+/// The node of a number.
 fn node_at(nodes: &[Node], number: u32) -> Node
     requires { number < length nodes.now }
     ensures { result ≡ node_of nodes.now number }
@@ -149,7 +150,8 @@ fn node_at(nodes: &[Node], number: u32) -> Node
     nodes[number as usize]
 }
 
-/// Sees to it that there is a label between a number's and that of the one before it.
+/// Makes sure that there is a free label between that of a number and its predecessor's, by giving all new labels where
+/// there is none.
 fn make_room(nodes: &mut [Node], first: u32, at: u32)
     requires listing { IsListing nodes.old 0 first (numbers_from nodes.old first) }
     requires at { at < length nodes.old }
@@ -164,7 +166,7 @@ fn make_room(nodes: &mut [Node], first: u32, at: u32)
     }
 }
 
-/// Gives labels out that stand apart.
+/// Gives all numbers new labels, evenly spaced, with a free label below each.
 fn label_anew(nodes: &mut [Node], first: u32)
     requires { IsListing nodes.old 0 first (numbers_from nodes.old first) }
     ensures { IsListing nodes.new 1 first (numbers_from nodes.old first) }
@@ -186,7 +188,7 @@ fn set_label(nodes: &mut [Node], number: u32, label: u64)
     nodes[number as usize].label = label;
 }
 
-/// Links a number in before another, behind what stood before that.
+/// Links a number in between two neighbours: writes the backward link of `at` and the forward link of `before`.
 fn link_in(nodes: &mut [Node], at: u32, before: u32, number: u32)
     requires { at < length nodes.old }
     ensures { nodes.new ≡ linked_in nodes.old at before number }
@@ -202,7 +204,7 @@ fn set_before(nodes: &mut [Node], number: u32, before: u32)
     nodes[number as usize].before = before;
 }
 
-/// Links a number on, if it isn't none.
+/// Writes the forward link of a number, unless it is `NONE`.
 fn set_after(nodes: &mut [Node], number: u32, after: u32)
     ensures { nodes.new ≡ with_after nodes.old number after }
 {
@@ -211,7 +213,8 @@ fn set_after(nodes: &mut [Node], number: u32, after: u32)
     }
 }
 
-/// A label between two. It leaves more room below what is put before the same number again.
+/// A label between two, nearer to the lower one: where the next number is inserted before the same one, it goes above
+/// this label and finds more room there.
 fn between(low: u64, high: u64) -> u64
     requires { low + 1 < high }
     ensures above { low < result }
@@ -220,7 +223,7 @@ fn between(low: u64, high: u64) -> u64
     low + 1 + (high - low - 2) / 4
 }
 
-/// How far the labels of so many numbers stand apart when they are given out.
+/// The distance at which the labels of so many numbers are spaced evenly.
 fn gap_of(count: u32) -> u64
     ensures apart { 1 < result }
     ensures fits { (count + 1) * result ≤ u64.MAX }
@@ -228,7 +231,7 @@ fn gap_of(count: u32) -> u64
     u64::MAX / (u64::from(count) + 1)
 }
 
-/// What stands for a number when so many are in order.
+/// The node of a number in a new list of so many, in ascending order.
 fn first_node(number: u32, count: u32, gap: u64) -> Node
     requires number { number < count }
     requires gap { (count + 1) * gap ≤ u64.MAX }

@@ -1,4 +1,4 @@
-//! Sets of places.
+//! Sets of places, by a flag for each number of each block.
 
 ghost use Rattle.std.specs.Prelude.{◌≡◌, ◌<◌, ◌↔◌, ℕ, length, IsTrue, IfOk, OnOk, OnErr};
 ghost use Rattle.places.specs.Sets.{AreSameMarks, Has, IsAdded, IsRemoved, IsMarkedIn, IsSameSet};
@@ -11,7 +11,7 @@ use std::marker::Model;
 /// A set of places.
 #[derive(Drop)]
 pub struct Marks {
-    /// For each block a row; numbers behind its end are not in the set.
+    /// For each block a row of flags; numbers past its end are not in the set.
     rows: Vec<List<bool>>,
 }
 
@@ -24,7 +24,7 @@ impl Model for Marks {
 }
 
 impl Marks {
-    /// No place of so many blocks.
+    /// The empty set, over so many blocks.
     pub fn none(alloc: Global, blocks: u32) -> Result<Marks, AllocError>
         ensures blocks { IfOk result (λ marks. length marks ≡ blocks) }
         ensures none { IfOk result (λ marks. (b n : ℕ) → ¬ Has marks b n) }
@@ -51,7 +51,7 @@ impl Marks {
         }
     }
 
-    /// Puts a place into the set. Where memory is refused the set is as it was.
+    /// Adds a place to the set. Where memory is refused the set is as it was.
     pub fn insert(&mut self, place: Place) -> Result<(), AllocError>
         requires { place.block < length self.old }
         ensures blocks { length self.new ≡ length self.old }
@@ -61,7 +61,7 @@ impl Marks {
         mark_in(&mut self.rows[place.block as usize], place.number)
     }
 
-    /// Takes a place out of the set.
+    /// Removes a place from the set.
     pub fn remove(&mut self, place: Place)
         requires { place.block < length self.old }
         ensures blocks { length self.new ≡ length self.old }

@@ -1,4 +1,4 @@
-//! In which order the instructions of a block stand.
+//! The order of the instructions in a block.
 
 ghost use Rattle.std.specs.Prelude.{◌≡◌, ◌+◌, ◌<◌, ◌≤◌, ◌↔◌, suc, length, Contains, IsTrue, IfOk, OnErr, slice_get};
 ghost use Rattle.std.specs.List.{range_with_len};
@@ -9,8 +9,7 @@ use crate::links::Links;
 use std::alloc::{AllocError, Global};
 use std::marker::Model;
 
-/// The instructions of a block by their numbers, and which stands before which. Those that were taken out keep where
-/// they stood.
+/// The numbers of a block's instructions, in the order of the block. Those of removed instructions stay in it.
 #[derive(Drop)]
 pub struct Order {
     links: Links,
@@ -29,7 +28,7 @@ impl Model for Order {
 }
 
 impl Order {
-    /// So many instructions in the order of their numbers.
+    /// So many instructions, in the order of their numbers.
     pub fn new(alloc: Global, count: u32) -> Result<Order, AllocError>
         ensures { IfOk result (λ order. order ≡ range_with_len 0 count) }
     {
@@ -44,7 +43,7 @@ impl Order {
         self.links.first()
     }
 
-    /// The instruction behind one.
+    /// The instruction after this one, unless it is the last.
     pub fn next(&self, number: u32) -> Option<u32>
         requires { Contains self.now number }
         ensures { result ≡ slice_get self.now (suc (place_in self.now number)) }
@@ -61,7 +60,7 @@ impl Order {
         self.links.is_before(one, other)
     }
 
-    /// Puts one more before an instruction, and gives its number.
+    /// Inserts one more instruction before another, and returns its number: how many there were.
     pub fn put_before(&mut self, at: u32) -> Result<u32, AllocError>
         requires at { Contains self.old at }
         requires few { length self.old + 1 ≤ none }

@@ -1,4 +1,4 @@
-//! Places that wait to be taken out in their order.
+//! Worklists of places, which give the first in order first.
 
 ghost use Rattle.std.specs.Prelude.{◌≡◌, ◌<◌, ℕ, [], length, IfOk, OnOk, OnErr, IfSome, IfNone};
 ghost use Rattle.places.specs.Heaps.{IsNumbered};
@@ -12,12 +12,12 @@ use crate::place::Place;
 use std::alloc::{AllocError, Global};
 use std::marker::Model;
 
-/// Places that wait, each once.
+/// A worklist of places, each once: a set of them, and a priority queue of the same places.
 #[derive(Drop)]
 pub struct Waiting {
-    /// Which places wait.
+    /// The places that are on the worklist.
     marks: Marks,
-    /// The same places, of which none comes before the one above it.
+    /// The same places as a binary heap, by their order.
     heap: Vec<Place>,
 }
 
@@ -30,7 +30,7 @@ impl Model for Waiting {
 }
 
 impl Waiting {
-    /// No place of so many blocks.
+    /// The empty worklist, over so many blocks.
     pub fn none(alloc: Global, blocks: u32) -> Result<Waiting, AllocError>
         ensures blocks { IfOk result (λ waiting. length waiting.marks ≡ blocks) }
         ensures marks { IfOk result (λ waiting. (b n : ℕ) → ¬ Has waiting.marks b n) }
@@ -42,7 +42,8 @@ impl Waiting {
         })
     }
 
-    /// Puts a place in, where it isn't there. It takes its memory first: refused, the same places wait.
+    /// Adds a place, where it isn't on the worklist already. It takes its memory first: where that is refused, the same
+    /// places are on the worklist.
     pub fn insert(&mut self, orders: &[Order], place: Place) -> Result<(), AllocError>
         requires arranged { IsArranged orders.now self.old }
         requires place { IsNumbered orders.now place }
@@ -60,7 +61,7 @@ impl Waiting {
         Ok(())
     }
 
-    /// Takes the first place out.
+    /// Takes the first place off the worklist, before which no other on it comes.
     pub fn take_first(&mut self, orders: &[Order]) -> Option<Place>
         requires { IsArranged orders.now self.old }
         ensures arranged { IsArranged orders.now self.new }

@@ -1,4 +1,4 @@
--- What a function is where one of its blocks is another.
+-- A function in which one block is changed.
 use Rattle.std.proofs.Common.{◌≡◌, ◌⊎◌, inl, inr, ℕ, zero, suc, ◌+◌, ◌<◌, List, [], ◌∷◌, ◌++◌, length, get_or, slice_set, Option, None, Some, refl, sym, ap, subst, ◌∙◌, arith}
 use Rattle.std.specs.Prelude.{IsSome, option_and_then, option_map, slice_get, sum_by}
 use Rattle.std.proofs.lemmas.Bool.{cases_eq}
@@ -48,7 +48,7 @@ changed_sum h k change xs x at =
     let same : sum_by h (slice_set xs k (change x)) ≡ sum_by h (changed_at k change xs) = ap (sum_by h) (changed_is_set k change xs x at) in
     omega arith
 
--- what stands in the changed list: a change of what stood there, or what stood there
+-- an item of the changed list is an item of the old one, or the change of one
 pub changed_cases : {A : Type 0} (k : ℕ) (change : A → A) (xs : List A) (j : ℕ) (y : A) → slice_get (changed_at k change xs) j ≡ Some y
     → ((j ≡ k) × ((x : A) × (slice_get xs k ≡ Some x) × (y ≡ change x))) ⊎ (¬ (j ≡ k) × (slice_get xs j ≡ Some y))
 changed_cases k change xs j y at = elim (cases_eq j k) [
@@ -83,7 +83,7 @@ has_known f d j (block, at, within) = elim (slice_get_cases block.insts j).1 [
   | inr (past, absent) ↦ absurd (omega arith)
 ]
 
--- the function has what the other has
+-- the second function has the registers of the first
 pub record HasAll (f f' : Function) : Type 0 where
   pub parameters : f'.parameters ≡ f.parameters
   pub insts : (d j : ℕ) → HasInst f d j → HasInst f' d j

@@ -1,4 +1,4 @@
--- How tables of counts change with the operands that are counted.
+-- How counts of uses change, operand by operand.
 use Rattle.std.proofs.Common.{◌≡◌, inl, inr, ℕ, ◌+◌, ◌<◌, ◌≤◌, cond, List, [], ◌∷◌, length, get_or, take, sym, ap, subst, ◌∙◌, arith}
 use Rattle.std.specs.Prelude.{Contains}
 use Rattle.std.proofs.lemmas.Bool.{cond-true, cond-false}
@@ -74,7 +74,7 @@ counted_more xs i a old mid new within here before one = record {
       omega arith;
 }
 
--- the same backwards, where the operands are counted no more
+-- the same where the counts of the operands are taken back
 pub forgotten_more : (xs : List Operand) (i : ℕ) (a : Operand) (old mid new : Uses) → i < length xs → a ≡ get_or xs i operands.Poison → AreCounted (take i xs) mid old → AreCounted (a ∷ []) new mid → AreCounted (take (i + 1) xs) new old
 forgotten_more xs i a old mid new within here before one = record {
   there = λ r. (λ h. (before.there r).0 ((one.there r).0 h), λ h. (one.there r).1 ((before.there r).1 h));
@@ -89,7 +89,7 @@ forgotten_more xs i a old mid new within here before one = record {
 pub only_one : (a b : Operand) → Contains (a ∷ []) b → a ≡ b
 only_one a b (k, within, is) = let first : k ≡ 0 = omega arith in subst (λ (j : ℕ). get_or (a ∷ []) j b ≡ b) first is
 
--- the next operand is one of them
+-- the next operand is one of the list
 pub next_contained : (xs : List Operand) (i : ℕ) (a : Operand) → i < length xs → a ≡ get_or xs i operands.Poison → Contains xs a
 next_contained xs i a within here = subst (λ (x : Operand). Contains xs x) (sym here) (Contains-get_or xs i operands.Poison within)
 
@@ -107,7 +107,7 @@ next_counted xs i a old mid r within here counted before =
 pub contains_operand : (a : Operand) (r : Register) → a ≡ operands.Register r → Contains (a ∷ []) (operands.Register r)
 contains_operand a r is = (0, omega arith, is)
 
--- a register that is counted no more
+-- one use of a register is taken back
 pub forgotten_register : (old new : Uses) (register : Register) (a : Operand) (n : ℕ) → a ≡ operands.Register register → n + 1 ≡ count_of old register → IsSetTo register n old new → AreCounted (a ∷ []) new old
 forgotten_register old new register a n is one set = record {
   there = λ r. ((set.there r).1, (set.there r).0);

@@ -1,4 +1,4 @@
--- The lists of a function's readers, place by place.
+-- The use lists of a function, place by place.
 use Rattle.std.proofs.Common.{◌≡◌, ◌⊎◌, ◌↔◌, inl, inr, ℕ, zero, suc, ◌+◌, ◌<◌, ◌≤◌, List, [], ◌∷◌, length, get_or, replicate, map, sym, ap, subst, ◌∙◌, arith}
 use Rattle.std.specs.Prelude.{Contains, IsSome, option_map, slice_get}
 use Rattle.std.proofs.lemmas.Bool.{cases_eq, cases_lt}
@@ -67,7 +67,7 @@ module _ (f : Function) (readers : Readers) (parameters : readers.parameters ≡
 
 -- ---- of a block
 
--- the first n instructions of the block are listed
+-- the use lists have the first n instructions of the block
 pub record AreListedBelow (f : Function) (block n : ℕ) (old new : Readers) : Type 0 where
   pub there : (r : Register) → HasList old r → HasList new r
   pub listed : (r : Register) (p : Place) → Contains (listed_for new r) p ↔ (Contains (listed_for old r) p ⊎ ((p.block ≡ block) × (p.number < n) × Contains (operands_at f p) (operands.Register r)))
@@ -106,7 +106,7 @@ one_below f block n old mid new below one =
       );
     }
 
--- with the terminator all of the block
+-- with the terminator they have all of the block
 pub block_listed : (f : Function) (b end : ℕ) (block : Block) (old mid new : Readers) → IsBlock f b block → end ≡ length block.insts → AreListedBelow f b end old mid
     → AreListed (record { block = b; number = none }) (operands_at f (record { block = b; number = none })) mid new
     → (r : Register) (p : Place) → Contains (listed_for new r) p ↔ (Contains (listed_for old r) p ⊎ ((p.block ≡ b) × IsPlaceIn f p × IsReader f r p))
@@ -145,7 +145,7 @@ block_lists f b end old mid new within is below one = elim (slice_get_cases f.bl
   | inr (past, absent) ↦ absurd (omega arith)
 ]
 
--- what is read at a place of the block has a list
+-- there is a list for what is read at a place of the block
 pub place_known : (f : Function) (b n : ℕ) → ((c k i : ℕ) (r : Read) → IsRead f c k i r → IsKnown f r.operand) → b < length f.blocks → (n < end_of f b) ⊎ (n ≡ none)
     → (r : Register) → Contains (operands_at f (record { block = b; number = n })) (operands.Register r) → IsKnown f (operands.Register r)
 place_known f b n known within is r there = elim (slice_get_cases f.blocks b).1 [
@@ -157,7 +157,7 @@ place_known f b n known within is r there = elim (slice_get_cases f.blocks b).1 
 
 -- ---- of all blocks
 
--- what reads in the first n blocks is listed
+-- the use lists have exactly the places of the first n blocks
 pub record AreListedBefore (f : Function) (n : ℕ) (readers : Readers) : Type 0 where
   pub there : (r : Register) → IsKnown f (operands.Register r) → HasList readers r
   pub listed : (r : Register) (p : Place) → Contains (listed_for readers r) p ↔ ((p.block < n) × IsPlaceIn f p × IsReader f r p)

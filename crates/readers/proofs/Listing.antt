@@ -1,4 +1,4 @@
--- How lists of readers change with the operands that are listed.
+-- How use lists change, operand by operand.
 use Rattle.std.proofs.Common.{◌≡◌, ◌⊎◌, ◌↔◌, inl, inr, ℕ, ◌+◌, ◌<◌, ◌≤◌, List, [], ◌∷◌, ◌++◌, length, get_or, set, take, drop, refl, sym, ap, subst, ◌∙◌, arith}
 use Rattle.std.specs.Prelude.{Contains}
 use Rattle.std.specs.List.{filter_map}
@@ -56,7 +56,7 @@ listed_none place readers = record {
 }
 
 module _ (place : Place) (xs : List Operand) (i : ℕ) (a : Operand) (old mid : Readers) (within : i < length xs) (here : a ≡ get_or xs i operands.Poison) (before : AreListed place (take i xs) old mid) where
-  -- a register is listed
+  -- the next operand is a register, and the place is listed for it
   module _ (register : Register) (new : Readers) (is : a ≡ operands.Register register) (one : IsListed register place mid new) where
     still : (r : Register) (p : Place) → Contains (listed_for mid r) p → Contains (listed_for new r) p
     still r p h = elim (is_same_register r register) [
@@ -96,7 +96,7 @@ module _ (place : Place) (xs : List Operand) (i : ℕ) (a : Operand) (old mid : 
       );
     }
 
-  -- what is no register isn't
+  -- the next operand is no register
   pub listed_past : ((r : Register) → a ≡ operands.Register r → ⊥) → AreListed place (take (i + 1) xs) old mid
   listed_past other = record {
     there = before.there;
@@ -115,7 +115,7 @@ module _ (place : Place) (xs : List Operand) (i : ℕ) (a : Operand) (old mid : 
     );
   }
 
-  -- a register that is read has a list
+  -- a register among the operands has a list
   pub next_list : HaveLists old xs → (register : Register) → a ≡ operands.Register register → HasList mid register
   next_list have register is = before.there register (have register (subst (λ (x : Operand). Contains xs x) is (next_contained xs i a within here)))
 

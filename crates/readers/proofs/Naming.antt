@@ -1,4 +1,4 @@
--- Registers that are compared, and operands that name them.
+-- Equal registers, and operands that are a register.
 use Rattle.std.proofs.Common.{◌≡◌, ◌⊎◌, inl, inr, ℕ, true, false, eqb, refl, ap, sym, subst}
 use Rattle.std.proofs.lemmas.Bool.{and_from, and_parts, cases_Bool, eq-eqb, eqb-true, false_from_ne_true}
 use Rattle.ir_core.specs.declared.operand.Operand.{Operand}

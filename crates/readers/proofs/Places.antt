@@ -1,4 +1,4 @@
--- What is read at each place of an arena, and of one in which what is read at one place is changed.
+-- What is read at each place of an arena, and what becomes of its tables where the operands at one place change.
 use Rattle.std.proofs.Common.{◌≡◌, ◌⊎◌, ◌↔◌, inl, inr, ℕ, ◌+◌, ◌<◌, ◌≤◌, ◌^◌, List, length, get_or, Some, All, refl, sym, ap, subst, ◌∙◌, arith}
 use Rattle.std.specs.Prelude.{Contains, option_map, slice_get, sum_by}
 use Rattle.std.proofs.lemmas.Bool.{cases_eq}
@@ -31,16 +31,16 @@ use Rattle.readers.proofs.Naming.{is_same_register}
 use Rattle.readers.proofs.Reading.{arena_place_end, arena_place_inst, operands_at_inst, operands_at_terminator, read_at_written, read_in_block, read_in_inst, reads_written, same_place, written, written_reads}
 use Rattle.readers.proofs.Totals.{counts_are_times, times_are_counts}
 
--- instructions of each block have numbers
+-- numbers of instructions are below the one that stands for a terminator
 abbrev pub AreFew : Function → Type 0
 AreFew f = (b : ℕ) (block : Block) → IsBlock f b block → length block.insts ≤ none
 
--- what is read at each place is a register of the function, or none
+-- every register that is read at a place is one of the function
 abbrev pub AreKnown : Function → Type 0
 AreKnown f = (p : Place) (a : Operand) → IsPlaceIn f p → Contains (operands_at f p) a → IsKnown f a
 
 module _ (f : Function) (few : AreFew f) where
-  -- where something is written, there is a place
+  -- where an operand is read, there is a place
   pub place_of_read : (b k i : ℕ) (r : Read) → IsRead f b k i r → (p : Place) × IsPlaceIn f p × (p.block ≡ b) × (arena_place f p ≡ k)
   place_of_read b k i r at =
       let (block, here) = read_in_block f b k i r at in
@@ -68,14 +68,14 @@ known_reads f known p a inside there =
     let (r, is_read, is) = read_at_written f p.block (arena_place f p) at.0 a at.1 in
     subst (IsKnown f) is (known p.block (arena_place f p) at.0 r is_read)
 
--- a place is listed for all of these that are registers, and all lists keep what they have
+-- the lists of the registers among these operands have the place; no list loses a place, or gets another
 pub record IsListedToo (p : Place) (reads : List Operand) (old new : Readers) : Type 0 where
   pub there : (r : Register) → HasList old r → HasList new r
   pub kept : (r : Register) (q : Place) → Contains (listed_for old r) q → Contains (listed_for new r) q
   pub listed : (r : Register) → Contains reads (operands.Register r) → Contains (listed_for new r) p
   pub came : (r : Register) (q : Place) → Contains (listed_for new r) q → Contains (listed_for old r) q ⊎ (q ≡ p)
 
--- where nothing is listed
+-- where each has the place already
 pub all_listed : (p : Place) (reads : List Operand) (readers : Readers) → ((r : Register) → Contains reads (operands.Register r) → Contains (listed_for readers r) p) → IsListedToo p reads readers readers
 all_listed p reads readers listed = record {
   there = λ r h. h;
@@ -84,7 +84,7 @@ all_listed p reads readers listed = record {
   came = λ r q h. inl h;
 }
 
--- where a place is listed for one register, and was for all others
+-- where one register's list gets the place, and each other has it
 pub one_listed : (p : Place) (reads : List Operand) (register : Register) (old new : Readers) → IsListed register p old new
     → ((r : Register) → Contains reads (operands.Register r) → Contains (listed_for old r) p ⊎ (r ≡ register)) → IsListedToo p reads old new
 one_listed p reads register old new one listed = record {
@@ -109,7 +109,7 @@ one_listed p reads register old new one listed = record {
   ];
 }
 
--- ---- what is read at one place is changed
+-- ---- the operands at one place change
 
 pub record DiffersAt (f f' : Function) (p : Place) : Type 0 where
   pub inside : IsPlaceIn f p
@@ -138,7 +138,7 @@ module _ (f f' : Function) (p : Place) (differs : DiffersAt f f' p) where
         known_kept f f' differs.to a (known q a was (subst (λ (l : List Operand). Contains l a) (differs.elsewhere q was apart) there))
   ]
 
-  -- what was read there is counted no more, and then what is
+  -- counts stay exact where those of the old operands are taken back and the new ones are counted
   pub still_facts : (old new : FunctionFacts) (mid : Uses) → AreFactsOf f old → new.flow ≡ old.flow → AreCounted (operands_at f p) mid old.uses → AreCounted (operands_at f' p) mid new.uses → AreFactsOf f' new
   still_facts old new mid facts flow forgotten counted = record {
     flow = flow ∙ facts.flow ∙ sym differs.flow;
@@ -152,7 +152,7 @@ module _ (f f' : Function) (p : Place) (differs : DiffersAt f f' p) where
         omega arith);
   }
 
-  -- what is read there is listed, and nothing else but that place comes
+  -- use lists stay complete where the place is listed for its new operands
   pub still_readers : (old new : Readers) → AreReadersOf f old → IsListedToo p (operands_at f' p) old new → AreReadersOf f' new
   still_readers old new are listed = record {
     there = λ r known. listed.there r (are.there r (known_kept f' f differs.back (operands.Register r) known));
@@ -177,14 +177,14 @@ module _ (f f' : Function) (p : Place) (differs : DiffersAt f f' p) where
 pub numbers_for : (f : Function) (facts : FunctionFacts) (p : Place) → AreFactsOf f facts → AreKnown f → IsPlaceIn f p → HasNumbers facts.uses (operands_at f p)
 numbers_for f facts p are known inside r there = are.uses.there r (known p (operands.Register r) inside there)
 
--- ---- what is read at a place is among all that is read
+-- ---- the operands at a place are among all that are read
 
 pub few_counted : (f : Function) → AreFew f → All (λ (b : Block). length b.insts < 2 ^ 32) f.blocks
 few_counted f few k d within =
     let less = few k (get_or f.blocks k d) (slice_get-get_or f.blocks k d within) in
     omega arith
 
--- the operands of one list are among those of all
+-- what one item adds to a sum is no more than the sum
 one_of_all : {A : Type 0} (h : A → ℕ) (xs : List A) (k : ℕ) (x : A) → slice_get xs k ≡ Some x → h x ≤ sum_by h xs
 one_of_all h xs k x at =
     let within = slice_get_within xs k x at in
@@ -209,7 +209,7 @@ times_within f few p (block, at, inside) r =
           omega arith
     ]
 
--- so a table that is exact has counted it
+-- so exact counts are at least as high as what is read at one place
 pub times_counted : (f : Function) (facts : FunctionFacts) → AreFactsOf f facts → AreFew f → (p : Place) → IsPlaceIn f p → (r : Register) → times r (operands_at f p) ≤ count_of facts.uses r
 times_counted f facts are few p inside r =
     let all = counts_are_times f facts.uses are.uses r in

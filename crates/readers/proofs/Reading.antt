@@ -20,7 +20,7 @@ use Rattle.places.specs.Orders.{none}
 use Rattle.readers.specs.Readers.{arena_place}
 use Rattle.places.specs.declared.place.Place.{Place}
 
--- the operands that are written at place k of block b
+-- the operands that are read at place k of block b
 abbrev pub written : Function → ℕ → ℕ → List Operand
 written f b k = map (λ (r : Read). r.operand) (reads_at f b k)
 
@@ -76,7 +76,7 @@ read_in_inst f b k i r block at_b at = elim (slice_get_cases block.insts k).1 [
   ]
 ]
 
--- where nothing is read as this operand
+-- past the last operand `poison` is read
 pub no_operand : (f : Function) (p : Place) (k i : ℕ) → k ≡ arena_place f p → None ≡ slice_get (reads_at f p.block k) i → operands.Poison ≡ get_or (operands_at f p) i operands.Poison
 no_operand f p k i place absent =
     let here : None ≡ slice_get (reads_at f p.block (arena_place f p)) i = absent ∙ ap (λ (n : ℕ). slice_get (reads_at f p.block n) i) place in

@@ -1,4 +1,4 @@
--- How often operands name a register, as a list of the places where they do.
+-- The count of a register is how many uses of it there are: the list of all its uses, in order.
 use Rattle.std.proofs.Common.{◌≡◌, ◌⊎◌, inl, inr, ℕ, zero, suc, ◌+◌, ◌<◌, Bool, true, cond, List, [], ◌∷◌, ◌++◌, length, get_or, Some, refl, sym, ap, subst, ◌∙◌, arith, length-append, zero-add}
 use Rattle.std.specs.Prelude.{AllPairs, Contains, option_map, slice_get, sum_by}
 use Rattle.std.proofs.lemmas.Bool.{cases_Bool}
@@ -64,7 +64,7 @@ module _ (r : Register) where
   named_from b k i [] = []
   named_from b k i (a ∷ reads) = cond (names r a) ((b, k, i) ∷ named_from b k (suc i) reads) (named_from b k (suc i) reads)
 
-  -- operand j of them names the register
+  -- the use is of one of these operands, which is the register
   abbrev IsNamed : ℕ → ℕ → ℕ → List Operand → UsePlace → Type 0
   IsNamed b k i reads z = (j : ℕ) × (z ≡ (b, k, i + j)) × (slice_get reads j ≡ Some (operands.Register r))
 
@@ -142,7 +142,7 @@ module _ (r : Register) where
   insts_from b k [] = []
   insts_from b k (inst ∷ insts) = named_from b k 0 (operands_of inst.op) ++ insts_from b (suc k) insts
 
-  -- instruction m of them names it
+  -- the use is by one of these instructions
   record IsInInst (b k : ℕ) (insts : List Inst) (z : UsePlace) : Type 0 where
     place : ℕ
     operand : ℕ
@@ -203,7 +203,7 @@ module _ (r : Register) where
   block_uses : ℕ → Block → List UsePlace
   block_uses b block = insts_from b 0 block.insts ++ named_from b (length block.insts) 0 (operands_at_end block.end)
 
-  -- an instruction or the terminator names it
+  -- the use is by an instruction of the block or by its terminator
   data IsInBlock (b : ℕ) (block : Block) (z : UsePlace) : Type 0 where
     by_inst : (k j : ℕ) (inst : Inst) → z ≡ (b, k, j) → slice_get block.insts k ≡ Some inst → slice_get (operands_of inst.op) j ≡ Some (operands.Register r) → IsInBlock b block z
     by_end : (j : ℕ) → z ≡ (b, length block.insts, j) → slice_get (operands_at_end block.end) j ≡ Some (operands.Register r) → IsInBlock b block z
@@ -288,7 +288,7 @@ module _ (r : Register) where
       Contains-append_right (block_uses b first) (uses_from (suc b) blocks) z
       (block_is_listed (suc b) blocks m block z at (subst (λ (n : ℕ). Contains (block_uses n block) z) e h))
 
-  -- what stands in a block stands before what stands in a later one
+  -- uses in a block stand before those in a later one
   stands_before : (b c : ℕ) (block other : Block) (x y : UsePlace) → b < c → IsInBlock b block x → IsInBlock c other y → StandsBefore x y
   stands_before b c block other x y less (by_inst k j inst is at reads) (by_inst l m inst' is' at' reads') = subst (λ (z : UsePlace). StandsBefore z y) (sym is) (subst (λ (z : UsePlace). StandsBefore (b, k, j) z) (sym is') (inl less))
   stands_before b c block other x y less (by_inst k j inst is at reads) (by_end m is' reads') = subst (λ (z : UsePlace). StandsBefore z y) (sym is) (subst (λ (z : UsePlace). StandsBefore (b, k, j) z) (sym is') (inl less))
@@ -326,7 +326,7 @@ module _ (r : Register) where
         let found : IsNamedAt f r c (length block.insts) j = read_at_written f c (length block.insts) j (operands.Register r) (ap (λ (l : List Operand). slice_get l j) here ∙ reads) in
         subst (λ (y : UsePlace). IsNamedAt f r y.0 y.1 y.2) (sym is) found
 
-    -- a read that names it, as one of the operands that are written there
+    -- a read of the register is of one of the operands that are read there
     named_operand : (c k j : ℕ) (reads : List Operand) → written f c k ≡ reads → IsNamedAt f r c k j → slice_get reads j ≡ Some (operands.Register r)
     named_operand c k j reads is (read, at, names) =
         ap (λ (l : List Operand). slice_get l j) (sym is) ∙ slice_get-map (λ (x : Read). x.operand) (reads_at f c k) j ∙ ap (option_map (λ (x : Read). x.operand)) at ∙ ap (λ (a : Operand). Some a) names
@@ -361,7 +361,7 @@ module _ (r : Register) where
       uses_count 0 f.blocks,
     )
 
--- a table is exact where its numbers are these
+-- exact counts of uses are these numbers
 pub counts_are_times : (f : Function) (uses : Uses) → AreCounts f uses → (r : Register) → count_of uses r ≡ times_in_function r f
 counts_are_times f uses counts r = use_counts_are_one f r (count_of uses r) (times_in_function r f) (counts.exact r) (use_count r f)
 

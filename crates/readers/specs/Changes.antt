@@ -1,4 +1,5 @@
--- What becomes of the instructions of an arena, and of the numbers of a block, where one is put, changed or taken out.
+-- Edits of an arena and of the order of a block: an instruction is inserted, its operands are replaced, or it is
+-- removed.
 use Rattle.std.specs.Prelude.{ℕ, zero, suc, ◌==◌, ◌&&◌, if◌then◌else◌, Bool, false, List, [], ◌∷◌, ◌++◌, map, None}
 use Rattle.ir_core.specs.declared.function.Block.{Block}
 use Rattle.ir_core.specs.declared.function.Function.{Function}
@@ -23,7 +24,8 @@ changed_at (suc k) change (x ∷ xs) = x ∷ changed_at k change xs
 abbrev pub with_block : Function → ℕ → (Block → Block) → Function
 with_block f b change = record { name = f.name; before = f.before; width = f.width; parameters = f.parameters; after = f.after; blocks = changed_at b change f.blocks }
 
--- a block with one more instruction, which gets the next number; with a change of instruction n; and of its terminator
+-- a block with one more instruction, which gets the next number; with instruction n changed; and with its terminator
+-- changed
 abbrev pub inst_put : Inst → Block → Block
 inst_put inst block = record { name = block.name; insts = block.insts ++ inst ∷ []; end = block.end }
 
@@ -37,11 +39,11 @@ end_changed change block = record { name = block.name; insts = block.insts; end 
 abbrev pub put_in : Function → ℕ → Inst → Function
 put_in f b inst = with_block f b (inst_put inst)
 
--- what is left where an instruction was taken out: it reads nothing
+-- what is left in the arena of an instruction that was removed: it reads no register
 abbrev pub gone : Inst → Inst
 gone inst = record { name = None; width = inst.width; op = Freeze operands.Poison }
 
--- without instruction n of block b
+-- with instruction n of block b removed
 abbrev pub taken_out : Function → ℕ → ℕ → Function
 taken_out f b n = with_block f b (inst_changed n gone)
 
@@ -51,15 +53,15 @@ same_register (registers.Result b n) (registers.Result c m) = (b == c) && (n == 
 same_register (registers.Parameter p) (registers.Result c m) = false
 same_register (registers.Result b n) (registers.Parameter q) = false
 
--- an operand stands for one register, and each other for itself
+-- the substitution of an operand for one register: each other register stays
 abbrev pub instead : Register → Operand → Substitution
 instead from to r = if same_register r from then to else operands.Register r
 
--- with an operand wherever the register is read
+-- with all uses of a register replaced by an operand
 abbrev pub replaced : Function → Register → Operand → Function
 replaced f from to = record { name = f.name; before = f.before; width = f.width; parameters = f.parameters; after = f.after; blocks = map (substituted_block (instead from to)) f.blocks }
 
--- with an operand wherever the register is read at one place
+-- with the uses of a register at one place replaced by an operand
 abbrev pub replaced_at : Function → Place → Register → Operand → Function
 replaced_at f p from to = if p.number == none then with_block f p.block (end_changed (substituted_end (instead from to))) else with_block f p.block (inst_changed p.number (substituted_inst (instead from to)))
 

@@ -1,5 +1,5 @@
-//! What is read at each place of a function, tables of it that are kept while the function changes, and operands
-//! written in place.
+//! Use lists and counts of uses, kept exact or complete while a function changes at single places, and operands that
+//! are replaced in place.
 #![tactic(auto)]
 
 mod substituting;

@@ -1,4 +1,4 @@
-//! Operands that stand for registers, written in place.
+//! Substitutions of operands for registers, carried out in place.
 
 ghost use Rattle.std.specs.Prelude.{◌≡◌};
 ghost use Rattle.substitution.specs.Substitution.{Substitution};
@@ -8,16 +8,16 @@ use ir_core::{Inst, Op, Operand, Register, Terminator};
 use lists::List;
 use std::mem;
 
-/// What stands for each register.
+/// A substitution: an operand for each register.
 pub trait Substitute {
     ghost to: { Self → Substitution };
 
-    /// What stands for a register.
+    /// The operand that is written in the place of a register.
     fn stands_for(&self, register: Register) -> Operand
         ensures { result ≡ to self.now register };
 }
 
-/// What stands for an operand.
+/// An operand after the substitution.
 fn substituted_operand<S: Substitute>(by: &S, operand: Operand) -> Operand
     ensures { result ≡ written.substituted_operand (S.to by.now) operand }
 {
@@ -27,7 +27,7 @@ fn substituted_operand<S: Substitute>(by: &S, operand: Operand) -> Operand
     }
 }
 
-/// The entries of a phi, with what stands for their operands. It takes no memory.
+/// The entries of a phi after the substitution of their operands. It takes no memory.
 fn substituted_entries<S: Substitute>(by: &S, entries: List<(Operand, u32)>) -> List<(Operand, u32)>
     ensures { result ≡ written.substituted_entries (S.to by.now) entries }
 {
@@ -38,7 +38,7 @@ fn substituted_entries<S: Substitute>(by: &S, entries: List<(Operand, u32)>) -> 
     List::from_vec(entries)
 }
 
-/// An operation with what stands for its operands.
+/// An operation after the substitution of its operands.
 fn substituted_op<S: Substitute>(by: &S, op: Op) -> Op
     ensures { result ≡ written.substituted_op (S.to by.now) op }
 {
@@ -68,7 +68,7 @@ fn substituted_op<S: Substitute>(by: &S, op: Op) -> Op
     }
 }
 
-/// Writes what stands for an instruction's operands.
+/// Carries out the substitution in an instruction's operands.
 pub fn substitute_inst<S: Substitute>(by: &S, inst: &mut Inst)
     ensures { inst.new ≡ written.substituted_inst (S.to by.now) inst.old }
 {
@@ -76,7 +76,7 @@ pub fn substitute_inst<S: Substitute>(by: &S, inst: &mut Inst)
     inst.op = substituted_op(by, op);
 }
 
-/// The terminator with what stands for its operand.
+/// A terminator after the substitution of its operand.
 fn substituted_end<S: Substitute>(by: &S, end: Terminator) -> Terminator
     ensures { result ≡ written.substituted_end (S.to by.now) end }
 {
@@ -93,7 +93,7 @@ fn substituted_end<S: Substitute>(by: &S, end: Terminator) -> Terminator
     }
 }
 
-/// Writes what stands for a terminator's operand.
+/// Carries out the substitution in a terminator's operand.
 pub fn substitute_end<S: Substitute>(by: &S, end: &mut Terminator)
     ensures { end.new ≡ written.substituted_end (S.to by.now) end.old }
 {

@@ -1,4 +1,4 @@
-//! Which instructions read a register, and how often it is used.
+//! Use lists: for each register the instructions and terminators that read it; and counts of uses.
 
 ghost use Rattle.std.specs.Prelude.{◌≡◌, ◌+◌, ◌≤◌, ◌<◌, ◌^◌, ◌++◌, ◌↔◌, ◌⊎◌, ℕ, List as Seq, [], ◌∷◌, All, Contains, IsTrue, IfOk, OnErr, OnOk, length, replicate, slice_index_or, slice_set};
 ghost use Rattle.std.specs.List.{filter_map};
@@ -18,17 +18,18 @@ use std::alloc::{AllocError, Global};
 use std::mem;
 use use_counts::{Uses, uses_of};
 
-/// For each register what may read it: all that does, and perhaps what did.
+/// For each register a use list: the places of all that reads it, and perhaps of some that ceased to, which aren't
+/// taken off at once.
 #[derive(Drop)]
 pub struct Readers {
     /// For each parameter.
     pub parameters: List<List<Place>>,
-    /// For each block the same for the results of its instructions.
+    /// For each block, a list for the result of each of its instructions.
     pub results: Vec<List<List<Place>>>,
 }
 
 impl Readers {
-    /// What reads the registers of a function.
+    /// The use lists of a function's registers.
     pub fn of(alloc: Global, f: &Function) -> Result<Readers, AllocError>
         requires blocks { length f.now.blocks < 2 ^ 32 }
         requires insts { All (λ b. length b.insts ≤ none) f.now.blocks }
@@ -43,7 +44,7 @@ impl Readers {
         Ok(readers)
     }
 
-    /// Lists without places for all registers of a function.
+    /// An empty list for each register of a function.
     fn none(alloc: Global, f: &Function) -> Result<Readers, AllocError>
         ensures there { IfOk result (λ readers. (r : Named) → IsKnown f.now (Operand.Register r) → HasList readers r) }
         ensures none { IfOk result (λ readers. (r : Named) → listed_for readers r ≡ []) }
@@ -59,7 +60,7 @@ impl Readers {
         })
     }
 
-    /// Lists what is read in a block.
+    /// Lists each place of a block for the registers that are read there.
     fn list_block(&mut self, f: &Function, block: u32) -> Result<(), AllocError>
         requires block { block < length f.now.blocks }
         requires insts { All (λ b. length b.insts ≤ none) f.now.blocks }
@@ -75,7 +76,7 @@ impl Readers {
         list_reads(f, self, Place { block, number: END })
     }
 
-    /// A list for one more instruction of a block. Where memory is refused the lists are as they were.
+    /// An empty list for one more instruction of a block. Where memory is refused the lists are as they were.
     pub fn push_list(&mut self, alloc: Global, block: u32) -> Result<(), AllocError>
         requires { block < length self.old.results.items }
         ensures parameters { self.new.parameters ≡ self.old.parameters }
@@ -86,8 +87,8 @@ impl Readers {
         self.results[block as usize].push(List::new(alloc))
     }
 
-    /// Lists a place, where it isn't what was listed last: what reads a register twice is listed once. Where memory is
-    /// refused the lists are as they were.
+    /// Adds a place to a register's list, unless it is its last entry: so an instruction that reads a register twice is
+    /// listed once. Where memory is refused the lists are as they were.
     pub fn list(&mut self, register: Register, place: Place) -> Result<(), AllocError>
         requires { HasList self.old register }
         ensures listed { OnOk result (IsListed register place self.old self.new) }
@@ -100,7 +101,7 @@ impl Readers {
         }
     }
 
-    /// Puts other places for a register, and gives those that were listed.
+    /// Replaces a register's list, and returns the one that was there.
     pub fn exchange(&mut self, register: Register, places: List<Place>) -> List<Place>
         requires { HasList self.old register }
         ensures was { result ≡ listed_for self.old register }
@@ -115,7 +116,7 @@ impl Readers {
     }
 }
 
-/// Lists a place for the result of an instruction.
+/// Adds a place to the list for the result of an instruction.
 fn list_at(
     rows: &mut Vec<List<List<Place>>>,
     block: u32,
@@ -132,7 +133,7 @@ fn list_at(
     list_in(&mut rows[block as usize], number, place)
 }
 
-/// Lists a place in a row of lists.
+/// Adds a place to one of the lists of a row.
 fn list_in(rows: &mut List<List<Place>>, index: u32, place: Place) -> Result<(), AllocError>
     requires { index < length rows.old }
     ensures listed { OnOk result ((places : Seq Spot) × IsListedAmong place (slice_index_or rows.old index []) places
@@ -142,7 +143,7 @@ fn list_in(rows: &mut List<List<Place>>, index: u32, place: Place) -> Result<(),
     list_last(rows.get_mut(index as usize), place)
 }
 
-/// Puts a place behind others, where it isn't the last of them.
+/// Appends a place to a list, unless it is its last entry.
 fn list_last(places: &mut List<Place>, place: Place) -> Result<(), AllocError>
     ensures listed { OnOk result (IsListedAmong place places.old places.new) }
     ensures refused { OnErr result (places.new ≡ places.old) }
@@ -153,7 +154,7 @@ fn list_last(places: &mut List<Place>, place: Place) -> Result<(), AllocError>
     places.push(place)
 }
 
-/// Whether the last of some places is this one.
+/// Whether this place is the last one of a list.
 fn ends_in(places: &[Place], place: Place) -> bool
     ensures { IsTrue result → Contains places.now place }
 {
@@ -170,7 +171,7 @@ fn are_same(one: Place, other: Place) -> bool
     one == other
 }
 
-/// Puts other places for the result of an instruction, and gives those that were there.
+/// Replaces the list for the result of an instruction, and returns the one that was there.
 fn exchange_at(
     rows: &mut Vec<List<List<Place>>>,
     block: u32,
@@ -185,7 +186,7 @@ fn exchange_at(
     exchange_in(&mut rows[block as usize], number, places)
 }
 
-/// Puts other places in a row of lists, and gives those that were there.
+/// Replaces one of the lists of a row, and returns the one that was there.
 fn exchange_in(rows: &mut List<List<Place>>, index: u32, places: List<Place>) -> List<Place>
     requires { index < length rows.old }
     ensures was { result ≡ slice_index_or rows.old index [] }
@@ -194,7 +195,7 @@ fn exchange_in(rows: &mut List<List<Place>>, index: u32, places: List<Place>) ->
     mem::replace(rows.get_mut(index as usize), places)
 }
 
-/// Writes how often a register is used.
+/// Writes a register's count of uses.
 fn set_count(uses: &mut Uses, register: Register, count: usize)
     requires { HasNumber uses.old register }
     ensures { IsSetTo register count uses.old uses.new }
@@ -205,7 +206,7 @@ fn set_count(uses: &mut Uses, register: Register, count: usize)
     }
 }
 
-/// Writes how often the result of an instruction is used.
+/// Writes the count of uses for the result of an instruction.
 fn set_at(rows: &mut Vec<List<usize>>, block: u32, number: u32, count: usize)
     requires block { block < length rows.old.items }
     requires number { number < length (slice_index_or rows.old.items block []) }
@@ -222,7 +223,7 @@ fn set_in(row: &mut List<usize>, index: u32, count: usize)
     *row.get_mut(index as usize) = count;
 }
 
-/// Where the function that keeps the instructions has what stands at a place.
+/// The index at which the arena has what is at a place: a block's terminator has the one past its last instruction.
 fn arena_place(arena: &Function, place: Place) -> u32
     requires { All (λ b. length b.insts < 2 ^ 32) arena.now.blocks }
     ensures { result ≡ arena_place arena.now place }
@@ -242,7 +243,7 @@ fn count_at(arena: &Function, place: Place) -> usize
     read_count(arena, place.block, arena_place(arena, place))
 }
 
-/// What is read at a place as this operand, and `poison` where there is none.
+/// The operand with this index among those that are read at a place, and `poison` past the last.
 fn operand_at(arena: &Function, place: Place, index: usize) -> Operand
     requires { All (λ b. length b.insts < 2 ^ 32) arena.now.blocks }
     ensures { result ≡ slice_index_or (operands_at arena.now place) index Operand.Poison }
@@ -253,7 +254,7 @@ fn operand_at(arena: &Function, place: Place, index: usize) -> Operand
     }
 }
 
-/// Counts an operand.
+/// Counts one use, where the operand is a register.
 fn count_operand(uses: &mut Uses, operand: Operand) -> Result<(), AllocError>
     requires { HasNumbers uses.old (operand ∷ []) }
     ensures { OnOk result (AreCounted (operand ∷ []) uses.old uses.new) }
@@ -274,7 +275,7 @@ fn one_more(count: usize) -> Result<usize, AllocError>
     count.checked_add(1).ok_or(AllocError)
 }
 
-/// Counts an operand no more.
+/// Takes back the count of one use, where the operand is a register.
 fn forget_operand(uses: &mut Uses, operand: Operand)
     requires there { HasNumbers uses.old (operand ∷ []) }
     requires counted { (r : Named) → times r (operand ∷ []) ≤ count_of uses.old r }
@@ -287,7 +288,7 @@ fn forget_operand(uses: &mut Uses, operand: Operand)
     set_count(uses, register, count);
 }
 
-/// Counts what is read at a place.
+/// Counts the uses of registers at a place.
 pub fn count_reads(arena: &Function, uses: &mut Uses, place: Place) -> Result<(), AllocError>
     requires insts { All (λ b. length b.insts < 2 ^ 32) arena.now.blocks }
     requires there { HasNumbers uses.old (operands_at arena.now place) }
@@ -299,7 +300,7 @@ pub fn count_reads(arena: &Function, uses: &mut Uses, place: Place) -> Result<()
     Ok(())
 }
 
-/// Counts what is read at a place no more.
+/// Takes back the counts of the uses of registers at a place.
 pub fn forget_reads(arena: &Function, uses: &mut Uses, place: Place)
     requires insts { All (λ b. length b.insts < 2 ^ 32) arena.now.blocks }
     requires there { HasNumbers uses.old (operands_at arena.now place) }
@@ -311,7 +312,7 @@ pub fn forget_reads(arena: &Function, uses: &mut Uses, place: Place)
     }
 }
 
-/// Lists a place as a reader of what is read there.
+/// Adds a place to the use list of each register that is read there.
 pub fn list_reads(arena: &Function, readers: &mut Readers, place: Place) -> Result<(), AllocError>
     requires insts { All (λ b. length b.insts < 2 ^ 32) arena.now.blocks }
     requires there { HaveLists readers.old (operands_at arena.now place) }
@@ -325,8 +326,8 @@ pub fn list_reads(arena: &Function, readers: &mut Readers, place: Place) -> Resu
     Ok(())
 }
 
-/// The registers that are read at a place, behind others. It takes its memory first: refused, the others are left
-/// alone.
+/// Appends the registers that are read at a place to others. It takes its memory first: where that is refused, the
+/// others are as they were.
 pub fn push_reads(
     arena: &Function,
     fallen: &mut Vec<Register>,
@@ -346,7 +347,7 @@ pub fn push_reads(
     Ok(())
 }
 
-/// Whether what stands at a place reads the register.
+/// Whether what is at a place reads the register.
 pub fn reads(arena: &Function, place: Place, register: Register) -> bool
     requires { All (λ b. length b.insts < 2 ^ 32) arena.now.blocks }
     ensures { IsTrue result ↔ Contains (operands_at arena.now place) (Operand.Register register) }
@@ -366,7 +367,7 @@ pub fn is(operand: Operand, register: Register) -> bool
     operand == Operand::Register(register)
 }
 
-/// Of some places those at which the register is read.
+/// Those of some places at which the register is read.
 pub fn readers_among(arena: &Function, places: List<Place>, register: Register) -> List<Place>
     requires { All (λ b. length b.insts < 2 ^ 32) arena.now.blocks }
     ensures { (p : Spot) → Contains result p ↔ (Contains places p × Contains (operands_at arena.now p) (Operand.Register register)) }
@@ -384,7 +385,7 @@ pub fn readers_among(arena: &Function, places: List<Place>, register: Register) 
     List::from_vec(places)
 }
 
-/// Lists without elements, so many.
+/// So many empty lists.
 fn rows(alloc: Global, count: usize) -> Result<List<List<Place>>, AllocError>
     ensures { IfOk result (λ rows. rows ≡ replicate count []) }
 {

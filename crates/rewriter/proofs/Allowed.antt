@@ -1,4 +1,4 @@
--- Each way through what is put is allowed by an effect of the root, where the rule is valid.
+-- Each run through the inserted instructions is allowed by an effect of the root, where the rule is valid.
 use Rattle.std.proofs.Common.{◌≡◌, ℕ, suc, ◌+◌, ◌-◌, ◌<◌, ◌≤◌, inl, inr, List, [], ◌∷◌, length, map, take, Option, Some, refl, sym, ap, subst, ◌∙◌, arith}
 use Rattle.std.specs.Prelude.{slice_get, Contains}
 use Rattle.std.specs.List.{range_with_len}
@@ -71,7 +71,7 @@ use Rattle.rewriter.proofs.Setting.{SourceRead, input_read, setting_fits, terms_
 use Rattle.rewriter.proofs.Source.{input_value, input_values, input_is, Standing, temporaries_stand}
 use Rattle.rewriter.proofs.Target.{GivesOnly, Ready, Done, Ends, target_runs}
 
--- what is assigned at a place is assigned behind it in its block
+-- a register that is assigned at a place is assigned behind it in the block
 pub assigned_later : (f : Function) (r : Register) (b j k : ℕ) → j ≤ k → IsAssigned f r b j → IsAssigned f r b k
 assigned_later f (registers.Parameter p) b j k le a = a
 assigned_later f (registers.Result d i) b j k le a =
@@ -85,7 +85,7 @@ module _ (f : Function) (b k : ℕ) (rule : Rule) (binding : Binding) (checked :
   pub reached : (before : List ℕ) × IsWalk f (binding.block ∷ before)
   reached = subst (IsReached f) (sym match.block) match.reached
 
-  -- what is assigned at an instruction of the block doesn't stand there or behind it
+  -- a result that is assigned at an instruction of its block is of an instruction before that one
   pub stands_before : (p q : ℕ) → HasInst f binding.block q → IsAssigned f (registers.Result binding.block p) binding.block q → p < q
   stands_before p q has a =
       elim (cases_lt p q) [
@@ -138,7 +138,7 @@ module _ (f : Function) (b k : ℕ) (rule : Rule) (binding : Binding) (checked :
       let same : t.0 ≡ p = let own : reg ≡ registers.Result binding.block t.0 = t.1 in cc in
       omega arith
 
-  -- a register that is assigned at the root stands for itself
+  -- a register that is assigned at the root isn't renamed
   pub stands_itself : (reg : Register) → IsAssigned f reg binding.block binding.place → stands_for w reg ≡ operands.Register reg
   stands_itself (registers.Parameter p) a = refl
   stands_itself (registers.Result d j) a =
@@ -153,13 +153,13 @@ module _ (f : Function) (b k : ℕ) (rule : Rule) (binding : Binding) (checked :
             stands_other w d j other ∙ ap (λ n. operands.Register (registers.Result d n)) ((is_moved w d j).elsewhere ne)
       ]
 
-  -- ---- where what is put begins, with these registers held in the new function
+  -- ---- where the inserted instructions begin, with what registers hold in the new function
 
   module _ (held' : Registers) (after : Option Registers) (may : MayHold f binding.block binding.place (pulled_back (stands_for w) held')) (runs : RunsThrough binding.block binding.place w.put held' after) where
     abbrev typing : List ℕ
     typing = binding.typing
 
-    -- what the old function's registers hold there
+    -- what the same registers hold in the old function
     abbrev held : Registers
     held = pulled_back (stands_for w) held'
 
@@ -185,7 +185,7 @@ module _ (f : Function) (b k : ℕ) (rule : Rule) (binding : Binding) (checked :
 
     -- ---- where the target begins
 
-    -- a register that is assigned holds the same in the new function
+    -- a register that is assigned at the root holds the same in the new function as in the old one
     held_there : (reg : Register) (v : Value) → IsAssigned f reg binding.block binding.place → held' reg ≡ Some v → held reg ≡ Some v
     held_there reg v assigned is = ap (value_of held') (stands_itself reg assigned) ∙ is
 
@@ -266,7 +266,7 @@ module _ (f : Function) (b k : ℕ) (rule : Rule) (binding : Binding) (checked :
     root_chosen : (k c N : ℕ) → LeavesOpen rule.source k c → slice_get typing c ≡ Some N → ChoiceIsReady given N k
     root_chosen k c N left_open width = source_fits.choices k c N (subst (λ (l : List Statement). LeavesOpen l k c) (sym whole) left_open) width
 
-    -- what the root freezes is of its width
+    -- the value that the root freezes has its width
     root_ready : StatementIsReady typing given H last.0
     root_ready =
         let among : Contains (take (length rule.source) rule.source) last.0 = subst (λ (l : List Statement). Contains l last.0) (sym whole) (Contains-from_get rule.source (length rule.source - 1) last.0 last.1) in
@@ -292,7 +292,7 @@ module _ (f : Function) (b k : ℕ) (rule : Rule) (binding : Binding) (checked :
     value_gives new operands.Undef v is = absurd cc
     value_gives new operands.Poison v is = sym (same_Some values.Poison v is)
 
-    -- an effect of the target, which allows what comes of the instructions that are put
+    -- an effect of the target: what allows it allows what the inserted instructions come to
     abbrev OfTarget : Type 0
     OfTarget = (target : Effect) × TargetGives typing binding.constants done.numbers rule inputs target × ((e : Effect) → AllowsEffect e target → AllowsPut w e after)
 
@@ -337,6 +337,6 @@ module _ (f : Function) (b k : ℕ) (rule : Rule) (binding : Binding) (checked :
         let op : OpGives AnyNumber held root.width root.op e = subst (λ (i : Inst). OpGives AnyNumber held i.width i.op e) m_inst at_root.2.1 in
         (e, op, of_target.2 e (AllowsEffect-trans e at_root.0 of_target.0 at_root.2.2 allows))
 
-  -- Whatever registers may hold there, each way through what is put is allowed by the root.
+  -- Whatever registers may hold at the root, each run through the inserted instructions is allowed by the root.
   pub put_is_allowed : IsValid rule binding.typing → PutIsAllowed f w root
   put_is_allowed valid held' after may runs = root_effect held' after may runs valid

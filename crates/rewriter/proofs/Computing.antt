@@ -1,5 +1,5 @@
--- What operations of rules and of functions compute on the values that they take: those of their operands, and what a
--- freeze may give in the place of poison.
+-- What operations of rules and of functions compute from their inputs: the values of their operands, and for a freeze
+-- the number that it gives in the place of poison.
 use Rattle.std.proofs.Common.{◌≡◌, ◌⊎◌, inl, inr, ℕ, Bool, zero, suc, List, [], ◌∷◌, None, Some, refl, sym, ap, subst, ◌∙◌}
 use Rattle.std.specs.Prelude.{slice_get, slice_index}
 use Rattle.std.proofs.lemmas.Option.{same_Some, get_or_from_slice_get}
@@ -50,8 +50,8 @@ freeze_or (rule_ops.Select c a b) = inr (λ is. is)
 freeze_or (rule_ops.Convert cast flags a to) = inr (λ is. is)
 freeze_or (rule_ops.Copy a) = inr (λ is. is)
 
--- What an operation of a rule takes whose result has the class c: its operands, and for a freeze the choice that stands
--- for what it may give in the place of poison.
+-- The inputs of a rule's operation whose result has the class c: its operands, and for a freeze the choice of the
+-- number that it gives in the place of poison.
 abbrev pub choice_operand : ℕ → ℕ → RuleOperand
 choice_operand c k = record { value = arguments.Undef k; written = None; class = c }
 
@@ -59,7 +59,7 @@ abbrev pub inputs_of : ℕ → RuleOp → List RuleOperand
 inputs_of c (rule_ops.Freeze a k) = a ∷ choice_operand c k ∷ []
 inputs_of c op = operands_of op
 
--- And one of a function: what it reads, and for a freeze any number of its width, as `undef` gives one.
+-- And those of a function's operation: its operands, and for a freeze any number of its width, as an `undef` gives one.
 abbrev pub taken_by : Function → ℕ → ℕ → ℕ → Op → List Read
 taken_by f b k w (Freeze x) = read b k w x ∷ read b k w operands.Undef ∷ []
 taken_by f b k w op = reads_of f b k w op
@@ -73,12 +73,12 @@ plain_reads f b k w (rule_ops.Freeze a j) (Freeze x) same none = absurd (none tt
 plain_reads f b k w s (Freeze x) same none = absurd same
 plain_reads f b k w s i same none = refl
 
--- the number that a value is, and some number for poison
+-- the number of a value, and some number for poison
 abbrev pub number_of : Value → Number
 number_of values.Poison = record { width = 0; number = 0 }
 number_of (values.Bits n) = n
 
--- what a freeze of a function gives is what some number of its width freezes the value to
+-- a freeze of a function gives what the value is frozen to by some number of its width
 freezes_by : (w : ℕ) (y v : Value) → Freezes AnyNumber w y v → (c : Value) × IsChosen AnyNumber w c × (v ≡ frozen y (number_of c))
 freezes_by w values.Poison v chosen = (v, chosen, chosen.2 ∙ ap (λ x. values.Bits (number_of x)) (sym chosen.2))
 freezes_by w (values.Bits m) v is = (bits w 0, (0, pow_pos w, refl), is)
@@ -87,7 +87,7 @@ by_choice : (w : ℕ) (y c : Value) → IsChosen AnyNumber w c → Freezes AnyNu
 by_choice w values.Poison c chosen = (chosen.0, chosen.1, ap (λ x. values.Bits (number_of x)) chosen.2)
 by_choice w (values.Bits m) c chosen = refl
 
--- an operation without what it takes
+-- an operation without its inputs
 pub data Computation : Type 0 where
   Calculates : (op : Opcode) (flags : Flags) (N : ℕ) → Computation
   Compares : (pred : Pred) (samesign : Bool) (N : ℕ) → Computation
@@ -97,7 +97,7 @@ pub data Computation : Type 0 where
   Freezing : Computation
   Copies : Computation
 
--- its effect on values by place
+-- its effect on input values, by index
 abbrev pub effect_of : Computation → (ℕ → Value) → Effect
 effect_of (Calculates op flags N) v = instruction op flags N (v 0) (v 1)
 effect_of (Compares pred samesign N) v = effects.Gives (comparison pred samesign N (v 0) (v 1))
@@ -126,7 +126,7 @@ computed_by w (Unary op truth x) = Calls op truth w
 computed_by w (Freeze x) = Freezing
 computed_by w (Phi entries) = Copies
 
--- it computes from what it takes alone
+-- the operation computes its result from its inputs alone, so it is no phi
 abbrev pub IsComputed : Op → Type 0
 IsComputed (Binary op flags x y) = Unit {0}
 IsComputed (Compare pred samesign compared x y) = Unit {0}
@@ -136,7 +136,7 @@ IsComputed (Unary op truth x) = Unit {0}
 IsComputed (Freeze x) = Unit {0}
 IsComputed (Phi entries) = ⊥
 
--- ---- values by place
+-- ---- values by index
 
 abbrev pub before_all : Value → (ℕ → Value) → ℕ → Value
 before_all x v zero = x
@@ -145,7 +145,7 @@ before_all x v (suc n) = v n
 abbrev pub no_values : ℕ → Value
 no_values n = values.Poison
 
--- values of which each is one of its element
+-- each value has the property with the item of its index
 abbrev pub AreValues : {X : Type 0} → (X → Value → Type 0) → List X → (ℕ → Value) → Type 0
 AreValues {X} P xs v = (i : ℕ) (x : X) → slice_get xs i ≡ Some x → P x (v i)
 
@@ -156,7 +156,7 @@ pub more_values : {X : Type 0} (P : X → Value → Type 0) (x : X) (xs : List X
 more_values P x xs u v p rest zero y at = subst (λ z. P z u) (same_Some x y at) p
 more_values P x xs u v p rest (suc i) y at = rest i y at
 
--- a value for each element
+-- values for the items, where there is one for each
 pub collected : {X : Type 0} (P : ℕ → X → Value → Type 0) (xs : List X) → ((i : ℕ) (x : X) → slice_get xs i ≡ Some x → (v : Value) × P i x v) → (v : ℕ → Value) × ((i : ℕ) (x : X) → slice_get xs i ≡ Some x → P i x (v i))
 collected P [] each = (no_values, λ i x at. absurd cc)
 collected {X} P (x ∷ xs) each =
@@ -176,7 +176,7 @@ module _ (typing : List ℕ) (given : Given) (held : Held) where
   width_of : (a : RuleOperand) (M : ℕ) → slice_get typing a.class ≡ Some M → slice_index typing a.class ≡ M
   width_of a M at = get_or_from_slice_get typing a.class M 0 at
 
-  -- it gives what is computed from what its inputs give
+  -- an operation of a rule has the effect that is computed from the values of its inputs
   pub rule_gives : (c N : ℕ) → slice_get typing c ≡ Some N → (op : RuleOp) (v : ℕ → Value) → RuleValues (inputs_of c op) v → RuleOpGives typing given held N op (effect_of (computed typing N op) v)
   rule_gives c N at (rule_ops.Binary op flags a b) v each = (v 0, v 1, each 0 a refl, each 1 b refl, refl)
   rule_gives c N at (rule_ops.Compare pred samesign a b) v each =
@@ -225,9 +225,9 @@ module _ (f : Function) (b k : ℕ) (held : Registers) where
   op_gives w (Freeze x) v is each = (v 0, frozen (v 0) (number_of (v 1)), each 0 (read b k w x) refl, by_choice w (v 0) (v 1) (each 1 (read b k w operands.Undef) refl), refl)
   op_gives w (Phi entries) v is each = absurd is
 
--- ---- what effects allow
+-- ---- which effects allow which
 
--- values that allow others give an effect that allows theirs, but for a freeze, which may have to give another number
+-- values that allow others have an effect that allows theirs; but a freeze may have to give another number
 pub effects_allow : (typing : List ℕ) (N : ℕ) (op : RuleOp) (v v' : ℕ → Value) → ¬ IsFreeze op → ((i : ℕ) (o : RuleOperand) → slice_get (operands_of op) i ≡ Some o → AllowsValue (v i) (v' i))
     → AllowsEffect (effect_of (computed typing N op) v) (effect_of (computed typing N op) v')
 effects_allow typing N (rule_ops.Binary op flags a b) v v' none h = instruction-monotone op flags N (v 0) (v 1) (v' 0) (v' 1) (h 0 a refl) (h 1 b refl)
@@ -238,7 +238,7 @@ effects_allow typing N (rule_ops.Convert cast flags a to) v v' none h = conversi
 effects_allow typing N (rule_ops.Freeze a k) v v' none h = absurd (none tt)
 effects_allow typing N (rule_ops.Copy a) v v' none h = h 0 a refl
 
--- and equal ones the same
+-- and equal values have the same
 pub effects_same : (typing : List ℕ) (c N : ℕ) (op : RuleOp) (v v' : ℕ → Value) → ((i : ℕ) (o : RuleOperand) → slice_get (inputs_of c op) i ≡ Some o → v i ≡ v' i)
     → effect_of (computed typing N op) v ≡ effect_of (computed typing N op) v'
 effects_same typing c N (rule_ops.Binary op flags a b) v v' h = let p : v 0 ≡ v' 0 = h 0 a refl in let q : v 1 ≡ v' 1 = h 1 b refl in cc

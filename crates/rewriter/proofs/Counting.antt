@@ -1,4 +1,4 @@
--- Statements that are put, counted and in order.
+-- Statements that become instructions, counted and in order.
 use Rattle.std.proofs.Common.{◌≡◌, ℕ, ◌+◌, ◌-◌, ◌<◌, ◌≤◌, Bool, true, false, not, List, [], ◌∷◌, ◌++◌, length, length-append, take, None, Some, refl, sym, ap, ◌∙◌, arith, get_or, flat_map, append_assoc, append-nil}
 use Rattle.std.specs.Prelude.{slice_get}
 use Rattle.std.proofs.lemmas.Grind.{flat_map-append}
@@ -16,7 +16,7 @@ use Rattle.bindings.specs.declared.binding.Binding.{Binding}
 use Rattle.rewriter.specs.Put.{is_copy, count_put, result_put, results_put, insts_with, insts_put}
 
 module _ (rule : Rule) (binding : Binding) where
-  -- what stands for the registers of the first i target statements, and how many of those are put
+  -- the operands for the registers of the first i target statements, and how many of these become instructions
   pub record ArePut (i : ℕ) (results : List Operand) (count : ℕ) : Type 0 where
     pub are : results ≡ in_turn (result_put rule binding) [] (take i rule.target)
     pub size : length results ≡ i
@@ -51,16 +51,16 @@ module _ (rule : Rule) (binding : Binding) where
       let few = p.few in
       put_more i results count (count + 1) result s p within read is (ap (λ n. n + 1) p.counted ∙ sym (count_by_more_yes IsPut rule.target i s within (ap IsPut (sym read) ∙ ap not other))) (omega arith)
 
-  -- all of them
+  -- the operands for all of them
   pub all_put : (i : ℕ) (results : List Operand) (count : ℕ) → ArePut i results count → length rule.target ≤ i → results ≡ results_put rule binding
   all_put i results count p past = p.are ∙ ap (in_turn (result_put rule binding) []) (take_all i rule.target past)
 
   pub results-length : length (results_put rule binding) ≡ length rule.target
   results-length = omega (arith, in_turn-length (result_put rule binding) [] rule.target)
 
-  -- ---- their instructions
+  -- ---- the instructions
 
-  -- those of the statements but the last one are unnamed
+  -- the instructions of all statements but the last one are unnamed
   pub insts_in_order : (name : Name) (before : List Statement) (s : Statement) → insts_put rule binding name (before ++ s ∷ []) ≡ flat_map (insts_with rule binding None) before ++ insts_with rule binding name s
   insts_in_order name [] s = refl
   insts_in_order name (t ∷ []) s = ap (λ l. l ++ insts_with rule binding name s) (sym (append-nil (insts_with rule binding None t)))
@@ -68,7 +68,7 @@ module _ (rule : Rule) (binding : Binding) where
       ap (λ l. insts_with rule binding None t ++ l) (insts_in_order name (u ∷ before) s)
       ∙ sym (append_assoc (insts_with rule binding None t) (flat_map (insts_with rule binding None) (u ∷ before)) (insts_with rule binding name s))
 
-  -- the instructions of the first i statements with one more
+  -- the instructions of the first i statements, and of one more
   pub insts_more : (i : ℕ) (statements : List Statement) (s : Statement) (insts more : List Inst) → i < length statements → s ≡ get_or statements i s → insts ≡ flat_map (insts_with rule binding None) (take i statements)
       → more ≡ insts ++ insts_with rule binding None s → more ≡ flat_map (insts_with rule binding None) (take (i + 1) statements)
   insts_more i statements s insts more within read are is =

@@ -13,7 +13,7 @@ use Rattle.rule_core.specs.declared.rule.Rule.{Rule}
 use Rattle.rule_core.specs.declared.rule.Statement.{Statement}
 use Rattle.substitution.proofs.Pieces.{get_right}
 
--- statements behind others follow from what those end with
+-- statements run from where others before them end
 follows_append : (typing : List ℕ) (given : Given) (holding : Held → Value → Held) (first more : List Statement) (start mid : Held) (end : Ending)
     → Follows typing given holding first start (Holds mid) → Follows typing given holding more mid end → Follows typing given holding (first ++ more) start end
 follows_append typing given holding [] more start mid end ran then = let same : mid ≡ start = cc in subst (λ h. Follows typing given holding more h end) same then

@@ -1,4 +1,4 @@
--- What a rule puts in the place of its root fits the function.
+-- The instructions that a rule inserts in the place of its root fit the function.
 use Rattle.std.proofs.Common.{◌≡◌, ◌≢◌, ℕ, zero, suc, ◌+◌, ◌-◌, ◌<◌, ◌≤◌, ◌^◌, inl, inr, Bool, true, false, List, [], ◌∷◌, length, map, Option, Some, None, refl, sym, ap, subst, ◌∙◌, arith, get_or}
 use Rattle.std.specs.Prelude.{slice_get, slice_index_or, Contains, if◌then◌else◌}
 use Rattle.std.specs.Option.{option_map_or}
@@ -58,7 +58,7 @@ use Rattle.rewriter.proofs.Setting.{SourceRead, number_own, input_read, constant
 use Rattle.rewriter.proofs.Source.{IsDefined}
 use Rattle.rewriter.proofs.Placed.{PutFor, put_from, put_length, put_at, all_aligned}
 
--- ---- what is read
+-- ---- what the inserted instructions read
 
 number_fits : (v : Value) (N : ℕ) → HasNumber v → IsValueOf N v → (n : Number) × (literal_of v ≡ operands.Number n) × (n.width ≡ N) × (n.number < 2 ^ n.width)
 number_fits values.Poison N has fits = absurd has
@@ -73,11 +73,11 @@ module _ (f : Function) (b k : ℕ) (rule : Rule) (binding : Binding) (checked :
   abbrev put : Rewrite
   put = rewrite_of rule binding root.name
 
-  -- a number of the width is a literal that was there
+  -- a number of this width may be read, as a literal
   old_number : (width : ℕ) (n : Number) → n.width ≡ width → n.number < 2 ^ n.width → IsOld f put width (operands.Number n)
   old_number width n fits own = record { old = operands.Number n; stands = refl; fits = fits; number = own; assigned = λ r e. absurd cc }
 
-  -- and so is a register that is assigned at the root
+  -- and so may a register that is assigned at the root
   old_register : (width : ℕ) (reg : Register) → width_of f reg ≡ Some width → IsAssigned f reg binding.block binding.place → IsOld f put width (operands.Register reg)
   old_register width reg has assigned =
       record {
@@ -98,7 +98,7 @@ module _ (f : Function) (b k : ℕ) (rule : Rule) (binding : Binding) (checked :
   more_may i j width a le (inl old) = inl old
   more_may i j width a le (inr p) = inr (record { place = p.place; inst = p.inst; before = let lt : p.place < i = p.before in omega arith; is_put = p.is_put; fits = p.fits; stands = p.stands })
 
-  -- the results of the first t statements may be read behind them
+  -- the results of the first t statements may be read by those behind them
   abbrev FirstMay : ℕ → Type 0
   FirstMay t = (j : ℕ) (s : Statement) (width : ℕ) → j < t → slice_get rule.target j ≡ Some s → slice_get binding.typing s.class ≡ Some width → MayBeRead f put (put_before rule binding t) width (slice_index_or (results rule binding) j operands.Poison)
 
@@ -193,7 +193,7 @@ module _ (f : Function) (b k : ℕ) (rule : Rule) (binding : Binding) (checked :
         stands = result_put_at rule binding t op kept;
       })
 
-  -- what stands for the register of a target statement may be read behind it
+  -- the operand for the register of a target statement may be read by those behind it
   result_may : (t : ℕ) (s : Statement) (width : ℕ) → slice_get rule.target t ≡ Some s → FirstMay t → slice_get binding.typing s.class ≡ Some width → (op : RuleOp) → s.op ≡ op → MayBeRead f put (put_before rule binding (suc t)) width (result_at rule binding t op)
   result_may t s width at first class (rule_ops.Copy a) is =
       let own : slice_get binding.typing a.class ≡ Some width = sym (match.typing.same s.class a.class (copy (target_statement rule t s at) is)) ∙ class in
@@ -222,7 +222,7 @@ module _ (f : Function) (b k : ℕ) (rule : Rule) (binding : Binding) (checked :
             (subst (λ a. MayBeRead f put (put_before rule binding (suc t)) width a) (sym is) (result_may t s width here before class s.op refl))
       ]
 
-  -- ---- each instruction that is put
+  -- ---- each inserted instruction
 
   cast_fits : (s : Statement) (cast : Cast) (flags : Flags) (a : RuleOperand) (to : Option ℕ) → IsStatementOf rule s → s.op ≡ rule_ops.Convert cast flags a to → (N M : ℕ) → slice_get binding.typing s.class ≡ Some N → slice_get binding.typing a.class ≡ Some M → CastFits cast M N
   cast_fits s casts.Trunc flags a to stands is N M class own = match.typing.smaller s.class a.class N M (truncated stands is) class own
@@ -273,7 +273,7 @@ module _ (f : Function) (b k : ℕ) (rule : Rule) (binding : Binding) (checked :
       let count : put_before rule binding p.place ≡ i = let e : put_before rule binding p.place ≡ put_before rule binding 0 + i = p.count in let none : put_before rule binding 0 ≡ 0 = refl in omega arith in
       subst (λ n. MayBeRead f put n r.width r.operand) count (subst (λ a. MayBeRead f put (put_before rule binding p.place) r.width a) (sym for.operand) may)
 
-  -- ---- what stands for the root
+  -- ---- the operand that replaces the root's register
 
   last_target : (s : Statement) × (slice_get rule.target (length rule.target - 1) ≡ Some s)
   last_target = some_at rule.target (length rule.target - 1) (let some = checked.target_root in omega arith)
@@ -371,7 +371,7 @@ module _ (f : Function) (b k : ℕ) (rule : Rule) (binding : Binding) (checked :
 
   -- ---- names
 
-  -- a name is the root's, and the last one's
+  -- an inserted instruction that has a name is the last one, and has the root's
   named_last : (i : ℕ) (inst : Inst) (own : List ℕ) → slice_get (insts_put rule binding root.name rule.target) i ≡ Some inst → inst.name ≡ Some own → (root.name ≡ Some own) × (i ≡ put_before rule binding (length rule.target - 1))
   named_last i inst own at is =
       let p : PutFor rule binding root.name 0 i inst = put_is i inst at in

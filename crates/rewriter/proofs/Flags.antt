@@ -1,4 +1,4 @@
--- An instruction with more flags gives poison where it doesn't give the same.
+-- An instruction with more flags gives the same as with fewer, or poison.
 use Rattle.std.proofs.Common.{◌≡◌, ℕ, ℤ, Bool, true, false, cond, not, ◌&&◌, ◌||◌, ap}
 use Rattle.std.specs.Prelude.{◌==◌, ◌^◌, nat_le, bit_and, bit_or, bit_xor}
 use Rattle.ops.specs.declared.value.Value.{Value}
@@ -24,11 +24,11 @@ use Rattle.ops.specs.Unary.{unary, at_number, poison_where_true}
 use Rattle.ops.specs.Instruction.{instruction, on_numbers, on_poison}
 use Rattle.ops.proofs.Values.{AllowsValue-refl, AllowsEffect-refl}
 
--- a flag of the first set stands in the second
+-- if the first flag is set, so is the second
 abbrev Within : Bool → Bool → Type 0
 Within x y = (x && y) ≡ x
 
--- poison by a flag
+-- a flag that is violated gives poison
 by_one : (x' x c : Bool) (v : Value) → Within x x' → AllowsValue (cond (x' && c) Poison v) (cond (x && c) Poison v)
 by_one true x true v h = tt
 by_one true true false v h = AllowsValue-refl v
@@ -36,7 +36,7 @@ by_one true false false v h = AllowsValue-refl v
 by_one false true c v h = absurd cc
 by_one false false c v h = AllowsValue-refl v
 
--- and by either of two
+-- and so does either of two
 by_two : (x' y' x y c d : Bool) (v : Value) → Within x x' → Within y y' → AllowsValue (cond ((x' && c) || (y' && d)) Poison v) (cond ((x && c) || (y && d)) Poison v)
 by_two true y' x y true d v p q = tt
 by_two true true x y false true v p q = tt
@@ -105,7 +105,7 @@ module _ (f g : Flags) (within : AreWithin f g) where
   numbers_allow SMin N a b = AllowsEffect-refl (on_numbers SMin f N a b)
   numbers_allow SMax N a b = AllowsEffect-refl (on_numbers SMax f N a b)
 
-  -- an instruction with more flags allows what it does with these
+  -- an instruction with more flags allows what it does with fewer
   pub more_flags_allow : (op : Opcode) (N : ℕ) (a b : Value) → AllowsEffect (instruction op g N a b) (instruction op f N a b)
   unfolding instruction
   more_flags_allow op N (Bits a) (Bits b) = numbers_allow op N a.number b.number

@@ -1,4 +1,4 @@
--- What an argument gives that is ready is of its width.
+-- An argument of a rule that is ready gives a value of its width.
 use Rattle.std.proofs.Common.{◌≡◌, ℕ, true, false, List, refl, sym, subst, ◌∙◌, arith}
 use Rattle.std.proofs.lemmas.Option.{same_Some, get_or_from_slice_get}
 use Rattle.ops.specs.Number.{Number}
@@ -11,7 +11,7 @@ use Rattle.rule_core.specs.declared.rule.Argument.{Argument}
 use Rattle.rule_core.specs.declared.rule.Argument.TheVariants as arguments
 use Rattle.rule_core.proofs.Fits.{residue_lt, number_or_zero_fits}
 
--- two numbers at one place
+-- a number that is equal to one of this width is of this width
 number_fits : (N : ℕ) (n m : Number) (v : Value) → n ≡ m → v ≡ values.Bits m → IsValueOf N (values.Bits n) → IsValueOf N v
 number_fits N n m v same is fits = subst (IsValueOf N) (sym is) (subst (λ (x : Number). IsValueOf N (values.Bits x)) same fits)
 

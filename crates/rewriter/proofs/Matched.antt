@@ -46,7 +46,7 @@ arity_same f b k w (rule_ops.Convert cast flags a to) (Convert cast' flags' from
 arity_same f b k w (rule_ops.Freeze a j) (Freeze x) same = refl
 arity_same f b k w s i same = absurd same
 
--- each operand of the one stands for one of the other
+-- for each operand of the statement there is one of the instruction, and the other way round
 pub read_there : (f : Function) (b k w : ℕ) (s : RuleOp) (i : Op) → IsSameOperation s i → (n : ℕ) (o : RuleOperand) → slice_get (operands_of s) n ≡ Some o → (r : Read) × (slice_get (reads_of f b k w i) n ≡ Some r)
 read_there f b k w s i same n o at =
     let here : n < length (operands_of s) = slice_get_within (operands_of s) n o at in
@@ -57,7 +57,7 @@ operand_there f b k w s i same n r at =
     let here : n < length (reads_of f b k w i) = slice_get_within (reads_of f b k w i) n r at in
     some_at (operands_of s) n (omega (arith, arity_same f b k w s i same, here))
 
--- it reads all at its place
+-- all operands are read at the instruction's own place
 IsHere : ℕ → ℕ → Read → Type 0
 IsHere b k r = (r.block ≡ b) × (r.place ≡ k)
 
@@ -87,14 +87,14 @@ unfolding AllHere IsHere
 reads_here f b k w i is = all_here f b k w i is
 
 module _ (typing : List ℕ) (f : Function) (b k w : ℕ) where
-  -- operands have the widths at which they are read
+  -- the class of each operand has the width at which the instruction reads it
   abbrev pub WidthsAgree : RuleOp → Op → Type 0
   WidthsAgree s i = (n : ℕ) (o : RuleOperand) (r : Read) → slice_get (operands_of s) n ≡ Some o → slice_get (reads_of f b k w i) n ≡ Some r → slice_get typing o.class ≡ Some r.width
 
   class_is : (a : RuleOperand) (M : ℕ) → slice_get typing a.class ≡ Some M → slice_index typing a.class ≡ M
   class_is a M at = get_or_from_slice_get typing a.class M 0 at
 
-  -- the instruction allows what the statement computes, since it has all its flags
+  -- an instruction with all flags of the statement allows what that computes
   pub inst_allows : (s : RuleOp) (i : Op) → IsSameOperation s i → AreKept (promises_of_statement s) (promises_of_inst i) → WidthsAgree s i → (v : ℕ → Value) → AllowsEffect (effect_of (computed_by w i) v) (effect_of (computed typing w s) v)
   inst_allows (rule_ops.Binary opcode flags a c) (Binary opcode' flags' x y) same within widths v =
       subst (λ (op : Opcode). AllowsEffect (instruction opcode' flags' w (v 0) (v 1)) (instruction op flags w (v 0) (v 1))) (sym same) (more_flags_allow flags flags' within.0 opcode' w (v 0) (v 1))
@@ -112,7 +112,7 @@ module _ (typing : List ℕ) (f : Function) (b k w : ℕ) where
   inst_allows (rule_ops.Freeze a j) (Freeze x) same within widths v = AllowsEffect-refl (effect_of Freezing v)
   inst_allows s i same within widths v = absurd same
 
-  -- and computes the same where it has no others
+  -- and one without any others computes the same
   pub inst_same : (s : RuleOp) (i : Op) → IsSameOperation s i → promises_of_inst i ≡ promises_of_statement s → WidthsAgree s i → computed_by w i ≡ computed typing w s
   inst_same (rule_ops.Binary opcode flags a c) (Binary opcode' flags' x y) same promises widths = let same_flags : flags' ≡ flags = ap (λ (p : Promises). p.flags) promises in cc
   inst_same (rule_ops.Compare pred samesign a c) (Compare pred' samesign' compared x y) same promises widths =

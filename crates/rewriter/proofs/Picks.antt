@@ -1,4 +1,5 @@
--- The numbers that choices are given, in the order of the text: a statement's among what it takes.
+-- The numbers that are taken for the choices of a rule, in the order of the text: those of a statement are among its
+-- inputs.
 use Rattle.std.proofs.Common.{◌≡◌, ℕ, zero, suc, ◌+◌, ◌<◌, inl, inr, List, [], ◌∷◌, ◌++◌, length, length-append, map, append-nil, Some, refl, sym, ap, ◌∙◌, arith}
 use Rattle.std.specs.Prelude.{slice_get, slice_index, Contains, flat_map}
 use Rattle.std.specs.List.{range_with_len}
@@ -22,7 +23,7 @@ use Rattle.substitution.proofs.Pieces.{get_left, get_right, get_cases}
 use Rattle.rule_core.proofs.Members.{Contains-from_get, Contains-flat_map}
 use Rattle.rewriter.proofs.Computing.{number_of, inputs_of}
 
--- the choices among operands, and their places
+-- the choices among operands, and their indices
 abbrev pub open_in : List Operand → List Choice
 open_in operands = flat_map (λ o. undef_in o.class o.value) operands
 
@@ -32,7 +33,7 @@ places choices = map (λ c. c.place) choices
 abbrev pub undefs_of : List Operand → List ℕ
 undefs_of operands = places (open_in operands)
 
--- the number that an argument is given, if it is an `undef`
+-- the number that is taken for an argument, if it is an `undef`
 abbrev pub pick : Argument → Value → List Number
 pick (arguments.Undef k) v = number_of v ∷ []
 pick (arguments.Register r) v = []
@@ -77,7 +78,7 @@ picked_length (o ∷ operands) v =
     let more : undefs_of (o ∷ operands) ≡ undefs_in o.value ++ undefs_of operands = one_more o operands o.value refl in
     rw more (omega (arith, length-append (pick o.value (v 0)) (picked operands (λ n. v (suc n))), length-append (undefs_in o.value) (undefs_of operands), pick_length o.value (v 0)))
 
--- an operand that is an `undef` is given the number at the place of its own
+-- an `undef` among operands takes the number at the index of its choice
 pub picked_at : (operands : List Operand) (v : ℕ → Value) (i : ℕ) (o : Operand) (k : ℕ) → slice_get operands i ≡ Some o → o.value ≡ arguments.Undef k
     → (q : ℕ) × (slice_get (undefs_of operands) q ≡ Some k) × (slice_get (picked operands v) q ≡ Some (number_of (v i)))
 picked_at [] v i o k at is = absurd cc
@@ -93,7 +94,7 @@ picked_at (p ∷ operands) v (suc i) o k at is =
       get_right (pick p.value (v 0)) (picked operands (λ n. v (suc n))) rest.0 (length (undefs_in p.value) + rest.0) (number_of (v (suc i))) rest.2 (ap (λ n. n + rest.0) (sym (pick_length p.value (v 0)))),
     )
 
--- and each number is given to one
+-- and each number is taken by one
 abbrev pub PickedFrom : List Operand → (ℕ → Value) → ℕ → Number → Type 0
 PickedFrom operands v q n = (i : ℕ) × (o : Operand) × (k : ℕ) × (slice_get operands i ≡ Some o) × (o.value ≡ arguments.Undef k) × (slice_get (undefs_of operands) q ≡ Some k) × (number_of (v i) ≡ n)
 
@@ -120,9 +121,9 @@ picked_from (o ∷ operands) v q n at =
           (suc rest.0, rest.1, rest.2, rest.3, rest.4, ap (λ (l : List ℕ). slice_get l q) more ∙ get_right (undefs_in o.value) (undefs_of operands) later.0 q rest.2 rest.5 place, rest.6)
     ]
 
--- ---- the order of the places
+-- ---- the order of the indices
 
--- the places are those from m on
+-- the indices are those from m on
 abbrev pub InOrder : ℕ → List ℕ → Type 0
 InOrder m xs = (q : ℕ) (k : ℕ) → slice_get xs q ≡ Some k → k ≡ m + q
 
@@ -139,7 +140,7 @@ pub in_order_right : (m : ℕ) (xs ys : List ℕ) → InOrder m (xs ++ ys) → I
 in_order_right m xs ys order q k at =
     let e : k ≡ m + (length xs + q) = order (length xs + q) k (get_right xs ys q (length xs + q) k at refl) in omega arith
 
--- a statement's choices are those among what it takes
+-- the choices of a statement are those among its inputs
 taken_open : (c : ℕ) (op : Op) → open_in (operands_of op) ++ frozen_in c op ≡ open_in (inputs_of c op)
 taken_open c (Freeze a k) = rw (append-nil (undef_in a.class a.value)) refl
 taken_open c (Binary op flags a b) = append-nil (open_in (a ∷ b ∷ []))
@@ -152,13 +153,13 @@ taken_open c (Copy a) = append-nil (open_in (a ∷ []))
 pub statement_open_in : (s : Statement) → choices_of s ≡ open_in (inputs_of s.class s.op)
 statement_open_in s = taken_open s.class s.op
 
--- and their places come before those of the statements behind it
+-- and their indices come before those of the statements behind it
 pub undefs_apart : (s : Statement) (statements : List Statement) → places (choices_among (s ∷ statements)) ≡ undefs_of (inputs_of s.class s.op) ++ places (choices_among statements)
 undefs_apart s statements =
     map-append (λ (c : Choice). c.place) (choices_of s) (choices_among statements)
     ∙ ap (λ (cs : List Choice). places cs ++ places (choices_among statements)) (statement_open_in s)
 
--- what an `undef` among what it takes leaves open is among its choices
+-- the choice of an `undef` among the inputs is one of the statement's
 pub input_open : (s : Statement) (i : ℕ) (o : Operand) (k : ℕ) → slice_get (inputs_of s.class s.op) i ≡ Some o → o.value ≡ arguments.Undef k → Contains (choices_of s) (record { place = k; class = o.class })
 input_open s i o k at is =
     let choice : Choice = record { place = k; class = o.class } in
@@ -168,7 +169,7 @@ input_open s i o k at is =
 
 -- ---- zeros
 
--- zeros of the widths of choices
+-- zeros of the widths of the choices
 abbrev pub zero_for : List ℕ → Choice → Number
 zero_for typing c = record { width = slice_index typing c.class; number = 0 }
 

@@ -1,4 +1,4 @@
--- Where the instructions stand that are put for target statements.
+-- At which places the instructions of target statements are inserted.
 use Rattle.std.proofs.Common.{◌≡◌, ℕ, zero, suc, ◌+◌, ◌⊎◌, inl, inr, true, false, List, [], ◌∷◌, ◌++◌, length, Some, None, refl, sym, ap, subst, ◌∙◌, arith, append-nil, add-zero}
 use Rattle.std.specs.Prelude.{slice_get}
 use Rattle.std.proofs.lemmas.Option.{same_Some}
@@ -15,7 +15,7 @@ first_or x xs zero y at = inl (refl, sym (same_Some x y at))
 first_or x xs (suc i) y at = inr (i, refl, at)
 
 module _ (rule : Rule) (binding : Binding) where
-  -- the instruction of target statement t, if it copies nothing; the last one alone has a name
+  -- the instruction of a target statement that is no copy; only the last statement's may have a name
   pub record PutFor (own : Name) (t i : ℕ) (inst : Inst) : Type 0 where
     pub place : ℕ
     pub statement : Statement
@@ -26,7 +26,7 @@ module _ (rule : Rule) (binding : Binding) where
     pub named : (name ≡ None) ⊎ ((name ≡ own) × (suc place ≡ length rule.target))
     pub is : inst ≡ put_inst rule binding name (class_width rule binding statement.class) statement.op
 
-  -- the instructions of a statement come before those of the statements behind it, with no name if there are some
+  -- the instructions of a statement come before those of the statements behind it, and have no name if there are such
   apart : (own : Name) (s : Statement) (statements : List Statement)
       → (name : Name) × (insts_put rule binding own (s ∷ statements) ≡ insts_with rule binding name s ++ insts_put rule binding own statements) × ((name ≡ None) ⊎ ((name ≡ own) × (statements ≡ [])))
   apart own s [] = (own, sym (append-nil (insts_with rule binding own s)), inr (refl, refl))
@@ -50,7 +50,7 @@ module _ (rule : Rule) (binding : Binding) where
   later : (own : Name) (t i j : ℕ) (inst : Inst) → put_before rule binding (suc t) + j ≡ put_before rule binding t + i → PutFor own (suc t) j inst → PutFor own t i inst
   later own t i j inst same p = record { place = p.place; statement = p.statement; is_statement = p.is_statement; kept = p.kept; count = p.count ∙ same; name = p.name; named = p.named; is = p.is }
 
-  -- each instruction that is put is one of a statement's
+  -- each inserted instruction is that of a statement
   pub put_from : (own : Name) (statements : List Statement) (t : ℕ) → Aligned statements t → (i : ℕ) (inst : Inst) → slice_get (insts_put rule binding own statements) i ≡ Some inst → PutFor own t i inst
   put_from own [] t align i inst at = absurd cc
   put_from own (s ∷ statements) t align i inst at =
@@ -82,7 +82,7 @@ module _ (rule : Rule) (binding : Binding) where
             ]
       ] refl
 
-  -- as many are put as are counted
+  -- as many are inserted as there are statements that are no copies
   pub put_length : (own : Name) (statements : List Statement) (t : ℕ) → Aligned statements t → put_before rule binding t + length (insts_put rule binding own statements) ≡ put_before rule binding (t + length statements)
   put_length own [] t align = let e : put_before rule binding (t + 0) ≡ put_before rule binding t = ap (put_before rule binding) (add-zero t) in omega arith
   put_length own (s ∷ statements) t align =
@@ -104,7 +104,7 @@ module _ (rule : Rule) (binding : Binding) where
             omega arith
       ] refl
 
-  -- and each statement that copies nothing has its instruction there
+  -- and each statement that is no copy has its instruction there
   pub put_at : (own : Name) (statements : List Statement) (t : ℕ) → Aligned statements t → (q : ℕ) (s : Statement) → slice_get statements q ≡ Some s → IsNoCopy s.op
       → (name : Name) × (i : ℕ) × (put_before rule binding t + i ≡ put_before rule binding (t + q)) × (slice_get (insts_put rule binding own statements) i ≡ Some (put_inst rule binding name (class_width rule binding s.class) s.op))
   put_at own [] t align q s at kept = absurd cc

@@ -1,4 +1,4 @@
--- What stands for the registers of target statements, and what their instructions read.
+-- The operands for the registers of target statements, and what the inserted instructions read.
 use Rattle.std.proofs.Common.{◌≡◌, ℕ, zero, suc, ◌+◌, ◌<◌, ◌≤◌, inl, inr, true, false, not, List, [], ◌∷◌, ◌++◌, length, take, length-take, Some, None, refl, sym, ap, subst, ◌∙◌, arith, get_or, zero-add, add-one, append-nil}
 use Rattle.std.specs.Prelude.{slice_get, slice_index_or, Contains}
 use Rattle.std.specs.Option.{option_map_or}
@@ -36,7 +36,7 @@ use Rattle.bindings.specs.declared.binding.Binding.{Binding}
 use Rattle.rewriter.specs.Put.{literal_of, is_copy, count_put, argument_put, class_width, operand_put, result_of_op, result_put, results_put, insts_of_op, insts_with, insts_put}
 use Rattle.rewriter.proofs.Computing.{computed, computed_by, IsComputed, choice_operand, inputs_of, taken_by}
 
--- the operation copies nothing
+-- the operation is no copy
 abbrev pub IsNoCopy : RuleOp → Type 0
 IsNoCopy op = is_copy op ≡ false
 
@@ -47,11 +47,11 @@ module _ (rule : Rule) (binding : Binding) where
   pub results_length : length results ≡ length rule.target
   results_length = in_turn-length (result_put rule binding) [] rule.target ∙ zero-add (length rule.target)
 
-  -- how many instructions are put for the first t target statements
+  -- how many instructions the first t target statements become
   abbrev pub put_before : ℕ → ℕ
   put_before t = count_put (take t rule.target)
 
-  -- what stands for what target statement t assigns, told by all results
+  -- the operand for the register of target statement t, given those for all of them
   abbrev pub result_at : ℕ → RuleOp → Operand
   result_at t (rule_ops.Copy a) = operand_put rule binding results a
   result_at t op = operands.Register (registers.Result binding.block (binding.place + put_before t))
@@ -65,7 +65,7 @@ module _ (rule : Rule) (binding : Binding) where
   result_put_at t (rule_ops.Freeze a j) kept = refl
   result_put_at t (rule_ops.Copy a) kept = absurd cc
 
-  -- an argument is put the same by results that agree at the places that it may read
+  -- an argument becomes the same operand by results that agree where it may read them
   argument_agrees : (some all : List Operand) (t N : ℕ) (a : Argument) → TargetMayRead rule t a → ((j : ℕ) (d : Operand) → j < t → get_or some j d ≡ get_or all j d) → argument_put rule binding some N a ≡ argument_put rule binding all N a
   argument_agrees some all t N (arguments.Register (names.Input i)) may same = refl
   argument_agrees some all t N (arguments.Register (names.Source j)) may same = refl
@@ -96,7 +96,7 @@ module _ (rule : Rule) (binding : Binding) where
         at_place (result_put rule binding) rule.target t s at
         ∙ ap (λ (o : Operand). Some o) (op_agrees some results t s.op count (λ o among. target_reads t s o at among) (λ j d less. before_place (result_put rule binding) rule.target t j d (omega arith) less) refl)
 
-  -- ---- how many are put
+  -- ---- how many are inserted
 
   pub count_more : (t : ℕ) (s : Statement) → slice_get rule.target t ≡ Some s → IsNoCopy s.op → put_before (suc t) ≡ suc (put_before t)
   count_more t s at kept =
@@ -120,7 +120,7 @@ module _ (rule : Rule) (binding : Binding) where
         | false ↦ λ is. let more = count_more t s at is in omega arith
       ] refl
 
-  -- ---- the instruction of a statement that copies nothing
+  -- ---- the instruction of a statement that is no copy
 
   abbrev pub put_op : ℕ → RuleOp → Op
   put_op N (rule_ops.Binary opcode flags a b) = ops.Binary opcode flags (operand_put rule binding results a) (operand_put rule binding results b)
@@ -177,7 +177,7 @@ module _ (rule : Rule) (binding : Binding) where
 
   -- ---- what it reads
 
-  -- what is read stands for the operand, at the width of its class
+  -- the operand that is read is that for the rule's operand, at the width of its class
   pub record ReadFor (o : RuleOperand) (r : Read) : Type 0 where
     pub operand : r.operand ≡ operand_put rule binding results o
     pub width : slice_get binding.typing o.class ≡ Some r.width
@@ -223,7 +223,7 @@ module _ (rule : Rule) (binding : Binding) where
     reads_paired s N (rule_ops.Freeze a j) is stands width kept = paired_more a [] (read b k N (operand_put rule binding results a)) [] (read_for a N (sym (typed.same s.class a.class (freeze stands is)) ∙ width)) paired_none
     reads_paired s N (rule_ops.Copy a) is stands width kept = absurd cc
 
-    -- and so is all that it takes
+    -- an instruction has an input for each input of the statement
     inputs_paired : (s : Statement) (N : ℕ) (op : RuleOp) → s.op ≡ op → IsStatementOf rule s → slice_get binding.typing s.class ≡ Some N → IsNoCopy op → Paired (inputs_of s.class op) (taken_by f b k N (put_op N op))
     inputs_paired s N (rule_ops.Binary opcode flags a c) is stands width kept = reads_paired s N (rule_ops.Binary opcode flags a c) is stands width kept
     inputs_paired s N (rule_ops.Compare pred samesign a c) is stands width kept = reads_paired s N (rule_ops.Compare pred samesign a c) is stands width kept
@@ -246,7 +246,7 @@ module _ (rule : Rule) (binding : Binding) where
 
   -- ---- no result of a later instruction is read
 
-  -- the operand is no result of the block from the n-th that is put on
+  -- the operand is not the result of the n-th inserted instruction or of one behind it
   abbrev pub IsSettled : ℕ → Operand → Type 0
   IsSettled n a = (p : ℕ) → a ≡ operands.Register (registers.Result binding.block p) → p < binding.place + n
 
@@ -264,7 +264,7 @@ module _ (rule : Rule) (binding : Binding) where
     input_at : (i : ℕ) → i < length rule.inputs → slice_get binding.inputs i ≡ Some (slice_index_or binding.inputs i operands.Poison)
     input_at i lt = slice_get-get_or binding.inputs i operands.Poison (omega arith)
 
-    -- the results of the first t statements
+    -- the operands for the first t statements
     abbrev FirstSettled : ℕ → Type 0
     FirstSettled t = (j : ℕ) (a : Operand) → j < t → slice_get results j ≡ Some a → IsSettled (put_before t) a
 

@@ -1,4 +1,4 @@
--- What the target reads is there, where a rule is one that is read and its names are bound.
+-- All that the target reads is bound, where a rule was read from a file and its names are bound.
 use Rattle.std.proofs.Common.{◌≡◌, ℕ, ◌≤◌, [], ◌∷◌, Some, refl, arith}
 use Rattle.std.specs.Prelude.{slice_get, Contains}
 use Rattle.rule_core.specs.Checks.{IsRule, TargetMayRead}
@@ -36,7 +36,7 @@ module _ (rule : Rule) (binding : Binding) where
   may_later k n (arguments.Undef j) le h = h
   may_later k n (arguments.Term m) le h = h
 
-  -- what target statement k reads is there, where at least k operands stand for registers of the target
+  -- all that target statement k reads is bound, where there are operands for at least k registers of the target
   pub statement_ready : IsRule rule → IsBound rule binding → (k n : ℕ) (s : Statement) → k ≤ n → slice_get rule.target k ≡ Some s → StatementIsReady rule binding n s
   statement_ready is_rule bound k n s le at =
       let stands : IsStatementOf rule s = target_statement rule k s at in

@@ -1,4 +1,4 @@
--- The root's effect on what registers hold allows what the rule's source does with them.
+-- The root's effect, on what registers hold in the function, allows that of the rule's source.
 use Rattle.std.proofs.Common.{◌≡◌, ◌≢◌, ℕ, inl, inr, Bool, List, Some, refl, sym, ap, subst, ◌∙◌}
 use Rattle.std.specs.Prelude.{slice_get, Contains}
 use Rattle.std.proofs.lemmas.Option.{same_Some}
@@ -45,7 +45,7 @@ defined_gives held w (operands.Number n) other holds = (values.Bits n, refl)
 defined_gives held w operands.Undef other holds = absurd (other refl)
 defined_gives held w operands.Poison other holds = (values.Poison, refl)
 
--- `undef` alone stands for `undef`
+-- only an `undef` of the rule stands for an `undef`
 undef_alone : (binding : Binding) → (Contains binding.inputs operands.Undef → ⊥) → (N : ℕ) (a : Argument) → StandsFor binding N a operands.Undef → IsDefined a → ⊥
 undef_alone binding no_undef N (arguments.Register (names.Input i)) for defined = no_undef (Contains-from_get binding.inputs i operands.Undef for)
 undef_alone binding no_undef N (arguments.Register (names.Source i)) (reg, at, is) defined = cc
@@ -59,13 +59,13 @@ undef_alone binding no_undef N (arguments.Term n) for defined = absurd for
 chosen_bits : (N : ℕ) (n : Number) → IsValueOf N (values.Bits n) → IsChosen AnyNumber N (values.Bits n)
 chosen_bits N n (width, below) = (n.number, below, ap (λ (w : ℕ). values.Bits (record { width = w; number = n.number })) width)
 
--- what a freeze may give for a value allows what the rule's number freezes a value to that it allows
+-- where a value allows another, a freeze of it may give what allows the other one frozen by the rule's number
 frozen_allowed : (w : ℕ) (v u : Value) (n : Number) → AllowsValue v u → IsValueOf w u → IsValueOf w (values.Bits n) → (z : Value) × Freezes AnyNumber w v z × AllowsValue z (frozen u n)
 frozen_allowed w values.Poison values.Poison n allows fits own = (values.Bits n, chosen_bits w n own, AllowsValue-refl (values.Bits n))
 frozen_allowed w values.Poison (values.Bits m) n allows fits own = (values.Bits m, chosen_bits w m fits, AllowsValue-refl (values.Bits m))
 frozen_allowed w (values.Bits m) u n allows fits own = (values.Bits m, refl, subst (λ x. AllowsValue (values.Bits m) (frozen x n)) (sym allows) (AllowsValue-refl (values.Bits m)))
 
--- a freeze matches a freeze
+-- a statement that is a freeze matches only a freeze
 frozen_inst : (s : RuleOp) (i : Op) (a : RuleOperand) (k : ℕ) → s ≡ rule_ops.Freeze a k → IsSameOperation s i → (x : Operand) × (i ≡ ops.Freeze x)
 frozen_inst s i a k is same = of_freeze i (subst (λ op. IsSameOperation op i) is same)
   where
@@ -85,7 +85,7 @@ module _ (f : Function) (rule : Rule) (binding : Binding) (held : Registers) (no
       let u = argument_gives f rule binding held no_undef given constants j H standing N a x v.0 for may defined one v.1 in
       (v.0, v.1, (u.0, u.1, u.2.0))
 
-  -- and at the root, where a literal `undef` may give any number
+  -- an argument of the root, where a literal `undef` may give any number
   root_argument : (N : ℕ) (a : Argument) (x : Operand) → StandsFor binding N a x → SourceMayRead rule j a → ((b : Bool) → a ≡ arguments.Truth b → N ≡ 1)
       → ((reg : Register) → x ≡ operands.Register reg → (v : Value) × (held reg ≡ Some v))
       → ((k : ℕ) → a ≡ arguments.Undef k → (n : Number) × (slice_get given.choices k ≡ Some n) × IsValueOf N (values.Bits n))
@@ -107,11 +107,11 @@ module _ (f : Function) (rule : Rule) (binding : Binding) (held : Registers) (no
     abbrev RootReads : List Read
     RootReads = reads_of f binding.block m.place m.inst.width m.inst.op
 
-    -- the instruction's effect, and the statement's which it allows
+    -- the effect of the root's statement, and one of the instruction that allows it
     abbrev RootAllows : Type 0
     RootAllows = (source : Effect) × StatementGives binding.typing given H s source × ((e : Effect) × OpGives AnyNumber held m.inst.width m.inst.op e × AllowsEffect e source)
 
-    -- what a read gives there, and what the operand for which it stands gives
+    -- the value of an operand of the instruction, and that of the rule's operand, which it allows
     read_gives : (n : ℕ) (o : RuleOperand) (r : Read) → slice_get (operands_of s.op) n ≡ Some o → slice_get RootReads n ≡ Some r
         → (v : Value) × OperandGives AnyNumber held r.width r.operand v × ((u : Value) × ArgumentGives binding.typing given H r.width o.value u × AllowsValue v u)
     read_gives n o r here there =
@@ -142,7 +142,7 @@ module _ (f : Function) (rule : Rule) (binding : Binding) (held : Registers) (no
           (e, op_gives f binding.block m.place held m.inst.width m.inst.op x.0 is (λ n r there. (x.1 n r (ap (λ (l : List Read). slice_get l n) (sym taken) ∙ there)).0), AllowsEffect-trans e own source by_flags by_values),
         )
 
-    -- a freeze may give in the place of poison what its operand gives in the rule, or else the number that is chosen
+    -- in the place of poison a freeze may give what its operand gives in the rule, or else the number that is chosen
     -- there
     freeze_allows : (a : RuleOperand) (k : ℕ) → s.op ≡ rule_ops.Freeze a k → RootAllows
     freeze_allows a k is =

@@ -1,4 +1,4 @@
--- What a match gives to what is put: the root is there, all names are bound, and few instructions are put.
+-- What follows from a match for a rewrite: the root is there, all names are bound, and few instructions are inserted.
 use Rattle.std.proofs.Common.{◌≡◌, ℕ, ◌-◌, ◌≤◌, List, [], ◌∷◌, length, length-append, Some, None, Result, Ok, Err, subst, arith}
 use Rattle.std.specs.Prelude.{slice_get, OnOk}
 use Rattle.std.proofs.lemmas.Option.{slice_get_within}
@@ -20,7 +20,7 @@ use Rattle.bindings.proofs.Fitting.{constants_fit}
 use Rattle.rewriter.specs.Put.{class_width, insts_of_op, insts_with, insts_put}
 use Rattle.rewriter.specs.Ready.{IsBound}
 
--- a fact of what is given follows from another
+-- an answer with a property has what follows from it
 pub on_ok : {T E P Q : Type 0} (r : Result T E) → (P → Q) → OnOk r P → OnOk r Q
 on_ok (Ok x) follows h = follows h
 on_ok (Err e) follows h = h

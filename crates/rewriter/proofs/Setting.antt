@@ -44,8 +44,8 @@ use Rattle.rewriter.proofs.Matched.{read_there, same_is_computed, reads_here}
 use Rattle.rewriter.proofs.Source.{input_value, input_values}
 use Rattle.rewriter.proofs.Target.{TermFits}
 
--- a read of the function's, which stands at a place of the root's block at the root or before it, stands for the
--- operand of the source
+-- An operand of the source stands for an operand that is read at an instruction of the root's block, at the root or
+-- before it.
 pub record SourceRead (f : Function) (binding : Binding) (o : RuleOperand) : Type 0 where
   pub read : Read
   pub place : ℕ
@@ -56,7 +56,7 @@ pub record SourceRead (f : Function) (binding : Binding) (o : RuleOperand) : Typ
   pub place_is : read.place ≡ place
   pub matches : OperandMatches binding o read
 
--- each number that is read is one of its width
+-- a number that is read is of its width
 pub number_own : (a : Operand) → ((n : Number) → a ≡ operands.Number n → n.number < 2 ^ n.width) → IsOfItsWidth a
 number_own (operands.Register r) own = tt
 number_own (operands.Number n) own = own n refl
@@ -71,7 +71,7 @@ input_fits f held w operands.Undef widths has own = tt
 input_fits f held w operands.Poison widths has own = tt
 
 module _ (f : Function) (b k : ℕ) (rule : Rule) (binding : Binding) (checked : IsRule rule) (meets : MeetsChecks f) (numbers : NumbersFit f) (match : IsMatch f b k rule binding) where
-  -- each operand of the source stands for a read
+  -- each operand of the source stands for one that is read so
   pub source_read : (o : RuleOperand) → IsOperandAmong rule.source o → SourceRead f binding o
   source_read o among =
       let from = flat_map-from (λ (s : Statement). operands_of s.op) rule.source o among in
@@ -90,7 +90,7 @@ module _ (f : Function) (b k : ℕ) (rule : Rule) (binding : Binding) (checked :
             | inr last ↦ let is : m.place ≡ binding.place = m.matches.root (omega arith) in omega arith
           ]
 
-  -- each input is read there, and each constant
+  -- each input and each constant is bound to one that is read so
   pub input_read : (i : ℕ) (a : Operand) → slice_get binding.inputs i ≡ Some a → (o : RuleOperand) × (s : SourceRead f binding o) × IsOperandAmong rule.source o × (o.value ≡ arguments.Register (names.Input i)) × (s.read.operand ≡ a)
   input_read i a at =
       let within : i < length binding.inputs = slice_get_within binding.inputs i a at in
@@ -165,7 +165,7 @@ module _ (f : Function) (b k : ℕ) (rule : Rule) (binding : Binding) (checked :
         };
       }
 
-  -- each constant term gives a number of its width
+  -- a constant term with a value has a number of its width
   number_of_term : (n N : ℕ) (v : Value) → HasNumber v → IsValueOf N v → (m : ℕ) × (v ≡ bits N m)
   number_of_term n N values.Poison has fits = absurd has
   number_of_term n N (values.Bits m) has fits = (m.number, ap (λ (w : ℕ). bits w m.number) fits.0)

@@ -45,7 +45,7 @@ use Rattle.bindings.specs.declared.binding.Binding.{Binding}
 use Rattle.rewriter.proofs.Computing.{Computation, effect_of, computed, computed_by, IsComputed, IsFreeze, inputs_of, plain_inputs, plain_reads, collected, rule_gives, op_computes, effects_allow, effects_same}
 use Rattle.rewriter.proofs.Matched.{same_is_computed, read_there, inst_allows, inst_same}
 
--- what an input is given that is bound to this operand
+-- the value of a rule's input that is bound to this operand
 abbrev pub input_value : Registers → Operand → Value
 input_value held a = unwrap_or (value_of held a) values.Poison
 
@@ -58,12 +58,12 @@ input_is held w (operands.Number n) v other h = sym h
 input_is held w operands.Undef v other h = absurd (other refl)
 input_is held w operands.Poison v other h = sym h
 
--- an effect that gives a value allows none but those that give one
+-- an effect that gives a value allows only effects that give one
 pub given_of : (t : Value) (e : Effect) → AllowsEffect (effects.Gives t) e → (r : Value) × (e ≡ effects.Gives r) × AllowsValue t r
 given_of t effects.Undefined h = absurd h
 given_of t (effects.Gives r) h = (r, refl, h)
 
--- what stands before the root freezes nothing
+-- no statement before the root is a freeze
 no_freeze_before : (rule : Rule) (j : ℕ) (op : RuleOp) → suc j < length rule.source → MayStandInSource rule j op → ¬ IsFreeze op
 no_freeze_before rule j (rule_ops.Freeze a k) before may is = let root : suc j ≡ length rule.source = may in omega arith
 no_freeze_before rule j (rule_ops.Binary opcode flags a b) before may is = is
@@ -73,19 +73,19 @@ no_freeze_before rule j (rule_ops.Select c a b) before may is = is
 no_freeze_before rule j (rule_ops.Convert cast flags a to) before may is = is
 no_freeze_before rule j (rule_ops.Copy a) before may is = is
 
--- it is no `undef`
+-- the argument is no `undef`
 abbrev pub IsDefined : Argument → Type 0
 IsDefined argument = (k : ℕ) → argument ≡ arguments.Undef k → ⊥
 
 module _ (f : Function) (rule : Rule) (binding : Binding) (held : Registers) where
-  -- the function's value allows the rule's, and is the same where the target names temporaries
+  -- the function's value allows the rule's, and is equal where the target names temporaries
   abbrev pub Stands : Value → Value → Type 0
   Stands t r = AllowsValue t r × (TargetNamesTemporary rule → t ≡ r)
 
   pub stands-refl : (v : Value) → Stands v v
   stands-refl v = (AllowsValue-refl v, λ reads. refl)
 
-  -- the first j temporaries of the rule have values for which those of the function stand
+  -- the first j temporaries of the rule hold values that the function's registers stand for in this way
   pub record Standing (j : ℕ) (H : Held) : Type 0 where
     pub inputs : H.inputs ≡ input_values held binding
     pub count : length H.source ≡ j
@@ -93,7 +93,7 @@ module _ (f : Function) (rule : Rule) (binding : Binding) (held : Registers) whe
     pub each : (i : ℕ) (reg : Register) → i < j → slice_get binding.statements i ≡ Some reg → (t : Value) × (r : Value) × (held reg ≡ Some t) × (slice_get H.source i ≡ Some r) × Stands t r
 
   module _ (no_undef : Contains binding.inputs operands.Undef → ⊥) (given : Given) (constants : given.constants ≡ binding.constants) (j : ℕ) (H : Held) (standing : Standing j H) where
-    -- what an argument gives for which an operand stands
+    -- the value of an argument that stands for an operand
     pub argument_gives : (N : ℕ) (a : Argument) (x : Operand) (v : Value) → StandsFor binding N a x → SourceMayRead rule j a → IsDefined a → ((b : Bool) → a ≡ arguments.Truth b → N ≡ 1)
         → OperandGives AnyNumber held N x v → (u : Value) × ArgumentGives binding.typing given H N a u × Stands v u
     argument_gives N (arguments.Register (names.Input i)) x v for may defined one h =
@@ -160,7 +160,7 @@ module _ (f : Function) (rule : Rule) (binding : Binding) (held : Registers) whe
     abbrev pub given : Given
     given = given_by binding.typing binding.constants [] rule
 
-    -- a temporary has a value for which the function's stands
+    -- the next temporary holds a value that the function's register stands for
     source_step : (j : ℕ) (s : Statement) (H : Held) → slice_get rule.source j ≡ Some s → suc j < length rule.source → Standing j H
         → (r : Value) × StatementGives binding.typing given H s (effects.Gives r) × ((reg : Register) → slice_get binding.statements j ≡ Some reg → (t : Value) × (held reg ≡ Some t) × Stands t r)
     source_step j s H at before standing =
@@ -228,7 +228,7 @@ module _ (f : Function) (rule : Rule) (binding : Binding) (held : Registers) whe
         let count : suc k + length rest ≡ k + suc (length rest) = omega arith in
         (tail.0, (effects.Gives step.0, step.1, tail.1), subst (λ n. Standing n tail.0) count tail.2)
 
-    -- the temporaries end with values for which those of the function stand
+    -- the temporaries end with values that the function's registers stand for
     pub temporaries_stand : (end : Held) × TemporariesEnd binding.typing binding.constants rule (input_values held binding) (Holds end) × Standing (length rule.source - 1) end
     temporaries_stand =
         let n : ℕ = length rule.source - 1 in

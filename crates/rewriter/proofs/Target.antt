@@ -1,4 +1,4 @@
--- What the rule's target does is what comes of the instructions that are put, with the numbers that these were given.
+-- The rule's target does what the inserted instructions do, with the numbers that these take for choices.
 use Rattle.std.proofs.Common.{◌≡◌, ℕ, zero, suc, ◌+◌, ◌<◌, ◌≤◌, ◌⊎◌, inl, inr, true, false, List, [], ◌∷◌, ◌++◌, length, length-append, append_assoc, Option, Some, refl, sym, ap, subst, ◌∙◌, arith, get_or}
 use Rattle.std.specs.Prelude.{slice_get, slice_index_or, Contains, if◌then◌else◌}
 use Rattle.std.specs.Option.{option_map, option_map_or}
@@ -56,7 +56,7 @@ undef_or (arguments.Truth b) = inr (λ k is. cc)
 undef_or (arguments.Constant k) = inr (λ k is. cc)
 undef_or (arguments.Term n) = inr (λ k is. cc)
 
--- what a copy copies
+-- the operand that a copy copies
 copied_of : (op : RuleOp) → is_copy op ≡ true → (a : RuleOperand) × (op ≡ rule_ops.Copy a)
 copied_of (rule_ops.Copy a) is = (a, refl)
 copied_of (rule_ops.Binary opcode flags a b) is = absurd cc
@@ -66,12 +66,12 @@ copied_of (rule_ops.Select c a b) is = absurd cc
 copied_of (rule_ops.Convert cast flags a to) is = absurd cc
 copied_of (rule_ops.Freeze a k) is = absurd cc
 
--- the one operand of a copy is no `undef`
+-- the operand of a copy is no `undef`
 only_operand : (a : RuleOperand) (i : ℕ) (o : RuleOperand) (k : ℕ) → IsDefined a.value → slice_get (a ∷ []) i ≡ Some o → o.value ≡ arguments.Undef k → ⊥
 only_operand a zero o k defined at is = defined k (ap (λ (x : RuleOperand). x.value) (same_Some a o at) ∙ is)
 only_operand a (suc i) o k defined at is = absurd cc
 
--- what a freeze takes beside its operand is an `undef`
+-- what a freeze has as an input beside its operand is an `undef`
 taken_operand : (c : ℕ) (op : RuleOp) (i : ℕ) (o : RuleOperand) → IsDefined o.value → slice_get (inputs_of c op) i ≡ Some o → slice_get (operands_of op) i ≡ Some o
 taken_operand c (rule_ops.Freeze a k) zero o defined at = at
 taken_operand c (rule_ops.Freeze a k) (suc zero) o defined at = absurd (defined k (ap (λ (x : RuleOperand). x.value) (sym (same_Some (choice_operand c k) o at))))
@@ -83,7 +83,7 @@ taken_operand c (rule_ops.Select z a b) i o defined at = at
 taken_operand c (rule_ops.Convert cast flags a to) i o defined at = at
 taken_operand c (rule_ops.Copy a) i o defined at = at
 
--- the operand gives u there, if anything
+-- the operand gives u, if it gives anything
 abbrev pub GivesOnly : Registers → Value → Operand → Type 0
 GivesOnly new u a = (w : ℕ) (v' : Value) → OperandGives AnyNumber new w a v' → v' ≡ u
 
@@ -91,8 +91,8 @@ number_only : (new : Registers) (n : Number) → GivesOnly new (values.Bits n) (
 number_only new n w v' h = h
 
 module _ (rule : Rule) (binding : Binding) where
-  -- What is held where t target statements are done: the operand that stands for what the rule's name holds gives the
-  -- rule's value in the new function.
+  -- After t target statements: in the new function, an operand that stands for a name of the rule gives only the value
+  -- that the name holds.
   pub record Ready (t : ℕ) (H : Held) (new : Registers) : Type 0 where
     pub inputs : (i : ℕ) (a : Operand) → slice_get binding.inputs i ≡ Some a → (u : Value) × (slice_get H.inputs i ≡ Some u) × GivesOnly new u a
     pub source : TargetNamesTemporary rule → (j : ℕ) (reg : Register) → suc j < length rule.source → slice_get binding.statements j ≡ Some reg → (u : Value) × (slice_get H.source j ≡ Some u) × GivesOnly new u (operands.Register reg)
@@ -102,12 +102,12 @@ module _ (rule : Rule) (binding : Binding) where
   abbrev pub given : List Number → Given
   given choices = given_by binding.typing binding.constants choices rule
 
-  -- a constant term at the width N gives a number of it
+  -- a constant term has a number of the width N
   abbrev pub TermFits : ℕ → ℕ → Type 0
   TermFits n N = (m : ℕ) × (value_at (constant_values binding.typing binding.constants rule) n ≡ bits N m)
 
   module _ (inputs_count : length binding.inputs ≡ length rule.inputs) (statements_count : length binding.statements ≡ length rule.source) (constants_count : length binding.constants ≡ length rule.constants) (t : ℕ) (within : t ≤ length rule.target) (H : Held) (new : Registers) (ready : Ready t H new) where
-    -- what an argument gives, whatever `undef`s are
+    -- the value of an argument, whatever numbers are chosen for `undef`s
     target_argument : (N : ℕ) (a : Argument) → TargetMayRead rule t a → IsDefined a → (NamesTemporary rule.terms a → TargetNamesTemporary rule) → ((n : ℕ) → a ≡ arguments.Term n → TermFits n N)
         → (u : Value) × ((choices : List Number) → ArgumentGives binding.typing (given choices) H N a u) × GivesOnly new u (argument_put rule binding (results rule binding) N a)
     target_argument N (arguments.Register (names.Input i)) may defined reads fits =
@@ -141,7 +141,7 @@ module _ (rule : Rule) (binding : Binding) where
         let number : Number = record { width = N; number = m.0 } in
         (values.Bits number, λ choices. ap (λ v. bits N (number_or_zero v)) (sym m.1), subst (λ v. GivesOnly new (values.Bits number) (literal_of v)) (sym m.1) (number_only new number))
 
-  -- ---- registers that are held anew
+  -- ---- registers with a new value
 
   settled_gives : (n q w : ℕ) (a : Operand) (held : Registers) (v v' : Value) → IsSettled rule binding n a → binding.place + n ≤ q → OperandGives AnyNumber (holding held binding.block q v) w a v' → OperandGives AnyNumber held w a v'
   settled_gives n q w (operands.Register (registers.Parameter p)) held v v' settled le h = h
@@ -165,7 +165,7 @@ module _ (rule : Rule) (binding : Binding) where
     results_settled : (t : ℕ) → t ≤ length rule.target → (j : ℕ) (a : Operand) → j < t → slice_get (results rule binding) j ≡ Some a → IsSettled rule binding (put_before rule binding t) a
     results_settled = first_settled rule binding checked.target_reads inputs_settled statements_settled inputs_count statements_count
 
-    -- one statement more is done
+    -- after one statement more
     ready_next : (t : ℕ) (s : Statement) (H : Held) (held new : Registers) (u : Value) → slice_get rule.target t ≡ Some s → Ready t H held
         → ((a : Operand) (x : Value) → IsSettled rule binding (put_before rule binding t) a → GivesOnly held x a → GivesOnly new x a)
         → GivesOnly new u (result_at rule binding t s.op) → Ready (suc t) (holding_target H u) new
@@ -187,7 +187,7 @@ module _ (rule : Rule) (binding : Binding) where
           count = length-append H.target (u ∷ []) ∙ omega arith;
         }
 
-    -- the numbers are those of the target's choices from the m-th on, and of their widths
+    -- the numbers are for the target's choices from the m-th on, and of their widths
     abbrev pub NumbersFit : ℕ → List Number → Type 0
     NumbersFit m numbers = (q : ℕ) (n : Number) → slice_get numbers q ≡ Some n → (c : ℕ) × LeavesOpen rule.target (m + q) c × ((N : ℕ) → slice_get binding.typing c ≡ Some N → IsValueOf N (values.Bits n))
 
@@ -221,12 +221,12 @@ module _ (rule : Rule) (binding : Binding) where
               (r.0, subst (λ k. LeavesOpen rule.target k r.0) place r.1, r.2)
         ]
 
-    -- how the target ends: where it isn't in undefined behaviour, nor is what is put
+    -- how the target ends: where it has no undefined behaviour, the inserted instructions have none
     abbrev pub Ends : ℕ → Ending → Option Registers → Type 0
     Ends t Undefines after = Unit {0}
     Ends t (Holds H) after = (new : Registers) × (after ≡ Some new) × Ready t H new
 
-    -- the numbers that were taken for the choices of these statements, and how they end with them
+    -- the numbers that are taken for the choices of these statements, and how they end with these
     pub record Done (statements : List Statement) (t : ℕ) (before : List Number) (H : Held) (after : Option Registers) : Type 0 where
       pub numbers : List Number
       pub count : length numbers ≡ length (choices_among statements)
@@ -235,7 +235,7 @@ module _ (rule : Rule) (binding : Binding) where
       pub follows : Follows binding.typing (given (before ++ numbers)) holding_target statements H end
       pub ends : Ends (t + length statements) end after
 
-    -- what these statements leave open the target does
+    -- the choices of these statements are choices of the target
     abbrev AllOpen : List Statement → Type 0
     AllOpen statements = (choice : Choice) → Contains (choices_among statements) choice → Contains (choices_among rule.target) choice
 
@@ -251,7 +251,7 @@ module _ (rule : Rule) (binding : Binding) where
       names_temporary : (i : ℕ) (o : RuleOperand) → slice_get (operands_of s.op) i ≡ Some o → NamesTemporary rule.terms o.value → TargetNamesTemporary rule
       names_temporary i o here is = (o, among i o here, is)
 
-      -- what the statement takes, and what of it is left open
+      -- the inputs of the statement, choices among them
       abbrev inputs : List RuleOperand
       inputs = inputs_of s.class s.op
 
@@ -261,7 +261,7 @@ module _ (rule : Rule) (binding : Binding) where
       class_is : (o : RuleOperand) (w : ℕ) → slice_get binding.typing o.class ≡ Some w → class_width rule binding o.class ≡ w
       class_is o w width = get_or_from_slice_get binding.typing o.class w 0 width
 
-      -- what is read for an `undef` is one
+      -- the operand for an `undef` is `undef`
       undef_read : (o : RuleOperand) (r : Read) (k : ℕ) → ReadFor rule binding o r → o.value ≡ arguments.Undef k → r.operand ≡ operands.Undef
       undef_read o r k for is = for.operand ∙ ap (argument_put rule binding (results rule binding) (class_width rule binding o.class)) is
 
@@ -271,7 +271,8 @@ module _ (rule : Rule) (binding : Binding) where
       undef_number : (o : RuleOperand) (r : Read) (k : ℕ) (new : Registers) (v : Value) → ReadFor rule binding o r → o.value ≡ arguments.Undef k → OperandGives AnyNumber new r.width r.operand v → (v ≡ values.Bits (number_of v)) × IsValueOf r.width (values.Bits (number_of v))
       undef_number o r k new v for is gives = chosen_number r.width v (subst (λ a. OperandGives AnyNumber new r.width a v) (undef_read o r k for is) gives)
 
-      -- What is taken gives the value that was read for it: the very number, if it is an `undef`.
+      -- An input of the statement has the value that the instruction reads for it; and for an `undef` the number that
+      -- this takes.
       module _ (before : List Number) (H : Held) (new : Registers) (ready : Ready t H new) where
         abbrev OneOperand : (ℕ → Value) → ℕ → RuleOperand → Value → Type 0
         OneOperand x i o u = (x i ≡ u) × ((more : List Number) → RuleOperandGives binding.typing (given (before ++ (picked inputs x ++ more))) H o u)
@@ -314,7 +315,7 @@ module _ (rule : Rule) (binding : Binding) where
         abbrev GivesThen : (ℕ → Value) → Effect → Type 0
         GivesThen x e = (more : List Number) → StatementGives binding.typing (given (before ++ (picked inputs x ++ more))) H s e
 
-        -- a statement does what its instruction does
+        -- a statement has the effect that its instruction has
         put_step : (f : Function) (N : ℕ) (e' : Effect) → slice_get binding.typing s.class ≡ Some N → IsNoCopy s.op → InOrder (length before) (undefs_of inputs) → OpGives AnyNumber new N (put_op rule binding N s.op) e'
             → (x : ℕ → Value) × GivesThen x e' × PicksFit x
         put_step f N e' width kept order gives =
@@ -395,7 +396,7 @@ module _ (rule : Rule) (binding : Binding) where
                 ends = subst (λ n. Ends n rest.end after) further rest.ends;
               }
 
-          -- the statements behind it do so from what is held then
+          -- the statements behind it do what their instructions do
           abbrev Further : Name → Type 0
           Further name = (before' : List Number) (H' : Held) (new' : Registers) → InOrder (length before') (places (choices_among statements)) → Ready (suc t) H' new'
               → RunsThrough binding.block (binding.place + put_before rule binding (suc t)) (insts_put rule binding name statements) new' after → Done statements (suc t) before' H' after
@@ -435,7 +436,7 @@ module _ (rule : Rule) (binding : Binding) where
         let from = flat_map-from choices_of statements choice among in
         statement_open rule.target from.1 choice (Contains-from_get rule.target (t + from.0) from.1 (align from.0 from.1 from.2)) from.3
 
-    -- the numbers and the values with which the target's statements do what is put for them does
+    -- the target's statements do what their instructions do, with these numbers and values
     pub target_runs : (f : Function) (name : Name) (statements : List Statement) (t : ℕ) (before : List Number) (H : Held) (new : Registers) (after : Option Registers)
         → ((i : ℕ) (s : Statement) → slice_get statements i ≡ Some s → slice_get rule.target (t + i) ≡ Some s) → InOrder (length before) (places (choices_among statements)) → Ready t H new
         → RunsThrough binding.block (binding.place + put_before rule binding t) (insts_put rule binding name statements) new after → Done statements t before H after

@@ -1,4 +1,4 @@
--- What the target reads, where its names are bound.
+-- The operands for what the target reads, where its names are bound.
 use Rattle.std.proofs.Common.{◌≡◌, ℕ, suc, ◌<◌, ◌≤◌, List, length, Some, sym, ap, subst, ◌∙◌, arith, get_or}
 use Rattle.std.specs.Prelude.{slice_get, slice_index}
 use Rattle.std.specs.Option.{option_map_or}
@@ -18,7 +18,7 @@ use Rattle.bindings.specs.declared.binding.Binding.{Binding}
 use Rattle.rewriter.specs.Put.{argument_put}
 use Rattle.rewriter.specs.Ready.{IsBound}
 
--- an item that is there is mapped
+-- an item of a list that is there, with a function applied
 map_or_at : {A B : Type 0} (f : A → B) (xs : List A) (i : ℕ) (d : A) (e : B) → i < length xs → f (get_or xs i d) ≡ option_map_or f (slice_get xs i) e
 map_or_at f xs i d e lt = sym (ap (λ o. option_map_or f o e) (slice_get-get_or xs i d lt))
 
@@ -37,6 +37,6 @@ module _ (rule : Rule) (binding : Binding) (results : List Operand) (N n : ℕ) 
       let count = is_bound.constants.count in
       ap operands.Number read ∙ ap (λ l. operands.Number (get_or l k x)) same ∙ map_or_at operands.Number binding.constants k x operands.Poison (omega arith) ∙ ap (argument_put rule binding results N) (sym is)
 
--- the width of a class that is bound
+-- the width of a class
 pub width_positive : (rule : Rule) (binding : Binding) (c N : ℕ) → IsBound rule binding → c < length binding.typing → N ≡ slice_index binding.typing c → 1 ≤ N
 width_positive rule binding c N is_bound inside is = (is_bound.typing.widths N (c, inside, get_or_from_slice_get binding.typing c N N (slice_get-get_or binding.typing c 0 inside ∙ ap (λ w. Some w) (sym is)))).0

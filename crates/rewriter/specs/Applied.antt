@@ -8,7 +8,7 @@ use Rattle.substitution.specs.Rewritten.{rewritten_function}
 use Rattle.bindings.specs.declared.binding.Binding.{Binding}
 use Rattle.rewriter.specs.Put.{rewrite_of}
 
--- The new function is the old one with what the rule puts in the place of its root.
+-- The new function is the old one with the instructions that the rule inserts in the place of its root.
 pub record IsRewritten (f : Function) (binding : Binding) (rule : Rule) (new : Function) : Type 0 where
   pub root : Inst
   pub is_root : IsInst f binding.block binding.place root

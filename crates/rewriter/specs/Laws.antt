@@ -12,8 +12,8 @@ use Rattle.bindings.specs.Match.{IsMatch}
 use Rattle.bindings.specs.declared.binding.Binding.{Binding}
 use Rattle.rewriter.specs.Applied.{IsRewritten}
 
--- Where a rule is valid at the widths at which it matches, the function to which it is applied there may stand in the
--- place of the old one.
+-- Where a rule is valid at the widths at which it matches, the function to which it is applied there refines the old
+-- one.
 abbrev pub RewrittenFunctionsRefine : Type 0
 RewrittenFunctionsRefine = (f new : Function) (b k : ℕ) (rule : Rule) (binding : Binding)
     → IsRule rule → HasNoFault rule → MeetsChecks f → NumbersFit f

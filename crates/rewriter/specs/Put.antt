@@ -1,5 +1,5 @@
--- What a rule puts in the place of a root that it matches: the statements of its target in order, with what the binding
--- gives for what they read.
+-- The instructions that a rule inserts in the place of a root that it matches: the statements of its target in order,
+-- whose operands are those that the binding gives for what they read.
 use Rattle.std.specs.Prelude.{ℕ, ◌+◌, ◌-◌, if◌then◌else◌, Bool, true, false, not, List, [], ◌∷◌, ◌++◌, length, take, count_by, None, slice_get, slice_index, slice_index_or}
 use Rattle.std.specs.Option.{option_map_or}
 use Rattle.ops.specs.Integer.{residue}
@@ -23,7 +23,7 @@ use Rattle.rule_core.specs.declared.rule.Statement.{Statement}
 use Rattle.substitution.specs.declared.rewrite.Rewrite.{Rewrite}
 use Rattle.bindings.specs.declared.binding.Binding.{Binding}
 
--- the number that a value is, as a literal
+-- a value as an operand
 abbrev pub literal_of : Value → Operand
 literal_of values.Poison = operands.Poison
 literal_of (values.Bits n) = operands.Number n
@@ -32,13 +32,13 @@ abbrev pub is_copy : RuleOp → Bool
 is_copy (rule_ops.Copy a) = true
 is_copy op = false
 
--- how many of these statements are put as instructions: all but copies
+-- how many of these statements become instructions: all but copies
 abbrev pub count_put : List Statement → ℕ
 count_put statements = count_by (λ s. not (is_copy s.op)) statements
 
 module _ (rule : Rule) (binding : Binding) where
-  -- What the target reads at the width N, where the target statements before it gave these operands: a register of the
-  -- source or an input as it is bound, and a constant, a constant term or a literal as a number.
+  -- The operand for what the target reads at the width N, given the operands for the target statements before it: a
+  -- register of the source or an input as it is bound, and a constant, a constant term or a literal as a number.
   abbrev pub argument_put : List Operand → ℕ → Argument → Operand
   argument_put results N (arguments.Register (names.Input i)) = slice_index_or binding.inputs i operands.Poison
   argument_put results N (arguments.Register (names.Source j)) = option_map_or operands.Register (slice_get binding.statements j) operands.Poison
@@ -56,8 +56,8 @@ module _ (rule : Rule) (binding : Binding) where
   abbrev pub operand_put : List Operand → RuleOperand → Operand
   operand_put results o = argument_put results (class_width o.class) o.value
 
-  -- What stands for the register that a target statement assigns, where those before it gave these operands: the
-  -- register of its instruction, and of a copy what it copies.
+  -- The operand for the register that a target statement assigns, given those for the statements before it: the
+  -- register of its instruction, and for a copy the operand that it copies.
   abbrev pub result_of_op : List Operand → RuleOp → Operand
   result_of_op results (rule_ops.Copy a) = operand_put results a
   result_of_op results op = operands.Register (registers.Result binding.block (binding.place + count_put (take (length results) rule.target)))
@@ -65,7 +65,7 @@ module _ (rule : Rule) (binding : Binding) where
   abbrev pub result_put : List Operand → Statement → Operand
   result_put results s = result_of_op results s.op
 
-  -- for each target statement what stands for its register
+  -- for each target statement the operand for its register
   abbrev pub results_put : List Operand
   results_put = in_turn result_put [] rule.target
 
@@ -88,6 +88,6 @@ module _ (rule : Rule) (binding : Binding) where
   insts_put name (s ∷ []) = insts_with name s
   insts_put name (s ∷ t ∷ statements) = insts_with None s ++ insts_put name (t ∷ statements)
 
-  -- what is put in the place of the root of this name, and what stands for the root's register
+  -- what is inserted in the place of the root, which has this name, and the operand that replaces the root's register
   abbrev pub rewrite_of : Name → Rewrite
   rewrite_of name = record { block = binding.block; place = binding.place; put = insts_put name rule.target; result = slice_index_or results_put (length rule.target - 1) operands.Poison }

@@ -1,4 +1,4 @@
--- What lets the target of a rule be put: all that it reads is there; and what its operations are then.
+-- What has to be bound so that the target of a rule can be inserted; and the operations of its instructions.
 use Rattle.std.specs.Prelude.{◌≡◌, ℕ, ◌<◌, List, length, Option, None, Some}
 use Rattle.ir_core.specs.declared.instruction.Op.{Op as PutOp}
 use Rattle.ir_core.specs.declared.instruction.Op.TheVariants as ops
@@ -22,7 +22,7 @@ pub record IsBound (rule : Rule) (binding : Binding) : Type 0 where
   pub constants : ConstantsFit rule binding.typing binding.constants
 
 module _ (rule : Rule) (binding : Binding) where
-  -- what target statement k reads is there
+  -- what target statement k reads is bound
   pub record OperandIsReady (k : ℕ) (o : Operand) : Type 0 where
     pub class : o.class < length binding.typing
     pub value : TargetMayRead rule k o.value
@@ -40,7 +40,7 @@ module _ (rule : Rule) (binding : Binding) where
     pub class : s.class < length binding.typing
     pub op : OpIsReady k s.op
 
-  -- what a target statement computes, where these operands stand for the target's registers: nothing for a copy
+  -- the operation of a target statement's instruction, given operands for the target's registers: none for a copy
   abbrev pub op_put : List PutOperand → Op → Option PutOp
   op_put results (Binary opcode flags a b) = Some (ops.Binary opcode flags (operand_put rule binding results a) (operand_put rule binding results b))
   op_put results (Compare pred samesign a b) = Some (ops.Compare pred samesign (class_width rule binding a.class) (operand_put rule binding results a) (operand_put rule binding results b))

@@ -37,10 +37,10 @@ fn name_at(alloc: Global, f: &Function, block: u32, place: u32) -> Result<Option
     copy_name(alloc, &inst.name)
 }
 
-/// Applies a rule to a function where it matches with this binding. The target's statements stand before the root in
-/// order, unnamed, with numbers for constant terms, and what copies is no instruction; the last one takes the root's
-/// place and name. Where it is a copy, the root goes, and what is copied is read in its place in the whole function, in
-/// unreached blocks, phis and terminators too.
+/// Applies a rule to a function where it matches with this binding. The target's statements are inserted before the
+/// root in order, unnamed, with numbers for constant terms; a copy is no instruction. The last one takes the root's
+/// place and name. Where it is a copy, the root is removed, and all its uses in the whole function are replaced by the
+/// operand that is copied, in unreached blocks, phis and terminators too.
 ///
 /// It takes its memory before it changes the function, which stays as it was where that is refused. It takes as many
 /// steps as the function is long and, for each constant term that the target reads, as the rule has nodes.
@@ -54,7 +54,7 @@ pub fn apply(
     requires checks { MeetsChecks f.old }
     requires matches { IsMatch f.old binding.now.block binding.now.place rule.now binding.now }
 
-    // Places are counted in 32 bits, and a rule puts 32 instructions at most.
+    // Places are counted in 32 bits, and a rule inserts 32 instructions at most.
     requires places { (block : Block) → IsBlock f.old binding.now.block block
         → length block.insts < 2 ^ 32 - 32 }
     ensures ok { OnOk result (IsRewritten f.old binding.now rule.now f.new) }

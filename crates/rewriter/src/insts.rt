@@ -1,4 +1,4 @@
-//! The instructions that a rule puts in the place of a root.
+//! The instructions that a rule inserts in the place of a root.
 
 ghost use Rattle.std.specs.Prelude.{◌≡◌, ◌+◌, ◌-◌, ◌<◌, ◌^◌, ◌++◌, flat_map, length, take, Some, None, IfOk, OnOk};
 ghost use Rattle.std.specs.Option.{option_to_list};
@@ -15,8 +15,8 @@ use rule_core::{Op as RuleOp, Rule, Statement};
 use std::alloc::{AllocError, Global};
 use substitution::Rewrite;
 
-/// What stands for the register that a target statement assigns, where those before it gave these operands and so many
-/// of them are put.
+/// The operand for the register that a target statement assigns, given those for the statements before it, so many of
+/// which become instructions.
 fn result_put(
     rule: &Rule,
     binding: &Binding,
@@ -37,7 +37,7 @@ fn result_put(
     }
 }
 
-/// For each target statement what stands for its register.
+/// For each target statement the operand for its register.
 fn results_put(alloc: Global, rule: &Rule, binding: &Binding) -> Result<Vec<Operand>, AllocError>
     requires rule { IsRule rule.now }
     requires bound { IsBound rule.now binding.now }
@@ -66,7 +66,7 @@ fn is_copy(op: RuleOp) -> bool
     }
 }
 
-/// What a target statement computes, where these operands stand for the target's registers: nothing for a copy.
+/// The operation of a target statement's instruction, given operands for the target's registers: none for a copy.
 fn op_put(rule: &Rule, binding: &Binding, results: &[Operand], op: RuleOp) -> Option<Op>
     requires rule { IsRule rule.now }
     requires bound { IsBound rule.now binding.now }
@@ -128,7 +128,7 @@ fn inst_put(
     })
 }
 
-/// Puts a target statement as an instruction of this name behind others: a copy puts none.
+/// Appends a target statement as an instruction of this name to others: a copy adds none.
 fn push_put(
     rule: &Rule,
     binding: &Binding,
@@ -190,7 +190,8 @@ fn insts_put(
     Ok(insts)
 }
 
-/// What a rule puts in the place of the root of this name, and what stands for the root's register.
+/// The instructions that a rule inserts in the place of the root, which has this name, and the operand that replaces
+/// the root's register.
 pub fn rewrite_of(
     alloc: Global,
     rule: &Rule,

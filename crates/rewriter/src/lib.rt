@@ -1,8 +1,8 @@
-//! Rewriting: what a rule puts in the place of a root that it matches, and why the new function may stand in the place
-//! of the old one.
+//! Rewriting: the instructions that a rule inserts in the place of a root that it matches, and why the new function
+//! refines the old one.
 //!
-//! In `specs/`, `Put` says what a rule puts there, `Applied` what the function is to which it is applied, and `Laws`
-//! that this refines the old one where the rule is valid. `Ready` serves the private functions.
+//! In `specs/`, `Put` says which instructions these are, `Applied` what the function is to which a rule is applied, and
+//! `Laws` that this refines the old one where the rule is valid. `Ready` serves the private functions.
 #![tactic(auto)]
 
 mod applying;

@@ -1,4 +1,4 @@
-//! What the target of a rule reads, where its names are bound.
+//! The operands for what the target of a rule reads, where its names are bound.
 
 ghost use Rattle.std.specs.Prelude.{◌≡◌, ◌<◌, ◌≤◌, ℕ, length, slice_index};
 ghost use Rattle.rule_core.specs.Checks.{IsRule, TargetMayRead};
@@ -33,7 +33,7 @@ fn term_put(rule: &Rule, binding: &Binding, node: u32) -> Operand
     }
 }
 
-/// What the target reads as a register, where the target statements before it gave these operands.
+/// The operand for a register that the target reads, given those for the target statements before it.
 fn register_put(rule: &Rule, binding: &Binding, results: &[Operand], register: Register) -> Operand
     requires bound { IsBound rule.now binding.now }
     requires register { TargetMayRead rule.now (length results.now) (Argument.Register register) }
@@ -46,7 +46,7 @@ fn register_put(rule: &Rule, binding: &Binding, results: &[Operand], register: R
     }
 }
 
-/// What the target reads as an argument of this width, where the target statements before it gave these operands.
+/// The operand for an argument that the target reads at this width, given those for the target statements before it.
 fn argument_put(
     rule: &Rule,
     binding: &Binding,
@@ -73,7 +73,7 @@ fn argument_put(
     }
 }
 
-/// What the target reads as an operand, where the target statements before it gave these operands.
+/// The operand for one that the target reads, given those for the target statements before it.
 pub(crate) fn operand_put(
     rule: &Rule,
     binding: &Binding,

@@ -103,7 +103,7 @@ module _ (rules : List Rule) (rule : Rule) where
       kept : (h : ℕ) (x : Group) → (h ≡ g → ⊥) → slice_get old.groups.items h ≡ Some x → AreOfKind (rules ++ rule ∷ []) x.kind x.rules.items
       kept h x other was = of_other x.kind x.rules.items (not_of x.kind (λ e. other (are.one kind h g (x, was, e) (group, at, of)))) (are.each h x was)
 
-      -- it is put behind the others of its group
+      -- it goes behind the others of its group
       pub grows : AreByRoot (rules ++ rule ∷ []) new
       grows = record {
         each = λ h x has. elim (cases_eq h g) [

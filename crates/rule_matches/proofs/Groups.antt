@@ -1,4 +1,4 @@
--- Which group, and so which rules, a kind of root has.
+-- The group of a kind of root, and so the rules that may match an instruction.
 use Rattle.std.proofs.Common.{◌≡◌, ℕ, ◌<◌, List, [], Option, None, Some, length, sym, ap, subst, ◌∙◌, arith}
 use Rattle.std.specs.Prelude.{HoldsAt, IfNone, IfSome, MatchOption}
 use Rattle.std.specs.List.{AllWithin}
@@ -11,7 +11,7 @@ use Rattle.rule_matches.specs.declared.roots.Group.{Group}
 use Rattle.rule_matches.specs.Roots.{AreByRoot, AreCandidates, AreOfKind, HasRootKind, IsGroupOf, kind_of_inst}
 use Rattle.rule_matches.proofs.Places.{some_at}
 
--- what the search for a group tells
+-- what the search for a group answers
 abbrev pub IsFound : RulesByRoot → RootKind → Option ℕ → Type 0
 IsFound all kind found = MatchOption found (AllWithin (λ (x : Group). ¬ (x.kind ≡ kind)) all.groups.items 0 (length all.groups.items))
     (λ g. (g < length all.groups.items) × HoldsAt (λ (x : Group). x.kind ≡ kind) all.groups.items g × AllWithin (λ (x : Group). ¬ (x.kind ≡ kind)) all.groups.items 0 g)

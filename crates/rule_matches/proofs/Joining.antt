@@ -1,4 +1,4 @@
--- The matches of one part of a function, and behind them those of the next.
+-- The matches of one part of a function, followed by those of the next.
 use Rattle.std.proofs.Common.{◌≡◌, ◌⊎◌, inl, inr, ℕ, zero, suc, ◌<◌, ◌≤◌, List, [], ◌∷◌, ◌++◌, length, get_or, take, Some, refl, sym, ap, subst, ◌∙◌, arith}
 use Rattle.std.specs.Prelude.{All, AllPairs, Contains, slice_get}
 use Rattle.std.proofs.lemmas.Bool.{cases_eq, cases_lt}
@@ -27,7 +27,7 @@ pairs_append R (x ∷ xs) ys first later cross =
     (All-append (R x) xs ys (pairs_first R x xs first) (λ k d lt. cross x (get_or ys k d) (0, omega arith, refl) (Contains-get_or ys k d lt)))
     (pairs_append R xs ys (pairs_later R x xs first) later (λ a b has. cross a b (suc has.0, omega (arith, has.1), has.2)))
 
--- of two places neither comes before the other both ways
+-- of two places at most one comes before the other
 pub not_after : (b k i c l j : ℕ) → IsBefore b k i c l j → IsBefore c l j b k i → ⊥
 not_after b k i c l j first later = elim first [
   | inl p ↦ elim later [ inl q ↦ omega (arith, p, q) | inr q ↦ omega (arith, p, q.0) ]
@@ -83,7 +83,7 @@ module _ {Before : ℕ → ℕ → Type 0} (rules : List Rule) (f : Function) wh
         (All-contains (λ x. MatchesAmong Before rules f x × Q x) ys n later.each has_n).1);
   }
 
-  -- told by another property of the same matches
+  -- by another property that the same matches have
   pub same_where : (P Q : Match → Type 0) (xs : List Match) → AreMatchesAmong Before rules f P xs
       → ((m : Match) → MatchesAmong Before rules f m → Q m → P m) → ((m : Match) → P m → Q m) → AreMatchesAmong Before rules f Q xs
   same_where P Q xs found back on = record {
@@ -92,7 +92,7 @@ module _ {Before : ℕ → ℕ → Type 0} (rules : List Rule) (f : Function) wh
     in_order = found.in_order;
   }
 
-  -- of all of one part and of those of the next that come before one of it, which are all of both that do
+  -- the matches of one part, and those of the next that come before one of it, are all of both parts that do
   pub joined_before : (P Q R : Match → Type 0) (chosen : Match) (xs ys : List Match) → Q chosen
       → AreMatchesAmong Before rules f P xs → AreMatchesAmong Before rules f (λ m. Q m × ComesBefore m chosen) ys
       → ((m n : Match) → P m → Q n → ComesBefore m n)
@@ -105,7 +105,7 @@ module _ {Before : ℕ → ℕ → Type 0} (rules : List Rule) (f : Function) wh
       (λ m p. (from_p m p, before m chosen p here))
       (λ m q. (from_q m q.0, q.1))
 
-  -- those that come before one of a list are those that stand before it
+  -- those that come before a match of a list are those in front of it
   module _ (P : Match → Type 0) (ms : List Match) (i : ℕ) (chosen : Match) (at : slice_get ms i ≡ Some chosen) (found : AreMatchesAmong Before rules f P ms) where
     size : length (take i ms) ≡ i
     size = (let within : i < length ms = slice_get_within ms i chosen at in length-take-le i ms (omega arith))
@@ -145,7 +145,7 @@ module _ {Before : ℕ → ℕ → Type 0} (rules : List Rule) (f : Function) wh
           (subst (ComesBefore (get_or ms j d)) (sym (get_or-take i ms k d early)) (found.in_order j k d less (omega (arith, early, whole))));
     }
 
--- all of which something holds that holds of all
+-- all matches with a property, where every match has it
 pub everywhere : (rules : List Rule) (f : Function) (P : Match → Type 0) (xs : List Match) → AreMatchesWhere rules f P xs → ((m : Match) → IsMatchAmong rules f m → P m) → AreMatches rules f xs
 everywhere rules f P xs found all = record {
   each = λ k d lt. (found.each k d lt).0;

@@ -84,7 +84,7 @@ module _ (rules : List Rule) (f : Function) where
         | inr last ↦ inr (of.0, of.1, sym last)
       ]
 
-  -- of all that may match
+  -- all rules that may match were tried
   pub each_rule : (b k : ℕ) (inst : Inst) (places : List ℕ) (i : ℕ) (found : List Match) → AreReady rules → IsInst f b k inst → AreCandidates rules inst.op places → length places ≤ i
       → AreMatchesInAnyOrder rules f (IsAtAmong b k (take i places)) found → AreMatchesInAnyOrder rules f (IsAt b k) found
   each_rule b k inst places i found ready at candidates past are =

@@ -1,4 +1,4 @@
--- What matches in whatever order instructions stand, in a function that meets its checks.
+-- Matches without regard to the order of instructions are matches in a function that meets its checks.
 use Rattle.std.proofs.Common.{List, get_or, Ok, Err}
 use Rattle.std.specs.Prelude.{IfOk, Result}
 use Rattle.ir_core.specs.Checks.{MeetsChecks}

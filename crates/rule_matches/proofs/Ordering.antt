@@ -1,4 +1,4 @@
--- Lists of matches in order are one list where they have the same matches.
+-- Two lists of the same matches in order are equal.
 use Rattle.std.proofs.Common.{◌≡◌, ◌⊎◌, inl, inr, ℕ, zero, suc, List, [], ◌∷◌, ◌++◌, take, drop, Some, refl, sym, ap, subst, ◌∙◌, arith}
 use Rattle.std.specs.Prelude.{AllPairs, Contains, slice_get}
 use Rattle.std.proofs.lemmas.List.Elements.{All-contains}
@@ -55,7 +55,7 @@ one_list (x ∷ xs) (y ∷ ys) in_xs in_ys on back =
     let rest : xs ≡ ys = one_list xs ys (pairs_later ComesBefore x xs in_xs) (pairs_later ComesBefore y ys in_ys) (goes_on x xs ys in_xs on') (goes_on x ys xs in_ys' back') in
     ap (λ (m : Match). m ∷ xs) same ∙ ap (λ (l : List Match). y ∷ l) rest
 
--- a list before a place, what stands there, and what is behind it
+-- a list is what is in front of an index, the item there, and what is behind it
 split_there : {X : Type 0} (xs : List X) (k : ℕ) (x : X) → slice_get xs k ≡ Some x → take k xs ++ x ∷ drop (suc k) xs ≡ xs
 split_there [] k x at = absurd cc
 split_there (y ∷ xs) zero x at = ap (λ z. z ∷ xs) (sym (same_Some y x at))

@@ -22,7 +22,7 @@ use Rattle.bindings.specs.Ready.{AreReady}
 use Rattle.bindings.specs.Matches.{MatchesAmong}
 use Rattle.rule_matches.specs.Roots.{kind_of_statement, kind_of_inst, kind_of_root, HasRootKind}
 
--- statements and instructions of one operation are of one kind
+-- statements and instructions with the same operation are of one kind
 kind_same : (s : RuleOp) (i : InstOp) → IsSameOperation s i → (kind : RootKind) × (kind_of_statement s ≡ Some kind) × (kind_of_inst i ≡ Some kind)
 kind_same (rule_ops.Binary opcode flags a b) (ops.Binary opcode' flags' x y) same = (Binary opcode, refl, ap (λ o. Some (Binary o)) (sym same))
 kind_same (rule_ops.Compare pred samesign a b) (ops.Compare pred' samesign' width x y) same = (Compare pred, refl, ap (λ o. Some (Compare o)) (sym same))
@@ -32,7 +32,7 @@ kind_same (rule_ops.Convert cast flags a to) (ops.Convert cast' flags' from x) s
 kind_same (rule_ops.Freeze a k) (ops.Freeze x) same = (Freeze, refl, refl)
 kind_same s i same = absurd same
 
--- what stands at the root of a match
+-- the root of a match: its rule's statement, and the instruction
 pub record RootStands (rules : List Rule) (f : Function) (m : Match) : Type 0 where
   pub inst : Inst
   pub is_inst : IsInst f m.binding.block m.binding.place inst
@@ -60,7 +60,7 @@ root_stands rules f m ready is = by (length is.rule.source - 1) (let some : 0 < 
           of_rule = (rule, is.is_rule, root ∙ same.1);
         }
 
--- what stands in a block stands before its end
+-- an instruction of a block is before the block's end
 pub before_end : (f : Function) (b k : ℕ) (inst : Inst) → IsInst f b k inst → k < end_of f b
 before_end f b k inst is =
     subst (λ (o : Option Block). k < unwrap_or (option_map (λ (block : Block). length block.insts) o) 0) (sym is.is_block) (slice_get_within is.block.insts k inst is.is_inst)

@@ -1,4 +1,4 @@
--- Rules by what their roots are.
+-- Rules by the operations of their roots.
 use Rattle.std.specs.Prelude.{◌≡◌, ◌↔◌, ℕ, ◌-◌, ◌<◌, List, length, Option, None, Some, Contains, AllPairs, slice_get, option_and_then}
 use Rattle.ir_core.specs.declared.instruction.Op.{Op as InstOp}
 use Rattle.ir_core.specs.declared.instruction.Op.TheVariants as ops
@@ -36,7 +36,7 @@ kind_of_root rule = option_and_then (λ s. kind_of_statement s.op) (slice_get ru
 abbrev pub HasRootKind : List Rule → RootKind → ℕ → Type 0
 HasRootKind rules kind r = (rule : Rule) × (slice_get rules r ≡ Some rule) × (kind_of_root rule ≡ Some kind)
 
--- these are the places of all rules whose root is of this kind, in order
+-- these are the indices of all rules whose root is of this kind, in order
 pub record AreOfKind (rules : List Rule) (kind : RootKind) (places : List ℕ) : Type 0 where
   pub same : (r : ℕ) → Contains places r ↔ HasRootKind rules kind r
   pub in_order : AllPairs (λ q r. q < r) places
@@ -45,13 +45,14 @@ pub record AreOfKind (rules : List Rule) (kind : RootKind) (places : List ℕ) :
 abbrev pub IsGroupOf : RulesByRoot → RootKind → ℕ → Type 0
 IsGroupOf all kind g = (group : Group) × (slice_get all.groups.items g ≡ Some group) × (group.kind ≡ kind)
 
--- each group has all rules of its kind, each kind that a rule has has a group, and no kind has two
+-- each group has all rules of its kind, each kind of a rule's root has a group, and no kind has two
 pub record AreByRoot (rules : List Rule) (all : RulesByRoot) : Type 0 where
   pub each : (g : ℕ) (group : Group) → slice_get all.groups.items g ≡ Some group → AreOfKind rules group.kind group.rules.items
   pub some : (r : ℕ) (kind : RootKind) → HasRootKind rules kind r → (g : ℕ) × IsGroupOf all kind g
   pub one : (kind : RootKind) (g h : ℕ) → IsGroupOf all kind g → IsGroupOf all kind h → g ≡ h
 
--- these are the places of all rules that may match at this instruction, in order, and perhaps none
+-- these are the indices of the rules that may match at this instruction, in order: all whose root is of its kind, and
+-- none where it has no kind
 pub record AreCandidates (rules : List Rule) (op : InstOp) (places : List ℕ) : Type 0 where
   pub same : (r : ℕ) → Contains places r ↔ ((kind : RootKind) × (kind_of_inst op ≡ Some kind) × HasRootKind rules kind r)
   pub in_order : AllPairs (λ q r. q < r) places

@@ -2,8 +2,8 @@
 
 ghost use Rattle.rule_matches.specs.Laws.{MatchesBeforeStandFirst};
 
-/// Every list of all matches begins with those that come before one of them, and goes on with that one: so a search
-/// that ends there has come by what it would have come by in the list.
+/// Every list of all matches begins with those that come before one of them, followed by that one: so a search that
+/// ends at this match has gone through what comes before it in the list.
 pub fn matches_before_stand_first()
     ensures { MatchesBeforeStandFirst }
 {}

@@ -1,8 +1,7 @@
-//! Where the rules of a file match in a function, in the order in which a search comes to them.
+//! Where the rules of a file match in a function, in the order in which a search finds the matches.
 //!
-//! `Matches` of `bindings` says which matches a function has, and in which order. The definitions in `specs/`: `Roots`
-//! says which rules may match at an instruction, and `Laws` what holds of the order of matches. `Found` serves the
-//! private functions.
+//! `Matches` of `bindings` says which matches a function has, and in which order. In `specs/`, `Roots` says which rules
+//! may match at an instruction, and `Laws` what holds of the order of matches. `Found` serves the private functions.
 #![tactic(auto)]
 
 mod laws;

@@ -26,7 +26,7 @@ pub struct Rules<'a> {
 
 /// All matches of the rules at an instruction, in the order of the rules.
 ///
-/// Only those rules are tried whose root is of its kind. The only error is want of memory.
+/// Only rules whose root is of the instruction's kind are tried. The only error is want of memory.
 pub fn matches_at(
     alloc: Global,
     f: &Function,
@@ -47,7 +47,7 @@ pub fn matches_at(
     matches_in_any_order(alloc, f, facts, rules, block, place)
 }
 
-/// The same of a function of which it isn't told in which order its instructions stand.
+/// The same without regard to the order of instructions in the block, as in the arena of a draft.
 pub fn matches_in_any_order(
     alloc: Global,
     f: &Function,

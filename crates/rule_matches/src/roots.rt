@@ -1,4 +1,4 @@
-//! Rules, found by what their roots are.
+//! Rules, indexed by the operations of their roots.
 
 ghost use Rattle.std.specs.Prelude.{◌≡◌, ◌<◌, ◌^◌, IsTrue, ℕ, ◌++◌, ◌∷◌, [], List as Seq, length, IfSome, IfNone, IfOk, OnOk};
 ghost use Rattle.rule_matches.specs.Roots.{AreByRoot, AreCandidates, IsGroupOf, kind_of_inst, kind_of_root, kind_of_statement};
@@ -8,7 +8,8 @@ use ops::{Cast, Opcode, Pred, Unary};
 use rule_core::{Op as RuleOp, Rule};
 use std::alloc::{AllocError, Global};
 
-/// What an instruction does that a rule's root may match. There are 36 of them.
+/// What an instruction and a rule's root have to share so that the rule may match: an opcode, a predicate, an intrinsic
+/// or a cast, or that both are a select or a freeze. There are 36 of them.
 #[derive(Clone, Copy, PartialEq, Eq)]
 pub enum RootKind {
     Binary(Opcode),
@@ -23,18 +24,18 @@ pub enum RootKind {
 #[derive(Drop)]
 pub struct Group {
     pub kind: RootKind,
-    /// The places of the rules.
+    /// The indices of the rules.
     pub rules: Vec<u32>,
 }
 
 /// Rules by the kinds of their roots, so that at an instruction only those are tried that may match. There are at most
-/// as many groups as kinds, so finding one takes as long however many rules there are.
+/// as many groups as kinds, so the time to find one doesn't depend on how many rules there are.
 #[derive(Drop)]
 pub struct RulesByRoot {
     pub groups: Vec<Group>,
 }
 
-/// What a statement of a source does.
+/// The kind of a statement of a source.
 fn kind_of_statement(op: RuleOp) -> Option<RootKind>
     ensures { result ≡ kind_of_statement op }
 {
@@ -49,7 +50,7 @@ fn kind_of_statement(op: RuleOp) -> Option<RootKind>
     }
 }
 
-/// What the root of a rule does.
+/// The kind of a rule's root.
 fn kind_of_root(rule: &Rule) -> Option<RootKind>
     ensures { result ≡ kind_of_root rule.now }
 {
@@ -57,7 +58,7 @@ fn kind_of_root(rule: &Rule) -> Option<RootKind>
     kind_of_statement(root.op)
 }
 
-/// What an instruction does, if a rule may match it.
+/// The kind of an instruction, if a rule may match it.
 fn kind_of_inst(op: &Op) -> Option<RootKind>
     ensures { result ≡ kind_of_inst op.now }
 {
@@ -94,7 +95,7 @@ impl RulesByRoot {
         Ok(all)
     }
 
-    /// Adds the rule behind those that were added, of which there are so many.
+    /// Adds a rule behind those that were added, which are so many.
     fn add(&mut self, alloc: Global, count: u32, rule: &Rule) -> Result<(), AllocError>
         ensures { OnOk result ((rules : Seq Rule) → length rules ≡ count → AreByRoot rules self.old → AreByRoot (rules ++ rule.now ∷ []) self.new) }
     {
@@ -112,7 +113,7 @@ impl RulesByRoot {
         Ok(())
     }
 
-    /// Where the group of a kind stands, if there is one.
+    /// The index of the group of a kind, if there is one.
     fn place_of(&self, kind: RootKind) -> Option<usize>
         ensures some { IfSome result (IsGroupOf self.now kind) }
         ensures none { IfNone result ((g : ℕ) → ¬ IsGroupOf self.now kind g) }
@@ -122,7 +123,7 @@ impl RulesByRoot {
             .position(|group| are_same(group.kind, kind))
     }
 
-    /// The places of the rules that may match at an instruction, in order.
+    /// The indices of the rules that may match at an instruction, in order.
     pub fn at(&self, op: &Op) -> &[u32]
         ensures { (rules : Seq Rule) → AreByRoot rules self.now → AreCandidates rules op.now result.now }
     {

@@ -13,7 +13,7 @@ use Rattle.bindings.proofs.temporaries.measuring_nodes.Goals.{then-measures_temp
 read : List Term → ℕ → Term
 read terms i = get_or terms i (record { class = 0; node = nodes.Literal (pos 0) })
 
--- the node that is read at a place stands there
+-- the node that is read is the one with this index
 stands : (rule : Rule) (terms : List Term) (i : ℕ) → terms ≡ rule.terms → i < length terms → slice_get rule.terms i ≡ Some (read terms i)
 unfolding read
 stands rule terms i same within = ap (λ ts. slice_get ts i) (sym same) ∙ slice_get-get_or terms i (record { class = 0; node = nodes.Literal (pos 0) }) within

@@ -1,4 +1,4 @@
--- those of the first places are listed
+-- the list has the new places of what reads the root before this place
 use Rattle.changes.specs.Listing.{IsPutFor, ListedTo, ReadsRoot}
 use Rattle.changes.specs.Places.{AreAscending}
 use Rattle.substitution.specs.declared.rewrite.Rewrite.{Rewrite}

@@ -12,7 +12,7 @@ use Rattle.changes.proofs.Cleaned as cleaned
 use Rattle.changes.proofs.Few.{AreFew, as_many_kept, few_kept}
 use Rattle.changes.proofs.cleaning.clean_at.Goals as goal
 
--- a function that a copy was of was cleaned
+-- a copy of the function was cleaned
 cleaned_from : (f copy new : Function) → copy ≡ f → IsCleaned copy new → IsCleaned f new
 cleaned_from f copy new same is = subst (λ (g : Function). IsCleaned g new) same is
 

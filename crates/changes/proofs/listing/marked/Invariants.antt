@@ -1,4 +1,4 @@
--- those of the first blocks are listed
+-- the list has the marked places of the blocks before this one
 use Rattle.changes.specs.Listing.{IsIn, ListedTo}
 use Rattle.changes.specs.Places.{AreAscending}
 use Rattle.changes.proofs.listing.marked.Given as goal

@@ -1,4 +1,4 @@
--- those of the first places are listed
+-- the list has the marked places before this one
 use Rattle.changes.specs.Listing.{IsIn, ListedTo}
 use Rattle.changes.specs.Places.{AreAscending}
 use Rattle.changes.proofs.listing.push_marked.Given as goal

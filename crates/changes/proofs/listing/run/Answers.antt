@@ -4,7 +4,7 @@ use Rattle.changes.specs.Places.{AreAscending}
 use Rattle.changes.proofs.Ascending.{one_more}
 use Rattle.changes.proofs.listing.run.Goals as goal
 
--- places of a block from one on, up to another
+-- the places of a block from one on, as many
 abbrev IsAmong : ℕ → ℕ → ℕ → ℕ → ℕ → Type 0
 IsAmong block first end b k = (b ≡ block) × (first ≤ k) × (k < end)
 

@@ -1,4 +1,4 @@
--- the first of them are listed
+-- the list has the first of them
 use Rattle.std.proofs.Common.{◌≡◌, ◌+◌, ◌<◌, ◌≤◌}
 use Rattle.changes.specs.Places.{AreAscending}
 use Rattle.changes.proofs.listing.run.Given as goal

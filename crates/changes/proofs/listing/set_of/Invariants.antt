@@ -1,4 +1,4 @@
--- the first places are in the set
+-- the set has the first places
 use Rattle.std.proofs.Common.{◌≡◌, ◌↔◌, ℕ, length, take}
 use Rattle.std.specs.Prelude.{Contains}
 use Rattle.places.specs.Sets.{Has}

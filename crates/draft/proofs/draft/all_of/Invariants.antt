@@ -1,4 +1,4 @@
--- the marks of the blocks so far
+-- the flags of the blocks so far
 use Rattle.std.proofs.Common.{◌≡◌, map, take, length, true}
 use Rattle.std.specs.Prelude.{replicate}
 use Rattle.draft.proofs.draft.all_of.Given as goal

@@ -1,4 +1,4 @@
--- the blocks before the index are placed
+-- the blocks before the index are done
 use Rattle.draft.specs.Placing.{at_places}
 use Rattle.draft_function.proofs.Placed.{BlocksPlaced}
 use Rattle.draft_function.proofs.placing.place_blocks.Given as goal

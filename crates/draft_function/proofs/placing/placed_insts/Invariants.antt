@@ -1,4 +1,4 @@
--- the instructions of the numbers before the index are placed
+-- the instructions of the numbers before the index are moved out
 use Rattle.draft.specs.Placing.{at_places}
 use Rattle.draft_function.proofs.Placed.{InstsPlaced}
 use Rattle.draft_function.proofs.placing.placed_insts.Given as goal

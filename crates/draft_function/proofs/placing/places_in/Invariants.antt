@@ -1,4 +1,4 @@
--- each of the numbers before the index has its place
+-- the table has the position of each number before the index
 use Rattle.draft_function.proofs.Placed.{PlacesKept}
 use Rattle.draft_function.proofs.placing.places_in.Given as goal
 

@@ -1,4 +1,4 @@
--- the numbers of the blocks before this one have their places
+-- the tables of the blocks before this one are made
 use Rattle.draft_function.proofs.Placed.{TablesKept}
 use Rattle.draft_function.proofs.placing.places_of.Given as goal
 

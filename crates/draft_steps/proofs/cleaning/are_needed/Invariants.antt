@@ -4,6 +4,6 @@ use Rattle.needed.specs.Needed.{IsNeeded}
 use Rattle.draft.specs.Drafts.{Stands}
 use Rattle.draft_steps.proofs.cleaning.are_needed.Given as goal
 
--- those before this one are, where they stand
+-- those before this one are live, where they stand
 abbrev pub invariant-loop-register : goal.invariant-loop-register
 invariant-loop-register l = All (λ r. (b n : ℕ) → r ≡ registers.Result b n → Stands l.draft b n → IsNeeded l.draft.arena r) (take l.register-index l.used)

@@ -5,7 +5,7 @@ use Rattle.draft.specs.Drafts.{Stands}
 use Rattle.draft_steps.proofs.Taking.{stands_marks}
 use Rattle.draft_steps.proofs.cleaning.is_standing.Goals as goal
 
--- whether a number is marked, where its row is this one
+-- the flag of a number, read from this row
 marked_is : (stand deref : List (List Bool)) (row slice : List Bool) (block number b n : ℕ) (mark : Bool) → mark ≡ get_or slice number false → slice ≡ row → row ≡ get_or deref block [] → deref ≡ stand → block ≡ b → number ≡ n
     → mark ≡ get_or (get_or stand b []) n false
 marked_is stand deref row slice block number b n mark is at row_is same block_is number_is =

@@ -3,7 +3,7 @@ use Rattle.draft.specs.Drafts.{Stands}
 use Rattle.draft_steps.proofs.Lessening.{IsLess}
 use Rattle.draft_steps.proofs.cleaning.take_all.Given as goal
 
--- those before this one stand no more
+-- those before this one are removed
 abbrev pub invariant-loop-block : goal.invariant-loop-block
 invariant-loop-block l =
     record {

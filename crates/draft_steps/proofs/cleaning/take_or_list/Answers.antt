@@ -21,7 +21,7 @@ take_out-requires-clause-at c =
     let stands : Stands c.args.draft.now c.in-Result.block c.in-Result.number = (c.if-is_standing.ensures.result c.in-Result.block c.in-Result.number refl).0 refl in
     stands_there c.args.draft.now c.requires c.in-Result.block c.in-Result.number stands
 
--- one more behind others
+-- one more is appended
 more : (fallen used : List Register) (x r : Register) → Contains (fallen ++ used) r ⊎ (r ≡ x) → Contains (fallen ++ (used ++ x ∷ [])) r
 more fallen used x r (inl old) =
     elim (Contains-append_cases fallen used r old) [
@@ -63,7 +63,7 @@ returns-in_default-clause-cleaning c = λ f rows roots all is.
       | inr it ↦ inr (inr (λ b n e stands. c.in_default.not-Result b n (sym it ∙ e)))
     ]) is
 
--- ---- what is used is there
+-- ---- an instruction whose register has uses stays
 
 one_more_there : (d : Draft) (used : List Register) (block number : ℕ) → HaveInsts d used → HasInst d.arena block number → HaveInsts d (used ++ registers.Result block number ∷ [])
 one_more_there d used block number had inst b n has =

@@ -35,7 +35,7 @@ loop-register-smaller c =
     let longer = length_push c.next_fallen.new.draft.fallen.items c.in-Some.register in
     omega arith
 
--- ---- nothing fell
+-- ---- an empty worklist
 
 pub returns-clause-cleaning : goal.returns-clause-cleaning
 returns-clause-cleaning c = λ f rows is.

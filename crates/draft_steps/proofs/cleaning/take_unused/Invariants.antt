@@ -6,7 +6,7 @@ use Rattle.draft.specs.Whole.{IsWhole}
 use Rattle.draft.specs.declared.draft.Draft.{Draft}
 use Rattle.draft_steps.proofs.cleaning.take_unused.Given as goal
 
--- what fell and what is listed wait
+-- what held with the registers on the worklist and the listed ones at first holds with those that there are
 abbrev pub invariant-loop-register : goal.invariant-loop-register
 invariant-loop-register l =
     record {
@@ -19,6 +19,6 @@ invariant-loop-register l =
       read : AreRead l.initial.draft l.initial.draft.fallen.items → AreRead l.draft l.draft.fallen.items;
     }
 
--- each operand falls once
+-- an operand of a removed instruction goes on the worklist once
 abbrev pub decreases-loop-register : goal.decreases-loop-register
 decreases-loop-register l = registers_read l.draft.arena + length l.draft.fallen.items

@@ -1,4 +1,4 @@
--- The tables get a row for the instruction, and then its operands are counted and listed.
+-- The tables get an entry for the instruction, and then its operands are counted and listed.
 use Rattle.std.proofs.Common.{◌≡◌, ◌∙◌, ◌+◌, ◌<◌, ◌≤◌, ◌^◌, ℕ, Bool, true, inl, List, [], ◌∷◌, ◌++◌, All, Contains, ap, get_or, length, refl, slice_set, sym, subst, arith}
 use Rattle.std.proofs.lemmas.List.Elements.{All-contains}
 use Rattle.std.proofs.lemmas.Option.{slice_get-get_or, slice_get_within}

@@ -3,7 +3,7 @@ use Rattle.ir_core.specs.declared.operand.Operand.TheVariants as operands
 use Rattle.needed.specs.Needed.{IsNeeded}
 use Rattle.draft_steps.proofs.leading.leads_to_a_terminator.Given as goal
 
--- the register leads to this one
+-- if this register is live, the first one is
 abbrev pub invariant-loop-reader : goal.invariant-loop-reader
 invariant-loop-reader l =
     record {

@@ -3,7 +3,7 @@ use Rattle.places.specs.Sets.{Has}
 use Rattle.places.specs.Waiting.{IsArranged}
 use Rattle.draft_steps.proofs.queue.insert_all.Given as goal
 
--- the places before this one are in
+-- the places before this one are on the worklist
 abbrev pub invariant-loop-place : goal.invariant-loop-place
 invariant-loop-place l =
     record {

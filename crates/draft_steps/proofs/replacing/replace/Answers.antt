@@ -1,4 +1,4 @@
--- What reads the register is replaced place by place.
+-- The uses of the register are replaced place by place.
 use Rattle.std.proofs.Common.{◌≡◌, ◌+◌, ◌<◌, ◌≤◌, ◌∙◌, ◌∷◌, ℕ, suc, List, Bool, Contains, ap, drop, length, sym, subst, arith, drop-cons}
 use Rattle.std.proofs.lemmas.List.{drop_all}
 use Rattle.std.proofs.lemmas.Option.{slice_get-get_or}

@@ -1,4 +1,4 @@
--- the operand is put at the places before this one
+-- the uses at the places before this one are replaced
 use Rattle.std.proofs.Common.{drop}
 use Rattle.draft.proofs.ReplacedAt.{IsReplacing}
 use Rattle.draft_steps.proofs.replacing.replace.Given as goal

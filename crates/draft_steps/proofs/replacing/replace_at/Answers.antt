@@ -39,7 +39,7 @@ swap_at-requires-clause-inst c = λ block at.
     let (x, is, inside) = c.requires.place in
     subst (λ (b : Block). (c.args.place.number < length b.insts) ⊎ (c.args.place.number ≡ none)) (same_Some x block (sym is ∙ at)) inside
 
--- what is read at the place then is known
+-- what is read at the place after the replacement is known
 reads_known : (old : Draft) (whole : IsWhole old) (from : Register) (to : Operand) (p : Place) (blocks : List Block) → IsPlaceIn old.arena p → IsKnown old.arena to → (with_blocks old blocks).arena ≡ replaced_at old.arena p from to
     → (r : Register) → Contains (operands_at (with_blocks old blocks).arena p) (operands.Register r) → IsKnown old.arena (operands.Register r)
 reads_known old whole from to p blocks inside known arena r there =

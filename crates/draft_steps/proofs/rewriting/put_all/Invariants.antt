@@ -3,7 +3,7 @@ use Rattle.std.specs.Vec.Iter.{into_iter_items}
 use Rattle.draft_steps.proofs.PutAll.{ArePut}
 use Rattle.draft_steps.proofs.rewriting.put_all.Given as goal
 
--- those so far were put, and the others are left
+-- the instructions so far were inserted, and the others are left
 abbrev pub invariant-loop-inst : goal.invariant-loop-inst
 invariant-loop-inst l =
     record {

@@ -21,7 +21,7 @@ use Rattle.draft_steps.proofs.WhoReads.{end_of-is}
 use Rattle.draft.proofs.Wholeness.{stands_there}
 use Rattle.draft_steps.proofs.rewriting.rewrite_draft.Goals as goal
 
--- the rewrite of a binding that names the next number
+-- the rewrite by the binding whose root has the next number
 same_rewrite : (rule : Rule) (f : Function) (m next : Binding) (w : Rewrite) (name root : Name) (count : ℕ) → w ≡ target.rewrite_of rule next name → next ≡ record m { place = count } → count ≡ end_of f m.block → name ≡ root
     → w ≡ target.rewrite_of rule (numbered f m) root
 same_rewrite rule f m next w name root count is next_is count_is name_is =
@@ -31,7 +31,7 @@ if_ok : {T E : Type 0} (P Q : T → Type 0) (r : Result T E) → ((x : T) → P 
 if_ok P Q (Ok x) follows h = follows x h
 if_ok P Q (Err e) follows h = h
 
--- as many numbers as a rule takes are left
+-- there are numbers left for the instructions of one rule
 room_there : (d : Draft) (b : ℕ) (block : Block) → HasRoomFor 1 d → IsBlock d.arena b block → length block.insts + 32 ≤ 4294967295
 room_there d b block room is =
     let here = room b block (slice_get_within d.arena.blocks b block is) in

@@ -4,7 +4,7 @@ use Rattle.places.specs.declared.place.Place.{Place}
 use Rattle.draft_steps.proofs.Touching.{IsTold}
 use Rattle.draft_steps.proofs.stepping.push_used.Given as goal
 
--- the places of those before this one are put
+-- the places of the registers before this one with exactly one use are appended
 abbrev pub invariant-loop-register : goal.invariant-loop-register
 invariant-loop-register l =
     record {

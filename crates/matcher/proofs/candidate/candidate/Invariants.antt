@@ -1,4 +1,4 @@
--- what the statements from this one on name is known
+-- the slots of the statements from this one on are filled with what a match has
 use Rattle.bindings.specs.Match.{MatchesInAnyOrder}
 use Rattle.matcher.specs.Slots.{AreSlotsOf, KnowsFrom}
 use Rattle.bindings.specs.declared.binding.Binding.{Binding}

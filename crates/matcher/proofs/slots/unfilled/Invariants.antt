@@ -1,4 +1,4 @@
--- so many so far
+-- the slots so far, all empty
 use Rattle.std.proofs.Common.{◌≡◌, vec_len}
 use Rattle.matcher.proofs.slots.unfilled.Given as goal
 

@@ -1,4 +1,4 @@
--- Below the label of each number there is room, and more where labels are given out anew.
+-- Each label is above its predecessor's, and by more than 1 once labels are given anew.
 use Rattle.std.proofs.Common.{◌≡◌, ap, ◌∙◌, arith}
 use Rattle.places.specs.declared.links.Node.{Node}
 use Rattle.places.specs.Links.{node_of, numbers_from}

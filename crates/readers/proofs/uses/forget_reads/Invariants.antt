@@ -1,4 +1,4 @@
--- the operands so far are counted no more
+-- the counts of the operands so far are taken back
 use Rattle.std.proofs.Common.{take}
 use Rattle.readers.specs.Counts.{AreCounted, operands_at}
 use Rattle.readers.proofs.uses.forget_reads.Given as goal

@@ -1,4 +1,4 @@
--- the place is listed for the operands so far
+-- the place is in the use lists of the operands so far
 use Rattle.std.proofs.Common.{take}
 use Rattle.readers.specs.Counts.{operands_at}
 use Rattle.readers.specs.Readers.{AreListed}

@@ -1,4 +1,4 @@
--- the registers so far are behind the others, and there is room for the rest
+-- the registers so far are appended, and there is room for the rest
 use Rattle.std.proofs.Common.{◌≡◌, ◌+◌, ◌≤◌, ◌++◌, length, take, vec_capacity, vec_len}
 use Rattle.std.specs.List.{filter_map}
 use Rattle.readers.specs.Counts.{operands_at, register_of}

@@ -1,4 +1,4 @@
--- so many lists without elements
+-- so many empty lists
 use Rattle.std.proofs.Common.{◌≡◌, []}
 use Rattle.std.specs.Prelude.{replicate}
 use Rattle.readers.proofs.uses.rows.Given as goal

@@ -9,7 +9,7 @@ use Rattle.rewriter.proofs.Readying.{statement_ready}
 use Rattle.rewriter.proofs.insts.results_put.Goals as goal
 use Rattle.rewriter.proofs.insts.results_put.Goals.{then-not-is_copy, else-not-is_copy}
 
--- a statement that is read at a place stands there
+-- the statement that is read is the one with this index
 stands : (target slice : List Statement) (k : ℕ) (s : Statement) → slice ≡ target → k < length target → s ≡ get_or slice k s → slice_get target k ≡ Some s
 stands target slice k s same within is = slice_get_read target (length target) k s refl within (rw same at is)
 

@@ -1,4 +1,4 @@
--- Each instruction stands at the place of its number.
+-- Every instruction stands, and its number is its position.
 use Rattle.draft.specs.declared.draft.Draft.{Draft}
 use Rattle.draft.specs.declared.draft.Tables.{Tables}
 use Rattle.draft.proofs.Fresh.{few_of, function_itself, settled_at_first, stands_all}

@@ -29,7 +29,7 @@ empty_arranged orders w blocks unmarked none = record {
   };
 }
 
--- the blocks before this one, and it where it is reached
+-- the worklist has all that stands in reached blocks before this one
 abbrev Added : Draft → ℕ → Queue → Type 0
 Added d block q = (b n : ℕ) → Waits q b n ↔ ((b < block) × IsReached d.arena b × Stands d b n)
 

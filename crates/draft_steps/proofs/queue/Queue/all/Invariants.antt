@@ -6,7 +6,7 @@ use Rattle.draft_steps.specs.Queues.{Waits}
 use Rattle.places.specs.Waiting.{IsArranged}
 use Rattle.draft_steps.proofs.queue.Queue.all.Given as goal
 
--- the places of the reached blocks before this one are in
+-- the instructions of the reached blocks before this one are on the worklist
 abbrev pub invariant-loop-block : goal.invariant-loop-block
 invariant-loop-block l =
     record {

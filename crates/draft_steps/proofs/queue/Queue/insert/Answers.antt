@@ -1,4 +1,4 @@
--- The set keeps its blocks, so the walk stays idle.
+-- The set has as many blocks as before, so the search still fits it.
 use Rattle.std.proofs.Common.{sym, subst, ◌∙◌}
 use Rattle.places.specs.Heaps.{IsNumbered}
 use Rattle.places.specs.Sets.{IsAdded}

@@ -16,7 +16,7 @@ insert-requires-clause-place c =
     let stands = c.stands.ensures.0 c.if-stands.true in
     inst-numbered c.args.draft.now (record { block = c.args.block; number = c.loop-number.number }) c.requires.whole (stands_there c.args.draft.now c.requires.whole c.args.block c.loop-number.number stands)
 
--- what waited, and of the block what stands with a number below this one
+-- the worklist has what it had, and all that stands in the block with a number below this one
 abbrev Added : Draft → Queue → ℕ → ℕ → Queue → Type 0
 Added d first block number q = (b n : ℕ) → Waits q b n ↔ (Waits first b n ⊎ ((b ≡ block) × (n < number) × Stands d b n))
 

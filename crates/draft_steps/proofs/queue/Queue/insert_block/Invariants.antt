@@ -5,7 +5,7 @@ use Rattle.draft_steps.specs.Queues.{Waits}
 use Rattle.places.specs.Waiting.{IsArranged}
 use Rattle.draft_steps.proofs.queue.Queue.insert_block.Given as goal
 
--- the numbers before this one are in, where they stand
+-- the numbers before this one are on the worklist, where they stand
 abbrev pub invariant-loop-number : goal.invariant-loop-number
 invariant-loop-number l =
     record {

@@ -1,4 +1,4 @@
--- What the walk came to is put in, and forgotten.
+-- What the search found is added, and the search forgets it.
 use Rattle.std.proofs.Common.{ℕ, inl, inr, All, Contains, sym, subst, ◌∙◌}
 use Rattle.std.proofs.lemmas.List.Elements.{All-contains}
 use Rattle.places.specs.declared.place.Place.{Place}

@@ -4,7 +4,7 @@ use Rattle.places.specs.Heaps.{place_at}
 use Rattle.draft_steps.specs.Walks.{Came, CameOnlyTo, IsFurther, IsWalk, StandsAtOneOf}
 use Rattle.draft_steps.proofs.walk.Walk.come_to_all.Given as goal
 
--- it came to the places before this one
+-- the places before this one are found
 abbrev pub invariant-loop-place : goal.invariant-loop-place
 invariant-loop-place l =
     record {

@@ -17,7 +17,7 @@ use Rattle.draft.proofs.Wholeness.{stands_there}
 use Rattle.draft_steps.proofs.walk.Walk.come_to_readers.Goals as goal
 use Rattle.draft_steps.proofs.walk.Walk.come_to_readers.Goals.{then-reader-place+in_ok-come_to, else-reader-place}
 
--- it came to this place, if it stands in the block
+-- this place is found, if an instruction of the block stands there
 abbrev CameIn : Draft → ℕ → Walk → Place → Type 0
 CameIn d b w p = p.block ≡ b → Stands d p.block p.number → Came w p.block p.number
 
@@ -28,7 +28,7 @@ one_more d b places was now index further so_far this k below = elim (cases_eq i
   | inr ne ↦ λ same stands. came-further was now (place_at places k).block (place_at places k).number further (so_far k (omega arith) same stands)
 ]
 
--- what reads a register of the draft with fewer listed for it reads it
+-- a place that reads a register in the draft with trimmed use lists reads it in the draft as it was
 reads_here : (old new : Draft) (same : IsSameDraft old new) (place p : Place) → p.block ≡ place.block → IsReader new.arena (registers.Result place.block place.number) p
     → (b n : ℕ) → StandsAt new p b n → ReadsHere old place b n
 reads_here old new same place p here reads b n (stands, is) = (

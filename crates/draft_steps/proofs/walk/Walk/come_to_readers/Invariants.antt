@@ -4,7 +4,7 @@ use Rattle.places.specs.Heaps.{place_at}
 use Rattle.draft_steps.specs.Walks.{Came, CameOnlyTo, IsFurther, IsWalk, ReadsHere}
 use Rattle.draft_steps.proofs.walk.Walk.come_to_readers.Given as goal
 
--- it came to the readers before this one that stand in the block
+-- the users before this one that stand in the block are found
 abbrev pub invariant-loop-reader : goal.invariant-loop-reader
 invariant-loop-reader l =
     record {

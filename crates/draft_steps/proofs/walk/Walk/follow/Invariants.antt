@@ -3,7 +3,7 @@ use Rattle.places.specs.Heaps.{place_at}
 use Rattle.draft_steps.specs.Walks.{CameOnlyTo, IsFurther, IsSameDraft, IsWalk, ReadersCame, ReadsOneOf}
 use Rattle.draft_steps.proofs.walk.Walk.follow.Given as goal
 
--- it came to what reads the places before this one
+-- the users of the places before this one are found
 abbrev pub invariant-loop-index : goal.invariant-loop-index
 invariant-loop-index l =
     record {

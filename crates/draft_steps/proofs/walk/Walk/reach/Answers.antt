@@ -17,7 +17,7 @@ use Rattle.draft_steps.proofs.WalkSteps.{came-further, only-more}
 use Rattle.draft.proofs.Wholeness.{few_insts, stands_there}
 use Rattle.draft_steps.proofs.walk.Walk.reach.Goals as goal
 
--- what was read before the last level, and then what it came to at it
+-- the users of all that was found before are found: of earlier levels, and of the last one
 readers_next : (old mid : Draft) (same : IsSameDraft old mid) (was now : Walk) (next end : ℕ) → IsFurther was now → end ≤ length was.found.items → next ≤ end
     → ((k : ℕ) → k < next → ReadersCame old was (place_at was.found.items k))
     → ((k : ℕ) → next ≤ k → k < end → ReadersCame mid now (place_at was.found.items k))
@@ -29,7 +29,7 @@ readers_next old mid same was now next end further within low before at_last k b
       | inr late ↦ readers-by old mid same now (place_at was.found.items k) (at_last k (omega arith) below)
     ])
 
--- so it came to what reaches a place through one operand more
+-- so the instructions are found from which chains of one operand more lead to the places
 reached_next : (d : Draft) (settled : IsSettled d) (was now : Walk) (level b m : ℕ) → IsFurther was now
     → ((k : ℕ) → k < length was.found.items → ReadersCame d now (place_at now.found.items k))
     → ((n : ℕ) → Stands d b n → Reaches d level b n m → Came was b n)
@@ -56,7 +56,7 @@ reaches_more d zero b n m same = inl same
 reaches_more d (suc depth) b n m (inl same) = inl same
 reaches_more d (suc depth) b n m (inr (k, i, r, stands, is_read, operand, rest)) = inr (k, i, r, stands, is_read, operand, reaches_more d depth b k m rest)
 
--- what reads one that reaches a place reaches it through one operand more
+-- a user of an instruction reads, by a chain of one operand more, from whatever that reads from
 reads_reaches : (d : Draft) (settled : IsSettled d) (level : ℕ) (places : List Place) (p : Place) (b n : ℕ) → ReachesOneOf d level places p.block p.number → ReadsHere d p b n → ReachesOneOf d (suc level) places b n
 reads_reaches d settled level places p b n (q, among, same, stood, reaches) (here, stands, reads) =
     let stands_here : Stands d p.block n = subst (λ (x : ℕ). Stands d x n) here stands in

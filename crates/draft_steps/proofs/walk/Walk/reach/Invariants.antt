@@ -5,8 +5,8 @@ use Rattle.places.specs.Heaps.{place_at}
 use Rattle.draft_steps.specs.Walks.{Came, IsSameDraft, IsWalk, ReachesOneOf, ReadersCame}
 use Rattle.draft_steps.proofs.walk.Walk.reach.Given as goal
 
--- it came to what reaches the places through so many operands, and to what reads all that it came to before the last
--- level
+-- what reads from the places through chains of so many operands is found, and so are the users of all that was found
+-- before the last level
 abbrev pub invariant-loop-level : goal.invariant-loop-level
 invariant-loop-level l =
     record {

@@ -1,4 +1,4 @@
--- the operands so far are known
+-- the slots of the operands so far are filled with what a match has
 use Rattle.std.proofs.Common.{◌≡◌, ℕ, ◌<◌, Some}
 use Rattle.std.specs.Prelude.{slice_get}
 use Rattle.rule_core.specs.Positions.{operands_of}

@@ -1,4 +1,4 @@
--- The new number is linked in behind what stood before the other.
+-- The new number is linked in between `at` and its predecessor.
 use Rattle.std.proofs.Common.{◌≡◌, ◌<◌, cond, eqb, [], ◌∷◌, ◌++◌, length, take, drop, sym, ap, subst, ◌∙◌, arith}
 use Rattle.std.proofs.lemmas.List.{take_at}
 use Rattle.places.specs.declared.links.Node.{Node}

@@ -1,4 +1,4 @@
--- The labels that make room leave the links as they are.
+-- Giving new labels leaves the links as they are.
 use Rattle.std.proofs.Common.{length, drop, sym, ap, subst, arith}
 use Rattle.std.proofs.lemmas.List.{take_at}
 use Rattle.places.specs.Orders as numbers

@@ -1,4 +1,4 @@
--- the instructions so far are listed
+-- the instructions so far are in the use lists
 use Rattle.readers.proofs.Listed.{AreListedBelow}
 use Rattle.readers.proofs.uses.Readers.list_block.Given as goal
 

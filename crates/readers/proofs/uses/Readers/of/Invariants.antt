@@ -1,4 +1,4 @@
--- the blocks so far are listed
+-- the blocks so far are in the use lists
 use Rattle.readers.proofs.Listed.{AreListedBefore}
 use Rattle.readers.proofs.uses.Readers.of.Given as goal
 
