@@ -1,4 +1,4 @@
--- How the values of a graph's gates stand to one another, and what a new gate leaves as it was.
+-- The values of a graph's gates, and which of them stay the same when a gate is added.
 use Rattle.std.proofs.Common.{◌≡◌, ℕ, zero, suc, ◌+◌, ◌≤◌, Bool, false, not, cond, List, [], ◌∷◌, ◌++◌, length, get_or, drop, replicate, Some, refl, sym, ap, ◌∙◌, subst, arith, length-drop, append_assoc, append-nil}
 use Rattle.std.specs.Prelude.{fold, slice_get}
 use Rattle.std.proofs.lemmas.List.{get_or_append_left, get_or_at, length_push, length-replicate}
@@ -11,7 +11,7 @@ use Rattle.aig.specs.declared.gate.Gate.{Gate}
 use Rattle.aig.specs.declared.gate.Gate.TheVariants.{And, Xor, Mux}
 use Rattle.aig.specs.Graph.{Graph, IsAmong, IsOwn, OperandsAmong, IsInOrder, node_value, literal_value, gate_value, gate_values, value_of, graph_state}
 
--- more inputs leave each operand older
+-- a node that is among so many inputs is among more
 
 IsAmong-more : (n m k : ℕ) → n ≤ m → (node : Node) → IsAmong n k node → IsAmong m k node
 IsAmong-more n m k le One own = tt
@@ -27,7 +27,7 @@ OperandsAmong-more n m k le (Mux c a b) own =
 pub still_in_order : (n m : ℕ) (gates : List Gate) → n ≤ m → IsInOrder n gates → IsInOrder m gates
 still_in_order n m gates le order = λ k gate at. OperandsAmong-more n m k le gate (order k gate at)
 
--- and so do more gates
+-- a node that is among so many gates is among more
 
 IsAmong-later : (n k m : ℕ) → k ≤ m → (node : Node) → IsAmong n k node → IsAmong n m node
 IsAmong-later n k m le One own = tt
@@ -40,7 +40,7 @@ OperandsAmong-later n k m le (Xor a b) own = (IsAmong-later n k m le a.node own.
 OperandsAmong-later n k m le (Mux c a b) own =
     (IsAmong-later n k m le c.node own.0, IsAmong-later n k m le a.node own.1, IsAmong-later n k m le b.node own.2)
 
--- values of more gates leave those of older nodes as they were
+-- the values of more gates don't change that of an older node
 
 node_value-append : (inputs vs ws : List Bool) (n k : ℕ) → k ≤ length vs → (node : Node) → IsAmong n k node → node_value inputs (vs ++ ws) node ≡ node_value inputs vs node
 node_value-append inputs vs ws n k le One own = refl
@@ -66,7 +66,7 @@ gate_value-append inputs vs ws n k le (Mux c a b) own =
     let q = literal_value-append inputs vs ws n k le b own.2 in
     cc
 
--- the values after these gates, from those of the older ones
+-- the values of the older gates and of these, each by those before it
 abbrev values_from : List Bool → List Bool → List Gate → List Bool
 values_from inputs older gates = fold (λ older gate. older ++ gate_value inputs older gate ∷ []) older gates
 
@@ -79,7 +79,7 @@ length-values_from inputs older (g ∷ gs) =
 pub length-gate_values : (inputs : List Bool) (gates : List Gate) → length (gate_values inputs gates) ≡ length gates
 length-gate_values inputs gates = omega (arith, length-values_from inputs [] gates)
 
--- the older values stand at the front
+-- the values of the older gates come first
 values_from-front : (inputs older : List Bool) (gates : List Gate) → (ws : List Bool) × (values_from inputs older gates ≡ older ++ ws)
 values_from-front inputs older [] = ([], sym (append-nil older))
 values_from-front inputs older (g ∷ gs) =
@@ -112,7 +112,7 @@ value_of_gate inputs n gates order k gate at =
     ap (λ j. get_or (gate_values inputs gates) j false) (sym place)
     ∙ value_from inputs [] n gates k gate at (subst (λ j. OperandsAmong n j gate) (sym place) (order k gate at))
 
--- the graph with one more gate
+-- a graph to which a gate was added
 abbrev pub pushed_gate : Graph → Gate → Graph
 pushed_gate graph gate = record graph { gates = graph.gates ++ gate ∷ [] }
 
@@ -143,7 +143,7 @@ Keeps-pushed graph gate =
       values = λ inputs l _ own. value_of-pushed graph gate inputs l own;
     }
 
--- what is left of a long list tells how much of it was taken
+-- the number of elements that were dropped from a list, told by what is left of long ones
 pub count_from_rests : (m n : ℕ) → ((inputs : List Bool) → drop m inputs ≡ drop n inputs) → m ≡ n
 count_from_rests m n same =
     let long : List Bool = replicate (m + n) false in

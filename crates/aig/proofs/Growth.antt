@@ -1,4 +1,4 @@
--- A graph with one gate more, or as many.
+-- A graph after a gate is put in, which it may have had already.
 use Rattle.std.proofs.Common.{◌≡◌, inl, inr, ℕ, ◌+◌, ◌≤◌, Bool, false, List, length, slice_get, Some, refl, sym, ap, ◌∙◌, subst, arith}
 use Rattle.std.proofs.lemmas.List.{length_push}
 use Rattle.std.proofs.lemmas.Option.{slice_get_within}
@@ -54,7 +54,7 @@ module _ (ks new : List Gate) (gate : Gate) where
   inserted-value n (inr e) own inputs =
       ap (λ g. gate_value inputs (gate_values inputs g) gate) e ∙ gate_value-pushed inputs ks n gate own
 
--- a gate of the graph stands for its truth table
+-- the output of a gate of the graph stands for the gate's truth table
 pub output_stands : (graph : Graph) → IsInOrder graph.inputs graph.gates → (k : ℕ) (gate : Gate) → slice_get graph.gates k ≡ Some gate → (table : List Bool → Bool) → ((inputs : List Bool) → gate_value inputs (gate_values inputs graph.gates) gate ≡ table inputs) → Stands graph table (record { node = Output k; negated = false })
 output_stands graph order k gate at table same =
     record {

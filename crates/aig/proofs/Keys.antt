@@ -1,4 +1,4 @@
--- What the set of a graph's gates says of their list.
+-- What the set of a graph's gates says of the list of its keys.
 use Rattle.std.proofs.Common.{◌≡◌, if◌then◌else◌, ◌⊎◌, inl, inr, ℕ, zero, suc, Bool, true, false, List, [], ◌∷◌, ◌++◌, length, position, slice_get, Some, refl, sym, ap, ◌∙◌, subst, arith}
 use Rattle.std.specs.List.{list_any, IsDistinct, AllByRecursion}
 use Rattle.std.proofs.lemmas.Bool.Decides.{nat_tests}
@@ -14,7 +14,7 @@ use Rattle.aig.proofs.LiteralLemmas.{same_code}
 abbrev pub gate_eq : Gate → Gate → Bool
 gate_eq = derived.eq-value.it
 
--- gates that `==` tells equal are one
+-- gates that `==` finds equal are the same
 
 pub same_gate : (g h : Gate) → gate_eq g h ≡ true → g ≡ h
 same_gate (And a b) (And c d) t = grind (arith, nat_tests, same_code a c, same_code b d)
@@ -32,7 +32,7 @@ same_itself (And a b) = grind (arith, nat_tests)
 same_itself (Xor a b) = grind (arith, nat_tests)
 same_itself (Mux a b c) = grind (arith, nat_tests)
 
--- keys of a set are apart
+-- no two keys of a set are equal
 
 unlike_at : (x : Gate) (ks : List Gate) → AllByRecursion (λ y. gate_eq x y ≡ false) ks → (k : ℕ) (y : Gate) → slice_get ks k ≡ Some y → gate_eq x y ≡ false
 unlike_at x [] apart k y at = absurd (cc)
@@ -59,7 +59,7 @@ no_twice (y ∷ ks) apart (suc j) zero x p q =
     absurd (not_later y ks apart.0 j (p ∙ ap Some same))
 no_twice (y ∷ ks) apart (suc j) (suc k) x p q = ap suc (no_twice ks apart.1 j k x p q)
 
--- what a look-up finds is the gate
+-- a look-up finds the place of the gate
 
 pub found_at : (ks : List Gate) (gate : Gate) (i : ℕ) → position (gate_eq gate) ks ≡ Some i → slice_get ks i ≡ Some gate
 found_at ks gate i p =

@@ -1,4 +1,4 @@
--- That codes tell literals apart.
+-- Literals with the same code are the same.
 use Rattle.std.proofs.Common.{◌≡◌, ℕ, ◌*◌, ◌+◌, ◌/◌, Bool, true, false, cond, refl, sym, ap, ◌∙◌, arith}
 use Rattle.std.proofs.lemmas.Bool.Decides.{nat_tests}
 use Rattle.aig.specs.declared.literal.Node.{Node}
@@ -24,6 +24,6 @@ literal_at-code_of l =
     let s = odd (place_of l.node) l.negated in
     λ j. record { node = n j; negated = s j }
 
--- literals of one code are one
+-- literals with the same code are the same
 pub same_code : (a b : Literal) → code_of a ≡ code_of b → a ≡ b
 same_code a b e = sym (literal_at-code_of a) ∙ ap literal_at e ∙ literal_at-code_of b

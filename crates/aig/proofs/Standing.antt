@@ -1,4 +1,4 @@
--- Literals that stand for a table of a graph, by what is known of them under any values of the nodes.
+-- Literals that stand for a truth table in a graph, shown by what is true under all values of the nodes.
 use Rattle.std.proofs.Common.{◌≡◌, Bool, true, false, not, ◌&&◌, List, Option, None, Some, if◌then◌else◌, length, refl, sym, ap, ◌∙◌}
 use Rattle.std.specs.Bool.{xor}
 use Rattle.aig.specs.declared.literal.Node.{Node}
@@ -39,7 +39,8 @@ module _ (graph : Graph) where
   some_same_table t u None same stands = tt
   some_same_table t u (Some l) same stands = same_table t u l same stands
 
-  -- literals without their signs, which are alike or not
+  -- two literals, both taken without negation: the xor is the same where both were negated or neither, and else the
+  -- opposite
   module _ (a b p q : Literal) (is_p : p ≡ record a { negated = false }) (is_q : q ≡ record b { negated = false }) where
     pub same_signs : a.negated ≡ b.negated → (inputs : List Bool) → xor (value_of graph inputs p) (value_of graph inputs q) ≡ xor (value_of graph inputs a) (value_of graph inputs b)
     same_signs signs inputs =
@@ -51,7 +52,7 @@ module _ (graph : Graph) where
         (λ j. not (xor (value_of graph inputs (is_p j)) (value_of graph inputs (is_q j))))
         ∙ xor_one_sign a.negated b.negated (nodes_of graph inputs a.node) (nodes_of graph inputs b.node) signs
 
-  -- b with the opposite of what it is paired with in a, which is not both of them
+  -- a is not (x and y), and b is one of x and y: a and b is b and the negation of the other one
   module _ (a x y b n : Literal) (inputs : List Bool) where
     pub first_part : x ≡ b → n ≡ negation_of y → HasParts (nodes_of graph inputs) a (NotBoth x y) → (value_of graph inputs b && value_of graph inputs n) ≡ (value_of graph inputs a && value_of graph inputs b)
     first_part is_b is_n has =

@@ -1,8 +1,8 @@
--- Tables of truth values.
+-- Identities of truth values.
 use Rattle.std.proofs.Common.{◌≡◌, Bool, true, false, not, ◌&&◌, refl, if◌then◌else◌}
 use Rattle.std.specs.Bool.{xor, beq}
 
--- one of two truth values and not both, by a choice
+-- xor as a choice
 pub xor_choice : (a b : Bool) → xor a b ≡ (if a then not b else b)
 unfolding mathlib.Core.Bool.xor
 xor_choice true true = refl
@@ -23,7 +23,7 @@ xor_turned true false = refl
 xor_turned false true = refl
 xor_turned false false = refl
 
--- two truth values that both keep their sign, or both change it, differ as before
+-- negating both operands leaves an xor as it was
 pub xor_signs : (s t p q : Bool) → s ≡ t → xor p q ≡ xor (if s then not p else p) (if t then not q else q)
 unfolding mathlib.Core.Bool.xor
 xor_signs true true true true e = refl
@@ -34,7 +34,7 @@ xor_signs false false p q e = refl
 xor_signs true false p q e = absurd (cc)
 xor_signs false true p q e = absurd (cc)
 
--- and where one alone changes its sign they differ where they did not
+-- negating one operand negates an xor
 pub xor_one_sign : (s t p q : Bool) → (s ≡ t → ⊥) → not (xor p q) ≡ xor (if s then not p else p) (if t then not q else q)
 unfolding mathlib.Core.Bool.xor
 xor_one_sign true true p q e = absurd (e refl)
@@ -48,7 +48,7 @@ xor_one_sign false true true false e = refl
 xor_one_sign false true false true e = refl
 xor_one_sign false true false false e = refl
 
--- one literal of two, and not both of them: the other's opposite
+-- `b && !y` is `!(b && y) && b`
 pub other_part : (b y : Bool) → (b && not y) ≡ (not (b && y) && b)
 other_part true true = refl
 other_part true false = refl
@@ -61,7 +61,7 @@ other_part_turned true false = refl
 other_part_turned false true = refl
 other_part_turned false false = refl
 
--- where the arms of a choice are opposites, it is whether the condition and the second arm differ
+-- a choice between a literal and its negation is an xor with the condition
 pub xor_arms : (c s t p : Bool) → (s ≡ t → ⊥) → xor c (if t then not p else p) ≡ (if c then (if s then not p else p) else (if t then not p else p))
 xor_arms c true true p ne = absurd (ne refl)
 xor_arms c false false p ne = absurd (ne refl)

@@ -14,36 +14,36 @@ pub record Graph : Type 0 where
   pub inputs : ℕ
   pub gates : List Gate
 
--- the node is the constant, or one of so many inputs and of so many gates
+-- the node is the constant, one of the first `inputs` inputs or the output of one of the first `gates` gates
 abbrev pub IsAmong : ℕ → ℕ → Node → Type 0
 IsAmong inputs gates One = Unit {0}
 IsAmong inputs gates (Input k) = k < inputs
 IsAmong inputs gates (Output k) = k < gates
 
--- the literal's node is the graph's own
+-- the literal is the graph's own: its node is one of the graph's
 abbrev pub IsOwn : Graph → Literal → Type 0
 IsOwn graph l = IsAmong graph.inputs (length graph.gates) l.node
 
--- each operand of the gate is over the constant, or over one of so many inputs and of so many gates
+-- each operand's node is the constant, one of the first `inputs` inputs or the output of one of the first `gates` gates
 abbrev pub OperandsAmong : ℕ → ℕ → Gate → Type 0
 OperandsAmong inputs gates (And a b) = IsAmong inputs gates a.node × IsAmong inputs gates b.node
 OperandsAmong inputs gates (Xor a b) = IsAmong inputs gates a.node × IsAmong inputs gates b.node
 OperandsAmong inputs gates (Mux c a b) = IsAmong inputs gates c.node × IsAmong inputs gates a.node × IsAmong inputs gates b.node
 
--- each gate's operands are older than the gate
+-- the gates are in topological order: each gate's operands are older than the gate
 abbrev pub IsInOrder : ℕ → List Gate → Type 0
 IsInOrder inputs gates = (k : ℕ) (gate : Gate) → slice_get gates k ≡ Some gate → OperandsAmong inputs k gate
 
--- no gate comes to a literal by its operands alone
+-- each gate is proper
 abbrev pub AreProper : List Gate → Type 0
 AreProper gates = (k : ℕ) (gate : Gate) → slice_get gates k ≡ Some gate → IsProper gate
 
--- no gate is there twice
+-- no gate is there twice (structural hashing)
 abbrev pub HasNoTwice : List Gate → Type 0
 HasNoTwice gates =
     (j k : ℕ) (gate : Gate) → slice_get gates j ≡ Some gate → slice_get gates k ≡ Some gate → j ≡ k
 
--- A node's value under these values of the inputs and of the gates. An input past the list's end is false.
+-- A node's value under these values of the inputs and of the gates. An input without a value in the list is false.
 abbrev pub node_value : List Bool → List Bool → Node → Bool
 node_value inputs gates One = true
 node_value inputs gates (Input k) = slice_index_or inputs k false
@@ -53,22 +53,22 @@ node_value inputs gates (Output k) = slice_index_or gates k false
 abbrev pub literal_value : List Bool → List Bool → Literal → Bool
 literal_value inputs gates l = value_under (node_value inputs gates) l
 
--- a gate's truth table over its operands' values
+-- a gate's truth table over the values of its operands
 abbrev pub gate_value : List Bool → List Bool → Gate → Bool
 gate_value inputs gates (And a b) = literal_value inputs gates a && literal_value inputs gates b
 gate_value inputs gates (Xor a b) = xor (literal_value inputs gates a) (literal_value inputs gates b)
 gate_value inputs gates (Mux c a b) =
     if literal_value inputs gates c then literal_value inputs gates a else literal_value inputs gates b
 
--- the values of the gates in order, each over the older ones
+-- the values of the gates in order, each by those of the older ones
 abbrev pub gate_values : List Bool → List Gate → List Bool
 gate_values inputs gates = fold (λ older gate. older ++ gate_value inputs older gate ∷ []) [] gates
 
--- a literal's value in a graph
+-- a literal's value in a graph, under these values of the inputs
 abbrev pub value_of : Graph → List Bool → Literal → Bool
 value_of graph inputs l = literal_value inputs (gate_values inputs graph.gates) l
 
--- a graph as a circuit, which has values under every list of inputs
+-- a graph as a circuit: it has values under every list of inputs
 abbrev pub graph_state : Ghosts Graph Literal
 graph_state = record {
   has_literal = IsOwn;

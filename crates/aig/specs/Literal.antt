@@ -1,4 +1,4 @@
--- Literals: a node of a graph, or its negation. A literal is kept as a code.
+-- Literals: a node of a graph, or its negation. A literal has a code, a number.
 use Rattle.std.specs.Prelude.{◌≡◌, ℕ, ◌+◌, ◌-◌, ◌*◌, ◌/◌, ◌%◌, ◌==◌, Bool, not, if◌then◌else◌}
 use Rattle.std.proofs.Common.{arith}
 use Rattle.std.proofs.lemmas.Bool.Decides.{nat_tests}
@@ -10,13 +10,13 @@ pub record Literal : Type 0 where
   pub node : Node
   pub negated : Bool
 
--- the constant has the place 0, the inputs have the odd places, and the gates the even ones from 2 on
+-- the place of a node: 0 of the constant, an odd number of an input, and an even one from 2 on of a gate's output
 abbrev pub place_of : Node → ℕ
 place_of One = 0
 place_of (Input k) = 2 * k + 1
 place_of (Output k) = 2 * k + 2
 
--- twice the node's place, and one more where the literal is negated
+-- the code of a literal: twice the place of its node, and one more where it is negated
 abbrev pub code_of : Literal → ℕ
 code_of l = 2 * place_of l.node + (if l.negated then 1 else 0)
 
@@ -24,15 +24,15 @@ code_of l = 2 * place_of l.node + (if l.negated then 1 else 0)
 abbrev pub node_at : ℕ → Node
 node_at place = if place == 0 then One else (if place % 2 == 0 then Output (place / 2 - 1) else Input (place / 2))
 
--- the literal of a code
+-- the literal that has this code
 abbrev pub literal_at : ℕ → Literal
 literal_at code = record { node = node_at (code / 2); negated = code % 2 == 1 }
 
--- the literal's opposite
+-- the literal's negation
 abbrev pub negation_of : Literal → Literal
 negation_of l = record l { negated = not l.negated }
 
--- a literal's value under these values of the nodes: its node's, or the opposite where it is negated
+-- a literal's value under these values of the nodes: its node's, or the opposite where the literal is negated
 abbrev pub value_under : (Node → Bool) → Literal → Bool
 value_under values l = if l.negated then not (values l.node) else values l.node
 

@@ -1,4 +1,4 @@
-//! That a graph is a circuit.
+//! A graph is a circuit.
 
 use crate::graph::Aig;
 use crate::literal::Literal;
@@ -22,8 +22,8 @@ impl State for Aig {
     ghost gates_made = { λ c. length c.gates };
 }
 
-/// An input or a gate past the last that has a literal is refused as for want of memory; that is
-/// one past 2^30 - 1 of either.
+/// An input or a gate that would have no code is refused as for want of memory; that is one past
+/// 2^30 - 1 of either.
 impl Circuit for Aig {
     fn zero(&self) -> Literal {
         Literal::ZERO

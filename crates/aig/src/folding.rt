@@ -1,4 +1,5 @@
-//! Gates that come to a literal, or to another kind of gate, whatever their operands' nodes are.
+//! Gates that fold to a literal, or to a gate of another kind, by the nodes of their operands
+//! alone.
 ghost use Rattle.std.specs.Prelude.{◌≡◌, ◌≢◌, false, IfSome, IfNone};
 ghost use Rattle.aig.specs.Gate.{AreApart};
 ghost use Rattle.aig.specs.Folding.{IsAnd, IsXor, IsOver, HasValueWhere};
@@ -6,7 +7,7 @@ ghost use Rattle.aig.specs.Choices.{IsChoice};
 
 use crate::literal::{Literal, Node};
 
-/// Both of two literals, where that is one of them or a constant.
+/// The conjunction of two literals, where it is one of them or a constant.
 pub(crate) fn folded_and(a: Literal, b: Literal) -> Option<Literal>
     ensures value { IfSome result (IsAnd a b) }
     ensures over { IfSome result (IsOver a.node b.node) }
@@ -20,7 +21,7 @@ pub(crate) fn folded_and(a: Literal, b: Literal) -> Option<Literal>
     }
 }
 
-/// Both of two literals of one node.
+/// The conjunction of two literals of the same node.
 fn joined(a: Literal, b: Literal) -> Literal
     requires { a.node ≡ b.node }
     ensures value { IsAnd a b result }
@@ -33,7 +34,8 @@ fn joined(a: Literal, b: Literal) -> Literal
     }
 }
 
-/// One of two literals that aren't negated, where that is one of them, its negation or a constant.
+/// The xor of two literals that aren't negated, where it is one of them, its negation or a
+/// constant.
 #[tactic(auto, using(crate::proofs::Truth::xor_choice))]
 pub(crate) fn folded_xor(a: Literal, b: Literal) -> Option<Literal>
     requires plain_a { a.negated ≡ false }
@@ -50,22 +52,23 @@ pub(crate) fn folded_xor(a: Literal, b: Literal) -> Option<Literal>
     }
 }
 
-/// What a choice between two literals by a third comes to.
+/// What a choice between two literals by a third (a multiplexer) folds to.
 #[derive(Clone, Copy)]
 pub(crate) enum Choice {
-    /// A literal that is there.
+    /// A literal that the graph has already.
     Known(Literal),
-    /// Both of two literals.
+    /// The conjunction of two literals.
     Both(Literal, Literal),
-    /// Not both of two literals.
+    /// The negation of the conjunction of two literals.
     NotBoth(Literal, Literal),
-    /// One of two literals, and not both.
+    /// The xor of two literals.
     OneOf(Literal, Literal),
-    /// No less than the choice.
+    /// Nothing: it takes a gate of its own.
     Open,
 }
 
-/// The first arm where the condition is true, and else the second; the condition isn't negated.
+/// The choice that is the first arm where the condition is true, and else the second. The condition
+/// isn't negated.
 pub(crate) fn folded_mux(condition: Literal, yes: Literal, no: Literal) -> Choice
     requires plain { condition.negated ≡ false }
     ensures { IsChoice condition yes no result }
@@ -82,8 +85,8 @@ pub(crate) fn folded_mux(condition: Literal, yes: Literal, no: Literal) -> Choic
     }
 }
 
-/// The value that an arm has wherever the condition has this one, if the arm is over the constant
-/// or the condition.
+/// The value that an arm has wherever the condition has the value `holds`, if the arm's node is the
+/// constant or the condition's.
 fn fixed(arm: Literal, condition: Literal, holds: bool) -> Option<bool>
     requires plain { condition.negated ≡ false }
     ensures value { IfSome result (λ value. HasValueWhere arm condition holds value) }
@@ -96,7 +99,7 @@ fn fixed(arm: Literal, condition: Literal, holds: bool) -> Option<bool>
     }
 }
 
-/// A choice between arms that are over neither the constant nor the condition.
+/// A choice between arms whose nodes are neither the constant nor the condition's.
 fn folded_arms(condition: Literal, yes: Literal, no: Literal) -> Choice
     requires condition { condition.node ≢ Node.One }
     requires yes { (yes.node ≢ Node.One) × (condition.node ≢ yes.node) }
@@ -110,7 +113,7 @@ fn folded_arms(condition: Literal, yes: Literal, no: Literal) -> Choice
     }
 }
 
-/// A choice between arms over one node.
+/// A choice between arms of the same node.
 fn choice_of_sign(condition: Literal, yes: Literal, no: Literal) -> Choice
     requires { yes.node ≡ no.node }
     ensures { IsChoice condition yes no result }

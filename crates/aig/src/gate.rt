@@ -4,19 +4,19 @@ ghost use Rattle.aig.specs.Gate.{ordered_and, ordered_xor};
 
 use crate::literal::Literal;
 
-/// A gate with its operands, and its value by theirs.
+/// A gate with its operands, and its truth table over them.
 #[derive(Clone, Copy, PartialEq, Eq, Hash)]
 pub enum Gate {
-    /// Both of two literals.
+    /// The conjunction: whether both literals are true.
     And(Literal, Literal),
-    /// One of two literals, and not both.
+    /// The xor: whether one of the literals is true, and not both.
     Xor(Literal, Literal),
-    /// The second literal where the first is true, and else the third.
+    /// The choice (multiplexer): the second literal where the first is true, and else the third.
     Mux(Literal, Literal, Literal),
 }
 
 impl Gate {
-    /// Both of two literals, in the order of their codes.
+    /// The conjunction of two literals, in the order of their codes.
     pub(crate) fn and(a: Literal, b: Literal) -> Gate
         ensures { result ≡ ordered_and a b }
     {
@@ -27,7 +27,7 @@ impl Gate {
         }
     }
 
-    /// One of two literals, in the order of their codes.
+    /// The xor of two literals, in the order of their codes.
     pub(crate) fn xor(a: Literal, b: Literal) -> Gate
         ensures { result ≡ ordered_xor a b }
     {

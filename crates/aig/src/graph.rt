@@ -1,4 +1,4 @@
-//! The graph that keeps its gates, each once.
+//! The graph, which has each gate once.
 ghost use Rattle.std.specs.Prelude.{◌≡◌, ◌+◌, ◌<◌, Bool, false, slice_index_or, List as Seq, [], ◌&&◌, length, IfOk, IfSome, OnOk, OnErr};
 
 use crate::gate::Gate;
@@ -9,9 +9,10 @@ use std::alloc::{AllocError, Global};
 use std::marker::Model;
 
 /// A circuit that keeps its gates in the order in which they were made, each with its operands,
-/// which are older than it. It has values under every list of inputs.
+/// which are older than the gate. It has values under every list of inputs.
 ///
-/// It makes no gate that comes to a literal by its operands alone, and none a second time.
+/// It makes no gate that folds to a literal by its operands alone, and none a second time
+/// (structural hashing).
 #[derive(Drop)]
 pub struct Aig {
     inputs: usize,
@@ -82,8 +83,8 @@ impl Aig {
         Ok(Literal::input(number))
     }
 
-    /// The output of a gate, which is made where the graph doesn't have it. A call that is refused
-    /// for want of memory leaves the graph as it was.
+    /// The output of a gate, which is made where the graph doesn't have it yet. A call that is
+    /// refused for want of memory leaves the graph as it was.
     pub(crate) fn push(&mut self, gate: Gate) -> Result<Literal, AllocError>
         requires operands { OperandsAmong self.old.inputs (length self.old.gates) gate }
         requires proper { IsProper gate }
@@ -98,7 +99,7 @@ impl Aig {
         Ok(Literal::output(place))
     }
 
-    /// The output of the gate of both literals, if the graph has it.
+    /// The output of the `and` gate of both literals, if the graph has that.
     pub(crate) fn found(&self, a: Literal, b: Literal) -> Option<Literal>
         ensures { IfSome result (Stands self.now (λ inputs. value_of self.now inputs a && value_of self.now inputs b)) }
     {
@@ -117,7 +118,7 @@ impl Aig {
         self.gates.as_slice()[place]
     }
 
-    /// What a literal is of the operands of the gate that it names.
+    /// The operands of the `and` gate that a literal names, if it names one.
     pub(crate) fn parts(&self, literal: Literal) -> Parts
         requires { IsOwn self.now literal }
         ensures value { (inputs : Seq Bool) → HasParts (node_value inputs (gate_values inputs self.now.gates)) literal result }

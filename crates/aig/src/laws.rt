@@ -11,9 +11,9 @@ pub fn gates_have_their_values()
         slice_index_or (gate_values inputs gates) k false ≡ gate_value inputs (gate_values inputs gates) gate }
 {}
 
-/// Two counts are equal where each list has the same rest past the one and past the other. So what
-/// a call of a `Circuit` says of the inputs made gives their number in a graph, which admits every
-/// list.
+/// Two numbers are equal where each list has the same rest without its first so many elements. So
+/// what a call of a `Circuit` says of the inputs that it made gives their number in a graph, which
+/// admits every list.
 pub fn rests_tell_counts()
     ensures { (m n : ℕ) → ((inputs : Seq Bool) → drop m inputs ≡ drop n inputs) → m ≡ n }
 {}

@@ -1,5 +1,5 @@
-//! An and-inverter graph, with gates for `xor` and for a choice beside those for `and`: a circuit
-//! that keeps its gates, so that an encoder can read them. Gates that come to less are folded, by
+//! An and-inverter graph, with gates for `xor` and for a choice (multiplexer) beside those for
+//! `and`: a circuit that keeps its gates, so that an encoder can read them. Gates are simplified by
 //! their operands (`folding`) and by the operands of those (`two_levels`), and none is kept twice.
 #![tactic(auto)]
 

@@ -4,11 +4,11 @@ ghost use Rattle.aig.specs.Literal.{code_of, negation_of};
 
 use std::marker::Model;
 
-/// No input and no gate has a number that is this large, so that each literal has a code.
+/// The numbers of inputs and of gates are below this, so that each literal has a code.
 pub(crate) const LIMIT: usize = (1 << 30) - 1;
 
-/// What a literal names. Inputs and gates are numbered apart, each from 0 in the order in which
-/// they were made.
+/// What a literal names. Inputs and gates are numbered separately, each from 0 in the order in
+/// which they were made.
 #[derive(Clone, Copy, PartialEq, Eq)]
 pub enum Node {
     /// The constant that is true.
@@ -19,7 +19,7 @@ pub enum Node {
     Output(usize),
 }
 
-/// A node or its negation. So a negation takes no gate.
+/// A node or its negation, so that a negation takes no gate.
 ///
 /// It is kept as a code: twice the place of its node, and one more where it is negated. The
 /// constant has the place 0, the inputs have the odd places, and the gates the even ones from 2 on.
@@ -68,7 +68,7 @@ impl Literal {
         }
     }
 
-    /// What the literal names.
+    /// The node of the literal.
     pub fn node(self) -> Node
         ensures { result ≡ self.node }
     {
@@ -82,14 +82,14 @@ impl Literal {
         }
     }
 
-    /// Whether it stands for the node's negation.
+    /// Whether the literal is its node's negation.
     pub fn is_negated(self) -> bool
         ensures { result ≡ self.negated }
     {
         self.code % 2 == 1
     }
 
-    /// Its opposite.
+    /// The literal's negation.
     pub fn negation(self) -> Literal
         ensures { result ≡ negation_of self }
     {
@@ -98,7 +98,7 @@ impl Literal {
         }
     }
 
-    /// The literal of its node that isn't negated.
+    /// The literal's node, not negated.
     pub(crate) fn plain(self) -> Literal
         ensures { result ≡ record self { negated = false } }
     {
@@ -107,7 +107,7 @@ impl Literal {
         }
     }
 
-    /// Whether one is the other's opposite.
+    /// Whether one literal is the other's negation.
     pub(crate) fn negates(self, other: Literal) -> bool
         ensures { IsTrue result → self ≡ negation_of other }
     {

@@ -1,4 +1,4 @@
-//! Gates that are made where they come to no literal of the graph.
+//! Gates are made, unless they fold to a literal of the graph.
 ghost use Rattle.std.specs.Prelude.{◌≡◌, Bool, false, List as Seq, ◌&&◌, if◌then◌else◌, IfOk, IfSome, OnErr};
 ghost use Rattle.std.specs.Bool.{xor};
 ghost use Rattle.aig.specs.Gate.{AreApart};
@@ -15,7 +15,7 @@ use crate::two_levels::{Parts, met, settled};
 use std::alloc::AllocError;
 
 impl Aig {
-    /// Both of two literals.
+    /// The conjunction of two literals.
     pub(crate) fn both(&mut self, a: Literal, b: Literal) -> Result<Literal, AllocError>
         requires own_a { IsOwn self.old a }
         requires own_b { IsOwn self.old b }
@@ -32,7 +32,8 @@ impl Aig {
         self.push(Gate::and(a, b))
     }
 
-    /// Both of two literals, where the operands of the gates that they name tell a literal.
+    /// The conjunction of two literals, where it folds to a literal of the graph by the operands of
+    /// their gates.
     fn beneath(&self, a: Literal, b: Literal) -> Option<Literal>
         requires own_a { IsOwn self.now a }
         requires own_b { IsOwn self.now b }
@@ -55,7 +56,7 @@ impl Aig {
         self.with_one_part(b, &others, a)
     }
 
-    /// One of two literals, and not both.
+    /// The xor of two literals.
     pub(crate) fn one_of(&mut self, a: Literal, b: Literal) -> Result<Literal, AllocError>
         requires own_a { IsOwn self.old a }
         requires own_b { IsOwn self.old b }
@@ -71,7 +72,7 @@ impl Aig {
         }
     }
 
-    /// One of two literals that aren't negated, and not both.
+    /// The xor of two literals that aren't negated.
     fn one_of_plain(&mut self, a: Literal, b: Literal) -> Result<Literal, AllocError>
         requires own_a { IsOwn self.old a }
         requires own_b { IsOwn self.old b }
@@ -87,7 +88,8 @@ impl Aig {
         }
     }
 
-    /// The first arm where the condition is true, and else the second; the condition isn't negated.
+    /// The choice that is the first arm where the condition is true, and else the second. The
+    /// condition isn't negated.
     pub(crate) fn chosen(
         &mut self,
         condition: Literal,
@@ -112,7 +114,7 @@ impl Aig {
         }
     }
 
-    /// The same where nothing is known of the three, as a gate whose first arm isn't negated.
+    /// A choice that doesn't fold, as a gate whose first arm isn't negated.
     fn open_choice(
         &mut self,
         condition: Literal,
@@ -139,8 +141,8 @@ impl Aig {
         }
     }
 
-    /// Both of two literals, where the first is not both of two parts and the second is one of
-    /// those: both of the second and the other part's negation, if the graph has that.
+    /// The conjunction of a and b, where a is not (x and y) and b is one of x and y: that of b and the
+    /// negation of the other one, if the graph has that gate.
     fn with_one_part(&self, a: Literal, parts: &Parts, b: Literal) -> Option<Literal>
         requires own_b { IsOwn self.now b }
         requires parts { (inputs : Seq Bool) → HasParts (node_value inputs (gate_values inputs self.now.gates)) a parts.now }

@@ -1,6 +1,6 @@
-//! What both of two literals come to by the operands of the gates that they name: of the rules of
-//! Brummayer and Biere, "Local two-level and-inverter graph minimization without blowup", those
-//! that make no gate.
+//! What the conjunction of two literals folds to by the operands of their gates: those rules of
+//! Brummayer and Biere, "Local two-level and-inverter graph minimization without blowup", that make
+//! no gate.
 ghost use Rattle.std.specs.Prelude.{◌≡◌, ◌⊎◌, ℕ, Bool, List as Seq, IsTrue, IfSome};
 ghost use Rattle.aig.specs.Literal.{Literal as Term, negation_of};
 ghost use Rattle.aig.specs.Graph.{OperandsAmong, node_value, gate_value};
@@ -9,18 +9,18 @@ ghost use Rattle.aig.specs.Parts.{HasParts, PartsAmong, IsAndOfParts, IsOverPart
 use crate::gate::Gate;
 use crate::literal::Literal;
 
-/// What a literal is of two others, if its node is the gate of both of them.
+/// A literal by the operands of its gate, its parts, if that is an `and` gate.
 #[derive(Clone, Copy)]
 pub(crate) enum Parts {
-    /// Both of two literals.
+    /// The conjunction of two literals.
     Both(Literal, Literal),
-    /// Not both of two literals.
+    /// The negation of the conjunction of two literals.
     NotBoth(Literal, Literal),
-    /// Another literal.
+    /// The literal isn't of an `and` gate.
     Whole,
 }
 
-/// What a literal is of the operands of the gate that it names.
+/// The parts of a literal of this gate.
 pub(crate) fn parts_of(gate: Gate, negated: bool) -> Parts
     ensures value { (inputs gates : Seq Bool) (l : Term) → l.negated ≡ negated →
         node_value inputs gates l.node ≡ gate_value inputs gates gate → HasParts (node_value inputs gates) l result }
@@ -38,7 +38,7 @@ pub(crate) fn parts_of(gate: Gate, negated: bool) -> Parts
     }
 }
 
-/// Both of two literals, where the second is a part of the first or negates one.
+/// The conjunction of two literals, where the second, or its negation, is a part of the first.
 pub(crate) fn settled(a: Literal, parts: &Parts, b: Literal) -> Option<Literal>
     ensures value { IfSome result (λ l. IsAndOfParts a parts.now b Parts.Whole l) }
     ensures over { IfSome result (λ l. IsOverParts a parts.now b Parts.Whole l) }
@@ -51,7 +51,8 @@ pub(crate) fn settled(a: Literal, parts: &Parts, b: Literal) -> Option<Literal>
     }
 }
 
-/// Both of two literals, where a part of the one is a part of the other or negates one.
+/// The conjunction of two literals, where a part of the one, or its negation, is a part of the
+/// other.
 pub(crate) fn met(a: Literal, parts: &Parts, b: Literal, others: &Parts) -> Option<Literal>
     ensures value { IfSome result (λ l. IsAndOfParts a parts.now b others.now l) }
     ensures over { IfSome result (λ l. IsOverParts a parts.now b others.now l) }
@@ -65,15 +66,15 @@ pub(crate) fn met(a: Literal, parts: &Parts, b: Literal, others: &Parts) -> Opti
     }
 }
 
-/// Whether one of the first two literals negates one of the others.
+/// Whether one of the first two literals is the negation of one of the others.
 fn clash(x: Literal, y: Literal, z: Literal, w: Literal) -> bool
     ensures { IsTrue result → Exclude x y z w }
 {
     x.negates(z) || x.negates(w) || y.negates(z) || y.negates(w)
 }
 
-/// What it comes to that not both of two literals are true, and not both of two others: where one
-/// is in both pairs, and what it is paired with negates the other, its negation.
+/// The conjunction of not (x and y) and not (z and w), where the pairs have a literal in common and
+/// the other two are each other's negation: the negation of the common one (resolution).
 fn resolved(x: Literal, y: Literal, z: Literal, w: Literal) -> Option<Literal>
     ensures value { IfSome result (Resolves x y z w) }
     ensures over { IfSome result (λ l. (l ≡ negation_of x) ⊎ (l ≡ negation_of y)) }
@@ -87,7 +88,8 @@ fn resolved(x: Literal, y: Literal, z: Literal, w: Literal) -> Option<Literal>
     }
 }
 
-/// Whether the first of one pair is that of the other, and the second negates the second.
+/// Whether the first of one pair is the first of the other, and the second the negation of the
+/// second.
 fn resolves(x: Literal, y: Literal, z: Literal, w: Literal) -> bool
     ensures { IsTrue result → (x ≡ z) × (y ≡ negation_of w) }
 {

@@ -1,4 +1,4 @@
--- The expressions of `Wit:` can be built.
+-- The nodes of the expressions of `Wit:` may be built: each thing that they read has literals of the right width.
 use Rattle.std.proofs.Common.{◌≡◌, ℕ, pos, zero, suc, ◌+◌, ◌<◌, List, [], ◌∷◌, length, map, take, Some, None, refl, sym, ap, ◌∙◌, arith, get_or}
 use Rattle.std.specs.Prelude.{slice_get, slice_index}
 use Rattle.std.specs.Option.{option_map}
@@ -28,7 +28,7 @@ use Rattle.blast_rule.specs.Runs.{shape, word_shape}
 use Rattle.blast_term.specs.Terms.{HasWord, NodeIsHeld, TermsAreHeld, term_widths}
 use Rattle.blast_rule.proofs.Ready.{width_at, get_taken}
 
--- a place below the length is taken
+-- at a place within a list something stands
 found : {X : Type 0} (xs : List X) (i : ℕ) → i < length xs → (x : X) × (slice_get xs i ≡ Some x)
 found [] i within = absurd (omega arith)
 found (x ∷ xs) zero within = (x, refl)

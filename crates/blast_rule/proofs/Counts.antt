@@ -1,4 +1,4 @@
--- How many gates there are at most.
+-- Bounds on how many gates there are.
 use Rattle.std.proofs.Common.{◌≡◌, ℕ, zero, suc, ◌+◌, ◌-◌, ◌*◌, ◌^◌, ◌<◌, ◌≤◌, max, List, [], ◌∷◌, ◌++◌, length, map, Some, refl, sym, ap, subst, ◌∙◌, arith, get_or}
 use Rattle.std.specs.Prelude.{slice_get, slice_index, sum_by, flat_map, Contains}
 use Rattle.std.specs.Option.{option_map}
@@ -37,8 +37,8 @@ use Rattle.blast_term.proofs.Counts.{node-low, terms-few}
 square_mono : (n k : ℕ) → n ≤ k → n * n ≤ k * k
 square_mono n k h = mul-le-mul h h
 
--- an operation leaves room for the comparison at the end, where K is no smaller than the width of its result and those
--- of its operands
+-- The bound of an operation leaves gates for the comparison of effects at the end, where K is at least the width of its
+-- result and those of its operands.
 op-few : (typing : List ℕ) (N K : ℕ) (op : Op) → 1 ≤ N → N ≤ 64 → N ≤ K → All (λ M. M ≤ K) (map (slice_index typing) (map (λ (o : Operand). o.class) (operands_of op))) → op_gates typing N op + (2 * N + 7) ≤ op_bound op K
 op-few typing N K (Binary Add flags a b) some low below all = omega arith
 op-few typing N K (Binary Sub flags a b) some low below all = omega arith
@@ -87,14 +87,14 @@ bound-few N op low =
 unit_term : Term
 unit_term = record { class = 0; node = nodes.Constant 0 }
 
--- what stands at a place, or 0, is no greater than what none is greater than
+-- the number at a place of a list, or 0 past its end, is at most each bound of the list
 index-low : (m : ℕ) (xs : List ℕ) (k : ℕ) → All (λ x. x ≤ m) xs → slice_index xs k ≤ m
 index-low m [] zero all = omega arith
 index-low m [] (suc k) all = omega arith
 index-low m (x ∷ xs) zero all = All-head (λ x. x ≤ m) x xs all
 index-low m (x ∷ xs) (suc k) all = index-low m xs k (All-tail (λ x. x ≤ m) x xs all)
 
--- the greatest of numbers is no smaller than each, and no greater than what none of them is greater than
+-- the greatest of some numbers, as a fold: it is at least each of them, and, below, at most each bound of them
 fold-above : (a : ℕ) (xs : List ℕ) → (a ≤ fold max a xs) × All (λ x. x ≤ fold max a xs) xs
 fold-above a [] = (omega arith, All-nil (λ x. x ≤ a))
 fold-above a (y ∷ xs) =
@@ -105,7 +105,7 @@ fold-least : (a m : ℕ) (xs : List ℕ) → a ≤ m → All (λ x. x ≤ m) xs 
 fold-least a m [] low all = low
 fold-least a m (y ∷ xs) low all = fold-least (max a y) m xs (omega (arith, All-head (λ x. x ≤ m) y xs all)) (All-tail (λ x. x ≤ m) y xs all)
 
--- sums of larger terms are larger, by as much as one term is
+-- a sum of greater terms is greater; below, by as much as one of the terms is
 sum-le : {X : Type 0} (f g : X → ℕ) (xs : List X) → All (λ x. f x ≤ g x) xs → sum_by f xs ≤ sum_by g xs
 sum-le f g [] le = omega arith
 sum-le f g (x ∷ xs) le = omega (arith, sum_by-cons f x xs, sum_by-cons g x xs, le 0 x (omega arith), sum-le f g xs (All-tail (λ y. f y ≤ g y) x xs le))
@@ -138,7 +138,7 @@ module _ (rule : Rule) (typing : List ℕ) (checked : IsRule rule) (typed : IsTy
   statement_width : (s : Statement) → IsStatementOf rule s → (1 ≤ slice_index typing s.class) × (slice_index typing s.class ≤ 64)
   statement_width s stands = class_width s.class (class_within s stands 0 0 (omega arith))
 
-  -- the greatest width is no smaller than that of the result and those of the operands, and no greater than 64
+  -- the greatest width of a statement is at least that of its result and of each operand, and at most 64
   widths-below : (s : Statement) → All (λ N. N ≤ greatest_width typing s) (map (slice_index typing) (classes_of_statement s))
   widths-below s = (fold-above 0 (map (slice_index typing) (classes_of_statement s))).1
 
@@ -187,7 +187,7 @@ module _ (rule : Rule) (typing : List ℕ) (checked : IsRule rule) (typed : IsTy
   formulas : (P : Formula → Type 0) → ((n : ℕ) (f : Formula) → MayBeFormula rule n f → P f) → All P rule.precondition
   formulas P all k d within = all k (get_or rule.precondition k d) (checked.precondition k (get_or rule.precondition k d) (slice_get-get_or rule.precondition k d within))
 
-  -- the classes of terms have widths, and what reads terms reads those that are there
+  -- the classes of terms have widths, and what reads terms reads ones that there are
   pub terms_within : All (λ t. t.class < length typing) rule.terms
   terms_within = constant_terms (λ t. t.class < length typing) (λ t stands. typed.classes t.class (term_class_stands rule t stands))
 
@@ -209,7 +209,7 @@ module _ (rule : Rule) (typing : List ℕ) (checked : IsRule rule) (typed : IsTy
   pub places_within : All (λ n. n < length rule.witness_terms) rule.witnesses
   places_within k d within = checked.witnesses_there k (get_or rule.witnesses k d) (slice_get-get_or rule.witnesses k d within)
 
-  -- the width of a term at a place
+  -- the width of the term at a place is from 1 to 64
   pub width_there : (a : ℕ) → a < length rule.terms → (1 ≤ slice_index (widths_of_terms rule typing) a) × (slice_index (widths_of_terms rule typing) a ≤ 64)
   width_there a within =
       let w : Term → ℕ = λ t. slice_index typing t.class in
@@ -269,7 +269,7 @@ gates_are_few rule typing checked typed = few_in_rule rule typing checked typed
 pub gates_are_below : GatesAreBelow
 gates_are_below rule typing checked typed = below_in_rule rule typing checked typed
 
--- the width of the root is that of the last source statement
+-- the width of the root is that of the last statement of the source
 pub root_class : (rule : Rule) (typing : List ℕ) (d : Statement) → 0 < length rule.source → slice_index typing (get_or rule.source (length rule.source - 1) d).class ≡ root_width rule typing
 root_class rule typing d some =
     let at : slice_get rule.source (length rule.source - 1) ≡ Some (get_or rule.source (length rule.source - 1) d) = slice_get-get_or rule.source (length rule.source - 1) d (omega arith) in

@@ -1,4 +1,4 @@
--- The effects of the halves in literals.
+-- The effects of the halves, shown from literals.
 use Rattle.std.proofs.Common.{◌≡◌, ℕ, suc, ◌+◌, ◌-◌, ◌<◌, Bool, List, [], ◌∷◌, ◌++◌, length, map, Some, refl, sym, ap, ◌∙◌, arith, get_or}
 use Rattle.std.specs.Prelude.{slice_get, slice_index}
 use Rattle.std.proofs.lemmas.List.{length-map, take_more, take_all}
@@ -20,7 +20,7 @@ use Rattle.blast_rule.specs.Gates.{root_width}
 use Rattle.blast_rule.specs.Runs.{shape}
 use Rattle.blast_rule.proofs.Counts.{root_class}
 
--- the source is its temporaries and the root's statement
+-- the source is its temporaries and, last, the root's statement
 pub parts : (rule : Rule) (root : Statement) → 0 < length rule.source → root ≡ get_or rule.source (length rule.source - 1) root → rule.source ≡ temporaries_of rule ++ root ∷ []
 parts rule root some is =
     sym (take_all (length rule.source - 1 + 1) rule.source (omega arith)) ∙ take_more rule.source (length rule.source - 1) root (omega arith) ∙ ap (λ x. temporaries_of rule ++ x ∷ []) (sym is)
@@ -30,7 +30,7 @@ last_value value items h at =
     let place : length (map (held_value value) items) - 1 ≡ length items - 1 = ap (λ n. n - 1) (length-map items (held_value value)) in
     (held_value value h, rw place (slice_get-map (held_value value) items (length items - 1) ∙ ap (option_map (held_value value)) at), refl)
 
--- the last statement of some
+-- some statements have a last one
 pub last_statement : (statements : List Statement) → 0 < length statements → (s : Statement) × (slice_get statements (length statements - 1) ≡ Some s) × (s ≡ get_or statements (length statements - 1) s)
 last_statement [] some = absurd (omega arith)
 last_statement (d ∷ rest) some =
@@ -38,12 +38,12 @@ last_statement (d ∷ rest) some =
     let at : slice_get (d ∷ rest) (length (d ∷ rest) - 1) ≡ Some s = slice_get-get_or (d ∷ rest) (length (d ∷ rest) - 1) d (omega arith) in
     (s, at, sym (get_or_from_slice_get (d ∷ rest) (length (d ∷ rest) - 1) s s at))
 
--- the word of the source's root has the root's width
+-- the word of the root's statement in the source has the root's width
 pub source_width : (rule : Rule) (typing : List ℕ) (root : Statement) (n : ℕ) → 0 < length rule.source → root ≡ get_or rule.source (length rule.source - 1) root → slice_get typing root.class ≡ Some n → n ≡ root_width rule typing
 source_width rule typing root n some is at =
     sym (get_or_from_slice_get typing root.class n 0 at) ∙ ap (λ (s : Statement). slice_index typing s.class) is ∙ root_class rule typing root some
 
--- and so has the target's
+-- the word of the last statement of the target has the root's width too
 pub target_width : {L : Type 0} (rule : Rule) (typing : List ℕ) (target : List (Held L)) (h : Held L) → IsRule rule → IsTyping rule typing → length target ≡ length rule.target
     → ValuesFit typing rule.target (map shape target) → slice_get target (length target - 1) ≡ Some h → length h.bits ≡ root_width rule typing
 target_width rule typing target h checked typed count fit at =

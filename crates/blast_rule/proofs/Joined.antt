@@ -1,4 +1,4 @@
--- What the two halves do, joined from their parts.
+-- The effects of both halves, put together from those of their parts.
 use Rattle.std.proofs.Common.{◌≡◌, ℕ, Bool, true, false, if◌then◌else◌, List, [], ◌∷◌, ◌++◌, map, refl, sym, ap, subst, ◌∙◌}
 use Rattle.std.specs.Prelude.{slice_index}
 use Rattle.std.specs.List.{All}
@@ -33,12 +33,12 @@ use Rattle.blast_rule.proofs.Runs.{held_after}
 use Rattle.blast_rule.proofs.Steps.{source-gives, target-gives}
 use Rattle.rule_core.proofs.Unchosen.{temporaries_same}
 
--- what holds where statements have ended
+-- where statements end without undefined behaviour, the registers hold these values
 ended : (undefined : Bool) (now held : Registry) → ending undefined now ≡ Holds held → now ≡ held
 ended true now held is = cc
 ended false now held is = cc
 
--- both ways of choosing a number are one
+-- both definitions of the numbers that `Wit:` chooses agree
 choices_same : (rule : Rule) (typing : List ℕ) (setting : Setting) (held : Registry) (places : List ℕ)
     → map (number_chosen (term_widths typing rule.witness_terms) (witness_values rule typing setting held)) places ≡ map (witness_number rule typing setting held) places
 choices_same rule typing setting held [] = refl
@@ -53,7 +53,7 @@ module _ {C L : Type 0} {state : Ghosts C L} {a b : C} (keeps : Keeps state a b)
   abbrev at : Setting
   at = record { inputs = map (held_value (state.value a read)) inputs; constants = map (number_held (state.value a read)) constants; target_choices = map (number_held (state.value a read)) left_open }
 
-  -- how the temporaries end
+  -- the run of the temporaries, as the literals tell it
   abbrev Ran : Type 0
   Ran = Follows typing (given_by typing at.constants [] rule) holding_source (temporaries_of rule) (holds (state.value b read) inputs [] []) (ending (state.value b read u) (holds (state.value b read) inputs source []))
 
@@ -61,7 +61,7 @@ module _ {C L : Type 0} {state : Ghosts C L} {a b : C} (keeps : Keeps state a b)
   temporaries_end ran = subst (λ vs. Follows typing (given_by typing at.constants [] rule) holding_source (temporaries_of rule) (at_start vs) (ending (state.value b read u) (holds (state.value b read) inputs source [])))
       (values-kept keeps read admitted inputs own_inputs) ran
 
-  -- and what `Wit:` chooses then
+  -- the numbers that `Wit:` chooses after the temporaries
   pub chooses : Ran → (before : Scope L) → Reads before inputs source [] constants left_open terms → (words : List Number) → ((names : Meanings) → MeansNames (state.value b read) before names → words ≡ numbers_chosen typing names rule) → Chooses rule typing at words
   chooses ran before reads words numbers held ends =
       let once = follows_once typing (given_by typing at.constants [] rule) holding_source (temporaries_of rule) (at_start at.inputs) (ending (state.value b read u) (holds (state.value b read) inputs source [])) (Holds held) (temporaries_end ran) ends in
@@ -73,7 +73,7 @@ module _ {C L : Type 0} {state : Ghosts C L} {a b : C} (keeps : Keeps state a b)
         registers = λ r. ap (λ (h : Registry). unwrap_or (value_of h r) Poison) (sym same);
       }) ∙ choices_same rule typing at held rule.witnesses
 
-  -- what statements are given beside registers
+  -- the constants, choices and terms that statements are given have the values that the literals say
   pub is_given : (s : Scope L) (held_inputs held_source held_target : List (Held L)) (words : List (List L)) → Reads s held_inputs held_source held_target constants words terms → (choices : List Number) → choices ≡ map (number_held (state.value b read)) words
       → AreTerms (state.value a read) rule typing at.constants terms → All (All (state.has_literal a)) terms → IsGiven (state.value b read) s (given_by typing at.constants choices rule)
   is_given s held_inputs held_source held_target words reads choices is terms_are own_terms =
@@ -87,7 +87,7 @@ module _ {C L : Type 0} {state : Ghosts C L} {a b : C} (keeps : Keeps state a b)
     d_admitted : state.admits d read
     d_admitted = third.admitted read (second.admitted read b_admitted)
 
-    -- the source's effect is its root's after the temporaries
+    -- the source's effect is that of its root, after its temporaries
     pub source_effect : (choices : List Number) (root : Statement) (made : Blasted L) → rule.source ≡ temporaries_of rule ++ root ∷ [] → IsOwnEffect (state.has_literal d) made → (state.value m read u ≡ true → state.value d read made.undefined ≡ true)
         → (state.value m read u ≡ false → StatementGives typing (given_by typing at.constants choices rule) (holds (state.value d read) inputs source []) root (effect_of (state.value d read) made))
         → SourceGives typing at.constants choices rule at.inputs (effect_of (state.value e read) made)
@@ -105,7 +105,7 @@ module _ {C L : Type 0} {state : Ghosts C L} {a b : C} (keeps : Keeps state a b)
         subst (λ e'. SourceGives typing at.constants choices rule at.inputs e') (sym (effect_of-kept fourth read d_admitted made own))
         (subst (λ vs. SourceGives typing at.constants choices rule vs (effect_of (state.value d read) made)) whole effect_now)
 
-    -- and the target's is that of its statements
+    -- the target's effect is that of its statements, after the source's temporaries
     pub target_effect : (after : Effect) (made : Blasted L) → TargetGoesOn typing at.constants at.target_choices rule (holds (state.value m read) inputs source []) after → effect_of (state.value e read) made ≡ (if state.value d read u then effects.Undefined else after)
         → TargetGives typing at.constants at.target_choices rule at.inputs (effect_of (state.value e read) made)
     target_effect after made goes is =

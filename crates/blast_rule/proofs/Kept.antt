@@ -1,4 +1,4 @@
--- What a circuit that keeps its older literals keeps of what statements read beside registers.
+-- Where a circuit keeps its older literals, the constants, choices and terms that statements read stay the same.
 use Rattle.std.proofs.Common.{Bool, List, sym, ◌∙◌}
 use Rattle.circuits.specs.declared.state.State.{Ghosts}
 use Rattle.circuits.specs.Circuit.{Keeps}

@@ -1,4 +1,4 @@
--- What registers hold, and whether they can be read.
+-- The values of registers and of other operands, and whether they may be read.
 use Rattle.std.proofs.Common.{◌≡◌, ℕ, ◌<◌, ◌≤◌, Bool, true, false, List, length, map, Option, Some, None, Result, IfOk, refl, sym, ap, subst, ◌∙◌, arith}
 use Rattle.std.specs.Prelude.{slice_get, slice_index, IsSome, ℤ, if◌then◌else◌}
 use Rattle.std.specs.Option.{option_map}
@@ -41,7 +41,7 @@ module _ {L : Type 0} (r : Scope L) where
   option_shape None v is = cc
   option_shape (Some held) v is = (held, refl, same_Some (shape held) v is)
 
-  -- a register that can be read holds literals of that width
+  -- a register that may be read at a width has literals of that width
   pub register_ready : (typing : List ℕ) (N : ℕ) (o : Operand) (reg : Register) → OperandIsReady typing (given_shape r) (shapes r) N o → o.value ≡ arguments.Register reg
       → (held : Held L) × (held_at r reg ≡ Some held) × (length held.bits ≡ N)
   register_ready typing N o reg (width, ready) is =
@@ -49,13 +49,13 @@ module _ {L : Type 0} (r : Scope L) where
       let h = option_shape (held_at r reg) read.0 (sym (value_of-shapes reg) ∙ read.1) in
       (h.0, h.1, (subst (IsValueOf N) (sym h.2) read.2).0)
 
-  -- and gives what they stand for
+  -- the value of the register is the one that these literals stand for
   pub register_gives : (typing : List ℕ) (given : Given) (value : L → Bool) (N : ℕ) (o : Operand) (reg : Register) (held : Held L) → slice_get typing o.class ≡ Some N → o.value ≡ arguments.Register reg
       → held_at r reg ≡ Some held → OperandGives typing given (seen value r) o (held_value value held)
   register_gives typing given value N o reg held width is at =
       (N, width, subst (λ x. ArgumentGives typing given (seen value r) N x (held_value value held)) (sym is) (value_of-seen value reg ∙ ap (option_map (held_value value)) at))
 
--- a word that can be read has the width that it is read at
+-- a word that may be read at a width has that width
 option_word : {X Y : Type 0} (f : X → Y) (o : Option X) (y : Y) → option_map f o ≡ Some y → (x : X) × (o ≡ Some x) × (f x ≡ y)
 option_word f None y is = cc
 option_word f (Some x) y is = (x, refl, same_Some (f x) y is)
@@ -65,7 +65,7 @@ word_at words k N (n, there, fits) =
     let w = option_word word_shape (slice_get words k) n (sym (slice_get-map word_shape words k) ∙ there) in
     (w.0, w.1, ap (λ (m : Number). m.width) w.2 ∙ fits.0)
 
--- and stands for the number there
+-- the number at a place is the one for which the word there stands
 pub number_given : {L : Type 0} (value : L → Bool) (words : List (List L)) (numbers : List Number) (k : ℕ) (w : List L) → numbers ≡ map (number_held value) words → slice_get words k ≡ Some w → slice_get numbers k ≡ Some (number_held value w)
 number_given value words numbers k w is at = ap (λ ns. slice_get ns k) is ∙ slice_get-map (number_held value) words k ∙ ap (option_map (number_held value)) at
 
@@ -103,17 +103,17 @@ module _ {L : Type 0} (r : Scope L) (typing : List ℕ) (N : ℕ) (o : Operand) 
       let number : number_of value w ≡ number_or_zero (value_at given.terms k) = zero_given value r.terms.now given.terms k w is_given.terms at in
       (N, ready.0, subst (λ x. ArgumentGives typing given (seen value r) N x v) (sym is) (same ∙ rw (width, number) refl))
 
--- a class that has a width has the one that the list tells
+-- the width of a class, if it has one, is the one that is told of it
 pub width_told : (typing : List ℕ) (c N W : ℕ) → slice_get typing c ≡ Some N → W ≡ slice_index typing c → W ≡ N
 width_told typing c N W at is = is ∙ get_or_from_slice_get typing c N 0 at
 
--- so that the literals of an operand are some
+-- an operand has at least one bit, as its class has a width
 pub some_bits : {L E : Type 0} (typing : List ℕ) (c W : ℕ) (r : Result (Held L) E) → 1 ≤ W → W ≡ slice_index typing c
     → IfOk r (λ held. slice_get typing c ≡ Some (length held.bits)) → IfOk r (λ held. 1 ≤ length held.bits)
 some_bits typing c W r some is at =
     IfOk-weaker r (λ held. slice_get typing c ≡ Some (length held.bits)) (λ held. 1 ≤ length held.bits) (λ held width. let same : W ≡ length held.bits = width_told typing c (length held.bits) W width is in omega arith) at
 
--- a literal, `true` or `false` gives its number
+-- the operands that are literals, and `true` and `false`, give their numbers
 module _ (typing : List ℕ) (given : Given) (held : run.Held) (N W : ℕ) (o : Operand) (v : Value) (at : slice_get typing o.class ≡ Some N) (width : W ≡ slice_index typing o.class) where
   pub literal_gives : (z : ℤ) → o.value ≡ arguments.Literal z → v ≡ bits W (residue W z) → OperandGives typing given held o v
   literal_gives z is value =

@@ -1,4 +1,5 @@
--- The nodes of a rule's terms, of its precondition and of its `Wit:` can be built.
+-- The nodes of a rule's terms, precondition and `Wit:` may be built: each thing that they read has literals of the
+-- right width.
 use Rattle.std.proofs.Common.{◌≡◌, ℕ, ◌<◌, ◌≤◌, List, [], length, map, take, Some, refl, sym, ap, ◌∙◌, arith, get_or, get_or-take}
 use Rattle.std.specs.Prelude.{slice_get, slice_index}
 use Rattle.std.specs.Option.{option_map}
@@ -21,18 +22,18 @@ use Rattle.blast_setting.specs.Inputs.{constant_widths, named_width}
 use Rattle.blast_term.specs.Terms.{HasWord, NodeIsHeld, TermsAreHeld, FormulaIsHeld, FormulasAreHeld, term_widths}
 use Rattle.blast_setting.proofs.Widths.{named_width-is, are_named, length-named_widths, named_widths-at}
 
--- the width of a node at a place
+-- the width of the node at a place
 pub width_at : (typing : List ℕ) (terms : List Term) (a N : ℕ) (x : Term) → slice_get terms a ≡ Some x → slice_get typing x.class ≡ Some N → slice_get (term_widths typing terms) a ≡ Some N
 width_at typing terms a N x at width =
     slice_get-map (λ (t : Term). slice_index typing t.class) terms a ∙ ap (option_map (λ (t : Term). slice_index typing t.class)) at ∙ ap (λ M. Some M) (get_or_from_slice_get typing x.class N 0 width)
 
--- stands among the first ones as well
+-- an element before place n is one of the first n
 pub get_taken : {X : Type 0} (xs : List X) (n a : ℕ) (x : X) → a < n → slice_get xs a ≡ Some x → slice_get (take n xs) a ≡ Some x
 get_taken xs n a x less at =
     let within : a < length xs = slice_get_within xs a x at in
     slice_get-get_or (take n xs) a x (omega (arith, length-take n xs)) ∙ ap (λ y. Some y) (get_or-take n xs a x less ∙ get_or_from_slice_get xs a x x at)
 
--- a word of the constants' widths is there for each of them
+-- there is a word of its width for each constant
 word_there : {L : Type 0} (rule : Rule) (typing : List ℕ) (words : List (List L)) (k c N : ℕ) → IsRule rule → IsTyping rule typing → map length words ≡ constant_widths rule typing → k < length rule.constants
     → (t : Term) → IsTermOf rule t → t.node ≡ nodes.Constant k → slice_get typing t.class ≡ Some N → HasWord words k N
 word_there rule typing words k c N checked typed widths within t stands is width =
@@ -75,7 +76,7 @@ module _ {L : Type 0} (rule : Rule) (typing : List ℕ) (checked : IsRule rule) 
       let told : slice_index typing t.class ≡ w.0 = get_or_from_slice_get typing t.class w.0 0 w.1 in
       (slice_get_within typing t.class w.0 w.1, rw told (constant_node n w.0 t t.node at refl (checked.terms n t at) w.1))
 
--- the precondition reads terms of one width in each comparison
+-- each comparison of the precondition reads two terms of the same width
 module _ (rule : Rule) (typing : List ℕ) (checked : IsRule rule) (typed : IsTyping rule typing) where
   term_there : (a : ℕ) → a < length rule.terms → (x : Term) × (N : ℕ) × (slice_get rule.terms a ≡ Some x) × (slice_get typing x.class ≡ Some N) × (slice_get (term_widths typing rule.terms) a ≡ Some N) × (1 ≤ N) × (N ≤ 64)
   term_there a within =

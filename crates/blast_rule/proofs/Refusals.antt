@@ -1,4 +1,4 @@
--- Where one effect refuses another, told by the bits of both.
+-- When an effect doesn't allow another, told by the bits of both.
 use Rattle.std.proofs.Common.{◌≡◌, ℕ, ◌↔◌, ◌==◌, Bool, true, false, not, ◌&&◌, ◌||◌, if◌then◌else◌, refl, sym, ap, ◌∙◌, eq-eqb}
 use Rattle.std.specs.Prelude.{IsTrue}
 use Rattle.std.proofs.lemmas.Bool.{eqb-true}
@@ -15,8 +15,8 @@ other_number N M n m width = elim (n == m) as (λ e. (n == m) ≡ e → IsTrue (
   | false ↦ λ e. (λ h same. absurd (falsity (sym e ∙ eq-eqb n m (sym (ap number_or_zero same)))), λ other. refl)
 ] refl
 
--- the source isn't undefined behaviour, and the target is, or the source isn't poison and the target is poison or
--- another number
+-- The source has no undefined behaviour, and the target has, or the source isn't poison and the target is poison or
+-- another number: exactly then the source's effect doesn't allow the target's.
 pub refused_where : (su sp tu tp : Bool) (N M n m : ℕ) → M ≡ N
     → IsTrue (not su && (tu || (not sp && (tp || not (n == m)))))
     ↔ ¬ AllowsEffect (if su then Undefined else Gives (if sp then Poison else bits N n)) (if tu then Undefined else Gives (if tp then Poison else bits M m))

@@ -1,4 +1,4 @@
--- A run of statements in literals, one statement more.
+-- A run of statements as literals, statement by statement.
 use Rattle.std.proofs.Common.{◌≡◌, ℕ, zero, suc, ◌+◌, ◌-◌, ◌<◌, ◌≤◌, Bool, true, false, List, [], ◌∷◌, ◌++◌, length, map, take, Some, refl, sym, ap, subst, ◌∙◌, arith, get_or}
 use Rattle.std.specs.Prelude.{slice_get}
 use Rattle.std.specs.List.{All}
@@ -22,11 +22,11 @@ use Rattle.blast_term.specs.Scope.{holds}
 use Rattle.blast_value.proofs.Kept.{values-kept}
 use Rattle.blast_rule.proofs.Steps.{follows-push}
 
--- what the register of a statement holds
+-- the literals of the register of a statement, after it
 abbrev pub held_after : {L : Type 0} → Blasted L → Held L
 held_after made = record { bits = made.bits; poison = made.poison }
 
--- the gates of one statement more, and of fewer statements
+-- the gates of the first statements, with one more; below, those of fewer statements are no more
 pub run_gates-more : (typing : List ℕ) (statements : List Statement) (i : ℕ) (s : Statement) → i < length statements → s ≡ get_or statements i s → run_gates typing (take (i + 1) statements) ≡ run_gates typing (take i statements) + statement_gates typing s
 run_gates-more typing statements i s within is =
     ap (λ xs. run_gates typing xs) (take_more statements i s within ∙ ap (λ x. take i statements ++ x ∷ []) (sym is)) ∙ sum_by_push (statement_gates typing) (take i statements) s
@@ -43,14 +43,14 @@ run_gates-within typing statements i within =
     let whole = ap (λ xs. run_gates typing xs) (take_all (length statements) statements (omega arith)) in
     omega (arith, whole, run_gates-fewer typing statements i (length statements) within)
 
--- a turn's gates, among those of the first n statements, and of all
+-- the gates of one turn of a loop over statements stay within those of the first n
 pub run_gates-turn : (typing : List ℕ) (statements : List Statement) (i n : ℕ) (s : Statement) → i < n → n ≤ length statements → s ≡ get_or statements i s → run_gates typing (take i statements) + statement_gates typing s ≤ run_gates typing (take n statements)
 run_gates-turn typing statements i n s inside within is = omega (arith, run_gates-more typing statements i s (omega arith) is, run_gates-fewer typing statements (i + 1) n (omega arith))
 
 pub run_gates-turn_of_all : (typing : List ℕ) (statements : List Statement) (i : ℕ) (s : Statement) → i < length statements → s ≡ get_or statements i s → run_gates typing (take i statements) + statement_gates typing s ≤ run_gates typing statements
 run_gates-turn_of_all typing statements i s inside is = omega (arith, run_gates-more typing statements i s inside is, run_gates-within typing statements (i + 1) (omega arith))
 
--- the shapes of what statements have assigned fit, with one more
+-- the shapes of what statements have assigned fit the statements' types, with one more statement
 pub shapes_fit-push : {L : Type 0} (typing : List ℕ) (statements : List Statement) (items : List (Held L)) (i : ℕ) (s : Statement) (held : Held L)
     → ValuesFit typing statements (map shape items) → length items ≡ i → slice_get statements i ≡ Some s → slice_get typing s.class ≡ Some (length held.bits) → ValuesFit typing statements (map shape (items ++ held ∷ []))
 shapes_fit-push typing statements items i s held fit count at width =
@@ -66,14 +66,14 @@ module _ {C L : Type 0} {state : Ghosts C L} {now next : C} (keeps : Keeps state
   pub holds-kept : (target : List (Held L)) → All (IsOwn (state.has_literal now)) target → holds (state.value next read) inputs source target ≡ holds (state.value now read) inputs source target
   holds-kept target own = rw (values-kept keeps read admitted inputs own_inputs, values-kept keeps read admitted source own_source, values-kept keeps read admitted target own) refl
 
--- registers that hold nothing are a circuit's
+-- no literals at all are a circuit's own
 pub own_none : {L : Type 0} (P : L → Type 0) → All P []
 own_none P k d within = absurd (omega arith)
 
 pub own_last : {X : Type 0} (P : X → Type 0) (xs : List X) (x : X) → All P xs → slice_get xs (length xs - 1) ≡ Some x → P x
 own_last P xs x all at = subst P (get_or_from_slice_get xs (length xs - 1) x x at) (all (length xs - 1) x (slice_get_within xs (length xs - 1) x at))
 
--- a statement after those that have run
+-- one more statement runs after those before
 module _ {C L : Type 0} {state : Ghosts C L} {now next : C} (keeps : Keeps state now next) (read : List Bool) (admitted : state.admits now read)
     (typing : List ℕ) (given : Given) (statements : List Statement) (i : ℕ) (s : Statement) (within : i < length statements) (is : s ≡ get_or statements i s) (inputs items : List (Held L)) (before : L) (made : Blasted L)
     (own_inputs : All (IsOwn (state.has_literal now)) inputs) (own_items : All (IsOwn (state.has_literal now)) items)

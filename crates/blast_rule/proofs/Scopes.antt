@@ -1,4 +1,4 @@
--- What a scope is made of.
+-- The parts of a scope.
 use Rattle.std.proofs.Common.{◌≡◌, Bool, List, length, map, refl, sym, ap, ◌∙◌}
 use Rattle.ops.specs.Integer.{bits}
 use Rattle.circuits.specs.Word.{number_of}
@@ -10,7 +10,7 @@ use Rattle.blast_value.specs.Words.{number_held}
 use Rattle.blast_term.specs.Scope.{holds, seen}
 use Rattle.blast_rule.specs.Runs.{word_shape, given_shape, IsGiven}
 
--- the scope reads these literals
+-- the scope has these literals of registers, and these words
 pub record Reads {L : Type 0} (s : Scope L) (inputs source target : List (Held L)) (constants choices terms : List (List L)) : Type 0 where
   pub inputs_are : s.inputs.now ≡ inputs
   pub source_are : s.source.now ≡ source

@@ -1,4 +1,4 @@
--- Words of the right widths can be read.
+-- Literals of the right widths may be read as what statements ask for.
 use Rattle.std.proofs.Common.{◌≡◌, ℕ, zero, suc, ◌<◌, List, [], ◌∷◌, length, map, take, Some, refl, sym, ap, subst, ◌∙◌, arith, get_or}
 use Rattle.std.specs.Prelude.{slice_get, slice_index}
 use Rattle.std.specs.Option.{option_map, option_map_or}
@@ -26,7 +26,7 @@ use Rattle.blast_term.specs.Terms.{term_widths}
 use Rattle.blast_setting.proofs.Written.{FitAll}
 use Rattle.blast_setting.proofs.Settings.{IsNumberOf, inputs_fit, constants_fit, target_choices_fit}
 
--- what stands for things by their sizes has these widths
+-- things of these sizes fit what is asked at these widths
 module _ {M X : Type 0} (Fits : ℕ → X → Type 0) (size : M → ℕ) (stand : M → X) (fits : (m : M) → Fits (size m) (stand m)) where
   pub stands_fit : (items : List M) (k N : ℕ) (x : X) → slice_get (map size items) k ≡ Some N → slice_get (map stand items) k ≡ Some x → Fits N x
   stands_fit [] k N x at there = absurd (omega (arith, slice_get_within [] k N at))
@@ -46,7 +46,7 @@ word_fits : {L : Type 0} (word : List L) → IsNumberOf (length word) (word_shap
 word_fits word = (refl, pow_pos (length word))
 
 module _ {L : Type 0} (rule : Rule) (typing : List ℕ) (checked : IsRule rule) (typed : IsTyping rule typing) where
-  -- as inputs, constants and choices of the target
+  -- literals of the rule's inputs; below, words of its constants and of the target's choices
   pub inputs_stand : (items : List (Held L)) → widths_of items ≡ input_widths rule typing → InputsFit rule typing (map shape items)
   inputs_stand items is = inputs_fit rule typing checked typed (map shape items) (all_stand IsValueOf (λ (h : Held L). length h.bits) shape shape_fits items (input_widths rule typing) is)
 
@@ -56,7 +56,7 @@ module _ {L : Type 0} (rule : Rule) (typing : List ℕ) (checked : IsRule rule) 
   pub target_choices_stand : (words : List (List L)) → map length words ≡ choice_widths rule typing → TargetChoicesFit rule typing (map word_shape words)
   target_choices_stand words is = target_choices_fit rule typing checked typed (map word_shape words) (all_stand IsNumberOf length word_shape word_fits words (choice_widths rule typing) is)
 
-  -- as what terms give
+  -- words of the rule's terms
   pub terms_stand : (words : List (List L)) → map length words ≡ widths_of_terms rule typing → (length (map (λ (word : List L). bits (length word) 0) words) ≡ length rule.terms) × TermsFit typing rule.terms (map (λ (word : List L). bits (length word) 0) words)
   terms_stand words is = (
     length-map words (λ (word : List L). bits (length word) 0) ∙ sym (length-map words length) ∙ ap length is ∙ length-map rule.terms (λ (t : Term). slice_index typing t.class),
@@ -66,7 +66,7 @@ module _ {L : Type 0} (rule : Rule) (typing : List ℕ) (checked : IsRule rule) 
         stands_fit IsValueOf length (λ (word : List L). bits (length word) 0) (λ word. (refl, pow_pos (length word))) words k N v told there,
   )
 
--- the width at a place of what terms are mapped to
+-- the width of the term at a place, 0 past the end
 pub width_at_place : (typing : List ℕ) (terms : List Term) (n : ℕ) → slice_index (term_widths typing terms) n ≡ option_map_or (λ (t : Term). slice_index typing t.class) (slice_get terms n) 0
 width_at_place typing [] zero = refl
 width_at_place typing [] (suc n) = refl
@@ -85,7 +85,7 @@ module _ {L : Type 0} (rule : Rule) (typing : List ℕ) (checked : IsRule rule) 
     target_choices = target_choices_stand rule typing checked typed left_open left_open_are;
   }
 
-  -- as what `Wit:` chooses
+  -- words of the numbers that `Wit:` chooses
   pub choices_stand : (words : List (List L)) → map length words ≡ map (slice_index (term_widths typing rule.witness_terms)) rule.witnesses → SourceChoicesFit rule typing (map word_shape words)
   choices_stand words is =
       let fit = choices_fit rule typing standing (at_start (map shape items)) checked typed standing_fits
@@ -105,7 +105,7 @@ module _ {L : Type 0} (rule : Rule) (typing : List ℕ) (checked : IsRule rule) 
             stands_fit IsNumberOf length word_shape word_fits words k N n size at;
       }
 
-  -- what statements read beside registers
+  -- all that statements read beside registers
   pub before_root_stands : (words : List (List L))
       → GivenFits rule typing (temporaries_of rule) (record { constants = map word_shape constants; choices = map word_shape words; terms = map (λ (word : List L). bits (length word) 0) terms })
   before_root_stands words = record {

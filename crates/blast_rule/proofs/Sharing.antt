@@ -1,4 +1,4 @@
--- How many gates the parts of a rule's halves have together.
+-- How many gates the parts of a rule's halves have together, where the temporaries are built once.
 use Rattle.std.proofs.Common.{◌≡◌, ℕ, ◌+◌, ◌-◌, ◌<◌, ◌≤◌, List, length, Some, refl, sym, ap, ◌∙◌, arith, get_or}
 use Rattle.std.specs.Prelude.{slice_get}
 use Rattle.std.proofs.lemmas.List.Sums.{sum_by_push}
@@ -9,7 +9,7 @@ use Rattle.rule_core.specs.Run.{temporaries_of}
 use Rattle.blast_rule.specs.Gates.{run_gates, statement_gates, root_gates}
 use Rattle.blast_rule.proofs.Effects.{parts, last_statement}
 
--- the source's are those of its temporaries and of the root's statement
+-- the gates of the source are those of its temporaries and of the root's statement
 pub source_gates : (rule : Rule) (typing : List ℕ) (root : Statement) → 0 < length rule.source → root ≡ get_or rule.source (length rule.source - 1) root
     → run_gates typing rule.source ≡ run_gates typing (temporaries_of rule) + statement_gates typing root
 source_gates rule typing root some is = ap (λ xs. run_gates typing xs) (parts rule root some is) ∙ sum_by_push (statement_gates typing) (temporaries_of rule) root
@@ -24,15 +24,15 @@ source_shared rule typing some =
     let root = last_statement rule.source some in
     source_gates rule typing root.0 some root.2 ∙ ap (λ n. run_gates typing (temporaries_of rule) + n) (sym (root_gates-are rule typing root.0 some root.2))
 
--- The gates of what was built first are no more than all:
--- the temporaries', before those of `Wit:`, the root, the target, and one;
+-- After each part is built, the gates so far are no more than those of all parts: after the temporaries, and then with
+-- `Wit:`, the root and the target.
 pub first : (witness temporaries root source target : ℕ) → source ≡ temporaries + root → temporaries ≤ witness + (source + target + 1)
 first witness temporaries root source target is = omega arith
 
 pub all : (witness temporaries root source target : ℕ) → source ≡ temporaries + root → temporaries + (witness + root + target + 1) ≤ witness + (source + target + 1)
 all witness temporaries root source target is = omega arith
 
--- and, after the temporaries, those of `Wit:`, of it and the root, and of these and the target
+-- the same, counted from after the temporaries: with `Wit:`, with the root, and with the target
 pub early : (witness root target : ℕ) → witness ≤ witness + root + target + 1
 early witness root target = omega arith
 

@@ -1,4 +1,4 @@
--- What a statement gives by what its operands give.
+-- The effect of a statement, by the values of its operands.
 use Rattle.std.proofs.Common.{◌≡◌, ℕ, Bool, true, false, ◌||◌, if◌then◌else◌, List, [], ◌∷◌, map, length, Some, refl, sym, ap, subst, ◌∙◌, arith}
 use Rattle.std.specs.Prelude.{slice_get}
 use Rattle.std.specs.List.{All, AllZip}
@@ -34,7 +34,7 @@ use Rattle.blast_rule.specs.Runs.{instruction_of, shapes, given_shape, IsGiven, 
 use Rattle.blast_term.specs.Scope.{seen}
 use Rattle.blast_value.proofs.Kept.{held_value-kept}
 
--- what is related to elements, one by one
+-- a list that is related to another element by element, where that has a first element
 uncons : {A B : Type 0} (R : A → B → Type 0) (x : A) (xs : List A) (ys : List B) → AllZip R (x ∷ xs) ys → (y : B) × (rest : List B) × (ys ≡ y ∷ rest) × R x y × AllZip R xs rest
 uncons R x xs [] all = absurd all
 uncons R x xs (y ∷ rest) all = (y, rest, refl, all.0, all.1)
@@ -58,7 +58,7 @@ three R a b c ys all =
     let others = two R b c first.1 first.4 in
     (first.0, others.0, others.1, first.2 ∙ ap (λ rest. first.0 ∷ rest) others.2, first.3, others.3, others.4)
 
--- the widest operand of a cast is its one
+-- the widest operand of a cast is its only one
 cast_greatest : (cast : Cast) (M : ℕ) → cast_gates cast (greatest (M ∷ [])) ≡ cast_gates cast M
 cast_greatest cast M = let one : greatest (M ∷ []) ≡ M = omega arith in ap (cast_gates cast) one
 
@@ -66,7 +66,7 @@ module _ {L : Type 0} (has_literal : L → Type 0) (admits : List Bool → Type 
   abbrev Holds : Operand → Held L → Type 0
   Holds o held = HoldsOperand has_literal admits value typing r o held
 
-  -- the literals of operands are the circuit's, of the operands' widths
+  -- the literals of operands are a circuit's own, of the operands' widths
   pub all_own : (operands : List Operand) (held : List (Held L)) → AllZip Holds operands held → All (IsOwn has_literal) held
   all_own [] [] all = All-nil (IsOwn has_literal)
   all_own [] (h ∷ held) all = absurd all
@@ -76,11 +76,12 @@ module _ {L : Type 0} (has_literal : L → Type 0) (admits : List Bool → Type 
   width_is : (N : ℕ) (o : Operand) (h : Held L) → slice_get typing o.class ≡ Some N → Holds o h → length h.bits ≡ N
   width_is N o h at holds = same_Some (length h.bits) N (sym holds.width ∙ at)
 
-  -- an operand's value has the width of its literals
+  -- the value of an operand has the width of its literals
   of_width : (inputs : List Bool) (M : ℕ) (h : Held L) → length h.bits ≡ M → HasWidth (held_value (value inputs) h) M
   of_width inputs M h is = elim (value inputs h.poison) as (λ b. HasWidth (if b then Poison else bits (length h.bits) (number_of (value inputs) h.bits)) M) [ true ↦ tt | false ↦ is ]
 
-  -- the instruction of a statement that is ready takes its operands, and its effect is the statement's
+  -- the instruction of the operation takes the operands, its circuit has the operation's gates, and its effect is the
+  -- operation's
   pub record Blasts (op : Op) (what : Instruction) (N : ℕ) (held : List (Held L)) : Type 0 where
     pub takes : Takes what N (widths_of held)
     pub gates : gates_of what N (greatest (widths_of held)) ≡ op_gates typing N op
@@ -152,7 +153,7 @@ module _ {L : Type 0} (has_literal : L → Type 0) (admits : List Bool → Type 
   blasts (Freeze a k) what N held is ready all = cc
   blasts (Copy a) what N held is ready all = cc
 
--- the operands of an operation that is ready can be read
+-- the operand may be read
 abbrev CanBeRead : List ℕ → Given → Registry → Operand → Type 0
 CanBeRead typing given held o = (N : ℕ) × OperandIsReady typing given held N o
 
@@ -165,13 +166,13 @@ all_ready typing given held N (Convert cast flags a to) ready = All-from_recursi
 all_ready typing given held N (Freeze a k) ready = All-from_recursion (CanBeRead typing given held) (a ∷ []) ((N, ready.0), tt)
 all_ready typing given held N (Copy a) ready = All-from_recursion (CanBeRead typing given held) (a ∷ []) ((N, ready), tt)
 
--- a copy gives what its operand does
+-- a copy gives the value of its operand
 pub copy_gives : (typing : List ℕ) (given : Given) (held : Registry) (s : Statement) (N : ℕ) → slice_get typing s.class ≡ Some N → (a : Operand) (x : Value) (e : Effect)
     → s.op ≡ Copy a → OperandGives typing given held a x → e ≡ effects.Gives x → StatementGives typing given held s e
 copy_gives typing given held s N at a x e is gives same = (N, at, subst (λ o. OpGives typing given held N o e) (sym is) (x, gives, same))
 
 module _ {C L : Type 0} {state : Ghosts C L} {old new : C} (keeps : Keeps state old new) (inputs : List Bool) (admitted : state.admits old inputs) where
-  -- an effect stays, where its undefined bit is either of it and of one that is false
+  -- an effect stays the same where its undefined bit becomes the disjunction with a literal that is false
   pub effect-next : (made : Blasted L) (before undefined : L) → IsOwnEffect (state.has_literal old) made → state.value old inputs before ≡ false → state.value new inputs undefined ≡ (state.value old inputs before || state.value old inputs made.undefined)
       → effect_of (state.value new inputs) (record { bits = made.bits; poison = made.poison; undefined = undefined }) ≡ effect_of (state.value old inputs) made
   effect-next made before undefined own none is =

@@ -11,7 +11,7 @@ use Rattle.rule_core.specs.Run.{Held, Undefines, Holds, GoesOn, Leads, GivesLast
 use Rattle.rule_core.proofs.Unchosen.{follows-stops}
 use Rattle.blast_rule.specs.Runs.{ending}
 
--- the effect that an undefined bit and a value say
+-- undefined behaviour where the bit is true, and else the value
 abbrev pub effect : Bool → Value → Effect
 effect undefined v = if undefined then effects.Undefined else effects.Gives v
 
@@ -37,7 +37,7 @@ module _ (typing : List ℕ) (given : Given) where
     ] goes,
   )
 
-  -- one statement more
+  -- one more statement runs
   pub follows-push : (holding : Held → Value → Held) (first : List Statement) (s : Statement) (start now after : Held) (before undefined : Bool) (v : Value)
       → Follows typing given holding first start (ending before now) → (before ≡ true → undefined ≡ true) → (before ≡ false → StatementGives typing given now s (effect undefined v)) → after ≡ holding now v
       → Follows typing given holding (first ++ s ∷ []) start (ending undefined after)
@@ -45,7 +45,7 @@ module _ (typing : List ℕ) (given : Given) where
   follows-push holding first s start now after false true v ran stays gives is = follows-append holding first (s ∷ []) start now Undefines ran (effects.Undefined, gives refl, refl)
   follows-push holding first s start now after false false v ran stays gives is = follows-append holding first (s ∷ []) start now (Holds after) ran (effects.Gives v, gives refl, ap Holds is)
 
--- the source's effect is its root's after the temporaries
+-- the source's effect is that of its last statement, after the temporaries
 source_leads : (undefined : Bool) (inputs values target : List Value) (v : Value) → Leads (λ held. GivesLast held.source) (ending undefined (record { inputs = inputs; source = values ++ v ∷ []; target = target })) (effect undefined v)
 source_leads true inputs values target v = refl
 source_leads false inputs values target v = gives_last values v
@@ -60,7 +60,7 @@ source-gives typing constants choices rule inputs source root before undefined v
     let whole = follows-push typing given holding_source (temporaries_of rule) root (at_start inputs) now (holding_source now v) before undefined v ran stays gives refl in
     (ending undefined (holding_source now v), subst (λ statements. Follows typing given holding_source statements (at_start inputs) (ending undefined (holding_source now v))) (sym parts) whole, source_leads undefined inputs source [] v)
 
--- the target goes on from what is held, where its statements have run
+-- the target goes on from what registers hold after the temporaries, and its effect is that of its last statement
 target_leads : (undefined : Bool) (held : Held) (v : Value) → GivesLast held.target (effects.Gives v) → Leads (λ after. GivesLast after.target) (ending undefined held) (effect undefined v)
 target_leads true held v last = refl
 target_leads false held v last = last
@@ -70,7 +70,7 @@ pub target-goes-on : (typing : List ℕ) (constants choices : List Number) (rule
     → GivesLast after.target (effects.Gives v) → TargetGoesOn typing constants choices rule mid (effect here v)
 target-goes-on typing constants choices rule mid after here v later last = (ending here after, later, target_leads here after v last)
 
--- and gives its effect after the temporaries, or undefined behaviour where they have it
+-- the target's effect after the temporaries, or undefined behaviour where these have that
 pub target-gives : (typing : List ℕ) (constants choices : List Number) (rule : Rule) (inputs : List Value) (mid : Held) (before : Bool) (e e' : Effect)
     → TemporariesEnd typing constants rule inputs (ending before mid) → TargetGoesOn typing constants choices rule mid e → e' ≡ (if before then effects.Undefined else e)
     → TargetGives typing constants choices rule inputs e'

@@ -16,11 +16,11 @@ RulesWithoutCounterexampleReadAreValid =
     ((read : List Bool) → length read ≡ input_bits rule typing → Refutes rule typing (setting_of rule typing read) → ⊥) →
     IsValid rule typing
 
--- the circuit of a rule has at most 64 gates for each statement and each node and bit of its greatest width, and 64
--- more for each pair of bits of a product, a quotient or a remainder
+-- The circuit of a rule has at most 64 gates for each bit of the greatest width of each statement and each node, and 64
+-- more for each pair of bits of a product, a quotient or a remainder.
 abbrev pub GatesAreFew : Type 0
 GatesAreFew = (rule : Rule) (typing : List ℕ) → IsRule rule → IsTyping rule typing → most_gates rule typing ≤ rule_bound rule typing
 
--- and so fewer than 2 ^ 27
+-- so the circuit of a rule has fewer than 2 ^ 27 gates
 abbrev pub GatesAreBelow : Type 0
 GatesAreBelow = (rule : Rule) (typing : List ℕ) → IsRule rule → IsTyping rule typing → most_gates rule typing < 2 ^ 27

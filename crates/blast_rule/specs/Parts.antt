@@ -15,14 +15,14 @@ abbrev pub Refutes : Rule → List ℕ → Setting → Type 0
 Refutes rule typing setting =
     (choices : List Number) × (source : Effect) × (target : Effect) × IsCounterexample rule typing setting choices source target
 
--- all the literals are a circuit's
+-- all the literals are a circuit's own
 pub record AreOwn {L : Type 0} (has_literal : L → Type 0) (made : RuleBits L) : Type 0 where
   pub bad : has_literal made.bad
   pub choices : All (All has_literal) made.choices
   pub source : IsOwnEffect has_literal made.source
   pub target : IsOwnEffect has_literal made.target
 
--- both effects' numbers have this width
+-- the words of both effects have this width
 pub record HaveWidth {L : Type 0} (N : ℕ) (made : RuleBits L) : Type 0 where
   pub source : length made.source.bits ≡ N
   pub target : length made.target.bits ≡ N

@@ -1,4 +1,4 @@
--- What statements read, as the literals of a scope, and how they run.
+-- What statements read, as the literals of a scope, and how statements run.
 use Rattle.std.specs.Prelude.{◌≡◌, ◌≤◌, ℕ, Bool, if◌then◌else◌, List, [], length, map, Option, Some, None, slice_get}
 use Rattle.ops.specs.Number.{Number}
 use Rattle.ops.specs.Integer.{bits}
@@ -20,13 +20,14 @@ use Rattle.blast_term.specs.declared.scope.Scope.{Scope}
 use Rattle.blast_value.specs.Words.{number_held}
 use Rattle.blast_term.specs.Scope.{holds, seen}
 
--- what statements read beside registers is what the literals say
+-- the constants, choices and terms that statements are given have the values that the literals say; a term without a
+-- value counts as 0
 pub record IsGiven {L : Type 0} (value : L → Bool) (s : Scope L) (given : Given) : Type 0 where
   pub constants : given.constants ≡ map (number_held value) s.constants.now
   pub choices : given.choices ≡ map (number_held value) s.choices.now
   pub terms : map number_or_zero given.terms ≡ map (number_of value) s.terms.now
 
--- the setting that the literals stand for, of which the choices are the target's
+-- the setting that the literals stand for, where the choices are those of the target
 abbrev pub setting_seen : {L : Type 0} → (L → Bool) → Scope L → Setting
 setting_seen value s =
     record {
@@ -35,7 +36,7 @@ setting_seen value s =
       target_choices = map (number_held value) s.choices.now;
     }
 
--- a number of the width of a word: whether a statement can read what it reads goes by widths
+-- A number, and below a value, of the width of its literals: what a statement may read depends on widths alone.
 abbrev pub word_shape : {L : Type 0} → List L → Number
 word_shape word = record { width = length word; number = 0 }
 
@@ -59,29 +60,29 @@ instruction_of (Convert cast flags a to) = Some (instructions.Convert cast flags
 instruction_of (Freeze a k) = None
 instruction_of (Copy a) = None
 
--- these literals of a circuit stand for what the operand gives
+-- these literals of a circuit stand for the value of the operand
 pub record HoldsOperand {L : Type 0} (has_literal : L → Type 0) (admits : List Bool → Type 0) (value : List Bool → L → Bool) (typing : List ℕ) (s : Scope L) (o : Operand) (held : Held L) : Type 0 where
   pub gives : (inputs : List Bool) (given : Given) → admits inputs → IsGiven (value inputs) s given → OperandGives typing given (seen (value inputs) s) o (held_value (value inputs) held)
   pub width : slice_get typing o.class ≡ Some (length held.bits)
   pub some : 1 ≤ length held.bits
   pub own : IsOwn has_literal held
 
--- how statements end: in undefined behaviour, or with what registers hold then
+-- how a run of statements ends: in undefined behaviour, or with these values in the registers
 abbrev pub ending : Bool → run.Held → Ending
 ending undefined held = if undefined then Undefines else Holds held
 
 module _ {L : Type 0} (value : L → Bool) (rule : Rule) (typing : List ℕ) (given : Given) (inputs : List (Held L)) where
-  -- the source's temporaries have run
+  -- a run of the source's temporaries: what they assign, and whether one has undefined behaviour
   abbrev pub TemporariesRan : List (Held L) → L → Type 0
   TemporariesRan source undefined =
       Follows typing given holding_source (temporaries_of rule) (holds value inputs [] []) (ending (value undefined) (holds value inputs source []))
 
-  -- and after them the target's statements
+  -- a run of the target's statements, after the temporaries: what they assign, and whether one has undefined behaviour
   abbrev pub TargetRan : List (Held L) → List (Held L) → L → Type 0
   TargetRan source target undefined =
       Follows typing given holding_target rule.target (holds value inputs source []) (ending (value undefined) (holds value inputs source target))
 
--- words stand for what the rule's terms give, or 0 where one has no value
+-- the words have the numbers of the rule's terms at these constants, 0 where a term has no value
 abbrev pub AreTerms : {L : Type 0} → (L → Bool) → Rule → List ℕ → List Number → List (List L) → Type 0
 AreTerms value rule typing constants words =
     map (number_of value) words ≡ map number_or_zero (constant_values typing constants rule)

@@ -1,4 +1,4 @@
-//! Freezes in literals.
+//! Freezes as literals.
 ghost use Rattle.std.specs.Prelude.{◌≡◌, Bool, List as Seq, length, slice_get, slice_index, Some, IfOk};
 ghost use Rattle.std.specs.List.{All};
 ghost use Rattle.circuits.specs.Circuit.{Adds};
@@ -20,7 +20,8 @@ use ops::Width;
 use rule_core::{Operand, Statement};
 use std::alloc::{AllocError, Global};
 
-/// What a statement does that freezes the operand, given what it can read. Its number is the choice of this place.
+/// The effect of a freeze of this operand, by the scope that it reads. The number for poison is the choice at the place
+/// `choice`.
 pub(crate) fn blast_freeze<C: Circuit>(
     alloc: Global,
     c: &mut C,
@@ -51,7 +52,7 @@ pub(crate) fn blast_freeze<C: Circuit>(
     })
 }
 
-/// What a freeze gives: the value, or this number where that is poison.
+/// A frozen value: the value itself, or the number of the choice where that is poison.
 fn frozen<C: Circuit>(
     alloc: Global,
     c: &mut C,

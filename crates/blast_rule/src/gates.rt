@@ -27,7 +27,7 @@ pub fn most_gates(rule: &Rule, typing: &Typing) -> u32
         + 1
 }
 
-/// The same of the constant terms, their numbers, and the precondition.
+/// The most gates of the constant terms, their numbers, and the precondition.
 fn given_gates(rule: &Rule, typing: &[Width]) -> u32
     requires rule { IsRule rule.now }
     requires typing { IsTyping rule.now typing.now }
@@ -42,7 +42,7 @@ fn given_gates(rule: &Rule, typing: &[Width]) -> u32
         + terms.len() as u32
 }
 
-/// The same of what `Wit:` chooses.
+/// The most gates of the numbers that `Wit:` chooses.
 fn witness_gates(rule: &Rule, typing: &[Width]) -> u32
     requires rule { IsRule rule.now }
     requires typing { IsTyping rule.now typing.now }
@@ -54,7 +54,8 @@ fn witness_gates(rule: &Rule, typing: &[Width]) -> u32
     terms_gates(typing, terms) + choices_gates(typing, terms, places)
 }
 
-/// The same of the statements of both halves, and of whether one that the target runs has undefined behaviour.
+/// The most gates of the statements of both halves, and of the test whether a temporary or the target has undefined
+/// behaviour.
 fn halves_gates(rule: &Rule, typing: &[Width]) -> u32
     requires rule { IsRule rule.now }
     requires typing { IsTyping rule.now typing.now }
@@ -76,7 +77,7 @@ fn root_width(rule: &Rule, typing: &[Width]) -> Width
     width_of(typing, source[source.len() - 1].class)
 }
 
-/// The same of statements one after the other.
+/// The most gates of statements that run one after the other.
 fn run_gates(typing: &[Width], statements: &[Statement]) -> u32
     requires few { length statements.now ≤ 32 }
     requires classes { All (λ s. All (λ class. class < length typing.now) (classes_of_statement s)) statements.now }
@@ -90,7 +91,7 @@ fn run_gates(typing: &[Width], statements: &[Statement]) -> u32
     gates
 }
 
-/// The same of an operation, whose result has this width.
+/// The most gates of an operation whose result has this width.
 fn op_gates(typing: &[Width], width: Width, op: Op) -> u32
     requires { All (λ class. class < length typing.now) (map (λ o. o.class) (operands_of op)) }
     ensures value { result ≡ op_gates typing.now width op }

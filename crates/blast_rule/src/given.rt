@@ -1,4 +1,4 @@
-//! The constant terms of a rule and its precondition in literals.
+//! The constant terms of a rule and its precondition as literals.
 ghost use Rattle.std.specs.Prelude.{◌≡◌, ◌↔◌, Bool, IsTrue, List as Seq, length, map, IfOk};
 ghost use Rattle.std.specs.List.{All};
 ghost use Rattle.circuits.specs.Circuit.{Adds};
@@ -17,7 +17,7 @@ use ops::Width;
 use rule_core::Rule;
 use std::alloc::{AllocError, Global};
 
-/// What the constants of a rule say.
+/// What the constants of a rule determine.
 #[derive(Drop)]
 pub(crate) struct GivenBits<L> {
     /// The number of each node of the rule's terms, 0 where it has no value.
@@ -26,7 +26,7 @@ pub(crate) struct GivenBits<L> {
     pub(crate) met: L,
 }
 
-/// The constant terms of the rule and its precondition, where the constants are these numbers.
+/// The constant terms of the rule and its precondition, at these numbers of the constants.
 pub(crate) fn blast_given<C: Circuit>(
     alloc: Global,
     c: &mut C,

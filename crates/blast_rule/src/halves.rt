@@ -1,4 +1,4 @@
-//! The halves of a rule in literals.
+//! The halves of a rule as literals.
 ghost use Rattle.std.specs.Prelude.{◌≡◌, ◌+◌, [], if◌then◌else◌, Bool, List as Seq, length, map, IfOk};
 ghost use Rattle.std.specs.List.{All};
 ghost use Rattle.ops.specs.declared.value.Effect.TheVariants.{Undefined};
@@ -28,17 +28,17 @@ use ops::Width;
 use rule_core::Rule;
 use std::alloc::{AllocError, Global};
 
-/// What both halves do.
+/// The effects of both halves, and the choices that `Wit:` makes for the source.
 #[derive(Drop)]
 pub(crate) struct Halves<L> {
-    /// The number of each choice of the source.
+    /// The number that `Wit:` gives for each choice of the source.
     pub(crate) choices: List<Bits<L>>,
     pub(crate) source: Blasted<L>,
     pub(crate) target: Blasted<L>,
 }
 
-/// What `Wit:` chooses and what the source and the target do at a setting, where the rule's terms have these numbers.
-/// The source's temporaries are built once.
+/// The numbers that `Wit:` chooses and the effects of source and target at a setting, where the rule's terms have these
+/// numbers. The source's temporaries are built once, for both halves.
 pub(crate) fn blast_halves<C: Circuit>(
     alloc: Global,
     c: &mut C,
@@ -76,8 +76,8 @@ pub(crate) fn blast_halves<C: Circuit>(
     after_temporaries(alloc, c, rule, typing, before, temporaries.undefined)
 }
 
-/// The same after the source's temporaries, which `before` holds, and of which one has undefined behaviour where the
-/// literal is true.
+/// The rest, once the source's temporaries are built: `before` has their values, and `undefined` says whether one of
+/// them has undefined behaviour.
 fn after_temporaries<C: Circuit>(
     alloc: Global,
     c: &mut C,
@@ -128,7 +128,7 @@ fn after_temporaries<C: Circuit>(
     })
 }
 
-/// What the source's temporaries read.
+/// The scope of the source's temporaries: no register but the inputs is assigned, and no choice is made.
 fn scope_of<'a, L>(setting: &'a SettingBits<L>, terms: &'a [Bits<L>]) -> Scope<'a, L>
     ensures inputs { result.inputs.now ≡ setting.now.inputs }
     ensures source { result.source.now ≡ [] }
@@ -147,7 +147,7 @@ fn scope_of<'a, L>(setting: &'a SettingBits<L>, terms: &'a [Bits<L>]) -> Scope<'
     }
 }
 
-/// The effect of statements after others, of which one has undefined behaviour where the literal is true.
+/// The effect of statements that run after others; `before` says whether one of those has undefined behaviour.
 fn after<C: Circuit>(
     alloc: Global,
     c: &mut C,

@@ -10,8 +10,8 @@ pub fn rules_without_counterexample_read_are_valid()
     rule_core::rules_without_counterexample_are_valid();
 }
 
-/// The circuit of a rule has at most 64 gates for each statement and each node and bit of its greatest width, and 64
-/// more for each pair of bits of a product, a quotient or a remainder; so they are fewer than 2^27.
+/// The circuit of a rule has at most 64 gates for each bit of the greatest width of each statement and each node, and
+/// 64 more for each pair of bits of a product, a quotient or a remainder; so they are fewer than 2^27.
 pub fn gates_are_few()
     ensures few { GatesAreFew }
     ensures below { GatesAreBelow }

@@ -1,8 +1,8 @@
-//! A rule of the Alive language at a typing in circuits: the literal that is true exactly at its counterexamples,
-//! written once for every lawful circuit.
+//! Bit-blasting of a rule of the Alive language at a typing: a literal that is true exactly at its counterexamples,
+//! written once for every `Circuit`.
 //!
-//! The only error of a call is want of memory. A call that is refused may leave inputs and gates, no more gates than it
-//! may add; the older literals keep their values.
+//! The only error of a call is want of memory. A call that is refused for that may leave inputs and gates, no more
+//! gates than it may add; the older literals keep their values.
 #![tactic(auto)]
 
 mod freeze;

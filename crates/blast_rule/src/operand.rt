@@ -1,4 +1,4 @@
-//! What an operand gives.
+//! The values of operands.
 ghost use Rattle.std.specs.Prelude.{◌≡◌, ◌≤◌, ℕ, Bool, if◌then◌else◌, List as Seq, length, slice_get, Some, IfOk};
 ghost use Rattle.std.specs.List.{All, AllZip};
 ghost use Rattle.rule_core.specs.Run.{Given, OperandGives};
@@ -15,7 +15,7 @@ use ops::Width;
 use rule_core::{Argument, Operand};
 use std::alloc::{AllocError, Global};
 
-/// What operands give, in order. It makes no gate.
+/// The values of operands, in order. It makes no gate.
 pub(crate) fn operands_held<C: Circuit>(
     alloc: Global,
     c: &C,
@@ -35,7 +35,7 @@ pub(crate) fn operands_held<C: Circuit>(
     Ok(held)
 }
 
-/// What an operand gives. It makes no gate.
+/// The value of an operand. It makes no gate.
 pub(crate) fn operand_held<C: Circuit>(
     alloc: Global,
     c: &C,

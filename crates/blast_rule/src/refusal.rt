@@ -1,4 +1,4 @@
-//! Whether one effect allows another.
+//! Whether one effect doesn't allow another.
 ghost use Rattle.std.specs.Prelude.{◌≡◌, ◌+◌, ◌↔◌, IsTrue, Bool, List as Seq, length, IfOk};
 ghost use Rattle.ops.specs.Value.{AllowsEffect};
 ghost use Rattle.circuits.specs.Circuit.{Adds};
@@ -33,8 +33,8 @@ pub(crate) fn refusal_where<C: Circuit>(
     c.and(alloc, met, refused)
 }
 
-/// Whether the source's effect doesn't allow the target's: the source isn't undefined behaviour, and the target is, or
-/// the source isn't poison and the target is poison or another number.
+/// Whether the source's effect doesn't allow the target's: the source has no undefined behaviour, and the target has,
+/// or the source isn't poison and the target is poison or another number.
 fn refusal<C: Circuit>(
     alloc: Global,
     c: &mut C,

@@ -23,22 +23,22 @@ use ops::Width;
 use rule_core::{Rule, Typing};
 use std::alloc::{AllocError, Global};
 
-/// A rule in literals of a circuit.
+/// A rule as literals of a circuit.
 #[derive(Drop)]
 pub struct RuleBits<L> {
-    /// Whether the setting is a counterexample.
+    /// Whether the setting that the circuit's inputs are read as is a counterexample.
     pub bad: L,
-    /// The number that `Wit:` gives for each choice of the source, which are its `undef`s and a freeze.
+    /// The number that `Wit:` gives for each choice of the source: for each of its `undef`s, and for a freeze.
     pub choices: List<Bits<L>>,
-    /// What the source does.
+    /// The effect of the source.
     pub source: Blasted<L>,
-    /// What the target does.
+    /// The effect of the target.
     pub target: Blasted<L>,
 }
 
-/// The circuit of a rule at a typing, over inputs that stand for a setting: for each input of the rule its bits, the
-/// lowest first, and then its poison bit; then the bits of each constant, and then those of each choice of the target.
-/// It makes that many inputs and at most [`most_gates`](crate::most_gates) gates. The circuit has no inputs before.
+/// The circuit of a rule at a typing. Its inputs are a setting: for each input of the rule its bits, the lowest first,
+/// and then its poison bit; then the bits of each constant, and then those of each choice of the target. It makes that
+/// many inputs and at most [`most_gates`](crate::most_gates) gates. The circuit has no inputs before.
 pub fn blast_rule<C: Circuit>(
     alloc: Global,
     c: &mut C,
@@ -59,7 +59,7 @@ pub fn blast_rule<C: Circuit>(
     ensures width { IfOk result (HaveWidth (root_width rule.now typing.now)) }
     ensures own { IfOk result (AreOwn (C.has_literal c.new)) }
 
-    // As far as any list of inputs reaches, so many were made.
+    // `input_bits` inputs were made, as far as a list of inputs' values can tell.
     ensures inputs { OnOk result ((inputs : Seq Bool) → C.admits c.old inputs →
         drop (C.inputs_made c.new) inputs ≡ drop (input_bits rule.now typing.now) inputs) }
     ensures gates { C.gates_made c.new ≤ C.gates_made c.old + most_gates rule.now typing.now }
@@ -70,7 +70,7 @@ pub fn blast_rule<C: Circuit>(
     blast_at(alloc, c, rule, typing, &setting)
 }
 
-/// The circuit of a rule at a setting.
+/// The circuit of a rule over the literals of a setting.
 fn blast_at<C: Circuit>(
     alloc: Global,
     c: &mut C,

@@ -1,4 +1,4 @@
-//! One statement of a rule in literals.
+//! One statement of a rule as literals.
 ghost use Rattle.std.specs.Prelude.{◌≡◌, true, false, Bool, List as Seq, length, slice_get, slice_index, Some, IfOk};
 ghost use Rattle.circuits.specs.Circuit.{Adds};
 ghost use Rattle.rule_core.specs.declared.rule.Op.TheVariants.{Copy as CopyOf};
@@ -19,7 +19,8 @@ use ops::Width;
 use rule_core::{Op, Operand, Statement};
 use std::alloc::{AllocError, Global};
 
-/// What a statement does after others, given what it can read, and whether one of the others has undefined behaviour.
+/// The effect of a statement that runs after others, by the scope that it reads; `undefined` says whether one of those
+/// before has undefined behaviour.
 pub(crate) fn blast_next<C: Circuit>(
     alloc: Global,
     c: &mut C,
@@ -55,7 +56,7 @@ pub(crate) fn blast_next<C: Circuit>(
     })
 }
 
-/// What a statement does, given what it can read.
+/// The effect of a statement, by the scope that it reads.
 fn blast_statement<C: Circuit>(
     alloc: Global,
     c: &mut C,
@@ -110,7 +111,7 @@ fn blast_statement<C: Circuit>(
     }
 }
 
-/// The same of a statement with this instruction and these operands.
+/// The effect of a statement with this instruction and these operands.
 fn blast_instruction<C: Circuit>(
     alloc: Global,
     c: &mut C,
@@ -137,7 +138,7 @@ fn blast_instruction<C: Circuit>(
     blast_value(alloc, c, what, width_of(typing, statement.class), &held)
 }
 
-/// The same of a copy.
+/// The effect of a copy.
 fn blast_copy<C: Circuit>(
     alloc: Global,
     c: &C,

@@ -1,4 +1,4 @@
-//! The target of a rule in literals.
+//! The target of a rule as literals.
 ghost use Rattle.std.specs.Prelude.{◌≡◌, ◌+◌, ◌-◌, ◌<◌, [], Bool, List as Seq, Some, length, map, slice_get, vec_len, IfOk};
 ghost use Rattle.std.specs.List.{All};
 ghost use Rattle.circuits.specs.Circuit.{Adds};
@@ -22,7 +22,7 @@ use ops::Width;
 use rule_core::Rule;
 use std::alloc::{AllocError, Global};
 
-/// What the target does after the source's temporaries, which `scope` holds.
+/// The effect of the target after the source's temporaries, whose values `scope` has.
 pub(crate) fn blast_target<C: Circuit>(
     alloc: Global,
     c: &mut C,
@@ -56,7 +56,7 @@ pub(crate) fn blast_target<C: Circuit>(
     })
 }
 
-/// The last of what statements have assigned.
+/// The value that the last statement has assigned.
 fn last<L: Copy>(mut held: Vec<Held<L>>) -> Held<L>
     requires { 0 < vec_len held }
     ensures { slice_get held.items (length held.items - 1) ≡ Some result }
@@ -67,7 +67,7 @@ fn last<L: Copy>(mut held: Vec<Held<L>>) -> Held<L>
     }
 }
 
-/// What the target's statements hold after the source's temporaries.
+/// The values that the target's statements assign, after the source's temporaries.
 fn blast_statements<C: Circuit>(
     alloc: Global,
     c: &mut C,

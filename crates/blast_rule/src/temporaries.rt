@@ -1,4 +1,4 @@
-//! The temporaries of a source in literals.
+//! The temporaries of a source as literals.
 ghost use Rattle.std.specs.Prelude.{◌≡◌, ◌+◌, Bool, List as Seq, length, map, IfOk};
 ghost use Rattle.std.specs.List.{All};
 ghost use Rattle.circuits.specs.Circuit.{Adds};
@@ -20,14 +20,15 @@ use ops::Width;
 use rule_core::Rule;
 use std::alloc::{AllocError, Global};
 
-/// What statements have assigned, and whether one of them has undefined behaviour.
+/// The values that statements have assigned, and whether one of them has undefined behaviour.
 #[derive(Drop)]
 pub(crate) struct Assigned<L> {
     pub(crate) held: Vec<Held<L>>,
     pub(crate) undefined: L,
 }
 
-/// What the source's temporaries hold, which read no register of `scope` but inputs and each other.
+/// The values of the source's temporaries, which read of `scope` no registers but inputs, and one
+/// another.
 pub(crate) fn blast_temporaries<C: Circuit>(
     alloc: Global,
     c: &mut C,
@@ -67,7 +68,7 @@ pub(crate) fn blast_temporaries<C: Circuit>(
     Ok(Assigned { held, undefined })
 }
 
-/// What the register of a statement holds after it.
+/// The literals of the register of a statement, after it.
 pub(crate) fn held_of<L: Copy>(made: Blasted<L>) -> Held<L>
     ensures { result ≡ record { bits = made.bits; poison = made.poison } }
 {

@@ -1,4 +1,4 @@
--- The choices of statements: where each stands, the width of its class, and those of statements one after the other.
+-- The choices of statements: the place and the width of each, and those of a list of statements.
 use Rattle.std.proofs.Common.{◌≡◌, ℕ, ◌+◌, ◌<◌, List, [], ◌∷◌, ◌++◌, length, map, take, Some, sym, ap, subst, ◌∙◌, arith, append-nil, get_or}
 use Rattle.std.specs.Prelude.{slice_get, slice_index, Contains}
 use Rattle.std.specs.Option.{option_map}
@@ -17,7 +17,7 @@ use Rattle.rule_core.proofs.Members.{Contains-from_get, Contains-flat_map, flat_
 use Rattle.blast_setting.specs.Inputs.{widths_chosen}
 use Rattle.blast_setting.specs.Names.{HaveWidths}
 
--- choice k of statements stands at place k
+-- choice k of the statements stands at place k among them
 pub choice_at : (statements : List Statement) (k : ℕ) → ChoicesInOrder statements → k < length (choices_among statements)
     → (c : ℕ) × (slice_get (choices_among statements) k ≡ Some (record { place = k; class = c }))
 choice_at statements k order within =
@@ -33,7 +33,7 @@ choice_at statements k order within =
 pub choice_open : (statements : List Statement) (k c : ℕ) → slice_get (choices_among statements) k ≡ Some (record { place = k; class = c }) → LeavesOpen statements k c
 choice_open statements k c at = Contains-from_get (choices_among statements) k (record { place = k; class = c }) at
 
--- its width is that of its class
+-- the width of a choice is that of its class
 pub choice_width : (typing : List ℕ) (statements : List Statement) (k c N : ℕ) → slice_get (choices_among statements) k ≡ Some (record { place = k; class = c })
     → slice_get typing c ≡ Some N → slice_get (widths_chosen typing (choices_among statements)) k ≡ Some N
 choice_width typing statements k c N at width =
@@ -41,7 +41,7 @@ choice_width typing statements k c N at width =
     ∙ ap (option_map (λ (choice : Choice). slice_index typing choice.class)) at
     ∙ ap (λ M. Some M) (get_or_from_slice_get typing c N 0 width)
 
--- the class of what a statement of the rule leaves open is the rule's
+-- the class of each choice of a rule's statement is one of the rule's classes
 choice_class : (rule : Rule) (s : Statement) (choice : Choice) → IsStatementOf rule s → Contains (choices_of s) choice → Contains (classes_of rule) choice.class
 choice_class rule s choice stands among =
     elim (choice_opens s choice among) [
@@ -49,7 +49,7 @@ choice_class rule s choice stands among =
       | freezes a is same ↦ subst (Contains (classes_of rule)) same (class_stands rule s stands)
     ]
 
--- and has a width
+-- the class of each choice of the target has a width
 pub open_class : (rule : Rule) (typing : List ℕ) (k c : ℕ) → IsTyping rule typing → LeavesOpen rule.target k c → c < length typing
 open_class rule typing k c typed left_open =
     let choice : Choice = record { place = k; class = c } in
@@ -61,7 +61,7 @@ have_widths rule typing typed k d within =
     let choice : Choice = get_or (choices_among rule.target) k d in
     open_class rule typing choice.place choice.class typed (Contains-from_get (choices_among rule.target) k choice (slice_get-get_or (choices_among rule.target) k d within))
 
--- those of each statement have widths if all have
+-- the choices of each statement have widths, where all choices have
 pub statement_widths : (typing : List ℕ) (statements : List Statement) (i : ℕ) (s : Statement) → i < length statements → s ≡ get_or statements i s
     → HaveWidths typing (choices_among statements) → HaveWidths typing (choices_of s)
 statement_widths typing statements i s within is all k d below =
@@ -70,11 +70,11 @@ statement_widths typing statements i s within is all k d below =
     let here = Contains-flat_map choices_of statements s choice (i, within, sym is) (Contains-from_get (choices_of s) k choice at) in
     subst (λ (other : Choice). other.class < length typing) here.2 (all here.0 choice here.1)
 
--- the width of a class is what stands at its place
+-- a class has the width that stands at its place in the typing
 pub width_indexed : (typing : List ℕ) (c N : ℕ) → c < length typing → N ≡ get_or typing c N → slice_index typing c ≡ N
 width_indexed typing c N within is = get_or_from_slice_get typing c N 0 (slice_get-get_or typing c N within ∙ ap (λ M. Some M) (sym is))
 
--- the widths of one more choice, and of those of one more statement
+-- the widths with one more choice, and below, with those of one more statement
 pub widths-one_more : (typing : List ℕ) (choices : List Choice) (i : ℕ) (d : Choice) → i < length choices
     → widths_chosen typing (take (i + 1) choices) ≡ widths_chosen typing (take i choices) ++ slice_index typing (get_or choices i d).class ∷ []
 widths-one_more typing choices i d within =

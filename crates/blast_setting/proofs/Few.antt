@@ -1,4 +1,4 @@
--- A half names few things.
+-- A rule has few inputs, constants and choices, bounded by how many statements it has.
 use Rattle.std.proofs.Common.{ℕ, zero, suc, ◌*◌, ◌<◌, ◌≤◌, List, [], ◌∷◌, ◌++◌, length, length-append, arith}
 use Rattle.std.specs.Prelude.{flat_map}
 use Rattle.std.proofs.lemmas.Option.{slice_get_within}
@@ -17,7 +17,7 @@ use Rattle.blast_setting.specs.declared.named.Kind.TheVariants.{Input, Constant}
 use Rattle.blast_setting.specs.Inputs.{argument_of}
 use Rattle.blast_setting.proofs.Widths.{count_of}
 
--- statements have at most three operands
+-- an operation has at most three operands
 op_operands : (op : Op) → length (operands_of op) ≤ 3
 op_operands (Binary op flags a b) = omega arith
 op_operands (Compare pred samesign a b) = omega arith
@@ -31,7 +31,7 @@ pub few_operands : (statements : List Statement) → length (operands_among stat
 few_operands [] = omega arith
 few_operands (s ∷ statements) = omega (arith, op_operands s.op, few_operands statements, length-append (operands_of s.op) (operands_among statements))
 
--- and choices
+-- an operand has at most one choice
 undef_one : (c : ℕ) (x : Argument) → length (undef_in c x) ≤ 1
 undef_one c (arguments.Undef k) = omega arith
 undef_one c x = omega arith
@@ -50,7 +50,7 @@ pub few_choices : (statements : List Statement) → length (choices_among statem
 few_choices [] = omega arith
 few_choices (s ∷ statements) = omega (arith, op_choices s.class s.op, few_choices statements, length-append (choices_of s) (choices_among statements))
 
--- things that are first read in order are no more than operands
+-- things that are numbered in the order in which operands first read them are no more than there are operands
 module _ (rule : Rule) (name : ℕ → Argument) (in_order : (h i q : ℕ) → h < i → StandsAt rule q (name i) → (p : ℕ) × (p < q) × StandsAt rule p (name h)) where
   late : (i q : ℕ) → StandsAt rule q (name i) → i ≤ q
   late zero q at = omega arith

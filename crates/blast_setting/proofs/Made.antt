@@ -1,4 +1,4 @@
--- A setting in literals, made in three steps.
+-- A setting as literals, which is made in three steps: inputs, constants, choices.
 use Rattle.std.proofs.Common.{◌≡◌, ℕ, ◌+◌, Bool, List, map, drop, sum_by, refl, ap, ◌∙◌}
 use Rattle.std.specs.List.{All}
 use Rattle.std.proofs.lemmas.List.{drop-drop}
@@ -18,7 +18,7 @@ use Rattle.blast_value.proofs.Kept.{values-kept, numbers_held-kept, AllAll-kept,
 
 module _ {C L : Type 0} {state : Ghosts C L} (rule : Rule) (typing : List ℕ) (start first second third : C)
     (k1 : Keeps state start first) (k2 : Keeps state first second) (k3 : Keeps state second third) (none : state.inputs_made start ≡ 0) where
-  -- where the inputs that follow begin
+  -- how many of the circuit's inputs come before those of each step
   module _ (iw cw : List ℕ) (is_iw : iw ≡ input_widths rule typing) (is_cw : cw ≡ constant_widths rule typing)
       (behind1 : (read : List Bool) → state.admits start read → drop (state.inputs_made first) read ≡ drop (sum_by value_bits iw) (drop (state.inputs_made start) read))
       (behind2 : (read : List Bool) → state.admits first read → drop (state.inputs_made second) read ≡ drop (sum_by number_bits cw) (drop (state.inputs_made first) read)) where
@@ -33,7 +33,7 @@ module _ {C L : Type 0} {state : Ghosts C L} (rule : Rule) (typing : List ℕ) (
         behind2 read (k1.admitted read a) ∙ ap (λ xs. drop (sum_by number_bits cw) xs) (at_constants read a)
         ∙ ap (λ (ws : List ℕ). drop (sum_by number_bits ws) (behind_inputs rule typing read)) is_cw
 
-    -- and where those behind the setting do
+    -- how many of the circuit's inputs come before what follows the setting
     pub at_end : (uw : List ℕ) → uw ≡ choice_widths rule typing
         → ((read : List Bool) → state.admits second read → drop (state.inputs_made third) read ≡ drop (sum_by number_bits uw) (drop (state.inputs_made second) read))
         → (read : List Bool) → state.admits start read → drop (state.inputs_made third) read ≡ drop (input_bits rule typing) read
@@ -45,7 +45,7 @@ module _ {C L : Type 0} {state : Ghosts C L} (rule : Rule) (typing : List ℕ) (
         ∙ ap (λ (ws : List ℕ). drop (sum_by number_bits ws) (behind_constants rule typing read)) is_uw
         ∙ ap (λ (xs : List Bool). drop u xs) (drop-drop k i read) ∙ drop-drop u (i + k) read
 
-    -- the literals stand for the setting that is read
+    -- the literals stand for the setting that is read from the truth values of the circuit's inputs
     pub setting_made : (uw : List ℕ) → uw ≡ choice_widths rule typing → (inputs : List (Held L)) (constants choices : List (List L))
         → All (IsOwn (state.has_literal first)) inputs → All (All (state.has_literal second)) constants
         → ((read : List Bool) → state.admits start read → map (held_value (state.value first read)) inputs ≡ values_read iw (drop (state.inputs_made start) read))
@@ -62,7 +62,7 @@ module _ {C L : Type 0} {state : Ghosts C L} (rule : Rule) (typing : List ℕ) (
         (ap (λ xs. map (number_held (state.value third read)) xs) is3 ∙ are3 read a2 ∙ ap (λ xs. numbers_read uw xs) (at_choices read a) ∙ ap (λ (ws : List ℕ). numbers_read ws (behind_constants rule typing read)) is_uw)
 
 module _ {C L : Type 0} {state : Ghosts C L} {old new : C} (keeps : Keeps state old new) where
-  -- what stands for a setting is kept
+  -- the literals stand for the same setting when the circuit grows
   pub setting-kept : (read : List Bool) → state.admits old read → (made : SettingBits L) → SettingIsOwn (state.has_literal old) made → setting_held (state.value new read) made ≡ setting_held (state.value old read) made
   setting-kept read admitted made own =
       rw (values-kept keeps read admitted made.inputs own.inputs, numbers_held-kept keeps read admitted made.constants own.constants, numbers_held-kept keeps read admitted made.target_choices own.target_choices) refl

@@ -1,4 +1,4 @@
--- The inputs of a circuit, made one after the other.
+-- The inputs of a circuit, made one by one.
 use Rattle.std.proofs.Common.{◌≡◌, ℕ, suc, ◌+◌, ◌<◌, ◌≤◌, Bool, false, List, [], ◌∷◌, ◌++◌, length, map, take, drop, Some, refl, sym, ap, subst, ◌∙◌, append_assoc, append-nil, arith, get_or}
 use Rattle.std.specs.Prelude.{slice_get, sum_by}
 use Rattle.std.specs.List.{All}
@@ -18,7 +18,7 @@ use Rattle.blast_value.specs.Words.{number_held}
 use Rattle.blast_setting.proofs.Written.{all_read-next}
 use Rattle.blast_setting.proofs.Words.{number-take_one, get_or-behind}
 
--- so many inputs were made, and are the bits of a word
+-- the first i bits of the word are the circuit's last i inputs
 pub record Made {C L : Type 0} (state : Ghosts C L) (start now : C) (word : List L) (i : ℕ) : Type 0 where
   pub keeps : Keeps state start now
   pub gates : state.gates_made now ≡ state.gates_made start
@@ -31,7 +31,7 @@ module _ {C L : Type 0} {state : Ghosts C L} {start now next : C} {word : List L
     (before : Made state start now word i) (keeps : Keeps state now next)
     (made : (inputs : List Bool) → state.admits now inputs → drop (state.inputs_made next) inputs ≡ drop (state.inputs_made now + 1) inputs) (l : L) (own : state.has_literal next l)
     (value_is : (inputs : List Bool) → state.admits now inputs → state.value next inputs l ≡ get_or inputs (state.inputs_made now) false) where
-  -- the next one is the next truth value of the list
+  -- the value of the next input is the next truth value of the list
   pub next_made : (inputs : List Bool) → state.admits start inputs → drop (state.inputs_made next) inputs ≡ drop (i + 1) (drop (state.inputs_made start) inputs)
   next_made inputs admitted =
       made inputs (before.keeps.admitted inputs admitted) ∙ sym (drop-drop 1 (state.inputs_made now) inputs) ∙ ap (drop 1) (before.made inputs admitted) ∙ drop-drop 1 i (drop (state.inputs_made start) inputs)
@@ -56,13 +56,13 @@ module _ {C L : Type 0} {state : Ghosts C L} {start now next : C} {word : List L
         (sym (number-take_one (drop (state.inputs_made start) inputs) i));
   }
 
--- once all bits were made, they are the number that is read
+-- once all bits were made, the word has the number that is read
 module _ {C L : Type 0} {state : Ghosts C L} {start now : C} {word : List L} {i : ℕ}
     (before : Made state start now word i) where
   pub made_number : (N : ℕ) → N ≡ i → (inputs : List Bool) → state.admits start inputs → number_held (state.value now inputs) word ≡ number_read N (drop (state.inputs_made start) inputs)
   made_number N same inputs admitted = rw (same, before.width, before.number inputs admitted) refl
 
--- a number and one more truth value are the value that is read
+-- the word of a number and the poison bit behind it stand for the value that is read
 pub poison_made : {L : Type 0} (value : L → Bool) (word : List L) (poison : L) (N : ℕ) (read : List Bool) → number_held value word ≡ number_read N read → value poison ≡ get_or read N false
     → held_value value (record { bits = word; poison = poison }) ≡ value_read N read
 poison_made value word poison N read is last =
@@ -70,13 +70,13 @@ poison_made value word poison N read is last =
     let same : number_of value word ≡ number (take N read) = ap (λ (n : Number). n.number) is in
     rw (last, width, same) refl
 
--- What is made one after the other, each of it literals that stand for what is read, which are kept as the circuit
--- grows.
+-- Things that are made one by one, each of literals that stand for what is read. These literals stand for the same when
+-- the circuit grows.
 module _ {C M X : Type 0} (admits : C → List Bool → Type 0) (inputs_made : C → ℕ) (keeps : C → C → Type 0) (admitted_by : (old new : C) → keeps old new → (inputs : List Bool) → admits old inputs → admits new inputs)
     (own : C → M → Type 0) (own_kept : (old new : C) → keeps old new → (m : M) → own old m → own new m)
     (stands : C → List Bool → M → X) (stands_kept : (old new : C) → keeps old new → (inputs : List Bool) → admits old inputs → (m : M) → own old m → stands new inputs m ≡ stands old inputs m)
     (one : ℕ → List Bool → X) (size : ℕ → ℕ) (width : M → ℕ) where
-  -- so many of them were made
+  -- the first k of them were made
   pub record AllMade (start now : C) (widths : List ℕ) (made : List M) (k : ℕ) : Type 0 where
     pub own_them : All (own now) made
     pub widths_are : map width made ≡ take k widths

@@ -1,4 +1,4 @@
--- Things that are read one after the other, one more.
+-- Things that are read one behind the other: one more is read.
 use Rattle.std.proofs.Common.{◌≡◌, ℕ, ◌+◌, ◌<◌, ◌≤◌, Bool, List, [], ◌∷◌, ◌++◌, length, take, drop, Some, sym, ap, ◌∙◌, append_assoc, append-nil}
 use Rattle.std.specs.Prelude.{slice_get, sum_by}
 use Rattle.std.proofs.lemmas.List.{take_more, take_all, drop_all, drop-drop}
@@ -8,7 +8,7 @@ use Rattle.blast_setting.specs.Settings.{all_read}
 use Rattle.blast_setting.proofs.Written.{all_read-next}
 
 module _ {X : Type 0} (one : ℕ → List Bool → X) (size : ℕ → ℕ) (widths : List ℕ) (bits : List Bool) where
-  -- these were read, and the rest follows
+  -- the first k things are these, and the rest of the list is what is behind them
   pub record ReadSoFar (xs : List X) (k : ℕ) (rest : List Bool) : Type 0 where
     pub read : all_read one size widths bits ≡ xs ++ all_read one size (drop k widths) rest
     pub behind : rest ≡ drop (sum_by size (take k widths)) bits

@@ -1,4 +1,4 @@
--- What is read as a setting fits, and each setting that fits is read.
+-- Each setting that is read fits, and each setting that fits is read from some list.
 use Rattle.std.proofs.Common.{◌≡◌, ℕ, ◌+◌, ◌<◌, List, [], ◌∷◌, ◌++◌, length, length-append, take, Bool, Some, refl, sym, ap, subst, ◌∙◌, arith, get_or}
 use Rattle.std.specs.Prelude.{slice_get, slice_index}
 use Rattle.std.proofs.lemmas.List.{length-map, take_more}
@@ -30,7 +30,7 @@ abbrev pub IsNumberOf : ℕ → Number → Type 0
 IsNumberOf N n = IsValueOf N (Bits n)
 
 module _ {X : Type 0} (Fits : ℕ → X → Type 0) (rule : Rule) (typing : List ℕ) (kind : Kind) (checked : IsRule rule) (typed : IsTyping rule typing) (xs : List X) where
-  -- what has the widths of a kind fits at each position that names one
+  -- things of the widths of a kind's names fit at each position that reads one of them
   pub fit_widths : FitAll Fits (named_widths typing rule.source kind (count_of rule kind)) xs
       → (k c N : ℕ) (x : X) → Names rule (name_of kind k) c → slice_get typing c ≡ Some N → slice_get xs k ≡ Some x → Fits N x
   fit_widths fit k c N x names at there =
@@ -38,7 +38,7 @@ module _ {X : Type 0} (Fits : ℕ → X → Type 0) (rule : Rule) (typing : List
       let is = named_width-is rule typing kind k c N typed (are_named rule typing kind checked typed k within) names at in
       subst (λ M. Fits M x) is (fit.1 k (named_width typing rule.source kind k) x (named_widths-at typing rule.source kind (count_of rule kind) k within) there)
 
-  -- and the other way round
+  -- things that fit at each position that reads one of them have the widths of the kind's names
   pub widths_fit : length xs ≡ count_of rule kind → ((k c N : ℕ) (x : X) → Names rule (name_of kind k) c → slice_get typing c ≡ Some N → slice_get xs k ≡ Some x → Fits N x)
       → FitAll Fits (named_widths typing rule.source kind (count_of rule kind)) xs
   widths_fit count fit = (
@@ -67,7 +67,7 @@ module _ (rule : Rule) (typing : List ℕ) (checked : IsRule rule) (typed : IsTy
     widths = fit_widths IsNumberOf rule typing Constant checked typed numbers fit;
   }
 
--- what has the widths of the target's choices fits them
+-- numbers of the widths of the target's choices fit these choices
 pub target_choices_fit : (rule : Rule) (typing : List ℕ) → IsRule rule → IsTyping rule typing → (numbers : List Number) → FitAll IsNumberOf (choice_widths rule typing) numbers → TargetChoicesFit rule typing numbers
 target_choices_fit rule typing checked typed numbers fit = record {
   count = fit.0 ∙ length-map (choices_among rule.target) (λ (choice : Choice). slice_index typing choice.class);
@@ -78,7 +78,7 @@ target_choices_fit rule typing checked typed numbers fit = record {
       fit.1 k N n (choice_width typing rule.target k choice.0 N choice.1 width) here;
 }
 
--- and the other way round
+-- numbers that fit the target's choices have these widths
 pub fitting_target_choices : (rule : Rule) (typing : List ℕ) → IsRule rule → IsTyping rule typing → (numbers : List Number) → TargetChoicesFit rule typing numbers → FitAll IsNumberOf (choice_widths rule typing) numbers
 fitting_target_choices rule typing checked typed numbers fit = (
   fit.count ∙ sym (length-map (choices_among rule.target) (λ (choice : Choice). slice_index typing choice.class)),
@@ -109,7 +109,7 @@ read_fits rule typing read checked typed =
       target_choices = target_choices_fit rule typing checked typed (numbers_read (choice_widths rule typing) (behind_constants rule typing read)) (all_numbers-fit (choice_widths rule typing) (behind_constants rule typing read));
     }
 
--- three lists are a setting
+-- a setting is the same where its three lists are
 pub same_setting : (setting : Setting) (inputs : List Value) (constants choices : List Number) → inputs ≡ setting.inputs → constants ≡ setting.constants → choices ≡ setting.target_choices
     → record { inputs = inputs; constants = constants; target_choices = choices } ≡ setting
 same_setting setting inputs constants choices first second third = rw (first, second, third) refl
@@ -148,7 +148,7 @@ fitting_are_read rule typing setting checked typed fits =
       },
     )
 
--- the widths of one more
+-- the widths with one more
 pub named_widths-more : (typing : List ℕ) (kind : Kind) (statements : List Statement) (count k : ℕ) → k < count
     → take (k + 1) (named_widths typing statements kind count) ≡ take k (named_widths typing statements kind count) ++ named_width typing statements kind k ∷ []
 named_widths-more typing kind statements count k within =
@@ -156,7 +156,7 @@ named_widths-more typing kind statements count k within =
     let width : get_or widths k 0 ≡ named_width typing statements kind k = get_or_from_slice_get widths k (named_width typing statements kind k) 0 (named_widths-at typing statements kind count k within) in
     take_more widths k 0 (omega (arith, length-named_widths typing statements kind count)) ∙ ap (λ N. take k widths ++ N ∷ []) width
 
--- what is told of the source, the count and the widths where they are these
+-- each name of the kind is read by an operand of the source, so its width is told
 pub are_named_as : (rule : Rule) (typing : List ℕ) (kind : Kind) → IsRule rule → IsTyping rule typing → (ts : List ℕ) (statements : List Statement) (count : ℕ)
     → ts ≡ typing → statements ≡ rule.source → count ≡ count_of rule kind → AreNamed ts statements kind count
 are_named_as rule typing kind checked typed ts statements count same half all = rw (same, half, all) (are_named rule typing kind checked typed)

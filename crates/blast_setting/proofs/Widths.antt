@@ -1,4 +1,4 @@
--- What a kind's k-th one is named by, and the width of each position that names it.
+-- Which operand reads the k-th input or constant first, and the width of each position that reads it.
 use Rattle.std.proofs.Common.{◌≡◌, ℕ, zero, suc, ◌<◌, Bool, true, false, cond, List, [], ◌∷◌, ◌++◌, ◌+◌, ◌≤◌, length, drop, drop-cons, add-one, Option, Some, None, refl, sym, ap, subst, ◌∙◌, eqb-true, eq-eqb, arith, get_or}
 use Rattle.std.specs.Prelude.{slice_get, slice_index, Contains}
 use Rattle.std.specs.List.{find}
@@ -25,7 +25,7 @@ use Rattle.blast_setting.specs.declared.named.Kind.TheVariants.{Input, Constant}
 use Rattle.blast_setting.specs.Inputs.{argument_of, names, named_width, named_widths}
 use Rattle.blast_setting.specs.Names.{IsNamed, AreNamed}
 
--- what a test finds passes it, and stands in the list
+-- what a search finds passes the test and stands in the list
 pub found : {X : Type 0} (p : X → Bool) (xs : List X) (x : X) → find p xs ≡ Some x → Contains xs x × (p x ≡ true)
 found p [] x is = cc
 found p (y ∷ xs) x is =
@@ -34,13 +34,13 @@ found p (y ∷ xs) x is =
       | false ↦ λ fail later. let r = found p xs x later in ((suc r.0.0, omega (arith, r.0.1), r.0.2), r.1)
     ] refl is
 
--- and what passes is found, or something before it
+-- a search finds something where an element passes the test
 pub finds : {X : Type 0} (p : X → Bool) (xs : List X) (q : ℕ) (o : X) → slice_get xs q ≡ Some o → p o ≡ true → (x : X) × (find p xs ≡ Some x)
 finds p [] q o at pass = absurd (omega (arith, slice_get_within [] q o at))
 finds p (y ∷ xs) zero o at pass = let e : p y ≡ true = ap p (same_Some y o at) ∙ pass in (y, rw e refl)
 finds {X} p (y ∷ xs) (suc q) o at pass = elim (p y) as (λ b. (x : X) × (cond b (Some y) (find p xs) ≡ Some x)) [ true ↦ (y, refl) | false ↦ finds p xs q o at pass ]
 
--- what is read is named
+-- an operand that reads the k-th of a kind is its argument
 names_at : (kind : Kind) (k : ℕ) (x : Argument) → names kind k x ≡ true → x ≡ argument_of kind k
 names_at Input k (arguments.Register (registers.Input i)) pass = ap (λ j. arguments.Register (registers.Input j)) (eqb-true i k pass)
 names_at Input k (arguments.Register (registers.Source i)) pass = cc
@@ -66,7 +66,7 @@ named_passes Constant k x is = ap (names Constant k) is ∙ eq-eqb k k refl
 abbrev pub test : Kind → ℕ → Operand → Bool
 test kind k o = names kind k o.value
 
--- the operand by which a width is told
+-- the first operand that reads it, by which its width is told
 pub first_named : (statements : List Statement) (kind : Kind) (k : ℕ) (o : Operand) → IsOperandAmong statements o → o.value ≡ argument_of kind k
     → (f : Operand) × (find (test kind k) (operands_among statements) ≡ Some f) × IsOperandAmong statements f × (f.value ≡ argument_of kind k)
 first_named statements kind k o (q, lt, e) is =
@@ -75,7 +75,7 @@ first_named statements kind k o (q, lt, e) is =
     let r = found (test kind k) (operands_among statements) f.0 f.1 in
     (f.0, f.1, r.0, names_at kind k f.0.value r.1)
 
--- the names of a kind, and how many there are
+-- the name of the k-th of a kind; below, how many of the kind the rule has
 abbrev pub name_of : Kind → ℕ → Name
 name_of Input k = names_of.Register (registers.Input k)
 name_of Constant k = names_of.Constant k
@@ -88,13 +88,13 @@ pub naming : (rule : Rule) (kind : Kind) (k : ℕ) (o : Operand) → IsOperandAm
 naming rule Input k o among is = reads (source_operand rule o among) is
 naming rule Constant k o among is = reads_constant (source_operand rule o among) is
 
--- each operand of the rule has a width
+-- the class of each operand of the rule has a width
 pub operand_width : (rule : Rule) (typing : List ℕ) (o : Operand) → IsTyping rule typing → Contains (operands_in rule) o → (N : ℕ) × (slice_get typing o.class ≡ Some N)
 operand_width rule typing o typed among =
     let of = flat_map-from (λ (s : Statement). operands_of s.op) (rule.source ++ rule.target) o among in
     class_width rule typing o.class typed (operand_class_stands rule of.1 o (Contains-from_get (rule.source ++ rule.target) of.0 of.1 of.2) of.3)
 
--- the width that is told is that of each position that names it
+-- the width that the first operand tells is that of each position that reads the name
 pub named_width-is : (rule : Rule) (typing : List ℕ) (kind : Kind) (k c N : ℕ) → IsTyping rule typing → IsNamed typing rule.source kind k
     → Names rule (name_of kind k) c → slice_get typing c ≡ Some N → named_width typing rule.source kind k ≡ N
 named_width-is rule typing kind k c N typed named names_it at =
@@ -102,7 +102,7 @@ named_width-is rule typing kind k c N typed named names_it at =
     let width : slice_get typing f.0.class ≡ Some N = typed.same f.0.class c (name (naming rule kind k f.0 f.2 f.3) names_it) ∙ at in
     ap (λ x. option_map_or (λ (y : Operand). slice_index typing y.class) x 0) f.1 ∙ get_or_from_slice_get typing f.0.class N 0 width
 
--- an operand stands at a place of the source
+-- an argument that stands at a place of the source is one of an operand of it
 at_place : (rule : Rule) (q : ℕ) (x : Argument) → StandsAt rule q x → (o : Operand) × IsOperandAmong rule.source o × (o.value ≡ x)
 at_place rule q x (o, at, is) = (o, Contains-from_get (operands_among rule.source) q o at, is)
 
@@ -119,13 +119,13 @@ are_named rule typing kind checked typed k within = record {
 pub length-named_widths : (typing : List ℕ) (statements : List Statement) (kind : Kind) (count : ℕ) → length (named_widths typing statements kind count) ≡ count
 length-named_widths typing statements kind count = length-map-range_with_len (named_width typing statements kind) 0 count
 
--- the width at place k is that of the k-th one
+-- the width at place k is that of the k-th of the kind
 pub named_widths-at : (typing : List ℕ) (statements : List Statement) (kind : Kind) (count k : ℕ) → k < count → slice_get (named_widths typing statements kind count) k ≡ Some (named_width typing statements kind k)
 named_widths-at typing statements kind count k within =
     slice_get-get_or (named_widths typing statements kind count) k 0 (omega (arith, length-named_widths typing statements kind count))
     ∙ ap (λ N. Some N) (get_or-map-range_with_len (named_width typing statements kind) 0 count k k 0 within (omega arith))
 
--- the first operand of statement i that names it tells its width, where no statement before does
+-- the first operand of statement i that reads it tells its width, where no statement before has one
 option_class : (o : Option Operand) (class : ℕ) → Some class ≡ option_map (λ (x : Operand). x.class) o → (x : Operand) × (o ≡ Some x) × (x.class ≡ class)
 option_class None class is = cc
 option_class (Some x) class is = (x, refl, sym (same_Some class x.class is))
@@ -153,7 +153,7 @@ naming_class typing statements kind k i s class named within is before here =
       ap (slice_index typing) (sym o.2) ∙ sym (ap (λ x. option_map_or (λ (y : Operand). slice_index typing y.class) x 0) found_it),
     )
 
--- some statement names it
+-- a search for it doesn't come to the end of the statements: some statement reads it
 pub no_end : (typing : List ℕ) (statements : List Statement) (kind : Kind) (k i : ℕ) → IsNamed typing statements kind k → length statements ≤ i
     → find (test kind k) (operands_among statements) ≡ find (test kind k) (operands_among (drop i statements)) → ⊥
 no_end typing statements kind k i named end before =

@@ -1,4 +1,4 @@
--- Values written as truth values, so that they are read again.
+-- Values written as lists of truth values, from which they are read again.
 use Rattle.std.proofs.Common.{◌≡◌, ℕ, zero, suc, ◌+◌, ◌*◌, ◌/◌, ◌%◌, ◌^◌, ◌<◌, ◌≤◌, ◌==◌, Bool, true, false, if◌then◌else◌, List, [], ◌∷◌, ◌++◌, length, take, drop, Some, refl, sym, ap, subst, ◌∙◌, arith, get_or, append_assoc, add-zero, add-one, drop-cons}
 use Rattle.std.specs.Prelude.{slice_get, sum_by}
 use Rattle.std.proofs.Math.Nat.{pow-succ', pow-le-pow_right}
@@ -38,7 +38,7 @@ number-digits (suc N) n below =
     let doubled : n < 2 * 2 ^ N = rw (pow-succ' 2 N) at below in
     omega (arith, bit-one (n % 2) (omega arith), number-digits N (n / 2) (omega arith))
 
--- a value of iN
+-- a value of iN as truth values: its N bits, and then its poison bit
 pub written : ℕ → Value → List Bool
 written N Poison = digits N 0 ++ true ∷ []
 written N (Bits a) = digits N a.number ++ false ∷ []
@@ -48,7 +48,7 @@ unfolding written
 length-written N Poison = length-append (digits N 0) (true ∷ []) ∙ ap (λ n. n + 1) (length-digits N 0)
 length-written N (Bits a) = length-append (digits N a.number) (false ∷ []) ∙ ap (λ n. n + 1) (length-digits N a.number)
 
--- a word and one more truth value are read
+-- the value that is read from a word and a poison bit behind it
 read_at : (N : ℕ) (word : List Bool) (poison : Bool) (rest : List Bool) → length word ≡ N → value_read N ((word ++ poison ∷ []) ++ rest) ≡ (if poison then Poison else bits N (number word))
 read_at N word poison rest width =
     let parts : (word ++ poison ∷ []) ++ rest ≡ word ++ poison ∷ rest = append_assoc word (poison ∷ []) rest in
@@ -64,7 +64,7 @@ unfolding written
 read-written N Poison rest fit = read_at N (digits N 0) true rest (length-digits N 0)
 read-written N (Bits a) rest fit = read_at N (digits N a.number) false rest (length-digits N a.number) ∙ rw (number-digits N a.number fit.1) (of_width N a fit.0)
 
--- a number of iN
+-- a number of iN as truth values, its N bits
 pub number_written : ℕ → Number → List Bool
 number_written N a = digits N a.number
 
@@ -95,11 +95,11 @@ number_read-fits N read =
     let positive : 0 < 2 = omega arith in
     (refl, omega (arith, number-below (take N read), pow-le-pow_right positive shorter))
 
--- things of these widths
+-- there is one thing for each width, and it fits that width
 abbrev pub FitAll : {X : Type 0} → (ℕ → X → Type 0) → List ℕ → List X → Type 0
 FitAll Fits widths xs = (length xs ≡ length widths) × ((k : ℕ) (N : ℕ) (x : _) → slice_get widths k ≡ Some N → slice_get xs k ≡ Some x → Fits N x)
 
--- What is written one after the other is read again, where one thing is read again from what is written of it.
+-- Things that are written one behind the other are read again, if each one is read again from what is written of it.
 module _ {X : Type 0} (one : ℕ → List Bool → X) (size : ℕ → ℕ) (Fits : ℕ → X → Type 0) (write : ℕ → X → List Bool)
     (long : (N : ℕ) (x : X) → length (write N x) ≡ size N) (again : (N : ℕ) (x : X) (rest : List Bool) → Fits N x → one N (write N x ++ rest) ≡ x)
     (fits : (N : ℕ) (read : List Bool) → Fits N (one N read)) where
@@ -131,12 +131,12 @@ module _ {X : Type 0} (one : ℕ → List Bool → X) (size : ℕ → ℕ) (Fits
       let others = read-all_written widths xs rest (omega (arith, fit.0), λ k M u at there. fit.1 (suc k) M u at there) in
       rw (parts, first, behind, others) refl
 
-  -- and what follows is behind it
+  -- what follows the things that were written is behind them
   pub behind-all_written : (widths : List ℕ) (xs : List X) (rest : List Bool) → length xs ≡ length widths → drop (sum_by size widths) (all_written widths xs ++ rest) ≡ rest
   behind-all_written widths xs rest same =
       ap (λ n. drop n (all_written widths xs ++ rest)) (sym (length-all_written widths xs same) ∙ sym (add-zero (length (all_written widths xs)))) ∙ drop-append-add (all_written widths xs) rest 0
 
-  -- whatever is read is of its width
+  -- each thing that is read fits its width
   pub all_read-fit : (widths : List ℕ) (read : List Bool) (k N : ℕ) (x : X) → slice_get widths k ≡ Some N → slice_get (all_read one size widths read) k ≡ Some x → Fits N x
   all_read-fit [] read k N x at there = absurd (omega (arith, slice_get_within [] k N at))
   all_read-fit (M ∷ widths) read zero N x at there = subst (λ n. Fits n x) (same_Some M N at) (subst (Fits M) (same_Some (one M read) x there) (fits M read))
@@ -146,7 +146,7 @@ module _ {X : Type 0} (one : ℕ → List Bool → X) (size : ℕ → ℕ) (Fits
   length-all_read [] read = refl
   length-all_read (N ∷ widths) read = ap suc (length-all_read widths (drop (size N) read))
 
--- the next one of several
+-- the next one of several things is read
 pub all_read-next : {X : Type 0} (one : ℕ → List Bool → X) (size : ℕ → ℕ) (widths : List ℕ) (k N : ℕ) (read : List Bool) → slice_get widths k ≡ Some N
     → all_read one size (drop k widths) read ≡ one N read ∷ all_read one size (drop (k + 1) widths) (drop (size N) read)
 all_read-next one size widths k N read at =

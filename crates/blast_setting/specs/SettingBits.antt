@@ -1,4 +1,4 @@
--- What the literals of a setting and of what a rule's halves read stand for.
+-- What the literals of a setting stand for.
 use Rattle.std.specs.Prelude.{◌≡◌, ℕ, Bool, List, length, map}
 use Rattle.std.specs.List.{All}
 use Rattle.rule_core.specs.declared.rule.Rule.{Rule}
@@ -17,13 +17,13 @@ setting_held value made =
       target_choices = map (number_held value) made.target_choices;
     }
 
--- all its literals are a circuit's
+-- all literals of the setting are a circuit's own
 pub record SettingIsOwn {L : Type 0} (has_literal : L → Type 0) (made : SettingBits L) : Type 0 where
   pub inputs : All (IsOwn has_literal) made.inputs
   pub constants : All (All has_literal) made.constants
   pub target_choices : All (All has_literal) made.target_choices
 
--- its words have the widths of what they stand for
+-- the words have the widths of what they stand for
 pub record HasWidths {L : Type 0} (rule : Rule) (typing : List ℕ) (made : SettingBits L) : Type 0 where
   pub inputs : widths_of made.inputs ≡ input_widths rule typing
   pub constants : map length made.constants ≡ constant_widths rule typing

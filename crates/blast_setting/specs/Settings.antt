@@ -17,7 +17,7 @@ number_read N read = record { width = N; number = number (take N read) }
 abbrev pub value_read : ℕ → List Bool → Value
 value_read N read = if slice_index_or read N false then Poison else bits N (number (take N read))
 
--- what is read at these widths one after the other, each from as many truth values as its width says
+-- the things of these widths that are read one behind the other, each from `size` of its width truth values
 abbrev pub all_read : {X : Type 0} → (ℕ → List Bool → X) → (ℕ → ℕ) → List ℕ → List Bool → List X
 all_read one size [] read = []
 all_read one size (N ∷ widths) read = one N read ∷ all_read one size widths (drop (size N) read)
@@ -28,7 +28,7 @@ values_read widths read = all_read value_read value_bits widths read
 abbrev pub numbers_read : List ℕ → List Bool → List Number
 numbers_read widths read = all_read number_read number_bits widths read
 
--- the truth values behind those of the inputs, and behind those of the constants
+-- the truth values behind those of the inputs; below, behind those of the constants
 abbrev pub behind_inputs : Rule → List ℕ → List Bool → List Bool
 behind_inputs rule typing read = drop (sum_by value_bits (input_widths rule typing)) read
 

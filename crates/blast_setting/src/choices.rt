@@ -1,4 +1,4 @@
-//! The widths of the choices of statements, which are their `undef`s and their freezes.
+//! The widths of the choices of statements: of their `undef`s and their freezes.
 ghost use Rattle.std.specs.Prelude.{◌≡◌, ◌++◌, ◌<◌, IfOk, OnOk};
 ghost use Rattle.rule_core.specs.Positions.{choices_among};
 ghost use Rattle.blast_setting.specs.Inputs.{widths_chosen};

@@ -13,7 +13,7 @@ use lists::List;
 use ops::Width;
 use std::alloc::{AllocError, Global};
 
-/// A value for each width: of each its bits, the lowest first, and then its poison bit.
+/// Makes inputs for a value of each width: its bits, the lowest first, and then its poison bit.
 pub(crate) fn make_values<C: Circuit>(
     alloc: Global,
     c: &mut C,
@@ -35,7 +35,7 @@ pub(crate) fn make_values<C: Circuit>(
     Ok(held)
 }
 
-/// A number for each width: its bits, the lowest first.
+/// Makes inputs for a number of each width: its bits, the lowest first.
 pub(crate) fn make_numbers<C: Circuit>(
     alloc: Global,
     c: &mut C,
@@ -57,7 +57,7 @@ pub(crate) fn make_numbers<C: Circuit>(
     Ok(words)
 }
 
-/// One value.
+/// Makes the inputs for one value.
 fn make_value<C: Circuit>(
     alloc: Global,
     c: &mut C,
@@ -77,7 +77,7 @@ fn make_value<C: Circuit>(
     Ok(Held { bits, poison })
 }
 
-/// One number.
+/// Makes the inputs for one number.
 fn make_number<C: Circuit>(
     alloc: Global,
     c: &mut C,

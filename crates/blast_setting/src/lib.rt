@@ -1,7 +1,7 @@
-//! The inputs of a rule's circuit, and the settings that are read from truth values for them.
+//! The inputs of a rule's circuit, and the settings that are read from their truth values.
 //!
-//! The only error of a call is want of memory. A call that is refused may leave inputs; the older literals keep their
-//! values, and it makes no gate.
+//! The only error of a call is want of memory. A call that is refused for that may leave inputs; the older literals
+//! keep their values, and it makes no gate.
 #![tactic(auto)]
 
 mod choices;

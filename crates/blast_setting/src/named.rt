@@ -1,4 +1,4 @@
-//! The widths of what statements name.
+//! The widths of the inputs and constants that statements read.
 ghost use Rattle.std.specs.Prelude.{◌≡◌, option_map, IfOk};
 ghost use Rattle.std.specs.List.{find};
 ghost use Rattle.rule_core.specs.Positions.{operands_of};
@@ -9,7 +9,7 @@ use ops::Width;
 use rule_core::{Argument, Op, Operand, Register, Statement};
 use std::alloc::{AllocError, Global};
 
-/// What an operand may name that a setting has something for.
+/// What an operand may read that has a part in a setting.
 #[derive(Clone, Copy)]
 pub enum Kind {
     /// An input of the rule.
@@ -18,7 +18,7 @@ pub enum Kind {
     Constant,
 }
 
-/// The widths of the first ones of a kind.
+/// The widths of the first `count` inputs, or constants.
 pub(crate) fn named_widths(
     alloc: Global,
     typing: &[Width],
@@ -36,7 +36,7 @@ pub(crate) fn named_widths(
     Ok(widths)
 }
 
-/// The width of the first operand that names the k-th one of its kind.
+/// The width of the first operand that reads the k-th of the kind.
 fn named_width(typing: &[Width], statements: &[Statement], kind: Kind, k: usize) -> Width
     requires { IsNamed typing.now statements.now kind k }
     ensures { result ≡ named_width typing.now statements.now kind k }
@@ -49,7 +49,7 @@ fn named_width(typing: &[Width], statements: &[Statement], kind: Kind, k: usize)
     unreachable!()
 }
 
-/// The class of the operation's first operand that names it, if one does.
+/// The class of the operation's first operand that reads it, if one does.
 fn class_naming(op: Op, kind: Kind, k: usize) -> Option<u32>
     ensures { result ≡ option_map (λ o. o.class) (find (λ o. names kind k o.value) (operands_of op)) }
 {
@@ -65,7 +65,7 @@ fn class_naming(op: Op, kind: Kind, k: usize) -> Option<u32>
     }
 }
 
-/// The class of the first of the operands that names it, if one does.
+/// The class of the first of these operands that reads it, if one does.
 fn class_among(operands: &[Operand], kind: Kind, k: usize) -> Option<u32>
     ensures { result ≡ option_map (λ o. o.class) (find (λ o. names kind k o.value) operands.now) }
 {
@@ -75,7 +75,7 @@ fn class_among(operands: &[Operand], kind: Kind, k: usize) -> Option<u32>
         .map(|operand| operand.class)
 }
 
-/// Whether what is read is the k-th one of its kind.
+/// Whether the argument is the k-th of its kind.
 fn names(kind: Kind, k: usize, value: Argument) -> bool
     ensures { result ≡ names kind k value }
 {

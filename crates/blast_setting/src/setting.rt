@@ -1,4 +1,4 @@
-//! Settings of a rule, read from truth values.
+//! Settings of a rule, read from the truth values of the circuit's inputs.
 ghost use Rattle.std.specs.Prelude.{◌≡◌, ◌<◌, ◌^◌, false, IfOk, take, drop, sum_by, slice_index_or};
 ghost use Rattle.rule_core.specs.Checks.{IsRule};
 ghost use Rattle.rule_core.specs.Typing.{IsTyping};
@@ -12,19 +12,19 @@ use ops::{Value, Width, Word};
 use rule_core::{Rule, Typing};
 use std::alloc::{AllocError, Global};
 
-/// What the halves of a rule are compared on.
+/// What both halves of a rule are run on, to be compared.
 #[derive(Drop)]
 pub struct Setting {
     /// A value for each input.
     pub inputs: List<Value>,
     /// A number for each abstract constant.
     pub constants: List<Word>,
-    /// A number for each choice of the target, which are its `undef`s and its freezes.
+    /// A number for each choice of the target: for each of its `undef`s and its freezes.
     pub target_choices: List<Word>,
 }
 
-/// The setting that truth values of the circuit's inputs stand for, in the order in which
-/// [`blast_rule`](crate::blast_rule) makes them: for each input of the rule its bits, the lowest first, and then its
+/// The setting that truth values of the circuit's inputs are read as, in the order in which
+/// [`blast_rule`](crate::blast_rule) makes these: for each input of the rule its bits, the lowest first, and then its
 /// poison bit; then the bits of each constant, and then those of each choice of the target. Past its end the list
 /// counts as false.
 pub fn setting_of(
@@ -51,7 +51,7 @@ pub fn setting_of(
     })
 }
 
-/// The values of these widths that truth values are read as, and the truth values behind them.
+/// The values of these widths that the truth values are read as, and the truth values behind theirs.
 fn values_read<'a>(
     alloc: Global,
     widths: &[Width],
@@ -69,7 +69,7 @@ fn values_read<'a>(
     Ok((values, rest))
 }
 
-/// The numbers of these widths that truth values are read as, and the truth values behind them.
+/// The numbers of these widths that the truth values are read as, and the truth values behind theirs.
 fn numbers_read<'a>(
     alloc: Global,
     widths: &[Width],
@@ -87,7 +87,7 @@ fn numbers_read<'a>(
     Ok((numbers, rest))
 }
 
-/// The value that truth values are read as.
+/// The value that the first truth values are read as.
 fn value_read(width: Width, bits: &[bool]) -> Value
     ensures { result ≡ value_read width bits.now }
 {
@@ -98,7 +98,7 @@ fn value_read(width: Width, bits: &[bool]) -> Value
     }
 }
 
-/// The number of the first truth values, the lowest first.
+/// The number that the first truth values are read as, its lowest bit first.
 fn number_read(width: Width, bits: &[bool]) -> u64
     ensures number { result ≡ number (take width bits.now) }
     ensures fits { result < 2 ^ width }
@@ -112,7 +112,7 @@ fn number_read(width: Width, bits: &[bool]) -> u64
     number
 }
 
-/// The truth value at a place.
+/// The truth value at a place; past the end it is false.
 fn bit_at(bits: &[bool], place: u32) -> bool
     ensures { result ≡ slice_index_or bits.now place false }
 {
@@ -123,7 +123,7 @@ fn bit_at(bits: &[bool], place: u32) -> bool
     }
 }
 
-/// What follows the first truth values, so many.
+/// The truth values behind the first `count`.
 fn after(bits: &[bool], count: usize) -> &[bool]
     ensures { result.now ≡ drop count bits.now }
 {

@@ -1,4 +1,4 @@
-//! A setting in literals.
+//! A setting as literals.
 ghost use Rattle.std.specs.Prelude.{◌≡◌, Bool, List as Seq, drop, IfOk, OnOk};
 ghost use Rattle.circuits.specs.Circuit.{Keeps};
 ghost use Rattle.rule_core.specs.Checks.{IsRule};
@@ -16,7 +16,7 @@ use ops::Width;
 use rule_core::Rule;
 use std::alloc::{AllocError, Global};
 
-/// What the halves of a rule are compared on.
+/// What both halves of a rule are run on, as literals.
 #[derive(Drop)]
 pub struct SettingBits<L> {
     /// A value for each input.
@@ -27,7 +27,7 @@ pub struct SettingBits<L> {
     pub target_choices: List<Bits<L>>,
 }
 
-/// The circuit's inputs for a setting of the rule. The circuit has none before.
+/// Makes the circuit's inputs for a setting of the rule. The circuit has none before.
 pub fn make_setting<C: Circuit>(
     alloc: Global,
     c: &mut C,

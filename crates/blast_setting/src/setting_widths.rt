@@ -1,4 +1,4 @@
-//! The widths of what a setting has.
+//! The widths of the parts of a setting.
 ghost use Rattle.std.specs.Prelude.{◌≡◌, IfOk};
 ghost use Rattle.rule_core.specs.Checks.{IsRule};
 ghost use Rattle.rule_core.specs.Typing.{IsTyping};
@@ -10,19 +10,19 @@ use ops::Width;
 use rule_core::Rule;
 use std::alloc::{AllocError, Global};
 
-/// The widths of what the halves of a rule are compared on, in order.
+/// The widths of the parts of a setting, in order.
 #[derive(Drop)]
 pub(crate) struct SettingWidths {
-    /// That of each input.
+    /// The width of each input.
     pub(crate) inputs: Vec<Width>,
-    /// That of each abstract constant.
+    /// The width of each abstract constant.
     pub(crate) constants: Vec<Width>,
-    /// That of each choice of the target.
+    /// The width of each choice of the target.
     pub(crate) choices: Vec<Width>,
 }
 
 impl SettingWidths {
-    /// Those of a rule. It takes as many steps for each input and constant as the source has statements.
+    /// The widths of a rule's setting. For each input and constant it takes a pass over the statements of the source.
     pub(crate) fn of(
         alloc: Global,
         rule: &Rule,

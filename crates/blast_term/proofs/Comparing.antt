@@ -1,4 +1,4 @@
--- Whether two values are numbers of which a predicate holds, told from the literals of a comparison.
+-- Whether two values are numbers of which a predicate is true, shown from the literals of a comparison.
 use Rattle.std.proofs.Common.{◌≡◌, ℕ, Bool, true, false, not, ◌&&◌, if◌then◌else◌, List, [], ◌∷◌, length, get_or, refl, sym, ap, ◌∙◌, arith}
 use Rattle.ops.specs.Comparison.{comparison, holds}
 use Rattle.ops.specs.Integer.{bits}
@@ -39,16 +39,16 @@ compares-value pred false true false false digit M K a b is = cc
 compares-value pred false false false true digit M K a b is = cc
 compares-value pred false false false false digit M K a b is = and_true digit ∙ digit-is digit (holds pred M a b) (ap (λ e. number_or_zero (value_given e)) is)
 
--- a word of one literal
+-- a word with one literal
 pub one-word : {L : Type 0} (word : List L) (x : L) → length word ≡ 1 → x ≡ get_or word 0 x → word ≡ x ∷ []
 one-word [] x one is = absurd (omega arith)
 one-word (y ∷ []) x one is = ap (λ z. z ∷ []) (sym is)
 one-word (y ∷ z ∷ rest) x one is = absurd (omega arith)
 
--- an operand's value has the width of its literals
+-- the value of an operand has the width of its literals
 pub held_value-width : {L : Type 0} (value : L → Bool) (h : Held L) → HasWidth (held_value value h) (length h.bits)
 held_value-width value h = elim (value h.poison) as (λ b. HasWidth (if b then Poison else bits (length h.bits) (number_of value h.bits)) (length h.bits)) [ true ↦ tt | false ↦ refl ]
 
--- the widest of two of one width
+-- the greatest of two equal widths
 pub two-widths : (M K : ℕ) → K ≡ M → greatest (M ∷ K ∷ []) ≡ M
 two-widths M K is = omega arith

@@ -1,4 +1,4 @@
--- How many gates the nodes of terms have at most.
+-- Bounds on how many gates the nodes of terms have.
 use Rattle.std.proofs.Common.{ℕ, ◌+◌, ◌-◌, ◌*◌, ◌≤◌, List, [], ◌∷◌, length, map, arith}
 use Rattle.std.specs.Prelude.{slice_index, sum_by}
 use Rattle.std.specs.List.{All}
@@ -14,7 +14,7 @@ use Rattle.rule_core.specs.declared.rule.Function.TheVariants.{Negate, Not, Log2
 use Rattle.blast_value.proofs.Counts.{shift-few}
 use Rattle.blast_term.specs.Gates.{node_gates, term_gates, terms_gates, numbers_gates, node_bound, term_bound}
 
--- a node leaves room for its number and for whether it has one
+-- the bound of a node leaves gates for its number, 0 where it has no value, and for the test whether it has one
 node-few : (N : ℕ) (node : Node) → 1 ≤ N → N ≤ 64 → node_gates N node + N + 1 ≤ node_bound node N
 node-few N (nodes.Literal z) some low = omega arith
 node-few N (nodes.Constant k) some low = omega arith
@@ -58,7 +58,7 @@ node-low N node low =
       | _ ↦ omega arith
     ]
 
--- nodes, their numbers, and whether each has one
+-- the bound of terms holds for the nodes, their numbers and the tests whether each has a value
 pub terms-few : (typing : List ℕ) (terms : List Term) → All (λ t. (1 ≤ slice_index typing t.class) × (slice_index typing t.class ≤ 64)) terms
     → terms_gates typing terms + numbers_gates (map (λ t. slice_index typing t.class) terms) + length (map (λ (t : Term). slice_index typing t.class) terms) ≤ sum_by (term_bound typing) terms
 terms-few typing [] all = omega arith

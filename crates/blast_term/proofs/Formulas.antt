@@ -1,4 +1,4 @@
--- Whether a node of a formula holds, told from what it reads.
+-- Whether a node of a formula is true, shown from the literals of what it reads.
 use Rattle.std.proofs.Common.{◌≡◌, ℕ, Bool, false, ◌&&◌, ◌||◌, not, List, map, length, Some, sym, ap, ◌∙◌, refl}
 use Rattle.std.specs.Prelude.{slice_get, slice_index_or}
 use Rattle.std.specs.Option.{option_map}
@@ -11,7 +11,7 @@ use Rattle.blast_value.specs.declared.held.Held.{Held}
 use Rattle.blast_value.specs.Effect.{held_value, widths_of}
 use Rattle.blast_term.proofs.Turns.{value_there}
 
--- the width of a term that is read
+-- a term that is read has the width that is told of it
 pub width_read : {L : Type 0} (terms : List (Held L)) (n N : ℕ) (x : Held L) → slice_get (widths_of terms) n ≡ Some N → slice_get terms n ≡ Some x → length x.bits ≡ N
 width_read terms n N x width at =
     same_Some (length x.bits) N (sym (slice_get-map (λ (h : Held _). length h.bits) terms n ∙ ap (option_map (λ (h : Held _). length h.bits)) at) ∙ width)

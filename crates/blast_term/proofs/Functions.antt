@@ -1,4 +1,4 @@
--- What operators and functions give, told from literals.
+-- The values of operators and functions of terms, shown from literals.
 use Rattle.std.proofs.Common.{◌≡◌, ℕ, zero, suc, ◌-◌, ◌^◌, ◌%◌, ◌<◌, ◌≤◌, min, inl, inr, nat_lt, Bool, true, false, not, ◌||◌, if◌then◌else◌, List, map, length, replicate, Some, None, refl, subst, ◌∙◌, arith}
 use Rattle.std.proofs.Math.Nat.{mod-eq_of_lt}
 use Rattle.ops.specs.Flags.{no_flags}
@@ -21,11 +21,11 @@ use Rattle.rule_core.specs.Terms.{exponent, value_given, function_value, number_
 zero_below : (m : ℕ) → 0 < m → false ≡ nat_lt 0 m → ⊥
 zero_below m some e = let less : nat_lt 0 m ≡ true = grind arith in cc
 
--- a value of n, or poison
+-- the number n, or poison
 abbrev pub value_or_poison : Bool → ℕ → ℕ → Value
 value_or_poison poison N n = if poison then Poison else bits N n
 
--- an effect's value is poison where its poison bit or its undefined bit is true
+-- the value of an effect is poison where its poison bit or its undefined bit is true
 pub given-value : (poison undefined either : Bool) (N n : ℕ) → either ≡ (poison || undefined)
     → value_or_poison either N n ≡ value_given (if undefined then Undefined else Gives (value_or_poison poison N n))
 given-value true true either N n is = rw is refl
@@ -59,7 +59,7 @@ log-value true false either N n k power is = rw is refl
 log-value false true either N n k power is = rw (is, power) refl
 log-value false false either N n k power is = rw (is, power) refl
 
--- a number below the least one is its own size, and another is its negation's
+-- a number below the least signed one is its own absolute value, and another has that of its negation
 pub sign-choice : (b : Bool) (N n : ℕ) (xs ys : List Bool) → b ≡ nat_lt n (least N) → number xs ≡ n → number ys ≡ (2 ^ N - n) % 2 ^ N → number (if b then xs else ys) ≡ (if nat_lt n (least N) then n else 2 ^ N - n)
 sign-choice true N n xs ys is first second = rw (← is) first
 sign-choice false N n xs ys is first second =
@@ -71,7 +71,7 @@ below_power : (n : ℕ) → n < 2 ^ n
 below_power zero = omega arith
 below_power (suc n) = rw (pow-succ' 2 n) (omega (arith, below_power n))
 
--- six bits, or fewer, tell the place of a bit
+-- six bits, or as many as the width if that is less, are enough for the place of a bit
 pub places-told : (n m : ℕ) → n ≤ 64 → m ≡ min n 6 → n ≤ 2 ^ m
 places-told n m low is =
     elim (nat_le_cases n 6) [
@@ -79,7 +79,7 @@ places-told n m low is =
       | inr large ↦ let six : m ≡ 6 = omega arith in rw six (omega arith)
     ]
 
--- a word, or zeros where it is poison
+-- a word, or zeros where its poison bit is true
 pub or_zero-word : {L : Type 0} (value : L → Bool) (held : Held L) (zeros : List L) (n : ℕ) (low : L) → zeros ≡ replicate n low → value low ≡ false
     → number (if value held.poison then map value zeros else map value held.bits) ≡ number_or_zero (held_value value held)
 or_zero-word value held zeros n low are none =

@@ -1,4 +1,4 @@
--- What a circuit that keeps its older literals keeps of a scope.
+-- Where a circuit keeps its older literals, a scope over these stands for the same as before.
 use Rattle.std.proofs.Common.{◌≡◌, Bool, List, refl, sym, ◌∙◌}
 use Rattle.circuits.specs.declared.state.State.{Ghosts}
 use Rattle.circuits.specs.Circuit.{Keeps}

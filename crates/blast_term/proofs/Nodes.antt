@@ -1,4 +1,4 @@
--- What a node of a term gives, told from what it reads.
+-- The value of a node of a term, shown from the literals of what it reads.
 use Rattle.std.proofs.Common.{◌≡◌, ℕ, Bool, List, map, length, Some, sym, ap, ◌∙◌}
 use Rattle.std.specs.Prelude.{slice_get, slice_index}
 use Rattle.std.specs.Option.{option_map, option_map_or, unwrap_or}
@@ -22,14 +22,14 @@ use Rattle.blast_term.specs.Scope.{held_at, seen, ScopeIsOwn}
 use Rattle.blast_term.specs.Terms.{HasWord, MeansNames}
 use Rattle.blast_term.proofs.Turns.{value_there, own_from_get}
 
--- the width of a word that is read
+-- a word that is read has the width that is told of it
 pub width_of_word : {L : Type 0} (words : List (List L)) (k N : ℕ) (word : List L) → HasWord words k N → slice_get words k ≡ Some word → length word ≡ N
 width_of_word words k N word has at = ap length (same_Some word has.0 (sym at ∙ has.1)) ∙ has.2
 
 pub width_of_register : {L : Type 0} (scope : Scope L) (r : Register) (N : ℕ) (h : Held L) → (held : Held L) × (held_at scope r ≡ Some held) × (length held.bits ≡ N) → held_at scope r ≡ Some h → length h.bits ≡ N
 width_of_register scope r N h has at = ap (λ (x : Held _). length x.bits) (same_Some h has.0 (sym at ∙ has.1)) ∙ has.2
 
--- the literals of a register are a circuit's where those of its scope are
+-- the literals of a register are a circuit's own where those of its scope are
 pub register_own : {L : Type 0} (has_literal : L → Type 0) (scope : Scope L) (r : Register) (h : Held L) → ScopeIsOwn has_literal scope → held_at scope r ≡ Some h → IsOwn has_literal h
 register_own has_literal scope (registers.Input k) h own at = own_from_get (IsOwn has_literal) scope.inputs.now k h own.inputs at
 register_own has_literal scope (registers.Source k) h own at = own_from_get (IsOwn has_literal) scope.source.now k h own.source at

@@ -1,4 +1,4 @@
--- The exponent of a power of two, told from its bits, the lowest first.
+-- The exponent of a power of two, found by a pass over its bits, the lowest first.
 use Rattle.std.proofs.Common.{◌≡◌, ℕ, zero, suc, ◌⊎◌, inl, inr, ◌+◌, ◌*◌, ◌^◌, ◌<◌, ◌≤◌, ◌==◌, Bool, true, false, not, ◌&&◌, if◌then◌else◌, List, Some, None, refl, sym, ap, ◌∙◌, eq-eqb, add-one, arith}
 use Rattle.std.proofs.lemmas.Bool.{eqb-true}
 use Rattle.std.proofs.Math.Nat.{pow-le-pow_right, pow-succ'}
@@ -8,7 +8,7 @@ use Rattle.circuits.specs.Word.{bit, number}
 use Rattle.rule_core.specs.Terms.{exponent}
 use Rattle.rule_core.proofs.Exponents.{found, not_found}
 
--- n is the number of the first i bits: whether it is 0, and whether it is the power of two of k, or of none
+-- n is the number of the first i bits: `none` says whether it is 0, and `one` whether it is a power of two, of k then
 pub record Scanned (i n k : ℕ) (none one : Bool) : Type 0 where
   pub zero_if : none ≡ true → n ≡ 0
   pub positive_if : none ≡ false → 0 < n
@@ -34,7 +34,7 @@ nat_le_cases (suc a) (suc b) = elim (nat_le_cases a b) [ inl h ↦ inl (omega ar
 same_number : (n : ℕ) → (n == n) ≡ true
 same_number n = eq-eqb n n refl
 
--- no power of two lies between two that follow each other
+-- no power of two lies between two that follow one another
 between : (i n j : ℕ) → 0 < n → n < 2 ^ i → 2 ^ j ≡ n + 2 ^ i → ⊥
 between i n j some below same =
     let two : 0 < 2 = omega arith in
@@ -80,7 +80,7 @@ scanned-exponent i n k none true scanned =
     found i n k h.0 (λ j less. differ (2 ^ j) n (λ same. omega (arith, pow-lt less, h.1))) (rw h.1 (same_number n))
 scanned-exponent i n k none false scanned = not_found i n (λ j less. differ (2 ^ j) n (scanned.no_power refl j))
 
--- a choice of two words has the number of the one chosen
+-- a choice between two words has the number of the word that is chosen
 pub number-if : (b : Bool) (xs ys : List Bool) → number (if b then xs else ys) ≡ (if b then number xs else number ys)
 number-if true xs ys = refl
 number-if false xs ys = refl

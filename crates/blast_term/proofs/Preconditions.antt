@@ -1,4 +1,4 @@
--- Whether all values are numbers, and a precondition is met.
+-- Whether all values are numbers and a precondition is true.
 use Rattle.std.proofs.Common.{◌≡◌, ℕ, zero, suc, Bool, true, false, not, ◌&&◌, IsTrue, ◌↔◌, if◌then◌else◌, List, [], ◌∷◌, ◌++◌, Some, refl, subst, arith}
 use Rattle.std.specs.Prelude.{slice_get}
 use Rattle.std.specs.Option.{unwrap_or}
@@ -39,7 +39,7 @@ all_pop (w ∷ values) v all = let rest = all_pop values v all.1 in ((all.0, res
 falsity : IsTrue false → ⊥
 falsity h = cc
 
--- one value more
+-- one more value is tested
 pub met_more : (met poison met' : Bool) (values : List Value) (N n : ℕ) (P : Type 0) → (IsTrue met ↔ (AllNumbers values × P)) → met' ≡ (met && not poison)
     → IsTrue met' ↔ (AllNumbers (values ++ (if poison then Poison else bits N n) ∷ []) × P)
 met_more true true met' values N n P before is = (λ h. absurd (falsity (subst IsTrue is h)), λ h. absurd (all_pop values Poison h.0).1)
@@ -54,7 +54,8 @@ precondition_met values formulas b is = (
   λ met. is.1 (numbers_all values met.values, met.formula),
 )
 
--- the constants that a precondition is of give the values of the rule's terms
+-- where these are the values of the rule's terms at the constants, the precondition holds at the constants exactly
+-- where it is met
 pub precondition_holds : (rule : Rule) (typing : List ℕ) (constants : List Number) (values : List Value) (b : Bool) → values ≡ constant_values typing constants rule
     → (IsTrue b ↔ PreconditionMet values rule.precondition) → IsTrue b ↔ PreconditionHolds rule typing constants
 precondition_holds rule typing constants values b are is = (
@@ -62,7 +63,7 @@ precondition_holds rule typing constants values b are is = (
   λ holds. is.1 (rw are record { values = holds.values; formula = holds.formula }),
 )
 
--- no register stands in a constant term
+-- constant terms read no register, so the registers may hold anything
 pub nothing_held : (r : Register) → Poison ≡ unwrap_or (value_of (record { inputs = []; source = []; target = [] }) r) Poison
 nothing_held (registers.Input zero) = refl
 nothing_held (registers.Input (suc k)) = refl

@@ -1,4 +1,4 @@
--- Tests of one value, told from its bits.
+-- Tests of one value, shown from its bits.
 use Rattle.std.proofs.Common.{◌≡◌, ℕ, ◌==◌, Bool, true, false, not, ◌&&◌, if◌then◌else◌, Some, None, refl, sym, ap}
 use Rattle.std.specs.Option.{is_some}
 use Rattle.ops.specs.Integer.{bits, least}

@@ -1,4 +1,4 @@
-//! A precondition in literals.
+//! Preconditions as literals.
 ghost use Rattle.std.specs.Prelude.{◌≡◌, ◌≤◌, ◌↔◌, Bool, IsTrue, List as Seq, length, map, IfOk};
 ghost use Rattle.std.specs.List.{All};
 ghost use Rattle.circuits.specs.Circuit.{Adds};
@@ -16,8 +16,8 @@ use ops::{Pred, Width};
 use rule_core::Formula;
 use std::alloc::{AllocError, Global};
 
-/// Whether the precondition holds where the terms give these values: each of them is a number, and the last node of the
-/// formula holds, if there is one.
+/// Whether the precondition is met by terms with these values: each of them is a number, and the last node of the
+/// formula, if there is one, is true.
 pub fn blast_precondition<C: Circuit>(
     alloc: Global,
     c: &mut C,
@@ -41,7 +41,7 @@ pub fn blast_precondition<C: Circuit>(
     Ok(met)
 }
 
-/// Whether the last node holds; a formula without nodes does.
+/// Whether the last node is true. A formula without nodes is true.
 fn last_truth<C: Circuit>(c: &C, truths: &[C::Literal]) -> C::Literal
     requires { All (C.has_literal c.now) truths.now }
     ensures value { (inputs : Seq Bool) → C.admits c.now inputs →
@@ -54,7 +54,7 @@ fn last_truth<C: Circuit>(c: &C, truths: &[C::Literal]) -> C::Literal
     }
 }
 
-/// Whether the nodes of a formula hold, in order.
+/// Whether each node of a formula is true, in order.
 fn blast_formulas<C: Circuit>(
     alloc: Global,
     c: &mut C,
@@ -78,7 +78,7 @@ fn blast_formulas<C: Circuit>(
     Ok(truths)
 }
 
-/// Whether a node of a formula holds, where these are the terms and whether the nodes before it hold.
+/// Whether a node of a formula is true, by the values of the terms and the truth of the nodes before it.
 fn blast_formula<C: Circuit>(
     alloc: Global,
     c: &mut C,
@@ -108,7 +108,7 @@ fn blast_formula<C: Circuit>(
     }
 }
 
-/// Whether both values are numbers, of which the predicate holds.
+/// Whether both values are numbers and the predicate is true of them.
 fn blast_compares<C: Circuit>(
     alloc: Global,
     c: &mut C,
@@ -132,7 +132,7 @@ fn blast_compares<C: Circuit>(
     c.and(alloc, made.bits.as_slice()[0], c.not(made.poison))
 }
 
-/// The width of a truth value.
+/// The width of a truth value, one bit.
 fn one() -> Width
     ensures { result ≡ 1 }
 {
@@ -142,7 +142,7 @@ fn one() -> Width
     }
 }
 
-/// Whether the value is a number with exactly one bit set.
+/// Whether the value is a number with exactly one bit set, a power of two.
 fn blast_has_one_bit<C: Circuit>(
     alloc: Global,
     c: &mut C,
@@ -161,7 +161,7 @@ fn blast_has_one_bit<C: Circuit>(
     c.and(alloc, found.exists, c.not(value.poison))
 }
 
-/// Whether the value is the least number, of which the highest bit alone is set.
+/// Whether the value is the number of which the highest bit alone is set, the least signed one.
 fn blast_is_sign_bit<C: Circuit>(
     alloc: Global,
     c: &mut C,

@@ -22,7 +22,7 @@ use ops::{Flags, Opcode, Width};
 use rule_core::Function;
 use std::alloc::{AllocError, Global};
 
-/// What an operator gives: what its instruction does without flags, and poison where that is undefined behaviour.
+/// The value of an operator: that of its instruction without flags, and poison where that has undefined behaviour.
 pub(crate) fn blast_operator<C: Circuit>(
     alloc: Global,
     c: &mut C,
@@ -53,7 +53,7 @@ pub(crate) fn blast_operator<C: Circuit>(
     Ok(Held { bits, poison })
 }
 
-/// What a function gives at an operand, and poison where that is poison.
+/// The value of a function at an operand, which is poison where the operand is.
 pub(crate) fn blast_function<C: Circuit>(
     alloc: Global,
     c: &mut C,
@@ -79,7 +79,7 @@ pub(crate) fn blast_function<C: Circuit>(
     }
 }
 
-/// What an operator gives at a number and an operand.
+/// The value of an operator at a number and an operand.
 fn blast_with<C: Circuit>(
     alloc: Global,
     c: &mut C,
@@ -135,7 +135,7 @@ fn logarithm<C: Circuit>(
     })
 }
 
-/// The operand without its sign.
+/// The absolute value of the operand.
 fn absolute<C: Circuit>(
     alloc: Global,
     c: &mut C,
@@ -159,7 +159,7 @@ fn absolute<C: Circuit>(
     })
 }
 
-/// The word of the number without its sign: it, where it is below the least number, and else its negation.
+/// The word of the absolute value: the number itself, where it is below the least signed one, and else its negation.
 fn without_sign<C: Circuit>(
     alloc: Global,
     c: &mut C,
@@ -183,7 +183,7 @@ fn without_sign<C: Circuit>(
     select(alloc, c, is_below, word.as_slice(), negated.as_slice())
 }
 
-/// Whether the number is below the least number, of which the highest bit alone is set.
+/// Whether the number, read as unsigned, is below the least signed one, of which the highest bit alone is set.
 fn is_below_least<C: Circuit>(
     alloc: Global,
     c: &mut C,

@@ -1,8 +1,8 @@
-//! The constant terms of a rule, the expressions of its `Wit:` and its precondition in circuits, written once for every
-//! lawful circuit.
+//! Bit-blasting of the constant terms of a rule, the expressions of its `Wit:` and its precondition, written once for
+//! every `Circuit`.
 //!
-//! The only error of a call is want of memory. A call that is refused may leave gates, no more than it may add; the
-//! older literals keep their values, and it makes no input.
+//! The only error of a call is want of memory. A call that is refused for that may leave gates, no more than it may
+//! add; the older literals keep their values, and it makes no input.
 #![tactic(auto)]
 
 mod formula;

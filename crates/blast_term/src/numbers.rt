@@ -15,7 +15,7 @@ use circuits::{Bits, Circuit, repeated, select};
 use ops::{Width, Word};
 use std::alloc::{AllocError, Global};
 
-/// A number that isn't poison. It makes no gate.
+/// The value that is this number, of constant literals. It makes no gate.
 pub fn number<C: Circuit>(
     alloc: Global,
     c: &C,
@@ -32,7 +32,7 @@ pub fn number<C: Circuit>(
     Ok(valued(c, bits))
 }
 
-/// The number of a word, which isn't poison.
+/// The value that is the number of a word: its poison bit is false.
 pub(crate) fn valued<C: Circuit>(c: &C, bits: Bits<C::Literal>) -> Held<C::Literal>
     requires { All (C.has_literal c.now) bits }
     ensures value { (inputs : Seq Bool) → C.admits c.now inputs →
@@ -46,7 +46,7 @@ pub(crate) fn valued<C: Circuit>(c: &C, bits: Bits<C::Literal>) -> Held<C::Liter
     }
 }
 
-/// The number of a word, once more.
+/// The value that is the number of a word, which is copied.
 pub fn of_word<C: Circuit>(
     alloc: Global,
     c: &C,
@@ -61,7 +61,7 @@ pub fn of_word<C: Circuit>(
     Ok(valued(c, word_copied(alloc, word)?))
 }
 
-/// The number that a value is, and 0 where it is poison.
+/// The number of a value, which is 0 where the value is poison.
 pub(crate) fn number_or_zero<C: Circuit>(
     alloc: Global,
     c: &mut C,
@@ -85,7 +85,7 @@ pub(crate) fn number_or_zero<C: Circuit>(
     )
 }
 
-/// The number, if it is one of `iN`, and else poison.
+/// The value that is this number, if the number is one of `iN`, and else poison.
 pub(crate) fn within<C: Circuit>(
     alloc: Global,
     c: &C,
@@ -106,7 +106,7 @@ pub(crate) fn within<C: Circuit>(
     }
 }
 
-/// The literal modulo 2^N.
+/// A literal of a rule, a whole number, modulo 2^N.
 #[tactic(auto, unfolding(ops::specs::Integer::residue))]
 pub fn residue(width: Width, literal: i128) -> u64
     ensures residue { result ≡ residue width literal }

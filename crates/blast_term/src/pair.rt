@@ -12,7 +12,7 @@ use lists::List;
 use ops::Width;
 use std::alloc::{AllocError, Global};
 
-/// What an instruction does on two operands.
+/// The effect of an instruction on two operands.
 pub(crate) fn blast_pair<C: Circuit>(
     alloc: Global,
     c: &mut C,
@@ -37,7 +37,7 @@ pub(crate) fn blast_pair<C: Circuit>(
     blast_value(alloc, c, what, width, &operands)
 }
 
-/// What an instruction takes: the literals of two operands once more.
+/// The two operands as a list, copied.
 fn pair<L: Copy>(
     alloc: Global,
     left: &Held<L>,

@@ -11,19 +11,20 @@ use blast_value::constant;
 use circuits::{Bits, Circuit, extend, select};
 use std::alloc::{AllocError, Global};
 
-/// The exponent of a power of two.
+/// The exponent of a number that may be a power of two.
 #[derive(Drop)]
 pub(crate) struct Exponent<L> {
-    /// Whether exactly one bit is set.
+    /// Whether the number is one: exactly one bit is set.
     pub(crate) exists: L,
-    /// The exponent, where it is.
+    /// The exponent, where the number is a power of two.
     pub(crate) bits: Bits<L>,
 }
 
-/// How many bits tell a place among those of a number.
+/// How many bits the place of a bit in a number takes, up to 64 bits.
 const PLACE_BITS: usize = 6;
 
-/// The exponent of which a word's number is the power of two. It adds at most eight gates a bit.
+/// The exponent of the power of two that a word's number is. It adds at most eight gates for each
+/// bit.
 pub(crate) fn blast_exponent<C: Circuit>(
     alloc: Global,
     c: &mut C,
@@ -51,7 +52,7 @@ pub(crate) fn blast_exponent<C: Circuit>(
     })
 }
 
-/// The place of the only bit that is set, in so many bits.
+/// The place of the only bit that is set, as a word of so many bits.
 fn place<C: Circuit>(
     alloc: Global,
     c: &mut C,
@@ -82,7 +83,7 @@ fn place<C: Circuit>(
     Ok(Exponent { exists: one, bits })
 }
 
-/// The bits of the place where the literal is true, and else these.
+/// The number of a place where the literal is true, and else this word.
 fn place_where<C: Circuit>(
     alloc: Global,
     c: &mut C,

@@ -1,4 +1,4 @@
-//! The nodes of terms in literals.
+//! The nodes of terms as literals.
 ghost use Rattle.std.specs.Prelude.{◌≡◌, ◌<◌, Bool, List as Seq, length, map, slice_index, IfOk};
 ghost use Rattle.std.specs.List.{All};
 ghost use Rattle.ops.specs.Integer.{bits};
@@ -21,7 +21,7 @@ use ops::Width;
 use rule_core::{Node, Term};
 use std::alloc::{AllocError, Global};
 
-/// What the nodes of terms give, in order.
+/// The values of the nodes of terms, in order.
 pub fn blast_terms<C: Circuit>(
     alloc: Global,
     c: &mut C,
@@ -47,7 +47,7 @@ pub fn blast_terms<C: Circuit>(
     Ok(held)
 }
 
-/// What a node gives, where the nodes before it give these values.
+/// The value of a node, by the values of the nodes before it.
 fn blast_term<C: Circuit>(
     alloc: Global,
     c: &mut C,
@@ -83,7 +83,7 @@ fn blast_term<C: Circuit>(
     }
 }
 
-/// What a register gives: its number, and 0 where it is poison.
+/// The number that a register holds, 0 where it holds poison.
 fn of_register<C: Circuit>(
     alloc: Global,
     c: &mut C,
@@ -102,7 +102,7 @@ fn of_register<C: Circuit>(
     Ok(valued(c, bits))
 }
 
-/// The number that each value is, and 0 where it is poison.
+/// The number of each value, 0 where the value is poison.
 pub fn numbers_or_zeros<C: Circuit>(
     alloc: Global,
     c: &mut C,

@@ -10,7 +10,7 @@ use blast_value::{Instruction, gates_of};
 use ops::{Flags, Opcode, Width};
 use rule_core::{Formula, Function, Node, Term};
 
-/// The most gates that nodes of terms take.
+/// The most gates that the nodes of terms take.
 pub fn terms_gates(typing: &[Width], terms: &[Term]) -> u32
     requires few { length terms.now ≤ 256 }
     requires classes { All (λ t. t.class < length typing.now) terms.now }
@@ -24,7 +24,7 @@ pub fn terms_gates(typing: &[Width], terms: &[Term]) -> u32
     gates
 }
 
-/// The same of a node of this width.
+/// The most gates that a node of this width takes.
 fn node_gates(width: Width, node: Node) -> u32
     ensures value { result ≡ node_gates width node }
     ensures few { result ≤ 266241 }
@@ -40,7 +40,7 @@ fn node_gates(width: Width, node: Node) -> u32
     }
 }
 
-/// The same of an instruction with two operands of its own width.
+/// The most gates that an instruction with two operands of its own width takes.
 fn opcode_gates(op: Opcode, width: Width) -> u32
     ensures value { result ≡ opcode_gates op width }
     ensures few { result ≤ 266240 }
@@ -49,7 +49,7 @@ fn opcode_gates(op: Opcode, width: Width) -> u32
     gates_of(Instruction::Binary(op, Flags::NONE), width, width)
 }
 
-/// The most gates that the numbers of nodes take.
+/// The most gates that the numbers of the nodes take.
 pub fn numbers_gates(typing: &[Width], terms: &[Term]) -> u32
     requires few { length terms.now ≤ 256 }
     requires classes { All (λ t. t.class < length typing.now) terms.now }
@@ -93,7 +93,7 @@ pub fn formulas_gates(typing: &[Width], terms: &[Term], formulas: &[Formula]) ->
     gates
 }
 
-/// The same of a node of a formula.
+/// The most gates that a node of a formula takes.
 fn formula_gates(typing: &[Width], terms: &[Term], formula: Formula) -> u32
     requires classes { All (λ t. t.class < length typing.now) terms.now }
     requires there { ReadsTerms (length terms.now) formula }
@@ -109,7 +109,7 @@ fn formula_gates(typing: &[Width], terms: &[Term], formula: Formula) -> u32
     }
 }
 
-/// The width of a node.
+/// The width of the node at a place.
 fn node_width(typing: &[Width], terms: &[Term], place: u32) -> Width
     requires classes { All (λ t. t.class < length typing.now) terms.now }
     requires there { place < length terms.now }

@@ -1,4 +1,4 @@
-//! What `Wit:` chooses, as literals.
+//! The numbers that `Wit:` gives, as literals.
 ghost use Rattle.std.specs.Prelude.{◌≡◌, ◌<◌, ◌+◌, Bool, List as Seq, length, map, slice_index, IfOk};
 ghost use Rattle.std.specs.List.{All};
 ghost use Rattle.circuits.specs.Circuit.{Adds};
@@ -19,7 +19,7 @@ use ops::Width;
 use rule_core::Rule;
 use std::alloc::{AllocError, Global};
 
-/// The numbers that `Wit:` gives for the choices of the source, from what the source's temporaries hold.
+/// The numbers that `Wit:` gives for the choices of the source, by what the temporaries of the source hold.
 pub fn blast_witness<C: Circuit>(
     alloc: Global,
     c: &mut C,
@@ -44,7 +44,7 @@ pub fn blast_witness<C: Circuit>(
     numbers_at(alloc, c, &terms, rule.witnesses.as_slice())
 }
 
-/// The numbers of the values at these places, 0 where one is poison.
+/// The numbers of the values at these places, 0 where a value is poison.
 fn numbers_at<C: Circuit>(
     alloc: Global,
     c: &mut C,

@@ -1,4 +1,4 @@
--- The binary digits of a word's number are the word, so that counts over one are those over the other.
+-- The binary digits of a word's number are the word's bits, so bits may be counted in either.
 use Rattle.std.proofs.Common.{◌≡◌, ℕ, ◌+◌, ◌*◌, ◌/◌, ◌%◌, ◌==◌, Bool, true, false, not, cond, List, [], ◌∷◌, map, length, refl, ap, arith}
 use Rattle.std.specs.Prelude.{filter, reverse}
 use Rattle.std.specs.List.{prefix_len}
@@ -22,7 +22,7 @@ digits_of_number (b ∷ word) = rw (lowest b (number word), others b (number wor
 digits : {L : Type 0} (value : L → Bool) (word : List L) → binary_digits (length word) (number_of value word) ≡ map value word
 digits value word = rw length-map at (digits_of_number (map value word))
 
--- counts over values, and over the literals that have them
+-- as many of the literals are true as of the values that they have
 one_more : {X Y : Type 0} (b : Bool) (x : X) (y : Y) (xs : List X) (ys : List Y) → length xs ≡ length ys → length (cond b (x ∷ xs) xs) ≡ length (cond b (y ∷ ys) ys)
 one_more true x y xs ys same = omega arith
 one_more false x y xs ys same = same

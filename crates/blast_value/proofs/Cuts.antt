@@ -1,4 +1,4 @@
--- Numbers of which bits are cut off: extending what is left gives the number again exactly where it fits.
+-- Numbers that are truncated: extending what is left gives the number again exactly where it fits the smaller width.
 use Rattle.std.proofs.Common.{◌≡◌, ◌≢◌, ◌==◌, ℕ, ◌+◌, ◌-◌, ◌*◌, ◌%◌, ◌^◌, ◌<◌, ◌≤◌, Bool, true, false, not, ◌&&◌, ◌||◌, nat_lt, nat_le, refl, sym, ap, ◌∙◌, ⊎_elim, arith}
 use Rattle.std.specs.Prelude.{pos, neg_ℤ, ◌-ℤ◌, int_le, int_lt}
 use Rattle.std.proofs.lemmas.Bool.{cases_lt, eq-eqb, ne_eqb}
@@ -16,7 +16,7 @@ use Rattle.circuits.proofs.Words.{remainder}
 use Rattle.blast_value.specs.Families.{extended}
 use Rattle.blast_value.proofs.Numbers.{residue-extended}
 
--- a word made longer has the number, or the signed number, of the shorter one
+-- a word that is extended has the number, or the signed number, of the shorter word
 pub extended_is : (is_signed : Bool) (N M n : ℕ) → 0 < N → N < M → n < 2 ^ N → n + bit (is_signed && nat_le (2 ^ (N - 1)) n) * (2 ^ M - 2 ^ N) ≡ extended is_signed N M n
 extended_is false N M n some wider below = omega arith
 extended_is true N M n some wider below = residue-extended N M n (nat_le (2 ^ (N - 1)) n) (omega arith) wider below refl
@@ -31,7 +31,7 @@ cut_unsigned to n =
     let some : nat_le (2 ^ to) n ≡ true = grind (arith, nat_tests) in rw (other, some) refl)
     (cases_lt n (2 ^ to))
 
--- a number read as signed fits where it is below half, or so much below the power
+-- a number read as signed fits below half the power, and above the power less half
 low_fits : (half power n : ℕ) → n < half → (int_le (neg_ℤ (pos half)) (pos n) && int_lt (pos n) (pos half)) ≡ true
 low_fits half power n low = grind (arith, ints, nat_tests)
 
@@ -44,8 +44,8 @@ high_fits half power n below near = grind (arith, ints, nat_tests)
 high_fails : (half power n : ℕ) → n < power → half < power - n → (int_le (neg_ℤ (pos half)) (pos n -ℤ pos power) && int_lt (pos n -ℤ pos power) (pos half)) ≡ false
 high_fails half power n below far = grind (arith, ints, nat_tests)
 
--- what is left of a number of 2 * more bits' values, extended again: r is what is left, and q more than one power was
--- cut off
+-- a truncated number, sign-extended again, is another one where it doesn't fit: r is what is left, and q tells how many
+-- more powers the larger range has
 again_low : (half power larger q n r : ℕ) → power ≡ 2 * half → larger ≡ power * (q + 1) → 1 ≤ q → r < power → half ≤ n → n + n < larger → r + bit (nat_le half r) * (larger - power) ≢ n
 again_low half power larger q n r p l some below high low =
     let room : power * 1 ≤ power * q = mul-le-mul_left power some in
@@ -129,7 +129,7 @@ module _ (M to n : ℕ) (some : 1 ≤ to) (wider : to < M) (below : n < 2 ^ M) w
   unfolding left
   cut_signed = ⊎_elim where_low where_high (cases_lt n (2 ^ (M - 1)))
 
--- the flags of a cast that cuts bits off
+-- when a `trunc` breaks its flags
 pub cut_breaks : (flags : Flags) (M to n m : ℕ) (wraps wraps_signed made : Bool) → 1 ≤ to → to < M → n < 2 ^ M → m ≡ n % 2 ^ to
     → wraps ≡ (flags.nuw && not (extended false to M m == n)) → wraps_signed ≡ (flags.nsw && not (extended true to M m == n)) → made ≡ (wraps || wraps_signed)
     → made ≡ breaks_flags Trunc flags M to n

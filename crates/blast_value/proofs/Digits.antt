@@ -15,7 +15,7 @@ use Rattle.blast_value.specs.Families.{bitwise}
 lowest_bit : (n : ℕ) → bit (n % 2 == 1) ≡ n % 2
 lowest_bit n = grind (arith, nat_tests)
 
--- one more digit of a number
+-- one more digit of a number is split off
 digit_more : (p p' before number rest : ℕ) → p' ≡ 2 * p → before + p * rest ≡ number → (before + p * (rest % 2)) + p' * (rest / 2) ≡ number
 digit_more p p' before number rest twice before_is =
     let parts : rest ≡ 2 * (rest / 2) + rest % 2 = omega arith in
@@ -28,12 +28,12 @@ constant_more value word b i rest number width before b_is =
     rw (map-append value word (b ∷ []), number-push (map value word) (value b), places, b_is, lowest_bit rest)
     (digit_more (2 ^ i) (2 ^ (i + 1)) (number_of value word) number rest (doubled i) before)
 
--- after all digits nothing is left
+-- after all digits the rest is 0, so the digits are those of the whole number
 pub constant_whole : (p before rest number : ℕ) → before + p * rest ≡ number → number < p → before ≡ number
 constant_whole p before zero number total below = omega arith
 constant_whole p before (suc rest) number total below = absurd (omega arith)
 
--- one more digit of two numbers
+-- one more digit of two numbers, bit by bit
 block : (op : Bitwise) (k a b r s : ℕ) → r < 2 ^ k → s < 2 ^ k → bitwise op (a * 2 ^ k + r) (b * 2 ^ k + s) ≡ bitwise op a b * 2 ^ k + bitwise op r s
 block And k a b r s p q = and_block k a b r s p q
 block Or k a b r s p q = or_block k a b r s p q

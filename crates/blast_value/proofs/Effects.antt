@@ -1,4 +1,4 @@
--- What instructions do where operands may be poison.
+-- The effects of instructions where operands may be poison.
 use Rattle.std.proofs.Common.{◌≡◌, ◌≢◌, ◌==◌, ℕ, zero, suc, ◌+◌, ◌-◌, ◌*◌, ◌%◌, ◌/◌, ◌^◌, ◌<◌, ◌≤◌, ◌⊎◌, Bool, true, false, not, ◌&&◌, ◌||◌, min, max, nat_lt, nat_le, if◌then◌else◌, List, [], ◌∷◌, map, length, get_or, replicate, refl, sym, ap, ◌∙◌, ⊎_elim, arith}
 use Rattle.std.specs.Prelude.{bit_and, ℤ, pos, negsuc, neg_ℤ, ◌-ℤ◌, int_le, int_lt, unsigned_abs}
 use Rattle.std.proofs.lemmas.Bool.{cases_lt}
@@ -43,7 +43,7 @@ use Rattle.blast_value.specs.Families.{arithmetic_opcode, extreme, extreme_opcod
 use Rattle.blast_value.proofs.Numbers.{signed_same, residue-pos, residue-difference}
 
 -- ---- instructions that give poison where an operand is
--- no undefined behaviour, and poison where one of three is true
+-- no undefined behaviour, and poison where an operand is or the result at numbers is
 pub strict_effect : (undefined poison a b m : Bool) (v : Value) → undefined ≡ false → poison ≡ ((a || b) || m) → (if undefined then Undefined else Gives (if poison then Poison else v)) ≡ Gives (if a || b then Poison else (if m then Poison else v))
 strict_effect undefined poison true b m v u p = rw (u, p) refl
 strict_effect undefined poison false true m v u p = rw (u, p) refl
@@ -89,7 +89,7 @@ extreme_poison UMax N w = refl
 extreme_poison SMin N w = refl
 extreme_poison SMax N w = refl
 
--- the smaller and the larger by a comparison, as the circuits choose
+-- the smaller and the larger by a comparison and a choice, as the circuits have them
 lesser : (a b : ℕ) → min a b ≡ (if nat_lt a b then a else b)
 lesser a b = grind (arith, nat_tests)
 
@@ -161,7 +161,7 @@ twice : (b : Bool) → b ≡ not (not b)
 twice true = refl
 twice false = refl
 
--- a predicate, without its negation
+-- the predicate, or what it negates where it is a negation
 abbrev pub plain : Pred → ℕ → ℕ → ℕ → Bool
 plain pred N a b = if is_negation pred then not (holds pred N a b) else holds pred N a b
 
@@ -236,7 +236,7 @@ pub remainders : (N a b : ℕ) → circuits.residue N (circuits.remainder (words
 unfolding residue circuits.residue
 remainders N a b = rw (signed_same N a, signed_same N b) refl
 
--- a remainder is 0 modulo 2 ^ N where that of the absolute values is
+-- a remainder is 0 modulo 2 ^ N exactly where that of the absolute values is 0
 residue-zero : (N r : ℕ) (negative : Bool) → r < 2 ^ N → (residue N (if negative then neg_ℤ (pos r) else pos r) == 0) ≡ (r == 0)
 unfolding residue
 residue-zero N zero true below = rw (mod-eq_of_lt below) refl
@@ -268,8 +268,8 @@ quotient_value op flags N a b l q r negative poison which below width negative_i
     (λ (e : op ≡ SDiv). rw (poison_is, r_is, q_is, negative_is, width, e, signed_left N a b below) refl)
     which
 
--- what a division does where an operand may be poison, from the tests of its numbers: whether the divisor is 0, and
--- whether it is -1, and the dividend the least number
+-- The effect of a division where an operand may be poison, from the tests of its numbers: whether the divisor is 0,
+-- and, if signed, whether it is -1 and the dividend the least number.
 unsigned_effect : (x y by_zero : Bool) (v : Value) → Effect
 unsigned_effect x true by_zero v = Undefined
 unsigned_effect true false by_zero v = if by_zero then Undefined else Gives Poison
@@ -298,7 +298,7 @@ signed_tests false false false true true m v w is = refl
 signed_tests false false false true false m v w is = ap Gives (is refl)
 signed_tests false false false false low m v w is = ap Gives (is refl)
 
--- the instructions' effects are these
+-- the effects of the instructions that divide are these
 unsigned_instruction : (op : Division) (flags : Flags) (N a b : ℕ) (x y : Bool) → is_signed op ≡ false → unsigned_effect x y (b == 0) (divided op flags N a b) ≡ instruction (division_opcode op) flags N (if x then Poison else bits N a) (if y then Poison else bits N b)
 unfolding unsigned_effect instruction on_numbers on_poison udiv urem
 unsigned_instruction UDiv flags N a b true true e = refl

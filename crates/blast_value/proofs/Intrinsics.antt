@@ -1,4 +1,4 @@
--- What intrinsics do where their operand may be poison.
+-- The effects of intrinsics where their operand may be poison.
 use Rattle.std.proofs.Common.{◌≡◌, ℕ, Bool, true, false, ◌&&◌, ◌||◌, if◌then◌else◌, refl}
 use Rattle.ops.specs.declared.value.Value.TheVariants.{Poison}
 use Rattle.ops.specs.declared.value.Effect.TheVariants.{Undefined, Gives}

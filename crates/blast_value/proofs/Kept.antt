@@ -1,4 +1,4 @@
--- What a circuit that keeps its older literals keeps of operands, of effects and of words.
+-- Where a circuit keeps its older literals, operands, effects and words over these stand for the same as before.
 use Rattle.std.proofs.Common.{◌≡◌, suc, Bool, List, [], ◌∷◌, map, refl, arith, get_or}
 use Rattle.std.specs.List.{All}
 use Rattle.circuits.specs.declared.state.State.{Ghosts}

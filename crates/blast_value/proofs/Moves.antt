@@ -1,4 +1,4 @@
--- Shifts of numbers.
+-- Shifts of numbers, as products with powers of 2 and quotients by them.
 use Rattle.std.proofs.Common.{◌≡◌, ◌==◌, ℕ, zero, suc, ◌+◌, ◌-◌, ◌*◌, ◌/◌, ◌%◌, ◌^◌, ◌<◌, ◌≤◌, ◌⊎◌, Bool, true, false, not, ◌&&◌, ◌||◌, nat_lt, nat_le, if◌then◌else◌, refl, sym, ap, ◌∙◌, ⊎_elim, inl, inr, arith, div-le_self}
 use Rattle.std.specs.Prelude.{ℤ, pos, negsuc, neg_ℤ, ◌-ℤ◌, ◌*ℤ◌, int_le, int_lt}
 use Rattle.std.specs.Int.{int_div_euclid}
@@ -40,7 +40,7 @@ at_least_scaled p x y some =
     (λ (h : y ≤ x). let t : nat_le y x ≡ true = grind (arith, nat_tests) in rw t (grind (arith, nat_tests, mul-le-mul_left p h)))
     (cases_lt x y)
 
--- a product modulo a multiple of the factor
+-- a product modulo a multiple of one of its factors
 scaled_mod : (p k a : ℕ) → 0 < p → 0 < k → (a * p) % (p * k) ≡ a % k * p
 scaled_mod p k a some some_k =
     let r = a % k in
@@ -50,7 +50,7 @@ scaled_mod p k a some some_k =
     let below : r * p < p * k = omega (arith, mul-le-mul_left p more) in
     sym (remainder (r * p) (p * k) u (a * p) below (omega (arith, ap (λ n. n * p) parts)))
 
--- ---- a shift to the left and back, unsigned: it gives the number again where nothing is shifted out
+-- ---- a shift to the left and back, unsigned: it gives the number again exactly where no true bit is shifted out
 back_unsigned : (p k a : ℕ) → 0 < p → 0 < k → ((a * p) % (p * k) / p == a) ≡ nat_lt (a * p) (p * k)
 back_unsigned p k a some some_k =
     let back : a % k * p / p ≡ a % k = mul-div_cancel (a % k) some in
@@ -61,11 +61,11 @@ back_unsigned p k a some some_k =
     (λ (h : k ≤ a). grind (arith, nat_tests))
     (cases_lt a k))
 
--- ---- and signed: where it is in the lowest or the highest part of the range
+-- ---- and signed: exactly where the number is in the lowest or the highest part of the range
 within_ends : ℕ → ℕ → ℕ → Bool
 within_ends q j a = nat_lt a j || nat_le (q - j) a
 
--- nothing, or at least as much
+-- a multiple of j is 0 or at least j
 some_or_none : (j n : ℕ) → (j * n ≡ 0) ⊎ (j ≤ j * n)
 some_or_none j zero = inl (omega arith)
 some_or_none j (suc n) = inr (omega arith)
@@ -129,7 +129,7 @@ minus_is q a (suc e) total = omega (arith, ints)
 mul-le : {p : ℕ} (j : ℕ) → 0 < p → 1 * j ≤ p * j
 mul-le {p = p} j some = let one : 1 ≤ p = omega arith in omega (arith, mul-le-mul_left j one)
 
--- ---- whether a product with a power fits
+-- ---- whether a product with a power of 2 fits
 fits_at : (h : ℕ) (z : ℤ) → Bool
 fits_at h z = int_le (neg_ℤ (pos h)) z && int_lt z (pos h)
 
@@ -162,7 +162,7 @@ signed_fits p j a some some_j below =
     rw (t, u, z, negation_times e p, fits_high (p * j) (e * p) room, at_most_scaled p e j some) (grind (arith, nat_tests)))
     (cases_lt a (p * j))
 
--- ---- the powers of a width and of an amount below it
+-- ---- the powers of 2 of a width N and of an amount b below it
 module _ (N b : ℕ) (inside : b < N) where
   pub power_split : 2 ^ N ≡ 2 ^ b * 2 ^ (N - b)
   power_split = let e : N ≡ b + (N - b) = omega arith in ap (λ n. 2 ^ n) e ∙ pow-add 2 b (N - b)
@@ -173,7 +173,7 @@ module _ (N b : ℕ) (inside : b < N) where
   pub whole_split : 2 ^ N ≡ 2 * (2 ^ b * 2 ^ (N - 1 - b))
   whole_split = let e : N ≡ (N - 1) + 1 = omega arith in ap (λ n. 2 ^ n) e ∙ doubled (N - 1) ∙ ap (λ n. 2 * n) half_split
 
-  -- a shift to the left loses nothing
+  -- shifting back, unsigned, gives the number again exactly where the product with 2 ^ b fits
   pub unsigned_kept : (a : ℕ) → a < 2 ^ N → (moved_back false N ((a * 2 ^ b) % 2 ^ N) b == a) ≡ fits_unsigned N (pos a *ℤ pos (2 ^ b))
   unfolding fits_unsigned
   unsigned_kept a below =
@@ -190,7 +190,7 @@ module _ (N b : ℕ) (inside : b < N) where
       rw (pow-add 2 N b, half_split, whole_split) (back_signed p j a (pow_pos b) (pow_pos (N - 1 - b)) (rw whole_split at below) ∙ sym (signed_fits p j a (pow_pos b) (pow_pos (N - 1 - b)) (rw whole_split at below)))
 
 -- ---- shifts to the right
--- the word with its highest bit above it, divided by the power
+-- the number with its sign bit repeated above it, divided by the power
 floor_extended : (p k a : ℕ) (top : Bool) → 0 < p → (a + bit top * (p * k * p - p * k)) / p ≡ a / p + bit top * (k * (p - 1))
 floor_extended p k a true some =
     let d = p - 1 in
@@ -200,7 +200,7 @@ floor_extended p k a true some =
     rw total (add-mul-div_left a (k * d) some ∙ omega arith)
 floor_extended p k a false some = let nothing : a + 0 * (p * k * p - p * k) ≡ a = omega arith in rw nothing (omega arith)
 
--- back to the left it gives the number again where the power divides it
+-- a shift back to the left gives the number again exactly where the power divides it
 cut_back : (p k a x c d : ℕ) → 0 < p → a < p * k → x ≡ a / p + c → c * p ≡ p * k * d → ((x * p) % (p * k) == a) ≡ (a % p == 0)
 cut_back p k a x c d some below x_is c_is =
     let parts : a % p + a / p * p ≡ a = mod-add-div' a p in
@@ -208,7 +208,7 @@ cut_back p k a x c d some below x_is c_is =
     let is : a / p * p ≡ (x * p) % (p * k) = remainder (a / p * p) (p * k) d (x * p) (omega arith) total in
     rw (← is) (grind (arith, nat_tests))
 
--- the floor of the signed number
+-- the floor of the quotient of a negative number by the power
 floor_at : (p q a m e f g : ℕ) → a + m + 1 ≡ q → f + e * p ≡ m → q ≡ g + 1 + e → f < p → a + 1 * (q * p - q) ≡ g * p + (p - 1 - f)
 floor_at p q a m e f g m_is parts q_is small =
     let rows : q * p ≡ g * p + p + e * p = ap (λ n. n * p) q_is ∙ omega arith in
@@ -247,7 +247,7 @@ module _ (N b a : ℕ) (inside : b < N) (below : a < 2 ^ N) where
       let c_is : c * p ≡ p * k * (bit top * (p - 1)) = omega arith in
       rw (pow-add 2 N b, split) (cut_back p k a _ c (bit top * (p - 1)) (pow_pos b) (rw split at below) (floor_extended p k a top (pow_pos b)) c_is)
 
--- ---- whole shifts, with the tests for poison
+-- ---- whole shifts, with their tests for poison
 pub left_value : (flags : Flags) (N a b l n : ℕ) (poison far wraps wraps_signed : Bool) → a < 2 ^ N → l ≡ N → n ≡ (a * 2 ^ b) % 2 ^ N → far ≡ nat_le N b → wraps ≡ (flags.nuw && not (moved_back false N n b == a)) → wraps_signed ≡ (flags.nsw && not (moved_back true N n b == a)) → poison ≡ (far || (wraps || wraps_signed)) → (if poison then Poison else bits l n) ≡ shl flags N a b
 unfolding shl arithmetic
 left_value flags N a b l n poison far wraps wraps_signed below width n_is far_is wraps_is signed_is poison_is =
@@ -276,7 +276,7 @@ right_value exact false N a b l n poison far lost top below width top_is n_is fa
     (λ (h : N ≤ b). let t : nat_le N b ≡ true = grind (arith, nat_tests) in rw (poison_is, far_is, t) refl)
     (cases_lt b N)
 
--- a width is below its power of two, so that the word of an amount can hold it
+-- a width is below its power of two, so a word of that width can hold it
 pub width-below : (n : ℕ) → n < 2 ^ n
 width-below zero = omega arith
 width-below (suc n) = rw (pow-succ' 2 n) (omega (arith, width-below n))

@@ -12,7 +12,7 @@ use Rattle.circuits.specs.Word.{bit}
 use Rattle.circuits.specs.Word as words
 use Rattle.circuits.proofs.Words.{remainder}
 
--- the two definitions of a signed number
+-- the two definitions of a signed number agree
 pub signed_same : (n a : ℕ) → words.signed n a ≡ integers.signed n a
 unfolding integers.signed
 signed_same n a =
@@ -25,7 +25,7 @@ pub residue-pos : (n a : ℕ) → residue n (pos a) ≡ a % 2 ^ n
 unfolding residue
 residue-pos n a = refl
 
--- a number below the range and less 2 ^ n
+-- a negative difference modulo 2 ^ n
 pub residue-below : (n a b : ℕ) → b < a → a ≤ 2 ^ n → residue n (pos b -ℤ pos a) ≡ 2 ^ n - (a - b)
 unfolding residue
 residue-below n a b below fits =
@@ -43,7 +43,7 @@ residue-difference n a b below_a below_b =
     sym (rw is (residue-pos n (a - b) ∙ mod-eq_of_lt (omega arith) ∙ remainder (a - b) (2 ^ n) 1 (a + (2 ^ n - b)) (omega arith) (omega arith))))
     (cases_lt a b)
 
--- a signed number modulo a larger power: its highest bit comes in above
+-- a signed number modulo a larger power of 2: its highest bit is repeated above (sign extension)
 pub residue-extended : (from to a : ℕ) (top : Bool) → 1 ≤ from → from < to → a < 2 ^ from → top ≡ nat_le (2 ^ (from - 1)) a → a + bit top * (2 ^ to - 2 ^ from) ≡ residue to (integers.signed from a)
 residue-extended from to a true some wider below is =
     let larger : 2 ^ from < 2 ^ to = pow_below from to wider in

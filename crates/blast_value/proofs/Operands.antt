@@ -1,4 +1,4 @@
--- The operands that an instruction takes, from their widths.
+-- The operands of an instruction, told by their widths.
 use Rattle.std.proofs.Common.{◌≡◌, ◌<◌, ℕ, Bool, true, false, if◌then◌else◌, List, [], ◌∷◌, get_or, length, refl, sym, ap, subst, ◌∙◌}
 use Rattle.std.proofs.lemmas.List.{length-map}
 use Rattle.std.proofs.Math.ListN.{get_or-map}
@@ -13,7 +13,7 @@ use Rattle.ops.specs.Conversion.{conversion}
 use Rattle.blast_value.specs.declared.held.Held.{Held}
 use Rattle.blast_value.specs.Effect.{widths_of}
 
--- an operand is there where a width is, and has that width
+-- there is an operand for each width, and it has that width
 pub operand_there : {L : Type 0} (operands : List (Held L)) (widths : List ℕ) (n : ℕ) → widths_of operands ≡ widths → n < length widths → n < length operands
 operand_there operands widths n is = subst (λ m. n < m) (sym (ap length is) ∙ length-map operands (λ (h : Held _). length h.bits))
 
@@ -39,7 +39,7 @@ three_operands (a ∷ b ∷ []) k l m x y z widths at_x at_y at_z = cc
 three_operands (a ∷ b ∷ d ∷ []) k l m x y z widths at_x at_y at_z = cc
 three_operands (a ∷ b ∷ d ∷ e ∷ operands) k l m x y z widths at_x at_y at_z = cc
 
--- whatever width the values have, the effect is the one over that of the words
+-- whatever width m the operands' values have, the effect at m is the one at the width of their words
 pub comparison_width : (x y : Bool) (pred : Pred) (samesign : Bool) (l k a b m : ℕ) → HasWidth (if x then Poison else bits l a) m → comparison pred samesign l (if x then Poison else bits l a) (if y then Poison else bits k b) ≡ comparison pred samesign m (if x then Poison else bits l a) (if y then Poison else bits k b)
 unfolding comparison
 comparison_width true y pred samesign l k a b m width = refl

@@ -1,5 +1,4 @@
--- The families of the instructions with two operands, as the Language Reference groups them, and their results at
--- numbers.
+-- The families of instructions with two operands, as the Language Reference groups them, and their results at numbers.
 use Rattle.std.specs.Prelude.{ℕ, ◌+◌, ◌-◌, ◌*◌, ◌^◌, ◌/◌, ◌%◌, nat_le, ◌&&◌, Bool, true, false, ℤ, ◌+ℤ◌, ◌-ℤ◌, ◌*ℤ◌, unsigned_abs, bit_and, bit_or, bit_xor}
 use Rattle.ops.specs.declared.value.Value.{Value}
 use Rattle.ops.specs.declared.opcode.Opcode.{Opcode}
@@ -54,20 +53,21 @@ strict_opcode strict.AShr = opcodes.AShr
 strict_opcode (strict.Bitwise op) = bitwise_opcode op
 strict_opcode (strict.Extreme op) = extreme_opcode op
 
--- the whole number that a sum, a difference or a product is
+-- the exact result over whole numbers
 abbrev pub exact : Arithmetic → ℤ → ℤ → ℤ
 exact Add y z = y +ℤ z
 exact Sub y z = y -ℤ z
 exact Mul y z = y *ℤ z
 
--- the operands are read as signed numbers
+-- whether the operands are read as signed numbers
 abbrev pub is_signed : Division → Bool
 is_signed UDiv = false
 is_signed SDiv = true
 is_signed URem = false
 is_signed SRem = true
 
--- a quotient or a remainder, where there is one
+-- A quotient or a remainder, where there is one; a quotient is poison where `exact` promises that nothing is left, and
+-- something is.
 abbrev pub divided : Division → Flags → ℕ → ℕ → ℕ → Value
 divided UDiv flags N a b = exactly flags (divides b a) (bits N (a / b))
 divided SDiv flags N a b =
@@ -77,13 +77,13 @@ divided SDiv flags N a b =
 divided URem flags N a b = bits N (a % b)
 divided SRem flags N a b = bits N (residue N (remainder (signed N a) (signed N b)))
 
--- the floor of a number, or of a signed one, by 2 ^ b; poison where b is not below N, and where 2 ^ b was to divide it
--- and doesn't
+-- A shift to the right: the floor of a number, or of a signed one, by 2 ^ b; poison where b is not below N, and where
+-- `exact` promises that 2 ^ b divides it and it doesn't.
 abbrev pub floor : Bool → Bool → ℕ → ℕ → ℕ → Value
 floor exact false N a b = shifts.lshr (record no_flags { exact = exact }) N a b
 floor exact true N a b = shifts.ashr (record no_flags { exact = exact }) N a b
 
--- the number n of N bits shifted to the right, its highest bit coming in where it is read as signed
+-- the number n of N bits shifted right by b: with zeros coming in, or, read as signed, with its highest bit
 abbrev pub moved_back : Bool → ℕ → ℕ → ℕ → ℕ
 moved_back is_signed N n b =
     (n + bit (is_signed && nat_le (2 ^ (N - 1)) n) * (2 ^ (N + b) - 2 ^ N)) / 2 ^ b
@@ -100,18 +100,18 @@ extreme UMax N a b = larger false N a b
 extreme SMin N a b = smaller true N a b
 extreme SMax N a b = larger true N a b
 
--- the number n of N bits made longer, its highest bit coming in above where it is read as signed
+-- the number n of N bits extended to M bits: with zeros, or, read as signed, with its highest bit
 abbrev pub extended : Bool → ℕ → ℕ → ℕ → ℕ
 extended false N M n = n
 extended true N M n = residue M (signed N n)
 
--- the operands were promised to share no bit
+-- `or disjoint`: the operands are promised to have no 1 at the same place
 abbrev pub promises_disjoint : Bitwise → Flags → Bool
 promises_disjoint And flags = false
 promises_disjoint Or flags = flags.disjoint
 promises_disjoint Xor flags = false
 
--- the predicate is the negation of one by which numbers are equal or one of them is below the other
+-- the predicate is the negation of one that a single test decides: equal, or less
 abbrev pub is_negation : Pred → Bool
 is_negation Eq = false
 is_negation Ne = true

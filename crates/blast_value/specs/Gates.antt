@@ -16,11 +16,11 @@ use Rattle.blast_value.specs.declared.strict.Strict.TheVariants as strict
 use Rattle.blast_value.specs.declared.instruction.Instruction.{Instruction}
 use Rattle.blast_value.specs.declared.instruction.Instruction.TheVariants as instructions
 
--- The poison of two operands and of what is made of their numbers.
+-- The poison of two operands and of the result at their numbers.
 abbrev pub poison_gates : ℕ
 poison_gates = 2
 
--- A sum, a difference or a product, and whether one overflows.
+-- A sum, a difference or a product; and below, whether it overflows.
 abbrev pub result_gates : Arithmetic → ℕ → ℕ
 result_gates arithmetic.Add width = adder_gates width
 result_gates arithmetic.Sub width = adder_gates width
@@ -31,11 +31,11 @@ overflow_gates is_signed arithmetic.Add width = overflow_add_gates width
 overflow_gates is_signed arithmetic.Sub width = overflow_add_gates width
 overflow_gates is_signed arithmetic.Mul width = overflow_mul_gates is_signed width
 
--- The two together, overflow unsigned and signed.
+-- The result, and whether it overflows unsigned and signed.
 abbrev pub checked_gates : Arithmetic → ℕ → ℕ
 checked_gates op width = result_gates op width + overflow_gates false op width + overflow_gates true op width + 1
 
--- A shift to the left, whether the amount is too large, and whether shifting back unsigned or signed gives another
+-- A shift to the left, whether the amount is too large, and whether shifting back, unsigned and signed, gives another
 -- number.
 abbrev pub left_gates : ℕ → ℕ
 left_gates width = comparison_gates width + 3 * shift_gates width width + 2 * equality_gates width + 2
@@ -44,11 +44,11 @@ left_gates width = comparison_gates width + 3 * shift_gates width width + 2 * eq
 abbrev pub right_gates : ℕ → ℕ
 right_gates width = comparison_gates width + 2 * shift_gates width width + equality_gates width + 1
 
--- Two words bit by bit, the bits that both have, and whether one is true.
+-- Two words bit by bit, the conjunction of each pair of bits, and whether one of these is true.
 abbrev pub bitwise_gates : ℕ → ℕ
 bitwise_gates width = width + (width + equality_gates width)
 
--- What is made of two numbers where no division is asked.
+-- The result at two numbers, of instructions that don't divide.
 abbrev pub number_gates : Strict → ℕ → ℕ
 number_gates (strict.Arithmetic op) width = checked_gates op width
 number_gates strict.Shl width = left_gates width
@@ -62,11 +62,12 @@ abbrev pub quotient_gates : Bool → ℕ → ℕ
 quotient_gates false width = division_gates width
 quotient_gates true width = signed_division_gates width
 
--- The same, whether the divisor is poison or 0, and whether the dividend is poison or a remainder is left.
+-- An unsigned division: a quotient and a remainder, whether the divisor is poison or 0, and whether the dividend is
+-- poison or a remainder is left.
 abbrev pub unsigned_gates : ℕ → ℕ
 unsigned_gates width = quotient_gates false width + 2 * equality_gates width + 2
 
--- Of signed numbers also whether the divisor is -1 and the dividend poison or the least number.
+-- A signed division: all this, and whether the divisor is -1 and the dividend poison or the least number.
 abbrev pub signed_gates : ℕ → ℕ
 signed_gates width = quotient_gates true width + 4 * equality_gates width + 5
 
@@ -94,28 +95,28 @@ opcode_gates SMax width = extreme_gates width + poison_gates
 abbrev pub sign_gates : ℕ
 sign_gates = 1 + poison_gates
 
--- Whether a flag of a cast is broken: of what is cut off, whether extending it unsigned or signed gives another number.
+-- Whether a flag of a cast is broken: whether a truncated number, extended again, unsigned and signed, is another one.
 abbrev pub broken_gates : Cast → ℕ → ℕ
 broken_gates Trunc operand_width = 2 * equality_gates operand_width + 1
 broken_gates ZExt operand_width = 0
 broken_gates SExt operand_width = 0
 
--- The same, and the poison of the operand.
+-- A cast: whether a flag is broken, and the poison of the operand.
 abbrev pub cast_gates : Cast → ℕ → ℕ
 cast_gates cast operand_width = broken_gates cast operand_width + 1
 
--- What an intrinsic makes of a number: an absolute value, or a count of bits.
+-- The result of an intrinsic at a number: an absolute value, or a count of bits.
 abbrev pub intrinsic_gates : Unary → ℕ → ℕ
 intrinsic_gates Abs width = absolute_gates width
 intrinsic_gates CtPop width = count_gates width
 intrinsic_gates CtLz width = zeros_gates width
 intrinsic_gates CtTz width = zeros_gates width
 
--- The same, whether the number makes it poison, and the poison of the operand.
+-- An intrinsic: its result at a number, whether its flag makes that poison, and the poison of the operand.
 abbrev pub unary_gates : Unary → ℕ → ℕ
 unary_gates op width = intrinsic_gates op width + equality_gates width + 1
 
--- An instruction whose result has `width` bits, and whose widest operand has `operand_width`.
+-- An instruction with a result of `width` bits, whose widest operand has `operand_width`.
 abbrev pub gates_of : Instruction → ℕ → ℕ → ℕ
 gates_of (instructions.Binary op flags) width operand_width = opcode_gates op width
 gates_of (instructions.Compare pred samesign) width operand_width = comparison_gates operand_width + sign_gates
@@ -123,6 +124,6 @@ gates_of instructions.Select width operand_width = select_gates width + 2
 gates_of (instructions.Convert cast flags) width operand_width = cast_gates cast operand_width
 gates_of (instructions.Unary op truth) width operand_width = unary_gates op width
 
--- The greatest of widths.
+-- The greatest of some widths.
 abbrev pub greatest : List ℕ → ℕ
 greatest widths = fold max 0 widths

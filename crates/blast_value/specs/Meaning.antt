@@ -1,4 +1,4 @@
--- What instructions take and do.
+-- Which operands instructions take, and their effects.
 use Rattle.std.specs.Prelude.{◌≡◌, ◌≤◌, ℕ, List, [], ◌∷◌}
 use Rattle.ops.specs.declared.value.Value.{Value}
 use Rattle.ops.specs.declared.value.Effect.{Effect}
@@ -19,8 +19,8 @@ Takes Select N widths = widths ≡ 1 ∷ N ∷ N ∷ []
 Takes (Convert cast flags) N widths = (M : ℕ) × (1 ≤ M) × (widths ≡ M ∷ []) × CastFits cast M N
 Takes (Unary op truth) N widths = widths ≡ N ∷ []
 
--- An instruction with a result of iN has this effect on operands of these values. Whatever width M the operands of a
--- comparison or of a cast are of, its effect is the one over that width.
+-- An instruction with a result of iN has this effect on operands of these values; of a comparison or a cast, at each
+-- width M that the values of its operands may have (poison has every width).
 abbrev pub HasEffect : Instruction → ℕ → List Value → Effect → Type 0
 HasEffect (Binary op flags) N (a ∷ b ∷ []) e = e ≡ instruction op flags N a b
 HasEffect (Compare pred samesign) N (a ∷ b ∷ []) e =

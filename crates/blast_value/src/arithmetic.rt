@@ -24,7 +24,7 @@ pub(crate) enum Arithmetic {
     Mul,
 }
 
-/// The result at two numbers: modulo 2^N, but poison where it doesn't fit as a flag promises.
+/// The result at two numbers: modulo 2^N, and poison where it doesn't fit as a flag promises.
 pub(crate) fn checked<C: Circuit>(
     alloc: Global,
     c: &mut C,
@@ -81,8 +81,8 @@ fn wrapped<C: Circuit>(
     }
 }
 
-/// Whether the result doesn't fit N bits, both operands read as signed or both as unsigned; false where that isn't
-/// asked.
+/// Whether the result doesn't fit N bits, both operands read as signed or both as unsigned. Where that isn't asked,
+/// since the flag isn't set, it is false.
 fn overflows<C: Circuit>(
     alloc: Global,
     c: &mut C,

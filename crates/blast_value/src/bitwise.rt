@@ -1,4 +1,4 @@
-//! Bit by bit. (LLVM Language Reference, "Bitwise Binary Operations".)
+//! `and`, `or` and `xor`. (LLVM Language Reference, "Bitwise Binary Operations".)
 ghost use Rattle.std.specs.Prelude.{◌≡◌, ◌==◌, ◌+◌, Bool, not, ◌&&◌, bit_and, List as Seq, length, IfOk};
 ghost use Rattle.std.specs.List.{All};
 ghost use Rattle.ops.specs.declared.value.Effect.TheVariants.{Gives};
@@ -26,7 +26,7 @@ pub(crate) enum Bitwise {
 }
 
 impl Bitwise {
-    /// Whether its operands were promised to share no bit.
+    /// Whether the operands are promised to have no 1 at the same place (`or disjoint`).
     fn promises_disjoint(self, flags: Flags) -> bool
         ensures { result ≡ promises_disjoint self flags }
     {
@@ -37,7 +37,7 @@ impl Bitwise {
     }
 }
 
-/// The word of the gates of two words' bits; poison where they share a bit that they were promised not to share.
+/// The word of the gates of each pair of bits; poison where both words have a 1 at a place that `disjoint` rules out.
 pub(crate) fn bit_by_bit<C: Circuit>(
     alloc: Global,
     c: &mut C,
@@ -64,7 +64,7 @@ pub(crate) fn bit_by_bit<C: Circuit>(
     Ok(Held { bits, poison })
 }
 
-/// Whether both words have a 1 at one place; false where that isn't asked.
+/// Whether both words have a 1 at one place. Where that isn't asked, since the flag isn't set, it is false.
 fn share_bits<C: Circuit>(
     alloc: Global,
     c: &mut C,
@@ -89,7 +89,7 @@ fn share_bits<C: Circuit>(
     Ok(c.not(none))
 }
 
-/// The word of the gates of two words' bits.
+/// The word of the gates of each pair of bits.
 fn each_bit<C: Circuit>(
     alloc: Global,
     c: &mut C,
@@ -115,7 +115,7 @@ fn each_bit<C: Circuit>(
     Ok(word)
 }
 
-/// The gate of two bits.
+/// The gate of a pair of bits.
 fn gate<C: Circuit>(
     alloc: Global,
     c: &mut C,

@@ -22,8 +22,8 @@ use lists::List;
 use ops::{Flags, Opcode, Width};
 use std::alloc::{AllocError, Global};
 
-/// The effect of an instruction on operands, where `width` is the result's. It makes no input, and at most as many
-/// gates as [`gates_of`](crate::gates_of) says. Flags that the instruction doesn't take mean nothing.
+/// The effect of an instruction on operands, where `width` is that of the result. It makes no input, and at most as
+/// many gates as [`gates_of`](crate::gates_of) says. Flags that the instruction doesn't take are ignored.
 pub fn blast_value<C: Circuit>(
     alloc: Global,
     c: &mut C,

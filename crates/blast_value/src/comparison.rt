@@ -48,7 +48,7 @@ pub(crate) fn compare<C: Circuit>(
     })
 }
 
-/// Whether the sign bits of two numbers differ; false where that isn't asked.
+/// Whether the sign bits of two numbers differ. Where that isn't asked, since `samesign` isn't set, it is false.
 fn signs_differ<C: Circuit>(
     alloc: Global,
     c: &mut C,
@@ -73,7 +73,7 @@ fn signs_differ<C: Circuit>(
     c.xor(alloc, sign(a), sign(b))
 }
 
-/// Whether a predicate holds of two numbers.
+/// Whether a predicate is true of two numbers.
 fn holds<C: Circuit>(
     alloc: Global,
     c: &mut C,
@@ -99,7 +99,7 @@ fn holds<C: Circuit>(
     }
 }
 
-/// Whether the predicate is the negation of one by which numbers are equal or one of them is below the other.
+/// Whether the predicate is the negation of one that a single test decides: equal, or less.
 fn is_negation(pred: Pred) -> bool
     ensures { result ≡ is_negation pred }
 {
@@ -109,7 +109,8 @@ fn is_negation(pred: Pred) -> bool
     }
 }
 
-/// Whether a predicate holds of two numbers, or where it is a negation, whether it doesn't.
+/// Whether a predicate is true of two numbers, or, for one that is a negation, whether the predicate that it negates
+/// is.
 fn without_negation<C: Circuit>(
     alloc: Global,
     c: &mut C,
@@ -137,8 +138,8 @@ fn without_negation<C: Circuit>(
     }
 }
 
-/// The effect of `select`: the operand that the condition chooses, whatever the other is; poison where the condition
-/// is.
+/// The effect of `select`: the operand that the condition chooses, whether or not the other one is poison; poison where
+/// the condition is.
 pub(crate) fn choose<C: Circuit>(
     alloc: Global,
     c: &mut C,

@@ -46,7 +46,7 @@ pub(crate) fn convert<C: Circuit>(
     })
 }
 
-/// Whether the number breaks a flag of the cast, by which it has become the other one.
+/// Whether the number breaks a flag of the cast; `resized` is what the cast makes of it.
 fn breaks_flags<C: Circuit>(
     alloc: Global,
     c: &mut C,
@@ -81,8 +81,8 @@ fn breaks_flags<C: Circuit>(
     }
 }
 
-/// Whether extending what was cut off, unsigned or signed, gives another number than before; false where that isn't
-/// asked.
+/// Whether extending a truncated number, unsigned or signed, gives another number than before. Where that isn't asked,
+/// since the flag isn't set, it is false.
 fn changes<C: Circuit>(
     alloc: Global,
     c: &mut C,

@@ -39,8 +39,9 @@ impl Division {
     }
 }
 
-/// The effect of such an instruction: undefined behaviour where there is no quotient, whatever the operands that are
-/// poison may be, and poison where the dividend is or where a remainder is left that was promised not to be.
+/// The effect of such an instruction: undefined behaviour where the divisor is 0 or poison, and, for signed numbers,
+/// where it is -1 and the dividend the least number or poison; else poison where the dividend is, or where a remainder
+/// is left that `exact` rules out.
 pub(crate) fn divide<C: Circuit>(
     alloc: Global,
     c: &mut C,
@@ -72,8 +73,8 @@ pub(crate) fn divide<C: Circuit>(
     })
 }
 
-/// Whether there is undefined behaviour: by poison and by 0, and for signed numbers also where the quotient may be too
-/// large.
+/// Whether there is undefined behaviour: where the divisor is poison or 0, and for signed numbers also where the
+/// quotient may not fit.
 fn has_no_quotient<C: Circuit>(
     alloc: Global,
     c: &mut C,
@@ -104,7 +105,8 @@ fn has_no_quotient<C: Circuit>(
     or(alloc, c, by_nothing, too_large)
 }
 
-/// Whether the signed quotient may be too large for N bits: of poison or of the least number, by -1.
+/// Whether the signed quotient may not fit N bits: where the dividend is poison or the least number, and the divisor is
+/// -1.
 fn may_be_too_large<C: Circuit>(
     alloc: Global,
     c: &mut C,
@@ -145,8 +147,8 @@ pub(crate) fn least(width: Width) -> u64
     1 << (width.bits() - 1)
 }
 
-/// A quotient or a remainder of two numbers, which are free by 0; poison where a remainder is left that was promised
-/// not to be.
+/// A quotient or a remainder of two numbers; poison where a remainder is left that `exact` rules out. Division by 0
+/// leaves it open.
 fn result<C: Circuit>(
     alloc: Global,
     c: &mut C,
@@ -223,7 +225,7 @@ fn quotient_and_remainder<C: Circuit>(
     }
 }
 
-/// Whether a remainder is left; false where that isn't asked.
+/// Whether a remainder is left. Where that isn't asked, since `exact` isn't set, it is false.
 fn is_left<C: Circuit>(
     alloc: Global,
     c: &mut C,

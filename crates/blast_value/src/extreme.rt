@@ -1,4 +1,4 @@
-//! The smaller and the larger of two numbers. (LLVM Language Reference, "Standard C/C++ Library Intrinsics".)
+//! `umin`, `umax`, `smin` and `smax`. (LLVM Language Reference, "Standard C/C++ Library Intrinsics".)
 ghost use Rattle.std.specs.Prelude.{◌≡◌, ◌<◌, Bool, List as Seq, length, IfOk};
 ghost use Rattle.std.specs.List.{All};
 ghost use Rattle.ops.specs.declared.value.Effect.TheVariants.{Gives};
@@ -14,7 +14,7 @@ use circuits::{Bits, Circuit, maximum, minimum};
 use ops::{Flags, Width};
 use std::alloc::{AllocError, Global};
 
-/// The intrinsics that give one of two numbers.
+/// The intrinsics that give the smaller or the larger of two numbers.
 #[derive(Clone, Copy)]
 pub(crate) enum Extreme {
     UMin,
@@ -23,7 +23,7 @@ pub(crate) enum Extreme {
     SMax,
 }
 
-/// The smaller or the larger of two numbers. No flag says anything of it.
+/// The smaller or the larger of two numbers. It has no flags.
 pub(crate) fn one_of_two<C: Circuit>(
     alloc: Global,
     c: &mut C,

@@ -24,13 +24,13 @@ pub fn gates_of(what: Instruction, width: Width, operand_width: Width) -> u32
     }
 }
 
-/// The circuit of an instruction has at most 64 gates a bit of the greatest width among its operands and result, and 64
-/// more for each pair of bits of a product, a quotient or a remainder.
+/// The circuit of an instruction has at most 64 gates for each bit of the greatest width among its operands and result,
+/// and 64 more for each pair of bits of a product, a quotient or a remainder.
 pub fn gates_are_few()
     ensures { GatesAreFew }
 {}
 
-/// The same of an instruction with two operands of its own width.
+/// The most gates of an instruction with two operands of its own width.
 fn opcode_gates(op: Opcode, width: u32) -> u32
     requires least { 1 ≤ width }
     requires most { width ≤ 64 }
@@ -49,7 +49,7 @@ fn opcode_gates(op: Opcode, width: u32) -> u32
     }
 }
 
-/// The same of an intrinsic with one operand.
+/// The most gates of an intrinsic with one operand.
 fn unary_gates(op: Unary, width: u32) -> u32
     requires least { 1 ≤ width }
     requires most { width ≤ 64 }
@@ -62,7 +62,8 @@ fn unary_gates(op: Unary, width: u32) -> u32
     }
 }
 
-/// The same of a count of true bits: for each a sum of as many binary digits as hold the width.
+/// The most gates of a count of true bits: for each bit an addition to a counter, with as many digits as the width
+/// needs.
 fn count_gates(width: u32) -> u32
     requires least { 1 ≤ width }
     requires most { width ≤ 64 }
@@ -73,8 +74,8 @@ fn count_gates(width: u32) -> u32
     5 * digits * width
 }
 
-/// The same of a shift by a word of the same width: a choice of two words for each bit that an amount below the width
-/// may need, one more such choice, and a gate for each higher bit.
+/// The most gates of a shift by a word of the same width: for each bit that an amount below the width may have, a stage
+/// that chooses between two words; one more such choice, and a gate for each higher bit.
 fn shift_gates(width: u32) -> u32
     requires least { 1 ≤ width }
     requires most { width ≤ 64 }
@@ -85,7 +86,7 @@ fn shift_gates(width: u32) -> u32
     width * stages + (width - stages) + width
 }
 
-/// The least k with `width` ≤ 2^k.
+/// How many stages a shift has: the least k with `width` ≤ 2^k.
 fn stage_count(width: u32) -> u32
     requires { width ≤ 64 }
     ensures stages { result ≡ stages width }

@@ -1,4 +1,4 @@
-//! Which instructions there are.
+//! The instructions that have circuits.
 
 use ops::{Cast, Flags, Opcode, Pred, Unary};
 
@@ -13,6 +13,7 @@ pub enum Instruction {
     Select,
     /// A cast with its flags: one operand of another width.
     Convert(Cast, Flags),
-    /// An intrinsic with one operand of the result's width, called with a truth value.
+    /// An intrinsic with one operand of the result's width, called with this truth value: the `i1` flag of `abs` (the
+    /// least number gives poison) and of `ctlz` and `cttz` (0 gives poison).
     Unary(Unary, bool),
 }

@@ -1,4 +1,4 @@
-//! Words of constants, and whether a word has a number.
+//! Words of constants, and the test whether a word has a number.
 ghost use Rattle.std.specs.Prelude.{◌≡◌, ◌==◌, ◌^◌, ◌<◌, Bool, List as Seq, length, IfOk};
 ghost use Rattle.std.specs.List.{All};
 ghost use Rattle.circuits.specs.Circuit.{Adds};
@@ -9,7 +9,7 @@ use circuits::{Bits, Circuit, equal};
 use lists::List;
 use std::alloc::{AllocError, Global};
 
-/// The word of a number. It makes no gate.
+/// The word of a number, of constant literals. It makes no gate.
 pub fn constant<C: Circuit>(
     alloc: Global,
     c: &C,
@@ -31,7 +31,7 @@ pub fn constant<C: Circuit>(
     Ok(word)
 }
 
-/// The literal of a truth value.
+/// The constant literal of a truth value.
 fn truth<C: Circuit>(c: &C, holds: bool) -> C::Literal
     ensures own { C.has_literal c.now result }
     ensures value { (inputs : Seq Bool) → C.admits c.now inputs → C.value c.now inputs result ≡ holds }
@@ -39,7 +39,7 @@ fn truth<C: Circuit>(c: &C, holds: bool) -> C::Literal
     if holds { c.one() } else { c.zero() }
 }
 
-/// Whether a word of width N has a number. It adds at most 2 N gates.
+/// Whether a word of width N has this number. It adds at most 2 N gates.
 pub fn equals<C: Circuit>(
     alloc: Global,
     c: &mut C,

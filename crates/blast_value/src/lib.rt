@@ -1,8 +1,8 @@
-//! One instruction of LLVM IR in circuits: its bits, its poison bit and its undefined bit, written once for every
-//! lawful circuit.
+//! Bit-blasting: one instruction of LLVM IR as a circuit, with the bits of its result, its poison bit and its undefined
+//! bit, written once for every `Circuit`.
 //!
-//! The only error of a call is want of memory. A call that is refused may leave gates, no more than it may add; the
-//! older literals keep their values, and it makes no input.
+//! The only error of a call is want of memory. A call that is refused for that may leave gates, no more than it may
+//! add; the older literals keep their values, and it makes no input.
 #![tactic(auto)]
 
 mod arithmetic;

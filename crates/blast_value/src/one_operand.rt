@@ -1,4 +1,4 @@
-//! Absolute values and counts of bits. (LLVM Language Reference, "Standard C/C++ Library Intrinsics", "Bit Manipulation
+//! `abs`, `ctpop`, `ctlz` and `cttz`. (LLVM Language Reference, "Standard C/C++ Library Intrinsics", "Bit Manipulation
 //! Intrinsics".)
 ghost use Rattle.std.specs.Prelude.{◌≡◌, ◌<◌, Bool, ◌&&◌, List as Seq, length, IfOk};
 ghost use Rattle.std.specs.List.{All};
@@ -19,7 +19,8 @@ use circuits::{Bits, Circuit, or};
 use ops::{Unary, Width};
 use std::alloc::{AllocError, Global};
 
-/// The effect of an intrinsic: poison where its operand is, and at the number where a true truth value makes it so.
+/// The effect of an intrinsic: poison where its operand is, and, if its flag `truth` is set, at the number for which
+/// the flag says so.
 pub(crate) fn unary_effect<C: Circuit>(
     alloc: Global,
     c: &mut C,
@@ -47,7 +48,7 @@ pub(crate) fn unary_effect<C: Circuit>(
     })
 }
 
-/// The word of the result at a number.
+/// The word of the result at a number, whatever the flag is.
 fn at_number<C: Circuit>(
     alloc: Global,
     c: &mut C,
@@ -71,7 +72,7 @@ fn at_number<C: Circuit>(
     }
 }
 
-/// Whether the truth value makes the result at a number poison.
+/// Whether the flag `truth` makes the result at a number poison.
 fn is_poison<C: Circuit>(
     alloc: Global,
     c: &mut C,

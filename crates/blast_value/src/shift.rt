@@ -16,7 +16,7 @@ use circuits::{Bits, Circuit, equal, less_unsigned, or, shift_left, shift_right}
 use ops::{Flags, Width};
 use std::alloc::{AllocError, Global};
 
-/// The number times 2^b, modulo 2^N; poison where b is not below N, and where what is shifted out breaks a flag.
+/// `shl`: the number times 2^b, modulo 2^N; poison where b is not below N, and where what is shifted out breaks a flag.
 pub(crate) fn moved_left<C: Circuit>(
     alloc: Global,
     c: &mut C,
@@ -45,8 +45,8 @@ pub(crate) fn moved_left<C: Circuit>(
     Ok(Held { bits, poison })
 }
 
-/// The highest bit of a word where it is read as signed, and else 0: what comes in above it where it is shifted or made
-/// longer.
+/// The bit that comes in above a word when it is shifted right or extended: its highest bit where it is read as signed,
+/// and else 0.
 pub(crate) fn sign_where<C: Circuit>(c: &C, signed: bool, word: &Bits<C::Literal>) -> C::Literal
     requires width { 0 < length word.now }
     requires own { All (C.has_literal c.now) word.now }
@@ -58,8 +58,8 @@ pub(crate) fn sign_where<C: Circuit>(c: &C, signed: bool, word: &Bits<C::Literal
     if signed { sign(word) } else { c.zero() }
 }
 
-/// Whether shifting a word back to the right gives another number than before, unsigned or signed; false where that
-/// isn't asked.
+/// Whether shifting a word back to the right, unsigned or signed, gives another number than before. Where that isn't
+/// asked, since the flag isn't set, it is false.
 fn loses<C: Circuit>(
     alloc: Global,
     c: &mut C,
@@ -94,8 +94,8 @@ fn loses<C: Circuit>(
     Ok(c.not(same))
 }
 
-/// The floor of the number, or of the signed number, by 2^b; poison where b is not below N, and where it is not exact
-/// as promised.
+/// `lshr` and `ashr`: the floor of the number, or of the signed number, by 2^b; poison where b is not below N, and
+/// where a true bit is shifted out that `exact` rules out.
 pub(crate) fn moved_right<C: Circuit>(
     alloc: Global,
     c: &mut C,
@@ -124,7 +124,8 @@ pub(crate) fn moved_right<C: Circuit>(
     Ok(Held { bits, poison })
 }
 
-/// Whether shifting a word back to the left gives another number than before; false where that isn't asked.
+/// Whether shifting a word back to the left gives another number than before. Where that isn't asked, since `exact`
+/// isn't set, it is false.
 fn cuts<C: Circuit>(
     alloc: Global,
     c: &mut C,
@@ -154,7 +155,7 @@ fn cuts<C: Circuit>(
     Ok(c.not(same))
 }
 
-/// Whether an amount is not below N.
+/// Whether a shift's amount is not below N.
 fn is_too_far<C: Circuit>(
     alloc: Global,
     c: &mut C,

@@ -1,4 +1,4 @@
-//! The instructions that give poison where an operand is.
+//! The instructions with two operands that give poison where an operand is poison.
 ghost use Rattle.std.specs.Prelude.{◌≡◌, ◌+◌, Bool, ◌||◌, if◌then◌else◌, List as Seq, length, IfOk};
 ghost use Rattle.std.specs.List.{All};
 ghost use Rattle.ops.specs.declared.value.Value.TheVariants.{Poison};
@@ -30,7 +30,7 @@ pub(crate) enum Strict {
     Extreme(Extreme),
 }
 
-/// The effect of such an instruction: poison where an operand is, and else what it makes of their numbers.
+/// The effect of such an instruction: poison where an operand is, and else its result at their numbers.
 pub(crate) fn strict_effect<C: Circuit>(
     alloc: Global,
     c: &mut C,
@@ -56,7 +56,7 @@ pub(crate) fn strict_effect<C: Circuit>(
     with_poison(alloc, c, made, a.poison, b.poison)
 }
 
-/// What such an instruction makes of two numbers.
+/// The result of such an instruction at two numbers.
 fn at_numbers<C: Circuit>(
     alloc: Global,
     c: &mut C,

@@ -1,4 +1,4 @@
-//! How many inputs a set names.
+//! How many different inputs a set has.
 
 ghost use Rattle.std.specs.Prelude.{◌+◌, ◌<◌, ◌↔◌, IfOk, IsTrue};
 ghost use Rattle.depth_first.specs.Found.{distinct_count};
@@ -6,10 +6,11 @@ ghost use Rattle.depth_first.specs.Found.{distinct_count};
 use clauses::Cnf;
 use std::alloc::{AllocError, Global};
 
-/// Up to this many different inputs are a few.
+/// Sets with at most this many different inputs are searched depth first.
 const FEW_INPUTS: usize = 12;
 
-/// Whether there are more than a few inputs; one that is named several times is one.
+/// Whether the set has more different inputs than that; one that is named several times is counted
+/// once.
 pub(crate) fn has_many_inputs(alloc: Global, cnf: &Cnf) -> Result<bool, AllocError>
     ensures { IfOk result (λ many. IsTrue many ↔ (12 < distinct_count cnf.now.inputs)) }
 {

@@ -1,8 +1,8 @@
-//! A search for a model of a clause set that logs what it learns.
+//! A search for a model of a clause set that logs the clauses that it learns.
 //!
-//! Up to twelve different inputs it goes depth first through their settings, and above that it learns from
-//! conflicts. Either log keeps each learned clause with its hints (reverse unit propagation), so it is a refutation
-//! where the search ends without a model.
+//! With at most twelve different inputs it is a depth-first search through their settings (`depth_first`), and else
+//! conflict-driven clause learning (`first_uip`). Either logs each learned clause with its hints (reverse unit
+//! propagation), so the log is a refutation where the search ends without a model.
 #![tactic(auto)]
 
 mod inputs;

@@ -10,7 +10,7 @@ use Rattle.circuits.specs.Gates.{stages}
 use Rattle.circuits.specs.Word.{bit}
 use Rattle.circuits.proofs.Stages.{stages-enough, stages-least}
 
--- one bit more
+-- one more bit counts as 1 or 0
 count_one : (b : Bool) {L : Type 0} (x : L) (xs : List L) → length (cond b (x ∷ xs) xs) ≡ length xs + bit b
 count_one true x xs = omega arith
 count_one false x xs = omega arith
@@ -37,12 +37,12 @@ count-le p (x ∷ xs) = step (p x) (count-le p xs)
     step true h = omega arith
     step false h = omega arith
 
--- a sum that fits carries nothing
+-- a sum below 2 to the power of the width has no carry
 pub no_carry : (s m n : ℕ) (carry : Bool) → s + m * bit carry ≡ n → n < m → s ≡ n
 no_carry s m n true e h = absurd (omega arith)
 no_carry s m n false e h = omega arith
 
--- a circuit that keeps its older literals keeps how many of a word's are true
+-- where a circuit keeps its older literals' values, as many bits of a word are true as before
 pub count-kept : {C L : Type 0} {state : Ghosts C L} {old new : C} → Keeps state old new → (inputs : List Bool) → state.admits old inputs → (word : List L) → All (state.has_literal old) word → length (filter (state.value new inputs) word) ≡ length (filter (state.value old inputs) word)
 count-kept keeps inputs admitted [] own = refl
 count-kept {state = state} {old = old} {new = new} keeps inputs admitted (l ∷ word) own =
@@ -55,7 +55,7 @@ count-kept {state = state} {old = old} {new = new} keeps inputs admitted (l ∷ 
     step false true same rest = cc
     step false false same rest = rest
 
--- where all before passed, one more that passes makes the prefix longer
+-- the run of elements that pass is longer by one where the next one passes and all before did
 run_push : {L : Type 0} (p : L → Bool) (xs : List L) (x : L) → (list_all p (xs ++ x ∷ []) ≡ (list_all p xs && p x)) × (prefix_len p (xs ++ x ∷ []) ≡ prefix_len p xs + bit (list_all p xs && p x))
 run_push p [] x = last (p x)
   where
@@ -78,7 +78,7 @@ below_pow : (n : ℕ) → n + 1 ≤ 2 ^ n
 below_pow zero = omega arith
 below_pow (suc n) = rw (pow-succ' 2 n) (omega (arith, below_pow n))
 
--- the digits of the counter hold the width, and are no more than it
+-- the counter has enough digits for each number up to the width, and no more digits than the width
 pub digits-hold : (n : ℕ) → n < 2 ^ stages (n + 1)
 digits-hold n = omega (arith, stages-enough (n + 1))
 

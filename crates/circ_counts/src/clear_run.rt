@@ -1,4 +1,4 @@
-//! Where no bit of a word was true so far.
+//! The run of false bits that a word begins with.
 ghost use Rattle.std.specs.Prelude.{◌≡◌, Bool, not, List as Seq, filter, length, IfOk};
 ghost use Rattle.std.specs.List.{All, prefix_len};
 ghost use Rattle.circuits.specs.Circuit.{Adds};
@@ -7,7 +7,7 @@ use circuits::{Bits, Circuit};
 use lists::List;
 use std::alloc::{AllocError, Global};
 
-/// For each bit of a word in order, whether it and all before it are false: as many of these are true as bits are false
+/// For each bit of a word in order, whether it and all before it are false. As many of these are true as bits are false
 /// before the first that is true. It adds at most a gate a bit.
 pub(crate) fn clear_run<C: Circuit>(
     alloc: Global,

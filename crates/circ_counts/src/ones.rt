@@ -10,8 +10,8 @@ use circuits::{Bits, Circuit, add_with_carry, extend, repeated};
 use lists::List;
 use std::alloc::{AllocError, Global};
 
-/// How many bits of a word of width N are true, as a word of that width. A counter of ⌈log2 (N + 1)⌉ bits has each bit
-/// of the word as the first carry of a sum. It adds at most 5 N ⌈log2 (N + 1)⌉ gates.
+/// How many bits of a word of width N are true (population count), as a word of that width. Each bit is added to a
+/// counter of ⌈log2 (N + 1)⌉ bits, as the carry into its lowest. It adds at most 5 N ⌈log2 (N + 1)⌉ gates.
 pub fn count_ones<C: Circuit>(
     alloc: Global,
     c: &mut C,
@@ -30,7 +30,7 @@ pub fn count_ones<C: Circuit>(
     extend(alloc, c, &count, a.len(), zero)
 }
 
-/// How many binary digits hold each number up to this one.
+/// How many binary digits are enough for each number up to this one.
 fn digit_count(most: usize) -> usize
     ensures { result ≡ stages (most + 1) }
 {
@@ -41,7 +41,7 @@ fn digit_count(most: usize) -> usize
     }
 }
 
-/// How many bits of a word are true, as a word of zeros to which each bit is added.
+/// How many bits of a word are true: each is added to a counter, which begins as this word of zeros.
 fn counted<C: Circuit>(
     alloc: Global,
     c: &mut C,

@@ -11,7 +11,7 @@ use circuits::{Bits, Circuit};
 use std::alloc::{AllocError, Global};
 
 /// How many bits of a word of width N are false from the highest down to the first that is true, as a word of that
-/// width: N where none is. It adds at most N + 5 N ⌈log2 (N + 1)⌉ gates.
+/// width; N where none is true. It adds at most N + 5 N ⌈log2 (N + 1)⌉ gates.
 pub fn leading_zeros<C: Circuit>(
     alloc: Global,
     c: &mut C,
@@ -30,8 +30,8 @@ pub fn leading_zeros<C: Circuit>(
     count_ones(alloc, c, &run)
 }
 
-/// How many bits of a word of width N are false from the lowest up to the first that is true, as a word of that width:
-/// N where none is. It adds at most N + 5 N ⌈log2 (N + 1)⌉ gates.
+/// How many bits of a word of width N are false from the lowest up to the first that is true, as a word of that width;
+/// N where none is true. It adds at most N + 5 N ⌈log2 (N + 1)⌉ gates.
 pub fn trailing_zeros<C: Circuit>(
     alloc: Global,
     c: &mut C,

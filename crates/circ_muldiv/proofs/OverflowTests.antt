@@ -1,4 +1,4 @@
--- Tests of words that say whether an exact result fits.
+-- The tests of words that say whether an exact result fits, shown right over whole numbers.
 use Rattle.std.proofs.Common.{◌≡◌, ℕ, zero, suc, ◌+◌, ◌-◌, ◌*◌, ◌%◌, ◌^◌, ◌<◌, ◌≤◌, ℤ, pos, negsuc, neg_ℤ, ◌+ℤ◌, ◌-ℤ◌, ◌*ℤ◌, int_le, int_lt, unsigned_abs, Bool, true, false, not, ◌&&◌, ◌||◌, nat_lt, nat_le, if◌then◌else◌, List, [], ◌∷◌, ◌++◌, map, length, get_or, replicate, refl, sym, ap, subst, ⊎_elim, ◌∙◌, arith}
 use Rattle.std.specs.Bool.{xor}
 use Rattle.std.proofs.lemmas.Bool.{cases_lt}
@@ -17,16 +17,16 @@ halves n some =
     let last : n ≡ suc (n - 1) = omega arith in
     ap (λ k. 2 ^ k) last ∙ pow-succ' 2 (n - 1)
 
--- unsigned sums: the last carry
+-- an unsigned sum overflows exactly where the last carry is 1
 pub unsigned_sum : (n a b s : ℕ) (carry : Bool) → s < 2 ^ n → s + 2 ^ n * bit carry ≡ a + b → carry ≡ not (fits false n (pos a +ℤ pos b))
 unsigned_sum n a b s true below total = grind (arith, ints, nat_tests)
 unsigned_sum n a b s false below total = grind (arith, ints, nat_tests)
 
--- unsigned differences: the comparison
+-- an unsigned difference overflows exactly where the first operand is less than the second
 pub unsigned_difference : (n a b : ℕ) → a < 2 ^ n → nat_lt a b ≡ not (fits false n (pos a -ℤ pos b))
 unsigned_difference n a b below = grind (arith, ints, nat_tests)
 
--- a number below 2 * half, read as a signed one
+-- a number below 2 * half, read as signed in two's complement
 read : ℕ → ℕ → Bool → ℤ
 read half n negative = if negative then pos n -ℤ pos (2 * half) else pos n
 
@@ -34,7 +34,7 @@ read half n negative = if negative then pos n -ℤ pos (2 * half) else pos n
 within : ℕ → ℤ → Bool
 within half z = int_le (neg_ℤ (pos half)) z && int_lt z (pos half)
 
--- signed sums: the sum's sign differs from both operands'
+-- A signed sum overflows exactly where its sign differs from the signs of both operands.
 signed_sum_at : (half a b s : ℕ) (x y z carry : Bool) → a < 2 * half → b < 2 * half → s < 2 * half → s + (2 * half) * bit carry ≡ a + b → x ≡ nat_le half a → y ≡ nat_le half b → z ≡ nat_le half s → (xor z x && xor z y) ≡ not (within half (read half a x +ℤ read half b y))
 unfolding mathlib.Core.Bool.xor read within
 signed_sum_at half a b s true true true true below_a below_b below_s total x_is y_is z_is = grind (arith, ints, nat_tests)
@@ -54,7 +54,7 @@ signed_sum_at half a b s false false true false below_a below_b below_s total x_
 signed_sum_at half a b s false false false true below_a below_b below_s total x_is y_is z_is = grind (arith, ints, nat_tests)
 signed_sum_at half a b s false false false false below_a below_b below_s total x_is y_is z_is = grind (arith, ints, nat_tests)
 
--- signed differences: the operands' signs differ, and the difference's differs from the first one's
+-- A signed difference overflows exactly where the operands' signs differ and its sign isn't that of the first.
 signed_difference_at : (half a b s : ℕ) (x y z carry : Bool) → a < 2 * half → b < 2 * half → s < 2 * half → s + (2 * half) * bit carry ≡ a + (2 * half - b) → x ≡ nat_le half a → y ≡ nat_le half b → z ≡ nat_le half s → (xor x y && xor x z) ≡ not (within half (read half a x -ℤ read half b y))
 unfolding mathlib.Core.Bool.xor read within
 signed_difference_at half a b s true true true true below_a below_b below_s total x_is y_is z_is = grind (arith, ints, nat_tests)
@@ -74,7 +74,7 @@ signed_difference_at half a b s false false true false below_a below_b below_s t
 signed_difference_at half a b s false false false true below_a below_b below_s total x_is y_is z_is = grind (arith, ints, nat_tests)
 signed_difference_at half a b s false false false false below_a below_b below_s total x_is y_is z_is = grind (arith, ints, nat_tests)
 
--- signed products: the absolute value is at most half - 1, or half where the signs differ
+-- A signed product overflows exactly where its absolute value is above half - 1 or, where the signs differ, above half.
 within_positive : (half m : ℕ) → 0 < half → nat_lt (half - 1) m ≡ not (within half (pos m))
 unfolding within
 within_positive half m some = grind (arith, ints, nat_tests)
@@ -138,7 +138,7 @@ signed_difference n a b s x y z some below_a below_b below_s is x_is y_is z_is =
     let range = halves n some in
     rw (range, ← x_is, ← y_is) (signed_difference_at (2 ^ (n - 1)) a b s x y z (nat_le b a) (rw range at below_a) (rw range at below_b) (rw range at below_s) (rw range at (difference_carry (2 ^ n) a b s below_a below_b is)) x_is y_is z_is)
 
--- a word's choice by its sign is its absolute value
+-- a word, or its negation where it is negative, is its absolute value
 pub magnitude_is : (n a : ℕ) (negative : Bool) → 0 < n → a < 2 ^ n → negative ≡ nat_le (2 ^ (n - 1)) a → (if negative then (2 ^ n - a) % 2 ^ n else a) ≡ unsigned_abs (signed n a)
 unfolding read
 magnitude_is n a negative some below is =
@@ -169,7 +169,7 @@ sign_of_signed n a negative some below is =
     let range = halves n some in
     rw (range, ← is) (sign_of_read (2 ^ (n - 1)) a negative (rw range at below) is)
 
--- signed products: the product of the absolute values doesn't fit, or is above the greatest
+-- A signed product overflows exactly where the product of the absolute values does, or is above the greatest.
 pub signed_product : (n a b : ℕ) (x y : Bool) → 0 < n → a < 2 ^ n → b < 2 ^ n → x ≡ nat_le (2 ^ (n - 1)) a → y ≡ nat_le (2 ^ (n - 1)) b → let m = unsigned_abs (signed n a) * unsigned_abs (signed n b) in (nat_le (2 ^ n) m || nat_lt (if xor x y then 2 ^ (n - 1) else 2 ^ (n - 1) - 1) (m % 2 ^ n)) ≡ not (fits true n (whole true n a *ℤ whole true n b))
 unfolding read within limit
 signed_product n a b x y some below_a below_b x_is y_is =
@@ -182,7 +182,7 @@ greatest_number : (n : ℕ) (x : Bool) → number (replicate n (not x)) + 2 ^ n 
 greatest_number n true = omega (arith, number-replicate n false)
 greatest_number n false = omega (arith, number-replicate n true)
 
--- the highest bit, and the bits below it negated
+-- the greatest absolute value as a word: the highest bit is the sign, and each below it the sign's negation
 pub greatest_is : {L : Type 0} (value : L → Bool) (n : ℕ) (negated negative : L) (word : List L) → word ≡ replicate n negated ++ negative ∷ [] → value negated ≡ not (value negative) → number (map value word) ≡ (if value negative then 2 ^ n else 2 ^ n - 1)
 greatest_is value n negated negative word is opposite =
     let places : length (replicate n (value negated)) ≡ n = length-replicate n (value negated) in
@@ -193,7 +193,7 @@ chosen : (b : Bool) (yes no : List Bool) → number (if b then yes else no) ≡ 
 chosen true on off = refl
 chosen false on off = refl
 
--- a word's number is below its range
+-- the number of a word is below 2 to the power of its width
 pub number_below : {L : Type 0} (value : L → Bool) (a : List L) → number (map value a) < 2 ^ length a
 number_below value a = subst (λ k. number (map value a) < 2 ^ k) (length-map a value) (number-below (map value a))
 
@@ -201,7 +201,7 @@ pub absolute_value : {L : Type 0} (old mid new : L → Bool) (a negation word : 
 absolute_value old mid new a negation word x some at_x x_kept a_kept negation_is word_is =
     rw word_is (chosen (mid x) (map mid negation) (map mid a) ∙ (rw (negation_is, x_kept, a_kept) (magnitude_is (length a) (number (map old a)) (old x) some (number_below old a) (highest_bit old a x some at_x))))
 
--- the same tests on words of literals
+-- these tests over words of literals
 without : (m a b none : ℕ) → none ≡ 0 → m ≡ a + b + none → m ≡ a + b
 without m a b none is total = omega arith
 

@@ -1,4 +1,4 @@
--- A quotient and a remainder after some steps of a division.
+-- The quotient and the remainder after some steps of a restoring division.
 use Rattle.std.proofs.Common.{◌≡◌, ◌≢◌, ℕ, ◌+◌, ◌-◌, ◌*◌, ◌/◌, ◌%◌, ◌^◌, ◌<◌, ◌≤◌, Bool, true, false, not, nat_le, if◌then◌else◌, List, [], ◌∷◌, ◌++◌, map, reverse, length, take, drop, get_or, replicate, refl, sym, ap, subst, ◌∙◌, add-one, arith}
 use Rattle.std.specs.List.{All}
 use Rattle.std.specs.Prelude.{Result, Ok, Err, IfOk}
@@ -17,7 +17,7 @@ use Rattle.circuits.proofs.Words.{bit-le_one, number-below, number-all_zero, num
 use Rattle.circ_muldiv.specs.Gates.{division_step_gates, division_gates}
 use Rattle.circ_muldiv.proofs.OverflowTests.{number_below}
 
--- a sum with the complement carries exactly where the divisor fits, and is then the difference
+-- The sum with the divisor's complement carries exactly where the divisor fits, and is then the difference.
 step_number : (s p longer negated b : ℕ) (carry : Bool) → s < 2 * p → negated + b + 1 ≡ 2 * p → s + (2 * p) * bit carry ≡ longer + negated + 1 → (carry ≡ nat_le b longer) × (b ≤ longer → s ≡ longer - b)
 step_number s p longer negated b true below complement total =
     let fits : nat_le b longer ≡ true = grind (arith, nat_tests) in
@@ -36,12 +36,12 @@ cut_choice : {L : Type 0} (value : L → Bool) (n : ℕ) (condition : Bool) (yes
 cut_choice value n true on off in_on in_off = number-cut value on n in_on
 cut_choice value n false on off in_on in_off = number-cut value off n in_off
 
--- what holds of a result by two facts about it
+-- two facts about a result, taken together
 pub both_ok : {T E : Type 0} (r : Result T E) (P Q R : T → Type 0) → ((x : T) → P x → Q x → R x) → IfOk r P → IfOk r Q → IfOk r R
 both_ok (Ok x) P Q R f p q = f x p q
 both_ok (Err e) P Q R f p q = tt
 
--- a difference, over words: the longer one and the divisor's complement have one bit more than the divisor
+-- the difference over words: the longer word, and the divisor's complement, have one more bit than the divisor
 module _ {L : Type 0} (old new : L → Bool) (longer divisor negated bits : List L) (top carry first : L) (negated_width : length negated ≡ length divisor) (width : length bits ≡ length divisor + 1) (negated_is : map old negated ≡ map not (map old divisor)) (top_is : old top ≡ true) (first_is : old first ≡ true) (total : number (map new bits) + 2 ^ (length divisor + 1) * bit (new carry) ≡ number (map old longer) + number (map old (negated ++ top ∷ [])) + bit (old first)) where
   complement : number (map old (negated ++ top ∷ [])) + number (map old divisor) + 1 ≡ 2 * 2 ^ length divisor
   complement =
@@ -57,7 +57,7 @@ module _ {L : Type 0} (old new : L → Bool) (longer divisor negated bits : List
       step_number (number (map new bits)) (2 ^ length divisor) (number (map old longer)) (number (map old (negated ++ top ∷ []))) (number (map old divisor)) (new carry) below complement
       (rw (doubled, first_is) at total)
 
--- one step, over words: the remainder with the next digit below it has one bit more
+-- One step over words: the remainder with the dividend's next digit as its lowest bit is one bit longer.
 pub step_left : {L : Type 0} (old mid new : L → Bool) (divisor remainder bits word : List L) (digit carry : L) → length remainder ≡ length divisor → length bits ≡ length divisor + 1 → mid carry ≡ nat_le (number (map old divisor)) (bit (old digit) + 2 * number (map old remainder)) → (number (map old divisor) ≤ bit (old digit) + 2 * number (map old remainder) → number (map mid bits) ≡ bit (old digit) + 2 * number (map old remainder) - number (map old divisor)) → mid digit ≡ old digit → map mid remainder ≡ map old remainder → map new word ≡ (if mid carry then map mid (take (length divisor) bits) else map mid (take (length divisor) (digit ∷ remainder))) → let longer = bit (old digit) + 2 * number (map old remainder) in let taken = number (map old divisor) in number (map new word) ≡ (if nat_le taken longer then longer - taken else longer) % 2 ^ length divisor
 step_left old mid new divisor remainder bits word digit carry same_width width fits left digit_kept remainder_kept word_is =
     rw word_is
@@ -71,7 +71,7 @@ pub map-reverse : {X Y : Type 0} (f : X → Y) (xs : List X) → map f (reverse 
 map-reverse f [] = refl
 map-reverse f (x ∷ xs) = rw (reverse_onto xs x [], reverse_onto (map f xs) (f x) [], map-append f (reverse xs) (x ∷ []), map-reverse f xs) refl
 
--- one step, over numbers
+-- one step over numbers
 step_more : (higher b q r left p : ℕ) (digit fits : Bool) → r < b → b < p → fits ≡ nat_le b (bit digit + 2 * r) → left ≡ (if nat_le b (bit digit + 2 * r) then bit digit + 2 * r - b else bit digit + 2 * r) % p → higher ≡ b * q + r → (bit digit + 2 * higher ≡ b * (bit fits + 2 * q) + left) × (left < b)
 step_more higher b q r left p digit true below range fits_is left_is before =
     let fits : b ≤ bit digit + 2 * r = grind (arith, nat_tests) in
@@ -83,8 +83,8 @@ step_more higher b q r left p digit false below range fits_is left_is before =
     let whole : left ≡ bit digit + 2 * r = rw (← fits_is) at left_is ∙ mod-eq_of_lt (omega arith) in
     (omega arith, omega arith)
 
--- after the steps of the bits of a from its highest down to place i: the quotient, highest bit first, and the remainder
--- of the number of those bits
+-- After the steps for the bits of a from the highest down to place i: the quotient, its highest bit first, and the
+-- remainder, of the number that these bits are.
 pub record Stepped {C L : Type 0} (state : Ghosts C L) (start now : C) (a b quotient remainder : List L) (i : ℕ) : Type 0 where
   pub adds : Adds state start now (division_step_gates (length b) * (length a - i))
   pub own_quotient : All (state.has_literal now) quotient
@@ -125,7 +125,7 @@ module _ {C L : Type 0} {state : Ghosts C L} {start : C} {a b : List L} where
         rw (none, nothing_left, no_remainder) (omega arith, omega arith);
   }
 
-  -- one step more
+  -- one more step
   pub stepped_more : {now next : C} {quotient remainder : List L} {i : ℕ} (left : List L) (digit fits : L) → Stepped state start now a b quotient remainder i → 0 < i → i ≤ length a → All (state.has_literal start) a → All (state.has_literal start) b → digit ≡ get_or a (i - 1) digit → Adds state now next (division_step_gates (length b)) → state.has_literal next fits → All (state.has_literal next) left → length left ≡ length b → ((inputs : List Bool) → state.admits now inputs → state.value next inputs fits ≡ nat_le (number (map (state.value now inputs) b)) (bit (state.value now inputs digit) + 2 * number (map (state.value now inputs) remainder))) → ((inputs : List Bool) → state.admits now inputs → let longer = bit (state.value now inputs digit) + 2 * number (map (state.value now inputs) remainder) in let taken = number (map (state.value now inputs) b) in number (map (state.value next inputs) left) ≡ (if nat_le taken longer then longer - taken else longer) % 2 ^ length b) → Stepped state start next a b (quotient ++ fits ∷ []) left (i - 1)
   stepped_more {now = now} {next = next} {quotient = quotient} {remainder = remainder} {i = i} left digit fits before some within own_a own_b at_digit adds own_fits own_left width fits_is left_is = record {
     adds = Adds-weaken (Adds-trans before.adds adds) (gates_more (division_step_gates (length b)) (length a) i some within);
@@ -148,12 +148,12 @@ module _ {C L : Type 0} {state : Ghosts C L} {start : C} {a b : List L} where
         (rw (b_kept, digit_kept) at (fits_is inputs now_admitted)) (rw (b_kept, digit_kept) at (left_is inputs now_admitted)) earlier.0);
   }
 
-  -- what a step that isn't finished adds
+  -- The gates of a step that may stop in the middle stay within the bound of the whole.
   pub stepped_within : {now next : C} {quotient remainder : List L} {i : ℕ} → Stepped state start now a b quotient remainder i → 0 < i → i ≤ length a → length b ≡ length a → Adds state now next (division_step_gates (length b)) → Adds state start next (division_gates (length a))
   stepped_within {i = i} before some within same_width adds =
       Adds-weaken (Adds-trans before.adds adds) (rw same_width (gates_within (division_step_gates (length a)) (length a) i some within))
 
-  -- after the steps of all bits
+  -- after the steps for all bits, the gates are within the bound
   pub stepped_adds : {now : C} {quotient remainder : List L} {i : ℕ} → Stepped state start now a b quotient remainder i → i ≡ 0 → length b ≡ length a → Adds state start now (division_gates (length a))
   stepped_adds {i = i} done none same_width = Adds-weaken done.adds (rw same_width (gates_end (division_step_gates (length a)) (length a) i none))
 

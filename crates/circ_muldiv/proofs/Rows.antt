@@ -1,4 +1,4 @@
--- A product after some of its rows.
+-- The product after some of its rows.
 use Rattle.std.proofs.Common.{◌≡◌, ℕ, zero, suc, ◌+◌, ◌-◌, ◌*◌, ◌/◌, ◌%◌, ◌^◌, ◌<◌, ◌≤◌, Bool, true, false, ◌&&◌, ◌||◌, nat_lt, nat_le, List, map, length, take, get_or, sym, ap, subst, ⊎_elim, ◌∙◌, arith, add-one}
 use Rattle.std.specs.List.{All}
 use Rattle.std.proofs.lemmas.Bool.{cases_lt}
@@ -13,11 +13,11 @@ use Rattle.circuits.proofs.Kept.{own_at, All-kept, map-kept, Keeps-trans, Adds-t
 use Rattle.circuits.proofs.Words.{remainder, number-below, number-cut, number-take_more}
 use Rattle.circ_muldiv.specs.Gates.{product_gates, row_gates}
 
--- the whole product after a row, where the product before it is sum + q * r * over, and the word is low + r * high
+-- the whole product after one more row: the product before is sum + q * r * over, and the word is low + r * high
 row_total : (q r low high lower digit sum next carry over : ℕ) → next + (q * r) * carry ≡ sum + q * (digit * low) → (q * r) * over + sum ≡ (low + r * high) * lower → next + (q * r) * (carry + over + digit * high) ≡ (low + r * high) * (lower + q * digit)
 row_total q r low high lower digit sum next carry over row before = omega arith
 
--- a number reaches p exactly where its quotient by p isn't 0
+-- a number is at least p exactly where its quotient by p isn't 0
 reaches : (p s m : ℕ) → s < p → nat_le p (s + p * m) ≡ nat_lt 0 m
 reaches p s zero below = grind (arith, nat_tests)
 reaches p s (suc m) below = grind (arith, nat_tests)
@@ -28,7 +28,8 @@ any_lost true false over high = grind (arith, nat_tests)
 any_lost false true over high = grind (arith, nat_tests)
 any_lost false false over high = grind (arith, nat_tests)
 
--- one row, with the place's power q, the number r of values above it, and the range q * r
+-- One row, where q is the power of 2 of its place, r bounds the values of the bits above that are left, and q * r is
+-- the range.
 module _ (q r a lower sum next : ℕ) (digit carry : Bool) (some : 0 < r) (range : 0 < q * r) (sum_is : sum ≡ (a * lower) % (q * r)) (below : next < q * r) (row : next + (q * r) * bit carry ≡ sum + q * (bit digit * (a % r))) where
   over : ℕ
   over = (a * lower) / (q * r)
@@ -54,7 +55,7 @@ module _ (q r a lower sum next : ℕ) (digit carry : Bool) (some : 0 < r) (range
       let dropped : nat_le r a ≡ nat_lt 0 (a / r) = ap (λ n. nat_le r n) (sym parts) ∙ reaches r (a % r) (a / r) (omega arith) in
       rw (← whole, reaches (q * r) next (bit carry + (a * lower) / (q * r) + bit digit * (a / r)) below, earlier, dropped) (any_lost carry digit ((a * lower) / (q * r)) (a / r))
 
--- a number that reaches p reaches 2 * p, or has the bit that is worth p
+-- a number is at least p where it is at least 2 * p, or its bit that counts p is true
 bit_reaches : (p n : ℕ) (x : Bool) → 0 < p → n % (2 * p) ≡ n % p + p * bit x → nat_le p n ≡ (nat_le (2 * p) n || x)
 bit_reaches p n true some e =
     let least : n % (2 * p) ≤ n = omega arith in
@@ -82,7 +83,7 @@ highest_bit value a x some at_x =
     let none : nat_le (2 ^ (length a - 1 + 1)) (number (map value a)) ≡ false = rw last (grind (arith, nat_tests)) in
     sym (bit_above value a (length a - 1) x (omega arith) at_x ∙ ap (λ t. t || value x) none)
 
--- the gates of the rows of each width up to this one
+-- the gates of all rows of up to this width
 pub later_gates : ℕ → ℕ
 later_gates width = 3 * width * (width + 1) + 4 * width
 
@@ -99,8 +100,8 @@ used_more n i some inside =
     subst (λ k. (product_gates n - later_gates k) + row_gates k + 3 + 1 ≤ product_gates n - later_gates (n - (i + 1))) row
     (subst (λ k. (product_gates k - later_gates (n - (i + 1) + 1)) + row_gates (n - (i + 1) + 1) + 3 + 1 ≤ product_gates k - later_gates (n - (i + 1))) whole (used_at (n - (i + 1)) (i - 1)))
 
--- after the rows of the lowest i bits of b: the product of a and those bits, whether it overflows, and whether a,
--- shifted to the next row, has a true bit past the width
+-- After the rows for the lowest i bits of b: the product of a and these bits modulo the range, whether it overflows,
+-- and whether a, shifted to the place of the next row, has a true bit past the width.
 pub record Multiplied {C L : Type 0} (state : Ghosts C L) (start now : C) (a b bits : List L) (overflow past : L) (i : ℕ) : Type 0 where
   pub adds : Adds state start now (product_gates (length a) - later_gates (length a - i))
   pub own_bits : All (state.has_literal now) bits
@@ -125,7 +126,7 @@ first_row n a d false below is =
     let none : d ≡ 0 = omega arith in
     rw none (remainder (0 * a) (2 ^ n) 0 (a * 0) (omega arith) (omega arith), grind (arith, nat_tests))
 
--- the first row is the word where the lowest bit is true
+-- the first row is a, masked by the lowest bit of b
 pub multiplied_init : {C L : Type 0} {state : Ghosts C L} {start now : C} (a b bits : List L) (digit zero_literal top : L) → 0 < length a → length b ≡ length a → All (state.has_literal start) a → digit ≡ get_or b 0 digit → top ≡ get_or a (length a - 1) top → Adds state start now (length a) → All (state.has_literal now) bits → length bits ≡ length a → ((inputs : List Bool) → state.admits start inputs → number (map (state.value now inputs) bits) ≡ bit (state.value start inputs digit) * number (map (state.value start inputs) a)) → state.has_literal now zero_literal → ((inputs : List Bool) → state.admits now inputs → state.value now inputs zero_literal ≡ false) → Multiplied state start now a b bits zero_literal top 1
 multiplied_init {state = state} {start = start} {now = now} a b bits digit zero_literal top some same_width own_a at_digit at_top adds own_bits width bits_are own_zero zero_is =
     let facts = λ (inputs : List Bool).
@@ -142,7 +143,7 @@ multiplied_init {state = state} {start = start} {now = now} a b bits digit zero_
       shifted_out = λ inputs admitted. adds.keeps.values inputs top admitted (own_at (state.has_literal start) a (length a - 1) top own_a (omega arith) at_top) ∙ highest_bit (state.value start inputs) a top some at_top;
     }
 
--- one row more
+-- one more row
 pub multiplied_more : {C L : Type 0} {state : Ghosts C L} {start now s1 s2 s3 : C} {a b bits : List L} {overflow past : L} {i : ℕ} (row : List L) (digit lower carry lost next : L) → Multiplied state start now a b bits overflow past i → 0 < i → i < length a → length b ≡ length a → All (state.has_literal start) a → All (state.has_literal start) b → digit ≡ get_or b i digit → lower ≡ get_or a (length a - 1 - i) lower → Adds state now s1 (row_gates (length a - i)) → Adds state s1 s2 3 → Adds state s2 s3 1 → All (state.has_literal s1) row → state.has_literal s1 carry → length row ≡ length a → state.has_literal s2 lost → state.has_literal s3 next → ((inputs : List Bool) → state.admits now inputs → number (map (state.value s1 inputs) row) + 2 ^ length a * bit (state.value s1 inputs carry) ≡ number (map (state.value now inputs) bits) + 2 ^ i * (bit (state.value now inputs digit) * (number (map (state.value now inputs) a) % 2 ^ (length a - i)))) → ((inputs : List Bool) → state.admits s1 inputs → state.value s2 inputs lost ≡ ((state.value s1 inputs overflow || state.value s1 inputs carry) || (state.value s1 inputs digit && state.value s1 inputs past))) → ((inputs : List Bool) → state.admits s2 inputs → state.value s3 inputs next ≡ (state.value s2 inputs past || state.value s2 inputs lower)) → Multiplied state start s3 a b row lost next (i + 1)
 multiplied_more {state = state} {start = start} {now = now} {s1 = s1} {s2 = s2} {s3 = s3} {a = a} {b = b} {bits = bits} {overflow = overflow} {past = past} {i = i} row digit lower carry lost next before some inside same_width own_a own_b at_digit at_lower first second third own_row own_carry width own_lost own_next row_is lost_is next_is =
     let own_digit = own_at (state.has_literal start) b i digit own_b (omega arith) at_digit in
@@ -189,11 +190,11 @@ multiplied_more {state = state} {start = start} {now = now} {s1 = s1} {s2 = s2} 
           rw (next_is inputs (to_s2.admitted inputs admitted), past_kept, before.shifted_out inputs admitted, lower_kept, place) (sym reached);
     }
 
--- what a row that isn't finished adds
+-- The gates of a row that may stop in the middle stay within the bound of the whole.
 pub multiplied_within : {C L : Type 0} {state : Ghosts C L} {start now next : C} {a b bits : List L} {overflow past : L} {i most : ℕ} → Multiplied state start now a b bits overflow past i → 0 < i → i < length a → Adds state now next most → most ≤ row_gates (length a - i) + 3 + 1 → Adds state start next (product_gates (length a))
 multiplied_within {a = a} {i = i} before some inside adds few = Adds-weaken (Adds-trans before.adds adds) (omega (arith, used_more (length a) i some inside))
 
--- after the rows of all bits
+-- after the rows for all bits, the gates are within the bound
 pub multiplied_adds : {C L : Type 0} {state : Ghosts C L} {start now : C} {a b bits : List L} {overflow past : L} {i : ℕ} → Multiplied state start now a b bits overflow past i → Adds state start now (product_gates (length a))
 multiplied_adds done = Adds-weaken done.adds (omega arith)
 

@@ -1,4 +1,4 @@
--- Signed quotients and remainders from those of the absolute values.
+-- Signed quotients and remainders, by those of the absolute values.
 use Rattle.std.proofs.Common.{◌≡◌, ◌≢◌, ℕ, zero, suc, ◌-◌, ◌*◌, ◌/◌, ◌%◌, ◌^◌, ◌<◌, ℤ, pos, negsuc, neg_ℤ, ◌*ℤ◌, int_lt, unsigned_abs, Bool, true, false, nat_lt, nat_le, if◌then◌else◌, List, map, length, get_or, refl, sym, ap, subst, ◌∙◌, arith}
 use Rattle.std.specs.Bool.{xor}
 use Rattle.std.proofs.lemmas.Bool.Decides.{nat_tests}
@@ -11,7 +11,7 @@ use Rattle.circ_muldiv.specs.Division as division
 use Rattle.circ_muldiv.proofs.Rows.{highest_bit}
 use Rattle.circ_muldiv.proofs.OverflowTests.{number_below, sign_of_signed, magnitude_is}
 
--- a number below the range, or its negation, modulo the range
+-- a number below the range, negated modulo the range where `negative` is true
 residue_of : (width n : ℕ) (negative : Bool) → n < 2 ^ width → (if negative then (2 ^ width - n) % 2 ^ width else n) ≡ residue width (if negative then neg_ℤ (pos n) else pos n)
 unfolding residue
 residue_of width zero true below = sym (remainder 0 (2 ^ width) 1 (2 ^ width - 0) below (omega arith)) ∙ sym (mod-eq_of_lt below)
@@ -32,7 +32,7 @@ negation_times_negative : (q b : ℕ) → neg_ℤ (pos q) *ℤ negsuc b ≡ pos 
 negation_times_negative zero b = omega (arith, ints)
 negation_times_negative (suc q) b = refl
 
--- the remainder is that of the absolute values, with the sign of the dividend
+-- the remainder is that of the absolute values, with the dividend's sign
 pub remainder_of : (y z : ℤ) → division.remainder y z ≡ (if int_lt y (pos 0) then neg_ℤ (pos (unsigned_abs y % unsigned_abs z)) else pos (unsigned_abs y % unsigned_abs z))
 unfolding mathlib.Core.Bool.xor
 remainder_of (pos a) (pos b) = rw (nothing_below a, nothing_below b) (omega (arith, ints, mod-add-div a b))
@@ -56,7 +56,7 @@ size_some p n true below some none =
     omega arith
 size_some p n false below some none = some none
 
--- over words: the absolute values, and what they are divided by
+-- The words of the absolute values: what division takes them for.
 module _ {L : Type 0} (v0 v1 v2 : L → Bool) (a b size_a size_b : List L) (some : 0 < length a) (same_width : length b ≡ length a) (b_kept : map v1 b ≡ map v0 b) (size_a_kept : map v2 size_a ≡ map v1 size_a) (size_a_is : number (map v1 size_a) ≡ unsigned_abs (signed (length a) (number (map v0 a)))) (size_b_is : number (map v2 size_b) ≡ unsigned_abs (signed (length b) (number (map v1 b)))) where
   size_of_a : number (map v2 size_a) ≡ unsigned_abs (signed (length a) (number (map v0 a)))
   size_of_a = ap number size_a_kept ∙ size_a_is
@@ -76,7 +76,7 @@ module _ {L : Type 0} (v0 v1 v2 : L → Bool) (a b size_a size_b : List L) (some
   pub absolute_remainder : (n : ℕ) → n ≡ number (map v2 size_a) % number (map v2 size_b) → n ≡ unsigned_abs (signed (length a) (number (map v0 a))) % unsigned_abs (signed (length a) (number (map v0 b)))
   absolute_remainder n is = is ∙ ap (λ k. k % number (map v2 size_b)) size_of_a ∙ ap (λ k. unsigned_abs (signed (length a) (number (map v0 a))) % k) size_of_b
 
--- the quotient and the remainder of the absolute values, and whether the signs differ
+-- The quotient is negated where the operands' signs differ, and the remainder where the dividend is negative.
 module _ {L : Type 0} (v0 v3 : L → Bool) (a b : List L) (x : L) (some : 0 < length a) (at_x : x ≡ get_or a (length a - 1) x) where
   pub quotient_value : (v4 v5 v6 : L → Bool) (divided made : List L) (y differ : L) → length b ≡ length a → y ≡ get_or b (length b - 1) y → length divided ≡ length a → v3 x ≡ v0 x → v3 y ≡ v0 y → v4 differ ≡ xor (v3 x) (v3 y) → map v4 divided ≡ map v3 divided → number (map v3 divided) ≡ unsigned_abs (signed (length a) (number (map v0 a))) / unsigned_abs (signed (length a) (number (map v0 b))) → number (map v5 made) ≡ (if v4 differ then (2 ^ length divided - number (map v4 divided)) % 2 ^ length divided else number (map v4 divided)) → map v6 made ≡ map v5 made → number (map v6 made) ≡ residue (length a) (quotient (signed (length a) (number (map v0 a))) (signed (length a) (number (map v0 b))))
   quotient_value v4 v5 v6 divided made y differ same_width at_y width x_kept y_kept differ_is divided_kept is made_is made_kept =
@@ -96,7 +96,7 @@ chosen_number : (b : Bool) (yes no : List Bool) → number (if b then yes else n
 chosen_number true on off = refl
 chosen_number false on off = refl
 
--- the choice of a word and its negation
+-- a word that is chosen between a word and its negation
 pub negated_value : {L : Type 0} (old mid new : L → Bool) (word negation made : List L) (negative : L) → mid negative ≡ old negative → map mid word ≡ map old word → number (map mid negation) ≡ (2 ^ length word - number (map old word)) % 2 ^ length word → map new made ≡ (if mid negative then map mid negation else map mid word) → number (map new made) ≡ (if old negative then (2 ^ length word - number (map old word)) % 2 ^ length word else number (map old word))
 negated_value old mid new word negation made negative negative_kept word_kept negation_is made_is =
     rw made_is (chosen_number (mid negative) (map mid negation) (map mid word) ∙ (rw (negation_is, negative_kept, word_kept) refl))

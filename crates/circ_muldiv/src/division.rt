@@ -14,14 +14,14 @@ use std::alloc::{AllocError, Global};
 /// What dividing two words of one width N gives: two words of that width.
 #[derive(Drop)]
 pub struct Divided<L> {
-    /// How often the divisor fits, rounded towards zero.
+    /// How often the divisor fits in the dividend, rounded towards zero.
     pub quotient: Bits<L>,
     /// The dividend less quotient times divisor.
     pub remainder: Bits<L>,
 }
 
-/// The quotient and the remainder of two words of one width N, at least 1, read as unsigned. By 0 the two words are
-/// free. It adds at most 6 N^2 + 5 N gates.
+/// The quotient and the remainder of two words of one width N, at least 1, read as unsigned. Division by 0 leaves both
+/// words open. It adds at most 6 N^2 + 5 N gates.
 pub fn divide_unsigned<C: Circuit>(
     alloc: Global,
     c: &mut C,
@@ -66,14 +66,15 @@ pub fn divide_unsigned<C: Circuit>(
 /// What one step of a division gives.
 #[derive(Drop)]
 struct Step<L> {
-    /// The bit of the quotient: whether the divisor fits into the remainder.
+    /// The next bit of the quotient: whether the divisor fits into the remainder.
     fits: L,
-    /// What is left.
+    /// The remainder after the step.
     remainder: Bits<L>,
 }
 
-/// One step of a restoring division by a word of width N: the next bit of the dividend goes below the remainder so far,
-/// and the divisor is taken off where it fits. Both stand in N + 1 bits, since the longer remainder may be 2^N or more.
+/// One step of a restoring division by a word of width N: the remainder is shifted up with the next bit of the dividend
+/// as its lowest, and the divisor is subtracted where it fits. The subtraction has N + 1 bits, since the shifted
+/// remainder may be 2^N or more.
 fn divide_step<C: Circuit>(
     alloc: Global,
     c: &mut C,
@@ -116,8 +117,8 @@ fn divide_step<C: Circuit>(
     })
 }
 
-/// A word of width N + 1 less a divisor of width N, by adding the divisor's complement: it fits exactly where that sum
-/// carries.
+/// A word of width N + 1 less a divisor of width N, as the sum with the divisor's complement: the divisor fits exactly
+/// where that sum carries.
 fn difference<C: Circuit>(
     alloc: Global,
     c: &mut C,

@@ -1,11 +1,11 @@
-//! Words of the bits of others.
+//! Words that are put together from the bits of others.
 ghost use Rattle.std.specs.Prelude.{◌≡◌, ◌∷◌, ◌++◌, IfOk};
 
 use circuits::Bits;
 use lists::List;
 use std::alloc::{AllocError, Global};
 
-/// The word of lower bits and of upper ones.
+/// The word of these lower bits and, above them, of these upper ones.
 pub(crate) fn joined<L: Copy>(
     alloc: Global,
     lower: &[L],
@@ -18,7 +18,7 @@ pub(crate) fn joined<L: Copy>(
     Ok(List::from_vec(word))
 }
 
-/// A word with one bit more below it.
+/// A word with one more bit below its lowest.
 pub(crate) fn with_lowest<L: Copy>(
     alloc: Global,
     lowest: L,

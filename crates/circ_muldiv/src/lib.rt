@@ -1,7 +1,7 @@
-//! Multiplication, division and overflow on words of a circuit's literals, written once for every lawful circuit.
+//! Multiplication, division and overflow of words of a circuit's literals, written once for every `Circuit`.
 //!
-//! The only error of a call is want of memory. A call that is refused may leave gates, no more than it may add; the
-//! older literals keep their values, and it makes no input.
+//! The only error of a call is want of memory. A call that is refused for that may leave gates, no more than it may
+//! add; the older literals keep their values, and it makes no input.
 #![tactic(auto)]
 
 mod division;

@@ -104,7 +104,7 @@ pub fn overflow_mul<C: Circuit>(
 }
 
 /// Whether the signed product of two words of one width N doesn't fit N bits: whether the product of the absolute
-/// values is above 2^(N-1) - 1, or above 2^(N-1) where the signs differ.
+/// values is greater than 2^(N-1) - 1, or, where the signs differ, than 2^(N-1).
 fn overflow_mul_signed<C: Circuit>(
     alloc: Global,
     c: &mut C,
@@ -133,8 +133,8 @@ fn overflow_mul_signed<C: Circuit>(
     or(alloc, c, product.overflow, exceeds)
 }
 
-/// The greatest absolute value of a signed number of N bits: 2^(N-1) where it is negative, and else 2^(N-1) - 1. It
-/// makes no gate.
+/// The greatest absolute value that a signed number of N bits can have: 2^(N-1) where it is negative, and else 2^(N-1)
+/// - 1. It makes no gate.
 fn greatest<C: Circuit>(
     alloc: Global,
     c: &C,

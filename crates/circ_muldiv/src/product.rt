@@ -33,7 +33,7 @@ pub fn multiply<C: Circuit>(
     Ok(product.bits)
 }
 
-/// What multiplying two words of one width N gives.
+/// The product of two words of one width N, in two parts.
 #[derive(Drop)]
 pub(crate) struct Product<L> {
     /// The lowest N bits of the product.
@@ -42,9 +42,9 @@ pub(crate) struct Product<L> {
     pub(crate) overflow: L,
 }
 
-/// The product of two words of one width N: a row for each bit of `b`, lowest first, adds `a` at the bit's place where
-/// the bit is true. Each row is cut to the width, and what is cut off are multiples of 2^N: so the product is at least
-/// 2^N exactly where some row loses a true bit.
+/// The product of two words of one width N: for each bit of `b`, lowest first, a row adds `a` at the bit's place where
+/// the bit is true. Each row is cut to the width. What is cut off are multiples of 2^N, so the product is at least 2^N
+/// exactly where some row loses a true bit.
 pub(crate) fn multiply_with_overflow<C: Circuit>(
     alloc: Global,
     c: &mut C,

@@ -10,7 +10,7 @@ use circuits::{Bits, Circuit, Sum, add_with_carry, or};
 use lists::List;
 use std::alloc::{AllocError, Global};
 
-/// A word where `digit` is true, and else 0. It adds at most a gate a bit.
+/// A word masked by a literal: the word where `digit` is true, and else 0. It adds at most a gate a bit.
 pub(crate) fn masked<C: Circuit>(
     alloc: Global,
     c: &mut C,
@@ -34,8 +34,7 @@ pub(crate) fn masked<C: Circuit>(
     Ok(masked)
 }
 
-/// The sum of a word of width N and, where `digit` is true, of the lowest bits of `a` as they stand from `place` up to
-/// N.
+/// The sum of a word of width N and, where `digit` is true, of `a` shifted up by `place` and cut to N bits.
 pub(crate) fn add_row<C: Circuit>(
     alloc: Global,
     c: &mut C,
@@ -67,7 +66,7 @@ pub(crate) fn add_row<C: Circuit>(
     })
 }
 
-/// The sum of two words of one width, the second only where `digit` is true.
+/// The sum of two words of one width, where the second counts only if `digit` is true.
 fn add_where<C: Circuit>(
     alloc: Global,
     c: &mut C,
@@ -94,8 +93,8 @@ fn add_where<C: Circuit>(
     add_with_carry(alloc, c, word, shown.as_slice(), first)
 }
 
-/// Whether a product lost a bit up to a row: before it, by the row's carry, or because the row's digit is true where
-/// `a`, shifted to the row's place, has a true bit past the width.
+/// Whether a product lost a true bit in a row or before it: in an earlier row, by the carry of this one, or by its cut,
+/// where its digit is true and `a`, shifted to its place, has a true bit past the width.
 pub(crate) fn loses<C: Circuit>(
     alloc: Global,
     c: &mut C,

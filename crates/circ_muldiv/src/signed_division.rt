@@ -11,9 +11,9 @@ use crate::signs::{absolute, sign};
 use circuits::{Bits, Circuit, neg, select};
 use std::alloc::{AllocError, Global};
 
-/// The quotient and the remainder of two words of one width N, at least 1, read as signed in two's complement: both
-/// modulo 2^N, so that the least number by -1 gives the least number and 0. By 0 the two words are free. It adds at
-/// most 6 N^2 + 29 N + 1 gates.
+/// The quotient and the remainder of two words of one width N, at least 1, read as signed in two's complement. Both are
+/// modulo 2^N, so that the least number by -1 gives the least number and 0. Division by 0 leaves both words open. It
+/// adds at most 6 N^2 + 29 N + 1 gates.
 pub fn divide_signed<C: Circuit>(
     alloc: Global,
     c: &mut C,
@@ -53,7 +53,7 @@ pub fn divide_signed<C: Circuit>(
     })
 }
 
-/// The quotient and the remainder of the absolute values of two such words.
+/// The quotient and the remainder of the absolute values of two words that are read as signed.
 fn divide_absolute<C: Circuit>(
     alloc: Global,
     c: &mut C,

@@ -8,7 +8,7 @@ ghost use Rattle.circ_muldiv.specs.Gates.{absolute_gates};
 use circuits::{Bits, Circuit, neg, select};
 use std::alloc::{AllocError, Global};
 
-/// The highest bit of a word: where it is read as signed, whether it is negative.
+/// The highest bit of a word: where the word is read as signed, whether it is negative.
 pub fn sign<L: Copy>(word: &Bits<L>) -> L
     requires { 0 < length word.now }
     ensures { result ≡ slice_index_or word.now (length word.now - 1) result }
@@ -16,8 +16,8 @@ pub fn sign<L: Copy>(word: &Bits<L>) -> L
     word.as_slice()[word.len() - 1]
 }
 
-/// The absolute value of a signed number of N bits, at least 1, in two's complement. It is at most 2^(N-1), so N bits
-/// hold it, and the least number gives itself. It adds at most 6 N gates.
+/// The absolute value of a signed number of N bits, at least 1, in two's complement. It is at most 2^(N-1), so it fits
+/// N bits, read as unsigned; that of the least number is the same word. It adds at most 6 N gates.
 pub fn absolute<C: Circuit>(
     alloc: Global,
     c: &mut C,

@@ -1,4 +1,4 @@
--- A state that unit propagation adds nothing to: what it shows of derivations from less.
+-- States that are closed under unit propagation, and what such a state shows of derivations from states that hold less.
 use Rattle.std.proofs.Common.{◌≡◌, ℕ, true, false, List, [], ◌∷◌, Some, length, get_or, refl, sym, ap, ◌∙◌, inl, inr, subst}
 use Rattle.std.specs.Prelude.{slice_get, remove, ◌⊎◌}
 use Rattle.clauses.specs.Literal.{Lit, negation_of, is_same}
@@ -9,7 +9,7 @@ use Rattle.std.proofs.lemmas.Option.{slice_get_read}
 use Rattle.clauses.proofs.Held.{is_same-true}
 use Rattle.clauses.proofs.Units.{falsified_from, unit_from, unit_only, unit_stands}
 
--- what is held in the one state is held in the other
+-- each literal that is held in the first state is held in the second
 pub record HeldWithin (held all : List Lit) : Type 0 where
   pub each : (l : Lit) → is_held held l ≡ true → is_held all l ≡ true
 
@@ -26,7 +26,8 @@ HeldWithin-cons l held all here h =
           ];
     }
 
--- no clause is false, and what a clause makes hold is held
+-- The state is closed under unit propagation without a conflict: no clause is false, and a literal that is unit in a
+-- clause is held already.
 pub record IsClosed (clauses : List (List Lit)) (all : List Lit) : Type 0 where
   pub none_false : (number : ℕ) (clause : List Lit) → slice_get clauses number ≡ Some clause → ¬ (IsFalsified all clause)
   pub units_held : (number : ℕ) (clause : List Lit) (l : Lit) → slice_get clauses number ≡ Some clause → IsUnit all clause l → is_held all l ≡ true
@@ -38,11 +39,11 @@ not_held held all l h free =
       | inr gone ↦ gone
     ]
 
--- a clause that is false stays so where more is held
+-- a clause that is false under a state is false under each state that holds more
 pub IsFalsified-more : (held all : List Lit) → HeldWithin held all → (clause : List Lit) → IsFalsified held clause → IsFalsified all clause
 IsFalsified-more held all h clause none = λ k d within. h.each (negation_of (get_or clause k d)) (none k d within)
 
--- where more is held, the clause of a unit literal is false, or the literal is unit in it still
+-- a clause with a unit literal, in a state that holds more: the clause is false there, or the literal is unit still
 pub IsUnit-more : (held all : List Lit) → HeldWithin held all → (clause : List Lit) (l : Lit) → IsUnit held clause l → IsFalsified all clause ⊎ IsUnit all clause l
 IsUnit-more held all h clause l unit =
     let only : (m : Lit) → is_held clause m ≡ true → is_false all m ≡ false → m ≡ l =
@@ -57,7 +58,7 @@ IsUnit-more held all h clause l unit =
       | inr kept ↦ inr (unit_from all clause l (unit_stands held clause l unit) kept only)
     ]
 
--- a derivation from less stays within a closed state
+-- a derivation that begins within a closed state ends within it
 pub Derives-within : (clauses : List (List Lit)) (all : List Lit) → IsClosed clauses all → (held : List Lit) (numbers : List ℕ) (after : List Lit) → HeldWithin held all → Derives clauses held numbers after → HeldWithin after all
 Derives-within clauses all closed held [] after h d = subst (λ state. HeldWithin state all) d h
 Derives-within clauses all closed held (number ∷ numbers) after h d =
@@ -69,13 +70,14 @@ Derives-within clauses all closed held (number ∷ numbers) after h d =
     ] in
     Derives-within clauses all closed (d.0 ∷ held) numbers after (HeldWithin-cons d.0 held all here h) d.2
 
--- within a closed state no clause is false
+-- no clause is false in a state within a closed one
 pub not_SomeFalsified : (clauses : List (List Lit)) (all held : List Lit) → IsClosed clauses all → HeldWithin held all → ¬ (SomeFalsified clauses held)
 not_SomeFalsified clauses all held closed h (k, clause, within, at, none) =
     closed.none_false k clause (slice_get_read clauses (length clauses) k clause refl within (sym at))
     (IsFalsified-more held all h clause none)
 
--- A clause is new where a closed state holds the negations of its literals but the one at this place, and not that one.
+-- A clause is new where some closed state holds the negations of all its literals but the one at this place, and
+-- doesn't hold that one.
 pub IsNew-from_closed : (earlier : List (List Lit)) (all clause : List Lit) (place : ℕ) (l : Lit) → IsClosed earlier all → slice_get clause place ≡ Some l → HeldWithin (negations_of (remove clause place)) all → is_held all l ≡ false → IsNew earlier clause
 IsNew-from_closed earlier all clause place l closed at within free = (
   place,
@@ -86,7 +88,7 @@ IsNew-from_closed earlier all clause place l closed at within free = (
       (not_held held all l h free, not_SomeFalsified earlier all held closed h),
 )
 
--- units alone refute nothing where some state is closed
+-- unit propagation alone finds no conflict where some state is closed
 pub not_UnitsRefute : (clauses : List (List Lit)) (all : List Lit) → IsClosed clauses all → ¬ (UnitsRefute clauses)
 not_UnitsRefute clauses all closed (moves, held, d, some) =
     not_SomeFalsified clauses all held closed (Derives-within clauses all closed [] moves held (HeldWithin-nil all) d) some

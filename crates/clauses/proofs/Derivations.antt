@@ -1,27 +1,27 @@
--- Derivations move by move, and hints hint by hint.
+-- Derivations taken propagation by propagation, and hints taken hint by hint.
 use Rattle.std.proofs.Common.{◌≡◌, ℕ, List, [], ◌∷◌, ◌++◌, Some, refl, sym, ap, ◌∙◌, subst}
 use Rattle.std.specs.Prelude.{slice_get}
 use Rattle.clauses.specs.Literal.{Lit}
 use Rattle.clauses.specs.Propagation.{Derives, HintsRefute, NamesFalse, NamesUnit, IsUnit}
 use Rattle.clauses.proofs.Units.{unit_same}
 
--- a number names one clause
+-- a number is that of one clause at most
 same_clause : (clauses : List (List Lit)) (number : ℕ) (c d : List Lit) → slice_get clauses number ≡ Some c → slice_get clauses number ≡ Some d → c ≡ d
 same_clause clauses number c d p q = let e : Some c ≡ Some d = sym p ∙ q in cc
 
--- a clause has at most one literal that it makes hold
+-- in one state at most one literal is unit in the clause of a number
 pub NamesUnit-same : (clauses : List (List Lit)) (held : List Lit) (number : ℕ) (l m : Lit) → NamesUnit clauses held number l → NamesUnit clauses held number m → l ≡ m
 NamesUnit-same clauses held number l m (c, at, one) (d, at', one') =
     unit_same held d l m (subst (λ e. IsUnit held e l) (same_clause clauses number c d at at') one) one'
 
--- one more move at the end
+-- a derivation may go on with the unit literal of one more clause
 pub Derives-push : (clauses : List (List Lit)) (held : List Lit) (numbers : List ℕ) (after : List Lit) (number : ℕ) (l : Lit) → Derives clauses held numbers after → NamesUnit clauses after number l → Derives clauses held (numbers ++ number ∷ []) (l ∷ after)
 Derives-push clauses held [] after number l d unit =
     (l, subst (λ state. NamesUnit clauses state number l) (sym d) unit, ap (λ state. l ∷ state) d)
 Derives-push clauses held (n ∷ numbers) after number l d unit =
     (d.0, d.1, Derives-push clauses (d.0 ∷ held) numbers after number l d.2 unit)
 
--- one hint refutes where it names a false clause
+-- a single hint refutes the state where it names a false clause
 pub HintsRefute-one : (clauses : List (List Lit)) (held : List Lit) (number : ℕ) → NamesFalse clauses held number → HintsRefute clauses held (number ∷ [])
 HintsRefute-one clauses held number false_named = ([], number, held, refl, refl, false_named)
 
@@ -32,7 +32,8 @@ HintsRefute-only clauses held number ([], last, after, is, d, named) =
 HintsRefute-only clauses held number (n ∷ [], last, after, is, d, named) = cc
 HintsRefute-only clauses held number (n ∷ m ∷ ns, last, after, is, d, named) = cc
 
--- a hint before others refutes where it is a move and they refute the state after it
+-- A hint before others refutes the state where its clause has a unit literal and the others refute the state that holds
+-- it too.
 pub HintsRefute-cons : (clauses : List (List Lit)) (held : List Lit) (number : ℕ) (l : Lit) (hints : List ℕ) → NamesUnit clauses held number l → HintsRefute clauses (l ∷ held) hints → HintsRefute clauses held (number ∷ hints)
 HintsRefute-cons clauses held number l hints unit (moves, last, after, is, d, named) =
     (number ∷ moves, last, after, ap (λ ns. number ∷ ns) is, (l, unit, d), named)

@@ -1,11 +1,11 @@
--- What is held, and where it is true.
+-- Literals that are held, and assignments that make them true.
 use Rattle.std.proofs.Common.{◌≡◌, ℕ, ◌+◌, ◌*◌, ◌/◌, Bool, true, false, not, cond, eqb, List, [], ◌∷◌, refl, sym, ap, ◌∙◌, inl, inr, arith}
 use Rattle.std.proofs.lemmas.Bool.{not-false, and_parts, and_from, or_cases, or_parts, eqb-true, eq-eqb, true≢false, not-true}
 use Rattle.std.proofs.lemmas.Bool.Decides.{nat_tests}
 use Rattle.clauses.specs.Literal.{Lit, code_of, literal_at, negation_of, is_same, literal_true, clause_true}
 use Rattle.clauses.specs.Propagation.{is_held, negations_of}
 
--- a literal of these parts
+-- the literal of this variable and sign
 abbrev pub made : ℕ → Bool → Lit
 made n b = record { variable = n; negated = b }
 
@@ -22,7 +22,7 @@ bool_self : (a : Bool) → cond a a (not a) ≡ true
 bool_self true = refl
 bool_self false = refl
 
--- the test says that two literals are equal
+-- literals that the test finds equal are equal
 pub is_same-true : (l m : Lit) → is_same l m ≡ true → l ≡ m
 is_same-true l m h =
     let parts = and_parts (eqb l.variable m.variable) (cond l.negated m.negated (not m.negated)) h in
@@ -40,11 +40,11 @@ odd n false = grind (arith, nat_tests)
 literal_at-code_of : (l : Lit) → literal_at (code_of l) ≡ l
 literal_at-code_of l = made_same _ l.variable _ l.negated (half l.variable l.negated) (odd l.variable l.negated)
 
--- literals of one code are one
+-- literals with the same code are equal
 pub same_code : (l m : Lit) → code_of l ≡ code_of m → l ≡ m
 same_code l m e = sym (literal_at-code_of l) ∙ ap literal_at e ∙ literal_at-code_of m
 
--- literals of which `!=` is false
+-- literals of which `!=` is false are equal
 pub equal_literals : (l m : Lit) (differs : Bool) → differs ≡ not (eqb (code_of l) (code_of m)) → differs ≡ false → l ≡ m
 equal_literals l m differs is same = same_code l m (eqb-true (code_of l) (code_of m) (not-false _ (sym is ∙ same)))
 
@@ -64,14 +64,14 @@ true_of_made : (v : ℕ → Bool) (n : ℕ) (b : Bool) → literal_true v (made 
 true_of_made v n true = sym (not_not (v n))
 true_of_made v n false = refl
 
--- the negation of a literal is true where the literal is false
+-- the negation of a literal is true exactly where the literal is false
 pub literal_true-negation : (v : ℕ → Bool) (l : Lit) → literal_true v (negation_of l) ≡ not (literal_true v l)
 literal_true-negation v l = true_of_made v l.variable l.negated
 
 pub false_of_negation : (v : ℕ → Bool) (l : Lit) → literal_true v (negation_of l) ≡ true → literal_true v l ≡ false
 false_of_negation v l h = not-true (literal_true v l) (sym (literal_true-negation v l) ∙ h)
 
--- each literal that is held is true
+-- the assignment makes each literal that is held true
 pub record HeldTrue (v : ℕ → Bool) (held : List Lit) : Type 0 where
   pub each : (l : Lit) → is_held held l ≡ true → literal_true v l ≡ true
 
@@ -88,7 +88,7 @@ HeldTrue-cons v l held t h =
           ];
     }
 
--- where a clause is false, the negations of its literals are true
+-- an assignment that makes a clause false makes the negations of its literals true
 pub HeldTrue-negations : (v : ℕ → Bool) (clause : List Lit) → clause_true v clause ≡ false → HeldTrue v (negations_of clause)
 HeldTrue-negations v [] h = HeldTrue-nil v
 HeldTrue-negations v (l ∷ ls) h =

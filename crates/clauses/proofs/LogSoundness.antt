@@ -11,13 +11,13 @@ use Rattle.std.proofs.lemmas.List.Elements.{All-push}
 use Rattle.std.proofs.lemmas.Option.{slice_get-map}
 use Rattle.clauses.proofs.Soundness.{Meets-at, shown_is_true}
 
--- the element at a place ends the list of one element more
+-- the elements up to and with a place are those before it and the one at it
 take_one_more : {X : Type 0} (xs : List X) (place : ℕ) (x : X) → slice_get xs place ≡ Some x → take (suc place) xs ≡ take place xs ++ x ∷ []
 take_one_more [] place x is = cc
 take_one_more (y ∷ ys) zero x is = let same : y ≡ x = cc in ap (λ z. z ∷ []) same
 take_one_more (y ∷ ys) (suc place) x is = ap (λ zs. y ∷ zs) (take_one_more ys place x is)
 
--- the clauses before the next step are those before this one, and its clause
+-- the clauses before the next step are those before this step, and this step's clause
 pub clauses_before-suc : (set : Cnf) (log : List Step) (place : ℕ) (step : Step) → slice_get log place ≡ Some step → clauses_before set log (suc place) ≡ clauses_before set log place ++ step.clause ∷ []
 clauses_before-suc set log place step is =
     ap (λ steps. all_clauses set ++ clauses_of_steps steps) (take_one_more log place step is)

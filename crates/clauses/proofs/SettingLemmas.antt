@@ -9,7 +9,7 @@ use Rattle.std.proofs.lemmas.List.{same_lists, length-map, get_or-take, get_or_d
 use Rattle.std.proofs.lemmas.List.Elements.{All-append, All-head, All-tail}
 use Rattle.clauses.proofs.LogSoundness.{All-left, All-right}
 
--- an assignment meets the set where it meets its gates and its roots
+-- an assignment meets the clauses of the set exactly where it meets those of the gates and the roots
 pub Meets-gates : (set : Cnf) (v : ℕ → Bool) → Meets v (all_clauses set) → Meets v set.gates
 Meets-gates set v h = All-left (λ clause. clause_true v clause ≡ true) set.gates set.roots h
 
@@ -36,20 +36,20 @@ pub Meets-agree : (count : ℕ) (v w : ℕ → Bool) → AgreeUpTo count v w →
 Meets-agree count v w agree clauses within meets =
     λ k d inside. clause_true-agree count v w agree (get_or clauses k d) (within k d inside) ∙ meets k d inside
 
--- a model passes the test
+-- the inputs' values in a model of the set pass the test
 pub model_passes : (set : Cnf) (test : List Bool → Type 0) → StandsFor set test → (v : ℕ → Bool) → Meets v (all_clauses set) → test (input_values set v)
 model_passes set test stands v meets =
     let at = stands.each_setting v in
     let agree : AgreeUpTo set.count at.extension v = at.only v ((λ k d inside. refl), Meets-gates set v meets) in
     at.asked.0 (Meets-agree set.count v at.extension (λ n is. sym (agree n is)) set.roots set.root_variables (Meets-roots set v meets))
 
--- where the set has no model, no setting passes the test
+-- where the set has no model, no values of the inputs pass the test
 pub none_passes : (set : Cnf) (test : List Bool → Type 0) → StandsFor set test → ((v : ℕ → Bool) → ¬ (Meets v (all_clauses set))) → (setting : ℕ → Bool) → ¬ (test (input_values set setting))
 none_passes set test stands none setting passes =
     let at = stands.each_setting setting in
     none at.extension (Meets-both set at.extension at.extends.1 (at.asked.1 passes))
 
--- units, once the inputs are set, derive all the rest or a false clause
+-- unit propagation from the inputs' values derives all other variables or finds a conflict
 pub UnitsDetermine-from_StandsFor : (set : Cnf) (test : List Bool → Type 0) → StandsFor set test → UnitsDetermine set
 UnitsDetermine-from_StandsFor set test stands setting =
     let at = stands.each_setting setting in (
@@ -62,7 +62,7 @@ UnitsDetermine-from_StandsFor set test stands setting =
       ],
     )
 
--- a set stands for each test that says the same of as many values as there are inputs
+-- A set that stands for a test stands for each other test that says the same of lists with one value for each input.
 pub StandsFor-same : (set : Cnf) (p q : List Bool → Type 0) → ((values : List Bool) → length values ≡ length set.inputs → (p values ↔ q values)) → StandsFor set p → StandsFor set q
 StandsFor-same set p q same stands =
     record {
@@ -86,7 +86,7 @@ get_or-map f [] k d e within = absurd (omega arith)
 get_or-map f (x ∷ xs) zero d e within = refl
 get_or-map f (x ∷ xs) (suc k) d e within = get_or-map f xs k d e (omega arith)
 
--- the inputs' values by an assignment that is a list are its first values
+-- in the assignment that a list of values is, the inputs have the first values of the list
 pub input_values-assignment_of : (set : Cnf) (test : List Bool → Type 0) → StandsFor set test → (values : List Bool) → length set.inputs ≤ length values → input_values set (assignment_of values) ≡ take (length set.inputs) values
 input_values-assignment_of set test stands values enough =
     let lengths : length (take (length set.inputs) values) ≡ length set.inputs = omega (arith, length-take (length set.inputs) values) in

@@ -9,7 +9,7 @@ use Rattle.std.proofs.lemmas.Option.{slice_get_within, get_or_from_slice_get}
 use Rattle.clauses.proofs.Held.{HeldTrue, HeldTrue-cons, HeldTrue-negations, false_of_negation}
 use Rattle.clauses.proofs.Units.{held-from_Contains, falsified_each, unit_only}
 
--- the clause of a number is true where all are
+-- where an assignment meets all clauses, it makes the clause of each number true
 pub Meets-at : (v : ℕ → Bool) (clauses : List (List Lit)) (number : ℕ) (clause : List Lit) → Meets v clauses → slice_get clauses number ≡ Some clause → clause_true v clause ≡ true
 Meets-at v clauses number clause meets is =
     sym (ap (clause_true v) (get_or_from_slice_get clauses number clause clause is)) ∙ meets number clause (slice_get_within clauses number clause is)
@@ -20,7 +20,7 @@ true_literal v clause t =
     let (k, l, within, at, is) = Any-from_list_any (literal_true v) clause t in
     (l, held-from_Contains clause l (k, within, at), is)
 
--- a move holds what is true
+-- a unit literal of a true clause is true where all literals that are held are
 pub unit_is_true : (v : ℕ → Bool) (held clause : List Lit) (l : Lit) → HeldTrue v held → clause_true v clause ≡ true → IsUnit held clause l → literal_true v l ≡ true
 unit_is_true v held clause l h t unit =
     let (m, stands, is) = true_literal v clause t in
@@ -29,14 +29,14 @@ unit_is_true v held clause l h t unit =
       | inr kept ↦ subst (λ k. literal_true v k ≡ true) (unit_only held clause l m unit stands kept) is
     ]
 
--- a clause with all literals false isn't true
+-- a clause with all literals false is false under each assignment that makes the literals held true
 pub falsified_is_false : (v : ℕ → Bool) (held clause : List Lit) → HeldTrue v held → IsFalsified held clause → clause_true v clause ≡ false
 falsified_is_false v held clause h none =
     false_from_ne_true (clause_true v clause) (λ t.
     let (m, stands, is) = true_literal v clause t in
     true≢false (sym is ∙ false_of_negation v m (h.each (negation_of m) (falsified_each held clause m none stands))))
 
--- a derivation over true clauses holds what is true
+-- what is derived from literals that are true, by clauses that are true, is true
 pub derived_is_true : (v : ℕ → Bool) (clauses : List (List Lit)) → Meets v clauses → (held : List Lit) (numbers : List ℕ) (after : List Lit) → HeldTrue v held → Derives clauses held numbers after → HeldTrue v after
 derived_is_true v clauses meets held [] after h d = subst (HeldTrue v) d h
 derived_is_true v clauses meets held (number ∷ numbers) after h d =
@@ -45,7 +45,7 @@ derived_is_true v clauses meets held (number ∷ numbers) after h d =
     unit_is_true v held clause d.0 h (Meets-at v clauses number clause meets d.1.1) d.1.2 in
     derived_is_true v clauses meets (d.0 ∷ held) numbers after (HeldTrue-cons v d.0 held now_true h) d.2
 
--- what hints show is true where the earlier clauses are
+-- a clause that the hints show is true in each assignment that meets the earlier clauses
 pub shown_is_true : (v : ℕ → Bool) (earlier : List (List Lit)) (clause : List Lit) (hints : List ℕ) → Meets v earlier → HintsRefute earlier (negations_of clause) hints → clause_true v clause ≡ true
 shown_is_true v earlier clause hints meets (moves, last, held, is, derived, (named, at, none)) =
     elim (cases_Bool (clause_true v clause)) [

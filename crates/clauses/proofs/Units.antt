@@ -1,4 +1,4 @@
--- Clauses that are false, and literals that are unit in them, literal by literal.
+-- False clauses and unit literals, where a clause is looked through literal by literal.
 use Rattle.std.proofs.Common.{◌≡◌, ℕ, ◌+◌, ◌<◌, true, false, List, [], ◌∷◌, ◌++◌, Option, Some, None, length, take, get_or, refl, sym, ap, ◌∙◌, inl, inr, subst}
 use Rattle.std.specs.Prelude.{Contains}
 use Rattle.std.proofs.lemmas.Bool.{cases_Bool, true≢false}
@@ -21,7 +21,7 @@ held-from_Contains clause l (k, within, at) = list_any_at (is_same l) clause k l
 pub held_at_place : (clause : List Lit) (k : ℕ) (d : Lit) → k < length clause → is_held clause (get_or clause k d) ≡ true
 held_at_place clause k d within = held-from_Contains clause (get_or clause k d) (Contains-get_or clause k d within)
 
--- literals that differ
+-- literals that the test finds different are different
 pub differ : (l m : Lit) → is_same l m ≡ false → l ≡ m → ⊥
 differ l m isnt e = true≢false (sym (subst (λ k. is_same l k ≡ true) e (is_same-self l)) ∙ isnt)
 
@@ -62,7 +62,8 @@ unit_from held clause l stands kept only =
 pub unit_same : (held clause : List Lit) (l m : Lit) → IsUnit held clause l → IsUnit held clause m → l ≡ m
 unit_same held clause l m one other = unit_only held clause m l other (unit_stands held clause l one) one.not_false
 
--- States in which the same literals of a clause are false: the clause is false in both, or its literal is unit in both.
+-- A clause of which the same literals are false in two states: it is false in both, or the same literal is unit in
+-- both.
 pub IsFalsified-agree : (a b clause : List Lit) → ((m : Lit) → is_held clause m ≡ true → is_false b m ≡ is_false a m) → IsFalsified a clause → IsFalsified b clause
 IsFalsified-agree a b clause agree none = falsified_from b clause (λ m stands. agree m stands ∙ falsified_each a clause m none stands)
 
@@ -71,7 +72,7 @@ IsUnit-agree a b clause l agree unit =
     unit_from b clause l (unit_stands a clause l unit) (agree l (unit_stands a clause l unit) ∙ unit.not_false)
     (λ m stands kept. unit_only a clause l m unit stands (sym (agree m stands) ∙ kept))
 
--- a literal after or before false ones
+-- the only literal that isn't false, before or behind literals that are, is unit
 pub unit_last : (held ls : List Lit) (x : Lit) → IsFalsified held ls → is_false held x ≡ false → IsUnit held (ls ++ x ∷ []) x
 unit_last held ls x none kept =
     record {
@@ -88,7 +89,7 @@ unit_first held x ls kept none =
       others_false = All-cons (λ m. (m ≡ x → ⊥) → is_false held m ≡ true) x ls (λ other. absurd (other refl)) (λ k d within other. none k d within);
     }
 
--- Along a clause: no literal that isn't false was found so far, or one, which is unit so far.
+-- What was found among the first literals of a clause: none that isn't false, or one, which is unit in them.
 abbrev pub IsSoFar : List Lit → List Lit → Option Lit → Type 0
 IsSoFar held ls None = IsFalsified held ls
 IsSoFar held ls (Some l) = IsUnit held ls l
@@ -112,12 +113,12 @@ push_open held ls x (Some l) kept same unit =
       others_false = All-push (λ m. (m ≡ x → ⊥) → is_false held m ≡ true) ls x was.others_false (λ other. absurd (other refl));
     }
 
--- the next literal is false
+-- the search goes on past a literal that is false
 pub so_far_false : (held clause : List Lit) (k : ℕ) (d : Lit) (found : Option Lit) → k < length clause → is_false held (get_or clause k d) ≡ true → IsSoFar held (take k clause) found → IsSoFar held (take (k + 1) clause) found
 so_far_false held clause k d found within closed h =
     subst (λ ls. IsSoFar held ls found) (sym (take_more clause k d within)) (push_false held (take k clause) (get_or clause k d) found closed h)
 
--- it isn't false, and is the one that was found, if one was
+-- The search comes to a literal that isn't false, and any that was found before is the same one: it is unit so far.
 pub so_far_open : (held clause : List Lit) (k : ℕ) (d : Lit) (found : Option Lit) → k < length clause → is_false held (get_or clause k d) ≡ false → ((l : Lit) → found ≡ Some l → l ≡ get_or clause k d) → IsSoFar held (take k clause) found → IsUnit held (take (k + 1) clause) (get_or clause k d)
 so_far_open held clause k d found within kept same h =
     subst (λ ls. IsUnit held ls (get_or clause k d)) (sym (take_more clause k d within)) (push_open held (take k clause) (get_or clause k d) found kept same h)

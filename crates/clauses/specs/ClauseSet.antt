@@ -1,13 +1,14 @@
 -- Clause sets, and logs of derived clauses over them: reverse unit propagation (RUP), and clauses that unit propagation
--- alone doesn't give. Clauses are numbered from 0: the gates of the set, its roots, then the steps.
+-- alone doesn't give. Clauses are numbered from 0: first the gate clauses of the set, then its root clauses, then the
+-- clauses of the steps.
 use Rattle.std.specs.Prelude.{◌≡◌, ℕ, ◌+◌, ◌-◌, ◌^◌, ◌<◌, ◌⊎◌, ◌++◌, Bool, true, false, List, [], length, take, map, remove, Some, slice_get, IsSomeAnd, All}
 use Rattle.clauses.specs.declared.step.Step.{Step}
 use Rattle.clauses.specs.declared.cnf.Cnf.{Cnf}
 use Rattle.clauses.specs.Literal.{Lit, IsVariable, IsWithin, VariablesWithin, literal_of}
 use Rattle.clauses.specs.Propagation.{Derives, HintsRefute, SomeFalsified, is_held, negations_of}
 
--- What a set asks of its parts: each variable of a clause and each input is one of the count, and there are fewer than
--- 2 ^ 31 variables, and fewer than 2 ^ 31 clauses.
+-- What a set asks of its parts: each variable of a clause and each input is a number from 1 to the count, and there are
+-- fewer than 2 ^ 31 variables, and fewer than 2 ^ 31 clauses.
 pub record MakeSet (gates roots : List (List Lit)) (inputs : List ℕ) (count : ℕ) : Type 0 where
   pub gate_variables : VariablesWithin count gates
   pub root_variables : VariablesWithin count roots
@@ -37,8 +38,8 @@ clauses_with set steps = all_clauses set ++ clauses_of_steps steps
 abbrev pub clauses_before : Cnf → List Step → ℕ → List (List Lit)
 clauses_before set log place = clauses_with set (take place log)
 
--- The step follows from the earlier clauses: its variables are the set's, and where the negations of its clause's
--- literals are held, its hints refute.
+-- The step follows from the earlier clauses by reverse unit propagation (it is RUP): its variables are the set's, and
+-- its hints refute the state in which the negations of its clause's literals are held.
 abbrev pub StepFollows : Cnf → List (List Lit) → Step → Type 0
 StepFollows set earlier step = IsWithin set.count step.clause × HintsRefute earlier (negations_of step.clause) step.hints
 
@@ -55,9 +56,9 @@ EndsEmpty log = IsSomeAnd (slice_get log (length log - 1)) (λ step. step.clause
 abbrev pub IsRefutation : Cnf → List Step → Type 0
 IsRefutation set log = LogFollows set log × EndsEmpty log
 
--- The clause is new after the earlier ones: for the literal l at some place of it, when the negations of its literals
--- at the other places are held, no derivation from the earlier clauses comes to hold l or makes a clause false. (The
--- derivation without a move says that l isn't held at the start.)
+-- The clause is new after the earlier ones (not absorbed by them): for the literal l at some place of it, when the
+-- negations of its literals at the other places are held, no derivation from the earlier clauses comes to hold l or
+-- makes a clause false. (The derivation without a move says that l isn't held at the start.)
 abbrev pub IsNew : List (List Lit) → List Lit → Type 0
 IsNew earlier clause =
     (place : ℕ) × (l : Lit) × (slice_get clause place ≡ Some l)
@@ -69,21 +70,21 @@ abbrev pub LogIsNew : Cnf → List Step → Type 0
 LogIsNew set log =
     (place : ℕ) (step : Step) → slice_get log place ≡ Some step → IsNew (clauses_before set log place) step.clause
 
--- units alone make a clause of the list false: a derivation from nothing held does
+-- unit propagation alone refutes: some derivation from the state that holds nothing makes a clause of the list false
 abbrev pub UnitsRefute : List (List Lit) → Type 0
 UnitsRefute clauses =
     (moves : List ℕ) × (held : List Lit) × Derives clauses [] moves held × SomeFalsified clauses held
 
--- the literals that are held where the inputs have their values by the setting
+-- the literals that are held where each input has its value by the setting
 abbrev pub setting_literals : Cnf → (ℕ → Bool) → List Lit
 setting_literals set setting = map (λ n. literal_of n (setting n)) set.inputs
 
--- the state gives each variable of the set a value
+-- each variable of the set has a value in the state: one of its literals is held
 abbrev pub AllSet : Cnf → List Lit → Type 0
 AllSet set held =
     (n : ℕ) → IsVariable set.count n → (value : Bool) × (is_held held (literal_of n value) ≡ true)
 
--- units, once the inputs are set, derive all the rest or make a clause of the set false
+-- Unit propagation from any values of the inputs derives a value of each variable or makes a clause of the set false.
 abbrev pub UnitsDetermine : Cnf → Type 0
 UnitsDetermine set =
     (setting : ℕ → Bool) →

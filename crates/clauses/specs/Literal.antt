@@ -1,4 +1,4 @@
--- Literals and clauses, and where an assignment makes them true (propositional logic). A literal is kept as a code.
+-- Literals and clauses, and where an assignment makes them true (propositional logic). A literal has a code, a number.
 -- An assignment is a function from variables to truth values; the variables are numbered from 1.
 use Rattle.std.specs.Prelude.{◌≡◌, ℕ, ◌+◌, ◌-◌, ◌*◌, ◌/◌, ◌%◌, ◌≤◌, Bool, true, false, not, ◌&&◌, ◌==◌, if◌then◌else◌, List, slice_index_or, All}
 use Rattle.std.specs.List.{list_any}
@@ -10,11 +10,11 @@ pub record Lit : Type 0 where
   pub variable : ℕ
   pub negated : Bool
 
--- twice the number of the variable, and one more where the literal is negated
+-- the code of a literal: twice the number of the variable, and one more where the literal is negated
 abbrev pub code_of : Lit → ℕ
 code_of l = 2 * l.variable + (if l.negated then 1 else 0)
 
--- the literal of a code
+-- the literal that has this code
 abbrev pub literal_at : ℕ → Lit
 literal_at code = record { variable = code / 2; negated = code % 2 == 1 }
 
@@ -41,7 +41,7 @@ literal_true v l = if l.negated then not (v l.variable) else v l.variable
 abbrev pub clause_true : (ℕ → Bool) → List Lit → Bool
 clause_true v clause = list_any (literal_true v) clause
 
--- it makes each of the clauses true
+-- the assignment meets the clauses: it makes each of them true
 abbrev pub Meets : (ℕ → Bool) → List (List Lit) → Type 0
 Meets v clauses = All (λ clause. clause_true v clause ≡ true) clauses
 
@@ -49,11 +49,11 @@ Meets v clauses = All (λ clause. clause_true v clause ≡ true) clauses
 abbrev pub assignment_of : List Bool → ℕ → Bool
 assignment_of values n = slice_index_or values (n - 1) false
 
--- the variables are the numbers from 1 to count
+-- the variables of so many: the numbers from 1 to count
 abbrev pub IsVariable : ℕ → ℕ → Type 0
 IsVariable count n = (1 ≤ n) × (n ≤ count)
 
--- each variable of the clause, and of the clauses, is one of them
+-- each variable of the clause is one of so many variables
 abbrev pub IsWithin : ℕ → List Lit → Type 0
 IsWithin count clause = All (λ l. IsVariable count l.variable) clause
 

@@ -1,6 +1,6 @@
--- Unit propagation over numbered clauses. The state is the list of the literals that are held; a literal is false
--- where its negation is held. A literal that stands in a clause twice is one literal of it. (Unit propagation of DPLL
--- and of reverse unit propagation.)
+-- Unit propagation over numbered clauses (that of DPLL and of reverse unit propagation). The state is the list of the
+-- literals that are held, that is, assigned true; a literal is false where its negation is held. A literal that stands
+-- in a clause twice is one literal of it.
 use Rattle.std.specs.Prelude.{◌≡◌, ◌≢◌, ℕ, Bool, true, false, List, [], ◌∷◌, ◌++◌, Some, slice_get, map, All, Any, Contains}
 use Rattle.std.specs.List.{list_any}
 use Rattle.clauses.specs.Literal.{Lit, negation_of, is_same}
@@ -31,15 +31,15 @@ NamesFalse clauses held number = (clause : List Lit) × (slice_get clauses numbe
 abbrev pub NamesUnit : List (List Lit) → List Lit → ℕ → Lit → Type 0
 NamesUnit clauses held number l = (clause : List Lit) × (slice_get clauses number ≡ Some clause) × IsUnit held clause l
 
--- The derivation by these numbers leads from the one state to the other: each number names a clause in which a literal
--- is unit, and that literal is then held.
+-- The derivation by these numbers, its moves, leads from the one state to the other: each number names a clause in
+-- which a literal is unit, and that literal is then held.
 abbrev pub Derives : List (List Lit) → List Lit → List ℕ → List Lit → Type 0
 Derives clauses held [] after = held ≡ after
 Derives clauses held (number ∷ numbers) after =
     (l : Lit) × NamesUnit clauses held number l × Derives clauses (l ∷ held) numbers after
 
--- The hints refute the state: all but the last are a derivation, and the last names a clause that then has all
--- literals false.
+-- The hints refute the state: all but the last are a derivation, and the last names a clause that then has all literals
+-- false, a conflict.
 abbrev pub HintsRefute : List (List Lit) → List Lit → List ℕ → Type 0
 HintsRefute clauses held hints =
     (moves : List ℕ) × (last : ℕ) × (after : List Lit)

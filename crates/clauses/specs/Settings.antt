@@ -1,4 +1,5 @@
--- What it is for a clause set to stand for a test of its inputs' values (Tseitin's encoding, with every gate in use).
+-- What it is for a clause set to stand for a test of its inputs' values (Tseitin's encoding of a circuit without unused
+-- gates). A setting gives the inputs their values.
 use Rattle.std.specs.Prelude.{◌≡◌, ℕ, ◌+◌, ◌<◌, ◌≤◌, ◌⊎◌, ◌↔◌, Bool, true, List, map, length, slice_index, EachIndex, All, Any}
 use Rattle.clauses.specs.declared.cnf.Cnf.{Cnf}
 use Rattle.clauses.specs.Literal.{Lit, Meets, IsVariable, literal_of, clause_true}
@@ -20,18 +21,18 @@ AgreeUpTo count v w = (n : ℕ) → IsVariable count n → w n ≡ v n
 abbrev pub IsExtension : Cnf → (ℕ → Bool) → (ℕ → Bool) → Type 0
 IsExtension set setting v = AgreeOn set.inputs setting v × Meets v set.gates
 
--- the state holds each variable of the set at its value
+-- each variable of the set is held at the value that the assignment gives it
 abbrev pub HoldsAll : Cnf → List Lit → (ℕ → Bool) → Type 0
 HoldsAll set held v = (n : ℕ) → IsVariable set.count n → is_held held (literal_of n (v n)) ≡ true
 
--- units, from the inputs' values, derive this assignment or make a clause of the set false
+-- unit propagation from the inputs' values derives this assignment or makes a clause of the set false
 abbrev pub UnitsDerive : Cnf → (ℕ → Bool) → (ℕ → Bool) → Type 0
 UnitsDerive set setting v =
     (moves : List ℕ) × (held : List Lit) × Derives (all_clauses set) (setting_literals set setting) moves held
     × (HoldsAll set held v ⊎ SomeFalsified (all_clauses set) held)
 
--- What holds under one setting: it has exactly one extension that meets the gate clauses; units derive that extension
--- or make a clause false; and it meets the root clauses exactly where the test is true.
+-- What is true of one setting: it has exactly one extension that meets the gate clauses; unit propagation derives that
+-- extension or makes a clause false; and the extension meets the root clauses exactly where the test is true.
 pub record StandsAt (set : Cnf) (test : Type 0) (setting : ℕ → Bool) : Type 0 where
   pub extension : ℕ → Bool
   pub extends : IsExtension set setting extension
@@ -55,14 +56,15 @@ IsGreatest n clause = StandsIn n clause × All (λ l. l.variable ≤ n) clause
 abbrev pub MeetsDefinition : ℕ → (ℕ → Bool) → List (List Lit) → Type 0
 MeetsDefinition n v clauses = All (λ clause. IsGreatest n clause → clause_true v clause ≡ true) clauses
 
--- Whatever the smaller variables hold, exactly one value of this one meets the gate clauses in which it is the
+-- Whatever values the smaller variables have, exactly one value of this one meets the gate clauses in which it is the
 -- greatest.
 abbrev pub IsDefined : Cnf → ℕ → Type 0
 IsDefined set n =
     (v : ℕ → Bool) → (value : Bool) ×
     ((w : ℕ → Bool) → ((m : ℕ) → m < n → w m ≡ v m) → (MeetsDefinition n w set.gates ↔ (w n ≡ value)))
 
--- The variable stands in a root clause, or in a gate clause with a greater variable; so each leads to a root clause.
+-- The variable stands in a root clause, or in a gate clause with a greater variable; so each leads by gates to a root
+-- clause.
 abbrev pub IsUsed : Cnf → ℕ → Type 0
 IsUsed set n = Any (StandsIn n) set.roots ⊎ Any (λ clause. StandsIn n clause × Any (λ l. n < l.variable) clause) set.gates
 

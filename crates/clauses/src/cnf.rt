@@ -10,11 +10,11 @@ use lists::List;
 /// A set of clauses in conjunctive normal form. Its variables are the numbers from 1 to `count`.
 #[derive(Debug, Drop)]
 pub struct Cnf {
-    /// The clauses of gates, which fix the variables that aren't inputs (Tseitin's encoding).
+    /// The clauses that define each gate's variable by its operands (Tseitin's encoding).
     pub gates: List<Clause>,
-    /// The clauses that state what is asked.
+    /// The clauses that assert what is asked, beside the definitions of the gates.
     pub roots: List<Clause>,
-    /// The input variables, in order.
+    /// The variables of the circuit's inputs, in order.
     pub inputs: List<u32>,
     /// How many variables there are.
     pub count: u32,

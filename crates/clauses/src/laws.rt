@@ -5,8 +5,8 @@ ghost use Rattle.clauses.specs.ClauseSet.{all_clauses, clauses_of_steps, LogFoll
 
 use crate::{Cnf, Log};
 
-/// Reverse unit propagation is sound: each clause of a log that follows is true in every model of
-/// the set.
+/// Reverse unit propagation is sound: a model of the set makes each clause of a log that follows
+/// true.
 pub fn model_meets_log(set: &Cnf, log: &Log)
     ensures { LogFollows set.now log.now → (v : ℕ → Bool) → Meets v (all_clauses set.now) → Meets v (clauses_of_steps log.now) }
 {}

@@ -1,6 +1,6 @@
-//! Clause sets and logs of derived clauses as plain values, and what the definitions of reverse
-//! unit propagation and of an encoding say about them. A checker, a search and an encoder cite
-//! the definitions in `specs/`; the laws about them that these need stand in `laws`.
+//! Clause sets and logs of derived clauses as plain values, the definitions of reverse unit
+//! propagation (RUP) and of an encoding in `specs/`, which the checker, the searches and the
+//! encoder cite, and laws about these definitions in `laws`.
 #![tactic(auto)]
 
 mod cnf;

@@ -1,4 +1,4 @@
-//! Derived clauses, and the numbers by which steps name clauses.
+//! Derived clauses, and the numbers by which hints name clauses.
 
 ghost use Rattle.std.specs.Prelude.{◌≡◌, slice_get};
 ghost use Rattle.std.specs.Option.{option_copied};
@@ -13,15 +13,16 @@ use lists::List;
 pub struct Step {
     /// The clause that is derived.
     pub clause: Clause,
-    /// The numbers of the earlier clauses that show it, in the order of use.
+    /// The numbers of the earlier clauses by which unit propagation shows the clause, in the order
+    /// of use; the last one is false then.
     pub hints: List<u32>,
 }
 
-/// Derived clauses in order, each shown by clauses before it.
+/// Derived clauses in order, each by unit propagation over the set and the clauses before it.
 pub type Log = List<Step>;
 
-/// The clause of a number, of the set and the steps after it; `None` where they have no such
-/// number.
+/// The clause with this number, of the set or of the steps behind it; `None` where no clause has
+/// the number.
 pub fn clause_in<'a>(set: &'a Cnf, steps: &'a [Step], number: u32) -> Option<&'a Clause>
     ensures { option_copied result ≡ slice_get (clauses_with set.now steps.now) number }
 {

@@ -1,5 +1,5 @@
--- Definitions in order: one extension of the smaller variables meets their clauses, units derive it, and each clause
--- belongs to the definition of its greatest variable.
+-- Definitions in order: each assignment to the smaller variables has exactly one extension that meets their clauses,
+-- unit propagation derives it, and each clause is one of the definition of its greatest variable.
 use Rattle.std.proofs.Common.{◌≡◌, ℕ, zero, suc, ◌+◌, ◌-◌, ◌<◌, ◌≤◌, Bool, true, false, not, ◌&&◌, cond, eqb, List, [], ◌∷◌, ◌++◌, length, map, get_or, All, Any, EachIndex, slice_index, Some, refl, sym, ap, ap₂, ◌∙◌, subst, inl, inr, arith}
 use Rattle.std.specs.Bool.{xor}
 use Rattle.std.specs.Prelude.{slice_get}
@@ -49,7 +49,7 @@ over-tail n d ds over =
 
 -- solutions
 
--- the assignment gives each defined variable its value
+-- each defined variable has the value of its definition under the assignment
 abbrev pub Solves : (ℕ → Bool) → ℕ → List Definition → Type 0
 Solves u n [] = Unit {0}
 Solves u n (d ∷ ds) = (u n ≡ definition_value u d) × Solves u (n + 1) ds
@@ -77,11 +77,11 @@ Solves-from_Meets u n (d ∷ ds) m =
       Solves-from_Meets u (n + 1) ds (All-right P (clauses_of_definition n d) (clauses_from (n + 1) ds) m),
     )
 
--- the assignment with this value of one variable
+-- the assignment in which one variable has this value
 abbrev assign : ℕ → Bool → (ℕ → Bool) → ℕ → Bool
 assign n b v m = cond (eqb m n) b (v m)
 
--- the assignment with each defined variable at its value
+-- the assignment in which each defined variable has the value of its definition
 abbrev pub extend : ℕ → List Definition → (ℕ → Bool) → ℕ → Bool
 extend n [] v = v
 extend n (d ∷ ds) v = extend (n + 1) ds (assign n (definition_value v d) v)
@@ -155,7 +155,7 @@ Any-from_Has P clauses c h p =
 pub Has-from_place : (clauses : List (List Lit)) (k : ℕ) (d : List Lit) → k < length clauses → Has clauses (get_or clauses k d)
 Has-from_place clauses k d within = (k, slice_get-get_or clauses k d within)
 
--- what holds of each definition's clauses holds of all
+-- what is true of the clauses of each definition is true of all clauses
 pub All-clauses_from : (P : List Lit → Type 0) (n : ℕ) (ds : List Definition) → ((j : ℕ) (d : Definition) → slice_get ds j ≡ Some d → All P (clauses_of_definition (n + j) d)) → All P (clauses_from n ds)
 All-clauses_from P n [] each = All-nil P
 All-clauses_from P n (d ∷ ds) each =
@@ -166,7 +166,7 @@ All-clauses_from P n (d ∷ ds) each =
     let place' : n + suc j ≡ n + 1 + j = omega arith in
     subst (λ k. All P (clauses_of_definition k e)) place' (each (suc j) e at)))
 
--- a clause has one greatest variable
+-- a variable of a clause is at most its greatest
 
 stands_le : (p q : ℕ) (clause : List Lit) → StandsIn p clause → All (λ l. l.variable ≤ q) clause → p ≤ q
 stands_le p q clause (k, l, within, at, e) all =
@@ -180,7 +180,7 @@ greatest_same p q clause g h =
     let b : q ≤ p = stands_le q p clause h.0 g.1 in
     omega arith
 
--- The clauses in which a defined variable is the greatest fix it to the value over the smaller ones.
+-- The clauses in which a defined variable is the greatest give it the value of its definition.
 pub value_from_MeetsDefinition : (n : ℕ) (ds : List Definition) → AreOverSmaller n ds → (j : ℕ) (d : Definition) → slice_get ds j ≡ Some d → (w : ℕ → Bool) → MeetsDefinition (n + j) w (clauses_from n ds) → w (n + j) ≡ definition_value w d
 value_from_MeetsDefinition n ds over j d at w meets =
     value_from_Meets w (n + j) d (λ k c within.
@@ -205,9 +205,9 @@ MeetsDefinition-from_value n ds over j d at w value =
     let value' : w (n + i) ≡ definition_value w e = ap w number ∙ value ∙ ap (definition_value w) (sym same) in
     Meets-from_value w (n + i) e value' k c within)
 
--- units
+-- unit propagation
 
--- the state holds the true literals of the variables below n, and no others
+-- the state holds exactly the literals of the variables below n that the assignment makes true
 pub record HoldsBelow (u : ℕ → Bool) (n : ℕ) (held : List Lit) : Type 0 where
   pub holds : (l : Lit) → IsSmaller n l → literal_true u l ≡ true → is_held held l ≡ true
   pub held_only : (l : Lit) → is_held held l ≡ true → (literal_true u l ≡ true) × (l.variable < n)
@@ -225,7 +225,7 @@ sign_of_true true false h = refl
 sign_of_true false true h = refl
 sign_of_true false false h = h
 
--- the literal of a variable that is true
+-- a literal that is true is that of its variable's value
 pub true_literal : (u : ℕ → Bool) (l : Lit) → literal_true u l ≡ true → l ≡ literal_of l.variable (u l.variable)
 true_literal u l p =
     let same : Bool → Lit = λ b. record { variable = l.variable; negated = b } in
@@ -276,7 +276,7 @@ derive_all all u n (d ∷ ds) held has over s h =
     let place : n + 1 + length ds ≡ n + suc (length ds) = omega arith in
     (number.0 ∷ rest.0, rest.1, (l, unit, rest.2), subst (λ k. HoldsBelow u k rest.1) place rest.3)
 
--- the inputs' literals, where the inputs are the first variables
+-- the literals of the inputs' values, where the inputs are the first variables
 pub HoldsBelow-inputs : (setting u : ℕ → Bool) (inputs : List ℕ) → EachIndex inputs (λ k. slice_index inputs k ≡ k + 1) → AgreeBelow (length inputs + 1) setting u → HoldsBelow u (length inputs + 1) (map (λ n. literal_of n (setting n)) inputs)
 HoldsBelow-inputs setting u inputs first agree =
     let f : ℕ → Lit = λ n. literal_of n (setting n) in

@@ -1,4 +1,4 @@
--- What the parts of the encoding give together.
+-- The parts of the encoding together: names, definitions and clauses.
 use Rattle.std.proofs.Common.{◌≡◌, ℕ, ◌+◌, true, List, [], ◌∷◌, length, All, Result, Ok, Err, IfOk, EachIndex, slice_index, sym, subst, ap, ◌∙◌}
 use Rattle.clauses.specs.declared.cnf.Cnf.{Cnf}
 use Rattle.clauses.specs.Literal.{Lit, IsVariable}
@@ -25,7 +25,7 @@ module _ (graph : Graph) (root : Literal) (marks : NeededMarks) (names : Names) 
     inputs_same : names.inputs ≡ inputs
     inputs_same = same_inputs ∙ sym inputs_are
 
-    -- the root's variable is one of the set
+    -- the variable of the root's literal is one of the set's
     pub variable_within : IsVariable (inputs + length ds) l.variable
     variable_within =
         let within = root_within graph root marks names order own needed' same_inputs named' in
@@ -43,7 +43,7 @@ module _ (graph : Graph) (root : Literal) (marks : NeededMarks) (names : Names) 
         (once_from (names.inputs + 1) names.definitions named'.over_smaller
         (definitions_differ graph.gates marks names order' proper needed'.closed named')))
 
-    -- the set stands for the root
+    -- the set stands for the test that the root is true
     pub stands_for_root : {E : Type 0} (r : Result Cnf E) → IfOk r (λ set. set.gates ≡ clauses_from (inputs + 1) ds) → IfOk r (λ set. set.roots ≡ (l ∷ []) ∷ []) → IfOk r (λ set. length set.inputs ≡ inputs) → IfOk r (λ set. EachIndex set.inputs (λ k. slice_index set.inputs k ≡ k + 1)) → IfOk r (λ set. set.count ≡ inputs + length ds) → IfOk r (λ set. StandsFor set (λ values. value_of graph values root ≡ true))
     stands_for_root (Err e) g t n f k = tt
     stands_for_root (Ok set) g t n f k =

@@ -1,4 +1,4 @@
--- What a pass over the gates, from the last to the first, marks.
+-- Which nodes a pass over the gates, from the last to the first, marks.
 use Rattle.std.proofs.Common.{◌≡◌, ℕ, ◌+◌, ◌<◌, ◌≤◌, ◌⊎◌, true, false, List, length, get_or, set, Some, refl, sym, ap, ◌∙◌, subst, inl, inr, arith, length-set, get_or-set_same, get_or-set_other}
 use Rattle.std.specs.Prelude.{slice_get}
 use Rattle.std.proofs.lemmas.Bool.{cases_eq, true≢false}
@@ -11,7 +11,7 @@ use Rattle.aig.specs.declared.gate.Gate.TheVariants.{And, Xor, Mux}
 use Rattle.aig.specs.Graph.{IsAmong, OperandsAmong}
 use Rattle.cnf_build.specs.NeededGates.{NeededMarks, OutputBelow, OperandsBelow, IsMarked, IsCovered, with_node, with_operands, IsOperand, IsAskedFor, AreNeeded}
 
--- an own node of a graph is, if it is a gate, one of the graph's
+-- a node of a graph is no gate, or one of the graph's
 pub OutputBelow-from_IsAmong : (inputs count : ℕ) (node : Node) → IsAmong inputs count node → OutputBelow count node
 OutputBelow-from_IsAmong inputs count One own = tt
 OutputBelow-from_IsAmong inputs count (Input k) own = tt
@@ -142,9 +142,9 @@ Adds-operands marks (Mux c a b) own =
     (with_node (with_node first a.node) b.node) (Adds-node marks c.node own.0)
     (two_nodes first a.node b.node (below_with marks c.node a.node own.1) (below_with marks c.node b.node own.2))
 
--- the pass
+-- the pass over the gates
 
--- what holds where the gates from this place on are done
+-- the gates from this place on are done: the operands of each marked one of them are covered
 pub record MarkedFrom (gates : List Gate) (root : Literal) (from : ℕ) (marks : NeededMarks) : Type 0 where
   pub count : length marks.gates ≡ length gates
   pub root_covered : IsCovered marks root.node

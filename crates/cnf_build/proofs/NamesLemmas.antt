@@ -1,5 +1,5 @@
--- The constant and the marked gates get their variables one by one, and a solution of the definitions has the graph's
--- values.
+-- The constant and the marked gates get their variables one by one, and an assignment in which each definition holds
+-- gives the nodes their values in the graph.
 use Rattle.std.proofs.Common.{◌≡◌, ℕ, zero, suc, ◌+◌, ◌<◌, ◌≤◌, ◌⊎◌, Bool, true, false, not, ◌&&◌, cond, List, [], ◌∷◌, ◌++◌, length, map, get_or, EachIndex, slice_index, Some, refl, sym, ap, ap₂, ◌∙◌, subst, inl, inr, arith}
 use Rattle.std.specs.Bool.{xor}
 use Rattle.std.specs.Prelude.{slice_get}
@@ -33,7 +33,7 @@ slice_get-push_new : {A : Type 0} (xs : List A) (y : A) → slice_get (xs ++ y �
 slice_get-push_new [] y = refl
 slice_get-push_new (z ∷ xs) y = slice_get-push_new xs y
 
--- what is at a place after a push
+-- an element of a list to which one was added is one of the list or the added one
 slice_get-push_cases : {A : Type 0} (xs : List A) (y x : A) (k : ℕ) → slice_get (xs ++ y ∷ []) k ≡ Some x → (slice_get xs k ≡ Some x) ⊎ ((k ≡ length xs) × (y ≡ x))
 slice_get-push_cases [] y x zero at = inr (refl, same_Some y x at)
 slice_get-push_cases [] y x (suc k) at = absurd (cc)
@@ -41,14 +41,14 @@ slice_get-push_cases (z ∷ xs) y x zero at = inl at
 slice_get-push_cases (z ∷ xs) y x (suc k) at =
     elim (slice_get-push_cases xs y x k at) [ inl before ↦ inl before | inr new ↦ inr (ap suc new.0, new.1) ]
 
--- older nodes and gates keep their numbers
+-- a node that is among the first gates is among more
 
 IsAmong-later : (inputs k n : ℕ) → k ≤ n → (node : Node) → IsAmong inputs k node → IsAmong inputs n node
 IsAmong-later inputs k n le One own = tt
 IsAmong-later inputs k n le (Input i) own = own
 IsAmong-later inputs k n le (Output i) own = omega arith
 
--- the names with more numbers
+-- the names with more variables
 abbrev grown : Names → List ℕ → List Definition → Names
 grown names more ds = record { inputs = names.inputs; numbers = names.numbers ++ more; definitions = ds }
 
@@ -74,7 +74,7 @@ definition_of-grown names more ds inputs k le (Mux c a b) own =
 
 -- the start
 
--- a covered node's variable is smaller than the next
+-- the variable of a covered node is smaller than the next variable
 pub IsSmaller-next : (all : List Gate) (marks : NeededMarks) (count : ℕ) (names : Names) → count ≤ length all → NamesFirst all marks count names → (node : Node) (negated : Bool) → IsAmong names.inputs count node → IsCovered marks node → IsSmaller (names.inputs + 1 + length names.definitions) (record { variable = variable_of names node; negated = negated })
 IsSmaller-next all marks count names le f One negated own is =
     let at = f.one_defined is in
@@ -105,10 +105,10 @@ IsOverSmaller-next all marks count names le f (Mux c a b) own is = (
   IsSmaller-next all marks count names le f b.node b.negated own.2 (is b.node (inr (inr refl))),
 )
 
--- one gate more
+-- one more gate
 
 module _ (all : List Gate) (marks : NeededMarks) (k : ℕ) (names : Names) (gate : Gate) (order : IsInOrder names.inputs all) (closed : IsClosed all marks) (at : slice_get all k ≡ Some gate) (f : NamesFirst all marks k names) where
-  -- what is defined stays so
+  -- the definition of a node stays the same
   older_defined : (more : List ℕ) (ds : List Definition) → ((j : ℕ) (d : Definition) → slice_get names.definitions j ≡ Some d → slice_get ds j ≡ Some d) → (node : Node) (d : Definition) → IsAmong names.inputs k node → HasDefinition names node d → HasDefinition (grown names more ds) node d
   older_defined more ds kept node d own has =
       let enough : k ≤ length names.numbers = let n = f.length_numbers in omega arith in
@@ -127,7 +127,7 @@ module _ (all : List Gate) (marks : NeededMarks) (k : ℕ) (names : Names) (gate
   next_number : ℕ
   next_number = names.inputs + 1 + length names.definitions
 
-  -- the next number is greater than those of the marked gates
+  -- the variable of the next gate is greater than those of the marked gates before it
   rising_next : (i m : ℕ) → i < m → m < k + 1 → IsMarked marks (Output i) → slice_index (names.numbers ++ next_number ∷ []) i < slice_index (names.numbers ++ next_number ∷ []) m
   unfolding next_number
   rising_next i m less below is =
@@ -257,7 +257,7 @@ module _ (graph : Graph) (root : Literal) (marks : NeededMarks) (names : Names) 
     outputs : List Bool
     outputs = gate_values (map u variables) graph.gates
 
-    -- the marked gates before this place have their values
+    -- the variables of the marked gates before this place have the gates' values
     abbrev HasValues : ℕ → Type 0
     HasValues n = (k : ℕ) → k < n → k < length graph.gates → IsMarked marks (Output k) → u (variable_of names (Output k)) ≡ get_or outputs k false
 
@@ -332,7 +332,7 @@ module _ (graph : Graph) (root : Literal) (marks : NeededMarks) (names : Names) 
             inr (here.0, definition_of names gate, here.2, subst (λ n. IsOperandOf n (definition_of names gate)) w.2 (operand_number w.0 gate operand))
       ]
 
-  -- the definitions and the root's literal are what a set needs to stand for the root
+  -- the definitions and the root's literal are sound: a set with their clauses stands for the root
   pub IsSound-named : IsSound names.inputs names.definitions (lit_of names root) (λ values. value_of graph values root ≡ true)
   IsSound-named =
       record {

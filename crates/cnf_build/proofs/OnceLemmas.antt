@@ -1,4 +1,5 @@
--- Each clause of a gate names its variables once: the operands of a gate are over nodes apart, whose variables differ.
+-- Each clause of a gate names a variable once: the operands of a gate have different nodes, and these different
+-- variables.
 use Rattle.std.proofs.Common.{◌≡◌, ◌≢◌, ℕ, zero, suc, ◌+◌, ◌<◌, true, false, List, [], ◌∷◌, length, All, get_or, slice_get, Some, refl, sym, ap, ◌∙◌, subst, inl, inr, arith}
 use Rattle.std.proofs.lemmas.Bool.{cases_lt}
 use Rattle.std.proofs.lemmas.Option.{slice_get_within, slice_get-get_or, same_Some}
@@ -40,7 +41,7 @@ once_of_three x y z p q r (suc zero) (suc (suc zero)) d less within = r
 once_of_three x y z p q r (suc zero) (suc (suc (suc j))) d less within = absurd (omega arith)
 once_of_three x y z p q r (suc (suc i)) j d less within = absurd (omega arith)
 
--- no two operands are over one variable
+-- the operands have different variables
 abbrev pub OperandsDiffer : Definition → Type 0
 OperandsDiffer definitions.One = Unit {0}
 OperandsDiffer (definitions.And a b) = a.variable ≢ b.variable
@@ -99,7 +100,7 @@ module _ (all : List Gate) (marks : NeededMarks) (names : Names) (order : IsInOr
       let any : Gate = And (record { node = One; negated = false }) (record { node = One; negated = false }) in
       (get_or all k any, slice_get-get_or all k any within)
 
-  -- nodes apart have variables that differ
+  -- nodes that are apart have different variables
   variables_differ : (m n : Node) → AreApart m n → IsAmong names.inputs (length all) m → IsAmong names.inputs (length all) n → IsCovered marks m → IsCovered marks n → variable_of names m ≢ variable_of names n
   variables_differ One n apart own_m own_n is_m is_n = absurd (apart.first refl)
   variables_differ (Input i) One apart own_m own_n is_m is_n = absurd (apart.second refl)

@@ -1,5 +1,5 @@
--- The clauses of one definition: they are all true exactly where the variable has the value, units derive it from the
--- operands' values, and each of them has the variable as its greatest.
+-- The clauses of one definition: an assignment meets them exactly where the variable has the definition's value, unit
+-- propagation derives that value from those of the operands, and the variable is the greatest of each clause.
 use Rattle.std.proofs.Common.{◌≡◌, ℕ, ◌<◌, ◌≤◌, ◌⊎◌, Bool, true, false, not, ◌&&◌, ◌||◌, cond, List, [], ◌∷◌, length, get_or, All, Any, refl, sym, ap, ap₂, ◌∙◌, subst, inl, inr, arith}
 use Rattle.std.specs.Bool.{xor, beq}
 use Rattle.std.specs.List.{list_all}
@@ -16,7 +16,7 @@ use Rattle.cnf_build.specs.Definitions.{definition_value, clauses_of_definition,
 
 -- truth
 
--- the truth of a list of clauses as one test
+-- the test that all clauses of a list are true
 pub Meets-test : (w : ℕ → Bool) (clauses : List (List Lit)) → list_all (clause_true w) clauses ≡ true → Meets w clauses
 Meets-test w [] h = All-nil (λ c. clause_true w c ≡ true)
 Meets-test w (c ∷ cs) h =
@@ -111,7 +111,7 @@ beq-same true false h = sym h
 beq-same false true h = h
 beq-same false false h = refl
 
--- the clauses are all true exactly where the variable has the definition's value
+-- where all clauses are true, the variable has the definition's value
 pub value_from_Meets : (w : ℕ → Bool) (n : ℕ) (d : Definition) → Meets w (clauses_of_definition n d) → w n ≡ definition_value w d
 value_from_Meets w n d h =
     beq-true (w n) (definition_value w d) (sym (clauses_table w n d) ∙ test-Meets w (clauses_of_definition n d) h)
@@ -120,14 +120,15 @@ pub Meets-from_value : (w : ℕ → Bool) (n : ℕ) (d : Definition) → w n ≡
 Meets-from_value w n d h =
     Meets-test w (clauses_of_definition n d) (clauses_table w n d ∙ beq-same (w n) (definition_value w d) h)
 
--- units
+-- unit propagation
 
--- In this state the false literals of the variables below n are false, and n has no value.
+-- The state is decided below n: each literal of a smaller variable that the assignment makes false is false, and n has
+-- no value.
 pub record IsDecided (u : ℕ → Bool) (n : ℕ) (held : List Lit) : Type 0 where
   pub closed : (l : Lit) → IsSmaller n l → literal_true u l ≡ false → is_false held l ≡ true
   pub open_at : (b : Bool) → is_false held (literal_of n b) ≡ false
 
--- some clause of the definition makes the variable have its value
+-- some clause of the definition is unit, with the literal that gives the variable its value
 abbrev pub SomeUnit : (ℕ → Bool) → List Lit → ℕ → Definition → Type 0
 SomeUnit u held n d =
     (i : ℕ) × (i < length (clauses_of_definition n d)) × IsUnit held (get_or (clauses_of_definition n d) i []) (literal_of n (definition_value u d))
@@ -225,7 +226,7 @@ module _ (u : ℕ → Bool) (n : ℕ) (held : List Lit) (decided : IsDecided u n
 stands_first : (l : Lit) (ls : List Lit) → StandsIn l.variable (l ∷ ls)
 stands_first l ls = (0, l, omega arith, refl, refl)
 
--- a clause that begins with a literal of n and goes on with smaller ones
+-- the clause begins with a literal of n, and its other literals have smaller variables
 abbrev pub HasHead : ℕ → List Lit → Type 0
 HasHead n clause = (b : Bool) × (ls : List Lit) × (clause ≡ literal_of n b ∷ ls) × All (IsSmaller n) ls
 
@@ -272,7 +273,7 @@ module _ (n : ℕ) where
       ((literal_of n true ∷ negation_of c ∷ negation_of a ∷ []) ∷ (literal_of n false ∷ c ∷ b ∷ []) ∷ (literal_of n true ∷ c ∷ negation_of b ∷ []) ∷ [])
       (false, negation_of c ∷ a ∷ [], refl, two_small (negation_of c) a over.0 over.1) more
 
--- the variable is the greatest of a clause of its own
+-- n is the greatest variable of such a clause
 pub greatest_from_head : (n : ℕ) (clause : List Lit) → HasHead n clause → IsGreatest n clause
 greatest_from_head n clause (b, ls, is, small) =
     subst (IsGreatest n) (sym is) (
@@ -281,21 +282,21 @@ greatest_from_head n clause (b, ls, is, small) =
           (All-weaker (IsSmaller n) (λ l. l.variable ≤ n) (λ l small. omega arith) ls small),
     )
 
--- its variables are those up to n
+-- the variables of such a clause are from 1 to n
 pub within_from_head : (n count : ℕ) (clause : List Lit) → 1 ≤ n → n ≤ count → HasHead n clause → IsWithin count clause
 within_from_head n count clause from to (b, ls, is, small) =
     subst (IsWithin count) (sym is)
     (All-cons (λ l. IsVariable count l.variable) (literal_of n b) ls (from, to)
     (All-weaker (IsSmaller n) (λ l. IsVariable count l.variable) (λ l small. (small.0, omega arith)) ls small))
 
--- the variable stands in the definition
+-- the variable is one of an operand of the definition
 abbrev pub IsOperandOf : ℕ → Definition → Type 0
 IsOperandOf m One = ⊥
 IsOperandOf m (And a b) = (a.variable ≡ m) ⊎ (b.variable ≡ m)
 IsOperandOf m (Xor a b) = (a.variable ≡ m) ⊎ (b.variable ≡ m)
 IsOperandOf m (Mux c a b) = (c.variable ≡ m) ⊎ ((a.variable ≡ m) ⊎ (b.variable ≡ m))
 
--- a clause of the definition has an operand's variable, and a greater one
+-- the clause has this variable, and a greater one
 abbrev pub UsesBelow : ℕ → List Lit → Type 0
 UsesBelow m clause = StandsIn m clause × Any (λ l. m < l.variable) clause
 

@@ -1,4 +1,4 @@
--- The variables and the number of the clauses of definitions.
+-- The variables of the clauses of definitions, and how many clauses these are.
 use Rattle.std.proofs.Common.{◌≡◌, ℕ, ◌+◌, ◌*◌, ◌≤◌, List, [], ◌∷◌, ◌++◌, length, get_or, All, EachIndex, slice_index, ◌∙◌, arith, length-append}
 use Rattle.std.proofs.lemmas.Option.{slice_get_within}
 use Rattle.std.proofs.lemmas.List.{get_or_default}

@@ -1,4 +1,4 @@
--- The set of definitions' clauses and a root clause stands for each test that says the same as the root's literal.
+-- A set of definitions' clauses and a root clause stands for the test that the root's literal is true.
 use Rattle.std.proofs.Common.{◌≡◌, ℕ, ◌+◌, ◌-◌, ◌<◌, ◌≤◌, ◌⊎◌, ◌↔◌, Bool, true, false, List, [], ◌∷◌, length, map, get_or, All, Any, EachIndex, slice_index, Some, refl, sym, ap₂, ◌∙◌, subst, inl, inr, arith}
 use Rattle.std.specs.Prelude.{slice_get}
 use Rattle.std.proofs.lemmas.Bool.{or_cases, or_left, true≢false}
@@ -15,13 +15,13 @@ use Rattle.cnf_build.specs.Definitions.{definition_value, clauses_of_definition,
 use Rattle.cnf_build.proofs.OneDefinition.{IsOperandOf, UsesBelow, operand_used}
 use Rattle.cnf_build.proofs.DefinitionLists.{AgreeBelow, Solves, Meets-from_Solves, Solves-from_Meets, extend, extend-below, extend-solves, solutions-agree, definition_value-agree, Has, Has-append_left, Has-from_definition, Has-from_place, Any-from_Has, value_from_MeetsDefinition, MeetsDefinition-from_value, HoldsBelow, HoldsBelow-inputs, derive_all, literal_of-true}
 
--- the variable after the inputs and so many others is the root's, or an operand of a definition
+-- the j-th variable after the inputs is used: it is the root's, or an operand of a definition
 abbrev pub IsAsked : ℕ → List Definition → Lit → ℕ → Type 0
 IsAsked inputs ds root j =
     (root.variable ≡ inputs + 1 + j)
     ⊎ ((i : ℕ) × (d : Definition) × (slice_get ds i ≡ Some d) × IsOperandOf (inputs + 1 + j) d)
 
--- the set has these definitions' clauses, this root and so many inputs
+-- the set has exactly these definitions' clauses, this root as its unit clause and so many inputs
 pub record Encodes (inputs : ℕ) (ds : List Definition) (root : Lit) (set : Cnf) : Type 0 where
   pub gates : set.gates ≡ clauses_from (inputs + 1) ds
   pub roots : set.roots ≡ (root ∷ []) ∷ []
@@ -29,7 +29,8 @@ pub record Encodes (inputs : ℕ) (ds : List Definition) (root : Lit) (set : Cnf
   pub first : EachIndex set.inputs (λ k. slice_index set.inputs k ≡ k + 1)
   pub count : set.count ≡ inputs + length ds
 
--- what the definitions and the root are to be
+-- The definitions and the root are sound for the test: each definition is over smaller variables, the root is true
+-- exactly where the test is, and each defined variable is used.
 pub record IsSound (inputs : ℕ) (ds : List Definition) (root : Lit) (test : List Bool → Type 0) : Type 0 where
   pub over_smaller : AreOverSmaller (inputs + 1) ds
   pub asked :
@@ -55,7 +56,7 @@ root_met u root p =
     (All-nil (λ clause. clause_true u clause ≡ true))
 
 module _ (inputs : ℕ) (ds : List Definition) (root : Lit) (test : List Bool → Type 0) (set : Cnf) (e : Encodes inputs ds root set) (sound : IsSound inputs ds root test) where
-  -- the input at a place
+  -- the input at place k is the variable k + 1
   number_at : (k d : ℕ) → k < length set.inputs → get_or set.inputs k d ≡ k + 1
   number_at k d within = get_or_default set.inputs k d 0 within ∙ e.first k within
 

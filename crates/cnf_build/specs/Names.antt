@@ -1,4 +1,4 @@
--- Variables for the constant and the gates that are marked, after those of the inputs.
+-- The variables of the constant and of the gates that are marked, after those of the inputs.
 use Rattle.std.specs.Prelude.{◌≡◌, ℕ, ◌+◌, ◌*◌, ◌<◌, ◌≤◌, Bool, true, false, List, [], ◌∷◌, ◌++◌, length, Some, slice_get, slice_index}
 use Rattle.clauses.specs.Literal.{Lit}
 use Rattle.aig.specs.declared.literal.Node.{Node}
@@ -12,13 +12,13 @@ use Rattle.cnf_build.specs.declared.definition.Definition.TheVariants as definit
 use Rattle.cnf_build.specs.Definitions.{AreOverSmaller, clauses_from}
 use Rattle.cnf_build.specs.NeededGates.{NeededMarks, IsMarked}
 
--- how many inputs there are, a number for each gate, and definitions of the variables after the inputs, in order
+-- how many inputs there are, the variable of each gate, and the definitions of the variables after the inputs, in order
 pub record Names : Type 0 where
   pub inputs : ℕ
   pub numbers : List ℕ
   pub definitions : List Definition
 
--- the inputs have the first variables, and the constant the next
+-- the variable of a node: the inputs have the first variables, and the constant the next one
 abbrev pub variable_of : Names → Node → ℕ
 variable_of names One = names.inputs + 1
 variable_of names (Input k) = k + 1
@@ -28,18 +28,19 @@ variable_of names (Output k) = slice_index names.numbers k
 abbrev pub lit_of : Names → Literal → Lit
 lit_of names l = record { variable = variable_of names l.node; negated = l.negated }
 
--- a gate's definition over its operands' variables
+-- a gate's definition, over the variables of its operands
 abbrev pub definition_of : Names → Gate → Definition
 definition_of names (gates.And a b) = definitions.And (lit_of names a) (lit_of names b)
 definition_of names (gates.Xor a b) = definitions.Xor (lit_of names a) (lit_of names b)
 definition_of names (gates.Mux c a b) = definitions.Mux (lit_of names c) (lit_of names a) (lit_of names b)
 
--- the constant is named, if it is needed
+-- the constant gets its variable and its definition, if it is needed
 abbrev pub with_constant : Names → Bool → Names
 with_constant names true = record names { definitions = names.definitions ++ definitions.One ∷ [] }
 with_constant names false = names
 
--- The next gate has the variable of the next definition; that definition is its own if it is needed.
+-- The next gate gets the next variable without a definition. If the gate is needed, it gets its definition too; else
+-- the next gate gets the same variable.
 abbrev pub with_gate : Names → Gate → Bool → Names
 with_gate names gate true =
     record {
@@ -50,12 +51,13 @@ with_gate names gate true =
 with_gate names gate false =
     record names { numbers = names.numbers ++ (names.inputs + 1 + length names.definitions) ∷ [] }
 
--- this definition is at the place of the node's variable
+-- this is the definition of the node's variable
 abbrev pub HasDefinition : Names → Node → Definition → Type 0
 HasDefinition names node d =
     (j : ℕ) × (variable_of names node ≡ names.inputs + 1 + j) × (slice_get names.definitions j ≡ Some d)
 
--- the constant and the first gates, so many, are named where they are marked, and nothing else is
+-- of the constant and the first `count` gates, those that are marked have a variable with their definition, and nothing
+-- else has one
 pub record NamesFirst (all : List Gate) (marks : NeededMarks) (count : ℕ) (names : Names) : Type 0 where
   pub length_numbers : length names.numbers ≡ count
   pub length_definitions : length names.definitions ≤ count + 1

@@ -1,4 +1,4 @@
--- Which of the constant and the gates of a graph a root needs.
+-- Which of the constant and the gates of a graph a root needs: those in its cone of influence.
 use Rattle.std.specs.Prelude.{◌≡◌, ℕ, ◌<◌, ◌⊎◌, Bool, true, false, List, length, Some, slice_get, slice_set, slice_index_or}
 use Rattle.aig.specs.declared.literal.Node.{Node}
 use Rattle.aig.specs.declared.literal.Node.TheVariants.{One, Input, Output}
@@ -11,13 +11,13 @@ pub record NeededMarks : Type 0 where
   pub one : Bool
   pub gates : List Bool
 
--- if the node is a gate, it is one of so many
+-- the node is no gate, or one of the first `count` gates
 abbrev pub OutputBelow : ℕ → Node → Type 0
 OutputBelow count One = Unit {0}
 OutputBelow count (Input k) = Unit {0}
 OutputBelow count (Output k) = k < count
 
--- if an operand of the gate is a gate, it is one of so many
+-- each operand of the gate is no gate, or one of the first `count` gates
 abbrev pub OperandsBelow : ℕ → Gate → Type 0
 OperandsBelow count (And a b) = OutputBelow count a.node × OutputBelow count b.node
 OperandsBelow count (Xor a b) = OutputBelow count a.node × OutputBelow count b.node
@@ -35,13 +35,13 @@ IsCovered marks One = marks.one ≡ true
 IsCovered marks (Input k) = Unit {0}
 IsCovered marks (Output k) = slice_index_or marks.gates k false ≡ true
 
--- the marks with this node's too, if it isn't an input
+-- the marks with this node marked too, if it is no input
 abbrev pub with_node : NeededMarks → Node → NeededMarks
 with_node marks One = record marks { one = true }
 with_node marks (Input k) = marks
 with_node marks (Output k) = record marks { gates = slice_set marks.gates k true }
 
--- the marks with those of the gate's operands too
+-- the marks with the gate's operands marked too
 abbrev pub with_operands : NeededMarks → Gate → NeededMarks
 with_operands marks (And a b) = with_node (with_node marks a.node) b.node
 with_operands marks (Xor a b) = with_node (with_node marks a.node) b.node
@@ -53,7 +53,7 @@ IsOperand node (And a b) = (a.node ≡ node) ⊎ (b.node ≡ node)
 IsOperand node (Xor a b) = (a.node ≡ node) ⊎ (b.node ≡ node)
 IsOperand node (Mux c a b) = (c.node ≡ node) ⊎ ((a.node ≡ node) ⊎ (b.node ≡ node))
 
--- each operand of a marked gate is covered
+-- the marks are closed: each operand of a marked gate is covered
 abbrev pub IsClosed : List Gate → NeededMarks → Type 0
 IsClosed gates marks =
     (k : ℕ) (gate : Gate) → slice_get gates k ≡ Some gate → IsMarked marks (Output k) →
@@ -65,7 +65,7 @@ IsAskedFor gates root marks node =
     (root.node ≡ node)
     ⊎ ((k : ℕ) × (gate : Gate) × (slice_get gates k ≡ Some gate) × IsMarked marks (Output k) × IsOperand node gate)
 
--- what the root needs of the gates is marked, and nothing else
+-- exactly what the root needs is marked: its own node, and the operands of each gate that it needs
 pub record AreNeeded (gates : List Gate) (root : Literal) (marks : NeededMarks) : Type 0 where
   pub count : length marks.gates ≡ length gates
   pub root_covered : IsCovered marks root.node

@@ -1,15 +1,15 @@
 //! What the variables after the inputs stand for.
 use clauses::Lit;
 
-/// What a variable that is no input stands for, over smaller variables.
+/// The definition of a variable that is no input, by smaller variables.
 #[derive(Clone, Copy)]
 pub(crate) enum Definition {
     /// The constant that is true.
     One,
-    /// Both of two literals.
+    /// The conjunction of two literals.
     And(Lit, Lit),
-    /// One of two literals, and not both.
+    /// The xor of two literals.
     Xor(Lit, Lit),
-    /// The second literal where the first is true, and else the third.
+    /// The choice (multiplexer): the second literal where the first is true, and else the third.
     Mux(Lit, Lit, Lit),
 }

@@ -1,4 +1,4 @@
-//! The clause set of a root, put together from names and clauses.
+//! The clause set of a root: the clauses of the gates that it needs, and its unit clause.
 ghost use Rattle.std.specs.Prelude.{◌≡◌, true, ◌+◌, ◌*◌, ◌^◌, ◌<◌, ◌≤◌, [], ◌∷◌, length, IfOk, All, EachIndex, slice_index};
 ghost use Rattle.aig.specs.Graph.{IsOwn, value_of};
 ghost use Rattle.clauses.specs.Literal.{IsVariable};
@@ -14,11 +14,11 @@ use clauses::{Clause, Cnf, Lit};
 use lists::List;
 use std::alloc::{AllocError, Global};
 
-/// A clause set that stands for the test that the root is true, by Tseitin's encoding: a variable
-/// for each gate that the root needs, clauses that make it equal to the gate's value, and the root
-/// as a unit clause.
+/// A clause set that stands for the test that the root is true (Tseitin's encoding): a variable for
+/// each gate that the root needs, clauses that make it equal to the gate's value, and the root as a
+/// unit clause.
 ///
-/// The set's inputs are those of the graph, in order, those that the root doesn't need among them.
+/// The set's inputs are those of the graph, in order, also those on which the root doesn't depend.
 /// The only error is want of memory.
 pub fn clauses_of(alloc: Global, aig: &Aig, root: Literal) -> Result<Cnf, AllocError>
     requires own { IsOwn aig.now root }
@@ -69,7 +69,7 @@ fn encode(
     })
 }
 
-/// The clauses that ask for a literal: its unit clause.
+/// The root clauses: the unit clause that asserts the root's literal.
 fn root_clauses(alloc: Global, root: Lit) -> Result<List<Clause>, AllocError>
     ensures { IfOk result (λ clauses. clauses ≡ (root ∷ []) ∷ []) }
 {

@@ -1,4 +1,4 @@
-//! Variables for the constant and for the gates that a root needs.
+//! The variables of the constant and of the gates that a root needs.
 ghost use Rattle.std.specs.Prelude.{◌≡◌, ◌+◌, ◌^◌, ◌<◌, length, IfOk, OnOk};
 ghost use Rattle.aig.specs.Graph.{IsAmong, OperandsAmong, IsInOrder};
 
@@ -9,8 +9,8 @@ use clauses::Lit;
 use std::alloc::{AllocError, Global};
 use std::marker::Model;
 
-/// The variables that come after the inputs: for each gate the variable that it has if it is
-/// needed, and the definitions of these variables in order.
+/// The variables that come after the inputs: for each gate its variable, which is its own only if the gate is needed,
+/// and the definitions of these variables in order.
 #[derive(Drop)]
 pub(crate) struct Naming {
     inputs: u32,
@@ -33,7 +33,7 @@ impl Naming {
     ghost use Rattle.cnf_build.specs.Names.{variable_of, lit_of, definition_of, with_gate, with_constant, NamesFirst};
     ghost use Rattle.cnf_build.specs.NeededGates.{IsClosed};
 
-    /// Names what is needed of a graph with so many inputs and these gates.
+    /// Gives variables to what is needed of a graph with so many inputs and these gates.
     pub(crate) fn of(
         alloc: Global,
         inputs: u32,
@@ -59,7 +59,7 @@ impl Naming {
         Ok(naming)
     }
 
-    /// The definitions in the order of their variables, the first of which comes after the inputs.
+    /// The definitions in the order of their variables. The first of these is the one after the inputs.
     pub(crate) fn definitions(&self) -> &[Definition]
         ensures { result.now ≡ self.now.definitions }
     {
@@ -89,7 +89,7 @@ impl Naming {
         Lit::new(self.variable(literal.node()), literal.is_negated())
     }
 
-    /// A gate's definition over its operands' variables.
+    /// A gate's definition, over the variables of its operands.
     fn definition(&self, gate: Gate) -> Definition
         requires few { self.now.inputs < 2 ^ 28 }
         requires own { OperandsAmong self.now.inputs (length self.now.numbers) gate }
@@ -106,7 +106,7 @@ impl Naming {
         }
     }
 
-    /// Names the constant if it is needed, before any gate.
+    /// The constant gets its variable and its definition, if it is needed; this comes before any gate.
     fn name_constant(&mut self, is_needed: bool) -> Result<(), AllocError>
         ensures { OnOk result (self.new ≡ with_constant self.old is_needed) }
     {
@@ -116,7 +116,7 @@ impl Naming {
         Ok(())
     }
 
-    /// The next gate gets the variable after those that are defined, and is defined if it is needed.
+    /// The next gate gets the next variable without a definition and, if it is needed, its definition.
     fn name_gate(&mut self, gate: Gate, is_needed: bool) -> Result<(), AllocError>
         requires few { self.old.inputs + length self.old.definitions < 2 ^ 29 }
         requires few_inputs { self.old.inputs < 2 ^ 28 }

@@ -1,12 +1,12 @@
-//! Which gates a root needs.
+//! Which gates a root needs: those in its cone of influence.
 ghost use Rattle.std.specs.Prelude.{◌≡◌, ℕ, ◌<◌, false, length, Some, slice_get, slice_index_or, IfOk};
 
 use aig::{Gate, Literal, Node};
 use std::alloc::{AllocError, Global};
 use std::marker::Model;
 
-/// Which of the constant and the gates of a graph a root needs: its own node, and each operand of
-/// a gate that it needs.
+/// Which of the constant and the gates of a graph a root needs: its own node, and each operand of a
+/// gate that it needs.
 #[derive(Drop)]
 pub(crate) struct Needed {
     one: bool,
@@ -58,7 +58,7 @@ impl Needed {
         self.gates[place]
     }
 
-    /// NeededMarks the literal's node, if it isn't an input.
+    /// Marks the literal's node, if it is no input.
     fn mark(&mut self, literal: Literal)
         requires { OutputBelow (length self.old.gates) literal.node }
         ensures { self.new ≡ with_node self.old literal.node }
@@ -70,7 +70,7 @@ impl Needed {
         }
     }
 
-    /// NeededMarks the nodes of the gate's operands.
+    /// Marks the nodes of the gate's operands.
     fn mark_operands(&mut self, gate: Gate)
         requires { OperandsBelow (length self.old.gates) gate }
         ensures { self.new ≡ with_operands self.old gate }

@@ -1,4 +1,4 @@
-//! The clauses of definitions, by Tseitin's encoding.
+//! The clauses of definitions (Tseitin's encoding).
 ghost use Rattle.std.specs.Prelude.{◌≡◌, ◌+◌, ◌^◌, ◌<◌, [], ◌∷◌, ◌++◌, length, IfOk, OnOk};
 ghost use Rattle.cnf_build.specs.Definitions.{clauses_of_definition, clauses_from};
 
@@ -7,7 +7,7 @@ use clauses::{Clause, Lit};
 use lists::List;
 use std::alloc::{AllocError, Global};
 
-/// The clauses of definitions in order, of which the first defines the variable `first`.
+/// The clauses of definitions in order, the first of which defines the variable `first`.
 pub(crate) fn clauses_from(
     alloc: Global,
     first: u32,
@@ -25,7 +25,8 @@ pub(crate) fn clauses_from(
     Ok(clauses)
 }
 
-/// Adds the clauses that are all true exactly where the variable has the definition's value.
+/// Adds the clauses of a definition: all are true exactly where the variable has the definition's
+/// value.
 fn push_definition(
     alloc: Global,
     clauses: &mut List<Clause>,

@@ -1,4 +1,4 @@
--- The decisions and the reasons of a trail, entry by entry.
+-- The decisions and the reasons of a trail, where it is looked through entry by entry.
 use Rattle.std.proofs.Common.{◌≡◌, ℕ, suc, ◌+◌, Bool, true, false, cond, List, [], ◌∷◌, ◌++◌, Some, None, Option, length, take, filter, get_or, ◌<◌, refl, sym, ap, ◌∙◌, arith, subst}
 use Rattle.std.specs.Prelude.{slice_get, MatchOption}
 use Rattle.clauses.specs.Literal.{Lit, negation_of}
@@ -25,7 +25,7 @@ decisions_one : (e : Entry) (b : Bool) → is_decision e.cause ≡ b → decisio
 decisions_one e true is = ap (λ c. literals (cond c (e ∷ []) [])) is
 decisions_one e false is = ap (λ c. literals (cond c (e ∷ []) [])) is
 
--- the decisions up to a place and the entry there
+-- the decisions up to and with the entry at a place
 pub decisions_next : (entries : List Entry) (k : ℕ) (e : Entry) (b : Bool) → slice_get entries k ≡ Some e → is_decision e.cause ≡ b → decisions (take (k + 1) entries) ≡ decisions (take k entries) ++ cond b (e.literal ∷ []) []
 decisions_next entries k e b at is =
     let next : k + 1 ≡ suc k = omega arith in
@@ -34,7 +34,7 @@ decisions_next entries k e b at is =
     ∙ decisions-append (take k entries) (e ∷ [])
     ∙ ap (λ ls. decisions (take k entries) ++ ls) (decisions_one e b is)
 
--- the last decision before a place
+-- the place of the last decision before a place of the trail, or that there is none
 abbrev pub LastBefore : List Entry → ℕ → Option ℕ → Type 0
 LastBefore entries n last =
     MatchOption last (decisions (take n entries) ≡ []) (λ place.
@@ -54,7 +54,7 @@ pub read_at : (entries items : List Entry) (k : ℕ) (d : Entry) → items ≡ e
 read_at entries items k d same within =
     ap (λ es. slice_get es k) (sym same) ∙ slice_get-get_or items k d within
 
--- the step of a walk along the entries
+-- a walk along the entries passes one more, which is the last decision so far where it is one
 pub LastBefore-step : (entries items : List Entry) (k : ℕ) (d : Entry) (last next : Option ℕ) (b : Bool) → items ≡ entries → k < length items → b ≡ is_decision (get_or items k d).cause → LastBefore entries k last → next ≡ cond b (Some k) last → LastBefore entries (k + 1) next
 LastBefore-step entries items k d last next true same within is h e =
     subst (LastBefore entries (k + 1)) (sym e)
@@ -73,14 +73,14 @@ not_decided InputDecision n some = cc
 not_decided NonInputDecision n some = cc
 not_decided (Reason number) n some = refl
 
--- the clause of one entry
+-- the clause of one negated decision
 pub clause_of_decision : (e : Entry) (n : Lit) → reason_of e.cause ≡ None → n ≡ negation_of e.literal → n ∷ [] ≡ negations_of (decisions (e ∷ []))
 clause_of_decision e n none is = ap (λ l. l ∷ []) is ∙ sym (ap negations_of (decisions_one e true (decided_without_reason e.cause none)))
 
 pub no_clause_of_reason : (e : Entry) (n : ℕ) → reason_of e.cause ≡ Some n → decisions (e ∷ []) ≡ []
 no_clause_of_reason e n some = decisions_one e false (not_decided e.cause n some)
 
--- the clause of a conflict, entry by entry
+-- a walk along the entries adds the negation of one more, where that is a decision, to the learned clause
 pub clause_more : (entries items : List Entry) (k : ℕ) (d : Entry) (clause next : List Lit) → items ≡ entries → k < length items → d ≡ get_or items k d → clause ≡ negations_of (decisions (take k entries)) → next ≡ clause ++ negations_of (decisions (d ∷ [])) → next ≡ negations_of (decisions (take (k + 1) entries))
 clause_more entries items k d clause next same within read so_far e =
     let at : slice_get entries k ≡ Some d = read_at entries items k d same within ∙ ap Some (sym read) in

@@ -1,4 +1,4 @@
--- What the decisions of a trail derive.
+-- What unit propagation derives from the decisions of a trail.
 use Rattle.std.proofs.Common.{◌≡◌, ℕ, zero, suc, ◌<◌, ◌≤◌, Bool, true, false, cond, List, [], ◌∷◌, ◌++◌, Some, length, take, filter, refl, sym, ap, ◌∙◌, arith, inl, inr, subst}
 use Rattle.std.specs.Prelude.{slice_get}
 use Rattle.std.specs.List.{filter_map}
@@ -20,7 +20,7 @@ use Rattle.depth_first.proofs.Lists.{take_next, element_at, slice_get_take, some
 use Rattle.depth_first.proofs.HeldLists.{Consistent, not_held_nil, literal_at}
 use Rattle.depth_first.proofs.Decisions.{reasons-append}
 
--- the reason that a cause names, if it does
+-- the clause number of a cause that is a reason, and none of a decision
 abbrev filter_one : Cause → List ℕ
 filter_one cause = filter_map reason_of (cause ∷ [])
 
@@ -32,7 +32,7 @@ keep_one true e ds ls l h is =
     ]
 keep_one false e ds ls l h is = or_right (is_same l e.literal) (is_held ls l) (h is)
 
--- what was decided is held
+-- each decision is held in the trail
 pub decision_held : (entries : List Entry) (l : Lit) → is_held (decisions entries) l ≡ true → is_held (literals entries) l ≡ true
 decision_held [] l h = h
 decision_held (e ∷ es) l h =
@@ -45,7 +45,7 @@ kept_or_not : (b : Bool) (e : Entry) (ds : List Entry) (l : Lit) → is_held (li
 kept_or_not true e ds l h = or_right (is_same l e.literal) (is_held (literals ds) l) h
 kept_or_not false e ds l h = h
 
--- the literal of a decision is among the decisions
+-- an entry that was decided is among the decisions
 pub decision_at : (entries : List Entry) (place : ℕ) (e : Entry) → slice_get entries place ≡ Some e → is_decision e.cause ≡ true → is_held (decisions entries) e.literal ≡ true
 decision_at [] place e at is = cc
 decision_at (f ∷ fs) zero e at is =
@@ -57,7 +57,7 @@ decision_at (f ∷ fs) zero e at is =
 decision_at (f ∷ fs) (suc place) e at is =
     kept_or_not (is_decision f.cause) f (filter (λ (g : Entry). is_decision g.cause) fs) e.literal (decision_at fs place e at is)
 
--- what is held is at some place
+-- each literal that is held stands at some place of the trail
 held_place : (entries : List Entry) (l : Lit) → is_held (literals entries) l ≡ true → (place : ℕ) × (e : Entry) × (slice_get entries place ≡ Some e) × (e.literal ≡ l)
 held_place [] l h = absurd (not_held_nil l h)
 held_place (f ∷ fs) l h =
@@ -66,7 +66,8 @@ held_place (f ∷ fs) l h =
       | inr rest ↦ let (place, e, at, is) = held_place fs l rest in (suc place, e, at, is)
     ]
 
--- the decisions derive the marked ones among the first entries of the trail, by their reasons
+-- From the decisions alone, the reasons of the marked entries among the first n derive a state that holds all these
+-- marked entries, and nothing that the trail doesn't hold.
 pub record DerivesFirst (clauses : List (List Lit)) (entries : List Entry) (marks : List Bool) (n : ℕ) : Type 0 where
   pub after : List Lit
   pub derived : Derives clauses (decisions entries) (reasons (marked_entries marks (take n entries))) after
@@ -85,7 +86,7 @@ held_after : (held after : List Lit) (l : Lit) → HeldWithin held after → Hel
 held_after held after l h = record { each = λ m is. or_right (is_same m l) (is_held after m) (h.each m is) }
 
 module _ (clauses : List (List Lit)) (entries : List Entry) (marks : List Bool) (conflict : ℕ) (forced : EachForced clauses entries) (ok : Consistent (literals entries)) (involved : IsInvolved clauses entries conflict 0 marks) where
-  -- a literal of a marked variable that is false by the first entries is false by what they derive
+  -- a literal of a marked variable that the first entries make false is false in the derived state
   false_after : (n : ℕ) (so_far : DerivesFirst clauses entries marks n) (m : Lit) → is_marked marks m.variable ≡ true → is_false (literals (take n entries)) m ≡ true → is_false so_far.after m ≡ true
   false_after n so_far m marked closed =
       let (place, f, at, is) = held_place (take n entries) (negation_of m) closed in
@@ -93,7 +94,7 @@ module _ (clauses : List (List Lit)) (entries : List Entry) (marks : List Bool) 
       let same : f.literal.variable ≡ m.variable = ap (λ (k : Lit). k.variable) is in
       sym (ap (is_held so_far.after) is) ∙ so_far.first place f below there (ap (is_marked marks) same ∙ marked)
 
-  -- the next entry has no reason, or isn't marked
+  -- the next entry adds no reason: it was decided, or its variable isn't marked
   derives_same : (n : ℕ) (e : Entry) → slice_get entries n ≡ Some e → reasons (marked_entries marks (take (suc n) entries)) ≡ reasons (marked_entries marks (take n entries)) → (so_far : DerivesFirst clauses entries marks n) → (is_marked marks e.literal.variable ≡ true → is_held so_far.after e.literal ≡ true) → DerivesFirst clauses entries marks (suc n)
   derives_same n e at same so_far here =
       record {
@@ -111,7 +112,7 @@ module _ (clauses : List (List Lit)) (entries : List Entry) (marks : List Bool) 
         within = so_far.within;
       }
 
-  -- the next entry is marked and has a reason
+  -- the next entry is marked, and its reason derives it
   derives_forced : (n : ℕ) (e : Entry) (number : ℕ) → slice_get entries n ≡ Some e → e.cause ≡ Reason number → is_marked marks e.literal.variable ≡ true → DerivesFirst clauses entries marks n → DerivesFirst clauses entries marks (suc n)
   derives_forced n e number at is marked so_far =
       let l = e.literal in
@@ -183,7 +184,7 @@ module _ (clauses : List (List Lit)) (entries : List Entry) (marks : List Bool) 
   derives_first (suc n) within =
       let (e, at) = element_at entries n (omega arith) in derives_next n e e.cause at refl (derives_first n (omega arith))
 
-  -- the reasons of what a conflict rests on, and then the clause that is false, refute the decisions
+  -- the reasons of what a conflict rests on, and then the clause that is false, are hints that refute the decisions
   pub decisions_refuted : NamesFalse clauses (literals entries) conflict → HintsRefute clauses (decisions entries) (reasons (marked_entries marks entries) ++ conflict ∷ [])
   decisions_refuted (clause, named, none) =
       let d = derives_first (length entries) (omega arith) in

@@ -1,4 +1,4 @@
--- The state after the last decision is flipped.
+-- The state of the search after the last decision is flipped.
 use Rattle.std.proofs.Common.{◌≡◌, ℕ, ◌<◌, Bool, Option, true, List, [], ◌∷◌, ◌++◌, Some, length, take, refl, sym, ap, ◌∙◌, arith, inl, inr, subst}
 use Rattle.std.specs.Prelude.{slice_get, remove}
 use Rattle.std.proofs.lemmas.List.{map-append, length-take-le}
@@ -23,9 +23,9 @@ use Rattle.depth_first.proofs.Derived.{decision_at, HeldWithin-decisions}
 use Rattle.depth_first.proofs.PropagationLemmas.{IsPropagatedUpTo-push, IsPropagatedUpTo-propagated}
 use Rattle.depth_first.proofs.States.{clauses_with-push, clauses_of_steps-push, NamesUnit-more, AllPropagated-left, AllPropagated-push, decided_from, LogFollows-push, LogIsNew-push, NoneEmpty-push, negations_twice, negated_in, all_false, remove_last, closed_from_propagated}
 
--- What is learned of a conflict below decisions: the trail and the log before, and the step.
+-- A conflict with the trail and the log before it, and the step that is learned of it.
 module _ (set : Cnf) (values : List (Option Bool)) (log : List Step) (entries : List Entry) (step : Step) (fresh : EachFresh values entries) (caused : EachCaused set log entries) (log_learned : IsLearned set log) (clause_is : step.clause ≡ negations_of (decisions entries)) (learned_follows : StepFollows set (clauses_with set log) step) where
-  -- below a last decision
+  -- the last decision of the trail
   module _ (place : ℕ) (e : Entry) (at : slice_get entries place ≡ Some e) (decides : is_decision e.cause ≡ true) (last : decisions entries ≡ decisions (take place entries) ++ e.literal ∷ []) where
     open_there : IsOpen (literals (take place entries)) e.literal.variable
     open_there = (fresh place e at).2
@@ -40,7 +40,7 @@ module _ (set : Cnf) (values : List (Option Bool)) (log : List Step) (entries : 
     has_negation k f there is =
         ap (λ c. is_held c (negation_of f.literal)) clause_is ∙ negated_in (decisions entries) f.literal (decision_at entries k f there is)
 
-    -- the clause is new
+    -- the learned clause is new
     learned_is_new : IsNew (clauses_with set log) (step.clause)
     learned_is_new =
         let held = literals (take place entries) in
@@ -58,7 +58,7 @@ module _ (set : Cnf) (values : List (Option Bool)) (log : List Step) (entries : 
     learned_not_empty empty =
         not_held_nil (negation_of e.literal) (sym (ap (λ c. is_held c (negation_of e.literal)) empty) ∙ has_negation place e at decides)
 
-    -- an earlier decision's state: within the last's, and the clause is propagated there
+    -- at an earlier decision all clauses were propagated, the learned one among them
     module _ (k : ℕ) (f : Entry) (there : slice_get entries k ≡ Some f) (earlier : k < place) where
       in_prefix : slice_get (take place entries) k ≡ Some f
       in_prefix = slice_get_in_take place entries k f there earlier
@@ -103,7 +103,7 @@ module _ (set : Cnf) (values : List (Option Bool)) (log : List Step) (entries : 
           subst (λ cs. NamesUnit cs (literals (take k entries)) number f.literal) (sym (clauses_with-push set log (step)))
           (NamesUnit-more (clauses_with set log) (step.clause ∷ []) (literals (take k entries)) number f.literal h)
 
-    -- the learned clause forces the decision's negation where it was decided
+    -- the learned clause is unit in the state in which the last decision was made, with the negation of that decision
     learned_forces : IsUnit (literals (take place entries)) (step.clause) (negation_of e.literal)
     learned_forces =
         let held = literals (take place entries) in
@@ -112,7 +112,7 @@ module _ (set : Cnf) (values : List (Option Bool)) (log : List Step) (entries : 
         subst (λ ls. IsUnit held ls l) (sym clause_ends)
         (unit_last held (negations_of ds) l (all_false ds held (HeldWithin-decisions (take place entries))) (open_not_false held l open_there))
 
-    -- the state after the last decision is flipped
+    -- the trail with the last decision flipped, and the log with the learned step, are a state of the search
     pub IsState-flipped : (number : ℕ) → number ≡ length (clauses_with set log) → IsState set (log ++ step ∷ []) (take place entries ++ (record { literal = negation_of e.literal; cause = Reason number }) ∷ []) place
     IsState-flipped number is =
         let prefix = take place entries in

@@ -1,4 +1,4 @@
--- What the answers of a search rest on.
+-- Why the answers of a search are right.
 use Rattle.std.proofs.Common.{◌≡◌, ℕ, ◌+◌, ◌-◌, ◌<◌, ◌≤◌, Bool, Option, true, false, not, cond, List, [], ◌∷◌, ◌++◌, Some, None, length, take, drop, map, get_or, refl, sym, ap, ◌∙◌, arith, inl, inr, subst, length-drop, get_or-drop, append_assoc}
 use Rattle.std.specs.Prelude.{slice_get, All}
 use Rattle.std.proofs.lemmas.Bool.{cases_Bool, true≢false, or_cases, or_left, or_right}
@@ -25,7 +25,7 @@ use Rattle.depth_first.proofs.Open.{variable_within}
 use Rattle.depth_first.proofs.Sets.{clause_within}
 use Rattle.depth_first.proofs.States.{AllPropagated-left, closed_from_propagated, decided_from}
 
--- a clause that isn't false has a literal that isn't
+-- a clause that isn't false has a literal that isn't false
 pub kept_literal : (held clause : List Lit) → ¬ (IsFalsified held clause) → (l : Lit) × (is_held clause l ≡ true) × (is_false held l ≡ false)
 kept_literal held [] kept = absurd (kept (All-nil (λ l. is_false held l ≡ true)))
 kept_literal held (m ∷ ms) kept =
@@ -43,7 +43,7 @@ value_is (Some false) n true h = absurd (true≢false (sym h))
 value_is (Some true) n false h = absurd (true≢false (sym h))
 value_is (Some false) n false h = refl
 
--- a literal that isn't false by a value is true by it
+-- a literal of a variable with a value is true by that value where its negation isn't
 true_by_value : (b : Bool) (l : Lit) → value_makes (Some b) (negation_of l) ≡ false → cond l.negated (not b) b ≡ true
 true_by_value b l h = by_sign b l.negated h
   where
@@ -61,7 +61,7 @@ any_true v (m ∷ ms) l h is =
       | inr rest ↦ or_right (literal_true v m) (clause_true v ms) (any_true v ms l rest is)
     ]
 
--- where each variable is set and all clauses are propagated, the values are a model
+-- a total assignment under which all clauses are propagated is a model
 pub IsModel-from_propagated : (set : Cnf) (values : List (Option Bool)) (entries : List Entry) → IsTableOf values entries → length values ≡ set.count + 1 → AllPropagated (all_clauses set) (literals entries) → ((n : ℕ) → IsVariable set.count n → IsSet (literals entries) n) → IsModel set (map value_or_false (drop 1 values))
 IsModel-from_propagated set values entries table room propagated all =
     let held = literals entries in
@@ -88,7 +88,7 @@ IsModel-from_propagated set values entries table room propagated all =
           any_true v clause l stands (literal_is_true l (variable_within set.count clause l (clause_within set k clause at) stands) kept);
     }
 
--- the first steps of a log
+-- a log cut to its first n steps
 module _ (set : Cnf) (log : List Step) (n : ℕ) where
   first_before : (place : ℕ) (s : Step) → slice_get (take n log) place ≡ Some s → clauses_before set (take n log) place ≡ clauses_before set log place
   first_before place s at = ap (λ ss. all_clauses set ++ clauses_of_steps ss) (take_in_take n log place s at)
@@ -113,7 +113,7 @@ module _ (set : Cnf) (log : List Step) (n : ℕ) where
       propagated number clause
       (ap (λ cs. slice_get cs number) parts ∙ slice_get_left (clauses_with set (take n log)) (clauses_of_steps (drop n log)) number clause at)
 
--- the inputs' values as they are held
+-- the values that the state gives the inputs, as a setting
 abbrev held_setting : List Lit → ℕ → Bool
 held_setting held n = is_held held (literal_of n true)
 
@@ -133,7 +133,8 @@ setting_held held (n ∷ ns) all =
     HeldWithin-cons (literal_of n (held_setting held n)) (map (λ m. literal_of m (held_setting held m)) ns) held here
     (setting_held held ns (All-tail (IsSet held) n ns all))
 
--- where all inputs are set and all clauses are propagated, but a variable is open, units don't determine the rest
+-- The inputs of the set don't determine the rest: all are set and all clauses are propagated, yet a variable has no
+-- value.
 not_determined : (set : Cnf) (held : List Lit) (n : ℕ) → AllPropagated (all_clauses set) held → InputsSet set held → IsVariable set.count n → IsOpen held n → ¬ (UnitsDetermine set)
 not_determined set held n propagated inputs variable o determine =
     let cs = all_clauses set in
@@ -151,7 +152,7 @@ inputs_set : (set : Cnf) (log : List Step) (held : List Lit) (l : Lit) (cause : 
 inputs_set set log held l cause is caused =
     let other : IsCaused set log held l NonInputDecision = subst (IsCaused set log held l) is caused in other.1
 
--- a conflict below a decision shows that units alone don't refute
+-- A conflict below a decision on a variable that is no input: the limit may be answered.
 pub IsHonestLimit-from_conflict : (set : Cnf) (log : List Step) (limit : ℕ) (held : List Lit) (l : Lit) (cause : Cause) → limit ≤ length log → IsLearned set log → is_decision cause ≡ true → IsCaused set log held l cause → IsVariable set.count l.variable → IsOpen held l.variable → cause ≡ NonInputDecision → IsHonestLimit set limit (take limit log)
 IsHonestLimit-from_conflict set log limit held l cause enough learned decides caused variable o late =
     let decided : IsDecided set log held l = decided_from set log held l cause decides caused in

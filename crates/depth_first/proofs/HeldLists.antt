@@ -1,4 +1,4 @@
--- What is held by joined lists, by open variables and by consistent states.
+-- What joined lists of literals hold, and states in which a variable is open, or no variable has two values.
 use Rattle.std.proofs.Common.{◌≡◌, ℕ, Bool, true, false, not, List, [], ◌∷◌, ◌++◌, Some, sym, ap, ◌∙◌, inl, inr, subst, zero, suc, take}
 use Rattle.std.specs.Prelude.{slice_get, ◌⊎◌}
 use Rattle.std.proofs.lemmas.Bool.{or_cases, or_left, or_right, true≢false}
@@ -50,7 +50,7 @@ not_held_nil l h = true≢false (sym h)
 pub both_held : (held : List Lit) (l : Lit) → is_held held l ≡ true → is_held held l ≡ false → ⊥
 both_held held l is isnt = true≢false (sym is ∙ isnt)
 
--- the literal at a place of a list is held by it
+-- each literal of a list is held by it
 pub held_at : (xs : List Lit) (k : ℕ) (l : Lit) → slice_get xs k ≡ Some l → is_held xs l ≡ true
 held_at [] k l at = cc
 held_at (x ∷ xs) zero l at =
@@ -58,7 +58,7 @@ held_at (x ∷ xs) zero l at =
     or_left (is_same l x) (is_held xs l) (subst (λ m. is_same l m ≡ true) (sym same) (is_same-self l))
 held_at (x ∷ xs) (suc k) l at = or_right (is_same l x) (is_held xs l) (held_at xs k l at)
 
--- literals of an open variable aren't held
+-- no literal of an open variable is held
 open_made : (held : List Lit) (n : ℕ) (b : Bool) → IsOpen held n → is_held held (made n b) ≡ false
 open_made held n true o = o false
 open_made held n false o = o true
@@ -81,7 +81,7 @@ open_from held l h k = λ value. open_of_made held l.variable l.negated value h 
 pub open_within : (held all : List Lit) (n : ℕ) → HeldWithin held all → IsOpen all n → IsOpen held n
 open_within held all n within o = λ value. not_held held all (literal_of n value) within (o value)
 
--- no literal is held together with its negation
+-- the state is consistent: no literal is held together with its negation
 pub record Consistent (held : List Lit) : Type 0 where
   pub each : (l : Lit) → is_held held l ≡ true → is_false held l ≡ false
 
@@ -89,7 +89,7 @@ pub Consistent-within : (held all : List Lit) → HeldWithin held all → Consis
 Consistent-within held all within ok =
     record { each = λ l h. not_held held all (negation_of l) within (ok.each l (within.each l h)) }
 
--- the literals of joined entries
+-- the literals of joined trails
 pub literals-append : (xs ys : List Entry) → literals (xs ++ ys) ≡ literals xs ++ literals ys
 literals-append xs ys = map-append (λ (e : Entry). e.literal) xs ys
 

@@ -1,4 +1,4 @@
--- The table of what is held after an entry more or less.
+-- The table of the literals that are held, after an entry is pushed or popped.
 use Rattle.std.proofs.Common.{◌≡◌, ℕ, ◌+◌, ◌*◌, ◌<◌, Bool, true, false, ◌||◌, if◌then◌else◌, List, [], ◌∷◌, ◌++◌, length, set, get_or, refl, sym, ap, subst, ◌∙◌, arith, inl, inr}
 use Rattle.std.proofs.lemmas.Bool.{cases_eq}
 use Rattle.std.proofs.lemmas.List.{get_or-set_same, get_or-set_other}
@@ -53,7 +53,7 @@ IsHeldTable-pop held entries e table within o l =
           ∙ sym (get_or-set_other held (code_of x) (code_of l) false false differ)
     ]
 
--- the code of a literal whose variable is in a table stands in one of twice its length
+-- the code of a literal whose variable has a place in one table has a place in a table twice as long
 pub code_within : (l : Lit) (n m : ℕ) → l.variable < n → m ≡ 2 * n → code_of l < m
 code_within l n m within twice = below l.negated
   where

@@ -1,4 +1,4 @@
--- Occurrence lists, clause by clause.
+-- Occurrence lists, as they are filled clause by clause.
 use Rattle.std.proofs.Common.{◌≡◌, ℕ, suc, ◌+◌, true, List, [], ◌∷◌, ◌++◌, Some, length, take, sym, ap, ◌∙◌, arith, inl, inr, subst}
 use Rattle.std.specs.Prelude.{slice_get, ◌⊎◌}
 use Rattle.std.proofs.lemmas.Bool.{cases_Bool}
@@ -11,7 +11,7 @@ use Rattle.depth_first.specs.OccurrenceLists.{numbers_of, AddsNumber, AddsClause
 use Rattle.depth_first.proofs.Lists.{slice_get_left, slice_get_last, slice_get_push_cases, take_next}
 use Rattle.depth_first.proofs.HeldLists.{held_cases, held_one_same}
 
--- what the lists have for a literal after one number more
+-- the list of a literal to which a number was added
 grown : (old new : Occurrences) (l : Lit) (number : ℕ) → AddsNumber old new l number → (m : Lit) → is_same m l ≡ true → numbers_of new m ≡ numbers_of old m ++ number ∷ []
 grown old new l number adds m same =
     subst (λ k. numbers_of new k ≡ numbers_of old k ++ number ∷ []) (sym (is_same-true m l same)) adds.here
@@ -43,7 +43,7 @@ stands_here old new l number adds = (
   ap (λ ns. slice_get ns (length (numbers_of old l))) adds.here ∙ slice_get_last (numbers_of old l) number,
 )
 
--- one literal of the clause more
+-- the number of the clause is added for one more of its literals
 pub AddsClause-next : (old mid new : Occurrences) (clause : List Lit) (k number : ℕ) (l : Lit) → slice_get clause k ≡ Some l → AddsClause old mid (take k clause) number → AddsNumber mid new l number → AddsClause old new (take (k + 1) clause) number
 AddsClause-next old mid new clause k number l at so_far adds =
     let next : take (k + 1) clause ≡ take k clause ++ l ∷ [] =

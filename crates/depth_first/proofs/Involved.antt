@@ -1,4 +1,4 @@
--- Which variables a conflict rests on, marked from the last entry back.
+-- Which variables a conflict rests on, as they are marked from the last entry of the trail back.
 use Rattle.std.proofs.Common.{◌≡◌, ℕ, zero, suc, ◌+◌, ◌<◌, Bool, true, false, cond, None, List, [], ◌∷◌, ◌++◌, Some, length, take, set, get_or, refl, sym, ap, ◌∙◌, arith, inl, inr, subst}
 use Rattle.std.specs.Prelude.{slice_get, ◌⊎◌, Option}
 use Rattle.std.proofs.lemmas.Bool.{cases_Bool, cases_eq, cases_order}
@@ -21,7 +21,7 @@ use Rattle.depth_first.proofs.Decisions.{read_at, reasons-append}
 use Rattle.std.specs.List.{cons_option}
 use Rattle.depth_first.proofs.Sets.{clause_within}
 
--- a literal of the clause more
+-- one more variable of the clause is marked
 pub Marks-next : (clause : List Lit) (old mid : List Bool) (k : ℕ) (l : Lit) → slice_get clause k ≡ Some l → l.variable < length mid → Marks (take k clause) old mid → Marks (take (k + 1) clause) old (set mid l.variable true)
 Marks-next clause old mid k l at room so_far =
     let v = l.variable in
@@ -56,7 +56,7 @@ named_marked : (clauses : List (List Lit)) (marks : List Bool) (number : ℕ) (c
 named_marked clauses marks number clause at all c there l stands =
     all l (ap (λ ls. is_held ls l) (some_same clause c (sym at ∙ there)) ∙ stands)
 
--- before any entry is looked at
+-- behind the last entry only the clause that is false counts
 pub IsInvolved-start : (clauses : List (List Lit)) (entries : List Entry) (conflict from : ℕ) (clause : List Lit) (old marks : List Bool) → from ≡ length entries → slice_get clauses conflict ≡ Some clause → Marks clause old marks → IsInvolved clauses entries conflict from marks
 IsInvolved-start clauses entries conflict from clause old marks is at m =
     record {
@@ -69,7 +69,7 @@ IsInvolved-start clauses entries conflict from clause old marks is at m =
     slice_get_below' (z ∷ zs) zero x at = omega arith
     slice_get_below' (z ∷ zs) (suc k) x at = let h : k < length zs = slice_get_below' zs k x at in omega arith
 
--- an entry that isn't marked, or has no reason
+-- an entry that isn't marked, or was decided, marks nothing
 pub IsInvolved-skip : (clauses : List (List Lit)) (entries : List Entry) (conflict place from : ℕ) (e : Entry) (marks : List Bool) → from ≡ place + 1 → slice_get entries place ≡ Some e → ((number : ℕ) → e.cause ≡ Reason number → is_marked marks e.literal.variable ≡ true → ⊥) → IsInvolved clauses entries conflict from marks → IsInvolved clauses entries conflict place marks
 IsInvolved-skip clauses entries conflict place from e marks is at skips so_far =
     record {
@@ -84,7 +84,7 @@ IsInvolved-skip clauses entries conflict place from e marks is at skips so_far =
           ];
     }
 
--- the variables of a reason have values where it forces, so no later entry is of them
+-- the variables of a reason had values before it forced its literal, so no later entry is of one of them
 set_before : (values : List (Option Bool)) (entries : List Entry) (place k : ℕ) (e f : Entry) (clause : List Lit) (l : Lit) → EachFresh values entries → slice_get entries place ≡ Some e → slice_get entries k ≡ Some f → place < k → (is_false (literals (take place entries)) l ≡ true) ⊎ (l ≡ e.literal) → l.variable ≡ f.literal.variable → ⊥
 set_before values entries place k e f clause l fresh at there later (inl closed) same =
     let held = literals (take k entries) in
@@ -99,7 +99,7 @@ set_before values entries place k e f clause l fresh at there later (inr is) sam
     (ap (is_held held) is ∙ literal_at (take k entries) place e (slice_get_in_take k entries place e at later))
     (open_not_held held l (subst (IsOpen held) (sym same) (fresh k f there).2))
 
--- an entry that is marked and has a reason, whose variables are then marked
+-- an entry that is marked and has a reason: the variables of the reason are marked
 pub IsInvolved-mark : (clauses : List (List Lit)) (values : List (Option Bool)) (entries : List Entry) (conflict place from number : ℕ) (e : Entry) (clause : List Lit) (old new : List Bool) → EachFresh values entries → EachForced clauses entries → from ≡ place + 1 → slice_get entries place ≡ Some e → e.cause ≡ Reason number → slice_get clauses number ≡ Some clause → Marks clause old new → IsInvolved clauses entries conflict from old → IsInvolved clauses entries conflict place new
 IsInvolved-mark clauses values entries conflict place from number e clause old new fresh forced is at cause named marks so_far =
     let before = literals (take place entries) in
@@ -133,13 +133,13 @@ IsInvolved-mark clauses values entries conflict place from number e clause old n
     reason_same : (n m : ℕ) → ◌≡◌ {A = Cause} (Reason n) (Reason m) → n ≡ m
     reason_same n m e = cc
 
--- the step whose clause has a number
+-- the step of a clause of the log
 pub step_at : (log : List Step) (j : ℕ) (clause : List Lit) → slice_get (clauses_of_steps log) j ≡ Some clause → (s : Step) × (slice_get log j ≡ Some s) × (s.clause ≡ clause)
 step_at [] j clause at = cc
 step_at (s ∷ ss) zero clause at = (s, refl, some_same s.clause clause at)
 step_at (s ∷ ss) (suc j) clause at = step_at ss j clause at
 
--- the variables of the set's and the log's clauses are the set's
+-- the variables of the clauses of the set and the log are the set's
 pub with_within : (set : Cnf) (log : List Step) (number : ℕ) (clause : List Lit) → LogFollows set log → slice_get (clauses_with set log) number ≡ Some clause → IsWithin set.count clause
 with_within set log number clause follows at =
     elim (slice_get_cases (all_clauses set) (clauses_of_steps log) number clause at) [
@@ -156,7 +156,7 @@ cause_of_reason (Reason number) n some = let e : number ≡ n = cc in ap Reason 
 pub no_reason : (cause : Cause) (n : ℕ) → reason_of cause ≡ None → cause ≡ Reason n → ⊥
 no_reason cause n none is = let e : Some n ≡ None = sym (ap reason_of is) ∙ none in cc
 
--- the hints of one entry
+-- the hint of an entry that is marked and has a reason
 pub hint_of_marked : (marks : List Bool) (e : Entry) (n : ℕ) → is_marked marks e.literal.variable ≡ true → reason_of e.cause ≡ Some n → reasons (marked_entries marks (e ∷ [])) ≡ n ∷ []
 hint_of_marked marks e n marked some = ap (λ b. reasons (cond b (e ∷ []) [])) marked ∙ ap (λ o. cons_option o []) some
 
@@ -170,7 +170,7 @@ no_hint_of_decision marks e none = one (is_marked marks e.literal.variable)
     one true = ap (λ o. cons_option o []) none
     one false = refl
 
--- the hints of a conflict, entry by entry
+-- a walk along the entries adds the reason of one more, where it is marked, to the hints
 pub hints_more : (entries items : List Entry) (k : ℕ) (d : Entry) (marks : List Bool) (hints next : List ℕ) → items ≡ entries → k < length items → d ≡ get_or items k d → hints ≡ reasons (marked_entries marks (take k entries)) → next ≡ hints ++ reasons (marked_entries marks (d ∷ [])) → next ≡ reasons (marked_entries marks (take (k + 1) entries))
 hints_more entries items k d marks hints next same within read so_far e =
     let at : slice_get entries k ≡ Some d = read_at entries items k d same within ∙ ap Some (sym read) in

@@ -1,4 +1,4 @@
--- What a conflict shows: a step that follows, and where nothing was decided, a refutation.
+-- What a conflict shows: a step that follows, and without a decision a refutation.
 use Rattle.std.proofs.Common.{◌≡◌, ℕ, ◌+◌, ◌-◌, Bool, Option, List, [], ◌∷◌, ◌++◌, Some, length, sym, ap, ◌∙◌, arith, subst, length-append}
 use Rattle.std.specs.Prelude.{slice_get, IsSomeAnd}
 use Rattle.clauses.specs.declared.cnf.Cnf.{Cnf}
@@ -15,7 +15,7 @@ use Rattle.depth_first.proofs.TrailTable.{Consistent-from_table}
 use Rattle.depth_first.proofs.Derived.{decisions_refuted}
 use Rattle.depth_first.proofs.States.{EachForced-from_caused, LogFollows-push, decisions_within, negations_twice}
 
--- the learned step follows
+-- the step that is learned of a conflict follows by reverse unit propagation
 pub learned_follows : (set : Cnf) (values : List (Option Bool)) (log : List Step) (entries : List Entry) (conflict : ℕ) (step : Step) → IsTableOf values entries → EachFresh values entries → length values ≡ set.count + 1 → EachCaused set log entries → NamesFalse (clauses_with set log) (literals entries) conflict → IsLearnedStep (clauses_with set log) entries conflict step → StepFollows set (clauses_with set log) step
 learned_follows set values log entries conflict step table fresh room caused conflicts shown =
     let ds = decisions entries in
@@ -28,7 +28,7 @@ learned_follows set values log entries conflict step table fresh room caused con
           (decisions_refuted cs entries shown.marks conflict (EachForced-from_caused set log entries caused) (Consistent-from_table values entries table) shown.involved conflicts)),
     )
 
--- where nothing was decided, it ends a refutation
+-- without a decision the learned clause is empty, so its step ends a refutation
 pub IsRefutation-push : (set : Cnf) (log : List Step) (entries : List Entry) (step : Step) → LogFollows set log → StepFollows set (clauses_with set log) step → step.clause ≡ negations_of (decisions entries) → decisions entries ≡ [] → IsRefutation set (log ++ step ∷ [])
 IsRefutation-push set log entries step log_follows follows clause_is none =
     let last : length (log ++ step ∷ []) - 1 ≡ length log = omega (arith, length-append log (step ∷ [])) in

@@ -1,5 +1,5 @@
--- How many settings of the inputs a search has not yet been through: each input that is set halves them, and for a
--- decision the half of its negation is still to come.
+-- How many settings of the inputs a search may still go through: each input that has a value halves them, and below a
+-- decision that isn't flipped yet the other half is left too.
 use Rattle.std.proofs.Common.{◌≡◌, ℕ, zero, suc, ◌+◌, ◌<◌, ◌≤◌, Bool, true, false, ◌||◌, cond, eqb, List, [], ◌∷◌, ◌++◌, Some, length, take, get_or, refl, sym, ap, ◌∙◌, arith, subst, inl, inr, ◌-◌}
 use Rattle.std.specs.Prelude.{slice_get, Contains}
 use Rattle.std.specs.List.{list_any}
@@ -22,14 +22,14 @@ pending InputDecision half = half
 pending NonInputDecision half = half
 pending (Reason number) half = 0
 
--- how many settings are left under a trail, where this many inputs were left before it
+-- how many settings are left under a trail, with this many inputs without a value before its first entry
 abbrev pub leaves : (ℕ → Bool) → List Entry → ℕ → ℕ
 leaves input [] left = halves left
 leaves input (e ∷ es) zero = 1
 leaves input (e ∷ es) (suc left) =
     cond (input e.literal.variable) (pending e.cause (halves left) + leaves input es left) (leaves input es (suc left))
 
--- how many entries are of inputs
+-- how many entries are of input variables
 abbrev pub input_count : (ℕ → Bool) → List Entry → ℕ
 input_count input [] = 0
 input_count input (e ∷ es) = cond (input e.literal.variable) (suc (input_count input es)) (input_count input es)
@@ -79,7 +79,7 @@ leaves_pos input (e ∷ es) (suc left) =
     either_above (input e.literal.variable) (pending e.cause (halves left) + leaves input es left) (leaves input es (suc left)) 1
     (omega (arith, leaves_pos input es left)) (leaves_pos input es (suc left))
 
--- entries more leave no more
+-- a longer trail leaves no more settings
 pub leaves_grow : (input : ℕ → Bool) (entries more : List Entry) (left : ℕ) → leaves input (entries ++ more) left ≤ leaves input entries left
 leaves_grow input [] more left = leaves_le input more left
 leaves_grow input (e ∷ es) more zero = omega arith
@@ -103,7 +103,7 @@ module _ (input : ℕ → Bool) (e f : Entry) (number : ℕ) (is_input : input e
   flip_step true p x y v w c left h k m = omega (arith, k (omega arith))
   flip_step false p x y v w c left h k m = m h
 
-  -- where a decision of an input is flipped, some are left no longer
+  -- where a decision on an input is flipped, at least one setting less is left
   pub leaves_flip : (entries : List Entry) (place left : ℕ) → slice_get entries place ≡ Some e → input_count input entries ≤ left → leaves input (take place entries ++ f ∷ []) left + 1 ≤ leaves input entries left
   leaves_flip [] place left at room = cc
   leaves_flip (g ∷ gs) place zero at room = absurd (omega (arith, some_input (g ∷ gs) place at))
@@ -120,7 +120,7 @@ module _ (input : ℕ → Bool) (e f : Entry) (number : ℕ) (is_input : input e
       flip_step (input g.literal.variable) (pending g.cause (halves left)) (leaves input (take place gs ++ f ∷ []) left) (leaves input (take place gs ++ f ∷ []) (suc left)) (leaves input gs left) (leaves input gs (suc left)) (input_count input gs) left room
       (leaves_flip gs place left at) (leaves_flip gs place (suc left) at)
 
--- the entries are of different variables
+-- no two entries are of the same variable
 pub record Different (entries : List Entry) : Type 0 where
   pub each : (j k : ℕ) (e f : Entry) → j < k → slice_get entries j ≡ Some e → slice_get entries k ≡ Some f → e.literal.variable ≡ f.literal.variable → ⊥
 
@@ -178,7 +178,7 @@ no_count (e ∷ es) = no_count es
 abbrev pub is_among : List ℕ → ℕ → Bool
 is_among inputs v = list_any (eqb v) inputs
 
--- a number that stood in the list already
+-- a number that the list has already adds no member
 pub among_already : (n : ℕ) (ns : List ℕ) (v : ℕ) → is_among ns n ≡ true → is_among (n ∷ ns) v ≡ is_among ns v
 among_already n ns v among =
     elim (cases_Bool (eqb v n)) [
@@ -192,7 +192,7 @@ same_count p q (e ∷ es) same =
     ap (λ b. cond b (suc (input_count p es)) (input_count p es)) (same e.literal.variable)
     ∙ ap (λ n. cond (q e.literal.variable) (suc n) n) (same_count p q es same)
 
--- no more entries of inputs than inputs
+-- a trail has at most as many entries of inputs as there are different inputs
 pub input_count_le : (inputs : List ℕ) (entries : List Entry) → Different entries → input_count (is_among inputs) entries ≤ distinct_count inputs
 input_count_le [] entries d = omega (arith, no_count entries)
 input_count_le (n ∷ ns) entries d =

@@ -5,7 +5,7 @@ use Rattle.std.specs.Prelude.{slice_get, ◌⊎◌}
 pub some_same : {X : Type 0} (x y : X) → Some x ≡ Some y → x ≡ y
 some_same x y e = cc
 
--- an element of the first list stays where it is
+-- an element of the first list is at the same place of the joined lists
 pub slice_get_left : {X : Type 0} (xs ys : List X) (k : ℕ) (x : X) → slice_get xs k ≡ Some x → slice_get (xs ++ ys) k ≡ Some x
 slice_get_left [] ys k x at = cc
 slice_get_left (z ∷ zs) ys zero x at = at
@@ -16,7 +16,7 @@ slice_get_right [] ys k j x is at = let e : k ≡ j = omega arith in subst (λ i
 slice_get_right (z ∷ zs) ys zero j x is at = absurd (omega arith)
 slice_get_right (z ∷ zs) ys (suc k) j x is at = slice_get_right zs ys k j x (omega arith) at
 
--- an element of joined lists is in the first or in the second
+-- an element of joined lists is one of the first or one of the second
 pub slice_get_cases : {X : Type 0} (xs ys : List X) (k : ℕ) (x : X) → slice_get (xs ++ ys) k ≡ Some x → (slice_get xs k ≡ Some x) ⊎ ((j : ℕ) × (k ≡ length xs + j) × (slice_get ys j ≡ Some x))
 slice_get_cases [] ys k x at = inr (k, omega arith, at)
 slice_get_cases (z ∷ zs) ys zero x at = inl at
@@ -26,12 +26,12 @@ slice_get_cases (z ∷ zs) ys (suc k) x at =
       | inr right ↦ inr (right.0, omega (arith, right.1), right.2)
     ]
 
--- the only element of a list of one
+-- a list of one element has no other
 pub slice_get_one : {X : Type 0} (y : X) (j : ℕ) (x : X) → slice_get (y ∷ []) j ≡ Some x → (j ≡ 0) × (y ≡ x)
 slice_get_one y zero x at = (refl, cc)
 slice_get_one y (suc j) x at = cc
 
--- an element of a list with one more is in the list or is that one
+-- an element of a list to which one was added is one of the list or the added one
 pub slice_get_push_cases : {X : Type 0} (xs : List X) (y : X) (k : ℕ) (x : X) → slice_get (xs ++ y ∷ []) k ≡ Some x → (slice_get xs k ≡ Some x) ⊎ ((k ≡ length xs) × (y ≡ x))
 slice_get_push_cases xs y k x at =
     elim (slice_get_cases xs (y ∷ []) k x at) [
@@ -83,7 +83,7 @@ take_in_take (suc n) [] k x at = cc
 take_in_take (suc n) (z ∷ zs) zero x at = refl
 take_in_take (suc n) (z ∷ zs) (suc k) x at = ap (λ l. z ∷ l) (take_in_take n zs k x at)
 
--- the element at a place ends the prefix of one more
+-- the first k + 1 elements are the first k and the element at place k
 pub take_next : {X : Type 0} (xs : List X) (k : ℕ) (x : X) → slice_get xs k ≡ Some x → take (suc k) xs ≡ take k xs ++ x ∷ []
 take_next [] k x at = cc
 take_next (y ∷ ys) zero x at = let same : y ≡ x = cc in ap (λ z. z ∷ []) same

@@ -1,4 +1,4 @@
--- Clauses that are propagated.
+-- Clauses at which unit propagation has nothing to do.
 use Rattle.std.proofs.Common.{◌≡◌, ℕ, true, false, List, [], ◌∷◌, ◌++◌, sym, ap, ◌∙◌, inl, inr, subst}
 use Rattle.std.proofs.lemmas.Bool.{or_cases, cases_Bool, true≢false, false_from_ne_true}
 use Rattle.std.proofs.lemmas.List.Elements.{All-head, All-tail}
@@ -17,7 +17,7 @@ IsPropagated-from_held held clause m ok within is =
       forced_held = λ l unit. subst (λ k. is_held held k ≡ true) (unit_only held clause l m unit within (ok.each m is)) is;
     }
 
--- two literals that differ, stand in the clause and aren't false settle it
+-- a clause with two different literals that aren't false is propagated
 pub IsPropagated-from_different : (held clause : List Lit) (a b : Lit) → is_held clause a ≡ true → is_false held a ≡ false → is_held clause b ≡ true → is_false held b ≡ false → (a ≡ b → ⊥) → IsPropagated held clause
 IsPropagated-from_different held clause a b in_a kept_a in_b kept_b differ =
     record {
@@ -25,7 +25,7 @@ IsPropagated-from_different held clause a b in_a kept_a in_b kept_b differ =
       forced_held = λ l unit. absurd (differ (unit_only held clause l a unit in_a kept_a ∙ sym (unit_only held clause l b unit in_b kept_b)));
     }
 
--- a literal that becomes held changes nothing at a clause without its negation
+-- a literal that becomes held makes no other literal false than its negation
 is_false-push : (held : List Lit) (x m : Lit) → is_same (negation_of x) m ≡ false → is_false (held ++ x ∷ []) m ≡ is_false held m
 is_false-push held x m differ =
     elim (cases_Bool (is_false held m)) [
@@ -56,7 +56,7 @@ IsPropagated-push held clause x none propagated =
       forced_held = λ l unit. held_left held (x ∷ []) l (propagated.forced_held l (IsUnit-agree (held ++ x ∷ []) held clause l back unit));
     }
 
--- a clause that forced the new literal is propagated
+-- a clause is propagated once its unit literal is held
 pub IsPropagated-forced : (held clause : List Lit) (x : Lit) → is_held clause (negation_of x) ≡ false → IsUnit held clause x → IsPropagated (held ++ x ∷ []) clause
 IsPropagated-forced held clause x none unit =
     let now : IsUnit (held ++ x ∷ []) clause x = IsUnit-agree held (held ++ x ∷ []) clause x (agree_push held clause x none) unit in
@@ -66,7 +66,7 @@ IsPropagated-forced held clause x none unit =
           subst (λ k. is_held (held ++ x ∷ []) k ≡ true) (unit_same (held ++ x ∷ []) clause x l now forces) (held_last held x);
     }
 
--- a literal of a clause is within what the clause is
+-- the variable of each literal of a clause is one of those that the clause is within
 pub variable_within : (count : ℕ) (clause : List Lit) (l : Lit) → IsWithin count clause → is_held clause l ≡ true → IsVariable count l.variable
 variable_within count [] l within h = absurd (not_held_nil l h)
 variable_within count (m ∷ ms) l within h =

@@ -1,4 +1,4 @@
--- What a clause on an option says, by a test of the option, and clauses on a result.
+-- What contracts on an option say once the option is tested, and contracts on a result.
 use Rattle.std.proofs.Common.{◌≡◌, true, false, Some, None, Option, sym}
 use Rattle.std.specs.Prelude.{Result, Ok, Err, is_some, IfNone, IfOk, IfSome}
 use Rattle.std.proofs.lemmas.Bool.{true≢false}
@@ -19,7 +19,7 @@ pub IfSome_at : {X : Type 0} (o : Option X) (P : X → Type 0) → is_some o ≡
 IfSome_at None P some h = absurd (true≢false (sym some))
 IfSome_at (Some x) P some h = (x, h)
 
--- two clauses on a result together
+-- two contracts on the same result taken together
 pub IfOk_both : {X Y : Type 0} (r : Result X Y) (P Q R : X → Type 0) → ((x : X) → P x → Q x → R x) → IfOk r P → IfOk r Q → IfOk r R
 IfOk_both (Ok x) P Q R both p q = both x p q
 IfOk_both (Err y) P Q R both p q = tt

@@ -1,4 +1,4 @@
--- How far propagation has come, entry by entry and clause by clause.
+-- How far propagation has come, entry by entry along the trail and clause by clause along a list.
 use Rattle.std.proofs.Common.{◌≡◌, ℕ, ◌+◌, ◌<◌, ◌≤◌, true, List, [], ◌∷◌, ◌++◌, Some, length, take, refl, sym, ap, ◌∙◌, arith, inl, inr, subst, length-append, append_assoc}
 use Rattle.std.specs.Prelude.{slice_get, ◌⊎◌}
 use Rattle.std.proofs.lemmas.Bool.{cases_Bool, cases_order}
@@ -15,7 +15,7 @@ use Rattle.depth_first.proofs.Lists.{some_same, slice_get_left, slice_get_last, 
 use Rattle.depth_first.proofs.HeldLists.{literals-append}
 use Rattle.depth_first.proofs.Open.{IsPropagated-push, IsPropagated-forced}
 
--- propagated, or touched from the head on
+-- the clause is propagated, or an entry of the propagation queue, which begins at the head, made a literal of it false
 abbrev pub IsPropagatedOrTouched : List Entry → ℕ → List Lit → Type 0
 IsPropagatedOrTouched entries head clause = IsPropagated (literals entries) clause ⊎ IsTouched entries head clause
 
@@ -28,7 +28,7 @@ touched_last entries e head clause within h = (length entries, e, within, slice_
 propagated_at : (entries : List Entry) (e : Entry) (clause : List Lit) → IsPropagated (literals entries ++ e.literal ∷ []) clause → IsPropagated (literals (entries ++ e ∷ [])) clause
 propagated_at entries e clause s = subst (λ held. IsPropagated held clause) (sym (literals-append entries (e ∷ []))) s
 
--- a clause that is propagated or touched stays so after one entry more
+-- a clause that is propagated or touched is so after one more entry
 pub IsPropagatedOrTouched-push : (entries : List Entry) (e : Entry) (head : ℕ) (clause : List Lit) → head ≤ length entries → IsPropagatedOrTouched entries head clause → IsPropagatedOrTouched (entries ++ e ∷ []) head clause
 IsPropagatedOrTouched-push entries e head clause within (inl propagated) =
     elim (cases_Bool (is_held clause (negation_of e.literal))) [
@@ -37,7 +37,7 @@ IsPropagatedOrTouched-push entries e head clause within (inl propagated) =
     ]
 IsPropagatedOrTouched-push entries e head clause within (inr touched) = inr (touched_left entries (e ∷ []) head clause touched)
 
--- a clause that forced the new entry is propagated or touched
+-- a clause is propagated or touched after the entry of its unit literal
 IsPropagatedOrTouched-forced : (entries : List Entry) (e : Entry) (head : ℕ) (clause : List Lit) → head ≤ length entries → IsUnit (literals entries) clause e.literal → IsPropagatedOrTouched (entries ++ e ∷ []) head clause
 IsPropagatedOrTouched-forced entries e head clause within unit =
     elim (cases_Bool (is_held clause (negation_of e.literal))) [
@@ -49,7 +49,7 @@ pub IsPropagatedUpTo-push : (clauses : List (List Lit)) (entries : List Entry) (
 IsPropagatedUpTo-push clauses entries e head within up_to_head number clause at =
     IsPropagatedOrTouched-push entries e head clause within (up_to_head number clause at)
 
--- a number from this place on is the one there or from the next on
+-- a number that stands in the list from a place on stands at that place or from the next on
 pub stands_cases : (numbers : List ℕ) (from number n : ℕ) → slice_get numbers from ≡ Some number → StandsFrom numbers from n → (n ≡ number) ⊎ StandsFrom numbers (from + 1) n
 stands_cases numbers from number n at s =
     elim (cases_order s.0 from) [
@@ -58,7 +58,7 @@ stands_cases numbers from number n at s =
       | inr (inr more) ↦ inr (s.0, omega arith, s.2)
     ]
 
--- a propagated clause needs no entry
+-- a clause that is propagated already propagates without a new entry
 pub PropagatesClause-propagated : (clauses : List (List Lit)) (number : ℕ) (entries : List Entry) (clause : List Lit) → slice_get clauses number ≡ Some clause → IsPropagated (literals entries) clause → PropagatesClause clauses number entries entries
 PropagatesClause-propagated clauses number entries clause at propagated numbers from head next within up_to_head n d there =
     elim (up_to_head n d there) [
@@ -85,7 +85,7 @@ PropagatesClause-forced clauses number entries e clause at unit numbers from hea
       | inr fine ↦ inr (IsPropagatedOrTouched-push entries e head d within fine)
     ]
 
--- trails that grew
+-- a trail grows from itself by no entries
 pub Grows-none : (clauses : List (List Lit)) (entries : List Entry) → Grows clauses entries entries
 Grows-none clauses entries =
     record {
@@ -131,7 +131,7 @@ Grows-then clauses old mid new g h =
 pub Grows-length : (clauses : List (List Lit)) (old new : List Entry) → Grows clauses old new → length old ≤ length new
 Grows-length clauses old new g = omega (arith, ap length g.is, length-append old g.more)
 
--- where no numbers are left, propagation has come to the head
+-- at the end of the list of clauses, propagation has come to the head
 pub IsPropagatedUpTo-end : (clauses : List (List Lit)) (numbers : List ℕ) (from : ℕ) (entries : List Entry) (head : ℕ) → length numbers ≤ from → IsPropagatedBut clauses numbers from entries head → IsPropagatedUpTo clauses entries head
 IsPropagatedUpTo-end clauses numbers from entries head past up_to_head number clause at =
     elim (up_to_head number clause at) [
@@ -139,7 +139,8 @@ IsPropagatedUpTo-end clauses numbers from entries head past up_to_head number cl
       | inr fine ↦ fine
     ]
 
--- the clauses that the entry at the head touches are those of its negation's numbers
+-- The entry at the head is taken off the queue: the clauses that it touches are those that the list of its negation
+-- has.
 pub IsPropagatedUpTo-next : (clauses : List (List Lit)) (lists : Occurrences) (entries : List Entry) (head : ℕ) (e : Entry) (number_list : List ℕ) → FindsBelow clauses (length clauses) lists → slice_get entries head ≡ Some e → number_list ≡ numbers_of lists (negation_of e.literal) → IsPropagatedUpTo clauses entries head → IsPropagatedBut clauses number_list 0 entries (head + 1)
 IsPropagatedUpTo-next clauses lists entries head e number_list finds here is up_to_head number clause at =
     elim (up_to_head number clause at) [
@@ -156,7 +157,7 @@ IsPropagatedUpTo-next clauses lists entries head e number_list finds here is up_
           ]
     ]
 
--- past the last entry nothing touches
+-- once the queue is empty all clauses are propagated
 pub AllPropagated-end : (clauses : List (List Lit)) (entries : List Entry) (head : ℕ) → length entries ≤ head → IsPropagatedUpTo clauses entries head → AllPropagated clauses (literals entries)
 AllPropagated-end clauses entries head past up_to_head number clause at =
     elim (up_to_head number clause at) [
@@ -164,6 +165,6 @@ AllPropagated-end clauses entries head past up_to_head number clause at =
       | inr (place, e, from, there, touches) ↦ let h : place < length entries = slice_get_below entries place e there in absurd (omega arith)
     ]
 
--- where all clauses are propagated, propagation has come to any head
+-- where all clauses are propagated, propagation has come to each head
 pub IsPropagatedUpTo-propagated : (clauses : List (List Lit)) (entries : List Entry) (head : ℕ) → AllPropagated clauses (literals entries) → IsPropagatedUpTo clauses entries head
 IsPropagatedUpTo-propagated clauses entries head propagated number clause at = inl (propagated number clause at)

@@ -1,4 +1,4 @@
--- The steps of a search: where it starts, how its measure falls, and how long its log can get.
+-- The steps of a search: its first state, why its weight falls, and how long its log can get.
 use Rattle.std.proofs.Common.{◌≡◌, ℕ, suc, ◌+◌, ◌<◌, ◌≤◌, Bool, Option, true, false, List, [], ◌∷◌, ◌++◌, Some, None, length, take, set, refl, sym, ap, ◌∙◌, arith, inl, inr, subst}
 use Rattle.std.specs.Prelude.{slice_get, ◌⊎◌, Contains, IfSome, IfNone}
 use Rattle.std.proofs.lemmas.List.{length_push}
@@ -20,7 +20,7 @@ use Rattle.depth_first.proofs.States.{EachCaused-grown}
 use Rattle.depth_first.proofs.Weight.{weight, weight_push, weight_grow, weight_flip}
 use Rattle.depth_first.proofs.Leaves.{leaves, halves, halves_mono, leaves_le, leaves_grow, leaves_flip, input_count_le, is_among, is_among-from_contains, Different-from_fresh}
 
--- the log that has no step
+-- the empty log
 nothing_learned : (set : Cnf) → IsLearned set []
 nothing_learned set =
     record {
@@ -40,7 +40,7 @@ EachCaused-start set log old new no_log no_entries g =
     subst (λ steps. EachCaused set steps new) (sym no_log)
     (EachCaused-grown set [] [] new (subst (λ es. Grows (all_clauses set) es new) no_entries g) (nothing_caused set))
 
--- the state after all clauses were looked at once
+-- the first state, once each clause of the set was propagated once
 pub IsState-start : (set : Cnf) (log : List Step) (old new : List Entry) → log ≡ [] → old ≡ [] → Grows (all_clauses set) old new → IsPropagatedUpTo (all_clauses set) new 0 → IsState set log new 0
 IsState-start set log old new no_log no_entries g up_to_head =
     subst (λ steps. IsState set steps new 0) (sym no_log)
@@ -60,7 +60,7 @@ none_decided (e ∷ es) none =
     decided_one : (e : Entry) (es : List Entry) (b : Bool) → is_decision e.cause ≡ b → is_decision e.cause ≡ false → decisions es ≡ [] → decisions (e ∷ es) ≡ []
     decided_one e es b is isnt rest = simp isnt rest
 
--- what clauses of the set forced at the start has no decision
+-- a trail that clauses alone forced has no decision
 pub no_decisions : (clauses : List (List Lit)) (old new : List Entry) → old ≡ [] → Grows clauses old new → decisions new ≡ []
 no_decisions clauses old new none g =
     let same : new ≡ g.more = g.is ∙ ap (λ es. es ++ g.more) none in
@@ -71,22 +71,23 @@ pub NamesFalse-with : (set : Cnf) (log : List Step) (held : List Lit) (number : 
 NamesFalse-with set log held number (clause, at, none) =
     (clause, slice_get_left (all_clauses set) (clauses_of_steps log) number clause at, none)
 
--- there is room for an open variable
+-- a trail with an open variable is shorter than the table of the variables
 pub room_left : (values : List (Option Bool)) (entries : List Entry) (n : ℕ) → IsTableOf values entries → open_count values + length entries ≡ length values → n < length values → IsOpen (literals entries) n → length entries < length values
 room_left values entries n table counted within o = omega (arith, counted, open_count-push values entries n true table within o)
 
--- the measure falls at a decision
+-- the weight falls where a literal is decided
 pub decided_smaller : (clauses : List (List Lit)) (n m : ℕ) (old new last : List Entry) (e : Entry) → m ≡ n → Grows clauses old new → last ≡ new ++ e ∷ [] → length new < n → weight m last < weight n old
 decided_smaller clauses n m old new last e same g is room =
     omega (arith, ap (λ k. weight k last) same, ap (weight n) is, weight_push n new e room, ap (weight n) g.is, weight_grow n old g.more)
 
--- and where a decision is flipped
+-- the weight falls where a decision is flipped
 pub flipped_smaller : (clauses : List (List Lit)) (n m : ℕ) (old new last : List Entry) (place number : ℕ) (e f : Entry) → m ≡ n → Grows clauses old new → last ≡ take place new ++ f ∷ [] → length new ≤ n → slice_get new place ≡ Some e → is_decision e.cause ≡ true → f.cause ≡ Reason number → weight m last < weight n old
 flipped_smaller clauses n m old new last place number e f same g is room at decides cause =
     let below : place < length new = slice_get_below new place e at in
     omega (arith, ap (λ k. weight k last) same, ap (weight n) is, weight_flip n new place e f number (omega arith) at decides cause, ap (weight n) g.is, weight_grow n old g.more)
 
--- The log keeps to the limit, or what it has learned and the settings of the inputs that are left are bounded together.
+-- The log is within the limit, or it and the settings of the inputs that are left come to at most 4096 more than the
+-- limit.
 abbrev pub IsBounded : Cnf → ℕ → List Step → List Entry → Type 0
 IsBounded set limit log entries =
     (length log ≤ limit) ⊎ (length log + leaves (is_among set.inputs) entries (distinct_count set.inputs) ≤ limit + 4096)
@@ -117,7 +118,7 @@ input_or_not InputDecision is = inl refl
 input_or_not NonInputDecision is = inr refl
 input_or_not (Reason number) is = cc
 
--- where the search doesn't give up at a conflict
+-- the log stays bounded where a decision is flipped, since the search gives up below other decisions at the limit
 pub bounded_flip : (set : Cnf) (limit : ℕ) (values : List (Option Bool)) (log : List Step) (entries : List Entry) (place number : ℕ) (e : Entry) (step : Step) → EachFresh values entries → EachCaused set log entries → slice_get entries place ≡ Some e → is_decision e.cause ≡ true → distinct_count set.inputs ≤ 12 → (length log < limit) ⊎ ((e.cause ≡ NonInputDecision) → ⊥) → IsBounded set limit log entries → IsBounded set limit (log ++ step ∷ []) (take place entries ++ (record { literal = negation_of e.literal; cause = Reason number }) ∷ [])
 bounded_flip set limit values log entries place number e step fresh caused at decides few (inl room) bounded =
     inl (omega (arith, length_push log step))
@@ -135,7 +136,7 @@ bounded_flip set limit values log entries place number e step fresh caused at de
       | inr both ↦ inr (omega (arith, both, falls, length_push log step))
     ]
 
--- what a clause says of the value that an option has
+-- what a contract on an option says of its value
 pub IfSome_is : {X : Type 0} (o : Option X) (x : X) (P : X → Type 0) → o ≡ Some x → IfSome o P → P x
 IfSome_is o x P is h = subst (λ r. IfSome r P) is h
 

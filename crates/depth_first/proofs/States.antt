@@ -1,4 +1,4 @@
--- The state of a search after each kind of step.
+-- The state of a search after each kind of step: propagation, a decision, a learned clause.
 use Rattle.std.proofs.Common.{◌≡◌, ℕ, suc, ◌+◌, Bool, true, false, cond, filter, List, [], ◌∷◌, ◌++◌, Some, length, take, refl, sym, ap, ◌∙◌, arith, inl, inr, subst, length-append, append_assoc}
 use Rattle.std.specs.Prelude.{slice_get, remove}
 use Rattle.std.proofs.lemmas.List.{append-nil, map-append, drop_all, length-map}
@@ -24,7 +24,7 @@ use Rattle.depth_first.proofs.Open.{IsPropagated-from_held}
 use Rattle.depth_first.specs.TrailEntries.{EachForced}
 use Rattle.depth_first.proofs.PropagationLemmas.{IsPropagatedUpTo-push, IsPropagatedUpTo-propagated}
 
--- the clauses of a set and a log with one step more
+-- the clauses of a set and of a log with one more step
 pub clauses_with-push : (set : Cnf) (log : List Step) (step : Step) → clauses_with set (log ++ step ∷ []) ≡ clauses_with set log ++ step.clause ∷ []
 clauses_with-push set log step =
     ap (λ cs. all_clauses set ++ cs) (map-append (λ (s : Step). s.clause) log (step ∷ []))
@@ -37,7 +37,7 @@ pub length-clauses_with : (set : Cnf) (log : List Step) → length (clauses_with
 length-clauses_with set log =
     length-append (all_clauses set) (clauses_of_steps log) ∙ ap (λ n. length (all_clauses set) + n) (length-map log (λ (s : Step). s.clause))
 
--- a clause of more is a clause of the rest
+-- a literal that is unit in a clause of a number is so with more clauses behind
 pub NamesUnit-more : (clauses more : List (List Lit)) (held : List Lit) (number : ℕ) (l : Lit) → NamesUnit clauses held number l → NamesUnit (clauses ++ more) held number l
 NamesUnit-more clauses more held number l (clause, at, unit) = (clause, slice_get_left clauses more number clause at, unit)
 
@@ -51,13 +51,13 @@ AllPropagated-push clauses clause held propagated new number d at =
       | inr here ↦ subst (IsPropagated held) here.1 new
     ]
 
--- what was decided was decided with all propagated
+-- where a literal was decided, all clauses were propagated
 pub decided_from : (set : Cnf) (log : List Step) (held : List Lit) (l : Lit) (cause : Cause) → is_decision cause ≡ true → IsCaused set log held l cause → IsDecided set log held l
 decided_from set log held l InputDecision is caused = caused.0
 decided_from set log held l NonInputDecision is caused = caused.0
 decided_from set log held l (Reason number) is caused = cc
 
--- causes give the reasons that clauses force
+-- each entry with a reason was unit in the clause of its reason
 pub EachForced-from_caused : (set : Cnf) (log : List Step) (entries : List Entry) → EachCaused set log entries → EachForced (clauses_with set log) entries
 EachForced-from_caused set log entries caused =
     record {
@@ -65,7 +65,7 @@ EachForced-from_caused set log entries caused =
           subst (IsCaused set log (literals (take place entries)) e.literal) is (caused place e at);
     }
 
--- where the search grew by what clauses of the set forced
+-- the causes of a trail hold good where it grows by entries that clauses of the set forced
 pub EachCaused-grown : (set : Cnf) (log : List Step) (old new : List Entry) → Grows (all_clauses set) old new → EachCaused set log old → EachCaused set log new
 EachCaused-grown set log old new g caused =
     subst (EachCaused set log) (sym g.is) (λ place e at.
@@ -93,7 +93,7 @@ IsState-grown set log old new head next g up_to_head state =
       log_learned = state.log_learned;
     }
 
--- where nothing is left to propagate, the clauses of the set and of the log are propagated
+-- where all clauses of the set are propagated, those of the log are too, since what is held satisfies them
 pub AllPropagated-with : (set : Cnf) (log : List Step) (held : List Lit) → Consistent held → AllPropagated (all_clauses set) held → AllSatisfied held log → AllPropagated (clauses_with set log) held
 AllPropagated-with set log held ok propagated satisfied number clause at =
     elim (slice_get_cases (all_clauses set) (clauses_of_steps log) number clause at) [
@@ -132,7 +132,7 @@ IsState-decided set log entries head e ok state propagated next =
       log_learned = state.log_learned;
     }
 
--- the negations of negations
+-- the negations of the negations are the literals
 pub negations_twice : (ls : List Lit) → negations_of (negations_of ls) ≡ ls
 negations_twice [] = refl
 negations_twice (l ∷ ls) = ap (λ m. m ∷ negations_of (negations_of ls)) (negation-negation l) ∙ ap (λ ms. l ∷ ms) (negations_twice ls)
@@ -147,7 +147,7 @@ negated_in (m ∷ ms) l h =
       | inr rest ↦ or_right (is_same (negation_of l) (negation_of m)) (is_held (negations_of ms) (negation_of l)) (negated_in ms l rest)
     ]
 
--- a step more in the log
+-- a log with one more step
 module _ (set : Cnf) (log : List Step) (step : Step) where
   pub before_left : (place : ℕ) (s : Step) → slice_get log place ≡ Some s → clauses_before set (log ++ step ∷ []) place ≡ clauses_before set log place
   before_left place s at = ap (λ ss. all_clauses set ++ clauses_of_steps ss) (take_left log (step ∷ []) place s at)
@@ -180,7 +180,7 @@ module _ (set : Cnf) (log : List Step) (step : Step) where
         | inr here ↦ last (ap (λ (t : Step). t.clause) here.1 ∙ empty)
       ]
 
--- each variable of a negated decision is one of the set's
+-- the variables of the negated decisions are the set's
 within_one : (count : ℕ) (b : Bool) (e : Entry) (ds : List Entry) → IsVariable count e.literal.variable → IsWithin count (negations_of (literals ds)) → IsWithin count (negations_of (literals (cond b (e ∷ ds) ds)))
 within_one count true e ds is within = All-cons (λ k. IsVariable count k.variable) (negation_of e.literal) (negations_of (literals ds)) is within
 within_one count false e ds is within = within
@@ -191,7 +191,7 @@ decisions_within count (e ∷ es) each =
     within_one count (is_decision e.cause) e (filter (λ (f : Entry). is_decision f.cause) es) (each 0 e refl)
     (decisions_within count es (λ place f at. each (suc place) f at))
 
--- the negations of what is held are all false
+-- the negations of literals that are held are all false
 pub all_false : (ds held : List Lit) → HeldWithin ds held → IsFalsified held (negations_of ds)
 all_false [] held within = All-nil (λ l. is_false held l ≡ true)
 all_false (d ∷ ds) held within =

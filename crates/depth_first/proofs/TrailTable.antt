@@ -1,4 +1,4 @@
--- The table of a trail's values after an entry more or less.
+-- The table of the values of a trail after an entry is pushed or popped.
 use Rattle.std.proofs.Common.{◌≡◌, ℕ, ◌+◌, ◌<◌, ◌≤◌, Bool, true, false, not, ◌||◌, ◌&&◌, cond, List, [], ◌∷◌, ◌++◌, Some, None, Option, length, take, set, get_or, refl, sym, ap, ◌∙◌, arith, inl, inr, subst, length-set}
 use Rattle.std.proofs.lemmas.Bool.{cases_eq, eq-eqb, ne_eqb, true≢false}
 use Rattle.std.proofs.lemmas.List.{get_or-set_same, get_or-set_other}
@@ -24,7 +24,7 @@ held-append [] ys l = refl
 held-append (x ∷ xs) ys l =
     ap (λ b. is_same l x || b) (held-append xs ys l) ∙ or_assoc (is_same l x) (is_held xs l) (is_held ys l)
 
--- one entry more: held before, or the entry's literal
+-- a literal is held after one more entry where it was held before or is the entry's
 pub held-push : (entries : List Entry) (e : Entry) (l : Lit) → is_held (literals (entries ++ e ∷ [])) l ≡ (is_held (literals entries) l || is_same l e.literal)
 held-push entries e l =
     ap (λ held. is_held held l) (literals-append entries (e ∷ []))
@@ -66,7 +66,7 @@ IsTableOf-push values entries e table within o l =
           ∙ sym (ap (λ v. value_makes v l) (get_or-set_other values x.variable l.variable (Some (not x.negated)) None differ))
     ]
 
--- the table after the last entry is taken back
+-- the table after the last entry is popped
 pub IsTableOf-pop : (values : List (Option Bool)) (entries : List Entry) (e : Entry) → IsTableOf values (entries ++ e ∷ []) → e.literal.variable < length values → IsOpen (literals entries) e.literal.variable → IsTableOf (set values e.literal.variable None) entries
 IsTableOf-pop values entries e table within o l =
     let x = e.literal in
@@ -105,7 +105,7 @@ EachFresh-pop values entries e n v fresh place f at =
     let lengths : length (set values n v) ≡ length values = length-set values n v in
     (h.0, omega (arith, lengths, h.1), subst (λ es. IsOpen (literals es) f.literal.variable) (take_left entries (e ∷ []) place f at) h.2)
 
--- what the last entry's variable was before it
+-- the variable of the last entry has a place in the table and was open before that entry
 pub last_fresh : (values : List (Option Bool)) (entries : List Entry) (e : Entry) → EachFresh values (entries ++ e ∷ []) → (e.literal.variable < length values) × IsOpen (literals entries) e.literal.variable
 last_fresh values entries e fresh =
     let h = fresh (length entries) e (slice_get_last entries e) in
@@ -116,7 +116,7 @@ open_value None n h k = refl
 open_value (Some true) n h k = absurd (true≢false k)
 open_value (Some false) n h k = absurd (true≢false h)
 
--- the table has no value at an open variable
+-- an open variable counts as one in the table
 pub open_one : (values : List (Option Bool)) (entries : List Entry) (n : ℕ) → IsTableOf values entries → IsOpen (literals entries) n → one_if_open (get_or values n None) ≡ 1
 open_one values entries n table o =
     open_value (get_or values n None) n (sym (table (made n true)) ∙ o false) (sym (table (made n false)) ∙ o true)
@@ -140,7 +140,7 @@ consistent_value (Some false) n true h = refl
 consistent_value (Some true) n false h = refl
 consistent_value (Some false) n false h = absurd (true≢false (sym h))
 
--- what a table tells is consistent
+-- a trail with a table of values is consistent
 pub Consistent-from_table : (values : List (Option Bool)) (entries : List Entry) → IsTableOf values entries → Consistent (literals entries)
 Consistent-from_table values entries table =
     record {

@@ -1,5 +1,5 @@
--- A number that falls with each step of a depth-first search: the trail as digits to the base 3, where a reason counts
--- 0, a decision 1 and a free place 2.
+-- The weight of a trail, a number that falls with each step of a depth-first search: the trail as a number to the base
+-- 3, in which an entry with a reason is the digit 0, a decision 1 and a place without an entry 2.
 use Rattle.std.proofs.Common.{◌≡◌, ℕ, zero, suc, ◌+◌, ◌<◌, ◌≤◌, true, List, [], ◌∷◌, ◌++◌, Some, length, take, refl, ap, ◌∙◌, arith}
 use Rattle.std.specs.Prelude.{slice_get}
 use Rattle.depth_first.specs.declared.trail.Entry.{Entry}
@@ -36,7 +36,7 @@ weight_lt zero entries = omega arith
 weight_lt (suc n) [] = omega (arith, weight_lt n [])
 weight_lt (suc n) (e ∷ es) = omega (arith, weight_lt n es, digit_le e.cause (power n))
 
--- what no entries weigh is the most
+-- no trail weighs more than the empty one
 weight_le : (n : ℕ) (entries : List Entry) → weight n entries ≤ weight n []
 weight_le zero entries = omega arith
 weight_le (suc n) [] = omega arith
@@ -51,13 +51,13 @@ power_pos : (n : ℕ) → 0 < power n
 power_pos zero = omega arith
 power_pos (suc n) = omega (arith, power_pos n)
 
--- an entry more weighs less
+-- a trail with one more entry weighs less
 pub weight_push : (n : ℕ) (entries : List Entry) (e : Entry) → length entries < n → weight n (entries ++ e ∷ []) < weight n entries
 weight_push zero entries e within = absurd (omega arith)
 weight_push (suc n) [] e within = omega (arith, power_pos n, digit_le e.cause (power n))
 weight_push (suc n) (f ∷ fs) e within = omega (arith, weight_push n fs e (omega arith))
 
--- a decision that is flipped weighs less
+-- a trail with a decision flipped weighs less
 pub weight_flip : (n : ℕ) (entries : List Entry) (place : ℕ) (e f : Entry) (number : ℕ) → place < n → slice_get entries place ≡ Some e → is_decision e.cause ≡ true → f.cause ≡ Reason number → weight n (take place entries ++ f ∷ []) < weight n entries
 weight_flip zero entries place e f number within at is cause = absurd (omega arith)
 weight_flip (suc n) [] place e f number within at is cause = cc

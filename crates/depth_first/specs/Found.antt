@@ -22,7 +22,8 @@ abbrev pub distinct_count : List ℕ → ℕ
 distinct_count [] = 0
 distinct_count (n ∷ ns) = (if list_any (λ m. n == m) ns then 0 else 1) + distinct_count ns
 
--- at most twelve inputs are named, and units, once these are set, derive all the rest or make a clause false
+-- at most twelve different inputs are named, and unit propagation from their values gives all variables a value or
+-- makes a clause false
 abbrev pub FewInputsDetermine : Cnf → Type 0
 FewInputsDetermine set = (distinct_count set.inputs ≤ 12) × UnitsDetermine set
 
@@ -30,8 +31,9 @@ FewInputsDetermine set = (distinct_count set.inputs ≤ 12) × UnitsDetermine se
 abbrev pub NoneEmpty : List Step → Type 0
 NoneEmpty log = (place : ℕ) (step : Step) → slice_get log place ≡ Some step → ¬ (step.clause ≡ [])
 
--- An honest answer that the limit was reached: so many clauses were learned, each follows and is new, none is empty;
--- units alone don't refute the set with them; and it isn't a set that a few inputs determine.
+-- An honest answer that the limit was reached: exactly so many clauses were learned, each follows and is new, none is
+-- empty; unit propagation alone doesn't refute the set with them; and it isn't a set that at most twelve inputs
+-- determine.
 pub record IsHonestLimit (set : Cnf) (limit : ℕ) (log : List Step) : Type 0 where
   pub exact : length log ≡ limit
   pub none_empty : NoneEmpty log

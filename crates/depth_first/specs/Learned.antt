@@ -1,4 +1,5 @@
--- What is learned of a conflict: which variables it rests on, and the step that shows it.
+-- What is learned of a conflict: which variables it rests on (conflict analysis), and the step that shows the learned
+-- clause.
 use Rattle.std.specs.Prelude.{◌≡◌, ℕ, ◌≤◌, ◌++◌, ◌⊎◌, Bool, true, false, List, [], ◌∷◌, Some, filter, slice_get, slice_index_or}
 use Rattle.clauses.specs.Literal.{Lit}
 use Rattle.clauses.specs.declared.cnf.Cnf.{Cnf}
@@ -17,7 +18,7 @@ is_marked marks n = slice_index_or marks n false
 abbrev pub AllMarked : List Bool → List Lit → Type 0
 AllMarked marks clause = (l : Lit) → is_held clause l ≡ true → is_marked marks l.variable ≡ true
 
--- the variables of the clause are marked, and no others that weren't
+-- the variables of the clause are marked beside those that were, and no others
 pub record Marks (clause : List Lit) (old new : List Bool) : Type 0 where
   pub all : AllMarked new clause
   pub kept : (n : ℕ) → is_marked old n ≡ true → is_marked new n ≡ true
@@ -27,8 +28,8 @@ pub record Marks (clause : List Lit) (old new : List Bool) : Type 0 where
 abbrev pub NamesMarked : List (List Lit) → List Bool → ℕ → Type 0
 NamesMarked clauses marks number = (clause : List Lit) → slice_get clauses number ≡ Some clause → AllMarked marks clause
 
--- What the conflict rests on is marked: the variables of the clause that is false, and with a marked variable, at an
--- entry from this place on, those of its reason.
+-- What the conflict rests on is marked: the variables of the clause that is false, and for each entry from this place
+-- on whose variable is marked and that has a reason, the variables of the reason.
 pub record IsInvolved (clauses : List (List Lit)) (entries : List Entry) (conflict from : ℕ) (marks : List Bool) : Type 0 where
   pub falsified : NamesMarked clauses marks conflict
   pub reasons_too : (place : ℕ) (e : Entry) (number : ℕ) → from ≤ place → slice_get entries place ≡ Some e → e.cause ≡ Reason number → is_marked marks e.literal.variable ≡ true → NamesMarked clauses marks number
@@ -37,15 +38,15 @@ pub record IsInvolved (clauses : List (List Lit)) (entries : List Entry) (confli
 abbrev pub marked_entries : List Bool → List Entry → List Entry
 marked_entries marks entries = filter (λ (e : Entry). is_marked marks e.literal.variable) entries
 
--- the step that a conflict shows: the clause of the negated decisions, whose hints are the reasons in order of what the
--- conflict rests on, and then the clause that is false
+-- The step that is learned of a conflict: the clause of the negated decisions; its hints are the reasons, in the order
+-- of the trail, of what the conflict rests on, and then the clause that is false.
 pub record IsLearnedStep (clauses : List (List Lit)) (entries : List Entry) (conflict : ℕ) (step : Step) : Type 0 where
   pub marks : List Bool
   pub involved : IsInvolved clauses entries conflict 0 marks
   pub clause_is : step.clause ≡ negations_of (decisions entries)
   pub hints_are : step.hints ≡ reasons (marked_entries marks entries) ++ conflict ∷ []
 
--- The log has one step more: the clause of the negated decisions, which follows.
+-- The log has one more step: the clause of the negated decisions, which follows.
 pub record Learns (set : Cnf) (entries : List Entry) (old new : List Step) : Type 0 where
   pub step : Step
   pub is : new ≡ old ++ step ∷ []

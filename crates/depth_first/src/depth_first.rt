@@ -1,4 +1,4 @@
-//! Going down decision by decision.
+//! The search itself: propagation, decisions, and at a conflict a learned clause and a flip.
 
 ghost use Rattle.std.specs.Prelude.{◌≡◌, ◌+◌, ◌^◌, ◌<◌, ◌≤◌, ◌↔◌, ℕ, [], Contains, length, IfOk, OnOk, IfSome, IfNone, IsTrue};
 ghost use Rattle.clauses.specs.Literal.{IsVariable};
@@ -20,7 +20,7 @@ use clauses::{Cnf, Lit, Step};
 use lists::List;
 use std::alloc::{AllocError, Global};
 
-/// Propagates each clause of the set once, by what is held at the start.
+/// Propagates each clause of the set once. The answer is the number of the clause of a conflict, if there is one.
 fn propagate_all_clauses(
     alloc: Global,
     cnf: &Cnf,
@@ -39,7 +39,7 @@ fn propagate_all_clauses(
     propagate_clauses(cnf, &numbers, trail)
 }
 
-/// The first input that isn't set.
+/// The first input without a value.
 fn open_input(cnf: &Cnf, trail: &Trail) -> Option<u32>
     requires { length trail.now.values.items ≡ cnf.now.count + 1 }
     ensures found { IfSome result (λ n. Contains cnf.now.inputs n × IsOpen (literals trail.now.entries.items) n) }
@@ -53,7 +53,7 @@ fn open_input(cnf: &Cnf, trail: &Trail) -> Option<u32>
     None
 }
 
-/// The first variable that isn't set.
+/// The first variable without a value.
 fn open_variable(cnf: &Cnf, trail: &Trail) -> Option<u32>
     requires { length trail.now.values.items ≡ cnf.now.count + 1 }
     ensures found { IfSome result (λ n. IsVariable cnf.now.count n × IsOpen (literals trail.now.entries.items) n) }
@@ -67,7 +67,7 @@ fn open_variable(cnf: &Cnf, trail: &Trail) -> Option<u32>
     None
 }
 
-/// The value false for the first variable that isn't set, inputs before the others.
+/// The next decision: the first variable without a value, inputs before the others, is false.
 fn next_decision(cnf: &Cnf, trail: &Trail) -> Option<Entry>
     requires { length trail.now.values.items ≡ cnf.now.count + 1 }
     ensures found { IfSome result (IsNext cnf.now (literals trail.now.entries.items)) }
@@ -82,7 +82,7 @@ fn next_decision(cnf: &Cnf, trail: &Trail) -> Option<Entry>
     None
 }
 
-/// A variable decided to be false.
+/// The entry of a variable that is decided to be false.
 fn decision(variable: u32, cause: Cause) -> Entry
     requires { variable < 2 ^ 31 }
     ensures variable { result.literal.variable ≡ variable }
@@ -94,8 +94,8 @@ fn decision(variable: u32, cause: Cause) -> Entry
     }
 }
 
-/// Whether the search may give up at a conflict under this last decision: the inputs are set, and units didn't
-/// determine the rest.
+/// Whether the search may give up at a conflict below this last decision. It may where the decision is on no input: all
+/// inputs were set then, and unit propagation didn't determine the rest.
 fn may_give_up(last: Entry) -> bool
     ensures { IsTrue result ↔ (last.cause ≡ Cause.NonInputDecision) }
 {
@@ -105,7 +105,8 @@ fn may_give_up(last: Entry) -> bool
     }
 }
 
-/// Learns from the conflict at a clause, and flips the last decision, which stands at `place`.
+/// Learns from the conflict at the clause of a number, and flips the last decision, which stands at `place` of the
+/// trail.
 fn learn_and_flip(
     alloc: Global,
     cnf: &Cnf,
@@ -131,8 +132,8 @@ fn learn_and_flip(
     Ok(())
 }
 
-/// Propagates, decides, and learns where a decision is flipped, first by the entries that the clauses alone force,
-/// which all wait.
+/// The loop of the search: propagates, decides, and learns at conflicts. At first the propagation queue is the whole
+/// trail, the entries that clauses alone forced.
 fn decide_and_flip(
     alloc: Global,
     cnf: &Cnf,
@@ -171,7 +172,7 @@ fn decide_and_flip(
     }
 }
 
-/// Searches with a trail that is still empty.
+/// Searches with an empty trail.
 fn search_in(
     alloc: Global,
     cnf: &Cnf,
@@ -196,10 +197,10 @@ fn search_in(
 /// Searches for a model of all clauses, and gives up after `limit` learned clauses. The empty clause that ends a
 /// refutation isn't counted. A limit is at most 1,000,000, so that clause numbers fit a `u32`.
 ///
-/// At most twelve inputs are named, one that is named again counted once. The search goes on past the limit as long
-/// as it has decided inputs alone, so that it gives up on no set in which units determine the rest.
+/// At most twelve different inputs are named. The search goes on past the limit as long as all its decisions are on
+/// inputs, so that it gives up on no set in which the inputs determine the rest by unit propagation.
 ///
-/// A decision looks through the variables, and a conflict through the trail: the learned clause may be as long as
+/// A decision costs a pass over the variables, and a conflict one over the trail: the learned clause may be as long as
 /// that anyway.
 ///
 /// The only error is want of memory.

@@ -13,6 +13,6 @@ pub enum Found {
     Sat(Assignment),
     /// A refutation: a log that ends with the empty clause.
     Unsat(Log),
-    /// The search gave up, with as many learned clauses as it was allowed.
+    /// The search gave up at its limit, with exactly as many learned clauses as that says.
     Limit(Log),
 }

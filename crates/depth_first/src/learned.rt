@@ -1,4 +1,4 @@
-//! The clause that a conflict shows.
+//! The clause that is learned of a conflict.
 
 ghost use Rattle.std.specs.Prelude.{◌≡◌, ◌+◌, ◌<◌, ◌++◌, ◌∷◌, [], length, All, Some, slice_get, IfOk, OnOk};
 ghost use Rattle.clauses.specs.Propagation.{NamesFalse, negations_of};
@@ -12,8 +12,8 @@ use clauses::{Clause, Cnf, Lit, Log, Step, clause_in};
 use lists::List;
 use std::alloc::{AllocError, Global};
 
-/// The clause of the negated decisions of a trail. Its hints are the reasons, in order, of what the conflict rests
-/// on, and then the number of the clause that is false.
+/// The clause of the negated decisions of a trail. Its hints are the reasons, in the order of the trail, of what the
+/// conflict rests on, and then the number of the clause that is false.
 pub(crate) fn learned(
     alloc: Global,
     cnf: &Cnf,
@@ -32,7 +32,7 @@ pub(crate) fn learned(
     step_of(alloc, trail, &involved, conflict)
 }
 
-/// Adds an entry to a step: the negation of a decision, or the reason of what is marked.
+/// Adds to a step what an entry gives it: the negation of a decision, or the reason of a marked entry.
 fn add_entry(entry: &Entry, marked: &[bool], step: &mut Step) -> Result<(), AllocError>
     requires { entry.now.literal.variable < length marked.now }
     ensures clause { OnOk result (step.new.clause ≡ step.old.clause ++ negations_of (decisions (entry.now ∷ []))) }
@@ -49,7 +49,8 @@ fn add_entry(entry: &Entry, marked: &[bool], step: &mut Step) -> Result<(), Allo
     Ok(())
 }
 
-/// The clause of the negated decisions, whose hints are the reasons, in order, of what is marked, and then this number.
+/// The clause of the negated decisions, whose hints are the reasons of the marked entries, in the order of the trail,
+/// and then the number of the clause that is false.
 fn step_of(alloc: Global, trail: &Trail, marked: &[bool], conflict: u32) -> Result<Step, AllocError>
     requires { length marked.now ≡ length trail.now.values.items }
     ensures clause { IfOk result (λ step. step.clause ≡ negations_of (decisions trail.now.entries.items)) }
@@ -66,7 +67,7 @@ fn step_of(alloc: Global, trail: &Trail, marked: &[bool], conflict: u32) -> Resu
     Ok(step)
 }
 
-/// The refutation that a conflict without decisions shows: the log, ended by the empty clause.
+/// The refutation where a conflict rests on no decision: the log, ended by the empty clause.
 pub fn refutation(
     alloc: Global,
     cnf: &Cnf,
@@ -86,7 +87,8 @@ pub fn refutation(
     Ok(List::from_vec(log))
 }
 
-/// Which variables a conflict rests on: those of the clause that is false, and those of the reasons of these.
+/// Which variables a conflict rests on: those of the clause that is false, and, from the end of the trail back, those
+/// of the reason of each entry whose variable is one of them.
 fn involved(
     alloc: Global,
     cnf: &Cnf,

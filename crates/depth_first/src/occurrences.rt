@@ -1,4 +1,4 @@
-//! Which clauses to look at when a literal becomes false.
+//! Occurrence lists: which clauses to look at when a literal becomes false.
 
 ghost use Rattle.std.specs.Prelude.{◌≡◌, ◌+◌, ◌<◌, ◌^◌, ◌++◌, ◌∷◌, [], length, replicate, slice_set, slice_index_or, IfOk, OnOk};
 
@@ -6,7 +6,7 @@ use clauses::{Cnf, Lit};
 use lists::List;
 use std::alloc::{AllocError, Global};
 
-/// For each literal the numbers of the clauses in which it stands, by its variable.
+/// For each literal, by its variable, the numbers of the clauses in which it stands.
 #[derive(Drop)]
 pub(crate) struct Occurrences {
     positive: Vec<List<u32>>,
@@ -18,7 +18,7 @@ impl Occurrences {
     ghost use Rattle.clauses.specs.Literal.{Lit};
     ghost use Rattle.depth_first.specs.OccurrenceLists.{numbers_of, CoversBelow, AddsNumber, AddsClause, IsIndexOf};
 
-    /// Those of the clauses of a set.
+    /// The occurrence lists of the clauses of a set.
     pub(crate) fn new(alloc: Global, cnf: &Cnf) -> Result<Occurrences, AllocError>
         ensures { IfOk result (IsIndexOf cnf.now) }
     {
@@ -29,7 +29,7 @@ impl Occurrences {
         Ok(occurrences)
     }
 
-    /// No occurrences of the variables from 1 to `count`.
+    /// Empty lists for the variables from 1 to `count`.
     fn empty(alloc: Global, count: u32) -> Result<Occurrences, AllocError>
         requires { count + 1 < 2 ^ 32 }
         ensures covers { IfOk result (CoversBelow (count + 1)) }
@@ -54,7 +54,7 @@ impl Occurrences {
         }
     }
 
-    /// Adds the clause of a number.
+    /// Adds the number of a clause to the list of each of its literals.
     fn add(&mut self, clause: &[Lit], number: u32) -> Result<(), AllocError>
         requires covers { CoversBelow (length self.old.positive.items) self.old }
         requires within { All (λ l. l.variable < length self.old.positive.items) clause.now }
@@ -67,7 +67,7 @@ impl Occurrences {
         Ok(())
     }
 
-    /// Adds a number for one literal.
+    /// Adds a number to the list of one literal.
     fn add_literal(&mut self, literal: Lit, number: u32) -> Result<(), AllocError>
         requires positive { literal.variable < length self.old.positive.items }
         requires negative { literal.variable < length self.old.negative.items }

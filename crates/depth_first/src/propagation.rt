@@ -1,4 +1,4 @@
-//! Unit propagation by the clauses in which a literal became false.
+//! Unit propagation, clause by clause: those in which a literal became false are looked at.
 
 ghost use Rattle.std.specs.Prelude.{◌≡◌, ◌+◌, ◌-◌, ◌<◌, length, All, IfOk, IfSome, IfNone};
 ghost use Rattle.std.specs.Bool.{OnTrue, OnFalse};
@@ -14,18 +14,18 @@ use crate::trail::{Cause, Entry, Trail};
 use clauses::{Cnf, Lit};
 use std::alloc::AllocError;
 
-/// What unit propagation has to do at a clause, by what is held.
+/// What unit propagation has to do at a clause.
 enum Status {
     /// Nothing: the clause is satisfied, by a literal that is held, or unresolved, with two different
     /// literals that aren't false.
     Propagated,
-    /// The clause is unit: this literal isn't set, all others are false, and so it is to be held.
+    /// The clause is unit: this literal has no value, and all others are false, so it is to be held.
     Forces(Lit),
     /// All literals are false.
     Falsified,
 }
 
-/// What unit propagation has to do at the clause.
+/// What unit propagation has to do at the clause, by what the trail holds.
 fn status_of(trail: &Trail, clause: &[Lit]) -> Status
     requires { IsWithin (length trail.now.values.items - 1) clause.now }
     ensures { IsStatus (literals trail.now.entries.items) clause.now result }
@@ -49,8 +49,8 @@ fn status_of(trail: &Trail, clause: &[Lit]) -> Status
     }
 }
 
-/// Propagates the clause of a number: where it is unit, its literal is held. The answer is false
-/// where all its literals are.
+/// Propagates the clause of a number: where it is unit, its literal is pushed. The answer is false where all its
+/// literals are false, a conflict.
 fn propagate_clause(cnf: &Cnf, number: u32, trail: &mut Trail) -> Result<bool, AllocError>
     requires known { number < length (all_clauses cnf.now) }
     requires variables { length trail.old.values.items ≡ cnf.now.count + 1 }
@@ -72,7 +72,7 @@ fn propagate_clause(cnf: &Cnf, number: u32, trail: &mut Trail) -> Result<bool, A
     }
 }
 
-/// Propagates the clauses of these numbers in order, up to the first that is false.
+/// Propagates the clauses of these numbers in order, up to the first that is false. The answer is its number.
 pub(crate) fn propagate_clauses(
     cnf: &Cnf,
     numbers: &[u32],
@@ -93,8 +93,8 @@ pub(crate) fn propagate_clauses(
     Ok(None)
 }
 
-/// Propagates the entries from `head` on, which are the propagation queue, and those that come of it, up
-/// to the first clause that is false.
+/// Propagates the entries from `head` on, which are the propagation queue, and those that are pushed meanwhile, up to
+/// the first clause that is false.
 pub(crate) fn propagate(
     cnf: &Cnf,
     occurrences: &Occurrences,

@@ -1,4 +1,4 @@
-//! What is held at a point of the search, and why.
+//! The trail: which literals are held, that is, assigned true, and why.
 
 ghost use Rattle.std.specs.Prelude.{◌≡◌, ◌+◌, ◌*◌, length};
 ghost use Rattle.clauses.specs.Literal.{code_of};
@@ -9,30 +9,30 @@ use clauses::Lit;
 use lists::List;
 use std::alloc::{AllocError, Global};
 
-/// Why a literal is held.
+/// Why a literal is held: it was decided, or a clause forced it.
 #[derive(Clone, Copy)]
 pub enum Cause {
     /// A decision on an input.
     InputDecision,
-    /// A decision on a variable that is no input, once all inputs were set.
+    /// A decision on a variable that is no input, once all inputs had values.
     NonInputDecision,
-    /// All other literals of the clause of this number were false.
+    /// The reason: the clause of this number, all other literals of which were false.
     Reason(u32),
 }
 
-/// A literal that is held, and why.
+/// A literal that is held, and its cause.
 #[derive(Clone, Copy)]
 pub struct Entry {
     pub literal: Lit,
     pub cause: Cause,
 }
 
-/// The literals that are held, in the order in which they came, and the tables of the variables' values and of what is
-/// held.
+/// The literals that are held, in the order in which they were assigned, with tables of the variables' values and of
+/// the literals that are held.
 #[derive(Drop)]
 pub struct Trail {
     pub entries: Vec<Entry>,
-    /// The value of each variable that is set; place 0 belongs to none.
+    /// The value of each variable that has one; place 0 belongs to none.
     pub values: Vec<Option<bool>>,
     /// Whether each literal is held, by its code.
     pub held: Vec<bool>,
@@ -94,7 +94,7 @@ impl Trail {
         })
     }
 
-    /// The value of a variable, if it is set.
+    /// The value of a variable, if it has one.
     pub fn value(&self, variable: u32) -> Option<bool>
         requires { variable < length self.now.values.items }
         ensures open { IfNone result (IsOpen (literals self.now.entries.items) variable) }
@@ -111,7 +111,7 @@ impl Trail {
         self.held[code_of(literal)]
     }
 
-    /// The values of the variables from 1 on, where one that isn't set counts as false.
+    /// The values of the variables from 1 on, where one without a value counts as false.
     pub fn assignment(&self, alloc: Global) -> Result<Assignment, AllocError>
         ensures { IfOk result (λ values. values ≡ map value_or_false (drop 1 self.now.values.items)) }
     {
@@ -122,7 +122,7 @@ impl Trail {
         Ok(values)
     }
 
-    /// Adds an entry for a variable that isn't set.
+    /// Pushes an entry of a variable without a value.
     pub fn push(&mut self, entry: Entry) -> Result<(), AllocError>
         requires first { 1 ≤ entry.literal.variable }
         requires last { entry.literal.variable < length self.old.values.items }
@@ -140,7 +140,7 @@ impl Trail {
         Ok(())
     }
 
-    /// Takes the last entry back.
+    /// Pops the last entry.
     fn pop(&mut self)
         ensures entries { self.new.entries.items ≡ take (length self.old.entries.items - 1) self.old.entries.items }
         ensures variables { length self.new.values.items ≡ length self.old.values.items }
@@ -151,7 +151,7 @@ impl Trail {
         }
     }
 
-    /// Takes all entries back but the first `kept`.
+    /// Pops all entries but the first `kept`.
     pub fn cut(&mut self, kept: usize)
         ensures entries { self.new.entries.items ≡ take kept self.old.entries.items }
         ensures variables { length self.new.values.items ≡ length self.old.values.items }
@@ -175,8 +175,8 @@ impl Trail {
         last
     }
 
-    /// Flips the decision at a place: all from there on is taken back, and the decision's negation is
-    /// held, for the reason of this number.
+    /// Flips the decision at a place: pops it and all entries behind it, and pushes the decision's negation, with the
+    /// clause of this number as its reason.
     pub fn flip_decision(&mut self, place: usize, reason: u32) -> Result<(), AllocError>
         requires { place < length self.old.entries.items }
         ensures ok { OnOk result (IsFlipped self.old.entries.items place reason self.new.entries.items) }

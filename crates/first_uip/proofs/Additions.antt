@@ -1,4 +1,4 @@
--- The state with one clause more, and with one entry more.
+-- The watches after one more clause, one more entry, a decision, or a backjump.
 use Rattle.std.proofs.Common.{◌≡◌, ℕ, ◌<◌, ◌≤◌, true, false, List, [], ◌∷◌, ◌++◌, Some, length, length-append, take, sym, ap, ◌∙◌, arith, inl, inr, subst}
 use Rattle.std.specs.Prelude.{Contains, option_map, slice_get}
 use Rattle.std.proofs.lemmas.Bool.{true≢false}
@@ -19,7 +19,7 @@ use Rattle.first_uip.specs.Watching.{watched_literals, watchers_of, AddsNumbers,
 use Rattle.first_uip.proofs.Listing.{IsListed-add}
 use Rattle.first_uip.proofs.Guards.{EachGuarded-grown}
 
--- the next clause is there, with what it watches
+-- one more clause is in the arena, with the literals that it watches
 pub record IsAdded (old new : Watches) (clause : List Lit) (w : Watched) : Type 0 where
   pub clauses : clauses_in new.arena ≡ clauses_in old.arena ++ clause ∷ []
   pub watched : watched_in new.arena ≡ watched_in old.arena ++ w ∷ []
@@ -55,7 +55,7 @@ EachBlocked-add clauses clause old new w count listed added watch blocked l v c 
     ]
 
 module _ (clauses : List (List Lit)) (clause : List Lit) (watched : List Watched) (w : Watched) (count : length watched ≡ length clauses) where
-  -- the clause of a number is an older one, or the new one
+  -- a clause with a number is an older one, or the new one
   older : (P : List Lit → Watched → Type 0) → ((number : ℕ) (c : List Lit) (v : Watched) → slice_get clauses number ≡ Some c → slice_get watched number ≡ Some v → P c v) → P clause w → (number : ℕ) (c : List Lit) (v : Watched) → slice_get (clauses ++ clause ∷ []) number ≡ Some c → slice_get (watched ++ w ∷ []) number ≡ Some v → P c v
   older P each new number c v at at' =
       elim (slice_get_push_cases clauses clause number c at) [
@@ -71,7 +71,7 @@ module _ (clauses : List (List Lit)) (clause : List Lit) (watched : List Watched
             ]
       ]
 
--- one clause more
+-- one more clause, which is guarded before each decision and at the end
 pub IsWatchingUpTo-add : (clauses : List (List Lit)) (clause : List Lit) (old new : Watches) (w : Watched) (entries : List Entry) (head : ℕ) → IsAdded old new clause w → IsWatch clause w → ((place : ℕ) (e : Entry) → slice_get entries place ≡ Some e → is_decision e.cause ≡ true → IsGuarded (literals (take place entries)) (literals (take place entries)) clause w) → IsGuarded (literals (take head entries)) (literals entries) clause w → IsWatchingUpTo clauses old entries head → IsWatchingUpTo (clauses ++ clause ∷ []) new entries head
 IsWatchingUpTo-add clauses clause old new w entries head added watch levels guard state =
     let count = state.watching.count in
@@ -97,7 +97,7 @@ IsWatchingUpTo-add clauses clause old new w entries head added watch levels guar
           (older clauses clause (watched_in old.arena) w count (λ c v. IsGuarded (literals (take head entries)) (literals entries) c v) state.guarded guard);
     }
 
--- one entry more, which wasn't decided
+-- one more entry, which isn't a decision
 pub IsWatchingUpTo-push : (clauses : List (List Lit)) (watches : Watches) (entries : List Entry) (e : Entry) (head : ℕ) → head ≤ length entries → is_decision e.cause ≡ false → IsWatchingUpTo clauses watches entries head → IsWatchingUpTo clauses watches (entries ++ e ∷ []) head
 IsWatchingUpTo-push clauses watches entries e head within reason state =
     record {
@@ -121,7 +121,7 @@ IsWatchingUpTo-push clauses watches entries e head within reason state =
           (EachGuarded-grown clauses (watched_in watches.arena) (literals (take head entries)) (literals entries) (literals (entries ++ e ∷ [])) (HeldWithin-entries entries (e ∷ [])) state.guarded);
     }
 
--- one decision more, where all entries were seen
+-- one more decision, where all entries were propagated
 pub IsWatchingUpTo-decide : (clauses : List (List Lit)) (watches : Watches) (entries : List Entry) (e : Entry) → IsWatchingUpTo clauses watches entries (length entries) → IsWatchingUpTo clauses watches (entries ++ e ∷ []) (length entries)
 IsWatchingUpTo-decide clauses watches entries e state =
     let closed : EachGuarded clauses (watched_in watches.arena) (literals entries) (literals entries) =
@@ -149,7 +149,7 @@ IsWatchingUpTo-decide clauses watches entries e state =
           (EachGuarded-grown clauses (watched_in watches.arena) (literals entries) (literals entries) (literals (entries ++ e ∷ [])) (HeldWithin-entries entries (e ∷ [])) closed);
     }
 
--- all from a decision on is taken back
+-- all entries from a decision on are popped
 pub IsWatchingUpTo-cut : (clauses : List (List Lit)) (watches : Watches) (entries : List Entry) (place : ℕ) (e : Entry) → slice_get entries place ≡ Some e → is_decision e.cause ≡ true → IsWatching clauses watches entries → IsWatchingUpTo clauses watches (take place entries) place
 IsWatchingUpTo-cut clauses watches entries place e at decides state =
     let same : take place (take place entries) ≡ take place entries = take_take_below place place entries (omega arith) in

@@ -1,4 +1,4 @@
--- What an analysis of a conflict shows.
+-- What conflict analysis shows.
 use Rattle.std.proofs.Common.{◌≡◌, ℕ, zero, suc, ◌+◌, ◌<◌, ◌≤◌, Bool, true, false, cond, List, [], ◌∷◌, ◌++◌, Option, Some, None, length, take, set, get_or, refl, sym, ap, ◌∙◌, arith, inl, inr, subst}
 use Rattle.std.specs.Prelude.{slice_get, remove, ◌⊎◌}
 use Rattle.std.proofs.lemmas.Bool.{cases_order, cases_lt, or_cases, or_left, or_right, true≢false}
@@ -24,7 +24,7 @@ use Rattle.first_uip.specs.Conflict.{role_of, part_of, is_seen, is_kept, kept_en
 use Rattle.first_uip.proofs.RoleLemmas.{IsResolution-keep, IsResolution-unseen, other_entry}
 use Rattle.first_uip.proofs.Resolved.{held_place, kept_refuted}
 
--- a conflict rests on some entry of the last level, since the levels before are closed
+-- A conflict rests on some entry of the last level: all levels before it are closed under unit propagation.
 pub last_level_seen : (clauses : List (List Lit)) (entries : List Entry) (start conflict : ℕ) (clause : List Lit) (old roles : List Role) → slice_get clauses conflict ≡ Some clause → NamesFalse clauses (literals entries) conflict → IsClosed clauses (literals (take start entries)) → Sees clause old roles → NoneSeen entries roles start (length entries) → ⊥
 last_level_seen clauses entries start conflict clause old roles at (named, there, none) closed sees unseen =
     let same : named ≡ clause = some_same named clause (sym there ∙ at) in
@@ -39,7 +39,8 @@ last_level_seen clauses entries start conflict clause old roles at (named, there
       | inr later ↦ true≢false (sym seen ∙ unseen place e later (slice_get_below entries place e here) here)
     ]
 
--- where the implication point is kept, the entries from its level's decision on need no more reasons
+-- The first implication point is kept: no earlier entry of its level is seen, so the whole level is resolved but for
+-- the point.
 pub point_kept : (clauses : List (List Lit)) (values : List (Option Bool)) (entries : List Entry) (roles : List Role) (conflict start point : ℕ) (e : Entry) → EachFresh values entries → slice_get entries point ≡ Some e → e.literal.variable < length roles → start ≤ point → NoneSeen entries roles start point → IsResolution clauses entries conflict (point + 1) roles → IsResolution clauses entries conflict start (set roles e.literal.variable Kept)
 point_kept clauses values entries roles conflict start point e fresh at room first none so_far =
     let v = e.literal.variable in
@@ -71,7 +72,7 @@ IsAnalysis-from clauses values entries before new conflict start point e fresh a
           ];
     }
 
--- what is kept among some entries
+-- what some entries hold, these with one more before them hold too
 keep_one : (b : Bool) (e : Entry) (es : List Entry) (l : Lit) → is_held (literals es) l ≡ true → is_held (literals (cond b (e ∷ es) es)) l ≡ true
 keep_one true e es l h = or_right (is_same l e.literal) (is_held (literals es) l) h
 keep_one false e es l h = h
@@ -88,7 +89,7 @@ kept_held roles (f ∷ fs) zero e at kept =
     ∙ keep_here (is_kept (part_of roles f)) f (kept_entries roles fs) (ap (λ (g : Entry). is_kept (part_of roles g)) same ∙ kept)
 kept_held roles (f ∷ fs) (suc k) e at kept = keep_one (is_kept (part_of roles f)) f (kept_entries roles fs) e.literal (kept_held roles fs k e at kept)
 
--- a kept entry of some entries
+-- the literal of a kept entry among these
 abbrev KeptAmong : List Role → List Entry → Lit → Type 0
 KeptAmong roles entries l = (k : ℕ) × (e : Entry) × (slice_get entries k ≡ Some e) × (is_kept (part_of roles e) ≡ true) × (e.literal ≡ l)
 
@@ -132,7 +133,7 @@ not_nil : {X : Type 0} (xs : List X) (x : X) → xs ++ x ∷ [] ≡ [] → ⊥
 not_nil [] x e = cc
 not_nil (y ∷ ys) x e = cc
 
--- the clause that is learned
+-- the learned clause: the negations of the kept entries before the last level, and then this literal
 abbrev pub learned_clause : List Role → List Entry → ℕ → Lit → List Lit
 learned_clause roles entries start u = negations_of (literals (kept_entries roles (take start entries))) ++ u ∷ []
 
@@ -143,7 +144,7 @@ module _ (set : Cnf) (log : List Step) (values : List (Option Bool)) (entries : 
   abbrev pub e : Entry
   e = analysis.entry
 
-  -- a literal of the clause is the negation of a kept entry's
+  -- each literal of the learned clause is the negation of a kept entry's literal
   clause_literal : (m : Lit) → is_held (learned_clause roles entries start (negation_of e.literal)) m ≡ true → (k : ℕ) × (f : Entry) × (slice_get entries k ≡ Some f) × (is_kept (part_of roles f) ≡ true) × (m ≡ negation_of f.literal) × ((k < start) ⊎ (m ≡ negation_of e.literal))
   clause_literal m h =
       let first = take start entries in
@@ -157,7 +158,7 @@ module _ (set : Cnf) (log : List Step) (values : List (Option Bool)) (entries : 
             (point, e, analysis.at, analysis.kept, is, inr is)
       ]
 
-  -- and the negation of a kept entry's literal stands in it
+  -- the negation of each kept entry's literal stands in the learned clause
   stands_in : (k : ℕ) (f : Entry) → slice_get entries k ≡ Some f → is_kept (part_of roles f) ≡ true → is_held (learned_clause roles entries start (negation_of e.literal)) (negation_of f.literal) ≡ true
   stands_in k f at kept =
       let first = take start entries in
@@ -187,7 +188,7 @@ module _ (set : Cnf) (log : List Step) (values : List (Option Bool)) (entries : 
       push_negated [] l = ap (λ y. y ∷ []) (negation-negation l)
       push_negated (x ∷ xs) l = ap (λ ys. negation_of (negation_of x) ∷ ys) (push_negated xs l) ∙ ap (λ y. y ∷ (xs ++ l ∷ [])) (negation-negation x)
 
-  -- the step follows
+  -- the learned step follows by reverse unit propagation
   pub learned_follows : (hints : List ℕ) (step : Step) → EachForced (clauses_with set log) entries → NamesFalse (clauses_with set log) (literals entries) conflict → hints ≡ reasons (resolved_entries roles entries) ++ conflict ∷ [] → step.clause ≡ learned_clause roles entries start (negation_of e.literal) → step.hints ≡ hints → StepFollows set (clauses_with set log) step
   learned_follows hints step forced falsified hints_are clause_is hints_is =
       let cs = clauses_with set log in
@@ -220,7 +221,7 @@ module _ (set : Cnf) (log : List Step) (values : List (Option Bool)) (entries : 
             (subst (λ ls. HintsRefute cs ls (reasons (resolved_entries roles entries) ++ conflict ∷ [])) (sym (ap negations_of clause_is ∙ negated)) refuted),
       )
 
-  -- its clause is new, since the levels before the conflict's are closed
+  -- the learned clause is new, since the levels before the conflict's are closed under unit propagation
   pub learned_is_new : IsClosed (clauses_with set log) (literals (take start entries)) → IsNew (clauses_with set log) (learned_clause roles entries start (negation_of e.literal))
   learned_is_new closed =
       let first = take start entries in
@@ -241,7 +242,7 @@ module _ (set : Cnf) (log : List Step) (values : List (Option Bool)) (entries : 
       } in
       IsNew-from_closed (clauses_with set log) all (others ++ u ∷ []) (length others) u closed (slice_get_last others u) within (open_not_false all e.literal unset)
 
-  -- after the jump it is unit
+  -- after the backjump the learned clause is unit
   pub learned_asserts : (place : ℕ) (below : Option ℕ) → IsJump entries roles start place below → IsAsserting entries place (learned_clause roles entries start (negation_of e.literal)) (negation_of e.literal)
   learned_asserts place below jump =
       let first = take place entries in
@@ -266,7 +267,7 @@ module _ (set : Cnf) (log : List Step) (values : List (Option Bool)) (entries : 
             ];
       }
 
-  -- and its other watched literal, if there is one
+  -- where no entry below the backjump is kept, the learned clause has no second literal to watch
   pub none_other : (place : ℕ) → IsJump entries roles start place None → IsOther entries place (learned_clause roles entries start (negation_of e.literal)) (negation_of e.literal) None
   none_other place jump = (
     λ m stands.

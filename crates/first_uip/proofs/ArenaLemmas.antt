@@ -1,4 +1,4 @@
--- The clauses of an arena where literals are added to it, and what is watched by two literals that differ.
+-- The clauses of an arena to which literals are added, and clauses that watch two different literals.
 use Rattle.std.proofs.Common.{◌≡◌, ◌≢◌, ◌-◌, ◌≤◌, List, [], ◌∷◌, ◌++◌, length, map, take, drop, All, if◌then◌else◌, ap, ◌∙◌, arith, inl, inr, length-append, length-drop}
 use Rattle.std.proofs.lemmas.Bool.{cases_Bool}
 use Rattle.std.proofs.lemmas.List.{drop-append-le, take-append-le, take_all, drop_at, map_push}
@@ -9,7 +9,7 @@ use Rattle.first_uip.specs.declared.arena.Watched.TheVariants.{Alone, Two}
 use Rattle.first_uip.specs.Clauses.{literals_of}
 use Rattle.first_uip.proofs.Replaced.{map_same_where}
 
--- the literals of a header are among these
+-- the clause's part of the arena lies within these literals
 abbrev pub IsWithin : List Lit → Header → Type 0
 IsWithin literals h = (h.start ≤ h.end) × (h.end ≤ length literals)
 

@@ -1,4 +1,5 @@
--- How far the entries were seen, look by look.
+-- How far the entries were propagated, watcher by watcher. An entry is seen once all clauses that watch its negation
+-- were looked at.
 use Rattle.std.proofs.Common.{◌≡◌, ℕ, suc, ◌+◌, ◌<◌, ◌≤◌, true, false, List, [], ◌∷◌, ◌++◌, Some, length, length-set, take, refl, sym, ap, ◌∙◌, arith, inl, inr, subst}
 use Rattle.std.specs.Prelude.{slice_get, ◌⊎◌}
 use Rattle.std.specs.List.{swap_remove}
@@ -41,7 +42,7 @@ guard_of_other : (seen held clause : List Lit) (w : Watched) (l other : Lit) →
 guard_of_other seen held clause w l other (inl is) g closed = let both = subst (IsGuarded seen held clause) is g in both.1 closed
 guard_of_other seen held clause w l other (inr is) g closed = let both = subst (IsGuarded seen held clause) is g in both.0 closed
 
--- after one entry more is seen a literal is false that was, or the entry's negation
+-- a literal that is false by one more seen entry was false before, or is the negation of that entry
 seen_next : (entries : List Entry) (head : ℕ) (e : Entry) (l : Lit) → slice_get entries head ≡ Some e → is_false (literals (take (head + 1) entries)) l ≡ true → (is_false (literals (take head entries)) l ≡ true) ⊎ (l ≡ negation_of e.literal)
 seen_next entries head e l at closed =
     let next : take (head + 1) entries ≡ take head entries ++ e ∷ [] =
@@ -53,7 +54,7 @@ seen_next entries head e l at closed =
       | inr here ↦ inr (sym (negation-negation l) ∙ ap negation_of (held_one_same e.literal (negation_of l) here))
     ]
 
--- a clause that doesn't watch what became false is guarded as before
+-- a clause that doesn't watch the literal that became false is guarded as before
 pub guard_next : (entries : List Entry) (head : ℕ) (e : Entry) (held clause : List Lit) (w : Watched) → slice_get entries head ≡ Some e → is_held (watched_literals w) (negation_of e.literal) ≡ false → IsGuarded (literals (take head entries)) held clause w → IsGuarded (literals (take (head + 1) entries)) held clause w
 guard_next entries head e held clause Alone at none s = s
 guard_next entries head e held clause (Two a b) at none (first, second) =
@@ -70,7 +71,7 @@ guard_next entries head e held clause (Two a b) at none (first, second) =
           ],
     )
 
--- the clause of a number watches another literal now, which isn't false
+-- a clause that watches another literal, which isn't false, in place of the false one is guarded
 guard_moved : (seen held clause : List Lit) (w : Watched) (l moved other : Lit) → HeldWithin seen held → is_false held moved ≡ false → WatchesBoth w l other → IsGuarded seen held clause w → IsGuarded seen held clause (Two moved other)
 guard_moved seen held clause w l moved other within kept both g = (
   λ closed. absurd (both_held held (negation_of moved) (within.each (negation_of moved) closed) kept),
@@ -87,7 +88,7 @@ guard_moved_next entries head e clause w moved other at kept both differ g = (
       ],
 )
 
--- Each clause was looked at, or its number is left in the list from a place on.
+-- Each clause is guarded, but those with numbers in the list from a place on, which are still to be looked at.
 abbrev pub EachGuardedBut : List (List Lit) → List Watched → List ℕ → ℕ → List Lit → List Lit → Type 0
 EachGuardedBut clauses watched numbers place seen held =
     (number : ℕ) (clause : List Lit) (w : Watched) → slice_get clauses number ≡ Some clause → slice_get watched number ≡ Some w →
@@ -101,7 +102,7 @@ EachGuardedBut-start clauses watches entries head e falsified here is listed gua
           inr (guard_next entries head e (literals entries) clause w here (sym (ap (is_held (watched_literals w)) is) ∙ none) (guarded number clause w at at'))
     ]
 
--- a clause that is satisfied stays in the list
+-- a satisfied clause stays in the list of watchers, and the next one is looked at
 pub EachGuardedBut-stays : (clauses : List (List Lit)) (watched : List Watched) (numbers : List ℕ) (place number : ℕ) (seen held all : List Lit) → slice_get numbers place ≡ Some number → HeldWithin held all → NamesSatisfied clauses all number → EachGuardedBut clauses watched numbers place seen held → EachGuardedBut clauses watched numbers (place + 1) seen all
 EachGuardedBut-stays clauses watched numbers place number seen held all here more satisfied but n clause w at at' =
     elim (but n clause w at at') [
@@ -113,7 +114,7 @@ EachGuardedBut-stays clauses watched numbers place number seen held all here mor
       | inr g ↦ inr (guard_grown seen held all clause w more g)
     ]
 
--- a clause that doesn't watch the literal leaves the list
+-- a guarded clause is dropped from the list of watchers, and the last one is looked at in its place
 pub EachGuardedBut-leaves : (clauses : List (List Lit)) (watched new : List Watched) (numbers left : List ℕ) (place number : ℕ) (seen held : List Lit) → slice_get numbers place ≡ Some number → left ≡ swap_remove numbers place 0 → ((n : ℕ) (w : Watched) → (n ≡ number → ⊥) → slice_get new n ≡ Some w → slice_get watched n ≡ Some w) → ((clause : List Lit) (w : Watched) → slice_get clauses number ≡ Some clause → slice_get new number ≡ Some w → IsGuarded seen held clause w) → EachGuardedBut clauses watched numbers place seen held → EachGuardedBut clauses new left place seen held
 EachGuardedBut-leaves clauses watched new numbers left place number seen held here drops others guarded but n clause w at at' =
     elim (cases_eq n number) [
@@ -138,7 +139,7 @@ EachGuardedBut-end clauses watched numbers place seen held past but number claus
 pub EachGuarded-grown : (clauses : List (List Lit)) (watched : List Watched) (seen held all : List Lit) → HeldWithin held all → EachGuarded clauses watched seen held → EachGuarded clauses watched seen all
 EachGuarded-grown clauses watched seen held all more guarded number clause w at at' = guard_grown seen held all clause w more (guarded number clause w at at')
 
--- trails that grew by reasons have the same levels but the last
+-- a trail that grew by propagation has the same levels before the last
 pub EachLevelGuarded-grown : (clauses : List (List Lit)) (watched : List Watched) (old new : List Entry) → Grows clauses old new → EachLevelGuarded clauses watched old → EachLevelGuarded clauses watched new
 EachLevelGuarded-grown clauses watched old new g levels place e at decides =
     let split : slice_get (old ++ g.more) place ≡ Some e = sym (ap (λ es. slice_get es place) g.is) ∙ at in
@@ -149,7 +150,7 @@ EachLevelGuarded-grown clauses watched old new g levels place e at decides =
       | inr (j, is, later) ↦ absurd (true≢false (sym decides ∙ ap is_decision (g.forced j e later).1))
     ]
 
--- what a clause watches in place of another literal
+-- one clause watches another literal in place of a false one
 module _ (clauses : List (List Lit)) (held : List Lit) (old new : List Watched) (number : ℕ) (l : Lit) (moves : MovesWatch clauses held old new number l) where
   after_move : (n : ℕ) (w : Watched) → slice_get new n ≡ Some w → ((n ≡ number) × (Two moves.moved moves.other ≡ w)) ⊎ (((n ≡ number) → ⊥) × (slice_get old n ≡ Some w))
   after_move n w at =
@@ -201,14 +202,14 @@ moved_guarded clauses entries head e falsified old new number here is moves each
       | inr (other, there) ↦ absurd (other refl)
     ]
 
--- entries that were seen are the same in a trail that grew
+-- the first entries of a trail are those of the trail that it grew to
 pub take_grown : (clauses : List (List Lit)) (old new : List Entry) (n : ℕ) → Grows clauses old new → n ≤ length old → take n new ≡ take n old
 take_grown clauses old new n g within = ap (take n) g.is ∙ take-append-le n old g.more within
 
 pub HeldWithin-grown : (clauses : List (List Lit)) (old new : List Entry) → Grows clauses old new → HeldWithin (literals old) (literals new)
 HeldWithin-grown clauses old new g = subst (λ es. HeldWithin (literals old) (literals es)) (sym g.is) (HeldWithin-entries old g.more)
 
--- a level that is guarded is closed
+-- where all clauses are guarded by all entries, the state is closed under unit propagation
 pub AllPropagated-from_guarded : (clauses : List (List Lit)) (watched : List Watched) (held : List Lit) → Consistent held → length watched ≡ length clauses → EachIsWatch clauses watched → EachGuarded clauses watched held held → AllPropagated clauses held
 AllPropagated-from_guarded clauses watched held ok count each guarded number clause at =
     let (w, at') = element_at watched number (omega (arith, count, slice_get_below clauses number clause at)) in
@@ -232,7 +233,7 @@ AllPropagated-from_guarded clauses watched held ok count each guarded number cla
 pub slice_get_grown : (clauses : List (List Lit)) (old new : List Entry) (n : ℕ) (e : Entry) → Grows clauses old new → slice_get old n ≡ Some e → slice_get new n ≡ Some e
 slice_get_grown clauses old new n e g at = ap (λ es. slice_get es n) g.is ∙ slice_get_left old g.more n e at
 
--- the state after a look at a clause that stays
+-- the watches after a clause was looked at that stays in the list of watchers
 pub IsWatchingUpTo-stays : (clauses : List (List Lit)) (old new : Watches) (before after : List Entry) (head : ℕ) → head ≤ length before → Grows clauses before after → clauses_in new.arena ≡ clauses → watched_in new.arena ≡ watched_in old.arena → IsListed new → EachBlocked clauses new → IsWatchingUpTo clauses old before head → IsWatchingUpTo clauses new after head
 IsWatchingUpTo-stays clauses old new before after head within g unchanged same listed blocked w =
     record {
@@ -261,7 +262,7 @@ not_among a b l not_a not_b =
     false_from_ne_true (is_held (a ∷ b ∷ []) l) (λ is.
     elim (held_cases (a ∷ []) (b ∷ []) l is) [ inl one ↦ not_a (held_one_same a l one) | inr two ↦ not_b (held_one_same b l two) ])
 
--- then it doesn't watch that one
+-- such a clause doesn't watch the literal in the end
 pub leaves_unwatched : (clauses : List (List Lit)) (held : List Lit) (old new : List Watched) (number : ℕ) (l : Lit) → is_false held l ≡ true → number < length clauses → EachIsWatch clauses old → LeavesWatch clauses held old new number l → (w : Watched) → slice_get new number ≡ Some w → is_held (watched_literals w) l ≡ false
 leaves_unwatched clauses held old new number l closed within each (inl (same, none)) w at = none w (sym (ap (λ ws. slice_get ws number) same) ∙ at)
 leaves_unwatched clauses held old new number l closed within each (inr moves) w at =
@@ -274,7 +275,7 @@ leaves_unwatched clauses held old new number l closed within each (inr moves) w 
       | inr (other, there) ↦ absurd (other refl)
     ]
 
--- the state after a look at a clause that leaves, and once its number is dropped
+-- the watches after a clause was looked at that is dropped from the list of watchers
 pub IsWatchingUpTo-leaves : (clauses : List (List Lit)) (old new : Watches) (mid : List Watched) (entries : List Entry) (head number : ℕ) (l : Lit) → LeavesWatch clauses (literals entries) (watched_in old.arena) mid number l → clauses_in new.arena ≡ clauses → watched_in new.arena ≡ mid → IsListed new → EachBlocked clauses new → IsWatchingUpTo clauses old entries head → IsWatchingUpTo clauses new entries head
 IsWatchingUpTo-leaves clauses old new mid entries head number l (inl (same, none)) unchanged is listed blocked w =
     IsWatchingUpTo-same (is ∙ same)
@@ -310,7 +311,7 @@ IsWatchingUpTo-leaves clauses old new mid entries head number l (inr moves) unch
           (EachGuarded-moved clauses held (watched_in old.arena) mid number l moves (literals (take head entries)) held (record { each = λ m h. h }) (HeldWithin-take head entries) w.guarded);
     }
 
--- and what is left to look at
+-- the clauses that are still to be looked at once that one is dropped
 pub EachGuardedBut-left : (clauses : List (List Lit)) (old new : List Watched) (numbers left : List ℕ) (place number : ℕ) (entries : List Entry) (head : ℕ) (e : Entry) (falsified : Lit) → slice_get numbers place ≡ Some number → left ≡ swap_remove numbers place 0 → slice_get entries head ≡ Some e → falsified ≡ negation_of e.literal → EachIsWatch clauses old → EachGuarded clauses old (literals (take head entries)) (literals entries) → LeavesWatch clauses (literals entries) old new number falsified → EachGuardedBut clauses old numbers place (literals (take (head + 1) entries)) (literals entries) → EachGuardedBut clauses new left place (literals (take (head + 1) entries)) (literals entries)
 EachGuardedBut-left clauses old new numbers left place number entries head e falsified at drops here is each guarded (inl (same, none)) but =
     EachGuardedBut-leaves clauses old new numbers left place number (literals (take (head + 1) entries)) (literals entries) at drops
@@ -325,7 +326,7 @@ EachGuardedBut-left clauses old new numbers left place number entries head e fal
     (moved_guarded clauses entries head e falsified old new number here is moves each guarded)
     but
 
--- where all entries were seen
+-- all entries were propagated: the propagation queue is empty
 pub IsWatchingUpTo-end : (clauses : List (List Lit)) (watches : Watches) (entries : List Entry) (head : ℕ) → length entries ≤ head → IsWatchingUpTo clauses watches entries head → IsWatchingUpTo clauses watches entries (length entries)
 IsWatchingUpTo-end clauses watches entries head past w =
     let same : take head entries ≡ take (length entries) entries = take_all head entries past ∙ sym (take_all (length entries) entries (omega arith)) in

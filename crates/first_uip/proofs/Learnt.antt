@@ -1,4 +1,4 @@
--- The state after a conflict.
+-- The watches and the reasons after a conflict, with the learned clause and the entries that are left.
 use Rattle.std.proofs.Common.{◌≡◌, ℕ, ◌+◌, ◌*◌, ◌<◌, ◌≤◌, true, false, List, [], ◌∷◌, ◌++◌, Option, Some, None, length, take, sym, ap, ◌∙◌, arith, inl, inr, subst}
 use Rattle.std.specs.Prelude.{slice_get, MatchOption, All}
 use Rattle.std.proofs.lemmas.Bool.{cases_Bool, true≢false}
@@ -32,7 +32,7 @@ use Rattle.first_uip.proofs.Additions.{IsAdded, IsWatchingUpTo-add, IsWatchingUp
 use Rattle.first_uip.proofs.StartLemmas.{All-two}
 use Rattle.first_uip.specs.Clauses.{IsPair}
 
--- what a learned clause watches
+-- what a learned clause watches: the asserting literal and another one, or nothing where it has no other
 abbrev pub IsWatchFor : Lit → Option Lit → Watched → Type 0
 IsWatchFor u other w = MatchOption other (w ≡ Alone) (λ l. w ≡ Two u l)
 
@@ -53,14 +53,14 @@ watch_within set size entries jump clause u (Some o) w room within is asserting 
     subst (λ v. All (λ (l : Lit). code_of l < size) (watched_literals v)) (sym is)
     (All-two (λ (l : Lit). code_of l < size) u o (fits u asserting.stands) (fits o stands))
 
--- the asserted literal is open before any earlier decision too
+-- the variable of the asserting literal is open at each place before the backjump's too
 open_before : (entries : List Entry) (jump k : ℕ) (clause : List Lit) (u : Lit) → k ≤ jump → IsAsserting entries jump clause u → IsOpen (literals (take k entries)) u.variable
 open_before entries jump k clause u before asserting =
     open_within (literals (take k entries)) (literals (take jump entries)) u.variable
     (subst (λ es. HeldWithin (literals es) (literals (take jump entries))) (take_take_below k jump entries before) (HeldWithin-take k (take jump entries)))
     asserting.unset
 
--- before an earlier decision none of the watched literals is false
+-- before each decision that is left, the clause is guarded: neither of its watched literals is false
 learnt_level : (entries : List Entry) (jump : ℕ) (clause : List Lit) (u : Lit) (other : Option Lit) (w : Watched) → IsWatchFor u other w → IsAsserting entries jump clause u → IsOther entries jump clause u other → (k : ℕ) (held : List Lit) → k < jump → DecidedAt entries k → IsGuarded (literals (take k entries)) held clause w
 learnt_level entries jump clause u None w is asserting (only, none) k held before (d, at, decides) =
     absurd (true≢false (sym decides ∙ none k d (omega arith) before at))
@@ -79,7 +79,7 @@ IsLearned-push set log step learned follows new not_empty =
       none_empty = NoneEmpty-push set log step learned.none_empty not_empty;
     }
 
--- entries that are left have their reasons still, and have them with a clause more
+-- The entries that are left have their reasons before them still, with one more clause too.
 pub EachForced-cut : (clauses : List (List Lit)) (clause : List Lit) (entries : List Entry) (place : ℕ) → EachForced clauses entries → EachForced (clauses ++ clause ∷ []) (take place entries)
 EachForced-cut clauses clause entries place forced =
     record {
@@ -107,7 +107,7 @@ EachForced-push clauses entries e number is unit forced =
     reason_same : (n m : ℕ) → Reason n ≡ Reason m → n ≡ m
     reason_same n m q = cc
 
--- the asserted literal is unit in the learned clause
+-- after the backjump the asserting literal is unit in the learned clause
 asserted_unit : (clauses : List (List Lit)) (clause : List Lit) (entries : List Entry) (jump number : ℕ) (u : Lit) → number ≡ length clauses → IsAsserting entries jump clause u → NamesUnit (clauses ++ clause ∷ []) (literals (take jump entries)) number u
 asserted_unit clauses clause entries jump number u is asserting =
     let held = literals (take jump entries) in
@@ -131,7 +131,7 @@ module _ (clauses : List (List Lit)) (clause : List Lit) (old new : Watches) (w 
       subst (λ es. IsGuarded (literals es) held clause w) (sym (take_in_take place entries k d at))
       (learnt_level entries jump clause u other w watch asserting another k held (omega (arith, below, before)) (d, there, decides))
 
-  -- where no literal is asserted
+  -- a restart goes back further than the clause asserts: no literal is pushed
   pub learnt_left : place < jump → IsWatchingUpTo (clauses ++ clause ∷ []) new (take place entries) place
   learnt_left before =
       let first = take place entries in
@@ -141,7 +141,7 @@ module _ (clauses : List (List Lit)) (clause : List Lit) (old new : Watches) (w 
       (subst (λ es. IsGuarded (literals es) (literals first) clause w) (sym same) (learnt_level entries jump clause u other w watch asserting another place (literals first) before decided))
       left
 
-  -- where one is
+  -- the backjump goes back just as far: the asserting literal is pushed
   pub learnt_asserted : (e : Entry) → place ≡ jump → e.literal ≡ u → is_decision e.cause ≡ false → IsWatchingUpTo (clauses ++ clause ∷ []) new (take place entries ++ e ∷ []) place
   learnt_asserted e here is reason =
       let first = take place entries in
@@ -161,7 +161,7 @@ module _ (clauses : List (List Lit)) (clause : List Lit) (old new : Watches) (w 
       (guard_satisfied (literals (take place all)) (literals all) clause w satisfied)
       (IsWatchingUpTo-push clauses old first e place (omega (arith, size)) reason left)
 
--- entries that are left, and the asserted one
+-- the entries that are left and the asserting literal have their reasons before them
 pub EachForced-asserted : (clauses : List (List Lit)) (clause : List Lit) (entries : List Entry) (place jump number : ℕ) (u : Lit) (e : Entry) → place ≡ jump → number ≡ length clauses → IsAsserting entries jump clause u → e.literal ≡ u → e.cause ≡ Reason number → EachForced clauses entries → EachForced (clauses ++ clause ∷ []) (take place entries ++ e ∷ [])
 EachForced-asserted clauses clause entries place jump number u e here is asserting literal cause forced =
     let unit : NamesUnit (clauses ++ clause ∷ []) (literals (take place entries)) number e.literal =

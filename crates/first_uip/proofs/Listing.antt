@@ -1,4 +1,4 @@
--- Lists of the clauses that watch a literal, step by step.
+-- Lists of the clauses that watch a literal (watch lists), change by change.
 use Rattle.std.proofs.Common.{◌≡◌, ℕ, ◌+◌, ◌<◌, ◌≤◌, true, false, List, [], ◌∷◌, ◌++◌, Some, length, set, sym, ap, ◌∙◌, arith, inl, inr, subst, length-append, length-set}
 use Rattle.std.specs.Prelude.{slice_get, ◌⊎◌}
 use Rattle.std.specs.List.{swap_remove}
@@ -17,7 +17,7 @@ use Rattle.first_uip.specs.Looks.{WatchesBoth}
 use Rattle.first_uip.proofs.Sets.{slice_get-set_cases, kept_by_drop, only_by_drop}
 use Rattle.first_uip.specs.Clauses.{watched_in}
 
--- what the lists have for a literal after one number more
+-- the watch list of a literal to which a number was added
 grown : (old new : Watches) (l : Lit) (number : ℕ) → AddsNumber old new l number → (m : Lit) → is_same m l ≡ true → numbers_of new m ≡ numbers_of old m ++ number ∷ []
 grown old new l number adds m same =
     subst (λ k. numbers_of new k ≡ numbers_of old k ++ number ∷ []) (sym (is_same-true m l same)) adds.here
@@ -49,7 +49,7 @@ stands_here old new l number adds = (
   ap (λ ns. slice_get ns (length (numbers_of old l))) adds.here ∙ slice_get_last (numbers_of old l) number,
 )
 
--- where no list changed
+-- no watch list changed
 pub AddsNumbers-none : (old new : Watches) (number : ℕ) → ((l : Lit) → numbers_of new l ≡ numbers_of old l) → AddsNumbers old new [] number
 AddsNumbers-none old new number same =
     record {
@@ -58,7 +58,7 @@ AddsNumbers-none old new number same =
       only = λ l place n at. inl (sym (ap (λ ns. slice_get ns place) (same l)) ∙ at);
     }
 
--- one number for one of two literals, and then for the other
+-- a number is added to the watch list of one of two literals, and then to that of the other
 pub AddsNumbers-two : (old mid new : Watches) (a b : Lit) (number : ℕ) → AddsNumber old mid a number → AddsNumber mid new b number → AddsNumbers old new (a ∷ b ∷ []) number
 AddsNumbers-two old mid new a b number first second =
     record {
@@ -79,7 +79,7 @@ AddsNumbers-two old mid new a b number first second =
           ];
     }
 
--- where neither the lists nor what is watched changed
+-- neither the watch lists nor the watched literals changed
 pub IsListed-same : (old new : Watches) → IsListed old → watched_in new.arena ≡ watched_in old.arena → ((l : Lit) → numbers_of new l ≡ numbers_of old l) → IsListed new
 IsListed-same old new listed watched same =
     record {
@@ -89,7 +89,7 @@ IsListed-same old new listed watched same =
           omega (arith, listed.known l place n (sym (ap (λ ns. slice_get ns place) (same l)) ∙ at), ap length watched);
     }
 
--- one clause more
+-- one more clause, in the watch lists of the literals that it watches
 pub IsListed-add : (old new : Watches) (w : Watched) → IsListed old → (watched_in new.arena) ≡ (watched_in old.arena) ++ w ∷ [] → AddsNumbers old new (watched_literals w) (length (watched_in old.arena)) → IsListed new
 IsListed-add old new w listed is adds =
     let size : length (watched_in new.arena) ≡ length (watched_in old.arena) + 1 = ap length is ∙ length-append (watched_in old.arena) (w ∷ []) in
@@ -112,7 +112,7 @@ other_watched : (w : Watched) (l other : Lit) → WatchesBoth w l other → is_h
 other_watched w l other (inl is) = ap (λ v. is_held (watched_literals v) other) is ∙ held_right (l ∷ []) (other ∷ []) other (held_one other)
 other_watched w l other (inr is) = ap (λ v. is_held (watched_literals v) other) is ∙ held_left (other ∷ []) (l ∷ []) other (held_one other)
 
--- a clause watches another literal
+-- a clause watches another literal, and is added to the watch list of that
 pub IsListed-rewatch : (old new : Watches) (number : ℕ) (w : Watched) (l moved other : Lit) → IsListed old → slice_get (watched_in old.arena) number ≡ Some w → WatchesBoth w l other → (watched_in new.arena) ≡ set (watched_in old.arena) number (Two moved other) → AddsNumber old new moved number → IsListed new
 IsListed-rewatch old new number w l moved other listed before both is adds =
     let within : number < length (watched_in old.arena) = slice_get_below (watched_in old.arena) number w before in
@@ -139,7 +139,7 @@ IsListed-rewatch old new number w l moved other listed before both is adds =
           ];
     }
 
--- a number is dropped from the list of a literal that its clause doesn't watch
+-- a number is dropped from the watch list of a literal that its clause doesn't watch
 pub IsListed-drop : (old new : Watches) (l : Lit) (place number : ℕ) → IsListed old → slice_get (numbers_of old l) place ≡ Some number → ((w : Watched) → slice_get (watched_in old.arena) number ≡ Some w → is_held (watched_literals w) l ≡ false) → (watched_in new.arena) ≡ (watched_in old.arena) → numbers_of new l ≡ swap_remove (numbers_of old l) place 0 → ((m : Lit) → is_same m l ≡ false → numbers_of new m ≡ numbers_of old m) → IsListed new
 IsListed-drop old new l place number listed here leaves watched drops others =
     let within : place < length (numbers_of old l) = slice_get_below (numbers_of old l) place number here in

@@ -1,4 +1,4 @@
--- Where entries stand in the trail, and the marks of their blocks.
+-- The table of the entries' places, and the marks of blocks of the trail.
 use Rattle.std.proofs.Common.{◌≡◌, ℕ, ◌+◌, ◌*◌, ◌/◌, ◌<◌, ◌≤◌, Bool, true, false, List, ◌++◌, Option, Some, length, take, set, get_or, sym, ap, ◌∙◌, arith, inl, inr}
 use Rattle.std.specs.Prelude.{slice_get}
 use Rattle.std.proofs.lemmas.Bool.{cases_Bool, cases_eq, cases_order, true≢false}
@@ -12,7 +12,7 @@ use Rattle.first_uip.specs.Conflict.{is_seen, part_of, NoneSeen}
 use Rattle.first_uip.specs.Marks.{IsPlaced, is_marked, EachMarked, IsMarked}
 use Rattle.first_uip.proofs.RoleLemmas.{other_entry}
 
--- an entry more is noted
+-- one more entry's place is noted
 pub IsPlaced-next : (values : List (Option Bool)) (entries : List Entry) (places : List ℕ) (k : ℕ) (e : Entry) → EachFresh values entries → slice_get entries k ≡ Some e → e.literal.variable < length places → IsPlaced places entries k → IsPlaced (set places e.literal.variable k) entries (k + 1)
 IsPlaced-next values entries places k e fresh at room so_far place f below there =
     let v = e.literal.variable in
@@ -38,7 +38,7 @@ IsPlaced-same places old new m n within same so_far place e below at =
     let (there, less) = slice_get_take n old place e (sym (ap (λ es. slice_get es place) same) ∙ slice_get_in_take n new place e at below) in
     so_far place e (omega arith) there
 
--- a part that is seen
+-- a variable is given a role, and the block of its entry is marked
 pub EachMarked-set : (before after : List Bool) (places : List ℕ) (roles : List Role) (v : ℕ) (r : Role) → ((k : ℕ) → is_marked before k ≡ true → is_marked after k ≡ true) → is_marked after (get_or places v 0) ≡ true → EachMarked before places roles → EachMarked after places (set roles v r)
 EachMarked-set before after places roles v r still here so_far n seen =
     elim (cases_eq n v) [
@@ -50,7 +50,7 @@ pub IsMarked-placed : (places : List ℕ) (entries : List Entry) (roles : List R
 IsMarked-placed places entries roles blocks placed marked place e at seen =
     sym (ap (is_marked blocks) (placed place e (slice_get_below entries place e at) at)) ∙ marked e.literal.variable seen
 
--- where a block isn't marked, none of its entries is seen
+-- no entry of a block that isn't marked is seen
 pub NoneSeen-block : (entries : List Entry) (roles : List Role) (blocks : List Bool) (place : ℕ) → IsMarked entries roles blocks → is_marked blocks place ≡ false → NoneSeen entries roles (place / 32 * 32) (place / 32 * 32 + 32)
 NoneSeen-block entries roles blocks place marked none k e from below at =
     let same : k / 32 ≡ place / 32 = omega arith in
@@ -59,7 +59,7 @@ NoneSeen-block entries roles blocks place marked none k e from below at =
       | inr unseen ↦ unseen
     ]
 
--- and one part more of the trail
+-- two adjacent parts of the trail in which no entry is seen
 pub NoneSeen-join : (entries : List Entry) (roles : List Role) (from middle to : ℕ) → NoneSeen entries roles from middle → NoneSeen entries roles middle to → NoneSeen entries roles from to
 NoneSeen-join entries roles from middle to first later k e past below at =
     elim (cases_order k middle) [
@@ -68,7 +68,7 @@ NoneSeen-join entries roles from middle to first later k e past below at =
       | inr (inr more) ↦ later k e (omega arith) below at
     ]
 
--- an entry that isn't seen
+-- one entry that isn't seen
 pub NoneSeen-one : (entries : List Entry) (roles : List Role) (place : ℕ) (e : Entry) → slice_get entries place ≡ Some e → is_seen (part_of roles e) ≡ false → NoneSeen entries roles place (place + 1)
 NoneSeen-one entries roles place e at unseen k f from below there =
     let same : k ≡ place = omega arith in

@@ -1,7 +1,7 @@
--- A number that falls with each decision and each conflict.
+-- A number that falls with each decision and each conflict, so that the search ends.
 use Rattle.std.proofs.Common.{◌≡◌, ℕ, zero, suc, ◌+◌, ◌-◌, ◌<◌, ◌≤◌, ap, arith}
 
--- what is left of conflicts, each with as many decisions as there are variables
+-- for each conflict up to the limit, as many steps as there are variables, and one
 abbrev pub rounds : ℕ → ℕ → ℕ
 rounds zero room = 0
 rounds (suc left) room = rounds left room + (room + 1)

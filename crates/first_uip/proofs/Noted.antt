@@ -1,4 +1,4 @@
--- Where the entries stand that a search has noted.
+-- The table of the entries' places, as it was noted last.
 use Rattle.std.proofs.Common.{◌≡◌, ℕ, zero, suc, ◌≤◌, List, [], ◌∷◌, ◌++◌, Some, length, take, sym, ap, ◌∙◌, subst, arith}
 use Rattle.std.specs.Prelude.{slice_get}
 use Rattle.std.proofs.lemmas.List.{length-take-le}
@@ -24,7 +24,7 @@ IsNoted-append places entries more n noted = (omega (arith, noted.0, length_left
 pub IsNoted-grows : (clauses : List (List Lit)) (places : List ℕ) (old new : List Entry) (n : ℕ) → Grows clauses old new → IsNoted places old n → IsNoted places new n
 IsNoted-grows clauses places old new n grows noted = subst (λ es. IsNoted places es n) (sym grows.is) (IsNoted-append places old grows.more n noted)
 
--- after entries are taken back
+-- after entries are popped, the places of those that are left are noted
 pub IsNoted-cut : (places : List ℕ) (old new : List Entry) (n : ℕ) (e : Entry) → slice_get old n ≡ Some e → take n new ≡ take n old → IsPlaced places old (length old) → IsNoted places new n
 IsNoted-cut places old new n e at same placed =
     let within = slice_get_below old n e at in

@@ -1,4 +1,5 @@
--- What is mapped from a list where one element is replaced, or dropped as the last takes its place.
+-- A list of which one element is replaced, or dropped by moving the last to its place (swap_remove), and the list of
+-- what each element is mapped to.
 use Rattle.std.proofs.Common.{◌≡◌, ℕ, ◌-◌, ◌<◌, List, [], ◌∷◌, length, map, take, set, get_or, All, refl, sym, ap, ◌∙◌, arith}
 use Rattle.std.specs.List.{swap_remove}
 use Rattle.std.proofs.lemmas.List.{get_or-map, map-set, set-get_or, take-map, length-map}

@@ -1,4 +1,4 @@
--- What the kept literals derive: by the reasons of what is resolved, in the order of the trail, the conflict.
+-- The kept literals derive the conflict by the reasons of the resolved entries, in the order of the trail.
 use Rattle.std.proofs.Common.{◌≡◌, ℕ, zero, suc, ◌<◌, ◌≤◌, Bool, true, false, cond, List, [], ◌∷◌, ◌++◌, Some, length, take, refl, sym, ap, ◌∙◌, arith, inl, inr, subst}
 use Rattle.std.specs.Prelude.{slice_get, ◌⊎◌}
 use Rattle.std.specs.List.{filter_map}
@@ -23,7 +23,7 @@ use Rattle.first_uip.specs.declared.roles.Role.{Role}
 use Rattle.first_uip.specs.declared.roles.Role.TheVariants.{Unseen, Resolved, Kept}
 use Rattle.first_uip.specs.Conflict.{part_of, role_of, is_seen, is_kept, is_resolved, resolved_entries, IsResolution, NamesSeen}
 
--- what is held is at some place
+-- each literal that is held stands at some place of the trail
 pub held_place : (entries : List Entry) (l : Lit) → is_held (literals entries) l ≡ true → (place : ℕ) × (e : Entry) × (slice_get entries place ≡ Some e) × (e.literal ≡ l)
 held_place [] l h = absurd (not_held_nil l h)
 held_place (f ∷ fs) l h =
@@ -50,7 +50,7 @@ unseen_isnt_resolved Kept h = refl
 held_after : (held after : List Lit) (l : Lit) → HeldWithin held after → HeldWithin held (l ∷ after)
 held_after held after l h = record { each = λ m is. or_right (is_same m l) (is_held after m) (h.each m is) }
 
--- the reasons of the resolved ones among the first entries, with one entry more
+-- the reasons of the resolved entries among the first n, and that of the next one where it is resolved
 next_reasons : (entries : List Entry) (roles : List Role) (n : ℕ) (e : Entry) (b : Bool) → slice_get entries n ≡ Some e → is_resolved (part_of roles e) ≡ b → reasons (resolved_entries roles (take (suc n) entries)) ≡ reasons (resolved_entries roles (take n entries)) ++ reasons (cond b (e ∷ []) [])
 next_reasons entries roles n e b at is =
     ap (λ es. reasons (resolved_entries roles es)) (take_next entries n e at)
@@ -58,11 +58,12 @@ next_reasons entries roles n e b at is =
     ∙ reasons-append (resolved_entries roles (take n entries)) (resolved_entries roles (e ∷ []))
     ∙ ap (λ c. reasons (resolved_entries roles (take n entries)) ++ reasons (cond c (e ∷ []) [])) is
 
--- the reason that a cause names, if it does
+-- the clause number of a cause that is a reason, and none of a decision
 abbrev named_by : Cause → List ℕ
 named_by cause = filter_map reason_of (cause ∷ [])
 
--- what is given derives the seen ones among the first entries of the trail
+-- the literals that are given, with the reasons of the resolved entries among the first n, derive each seen entry among
+-- these
 pub record DerivesSeen (clauses : List (List Lit)) (entries : List Entry) (roles : List Role) (given : List Lit) (n : ℕ) : Type 0 where
   pub after : List Lit
   pub derived : Derives clauses given (reasons (resolved_entries roles (take n entries))) after
@@ -71,7 +72,7 @@ pub record DerivesSeen (clauses : List (List Lit)) (entries : List Entry) (roles
   pub within : HeldWithin after (literals entries)
 
 module _ (clauses : List (List Lit)) (entries : List Entry) (roles : List Role) (given : List Lit) (conflict : ℕ) (forced : EachForced clauses entries) (ok : Consistent (literals entries)) (resolution : IsResolution clauses entries conflict 0 roles) (given_kept : (place : ℕ) (e : Entry) → slice_get entries place ≡ Some e → is_kept (part_of roles e) ≡ true → is_held given e.literal ≡ true) (given_within : HeldWithin given (literals entries)) where
-  -- a literal of a seen variable that is false by the first entries is false by what they derive
+  -- a literal of a seen variable that the first entries make false is false in the derived state
   false_after : (n : ℕ) (so_far : DerivesSeen clauses entries roles given n) (m : Lit) → is_seen (role_of roles m.variable) ≡ true → is_false (literals (take n entries)) m ≡ true → is_false so_far.after m ≡ true
   false_after n so_far m seen closed =
       let (place, f, at, is) = held_place (take n entries) (negation_of m) closed in
@@ -79,7 +80,7 @@ module _ (clauses : List (List Lit)) (entries : List Entry) (roles : List Role) 
       let same : f.literal.variable ≡ m.variable = ap (λ (k : Lit). k.variable) is in
       sym (ap (is_held so_far.after) is) ∙ so_far.first place f below there (ap (λ v. is_seen (role_of roles v)) same ∙ seen)
 
-  -- the next entry isn't seen, or is kept
+  -- the next entry isn't resolved: it isn't seen, or it is kept and so given
   derives_same : (n : ℕ) (e : Entry) → slice_get entries n ≡ Some e → is_resolved (part_of roles e) ≡ false → (so_far : DerivesSeen clauses entries roles given n) → (is_seen (part_of roles e) ≡ true → is_held so_far.after e.literal ≡ true) → DerivesSeen clauses entries roles given (suc n)
   derives_same n e at other so_far here =
       let same : reasons (resolved_entries roles (take (suc n) entries)) ≡ reasons (resolved_entries roles (take n entries)) =
@@ -99,7 +100,7 @@ module _ (clauses : List (List Lit)) (entries : List Entry) (roles : List Role) 
         within = so_far.within;
       }
 
-  -- the next entry is resolved
+  -- the next entry is resolved: its reason derives it
   derives_forced : (n : ℕ) (e : Entry) (number : ℕ) → slice_get entries n ≡ Some e → e.cause ≡ Reason number → is_resolved (part_of roles e) ≡ true → NamesSeen clauses roles number → DerivesSeen clauses entries roles given n → DerivesSeen clauses entries roles given (suc n)
   derives_forced n e number at is resolved names so_far =
       let l = e.literal in
@@ -155,7 +156,7 @@ module _ (clauses : List (List Lit)) (entries : List Entry) (roles : List Role) 
       }
   derives_first (suc n) within = let (e, at) = element_at entries n (omega arith) in derives_next n e at (derives_first n (omega arith))
 
-  -- the reasons of what is resolved, and then the clause that is false, refute what is kept
+  -- the reasons of the resolved entries, and then the clause that is false, refute the kept literals
   pub kept_refuted : NamesFalse clauses (literals entries) conflict → HintsRefute clauses given (reasons (resolved_entries roles entries) ++ conflict ∷ [])
   kept_refuted (clause, named, none) =
       let d = derives_first (length entries) (omega arith) in

@@ -1,4 +1,5 @@
--- The parts of variables in a conflict, step by step.
+-- The roles of variables in a conflict, step by step. A variable is seen where the conflict rests on it: it is resolved
+-- or kept.
 use Rattle.std.proofs.Common.{◌≡◌, ℕ, zero, suc, ◌+◌, ◌<◌, ◌≤◌, Bool, true, false, not, cond, List, [], ◌∷◌, ◌++◌, Option, Some, None, length, take, set, refl, sym, ap, ◌∙◌, arith, inl, inr, subst}
 use Rattle.std.specs.Prelude.{slice_get, replicate, ◌⊎◌}
 use Rattle.std.proofs.lemmas.Bool.{cases_Bool, cases_eq, cases_order, true≢false}
@@ -25,7 +26,7 @@ use Rattle.first_uip.specs.Conflict.{role_of, is_seen, is_kept, is_resolved, par
 next_clause : (clause : List Lit) (k : ℕ) (l : Lit) → slice_get clause k ≡ Some l → take (k + 1) clause ≡ take k clause ++ l ∷ []
 next_clause clause k l at = let e : k + 1 ≡ suc k = omega arith in ap (λ n. take n clause) e ∙ take_next clause k l at
 
--- a literal of the clause more, whose variable was seen
+-- one more literal of the clause, whose variable was seen already
 pub Sees-skip : (clause : List Lit) (old mid : List Role) (k : ℕ) (l : Lit) → slice_get clause k ≡ Some l → is_seen (role_of mid l.variable) ≡ true → Sees (take k clause) old mid → Sees (take (k + 1) clause) old mid
 Sees-skip clause old mid k l at seen so_far =
     let next = next_clause clause k l at in
@@ -44,7 +45,7 @@ Sees-skip clause old mid k l at seen so_far =
           ];
     }
 
--- one whose variable wasn't
+-- one more literal of the clause, whose variable wasn't seen: it is to be resolved
 pub Sees-next : (clause : List Lit) (old mid : List Role) (k : ℕ) (l : Lit) → slice_get clause k ≡ Some l → l.variable < length mid → role_of mid l.variable ≡ Unseen → Sees (take k clause) old mid → Sees (take (k + 1) clause) old (set mid l.variable Resolved)
 Sees-next clause old mid k l at room unseen so_far =
     let v = l.variable in
@@ -86,7 +87,7 @@ named_seen : (clauses : List (List Lit)) (roles : List Role) (number : ℕ) (cla
 named_seen clauses roles number clause at all c there l stands =
     all l (ap (λ ls. is_held ls l) (some_same clause c (sym at ∙ there)) ∙ stands)
 
--- where no entry was looked at
+-- behind the last entry, only the variables of the clause that is false have to be seen
 pub IsResolution-start : (clauses : List (List Lit)) (entries : List Entry) (conflict : ℕ) (clause : List Lit) (old roles : List Role) → slice_get clauses conflict ≡ Some clause → Sees clause old roles → IsResolution clauses entries conflict (length entries) roles
 IsResolution-start clauses entries conflict clause old roles at sees =
     record {
@@ -99,7 +100,7 @@ IsResolution-start clauses entries conflict clause old roles at sees =
     below (z ∷ zs) zero x at = omega arith
     below (z ∷ zs) (suc k) x at = let h : k < length zs = below zs k x at in omega arith
 
--- the variables of a reason have values where it forces, so no later entry is of them
+-- the variables of a reason had values before it forced its literal, so no later entry is of one of them
 set_before : (values : List (Option Bool)) (entries : List Entry) (place k : ℕ) (e f : Entry) (l : Lit) → EachFresh values entries → slice_get entries place ≡ Some e → slice_get entries k ≡ Some f → place < k → (is_false (literals (take place entries)) l ≡ true) ⊎ (l ≡ e.literal) → l.variable ≡ f.literal.variable → ⊥
 set_before values entries place k e f l fresh at there later (inl closed) same =
     let held = literals (take k entries) in
@@ -114,12 +115,12 @@ set_before values entries place k e f l fresh at there later (inr is) same =
     (ap (is_held held) is ∙ literal_at (take k entries) place e (slice_get_in_take k entries place e at later))
     (open_not_held held l (subst (IsOpen held) (sym same) (fresh k f there).2))
 
--- entries are of different variables
+-- two entries are of different variables
 pub other_entry : (values : List (Option Bool)) (entries : List Entry) (place k : ℕ) (e f : Entry) → EachFresh values entries → slice_get entries place ≡ Some e → slice_get entries k ≡ Some f → place < k → e.literal.variable ≡ f.literal.variable → ⊥
 other_entry values entries place k e f fresh at there later same =
     set_before values entries place k e f e.literal fresh at there later (inr refl) same
 
--- an entry that is resolved: the variables of its reason are seen
+-- an entry is resolved: the variables of its reason are seen
 pub IsResolution-see : (clauses : List (List Lit)) (values : List (Option Bool)) (entries : List Entry) (conflict place number : ℕ) (e : Entry) (clause : List Lit) (old new : List Role) → EachFresh values entries → EachForced clauses entries → slice_get entries place ≡ Some e → e.cause ≡ Reason number → slice_get clauses number ≡ Some clause → Sees clause old new → IsResolution clauses entries conflict (place + 1) old → IsResolution clauses entries conflict place new
 IsResolution-see clauses values entries conflict place number e clause old new fresh forced at cause named sees so_far =
     let before = literals (take place entries) in
@@ -151,7 +152,7 @@ IsResolution-see clauses values entries conflict place number e clause old new f
           ];
     }
 
--- an entry that is kept
+-- an entry is kept, so nothing has to be seen for it
 pub IsResolution-keep : (clauses : List (List Lit)) (values : List (Option Bool)) (entries : List Entry) (conflict place : ℕ) (e : Entry) (roles : List Role) → EachFresh values entries → slice_get entries place ≡ Some e → e.literal.variable < length roles → IsResolution clauses entries conflict (place + 1) roles → IsResolution clauses entries conflict place (set roles e.literal.variable Kept)
 IsResolution-keep clauses values entries conflict place e roles fresh at room so_far =
     let v = e.literal.variable in
@@ -180,7 +181,7 @@ IsResolution-keep clauses values entries conflict place e roles fresh at room so
           ];
     }
 
--- entries that weren't seen need no reason
+-- for entries that aren't seen, nothing has to be seen
 pub IsResolution-unseen : (clauses : List (List Lit)) (entries : List Entry) (conflict from to : ℕ) (roles : List Role) → NoneSeen entries roles from to → IsResolution clauses entries conflict to roles → IsResolution clauses entries conflict from roles
 IsResolution-unseen clauses entries conflict from to roles none so_far =
     record {
@@ -198,13 +199,13 @@ reason_if_undecided InputDecision is none = true≢false is
 reason_if_undecided NonInputDecision is none = true≢false is
 reason_if_undecided (Reason number) is none = cc
 
--- a table where nothing is seen
+-- at the start no variable is seen
 pub unseen_everywhere : (m n : ℕ) → role_of (replicate m Unseen) n ≡ Unseen
 unseen_everywhere zero n = refl
 unseen_everywhere (suc m) zero = refl
 unseen_everywhere (suc m) (suc n) = unseen_everywhere m n
 
--- tests of a part
+-- what the tests of a role say
 pub unseen_if : (r : Role) → sameb the_type r Unseen ≡ true → r ≡ Unseen
 unseen_if Unseen h = refl
 unseen_if Resolved h = absurd (true≢false (sym h))
@@ -235,7 +236,7 @@ kept_is Unseen b h = h
 kept_is Resolved b h = h
 kept_is Kept b h = h
 
--- one entry more, before the others, that isn't kept
+-- one more entry before those of which none is kept, which isn't kept either
 pub NoneKept-before : (entries : List Entry) (roles : List Role) (place next to : ℕ) (e : Entry) → next ≤ place + 1 → slice_get entries place ≡ Some e → is_kept (part_of roles e) ≡ false → NoneKept entries roles next to → NoneKept entries roles place to
 NoneKept-before entries roles place next to e near at unkept later k f from below there =
     elim (cases_order k place) [
@@ -244,7 +245,7 @@ NoneKept-before entries roles place next to e near at unkept later k f from belo
       | inr (inr more) ↦ later k f (omega arith) below there
     ]
 
--- and one that wasn't decided
+-- one more entry before those of which none was decided, which wasn't decided either
 pub NoneDecided-before : (entries : List Entry) (place next to : ℕ) (e : Entry) → next ≤ place + 1 → slice_get entries place ≡ Some e → is_decision e.cause ≡ false → NoneDecided entries next to → NoneDecided entries place to
 NoneDecided-before entries place next to e near at undecided later k f from below there =
     elim (cases_order k place) [
@@ -264,7 +265,7 @@ reasons_one InputDecision l = refl
 reasons_one NonInputDecision l = refl
 reasons_one (Reason number) l = refl
 
--- the hints, entry by entry
+-- a walk along the entries adds the reason of one more, where it is resolved, to the hints
 pub hints_next : (entries : List Entry) (roles : List Role) (k : ℕ) (e : Entry) (hints next added : List ℕ) (b : Bool) → slice_get entries k ≡ Some e → is_resolved (part_of roles e) ≡ b → added ≡ cond b (option_to_list (reason_of e.cause)) [] → hints ≡ reasons (resolved_entries roles (take k entries)) → next ≡ hints ++ added → next ≡ reasons (resolved_entries roles (take (k + 1) entries))
 hints_next entries roles k e hints next added b at resolved adds so_far is =
     let suc_k : take (k + 1) entries ≡ take k entries ++ e ∷ [] = let s : k + 1 ≡ suc k = omega arith in ap (λ n. take n entries) s ∙ take_next entries k e at in
@@ -280,7 +281,7 @@ hints_next entries roles k e hints next added b at resolved adds so_far is =
     one true = reasons_one e.cause e.literal
     one false = refl
 
--- the clause, entry by entry
+-- a walk along the entries adds the negation of one more, where it is kept, to the clause
 pub clause_next : (entries : List Entry) (roles : List Role) (k : ℕ) (e : Entry) (clause next added : List Lit) (b : Bool) → slice_get entries k ≡ Some e → is_kept (part_of roles e) ≡ b → added ≡ cond b (negation_of e.literal ∷ []) [] → clause ≡ negations_of (literals (kept_entries roles (take k entries))) → next ≡ clause ++ added → next ≡ negations_of (literals (kept_entries roles (take (k + 1) entries)))
 clause_next entries roles k e clause next added b at kept adds so_far is =
     let before = kept_entries roles (take k entries) in

@@ -1,4 +1,4 @@
--- The steps of a search, and what its answers rest on.
+-- The steps of a search, and why its answers are right.
 use Rattle.std.proofs.Common.{◌≡◌, ℕ, ◌+◌, ◌-◌, ◌<◌, Bool, get_or, Option, false, List, [], ◌∷◌, ◌++◌, Some, length, take, drop, map, refl, sym, ap, ◌∙◌, arith, inl, inr, subst}
 use Rattle.std.specs.Prelude.{slice_get}
 use Rattle.std.proofs.lemmas.Bool.{true≢false}
@@ -46,7 +46,7 @@ pub EachCaused-from_forced : (set : Cnf) (log : List Step) (entries : List Entry
 EachCaused-from_forced set log entries forced none place e at =
     caused_by set log (literals (take place entries)) e.literal e.cause (none place e (omega arith) (slice_get_below entries place e at) at) (λ number is. forced.each place e number at is)
 
--- trails that grew by reasons
+-- a trail that grew by propagation has each reason before its entry
 pub EachForced-grown : (clauses : List (List Lit)) (old new : List Entry) → Grows clauses old new → EachForced clauses old → EachForced clauses new
 EachForced-grown clauses old new g forced =
     record {
@@ -68,14 +68,14 @@ EachForced-grown clauses old new g forced =
     reason_same : (n m : ℕ) → Reason n ≡ Reason m → n ≡ m
     reason_same n m q = cc
 
--- before a decision all is closed
+-- the state before each decision is closed under unit propagation
 pub closed_before : (clauses : List (List Lit)) (watches : Watches) (values : List (Option Bool)) (entries : List Entry) (place : ℕ) → IsTableOf values entries → DecidedAt entries place → IsWatching clauses watches entries → IsClosed clauses (literals (take place entries))
 closed_before clauses watches values entries place table (e, at, decides) watching =
     let held = literals (take place entries) in
     let ok : Consistent held = Consistent-within held (literals entries) (HeldWithin-take place entries) (Consistent-from_table values entries table) in
     closed_from_propagated clauses held (AllPropagated-from_guarded clauses (watched_in watches.arena) held ok watching.count watching.each (watching.levels place e at decides))
 
--- where all entries were seen and all variables are set there is a model
+-- where all entries were propagated and each variable has a value, the values are a model
 pub model_found : (set : Cnf) (log : List Step) (watches : Watches) (values : List (Option Bool)) (entries : List Entry) → IsTableOf values entries → length values ≡ set.count + 1 → IsWatchingUpTo (clauses_with set log) watches entries (length entries) → ((n : ℕ) → IsVariable set.count n → IsSet (literals entries) n) → IsModel set (map value_or_false (drop 1 values))
 model_found set log watches values entries table size state all =
     let cs = clauses_with set log in
@@ -85,7 +85,8 @@ model_found set log watches values entries table size state all =
     AllPropagated-from_guarded cs (watched_in watches.arena) (literals entries) (Consistent-from_table values entries table) state.watching.count state.watching.each guarded in
     IsModel-from_propagated set values entries table size (AllPropagated-left (all_clauses set) (clauses_of_steps log) (literals entries) propagated) all
 
--- a conflict below a decision shows that units alone don't refute
+-- A conflict below a decision: the state before the decision is closed, so unit propagation alone refutes nothing, and
+-- the limit may be answered.
 pub limit_found : (set : Cnf) (log : List Step) (limit : ℕ) (held : List Lit) → length log ≡ limit → IsLearned set log → IsClosed (clauses_with set log) held → 12 < distinct_count set.inputs → IsHonestLimit set limit log
 limit_found set log limit held exact learned closed many =
     record {
@@ -97,7 +98,7 @@ limit_found set log limit held exact learned closed many =
       not_few = λ few. omega (arith, few.0, many);
     }
 
--- the state after a decision
+-- the state of the search after a decision
 pub IsSearching-decided : (set : Cnf) (log : List Step) (watches : Watches) (old entries : List Entry) (e : Entry) → e.cause ≡ InputDecision → Grows (clauses_with set log) old entries → IsLearned set log → EachForced (clauses_with set log) old → IsWatchingUpTo (clauses_with set log) watches entries (length entries) → IsSearching set log watches (entries ++ e ∷ []) (length entries)
 IsSearching-decided set log watches old entries e decision g learned forced state =
     let cs = clauses_with set log in
@@ -119,7 +120,7 @@ IsSearching-decided set log watches old entries e decision g learned forced stat
     no_reason : (n : ℕ) → InputDecision ≡ Reason n → ⊥
     no_reason n q = cc
 
--- the state before any decision
+-- the state of the search before any decision
 pub IsSearching-start : (set : Cnf) (log : List Step) (watches : Watches) (entries : List Entry) → log ≡ [] → Grows (all_clauses set) [] entries → IsWatchingUpTo (all_clauses set) watches entries 0 → IsSearching set log watches entries 0
 IsSearching-start set log watches entries none g state =
     let same : all_clauses set ≡ clauses_with set log =
@@ -131,7 +132,7 @@ IsSearching-start set log watches entries none g state =
       watching = subst (λ cs. IsWatchingUpTo cs watches entries 0) same state;
     }
 
--- the variables of the clauses of the arena are the set's
+-- the variables of the arena's clauses are the set's
 pub variables_within : (set : Cnf) (log : List Step) (watches : Watches) (entries : List Entry) (head n : ℕ) → n ≡ set.count + 1 → IsSearching set log watches entries head → VariablesWithin (n - 1) (clauses_in watches.arena)
 variables_within set log watches entries head n room state =
     let cs = clauses_with set log in

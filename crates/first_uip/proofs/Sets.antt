@@ -1,4 +1,4 @@
--- Elements of a list of which one is replaced, or dropped as the last takes its place.
+-- Elements of a list of which one is replaced, or dropped by moving the last to its place (swap_remove).
 use Rattle.std.proofs.Common.{◌≡◌, ℕ, ◌+◌, ◌-◌, ◌<◌, ◌≤◌, List, Some, length, set, get_or, sym, ap, ◌∙◌, arith, inl, inr, length-set}
 use Rattle.std.specs.Prelude.{slice_get, ◌⊎◌}
 use Rattle.std.specs.List.{swap_remove}
@@ -23,7 +23,7 @@ slice_get-set_other xs i j a differ =
       | inr (inr more) ↦ slice_get_past (set xs i a) j (omega (arith, more, length-set xs i a)) ∙ sym (slice_get_past xs j (omega (arith, more)))
     ]
 
--- an element of the list after one is set is that one or stood there
+-- an element of a list of which one was replaced is the new one, or stood at that place before
 pub slice_get-set_cases : {X : Type 0} (xs : List X) (i j : ℕ) (a x : X) → i < length xs → slice_get (set xs i a) j ≡ Some x → ((j ≡ i) × (a ≡ x)) ⊎ ((j ≡ i → ⊥) × (slice_get xs j ≡ Some x))
 slice_get-set_cases xs i j a x within at =
     elim (cases_order j i) [
@@ -33,7 +33,7 @@ slice_get-set_cases xs i j a x within at =
     ]
 
 module _ (xs : List ℕ) (place : ℕ) (within : place < length xs) where
-  -- an element elsewhere stays, the last at the place of the one that is dropped
+  -- The elements that aren't dropped are still in the list, those behind the dropped one's place not before it.
   pub kept_by_drop : (k n : ℕ) → (k ≡ place → ⊥) → slice_get xs k ≡ Some n → (j : ℕ) × (place ≤ k → place ≤ j) × (slice_get (swap_remove xs place 0) j ≡ Some n)
   kept_by_drop k n differ at =
       let x = get_or xs (length xs - 1) 0 in
@@ -54,7 +54,7 @@ module _ (xs : List ℕ) (place : ℕ) (within : place < length xs) where
         | inr (inr more) ↦ absurd (omega arith)
       ]
 
-  -- and there are no others
+  -- each element that is left stood in the list before
   pub only_by_drop : (j n : ℕ) → slice_get (swap_remove xs place 0) j ≡ Some n → (k : ℕ) × (slice_get xs k ≡ Some n)
   only_by_drop j n at =
       let x = get_or xs (length xs - 1) 0 in

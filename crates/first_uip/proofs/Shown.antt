@@ -1,4 +1,4 @@
--- What the entries on which a conflict rests show, without the others.
+-- The clause and the hints may be taken from the seen entries alone.
 use Rattle.std.proofs.Common.{◌≡◌, ℕ, zero, suc, ◌+◌, ◌-◌, ◌<◌, ◌≤◌, Bool, true, false, cond, List, [], ◌∷◌, ◌++◌, Option, Some, length, take, filter, get_or, refl, sym, ap, ◌∙◌, subst, arith, inl, inr}
 use Rattle.std.specs.Prelude.{slice_get}
 use Rattle.std.proofs.lemmas.Bool.{cases_Bool, true≢false}
@@ -16,7 +16,7 @@ use Rattle.first_uip.specs.Conflict.{is_kept, is_resolved, is_seen, part_of, kep
 use Rattle.first_uip.specs.Shown.{shown_entries, VariablesBelow}
 use Rattle.first_uip.proofs.Analysed.{learned_clause}
 
--- a filter of what another one keeps
+-- one more element for a filter of what a weaker filter keeps
 within_one : {X : Type 0} (p : X → Bool) (x : X) (ys zs : List X) (b c : Bool) → p x ≡ b → (b ≡ true → c ≡ true) → filter p ys ≡ zs → filter p (cond c (x ∷ ys) ys) ≡ cond b (x ∷ zs) zs
 within_one p x ys zs true true is inside same = ap (λ t. cond t (x ∷ filter p ys) (filter p ys)) is ∙ ap (λ ws. x ∷ ws) same
 within_one p x ys zs false true is inside same = ap (λ t. cond t (x ∷ filter p ys) (filter p ys)) is ∙ same
@@ -48,7 +48,7 @@ resolved_shown roles entries shown is =
     ∙ filter_within (λ (e : Entry). is_resolved (part_of roles e)) (λ (e : Entry). is_seen (part_of roles e))
     (λ e resolved. resolved_seen (part_of roles e) resolved) entries
 
--- where a filter keeps nothing between two places
+-- a filter keeps nothing between two places where no element passes
 filter_gap : {X : Type 0} (p : X → Bool) (xs : List X) (from k : ℕ) → from + k ≤ length xs → ((place : ℕ) (x : X) → from ≤ place → place < from + k → slice_get xs place ≡ Some x → p x ≡ false) → filter p (take (from + k) xs) ≡ filter p (take from xs)
 filter_gap p xs from zero within none = let e : from + 0 ≡ from = omega arith in ap (λ n. filter p (take n xs)) e
 filter_gap p xs from (suc k) within none =
@@ -75,7 +75,7 @@ module _ (clauses : List (List Lit)) (entries : List Entry) (roles : List Role) 
   abbrev e : Entry
   e = analysis.entry
 
-  -- from the decision on only the implication point is kept
+  -- of the last level only the implication point is kept
   unkept : (k : ℕ) (f : Entry) → start ≤ k → (k ≡ point → ⊥) → slice_get entries k ≡ Some f → is_kept (part_of roles f) ≡ false
   unkept k f from differ at =
       elim (cases_Bool (is_kept (part_of roles f))) [
@@ -96,13 +96,13 @@ module _ (clauses : List (List Lit)) (entries : List Entry) (roles : List Role) 
       ∙ ap (λ b. kept_entries roles (take point entries) ++ cond b (e ∷ []) []) analysis.kept
       ∙ ap (λ es. es ++ e ∷ []) (filter_between p entries start point analysis.first (omega arith) (λ k f past less at. unkept k f past (λ q. absurd (omega arith)) at))
 
-  -- the clause that is learned
+  -- the learned clause, taken from the seen entries
   pub learned_shown : (shown : List Entry) → shown ≡ shown_entries roles entries → negations_of (literals (kept_entries roles shown)) ≡ learned_clause roles entries start (negation_of e.literal)
   learned_shown shown is =
       ap (λ es. negations_of (literals es)) (ap (kept_entries roles) is ∙ kept_shown roles entries ∙ kept_all)
       ∙ negated_push (kept_entries roles (take start entries)) e
 
--- an entry more that is seen
+-- a walk along the trail comes to one more entry that is seen
 pub shown_next : (roles : List Role) (entries : List Entry) (place : ℕ) (e : Entry) → slice_get entries place ≡ Some e → is_seen (part_of roles e) ≡ true → shown_entries roles (take (place + 1) entries) ≡ shown_entries roles (take place entries) ++ e ∷ []
 shown_next roles entries place e at seen =
     let next : place + 1 ≡ suc place = omega arith in
@@ -118,7 +118,7 @@ pub shown_all : (roles : List Role) (entries : List Entry) (from : ℕ) → from
 shown_all roles entries from order none =
     sym (shown_between roles entries from (length entries) order (omega arith) none) ∙ ap (shown_entries roles) (take_all (length entries) entries (omega arith))
 
--- the entries' variables are in the table
+-- the variables of the entries have places in the table
 pub shown_within : (values : List (Option Bool)) (entries : List Entry) (roles : List Role) → EachFresh values entries → VariablesBelow (length values) (shown_entries roles entries)
 shown_within values entries roles fresh =
     All-filter (λ (e : Entry). is_seen (part_of roles e)) (λ (e : Entry). e.literal.variable < length values) entries

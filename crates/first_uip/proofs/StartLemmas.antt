@@ -1,4 +1,4 @@
--- Clauses of one literal, and literals that differ.
+-- Clauses with one literal, and literals that differ.
 use Rattle.std.proofs.Common.{◌≡◌, ℕ, suc, ◌+◌, ◌<◌, true, false, Bool, not, eqb, List, [], ◌∷◌, ◌++◌, Some, length, take, get_or, refl, sym, ap, ◌∙◌, arith, subst}
 use Rattle.std.specs.Prelude.{slice_get, All, IfSome, MatchOption, Option, None}
 use Rattle.std.proofs.lemmas.Bool.{true≢false, eq-eqb}
@@ -17,12 +17,12 @@ use Rattle.depth_first.proofs.Sets.{clause_within}
 use Rattle.first_uip.specs.declared.start.Shape.TheVariants.{One}
 use Rattle.first_uip.specs.Shapes.{IsShape}
 
--- literals of which `!=` is true
+-- literals of which `!=` is true are different
 pub differ_by_ne : (l m : Lit) (differs : Bool) → differs ≡ not (eqb (code_of l) (code_of m)) → differs ≡ true → (l ≡ m) → ⊥
 differ_by_ne l m differs is is_true same =
     true≢false (sym is_true ∙ is ∙ ap not (eq-eqb (code_of l) (code_of m) (ap code_of same)))
 
--- one literal more of a clause that has this literal alone so far, or none
+-- A walk along a clause comes to one more literal: it is the only one so far, as any before it was the same.
 pub one_more : (clause : List Lit) (k : ℕ) (x : Lit) (first : Option Lit) → k < length clause → x ≡ get_or clause k x → ((l : Lit) → first ≡ Some l → l ≡ x) → MatchOption first (k ≡ 0) (λ y. (is_held (take k clause) y ≡ true) × All (λ m. m ≡ y) (take k clause)) → (is_held (take (k + 1) clause) x ≡ true) × All (λ m. m ≡ x) (take (k + 1) clause)
 one_more clause k x first within read same so_far =
     let next : take (k + 1) clause ≡ take k clause ++ x ∷ [] =
@@ -35,7 +35,7 @@ one_more clause k x first within read same so_far =
     before None same none = subst (λ n. All (λ (m : Lit). m ≡ x) (take n clause)) (sym none) (All-nil (λ (m : Lit). m ≡ x))
     before (Some l) same some = subst (λ (y : Lit). All (λ m. m ≡ y) (take k clause)) (same l refl) some.1
 
--- the clause of a number that has one literal alone
+-- the clause of this number has this literal, and no other one
 pub record IsAloneAt (set : Cnf) (number : ℕ) (l : Lit) : Type 0 where
   pub clause : List Lit
   pub at : slice_get (all_clauses set) number ≡ Some clause
@@ -66,7 +66,7 @@ pub alone_unit : (held clause : List Lit) (l : Lit) → is_held clause l ≡ tru
 alone_unit held clause l stands only kept =
     record { stands = Contains-from_held clause l stands; not_false = kept; others_false = λ k d within other. absurd (other (only k d within)) }
 
--- what clauses of the set forced has no decision
+-- no entry was decided that clauses of the set forced at the start
 pub undecided : (clauses : List (List Lit)) (entries : List Entry) → Grows clauses [] entries → (place : ℕ) (e : Entry) → slice_get entries place ≡ Some e → is_decision e.cause ≡ true → ⊥
 undecided clauses entries g place e at decides =
     let there : slice_get g.more place ≡ Some e = sym (ap (λ es. slice_get es place) g.is) ∙ at in

@@ -1,4 +1,4 @@
--- The lists of watchers where one of them changed.
+-- The watch lists after one of them changed.
 use Rattle.std.proofs.Common.{◌≡◌, ℕ, ◌<◌, ◌⊎◌, false, List, [], length, length-set, set, get_or, Contains, sym, ap, ◌∙◌, arith, inl, inr, subst}
 use Rattle.std.proofs.lemmas.Bool.{cases_Bool, cases_eq, true≢false}
 use Rattle.std.proofs.lemmas.List.{get_or-set_same, get_or-set_other}
@@ -8,7 +8,7 @@ use Rattle.first_uip.specs.declared.watchers.Watcher.{Watcher}
 use Rattle.first_uip.specs.declared.watches.Watches.{Watches}
 use Rattle.first_uip.specs.Watching.{KeepsOnly}
 
--- the lists by codes, of which that of one literal changed
+-- the watch lists by the codes of the literals, of which that of one literal changed
 module _ (old new : List (List Watcher)) (l : Lit) (changed : List Watcher) (within : code_of l < length old) (is : new ≡ set old (code_of l) changed) where
   list_here : get_or new (code_of l) [] ≡ changed
   list_here = ap (λ ls. get_or ls (code_of l) []) is ∙ get_or-set_same old (code_of l) changed [] within
@@ -19,7 +19,7 @@ module _ (old new : List (List Watcher)) (l : Lit) (changed : List Watcher) (wit
       ∙ get_or-set_other old (code_of l) (code_of m) changed []
       (λ same. true≢false (sym (ap (λ x. is_same x l) (same_code m l same) ∙ is_same-self l) ∙ differ))
 
-  -- what holds of each list and itself, and of the one that changed, holds of each
+  -- what is true of each unchanged list, and of the one that changed, is true of each
   pub each_list : (P : List Watcher → List Watcher → Type 0) → ((xs : List Watcher) → P xs xs) → P (get_or old (code_of l) []) changed → (m : Lit) → P (get_or old (code_of m) []) (get_or new (code_of m) [])
   each_list P same here m =
       elim (cases_Bool (is_same m l)) [
@@ -29,7 +29,7 @@ module _ (old new : List (List Watcher)) (l : Lit) (changed : List Watcher) (wit
         | inr differ ↦ subst (P (get_or old (code_of m) [])) (sym (list_elsewhere m differ)) (same (get_or old (code_of m) []))
       ]
 
--- one list has nothing but what it had, and what is new
+-- the new list has only watchers of the old one and new ones
 abbrev pub Keeps : (Watcher → Type 0) → List Watcher → List Watcher → Type 0
 Keeps IsNew old new = (w : Watcher) → Contains new w → Contains old w ⊎ IsNew w
 
@@ -45,7 +45,7 @@ module _ (IsNew : Watcher → Type 0) where
         | inr differ ↦ inl (j, omega (arith, below, length-set xs i x), sym (get_or-set_other xs i j x w differ) ∙ at)
       ]
 
-  -- one step after another
+  -- two changes, one after the other
   pub KeepsOnly-two : (IsFirst IsSecond : Watcher → Type 0) (old mid new : Watches) → ((w : Watcher) → IsFirst w → IsNew w) → ((w : Watcher) → IsSecond w → IsNew w) → KeepsOnly old mid IsFirst → KeepsOnly mid new IsSecond → KeepsOnly old new IsNew
   KeepsOnly-two IsFirst IsSecond old mid new first second before after l w h =
       elim (after l w h) [

@@ -1,4 +1,4 @@
--- The clauses of an arena, what each of them watches, and lists of clauses to look at.
+-- The clauses of an arena, the literals that each of them watches, and the clauses of a watch list.
 use Rattle.std.specs.Prelude.{◌≡◌, ℕ, ◌-◌, List, if◌then◌else◌, map, take, drop}
 use Rattle.clauses.specs.Literal.{Lit, is_same}
 use Rattle.first_uip.specs.declared.arena.Arena.{Arena}
@@ -11,7 +11,7 @@ use Rattle.first_uip.specs.declared.watchers.Watcher.{Watcher}
 abbrev pub literals_of : List Lit → Header → List Lit
 literals_of literals h = take (h.end - h.start) (drop h.start literals)
 
--- two literals, or none where they are the same
+-- a clause watches the two literals of its header, or none where they are the same
 abbrev pub watched_of : Header → Watched
 watched_of h = if is_same h.first h.second then Alone else Two h.first h.second
 
@@ -21,7 +21,7 @@ clauses_in arena = map (literals_of arena.literals.items) arena.headers.items
 abbrev pub watched_in : Arena → List Watched
 watched_in arena = map watched_of arena.headers.items
 
--- the two literals differ, if there are two
+-- the two watched literals differ, if there are two
 abbrev pub IsPair : Watched → Type 0
 IsPair Alone = Unit {0}
 IsPair (Two first second) = (first ≡ second) → ⊥

@@ -1,4 +1,4 @@
--- A look at a clause of which a watched literal became false.
+-- Looking at a clause of which a watched literal became false.
 use Rattle.std.specs.Prelude.{◌≡◌, ℕ, ◌⊎◌, true, false, List, Some, slice_get, slice_set}
 use Rattle.clauses.specs.Literal.{Lit}
 use Rattle.clauses.specs.Propagation.{NamesFalse, is_held, is_false}
@@ -10,11 +10,11 @@ use Rattle.first_uip.specs.declared.look.Look.{Look}
 use Rattle.first_uip.specs.declared.look.Look.TheVariants.{Stays, Leaves, Falsified}
 use Rattle.first_uip.specs.Watching.{watched_literals}
 
--- it watches these two, in either order
+-- the clause watches these two literals, in either order
 abbrev pub WatchesBoth : Watched → Lit → Lit → Type 0
 WatchesBoth w l other = (w ≡ Two l other) ⊎ (w ≡ Two other l)
 
--- the clause of this number watches another literal in place of this one, which isn't false
+-- the clause of this number watches, in place of this literal, another literal of it that isn't false
 pub record MovesWatch (clauses : List (List Lit)) (held : List Lit) (old new : List Watched) (number : ℕ) (l : Lit) : Type 0 where
   pub watch : Watched
   pub moved : Lit
@@ -31,7 +31,7 @@ abbrev pub NamesHeld : List (List Lit) → List Lit → ℕ → Lit → Type 0
 NamesHeld clauses held number l =
     (clause : List Lit) → slice_get clauses number ≡ Some clause → (is_held clause l ≡ true) × (is_held held l ≡ true)
 
--- what came of a look at the clause of this number, of which the literal became false
+-- what looking at the clause of this number came to, where this literal, which it watched, became false
 abbrev pub IsLook : List (List Lit) → List Watched → List Watched → List Entry → List Entry → ℕ → Lit → Look → Type 0
 IsLook clauses old new before after number l (Stays other) = (new ≡ old) × NamesHeld clauses (literals after) number other
 IsLook clauses old new before after number l Leaves =

@@ -1,4 +1,4 @@
--- Variables that an order may name.
+-- Variables that the decision order may have.
 use Rattle.std.specs.Prelude.{ℕ, ◌<◌, List, All}
 
 -- each of the variables is from 1 on and below this number

@@ -9,8 +9,8 @@ use Rattle.depth_first.specs.TrailEntries.{EachForced}
 use Rattle.first_uip.specs.declared.watches.Watches.{Watches}
 use Rattle.first_uip.specs.Watching.{IsWatchingUpTo}
 
--- What was learned follows and is new; each entry that wasn't decided has its reason before it; each level but the last
--- is closed, and the last one as far as its entries were seen.
+-- What was learned follows and is new; each entry with a reason was forced by it, by what was held before; each level
+-- before the last is closed under unit propagation, and the last one as far as its entries were propagated.
 pub record IsSearching (set : Cnf) (log : List Step) (watches : Watches) (entries : List Entry) (head : ℕ) : Type 0 where
   pub learned : IsLearned set log
   pub forced : EachForced (clauses_with set log) entries

@@ -1,4 +1,4 @@
--- How many different literals a clause has, as far as watching asks.
+-- How many different literals a clause has, as far as watching asks: none, one or more.
 use Rattle.std.specs.Prelude.{◌≡◌, true, List, [], All}
 use Rattle.clauses.specs.Literal.{Lit}
 use Rattle.clauses.specs.Propagation.{is_held}

@@ -1,4 +1,4 @@
--- What of a trail shows what is learned.
+-- The entries of a trail that conflict analysis has seen.
 use Rattle.std.specs.Prelude.{ℕ, ◌<◌, List, All, filter}
 use Rattle.depth_first.specs.declared.trail.Entry.{Entry}
 use Rattle.first_uip.specs.declared.roles.Role.{Role}

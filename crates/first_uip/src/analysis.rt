@@ -1,4 +1,4 @@
-//! From a conflict to the clause of its first unique implication point (GRASP, Chaff).
+//! Conflict analysis: from a conflict to the clause of its first unique implication point (GRASP, Chaff).
 
 ghost use Rattle.std.specs.Prelude.{◌≡◌, ◌+◌, ◌<◌, ◌≤◌, ◌++◌, ◌∷◌, [], ℕ, false, length, replicate, take, IfOk, IfSome, IfNone};
 ghost use Rattle.clauses.specs.Propagation.{NamesFalse, negations_of};
@@ -18,19 +18,19 @@ use depth_first::{Entry, Trail, numbered};
 use lists::List;
 use std::alloc::{AllocError, Global};
 
-/// What a conflict shows.
+/// What is learned of a conflict.
 #[derive(Drop)]
 pub(crate) struct Learned {
     pub(crate) step: Step,
-    /// The literal of its clause that is open where all others are false.
+    /// The asserting literal: after the backjump it has no value, and all others of the clause are false.
     pub(crate) asserted: Lit,
-    /// Of the others the one that became false last.
+    /// Of the others the one whose variable was assigned last; it is watched beside the asserting literal.
     pub(crate) other: Option<Lit>,
-    /// The place of the earliest decision before which all others are false.
+    /// Where to jump back to: the place of the earliest decision before which all other literals are false.
     pub(crate) jump: usize,
 }
 
-/// The highest place from `start` on and before `end` of an entry on which the conflict rests.
+/// The last place from `start` on and before `end` of an entry on which the conflict rests.
 fn last_seen(trail: &Trail, roles: &[Role], start: usize, end: usize) -> Option<usize>
     requires size { length roles.now ≡ length trail.now.values.items }
     requires within { end ≤ length trail.now.entries.items }
@@ -49,8 +49,8 @@ fn last_seen(trail: &Trail, roles: &[Role], start: usize, end: usize) -> Option<
     None
 }
 
-/// Resolves the entries of the last level, which begins at `start`, from the end back to the first unique
-/// implication point, and tells its place.
+/// Resolves the entries of the last level, which begins at `start`, from its end back to the first unique implication
+/// point. The answer is that point's place.
 fn resolve_level(
     cnf: &Cnf,
     log: &[Step],
@@ -77,7 +77,7 @@ fn resolve_level(
     ensures marked { EachMarked blocks.new places.now roles.new }
 {
     let mut place = trail.entries.len();
-    // an entry before `place` on which the conflict rests
+    // the last entry before `place` on which the conflict rests
     let mut lower = last_seen(trail, roles, start, place).unwrap();
     loop {
         place -= 1;
@@ -120,16 +120,16 @@ pub(crate) fn last_decision(trail: &Trail) -> Option<usize>
     None
 }
 
-/// Where to jump back to.
+/// Where to jump back to (backjumping).
 #[derive(Clone, Copy)]
 pub(crate) struct Jump {
-    /// The place of the earliest decision after all kept entries that stand before the last one.
+    /// The place of the earliest decision behind all kept entries that stand before the last level.
     pub(crate) place: usize,
-    /// The last of these kept entries.
+    /// The place of the last of these kept entries.
     pub(crate) below: Option<usize>,
 }
 
-/// Where to jump back to from the decision at `start`.
+/// Where to jump back to from the last level, which begins at `start`.
 fn jump_from(trail: &Trail, roles: &[Role], start: usize) -> Jump
     requires size { length roles.now ≡ length trail.now.values.items }
     requires decided { DecidedAt trail.now.entries.items start }
@@ -156,7 +156,7 @@ fn jump_from(trail: &Trail, roles: &[Role], start: usize) -> Jump
     }
 }
 
-/// The entries on which the conflict rests, in order.
+/// The entries on which the conflict rests, in the order of the trail.
 fn shown_entries(
     alloc: Global,
     trail: &Trail,
@@ -177,7 +177,8 @@ fn shown_entries(
     Ok(shown)
 }
 
-/// The clause of the negations of what is kept of these entries, with no room for more: it stays.
+/// The clause of the negations of the kept ones of these entries. It takes no more room than its literals, since the
+/// log keeps it.
 fn clause_of(alloc: Global, shown: &[Entry], roles: &[Role]) -> Result<Clause, AllocError>
     requires { VariablesBelow (length roles.now) shown.now }
     ensures { IfOk result (λ clause. clause ≡ negations_of (literals (kept_entries roles.now shown.now))) }
@@ -191,8 +192,8 @@ fn clause_of(alloc: Global, shown: &[Entry], roles: &[Role]) -> Result<Clause, A
     Clause::from_slice(alloc, clause.as_slice())
 }
 
-/// The reasons of what is resolved of these entries, in order, and then the number of the clause that is false, with
-/// no room for more.
+/// The reasons of the resolved ones of these entries, in order, and then the number of the clause that is false. They
+/// take no more room than they need.
 fn hints_of(
     alloc: Global,
     shown: &[Entry],
@@ -216,15 +217,15 @@ fn hints_of(
     Ok(List::from_vec(kept))
 }
 
-/// No part for each variable up to `count`.
+/// The variables up to `count` without a role.
 fn no_parts(alloc: Global, count: u32) -> Result<Vec<Role>, AllocError>
     ensures { IfOk result (λ roles. roles.items ≡ replicate (count + 1) Role.Unseen) }
 {
     vec![in alloc; Role::Unseen; count as usize + 1]
 }
 
-/// Gives each variable its part in the conflict at a clause, where the last decision stands at `start`, and tells
-/// the place of the first unique implication point.
+/// Gives each variable its role in the conflict at a clause, where the last level begins at `start`. The answer is the
+/// place of the first unique implication point.
 fn give_parts(
     cnf: &Cnf,
     log: &[Step],
@@ -258,7 +259,7 @@ fn give_parts(
     point
 }
 
-/// What the parts of the variables in a conflict show.
+/// What is learned of a conflict, once each variable has its role.
 fn learned_of(
     alloc: Global,
     cnf: &Cnf,
@@ -301,7 +302,7 @@ fn learned_of(
     })
 }
 
-/// What the conflict at a clause shows, and the entries on which it rests, by tables where nothing is noted yet.
+/// What is learned of the conflict at a clause, and the entries on which it rests, by tables that are still empty.
 fn analyse_in(
     alloc: Global,
     cnf: &Cnf,
@@ -342,7 +343,8 @@ fn analyse_in(
     Ok((learned, shown))
 }
 
-/// What the conflict at a clause shows, where the last decision stands at `start`, and the entries on which it rests.
+/// What is learned of the conflict at a clause, where the last level begins at `start`, and the entries on which the
+/// conflict rests.
 pub(crate) fn analyse(
     alloc: Global,
     cnf: &Cnf,

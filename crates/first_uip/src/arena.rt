@@ -1,4 +1,4 @@
-//! All clauses, given and learned: their literals one after another, and which two of them each watches.
+//! All clauses, given and learned, in one arena: their literals one after another, and which two of them each watches.
 
 ghost use Rattle.std.specs.Prelude.{◌≤◌, All, length};
 
@@ -8,14 +8,14 @@ use std::alloc::{AllocError, Global};
 /// The literals that a clause watches.
 #[derive(Clone, Copy)]
 pub(crate) enum Watched {
-    /// None: the clause has no two different literals, and its only one is held from the start.
+    /// None: the clause has only one literal, and that is held before any decision.
     Alone,
     /// Two different literals of the clause.
     Two(Lit, Lit),
 }
 
-/// A clause: the two literals that it watches, or one twice where it watches none, and where its literals begin and
-/// end.
+/// A clause of the arena: the two literals that it watches, the same one twice where it watches none, and where its
+/// literals begin and end.
 #[derive(Clone, Copy)]
 pub(crate) struct Header {
     first: Lit,
@@ -77,7 +77,7 @@ impl Arena {
         }
     }
 
-    /// Adds the next clause with what it watches. There is memory for less than 2^32 literals.
+    /// Adds the next clause with the literals that it watches. There is memory for less than 2^32 literals.
     pub(crate) fn push(&mut self, clause: &[Lit], watched: Watched) -> Result<(), AllocError>
         requires { IsPair watched }
         ensures clauses { OnOk result (clauses_in self.new ≡ clauses_in self.old ++ clause.now ∷ []) }

@@ -1,4 +1,4 @@
-//! Blocks of the trail: those without an entry on which the conflict rests are passed over.
+//! Blocks of the trail. Those without an entry on which the conflict rests are passed over.
 
 ghost use Rattle.std.specs.Prelude.{◌≡◌, ◌+◌, ◌<◌, ◌≤◌, ℕ, true, length, IfSome, IfNone};
 ghost use Rattle.first_uip.specs.Conflict.{NoneSeen, SeenAt};
@@ -10,7 +10,7 @@ use depth_first::Trail;
 /// How many entries a block has.
 pub(crate) const BLOCK: usize = 32;
 
-/// How many decisions stand before a place, as was noted.
+/// How many decisions stand before a place, by the table of the levels.
 fn level_before(trail: &Trail, place: usize, levels: &[u32]) -> u32
     requires { length levels.now ≡ length trail.now.values.items }
 {
@@ -20,7 +20,8 @@ fn level_before(trail: &Trail, place: usize, levels: &[u32]) -> u32
     levels[trail.entries[place - 1].literal.variable() as usize]
 }
 
-/// Notes where the entries from a place on stand, and how many decisions stand up to each.
+/// Notes for each entry from a place on where it stands, and its level: how many decisions stand up
+/// to and with it.
 pub(crate) fn note_places(trail: &Trail, start: usize, places: &mut [usize], levels: &mut [u32])
     requires size { length places.old ≡ length trail.now.values.items }
     requires levels { length levels.old ≡ length trail.now.values.items }
@@ -39,7 +40,7 @@ pub(crate) fn note_places(trail: &Trail, start: usize, places: &mut [usize], lev
     }
 }
 
-/// Whether the block of the place is marked. There is none past the last.
+/// Whether the block of the place is marked. Behind the last block each counts as marked.
 fn is_marked(blocks: &[bool], place: usize) -> bool
     ensures { result ≡ is_marked blocks.now place }
 {
@@ -51,7 +52,7 @@ fn is_marked(blocks: &[bool], place: usize) -> bool
     }
 }
 
-/// Marks the block of the place.
+/// Marks the block of the place, if there is one.
 pub(crate) fn mark(place: usize, blocks: &mut [bool])
     ensures here { is_marked blocks.new place ≡ true }
     ensures still { (k : ℕ) → is_marked blocks.old k ≡ true → is_marked blocks.new k ≡ true }

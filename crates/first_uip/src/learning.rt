@@ -1,4 +1,4 @@
-//! The search by conflict-driven clause learning.
+//! The search by conflict-driven clause learning (CDCL).
 
 ghost use Rattle.std.specs.Prelude.{◌≡◌, ◌+◌, ◌^◌, ◌<◌, ◌≤◌, [], length, take, IfOk, MatchOption, OnOk};
 ghost use Rattle.clauses.specs.ClauseSet.{IsNew, StepFollows, all_clauses, clauses_with};
@@ -25,7 +25,7 @@ use depth_first::{Cause, Entry, Found, Trail, refutation};
 use lists::List;
 use std::alloc::{AllocError, Global};
 
-/// What a learned clause watches: this literal and another one, if it has one.
+/// What a learned clause watches: the asserting literal and another one, or nothing where it has no other.
 fn watch_of(asserted: Lit, other: Option<Lit>) -> Watched
     ensures { MatchOption other (result ≡ Watched.Alone) (λ l. result ≡ Watched.Two asserted l) }
 {
@@ -35,8 +35,8 @@ fn watch_of(asserted: Lit, other: Option<Lit>) -> Watched
     }
 }
 
-/// Takes back all entries from the decision at a place on, and adds what was learned. Where all its literals but
-/// one are false then, that one is held.
+/// Pops all entries from the decision at a place on, and adds what was learned. If that is the place of the backjump,
+/// the clause is unit then, and its asserting literal is pushed.
 fn learn(
     cnf: &Cnf,
     log: &mut Vec<Step>,
@@ -85,8 +85,8 @@ fn learn(
     Ok(())
 }
 
-/// The place of the decision to which a search goes back once it has learned a clause that spans so many levels and
-/// jumps to `jump`: an earlier one at a restart.
+/// The place of the decision to which the search goes back once it has learned a clause that spans so many levels:
+/// `jump`, the place of the backjump, or an earlier one at a restart.
 fn place_after(
     policy: &mut Policy,
     trail: &Trail,
@@ -112,8 +112,8 @@ fn place_after(
     Ok(place)
 }
 
-/// Learns from the conflict at a clause, where the last decision stands at `start`, and goes back to the place of a
-/// decision, from which on the entries wait.
+/// Learns from the conflict at a clause, where the last level begins at `start`, and goes back to the place of a
+/// decision. The entries from there on are the propagation queue.
 fn learn_from(
     alloc: Global,
     cnf: &Cnf,
@@ -152,7 +152,8 @@ fn learn_from(
     Ok(place)
 }
 
-/// Propagates, decides and learns, first by the entries that the clauses alone force, which all wait.
+/// The loop of the search: propagates, decides, and learns at conflicts. At first the propagation queue is the whole
+/// trail, the entries that clauses alone forced.
 fn decide_and_learn(
     alloc: Global,
     cnf: &Cnf,
@@ -204,7 +205,7 @@ fn decide_and_learn(
     }
 }
 
-/// Searches in tables where nothing is noted yet.
+/// Searches with a trail and watches that are still empty.
 fn search_in(
     alloc: Global,
     cnf: &Cnf,

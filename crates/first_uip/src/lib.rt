@@ -1,4 +1,5 @@
-//! A search for a model of a clause set by conflict-driven clause learning (CDCL), which logs what it learns.
+//! A search for a model of a clause set by conflict-driven clause learning (CDCL), which logs the clauses that it
+//! learns, with their hints.
 #![tactic(auto)]
 
 mod analysis;

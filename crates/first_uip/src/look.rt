@@ -14,17 +14,17 @@ use clauses::Lit;
 use depth_first::{Cause, Entry, Trail};
 use std::alloc::AllocError;
 
-/// What came of a look at a clause.
+/// What looking at a clause came to.
 pub(crate) enum Look {
-    /// It goes on watching the literal, and this other one that it watches is held.
+    /// It stays in the watch list of the literal: its other watched literal, this one, is held.
     Stays(Lit),
-    /// It doesn't watch the literal.
+    /// It is dropped from the watch list: it doesn't watch the literal.
     Leaves,
-    /// All its literals are false.
+    /// All its literals are false: a conflict.
     Falsified,
 }
 
-/// A literal of the clause that isn't false, other than the one that is watched too.
+/// A literal of the clause that isn't false, other than the watched one that is given.
 fn other_open(trail: &Trail, clause: &[Lit], other: Lit) -> Option<Lit>
     requires { IsWithin (length trail.now.values.items - 1) clause.now }
     ensures stands { IfSome result (λ l. is_held clause.now l ≡ true) }
@@ -57,8 +57,9 @@ fn watched_beside(watched: Watched, literal: Lit) -> Option<Lit>
     }
 }
 
-/// Looks at the clause of a number, of which this literal became false: it is satisfied by the other watched
-/// literal, watches another one instead, forces the other one, or all its literals are false.
+/// Looks at the clause of a number, which is in the watch list of this literal, which became false: it is satisfied by
+/// its other watched literal, watches another literal in place of this one, is unit and forces its other watched
+/// literal, or all its literals are false.
 pub(crate) fn look_at(
     watches: &mut Watches,
     trail: &mut Trail,

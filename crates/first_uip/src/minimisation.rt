@@ -1,4 +1,5 @@
-//! Which earlier entries a learned clause needs (recursive minimisation, Sörensson and Biere).
+//! Clause minimisation: which literals of earlier levels a learned clause needs (recursive minimisation, Sörensson and
+//! Biere).
 
 ghost use Rattle.std.specs.Prelude.{◌≡◌, ◌+◌, ◌<◌, ◌≤◌, length, IfSome, IsTrue, All};
 ghost use Rattle.clauses.specs.ClauseSet.{LogFollows, clauses_with};
@@ -11,7 +12,7 @@ use crate::roles::{Role, resolve};
 use clauses::{Cnf, Lit, Step};
 use depth_first::{Trail, numbered};
 
-/// How many reasons deep an entry is looked into, so that the recursion stays within the stack.
+/// How many reasons deep the search for redundant literals goes, so that the recursion stays within the stack.
 const DEPTH: u32 = 1000;
 
 /// The place of a variable's entry, if it stands where it was noted last.
@@ -28,7 +29,7 @@ fn place_of(trail: &Trail, places: &[usize], variable: u32) -> Option<usize>
 }
 
 /// Whether all variables of the clause but this one are implied: the conflict rests on them, or their entries are
-/// redundant. What is found out about a variable is noted, so that each is looked into once.
+/// redundant. The answer for each variable is noted in `implied`, so that none is looked into twice.
 #[cycle(redundancy)]
 fn all_implied(
     cnf: &Cnf,
@@ -72,7 +73,8 @@ fn all_implied(
     true
 }
 
-/// Whether the entry at a place has a reason, and stands before `root` or the others of its literals are implied.
+/// Whether the entry at a place has a reason, and stands before `root`, the first decision, or all other variables of
+/// the reason are implied.
 #[cycle(redundancy)]
 fn is_redundant(
     cnf: &Cnf,
@@ -118,7 +120,7 @@ fn is_redundant(
     }
 }
 
-/// Resolves the redundant entries before `start` on which the conflict rests, and keeps the others.
+/// Of the entries before `start` on which the conflict rests, resolves the redundant ones and keeps the others.
 pub(crate) fn settle_earlier(
     cnf: &Cnf,
     log: &[Step],

@@ -1,24 +1,25 @@
-//! Which variable to decide next: the most active one (VSIDS of Chaff, by a binary heap as in MiniSat).
+//! The decision order: which variable to decide next, the most active one (VSIDS of Chaff, by a binary heap as in
+//! MiniSat).
 //!
-//! No contract speaks of the order, only of variables that it may name.
+//! No contract speaks of the order itself, only of the variables that it may have.
 
 ghost use Rattle.std.specs.Prelude.{◌≡◌, ◌+◌, ◌<◌, ◌^◌, length, IfOk, IfSome};
 ghost use Rattle.first_uip.specs.Order.{NamesBelow};
 
 use std::alloc::{AllocError, Global};
 
-/// Activities are scaled down where one passes this.
+/// All activities are scaled down once one is greater than this.
 const GREATEST: u64 = 1 << 50;
 
 /// The variables by activity.
 #[derive(Drop)]
 pub(crate) struct Order {
-    /// Variables, each at least as active as the two at twice its place and one or two more.
+    /// The variables of the heap. One at place i is at least as active as its children at 2 i + 1 and 2 i + 2.
     heap: Vec<u32>,
     /// Where each variable stands in the heap, if it does.
     places: Vec<usize>,
     pub(crate) activities: Vec<u64>,
-    /// What a variable gains in a conflict.
+    /// By how much a conflict bumps a variable's activity.
     gain: u64,
     ghost sizes: { length places.items ≡ length activities.items },
     ghost variables: { NamesBelow (length activities.items) heap.items },
@@ -27,7 +28,7 @@ pub(crate) struct Order {
 impl Order {
     ghost use Rattle.std.specs.Prelude.{◌≡◌, ◌+◌, ◌<◌, ◌^◌, length, IfOk, IfSome};
 
-    /// The variables from 1 to `count`, none active.
+    /// The order of the variables from 1 to `count`, none of them active.
     pub(crate) fn new(alloc: Global, count: u32) -> Result<Order, AllocError>
         requires { count + 1 < 2 ^ 32 }
         ensures { IfOk result (λ order. length order.activities.items ≡ count + 1) }
@@ -64,7 +65,7 @@ impl Order {
         }
     }
 
-    /// Swaps the variables at two places.
+    /// Swaps the variables at two places of the heap.
     fn swap(&mut self, one: usize, other: usize)
         requires one { one < length self.old.heap.items }
         requires other { other < length self.old.heap.items }
@@ -78,7 +79,7 @@ impl Order {
         self.places[first as usize] = other;
     }
 
-    /// Moves the variable at a place up to where it belongs.
+    /// Moves the variable at a place of the heap up to where it belongs.
     fn rise(&mut self, mut place: usize)
         requires { place < length self.old.heap.items }
         ensures variables { length self.new.activities.items ≡ length self.old.activities.items }
@@ -93,7 +94,7 @@ impl Order {
         }
     }
 
-    /// The more active of the places below a place.
+    /// The more active one of the children of a place of the heap, if it has any.
     fn child(&self, place: usize) -> Option<usize>
         requires { place < length self.now.heap.items }
         ensures below { IfSome result (λ child. place < child) }
@@ -111,7 +112,7 @@ impl Order {
         }
     }
 
-    /// Moves the variable at a place down to where it belongs.
+    /// Moves the variable at a place of the heap down to where it belongs.
     fn sink(&mut self, mut place: usize)
         requires { place < length self.old.heap.items }
         ensures heap { length self.new.heap.items ≡ length self.old.heap.items }
@@ -168,7 +169,7 @@ impl Order {
         }
     }
 
-    /// Takes the most active variable out of the heap, and tells it.
+    /// Takes the most active variable out of the heap. The answer is that variable.
     pub(crate) fn pop(&mut self) -> Option<u32>
         ensures variables { length self.new.activities.items ≡ length self.old.activities.items }
         ensures first { IfSome result (λ variable. 0 < variable) }
@@ -188,7 +189,7 @@ impl Order {
         self.activities[one as usize] < self.activities[other as usize]
     }
 
-    /// The variable gains activity.
+    /// Bumps the variable's activity.
     pub(crate) fn bump(&mut self, variable: u32)
         requires { variable < length self.old.activities.items }
         ensures { length self.new.activities.items ≡ length self.old.activities.items }
@@ -203,7 +204,7 @@ impl Order {
         }
     }
 
-    /// Later gains are greater by an eleventh, so that earlier ones count for less.
+    /// Later bumps are greater by an eleventh, so that earlier ones count for less (decay).
     pub(crate) fn decay(&mut self)
         ensures { length self.new.activities.items ≡ length self.old.activities.items }
     {
@@ -213,7 +214,7 @@ impl Order {
         }
     }
 
-    /// Divides all activities.
+    /// Scales all activities and later bumps down by the same factor.
     fn scale_down(&mut self)
         ensures heap { self.new.heap.items ≡ self.old.heap.items }
         ensures places { self.new.places.items ≡ self.old.places.items }

@@ -1,4 +1,4 @@
-//! What the search does where it is free: which variable it decides, with which value, and when it restarts.
+//! What no contract says of the search: which variable it decides, with which value, and when and how far it restarts.
 
 ghost use Rattle.std.specs.Prelude.{◌≡◌, ◌+◌, ◌<◌, ℕ, length, IfOk, IfSome, IfNone};
 ghost use Rattle.clauses.specs.Literal.{IsVariable};
@@ -10,17 +10,17 @@ use clauses::{Cnf, Lit};
 use depth_first::{Entry, Trail};
 use std::alloc::{AllocError, Global};
 
-/// What the search learned for its choices.
+/// What the search has noted for these choices.
 #[derive(Drop)]
 pub(crate) struct Policy {
     order: Order,
-    /// For each variable whether its last value was false.
+    /// For each variable whether its last value was false (phase saving).
     pub(crate) negated: Vec<bool>,
     restarts: Restarts,
     ghost sizes: { length order.activities.items ≡ length negated.items },
 }
 
-/// The first variable that isn't set.
+/// The first variable without a value.
 fn open_variable(cnf: &Cnf, trail: &Trail) -> Option<u32>
     requires { length trail.now.values.items ≡ cnf.now.count + 1 }
     ensures found { IfSome result (λ n. IsVariable cnf.now.count n × IsOpen (literals trail.now.entries.items) n) }
@@ -41,7 +41,7 @@ impl Policy {
     ghost use Rattle.first_uip.specs.Shown.{VariablesBelow};
     ghost use Rattle.first_uip.specs.Conflict.{DecidedAt};
 
-    /// Nothing is learned yet.
+    /// Nothing is noted yet.
     pub(crate) fn new(alloc: Global, cnf: &Cnf) -> Result<Policy, AllocError>
         ensures { IfOk result (λ policy. length policy.negated.items ≡ cnf.now.count + 1) }
     {
@@ -52,7 +52,7 @@ impl Policy {
         })
     }
 
-    /// The literal to decide: of the most active open variable, with its last value.
+    /// The literal to decide: of the most active variable without a value, with the variable's last value.
     pub(crate) fn decision(&mut self, cnf: &Cnf, trail: &Trail) -> Option<Lit>
         requires sizes { length self.old.negated.items ≡ cnf.now.count + 1 }
         requires variables { length trail.now.values.items ≡ cnf.now.count + 1 }
@@ -67,7 +67,8 @@ impl Policy {
         Some(Lit::new(variable, self.negated[variable as usize]))
     }
 
-    /// The most active open variable of those in the order.
+    /// The most active one of the variables in the order that have no value. It is taken out of the order, with the
+    /// more active ones.
     fn active_variable(&mut self, trail: &Trail) -> Option<u32>
         requires { length trail.now.values.items ≡ length self.old.negated.items }
         ensures sizes { length self.new.negated.items ≡ length self.old.negated.items }
@@ -83,8 +84,8 @@ impl Policy {
         None
     }
 
-    /// The entries from a place on are taken back: their values are kept, and their variables go back into the
-    /// order.
+    /// For the entries from a place on, which are to be popped: their values are saved, and their variables go back
+    /// into the order.
     pub(crate) fn release(&mut self, trail: &Trail, place: usize) -> Result<(), AllocError>
         requires { length trail.now.values.items ≡ length self.old.negated.items }
         ensures { length self.new.negated.items ≡ length self.old.negated.items }
@@ -97,9 +98,9 @@ impl Policy {
         Ok(())
     }
 
-    /// Where a restart goes back to, at most to the place `jump` of a decision: to the first decision on a variable
-    /// that is less active than the next one to be decided. Those before it would come again (van der Tak, Ramos and
-    /// Heule, "Reusing the assignment trail in CDCL solvers").
+    /// The place of the decision to which a restart goes back: the first one on a variable that is less active than the
+    /// next variable to be decided, or `jump`, the place of the backjump, if there is none before it. The decisions
+    /// before that would be made again (van der Tak, Ramos and Heule, "Reusing the assignment trail in CDCL solvers").
     pub(crate) fn restart_place(
         &mut self,
         trail: &Trail,
@@ -128,7 +129,8 @@ impl Policy {
         Ok(jump)
     }
 
-    /// The most active variable of those in the order that are open once the entries from a place on are taken back.
+    /// The most active one of the variables in the order that have no value once the entries from a place on are
+    /// popped.
     fn next_variable(&mut self, trail: &Trail, places: &[usize], start: usize) -> Option<u32>
         requires variables { length trail.now.values.items ≡ length self.old.negated.items }
         requires places { length places.now ≡ length self.old.negated.items }
@@ -144,8 +146,8 @@ impl Policy {
         None
     }
 
-    /// Counts a conflict, the entries on which it rests, and the levels that its clause spans; the answer is true where
-    /// the search is to restart.
+    /// Counts a conflict, with the entries on which it rests, whose variables are bumped, and the levels that its
+    /// clause spans. The answer is whether the search is to restart.
     pub(crate) fn count_conflict(&mut self, shown: &[Entry], levels: u32) -> bool
         requires { VariablesBelow (length self.old.negated.items) shown.now }
         ensures { length self.new.negated.items ≡ length self.old.negated.items }

@@ -1,4 +1,4 @@
-//! Unit propagation by the clauses that watch what became false.
+//! Unit propagation by watched literals.
 
 ghost use Rattle.std.specs.Prelude.{◌≡◌, ◌+◌, ◌-◌, ◌<◌, length, IfOk, IfSome, IfNone};
 ghost use Rattle.clauses.specs.Literal.{VariablesWithin};
@@ -12,7 +12,7 @@ use crate::watches::Watches;
 use depth_first::Trail;
 use std::alloc::AllocError;
 
-/// Looks at the clauses that watch the negation of the entry at `head`, up to the first that is false.
+/// Looks at the clauses in the watch list of the negation of the entry at `head`, up to the first that is false.
 fn propagate_entry(
     watches: &mut Watches,
     trail: &mut Trail,
@@ -50,8 +50,8 @@ fn propagate_entry(
     Ok(None)
 }
 
-/// Propagates the entries from `head` on, which wait, and those that come of it, up to the first clause that is
-/// false.
+/// Propagates the entries from `head` on, which are the propagation queue, and those that are pushed meanwhile, up to
+/// the first clause that is false.
 pub(crate) fn propagate(
     watches: &mut Watches,
     trail: &mut Trail,

@@ -1,11 +1,12 @@
-//! When to restart: where the clauses that were learned of late span more levels than those before (Glucose).
+//! When to restart: where the clauses that were learned of late span more levels than those before (literal block
+//! distance, Glucose).
 
 use clauses::Lit;
 
-/// How many clauses the mean of late ones weighs, each less than the next.
+/// The mean of late clauses is an exponential moving average: the newest one counts for one in so many.
 const LATE: u64 = 32;
 
-/// A run has at least so many conflicts.
+/// There are at least so many conflicts between two restarts.
 const SHORTEST: u32 = 16;
 
 /// How many levels the learned clauses span.
@@ -13,17 +14,17 @@ const SHORTEST: u32 = 16;
 pub(crate) struct Restarts {
     /// The mean of late clauses, in 65,536ths.
     late: u64,
-    /// The sum of all clauses.
+    /// The sum over all clauses, and how many these are.
     total: u64,
     clauses: u64,
     /// The conflicts since the last restart.
     run: u32,
 }
 
-/// How many levels the literals of a clause span, which stand as in the trail.
+/// How many levels the literals of a clause span, which are in the order of the trail.
 pub(crate) fn levels_of(clause: &[Lit], levels: &[u32]) -> u32 {
     let mut spanned: u32 = 0;
-    // the last level that was counted; what stands before the first decision is of none
+    // the level that was counted last; what stands before the first decision is of level 0, which isn't counted
     let mut last = 0;
     for literal in clause {
         let level = levels
@@ -49,8 +50,8 @@ impl Restarts {
         }
     }
 
-    /// Counts a conflict, whose clause spans so many levels; the answer is true where it ends a run: the late mean is
-    /// more than a fifth above the mean of all.
+    /// Counts a conflict, whose clause spans so many levels. The answer is whether to restart: the last restart is long
+    /// enough ago, and the late mean is more than a fifth above the mean of all.
     pub(crate) fn count_conflict(&mut self, levels: u32) -> bool {
         let scaled = u64::from(levels) << 16;
         self.late = (self.late - self.late / LATE).saturating_add(scaled / LATE);

@@ -1,4 +1,4 @@
-//! What part variables have in a conflict.
+//! The roles of variables in a conflict.
 
 ghost use Rattle.std.specs.Prelude.{◌≡◌, ◌+◌, ◌<◌, ℕ, true, length, All};
 ghost use Rattle.clauses.specs.ClauseSet.{LogFollows, clauses_with};
@@ -10,18 +10,19 @@ use crate::blocks::mark;
 use clauses::{Cnf, Lit, Step};
 use depth_first::{Trail, numbered};
 
-/// The part that a variable has in a conflict.
+/// The role of a variable in a conflict.
 #[derive(Clone, Copy, PartialEq, Eq)]
 pub(crate) enum Role {
-    /// None.
+    /// The conflict doesn't rest on it, as far as it is known.
     Unseen,
-    /// The conflict rests on it, and its reason is used.
+    /// The conflict rests on it, and its reason is resolved with: the hints have that clause.
     Resolved,
     /// The conflict rests on it, and the learned clause has it.
     Kept,
 }
 
-/// The variables of the clause are seen: those that had no part are to be resolved, and their blocks are marked.
+/// The variables of the clause are seen: those that weren't are to be resolved, and the blocks of their entries are
+/// marked.
 pub(crate) fn see(clause: &[Lit], places: &[usize], blocks: &mut [bool], roles: &mut [Role])
     requires within { All (λ l. l.variable < length roles.old) clause.now }
     requires places { length places.now ≡ length roles.old }

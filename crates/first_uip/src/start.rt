@@ -1,4 +1,4 @@
-//! The clauses of the set, before any decision.
+//! The clauses of the set are added to the arena, before any decision.
 
 ghost use Rattle.std.specs.Prelude.{◌≡◌, ◌+◌, ◌<◌, [], length, take, slice_get, IfOk, IfSome, IfNone};
 ghost use Rattle.std.specs.Bool.{OnTrue, OnFalse};
@@ -19,11 +19,11 @@ use std::alloc::AllocError;
 pub(crate) enum Shape {
     Empty,
     One(Lit),
-    /// Two of several.
+    /// Two different literals of several.
     Several(Lit, Lit),
 }
 
-/// How many different literals the clause has.
+/// How many different literals the clause has: none, one or several.
 fn shape_of(clause: &[Lit]) -> Shape
     ensures { IsShape clause.now result }
 {
@@ -44,8 +44,8 @@ fn shape_of(clause: &[Lit]) -> Shape
     }
 }
 
-/// Adds the clause of a number; the answer is false where all its literals are. A clause of one literal makes it
-/// held.
+/// Adds the clause of a number to the arena. The literal of a clause with only one is held. The answer is false where
+/// all literals of the clause are false.
 fn add_clause(
     cnf: &Cnf,
     number: u32,
@@ -74,8 +74,8 @@ fn add_clause(
     }
 }
 
-/// Adds the clause of a number, which has this literal alone; it is held from now on. The answer is false where it
-/// is false.
+/// Adds the clause of a number, which has this literal and no other one, and holds the literal. The answer is false
+/// where the literal is false.
 fn hold(
     cnf: &Cnf,
     number: u32,
@@ -108,7 +108,7 @@ fn hold(
     Ok(true)
 }
 
-/// Adds all clauses of the set, up to the first that is false.
+/// Adds all clauses of the set, up to the first that is false. The answer is its number.
 pub(crate) fn add_clauses(
     cnf: &Cnf,
     watches: &mut Watches,

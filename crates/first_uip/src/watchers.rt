@@ -1,4 +1,4 @@
-//! Lists of the clauses that watch a literal, of which one is dropped in constant time.
+//! Watch lists, from which a clause is dropped in constant time.
 
 ghost use Rattle.std.specs.Prelude.{◌≡◌, ◌<◌, ◌⊎◌, [], ◌∷◌, ◌++◌, Some, length, slice_get, OnOk, Contains};
 ghost use Rattle.std.specs.List.{swap_remove};
@@ -7,16 +7,17 @@ use clauses::Lit;
 use std::alloc::{AllocError, Global};
 use std::marker::Model;
 
-/// A clause that is to be looked at when a literal becomes false.
+/// A clause in the watch list of a literal.
 #[derive(Clone, Copy)]
 pub(crate) struct Watcher {
     /// The number of the clause.
     pub(crate) number: u32,
-    /// Another literal of the clause: where it is held, nothing is to be looked at (MiniSat).
+    /// Another literal of the clause: where it is held, the clause is satisfied, and nothing is to
+    /// be done (MiniSat).
     pub(crate) blocker: Lit,
 }
 
-/// The clauses that are to be looked at when one literal becomes false.
+/// The watch list of a literal: the clauses that are to be looked at when it becomes false.
 #[derive(Drop)]
 pub(crate) struct Watchers {
     items: Vec<Watcher>,
@@ -59,7 +60,7 @@ impl Watchers {
         Ok(())
     }
 
-    /// Drops the one at a place; the last one comes to that place.
+    /// Drops the clause at a place; the last one of the list comes to that place.
     pub(crate) fn drop_at(&mut self, place: usize)
         requires { place < length self.old }
         ensures numbers { numbers_in self.new ≡ swap_remove (numbers_in self.old) place 0 }
@@ -68,7 +69,7 @@ impl Watchers {
         let _ = self.items.swap_remove(place);
     }
 
-    /// The one at a place has this blocker from now on.
+    /// Gives the clause at a place another blocker.
     pub(crate) fn block_at(&mut self, place: usize, blocker: Lit)
         requires { place < length self.old }
         ensures numbers { numbers_in self.new ≡ numbers_in self.old }

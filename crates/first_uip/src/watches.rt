@@ -1,4 +1,4 @@
-//! Two watched literals a clause, and for each literal the clauses that watch it (Chaff).
+//! Two watched literals a clause, and for each literal a watch list (Chaff).
 
 ghost use Rattle.std.specs.Prelude.{◌≡◌, [], replicate, IfOk};
 
@@ -8,12 +8,12 @@ use clauses::Lit;
 use depth_first::code_of;
 use std::alloc::{AllocError, Global};
 
-/// The clauses with what each watches, and for each literal those to look at when it becomes false. A clause may stand
-/// there though it watches the literal no longer.
+/// The clauses with the literals that each watches, and the watch lists. A clause may still be in the watch list of a
+/// literal that it doesn't watch any more.
 #[derive(Drop)]
 pub(crate) struct Watches {
     pub(crate) arena: Arena,
-    /// By the codes of the literals.
+    /// The watch lists, by the codes of the literals.
     lists: Vec<Watchers>,
 }
 
@@ -39,7 +39,7 @@ impl Watches {
         })
     }
 
-    /// The clauses to look at when the literal becomes false.
+    /// The watch list of a literal: the clauses to look at when it becomes false.
     pub(crate) fn of(&self, literal: Lit) -> &[Watcher]
         requires { code_of literal < length self.now.lists.items }
         ensures { result.now ≡ watchers_of self.now literal }
@@ -47,7 +47,7 @@ impl Watches {
         self.lists[code_of(literal)].as_slice()
     }
 
-    /// Adds the next clause with what it watches.
+    /// Adds the next clause with the literals that it watches, to whose watch lists it is added.
     pub(crate) fn add(&mut self, clause: &[Lit], watched: Watched) -> Result<(), AllocError>
         requires within { All (λ l. code_of l < length self.old.lists.items) (watched_literals watched) }
         requires pair { IsPair watched }
@@ -67,7 +67,8 @@ impl Watches {
         Ok(())
     }
 
-    /// The clause of a number watches these two literals from now on, of which the first is new.
+    /// The clause of a number watches these two literals, of which the first is new, and is added to the watch list of
+    /// that.
     pub(crate) fn rewatch(&mut self, number: u32, new: Lit, other: Lit) -> Result<(), AllocError>
         requires within { code_of new < length self.old.lists.items }
         requires known { number < length (watched_in self.old.arena) }
@@ -83,7 +84,7 @@ impl Watches {
         Ok(())
     }
 
-    /// Adds a clause with another literal of it to a literal's.
+    /// Adds a clause, with another literal of it as its blocker, to the watch list of a literal.
     fn add_number(&mut self, literal: Lit, number: u32, blocker: Lit) -> Result<(), AllocError>
         requires within { code_of literal < length self.old.lists.items }
         ensures count { length self.new.lists.items ≡ length self.old.lists.items }
@@ -94,7 +95,7 @@ impl Watches {
         self.lists[code_of(literal)].push(Watcher { number, blocker })
     }
 
-    /// Drops the clause at a place of a literal's; the last one comes to that place.
+    /// Drops the clause at a place of a literal's watch list; the last one of the list comes to that place.
     pub(crate) fn drop_number(&mut self, literal: Lit, place: usize)
         requires within { code_of literal < length self.old.lists.items }
         requires place { place < length (numbers_of self.old literal) }
@@ -107,7 +108,7 @@ impl Watches {
         self.lists[code_of(literal)].drop_at(place);
     }
 
-    /// The clause at a place of a literal's has this blocker from now on.
+    /// Gives the clause at a place of a literal's watch list another blocker.
     pub(crate) fn block(&mut self, literal: Lit, place: usize, blocker: Lit)
         requires within { code_of literal < length self.old.lists.items }
         requires place { place < length (numbers_of self.old literal) }
@@ -120,7 +121,7 @@ impl Watches {
     }
 }
 
-/// Empty lists of this number.
+/// So many empty watch lists.
 fn no_watchers(alloc: Global, count: usize) -> Result<Vec<Watchers>, AllocError>
     ensures { IfOk result (λ lists. lists.items ≡ replicate count []) }
 {

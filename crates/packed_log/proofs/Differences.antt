@@ -1,4 +1,4 @@
--- Hints that are added to bytes, number by number.
+-- Hints that are added to bytes, difference by difference.
 use Rattle.std.proofs.Common.{◌≡◌, ℕ, ◌+◌, ◌^◌, ◌<◌, ◌≤◌, List, [], ◌∷◌, ◌++◌, take, get_or, length, All, refl, sym, ap, subst, ◌∙◌, arith}
 use Rattle.std.proofs.lemmas.List.{take_all, take_more}
 use Rattle.std.proofs.lemmas.List.Elements.{All-nil, All-push}
@@ -6,7 +6,7 @@ use Rattle.packed_log.specs.Steps.{moved, numbers_from}
 use Rattle.packed_log.specs.Words.{Adds, AreHints}
 use Rattle.packed_log.proofs.Lists.{ListSoFar, list_done}
 
--- the last of the numbers, 0 where there is none
+-- the last of the numbers, or the number before them where there are none
 abbrev pub last_of : ℕ → List ℕ → ℕ
 last_of before [] = before
 last_of before (n ∷ ns) = last_of n ns
@@ -19,7 +19,7 @@ pub numbers_from_more : (before d : ℕ) (ds : List ℕ) → numbers_from before
 numbers_from_more before d [] = refl
 numbers_from_more before d (e ∷ ds) = ap (λ (s : List ℕ). moved before e ∷ s) (numbers_from_more (moved before e) d ds)
 
--- the numbers are the differences of these hints, of which `before` is the last
+-- The numbers are the differences of these hints, of which `before` is the last, 0 where there is none; all fit.
 pub record AreDifferences (hints : List ℕ) (before : ℕ) (ns : List ℕ) : Type 0 where
   pub are : numbers_from 0 ns ≡ hints
   pub last : last_of 0 hints ≡ before

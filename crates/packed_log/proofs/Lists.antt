@@ -1,4 +1,4 @@
--- Lists of numbers in bytes.
+-- Lists of numbers as bytes: their length, then the numbers.
 use Rattle.std.proofs.Common.{◌≡◌, ℕ, zero, suc, ◌+◌, ◌^◌, ◌<◌, List, [], ◌∷◌, ◌++◌, All, refl, sym, ap, subst, ◌∙◌, append_assoc, arith, add-one}
 use Rattle.std.proofs.lemmas.List.{append-nil}
 use Rattle.std.proofs.lemmas.List.Elements.{All-head, All-tail}
@@ -13,13 +13,13 @@ pub behind_more : (count : ℕ) (bytes : List ℕ) → behind (suc count) bytes 
 behind_more zero bytes = refl
 behind_more (suc count) bytes = behind_more count (behind_number bytes)
 
--- what holds of all of so many numbers holds of each
+-- what is true of each of the first numbers of the bytes is true of the one at a place
 pub of_each : (P : ℕ → Type 0) (count place : ℕ) (bytes : List ℕ) → place < count → All P (numbers count bytes) → P (first_number (behind place bytes))
 of_each P zero place bytes within all = absurd (omega (arith, within))
 of_each P (suc count) zero bytes within all = All-head P _ _ all
 of_each P (suc count) (suc place) bytes within all = of_each P count place (behind_number bytes) (omega (arith, within)) (All-tail P _ _ all)
 
--- whatever follows the word, so many numbers are read as these
+-- The word is exactly these numbers, `count` of them, whatever bytes follow it.
 pub record AreNumbers (count : ℕ) (ns word : List ℕ) : Type 0 where
   pub first : (rest : List ℕ) → numbers count (word ++ rest) ≡ ns
   pub behind_is : (rest : List ℕ) → behind count (word ++ rest) ≡ rest
@@ -35,7 +35,7 @@ one_more count n ns word last h k = record {
       ∙ ap behind_number (h.behind_is (last ++ rest)) ∙ k.behind rest;
 }
 
--- the head of a list of so many numbers was added, and so many numbers of which R holds
+-- To the old bytes were added the length `total` of a list, and the first `count` of its numbers, of which R holds.
 pub record ListSoFar (total count : ℕ) (R : List ℕ → Type 0) (old new : List ℕ) : Type 0 where
   pub head : List ℕ
   pub is_head : IsNumber total head
@@ -45,7 +45,7 @@ pub record ListSoFar (total count : ℕ) (R : List ℕ → Type 0) (old new : Li
   pub right : R ns
   pub is : new ≡ old ++ (head ++ word)
 
--- whatever follows the word, it is read as the list
+-- The word is exactly the list, whatever bytes follow it.
 pub record IsList (ns word : List ℕ) : Type 0 where
   pub first : (rest : List ℕ) → first_list (word ++ rest) ≡ ns
   pub behind_is : (rest : List ℕ) → behind_list (word ++ rest) ≡ rest
@@ -73,7 +73,7 @@ list_more total count n R S old new newer h step adds = record {
   is = adds.1 ∙ ap (λ (s : List ℕ). s ++ adds.0) h.is ∙ append_assoc old (h.head ++ h.word) adds.0 ∙ ap (λ (s : List ℕ). old ++ s) (append_assoc h.head h.word adds.0);
 }
 
--- the list, of which R holds
+-- what was added is a list of numbers of which R holds
 pub record AddsList (R : List ℕ → Type 0) (old new : List ℕ) : Type 0 where
   pub ns : List ℕ
   pub right : R ns

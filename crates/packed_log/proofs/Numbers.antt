@@ -1,4 +1,4 @@
--- Words that are read as a number.
+-- Bytes that are read as one number (LEB128).
 use Rattle.std.proofs.Common.{◌≡◌, ℕ, zero, suc, ◌+◌, ◌-◌, ◌*◌, ◌/◌, ◌%◌, ◌<◌, ◌≤◌, List, [], ◌∷◌, ◌++◌, take, drop, get_or, length, All, refl, sym, ap, subst, ◌∙◌, append_assoc, arith}
 use Rattle.std.proofs.lemmas.List.{append-nil, drop_all, drop_more}
 use Rattle.std.proofs.lemmas.List.Elements.{All-head, All-tail}
@@ -15,7 +15,7 @@ one_more_byte n word large h = record {
   behind = λ rest. let e : behind_number (word ++ rest) ≡ rest = h.behind rest in grind (arith, nat_tests);
 }
 
--- bytes were added, and with any word of the rest they are read as the number
+-- Bytes were added that are read as the number, once bytes that are read as the rest are added behind them.
 pub record NumberSoFar (number rest : ℕ) (old new : List ℕ) : Type 0 where
   pub word : List ℕ
   pub is : new ≡ old ++ word
@@ -49,12 +49,12 @@ behind_more byte bytes more = grind (arith, nat_tests)
 behind_last : (byte : ℕ) (bytes : List ℕ) → byte < 128 → behind_number (byte ∷ bytes) ≡ bytes
 behind_last byte bytes last = grind (arith, nat_tests)
 
--- a byte that says that more follow
+-- a byte with the high bit set: its low seven bits, and 128 times the number that the bytes behind it begin with
 pub first_of_more : (bytes : List ℕ) (place : ℕ) → place < length bytes → 128 ≤ get_or bytes place 0 → first_number (drop place bytes) ≡ (get_or bytes place 0 - 128) + 128 * first_number (drop (place + 1) bytes)
 first_of_more bytes place within more =
     ap first_number (drop_more bytes place 0 within) ∙ first_more (get_or bytes place 0) (drop (place + 1) bytes) more
 
--- the last byte of a number, or none
+-- a byte without the high bit is the number itself; behind the end of the bytes the number is 0
 pub first_of_last : (bytes : List ℕ) (count : ℕ) → All (λ byte. byte < 128) (take 1 (drop count bytes)) → first_number (drop count bytes) ≡ get_or bytes count 0
 first_of_last [] zero last = refl
 first_of_last [] (suc count) last = refl
@@ -69,7 +69,7 @@ more_at (byte ∷ bytes) zero (suc count) below within more = All-head (λ b. 12
 more_at (byte ∷ bytes) (suc place) (suc count) below within more =
     more_at bytes place count (omega (arith, below)) (omega (arith, within)) (All-tail (λ b. 128 ≤ b) byte (take count bytes) more)
 
--- what the later bytes of a number are read as is no more
+-- The number read from a later byte on is no greater, where the bytes before it have the high bit set.
 pub first_number-later : (bytes : List ℕ) (place count : ℕ) → place ≤ count → All (λ byte. 128 ≤ byte) (take count bytes) → first_number (drop place bytes) ≤ first_number bytes
 first_number-later bytes zero count le more = omega arith
 first_number-later [] (suc place) count le more = omega arith
@@ -88,7 +88,7 @@ behind_number-leading (byte ∷ bytes) (suc count) more last =
     ∙ behind_number-leading bytes count (All-tail (λ b. 128 ≤ b) byte (take count bytes) more) last
     ∙ ap (λ n. drop n (byte ∷ bytes)) next
 
--- one byte before those that were read
+-- the byte before those that were read is read too
 pub byte_before : (bytes : List ℕ) (place count number : ℕ) → 0 < place → place ≤ count → count ≤ length bytes → All (λ byte. 128 ≤ byte) (take count bytes) → number ≡ first_number (drop place bytes) → 128 * number + (get_or bytes (place - 1) 0 - 128) ≡ first_number (drop (place - 1) bytes)
 byte_before bytes place count number first le within more is =
     let k = place - 1 in

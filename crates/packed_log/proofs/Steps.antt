@@ -1,4 +1,4 @@
--- Steps that are packed, and taken again, one by one.
+-- Steps that are packed and unpacked one by one.
 use Rattle.std.proofs.Common.{◌≡◌, ℕ, ◌+◌, ◌<◌, ◌≤◌, List, [], ◌∷◌, ◌++◌, take, drop, get_or, length, refl, sym, ap, subst, ◌∙◌, append_assoc}
 use Rattle.std.proofs.lemmas.List.{append-nil, take_all, take_more, drop_all, drop_more}
 use Rattle.clauses.specs.Literal.{Lit}
@@ -7,7 +7,7 @@ use Rattle.packed_log.specs.Numbers.{behind_list}
 use Rattle.packed_log.specs.Steps.{first_hints, steps, HintsFit, AllHintsFit}
 use Rattle.packed_log.specs.Words.{Adds, AreHints}
 
--- the bytes behind the hints of these clauses
+-- the bytes behind the hints of the steps of these clauses
 abbrev behind_hints : List (List Lit) → List ℕ → List ℕ
 behind_hints [] bytes = bytes
 behind_hints (clause ∷ clauses) bytes = behind_hints clauses (behind_list bytes)
@@ -24,7 +24,7 @@ fit_more : (clauses : List (List Lit)) (clause : List Lit) (bytes : List ℕ) �
 fit_more [] clause bytes fit last = (last, tt)
 fit_more (first ∷ clauses) clause bytes fit last = (fit.0, fit_more clauses clause (behind_list bytes) fit.1 last)
 
--- whatever follows the bytes, the steps of the clauses are these
+-- The bytes are exactly the hints of the steps of these clauses, whatever bytes follow.
 pub record AreSteps (clauses : List (List Lit)) (bytes : List ℕ) (log : List Step) : Type 0 where
   pub first : (rest : List ℕ) → steps clauses (bytes ++ rest) ≡ log
   pub behind : (rest : List ℕ) → behind_hints clauses (bytes ++ rest) ≡ rest
@@ -61,7 +61,8 @@ all_packed log place clauses bytes same all is h =
     let empty : bytes ++ [] ≡ same = append-nil bytes ∙ sym is in
     (ap (steps clauses) (sym empty) ∙ h.first [] ∙ take_all place log all, subst (AllHintsFit clauses) empty (h.fit []))
 
--- the steps so far, and those that the rest has of the other clauses, are all
+-- The steps that were unpacked, and those that the rest of the bytes gives for the clauses from this place on, are the
+-- whole log.
 pub record StepsTaken (clauses : List (List Lit)) (place : ℕ) (bytes rest : List ℕ) (log : List Step) : Type 0 where
   pub are : log ++ steps (drop place clauses) rest ≡ steps clauses bytes
   pub fit : AllHintsFit (drop place clauses) rest

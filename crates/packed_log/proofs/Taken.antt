@@ -1,4 +1,4 @@
--- Hints that are taken off bytes, number by number.
+-- Hints that are read off the bytes, difference by difference.
 use Rattle.std.proofs.Common.{◌≡◌, ℕ, zero, suc, ◌+◌, ◌^◌, ◌<◌, ◌≤◌, List, [], ◌∷◌, ◌++◌, All, refl, sym, ap, subst, ◌∙◌, arith, add-one}
 use Rattle.std.proofs.lemmas.List.Elements.{All-head, All-tail}
 use Rattle.packed_log.specs.Numbers.{first_number, behind_number, numbers, behind, first_list, behind_list}
@@ -6,7 +6,7 @@ use Rattle.packed_log.specs.Steps.{moved, numbers_from, first_hints, HintsFit}
 use Rattle.packed_log.proofs.Lists.{numbers_more, behind_more, of_each}
 use Rattle.packed_log.proofs.Differences.{last_of, last_of_more, numbers_from_more}
 
--- so many numbers of the list were taken, and the rest is behind them
+-- the first numbers of the list were read, `place` of them, and the rest are the bytes behind them
 pub record ListTaken (place : ℕ) (bytes rest ns : List ℕ) : Type 0 where
   pub are : ns ≡ numbers place (behind_number bytes)
   pub rest_is : rest ≡ behind place (behind_number bytes)
@@ -27,7 +27,7 @@ all_taken count place bytes rest ns is all within h =
     let same : place ≡ first_number bytes = omega (arith, is, all, within) in
     (h.are ∙ ap (λ (k : ℕ). numbers k (behind_number bytes)) same, h.rest_is ∙ ap (λ (k : ℕ). behind k (behind_number bytes)) same)
 
--- hints are taken, `before` being the last
+-- the first hints were read, `place` of them; `before` is the last one, 0 where there is none
 pub record HintsTaken (place before : ℕ) (bytes rest hints : List ℕ) : Type 0 where
   pub ns : List ℕ
   pub taken : ListTaken place bytes rest ns
@@ -51,7 +51,7 @@ difference_fits count place before bytes rest hints fit is within h =
     subst (λ (s : List ℕ). first_number s < 2 ^ 64) (sym h.taken.rest_is)
     (of_each (λ n. n < 2 ^ 64) (first_number bytes) place (behind_number bytes) (omega (arith, is, within)) fit.differences)
 
--- what holds of all hints holds of the one that is next
+-- what is true of each hint is true of the one that is read next
 next_of_each : (P : ℕ → Type 0) (before count place : ℕ) (bytes : List ℕ) → place < count → All P (numbers_from before (numbers count bytes)) → P (moved (last_of before (numbers_from before (numbers place bytes))) (first_number (behind place bytes)))
 next_of_each P before zero place bytes within all = absurd (omega (arith, within))
 next_of_each P before (suc count) zero bytes within all = All-head P _ _ all

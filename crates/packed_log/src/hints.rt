@@ -1,4 +1,4 @@
-//! The hints of steps: how many there are, and each as its difference from the one before, the first from 0.
+//! The hints of steps as bytes: how many there are, and each as its difference from the one before, the first from 0.
 
 ghost use Rattle.std.specs.Prelude.{◌≡◌, ◌<◌, ◌^◌, OnOk, IfOk};
 ghost use Rattle.packed_log.specs.Numbers.{behind_list};
@@ -9,8 +9,8 @@ use crate::number::{push_number, take_number};
 use lists::List;
 use std::alloc::{AllocError, Global};
 
-/// The difference of a number from the one before: twice as much as it is more, or one less than twice as much as it is
-/// less.
+/// The difference of a number from the one before (zigzag code): twice as much as the number is more, or one less than
+/// twice as much as it is less.
 fn difference(before: u32, number: u32) -> u64
     ensures { moved before result ≡ number }
 {
@@ -34,7 +34,7 @@ fn number_after(before: u32, difference: u64) -> u32
     }
 }
 
-/// Adds hints.
+/// Adds the hints of one step at the end of the bytes.
 pub(crate) fn push_hints(bytes: &mut Vec<u8>, hints: &[u32]) -> Result<(), AllocError>
     ensures { OnOk result (Adds (AreHints hints.now) bytes.old.items bytes.new.items) }
 {
@@ -47,7 +47,7 @@ pub(crate) fn push_hints(bytes: &mut Vec<u8>, hints: &[u32]) -> Result<(), Alloc
     Ok(())
 }
 
-/// The hints that the bytes begin with; goes behind them.
+/// Reads the hints that the bytes begin with, and leaves the bytes behind them in `rest`.
 pub(crate) fn take_hints(alloc: Global, rest: &mut &[u8]) -> Result<List<u32>, AllocError>
     requires { HintsFit rest.old.now }
     ensures hints { IfOk result (λ hints. hints ≡ first_hints rest.old.now) }

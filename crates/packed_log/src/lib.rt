@@ -1,7 +1,7 @@
-//! A log in few bytes, which contracts see as the list of its steps.
+//! A log in few bytes. Contracts see it as the list of its steps.
 //!
-//! Hints are most of a log. They name clauses of gates that lie near each other, so each is kept as its difference from
-//! the one before, in as few bytes as that needs.
+//! Most of a log is hints. They often name gate clauses with numbers near each other, so each is kept as its difference
+//! from the one before, in as few bytes as that needs (LEB128).
 #![tactic(auto)]
 
 mod hints;

@@ -6,7 +6,7 @@ ghost use Rattle.packed_log.specs.Words.{Adds, IsNumber};
 
 use std::alloc::AllocError;
 
-/// Adds a number.
+/// Adds a number at the end of the bytes.
 pub(crate) fn push_number(bytes: &mut Vec<u8>, number: u64) -> Result<(), AllocError>
     ensures { OnOk result (Adds (IsNumber number) bytes.old.items bytes.new.items) }
 {
@@ -19,7 +19,7 @@ pub(crate) fn push_number(bytes: &mut Vec<u8>, number: u64) -> Result<(), AllocE
     Ok(())
 }
 
-/// How many bytes at the start say that more of the number follow.
+/// How many bytes at the start have the high bit set, so that more bytes of the number follow.
 fn leading(bytes: &[u8]) -> usize
     ensures within { result ≤ length bytes.now }
     ensures more { All (λ byte. 128 ≤ byte) (take result bytes.now) }
@@ -32,7 +32,7 @@ fn leading(bytes: &[u8]) -> usize
     count
 }
 
-/// The number that the bytes begin with, where so many of them say that more follow.
+/// The number that the bytes begin with, of which `count` bytes have the high bit set.
 fn number_at(bytes: &[u8], count: usize) -> u64
     requires few { first_number bytes.now < 2 ^ 64 }
     requires within { count ≤ length bytes.now }
@@ -50,7 +50,8 @@ fn number_at(bytes: &[u8], count: usize) -> u64
     number
 }
 
-/// The number that the bytes begin with; goes behind it. A number that was pushed has ten bytes at most.
+/// Reads the number that the bytes begin with, and leaves the bytes behind it in `rest`. A number that was pushed has
+/// ten bytes at most.
 pub(crate) fn take_number(rest: &mut &[u8]) -> u64
     requires { first_number rest.old.now < 2 ^ 64 }
     ensures number { result ≡ first_number rest.old.now }

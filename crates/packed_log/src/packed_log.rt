@@ -8,7 +8,7 @@ use lists::List;
 use std::alloc::{AllocError, Global};
 use std::marker::Model;
 
-/// A log in few bytes.
+/// A log with its hints in few bytes.
 #[derive(Drop)]
 pub struct PackedLog {
     clauses: List<Clause>,

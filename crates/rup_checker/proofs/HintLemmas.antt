@@ -1,4 +1,4 @@
--- Hints move by move, and where the literals stand that they make hold.
+-- Hints taken one by one, and where the literals stand that they propagate.
 use Rattle.std.specs.Prelude.{◌==◌}
 use Rattle.std.proofs.Common.{◌≡◌, ℕ, true, List, [], ◌∷◌, ◌++◌, get_or, ap, ◌∙◌, subst}
 use Rattle.std.proofs.lemmas.Bool.{eq-eqb}
@@ -10,14 +10,14 @@ use Rattle.clauses.specs.Propagation.{HintsRefute, NamesUnit}
 use Rattle.clauses.proofs.Derivations.{HintsRefute-move, NamesUnit-same}
 use Rattle.rup_checker.specs.Table.{stands_in}
 
--- a number that makes no literal hold is no move
+-- hints refute nothing where the first of several names a clause without a unit literal
 pub no_move : (clauses : List (List Lit)) (held : List Lit) (number : ℕ) (rest : List ℕ) (last : ℕ) → ((l : Lit) → ¬ (NamesUnit clauses held number l)) → ¬ (HintsRefute clauses held (number ∷ (rest ++ last ∷ [])))
 no_move clauses held number [] last none h =
     let move = HintsRefute-move clauses held number last [] h in none move.0 move.1
 no_move clauses held number (n ∷ ns) last none h =
     let move = HintsRefute-move clauses held number n (ns ++ last ∷ []) h in none move.0 move.1
 
--- after a move, the hints to come refute where all did
+-- hints refute a state, so without the first one, which propagates a literal, they refute the state that holds it too
 pub after_move : (clauses : List (List Lit)) (held : List Lit) (number : ℕ) (l : Lit) (rest : List ℕ) (last : ℕ) → NamesUnit clauses held number l → HintsRefute clauses held (number ∷ (rest ++ last ∷ [])) → HintsRefute clauses (l ∷ held) (rest ++ last ∷ [])
 after_move clauses held number l [] last unit h =
     let move = HintsRefute-move clauses held number last [] h in
@@ -26,7 +26,7 @@ after_move clauses held number l (n ∷ ns) last unit h =
     let move = HintsRefute-move clauses held number n (ns ++ last ∷ []) h in
     subst (λ m. HintsRefute clauses (m ∷ held) (n ∷ (ns ++ last ∷ []))) (NamesUnit-same clauses held number move.0 l move.1 unit) move.2
 
--- a literal that a number makes hold stands in that clause
+-- the unit literal of a clause stands in it
 pub unit_stands : (clauses : List (List Lit)) (held : List Lit) (number : ℕ) (l : Lit) → NamesUnit clauses held number l → stands_in l.variable (get_or clauses number []) ≡ true
 unit_stands clauses held number l (clause, at, unit) =
     let (k, within, is) = unit.stands in
@@ -34,7 +34,7 @@ unit_stands clauses held number l (clause, at, unit) =
     ∙ list_any_at (λ m. m.variable == l.variable) clause k l within
     (eq-eqb (get_or clause k l).variable l.variable (ap (λ (m : Lit). m.variable) is))
 
--- its variable is one of the set's
+-- the variable of a unit literal is one of the set's
 pub unit_within : (count : ℕ) (clauses : List (List Lit)) (held : List Lit) (number : ℕ) (l : Lit) → VariablesWithin count clauses → NamesUnit clauses held number l → IsVariable count l.variable
 unit_within count clauses held number l within (clause, at, unit) =
     let here : IsWithin count clause =

@@ -1,4 +1,4 @@
--- Logs step by step.
+-- Logs taken step by step.
 use Rattle.std.proofs.Common.{◌≡◌, ℕ, suc, ◌+◌, ◌<◌, List, Some, sym, ap, ◌∙◌, arith, inl, inr, subst, add-one}
 use Rattle.std.specs.Prelude.{slice_get}
 use Rattle.std.proofs.lemmas.Bool.{cases_lt}

@@ -7,11 +7,11 @@ use Rattle.clauses.proofs.Held.{is_same-true}
 use Rattle.rup_checker.specs.declared.table.Entry.{Entry}
 use Rattle.rup_checker.specs.Table.{Represents, table_holds, stands_in}
 
--- where one more literal is held
+-- a table that is told of one more literal represents the state that holds it too
 pub Represents-hold : (old new : List Entry) (held : List Lit) (l : Lit) → ((m : Lit) → table_holds new m ≡ (is_same m l || table_holds old m)) → Represents old held → Represents new (l ∷ held)
 Represents-hold old new held l step r = record { each = λ m. step m ∙ ap (λ b. is_same m l || b) (r.each m) }
 
--- a variable that doesn't stand in a clause isn't held by its negation
+-- The negations of a clause's literals hold no literal of a variable that doesn't stand in the clause.
 negations_elsewhere : (clause : List Lit) (m : Lit) → stands_in m.variable clause ≡ false → is_held (negations_of clause) m ≡ false
 negations_elsewhere [] m none = refl
 negations_elsewhere (l ∷ ls) m none =
@@ -20,7 +20,7 @@ negations_elsewhere (l ∷ ls) m none =
     (and_left (eqb m.variable l.variable) (cond m.negated (not l.negated) (not (not l.negated))) (ne_eqb m.variable l.variable (λ same. eqb-false l.variable m.variable parts.0 (sym same))))
     (negations_elsewhere ls m parts.1)
 
--- where a literal that is held is held again
+-- a state that holds a literal twice is represented by the same table
 pub Represents-again : (table : List Entry) (held : List Lit) (l : Lit) → is_held held l ≡ true → Represents table held → Represents table (l ∷ held)
 Represents-again table held l holds r =
     record {
@@ -31,7 +31,8 @@ Represents-again table held l holds r =
           ];
     }
 
--- what is held first is of variables of the clause
+-- where the negations of the clause's literals are held, each literal that the table holds is of a variable of the
+-- clause
 pub own_negations : (negated : List Entry) (clause : List Lit) → Represents negated (negations_of clause) → (m : Lit) → table_holds negated m ≡ true → stands_in m.variable clause ≡ true
 own_negations negated clause r m holds =
     elim (cases_Bool (stands_in m.variable clause)) [
@@ -39,7 +40,7 @@ own_negations negated clause r m holds =
       | inr none ↦ absurd (true≢false (sym holds ∙ r.each m ∙ negations_elsewhere clause m none))
     ]
 
--- where the clause's variables are released, and no others were held, nothing is held
+-- where only literals of the clause's variables were held, the table holds nothing once these variables are released
 pub Represents-released : (clause : List Lit) (freed blank : List Entry) → ((m : Lit) → table_holds freed m ≡ true → stands_in m.variable clause ≡ true) → ((m : Lit) → table_holds blank m ≡ (table_holds freed m && not (stands_in m.variable clause))) → Represents blank []
 Represents-released clause freed blank own released =
     record {

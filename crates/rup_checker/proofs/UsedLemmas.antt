@@ -1,5 +1,5 @@
--- Marked clauses: each has a unit literal that is held, so that a hint that names it again is a move that holds nothing
--- new.
+-- Marked clauses, those that have propagated a literal. It is held and unit in the clause still, so a hint that names
+-- the clause again propagates nothing new.
 use Rattle.std.specs.Prelude.{◌==◌, Contains}
 use Rattle.std.proofs.Common.{◌≡◌, ℕ, zero, suc, ◌+◌, ◌<◌, ◌≤◌, Bool, true, false, not, ◌&&◌, ◌||◌, cond, eqb, List, [], ◌∷◌, ◌++◌, drop, get_or, length, refl, sym, ap, ◌∙◌, inl, inr, subst, arith}
 use Rattle.std.proofs.lemmas.Bool.{cases_Bool, or_cases, or_from, or_left, or_right, and_parts, and_from, and_right, eqb-true, eq-eqb, true≢false, false_from_ne_true}
@@ -12,7 +12,7 @@ use Rattle.rup_checker.specs.declared.table.Entry.{Entry}
 use Rattle.rup_checker.specs.Table.{Accounted, stands_in, table_holds, used_in}
 use Rattle.rup_checker.proofs.HintLemmas.{unit_stands}
 
--- each marked clause has a unit literal that is held
+-- each marked clause has a unit literal, which is held already
 pub record UsedAreUnit (clauses : List (List Lit)) (held : List Lit) (used : List Entry) : Type 0 where
   pub unit_of : (number : ℕ) → used_in used number ≡ true → (l : Lit) × NamesUnit clauses held number l × (is_held held l ≡ true)
 
@@ -26,14 +26,14 @@ signs_differ false = refl
 negation_differs : (l : Lit) → is_same (negation_of l) l ≡ false
 negation_differs l = and_right (eqb l.variable l.variable) (cond (not l.negated) l.negated (not l.negated)) (signs_differ l.negated)
 
--- a literal that isn't false is no negation of one that is held
+-- a literal that isn't false is not the negation of a literal that is held
 no_negation : (held : List Lit) (l m : Lit) → is_held held l ≡ true → is_false held m ≡ false → is_same (negation_of l) m ≡ false
 no_negation held l m holds unset =
     false_from_ne_true (is_same (negation_of l) m) (λ same.
     let back : negation_of m ≡ l = sym (ap negation_of (is_same-true (negation_of l) m same)) ∙ negation-negation l in
     true≢false (sym holds ∙ sym (ap (is_held held) back) ∙ unset))
 
--- a unit literal stays so while its negation isn't held
+-- a literal stays unit in a clause where one more is held that isn't its negation
 unit_later : (clauses : List (List Lit)) (held : List Lit) (number : ℕ) (l m : Lit) → is_same (negation_of l) m ≡ false → NamesUnit clauses held number l → NamesUnit clauses (m ∷ held) number l
 unit_later clauses held number l m differs (clause, at, unit) = (
   clause,
@@ -68,7 +68,7 @@ UsedAreUnit-marked clauses held old new number l unit step u =
           ];
     }
 
--- where a number makes a literal hold and is marked
+-- What the table holds is accounted for still where a clause's unit literal is held and the clause is marked.
 pub Accounted-more : (clauses : List (List Lit)) (clause held : List Lit) (number : ℕ) (l : Lit) (table newer used more : List Entry) → NamesUnit clauses held number l → ((m : Lit) → table_holds newer m ≡ (is_same m l || table_holds table m)) → ((n : ℕ) → used_in more n ≡ ((n == number) || used_in used n)) → Accounted clauses clause table used → Accounted clauses clause newer more
 Accounted-more clauses clause held number l table newer used more unit holds marks accounted =
     λ m is.
@@ -96,7 +96,8 @@ marked_more hints moves last place used more whole within marks marked n is =
       | inr before ↦ marked n before
     ]
 
--- where a number's mark is taken, and the variables of its clause are released
+-- What the table holds is accounted for still where the mark of a clause is taken and the variables of the clause are
+-- released.
 pub Accounted-less : (clauses : List (List Lit)) (clause : List Lit) (number : ℕ) (table newer used less : List Entry) → ((m : Lit) → table_holds newer m ≡ (table_holds table m && not (used_in used number && stands_in m.variable (get_or clauses number [])))) → ((n : ℕ) → used_in less n ≡ (used_in used n && not (n == number))) → Accounted clauses clause table used → Accounted clauses clause newer less
 Accounted-less clauses clause number table newer used less released taken accounted =
     λ m is.
@@ -117,7 +118,7 @@ only : (m n : ℕ) → Contains (m ∷ []) n → m ≡ n
 only m n (zero, within, is) = is
 only m n (suc k, within, is) = absurd (omega (arith, within))
 
--- a marked number is one of those to come, once the mark of the first of them is taken
+-- once the mark of the next hint's clause is taken, each clause that is marked is named by a later hint
 pub marked_later : (hints : List ℕ) (place : ℕ) (used less : List Entry) → place < length hints → ((n : ℕ) → used_in less n ≡ (used_in used n && not (n == get_or hints place 0))) → ((n : ℕ) → used_in used n ≡ true → Contains (drop place hints) n) → (n : ℕ) → used_in less n ≡ true → Contains (drop (place + 1) hints) n
 marked_later hints place used less within taken marked n is =
     let number = get_or hints place 0 in
@@ -129,7 +130,7 @@ marked_later hints place used less within taken marked n is =
       | inr later ↦ later
     ]
 
--- after the last of them no number is marked
+-- once the marks of all hints' clauses are taken, no clause is marked
 pub none_marked : (hints : List ℕ) (place : ℕ) (used : List Entry) → length hints ≤ place → ((n : ℕ) → used_in used n ≡ true → Contains (drop place hints) n) → (n : ℕ) → used_in used n ≡ false
 none_marked hints place used all marked n =
     false_from_ne_true (used_in used n) (λ is.

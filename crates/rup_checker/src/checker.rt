@@ -1,4 +1,4 @@
-//! Steps and logs, one after another, over the one table.
+//! The check of steps and logs, all by one table.
 ghost use Rattle.std.specs.Prelude.{◌≡◌, ◌↔◌, ◌+◌, ◌<◌, ◌≤◌, ℕ, Bool, false, [], length, IsTrue, IfOk};
 ghost use Rattle.std.specs.Bool.{OnTrue};
 ghost use Rattle.clauses.specs.Literal.{Meets, VariablesWithin};
@@ -11,9 +11,10 @@ use clauses::{Cnf, Log, Step, is_within};
 use std::alloc::{AllocError, Global};
 
 /// Whether each step of the log follows from the set and the steps before it, by reverse unit
-/// propagation. A model of the set then meets each clause of the log. An `Err` says that memory is
-/// wanting for the table of the variables and the clauses, which is all that it takes. A step costs
-/// its hints, the literals of its clause, and once the literals of each clause that a hint names.
+/// propagation (RUP). A model of the set then makes each clause of the log true. An `Err` says that
+/// there is no memory for the table of the variables and the clauses, which is all that it takes. A
+/// step costs its hints, the literals of its clause, and once the literals of each clause that a
+/// hint names.
 pub fn check(alloc: Global, cnf: &Cnf, log: &Log) -> Result<bool, AllocError>
     ensures follows { IfOk result (λ yes. IsTrue yes ↔ LogFollows cnf.now log.now) }
     ensures model_meets_log { IfOk result (λ yes. IsTrue yes
@@ -47,7 +48,7 @@ fn ends_empty(log: &[Step]) -> bool
     }
 }
 
-/// Whether each step of the log follows, by a table that holds nothing and marks nothing.
+/// Whether each step of the log follows, by a table that holds no literal and marks no clause.
 fn log_follows(cnf: &Cnf, log: &[Step], table: &mut [Entry], used: &mut [Entry]) -> bool
     requires blank { Represents table.old [] }
     requires unused { (number : ℕ) → used_in used.old number ≡ false }
@@ -63,10 +64,10 @@ fn log_follows(cnf: &Cnf, log: &[Step], table: &mut [Entry], used: &mut [Entry])
     true
 }
 
-/// Whether the step follows from the set and the earlier steps, by a table that holds nothing and
-/// marks nothing. Where it does, the table is so again: only variables of the step's clause and of
-/// the marked clauses were written, so going over these once more undoes that. Where it doesn't,
-/// the log fails, and the table is done with.
+/// Whether the step follows from the set and the earlier steps, by a table that holds no literal
+/// and marks no clause. Where it does, the table is so again: only variables of the step's clause
+/// and of the marked clauses were written, and these are released one by one, without a pass over
+/// the whole table. Where it doesn't follow, the log is refused, and the table isn't used any more.
 fn step_follows(
     cnf: &Cnf,
     earlier: &[Step],

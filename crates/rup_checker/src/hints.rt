@@ -1,5 +1,5 @@
-//! The test of a step's hints: all but the last are moves of unit propagation, and the last names
-//! a clause that is then false.
+//! The test of a step's hints: all but the last name clauses with a unit literal, which is
+//! propagated, and the last names a clause that is then false, the conflict.
 ghost use Rattle.std.specs.Prelude.{◌≡◌, ◌==◌, ◌↔◌, ◌&&◌, ◌<◌, ◌≤◌, ℕ, IsTrue, List, [], true, false, not, length, slice_index_or, Contains, MatchOption};
 ghost use Rattle.clauses.specs.Literal.{Lit as Literal, VariablesWithin};
 ghost use Rattle.clauses.specs.Propagation.{HintsRefute, NamesFalse, NamesUnit, negations_of};
@@ -11,7 +11,7 @@ use crate::table::{Entry, hold, release};
 use crate::used::{is_used, mark, take_mark};
 use clauses::{Cnf, Lit, Step, clause_in};
 
-/// The literal that the clause of the number makes hold, where all its others are false.
+/// The unit literal of the clause of the number.
 fn unit_named(cnf: &Cnf, earlier: &[Step], number: u32, table: &[Entry]) -> Option<Lit>
     requires within { VariablesWithin cnf.now.count (clauses_with cnf.now earlier.now) }
     requires room { cnf.now.count < length table.now }
@@ -42,8 +42,9 @@ fn names_false(cnf: &Cnf, earlier: &[Step], number: u32, table: &[Entry]) -> boo
     }
 }
 
-/// Whether the hints of a step refute the negations of its clause's literals, which are held. It
-/// holds the literals that the hints' clauses make hold, and marks these clauses.
+/// Whether the hints of a step refute the state in which the negations of its clause's literals are
+/// held. Each literal that they propagate is held then, and the clause that propagates it is
+/// marked.
 pub(crate) fn hints_refute(
     cnf: &Cnf,
     earlier: &[Step],
@@ -77,8 +78,8 @@ pub(crate) fn hints_refute(
     names_false(cnf, earlier, *last, table)
 }
 
-/// Takes the mark of the clause of the number away. Where it had one, no literal of a variable that
-/// stands in it is held any more.
+/// Takes away the mark of the clause of the number. Where it had one, releases the variables of the
+/// clause: no literal of them is held any more.
 fn release_marked(cnf: &Cnf, earlier: &[Step], number: u32, table: &mut [Entry], used: &mut [Entry])
     requires within { VariablesWithin cnf.now.count (clauses_with cnf.now earlier.now) }
     requires room { cnf.now.count < length table.old }
@@ -95,8 +96,8 @@ fn release_marked(cnf: &Cnf, earlier: &[Step], number: u32, table: &mut [Entry],
     }
 }
 
-/// Takes the marks of the step's hints away, and holds no literal of their clauses any more but of
-/// variables of the step's clause.
+/// Takes away the marks of the clauses that the step's hints name, and releases the variables of
+/// these clauses. What may be held then are literals of the step's clause's variables.
 pub(crate) fn release_hinted(
     cnf: &Cnf,
     earlier: &[Step],

@@ -1,6 +1,6 @@
-//! An exact checker of logs by reverse unit propagation: it says yes exactly where each step of a
-//! log follows from the clauses of a set and the steps before it. One table of the variables and the
-//! clauses is taken at the start of a check, and no memory after it.
+//! An exact checker of logs by reverse unit propagation (RUP): it says yes exactly where each step of a log follows
+//! from the clauses of a set and the steps before it. It takes one table of the variables and the clauses at the start
+//! of a check, and no memory after it.
 #![tactic(auto)]
 
 mod checker;

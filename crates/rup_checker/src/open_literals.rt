@@ -7,8 +7,8 @@ ghost use Rattle.rup_checker.specs.OpenLiterals.{Counts};
 use crate::table::{Entry, is_false};
 use clauses::Lit;
 
-/// The open literals of a clause, as far as unit propagation asks. A literal that stands in it
-/// twice is counted once.
+/// The open literals of a clause, as far as unit propagation asks: none in a conflict, one that is
+/// unit, or several. A literal that stands in the clause twice is counted once.
 #[derive(Clone, Copy)]
 pub(crate) enum OpenLiterals {
     NoneOpen,
@@ -16,7 +16,7 @@ pub(crate) enum OpenLiterals {
     SeveralOpen,
 }
 
-/// Counts the open literals of a clause. It stops where a second one differs from the first.
+/// Counts the open literals of a clause, up to a second one that differs from the first.
 pub(crate) fn open_literals_of(table: &[Entry], clause: &[Lit]) -> OpenLiterals
     requires { All (λ l. l.variable < length table.now) clause.now }
     ensures { (held : List Literal) → Represents table.now held → Counts result held clause.now }

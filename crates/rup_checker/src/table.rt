@@ -1,5 +1,5 @@
-//! The table: which literals are held. Its first part has an entry for each number up to the count
-//! of variables, at the place of that number, and the other one for each clause (`used`).
+//! The table: which literals are held, that is, assigned true. The entry of a variable is at the
+//! place of its number. A second table, `used`, has an entry for each clause.
 ghost use Rattle.std.specs.Prelude.{◌≡◌, ◌&&◌, ◌||◌, ◌<◌, not, [], length, All};
 ghost use Rattle.clauses.specs.Literal.{Lit as Literal, is_same, negation_of};
 ghost use Rattle.clauses.specs.Propagation.{negations_of};
@@ -10,16 +10,16 @@ use clauses::Lit;
 /// What is known of one variable or of one clause.
 #[derive(Clone, Copy)]
 pub(crate) struct Entry {
-    /// Whether the variable's literals are held. Both are where a clause with a variable and its
-    /// negation is negated.
+    /// Whether the variable itself is held, and whether its negation is. Both are where a clause
+    /// that has both is negated.
     pub(crate) positive: bool,
     pub(crate) negative: bool,
-    /// Whether a hint of the step has named the clause.
+    /// Whether the clause is marked: a hint of the step has named it, and it propagated a literal.
     pub(crate) used: bool,
 }
 
 impl Entry {
-    /// Neither literal is held, and the clause isn't used.
+    /// Neither literal of the variable is held, and the clause isn't marked.
     pub(crate) const BLANK: Entry = Entry {
         positive: false,
         negative: false,
@@ -40,7 +40,7 @@ pub(crate) fn is_false(table: &[Entry], literal: Lit) -> bool
     }
 }
 
-/// Holds a literal.
+/// Holds a literal: it is assigned true.
 pub(crate) fn hold(table: &mut [Entry], literal: Lit)
     requires { literal.variable < length table.old }
     ensures { (l : Literal) → table_holds table.new l ≡ (is_same l literal || table_holds table.old l) }
@@ -53,7 +53,7 @@ pub(crate) fn hold(table: &mut [Entry], literal: Lit)
     }
 }
 
-/// Holds the negation of each literal of a clause, where nothing was held.
+/// Holds the negation of each literal of a clause, in a table that holds nothing.
 pub(crate) fn hold_negations(table: &mut [Entry], clause: &[Lit])
     requires blank { Represents table.old [] }
     requires room { All (λ l. l.variable < length table.old) clause.now }
@@ -64,7 +64,7 @@ pub(crate) fn hold_negations(table: &mut [Entry], clause: &[Lit])
     }
 }
 
-/// Holds no literal of a variable that stands in the clause any more.
+/// Releases the variables of the clause: no literal of them is held any more.
 pub(crate) fn release(table: &mut [Entry], clause: &[Lit])
     requires { All (λ l. l.variable < length table.old) clause.now }
     ensures { (l : Literal) → table_holds table.new l

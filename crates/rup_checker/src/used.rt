@@ -1,5 +1,5 @@
-//! Marks on the clauses that hints of a step have made hold a literal. A clause that is named again holds nothing new,
-//! so it is read once in a step, however often it is named.
+//! Marks on the clauses that hints of a step name and that have propagated a literal. A clause that is named again
+//! propagates nothing new, so it is read once in a step, however often hints name it.
 ghost use Rattle.std.specs.Prelude.{◌≡◌, ◌==◌, ◌&&◌, ◌||◌, ◌<◌, ℕ, not, length};
 ghost use Rattle.rup_checker.specs.Table.{used_in};
 

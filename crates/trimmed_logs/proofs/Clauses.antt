@@ -13,6 +13,6 @@ clause_stands log place step at =
     slice_get-map (λ (s : Step). s.clause) log place ∙ ap (option_map (λ (s : Step). s.clause)) at in
     (place, slice_get_within (clauses_of_steps log) place step.clause named, get_or_from_slice_get (clauses_of_steps log) place step.clause step.clause named)
 
--- that of each step is
+-- the clause of each step is one of them
 pub each_stands : (log : List Step) → All (λ (s : Step). Contains (clauses_of_steps log) s.clause) log
 each_stands log = λ k d within. clause_stands log k (get_or log k d) (slice_get-get_or log k d within)

@@ -1,20 +1,20 @@
-//! Which hints of a step are needed: forwards they are moves of unit propagation up to a clause that is false, and
-//! backwards from that clause those are kept on whose values it rests.
+//! Which hints of a step are needed. Forwards the hints are propagated up to the conflict, a clause that is false;
+//! backwards from it are kept those that gave a value on which the conflict rests (conflict analysis).
 
 use crate::table::{Known, forget, hold, hold_negations, is_needed, need, value_of};
 use clauses::{Cnf, Lit, Step, clause_in};
 use std::alloc::{AllocError, Global};
 
-/// A hint, and what its clause does.
+/// A hint that propagates a literal or is the conflict.
 #[derive(Clone, Copy)]
 struct Move {
     number: u32,
-    /// The literal that the clause makes hold; none where the clause is false.
+    /// The literal that the clause propagates; none where the clause is false.
     literal: Option<Lit>,
 }
 
-/// The hints of a step that are needed, in order. In the table nothing is known of any variable, before and after: only
-/// variables of the step's clause and of its hints' clauses are written, so going over these once more undoes that.
+/// The hints of a step that are needed, in order. The table has no value of any variable, before and after: only
+/// variables of the step's clause and of its hints' clauses are written, so these alone are cleared again.
 pub(crate) fn needed_hints(
     alloc: Global,
     set: &Cnf,
@@ -32,8 +32,8 @@ pub(crate) fn needed_hints(
     Ok(needed)
 }
 
-/// The moves that the hints are, up to the first whose clause is false. One that makes nothing new hold is left out, so
-/// no two give the same variable a value.
+/// The propagations that the hints are, up to the first clause that is false. A hint whose literal is true already is
+/// left out, so no two give the same variable a value.
 fn moves_of(
     alloc: Global,
     set: &Cnf,
@@ -73,7 +73,7 @@ fn open_literal(table: &[Known], clause: &[Lit]) -> Option<Lit> {
     None
 }
 
-/// The numbers of the moves that the last of them needs, in order.
+/// The numbers of the clauses that lead to the last of the moves, the conflict, in order.
 fn needed_numbers(
     alloc: Global,
     set: &Cnf,
@@ -98,7 +98,7 @@ fn needed_numbers(
     Ok(numbers)
 }
 
-/// Nothing is known of the variables of the hints' clauses any more.
+/// Clears what the table has of the variables of the hints' clauses.
 fn forget_named(set: &Cnf, earlier: &[Step], hints: &[u32], table: &mut [Known]) {
     for number in hints {
         if let Some(clause) = clause_in(set, earlier, *number) {

@@ -13,12 +13,12 @@ use std::alloc::{AllocError, Global};
 pub(crate) struct Kept {
     /// Its place in the log.
     pub(crate) place: usize,
-    /// The hints that it needs, in order, by the numbers that clauses have in the log.
+    /// The hints of the step that are needed, in order, by the numbers that clauses have in the log before.
     pub(crate) hints: Vec<u32>,
 }
 
-/// The log of these steps, whose hints are numbered anew. `first` is the number of a log's first step. A number past
-/// 2^32 wraps.
+/// The log of the steps that are kept, with their hints renumbered. `first` is the number of a log's first step. A
+/// number past 2^32 wraps.
 pub(crate) fn renumbered(
     alloc: Global,
     log: &[Step],
@@ -44,7 +44,7 @@ pub(crate) fn renumbered(
     Ok(steps)
 }
 
-/// Puts a step behind others, with these hints in place of its own, numbered anew.
+/// Adds this step, with these hints in place of its own, renumbered.
 fn push_anew(
     alloc: Global,
     old: &Step,
@@ -60,7 +60,7 @@ fn push_anew(
     steps.push(Step { clause, hints })
 }
 
-/// The hints by the numbers that clauses have now: those below `first` are the set's, and stay.
+/// The hints by the numbers that clauses have in the new log: those below `first` are the set's, and stay.
 fn numbered_anew(
     alloc: Global,
     hints: &[u32],

@@ -1,12 +1,12 @@
-//! The table of the variables: the values that the literals held give them, and which of these are needed. It has an
-//! entry for each number up to the count of variables, at the place of that number.
+//! The table of the variables: the value of each, and whether it is needed. The entry of a variable is at the place of
+//! its number.
 
 use clauses::Lit;
 
 /// What is known of one variable.
 #[derive(Clone, Copy)]
 pub(crate) struct Known {
-    /// Its value, where one of its literals is held.
+    /// Its value: one of its literals is held, that is, assigned true.
     value: Option<bool>,
     /// Whether a clause that is kept rests on the value.
     needed: bool,
@@ -33,7 +33,7 @@ pub(crate) fn is_needed(table: &[Known], literal: Lit) -> bool {
     }
 }
 
-/// Holds a literal.
+/// Holds a literal: its variable has the value that makes it true.
 pub(crate) fn hold(table: &mut [Known], literal: Lit) {
     if let Some(known) = table.get_mut(literal.variable() as usize) {
         known.value = Some(!literal.is_negated());
@@ -56,7 +56,7 @@ pub(crate) fn need(table: &mut [Known], clause: &[Lit]) {
     }
 }
 
-/// Nothing is known of the clause's variables any more.
+/// Clears what the table has of the clause's variables.
 pub(crate) fn forget(table: &mut [Known], clause: &[Lit]) {
     for literal in clause {
         if let Some(known) = table.get_mut(literal.variable() as usize) {

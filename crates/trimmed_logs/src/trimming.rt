@@ -1,4 +1,4 @@
-//! From the last step back to what it needs.
+//! The backward pass: from the last step of a log to the steps that it needs.
 
 ghost use Rattle.std.specs.Prelude.{◌≡◌, ◌≤◌, ◌⊎◌, length, All, Contains, IfOk};
 ghost use Rattle.clauses.specs.ClauseSet.{IsRefutation, clauses_of_steps};
@@ -10,8 +10,9 @@ use clauses::{Cnf, Log, Step};
 use rup_checker::check_refutation;
 use std::alloc::{AllocError, Global};
 
-/// A log that refutes the set as this one does, without steps and hints that its end doesn't need. What is left is
-/// checked again, and where that doesn't refute, the log is given back as it was. The only error is want of memory.
+/// A log that refutes the set if this one does, without the steps and hints that its end doesn't need. What is left is
+/// checked once more; where it doesn't refute the set, the log is given back as it was. The only error is want of
+/// memory.
 pub fn trimmed(alloc: Global, set: &Cnf, log: Log) -> Result<Log, AllocError>
     ensures refutes { IfOk result (λ kept. IsRefutation set.now log → IsRefutation set.now kept) }
     ensures few { IfOk result (λ kept. length kept ≤ length log) }
@@ -27,7 +28,7 @@ pub fn trimmed(alloc: Global, set: &Cnf, log: Log) -> Result<Log, AllocError>
     }
 }
 
-/// The last step, and each that one of these steps names by a hint that it needs, in order.
+/// The last step, and each step that a needed hint of a kept step names, in order.
 fn kept_steps(alloc: Global, set: &Cnf, log: &[Step]) -> Result<Vec<Kept>, AllocError>
     ensures { IfOk result (λ kept. length kept.items ≤ length log.now) }
 {

@@ -21,7 +21,7 @@ unfoldable pub effect_text : Effect → List ℕ
 effect_text Undefined = codes "undefined"
 effect_text (Gives v) = value_text v
 
--- the line of what a name stands for
+-- the line of a name and its value: `NAME = V`
 unfoldable pub line_text : List ℕ → Value → List ℕ
 line_text name v = codes "  " ++ name ++ codes " = " ++ value_text v ++ codes "\n"
 
@@ -37,11 +37,12 @@ constants_text names numbers = flat_map (λ line. line_text line.0 (Bits line.1)
 unfoldable pub choices_text : List ℕ → List Number → List ℕ
 choices_text letter numbers = flat_map (λ line. line_text (letter ++ decimal line.0) (Bits line.1)) (enumerate_from 1 numbers)
 
--- the line of what a half does
+-- the line of the effect of a half, the source or the target
 unfoldable pub half_text : List ℕ → Effect → List ℕ
 half_text half e = codes "  " ++ half ++ codes " " ++ effect_text e ++ codes "\n"
 
--- the lines of a counterexample of the rule: what the halves are run on, and what they do there
+-- the lines of a counterexample of the rule: the values of its inputs, constants and choices, and the effects of both
+-- halves
 unfoldable pub example_text : Rule → Example → List ℕ
 example_text rule e =
     inputs_text rule.inputs e.inputs
@@ -51,7 +52,7 @@ example_text rule e =
     ++ half_text (codes "source") e.source
     ++ half_text (codes "target") e.target
 
--- the verdict's word, and the lines of its counterexample
+-- the word of the verdict, and behind it the lines of its counterexample where it has one
 unfoldable pub answer_text : Rule → Verdict → List ℕ
 answer_text rule Admitted = codes "admitted\n"
 answer_text rule (Refuted e) = codes "refuted\n" ++ example_text rule e

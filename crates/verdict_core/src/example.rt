@@ -47,7 +47,7 @@ fn push_constants(out: &mut Vec<u8>, names: &[Text], numbers: &[Word]) -> Result
     Ok(())
 }
 
-/// Adds a line for each choice of a half, by the half's letter and a count from 1.
+/// Adds a line for each choice of a half, named by the half's letter and a count from 1.
 #[tactic(auto, unfolding(crate::specs::Texts::choices_text))]
 fn push_choices(out: &mut Vec<u8>, letter: &[u8], numbers: &[Word]) -> Result<(), AllocError>
     ensures { OnOk result (out.new.items ≡ out.old.items ++ choices_text letter.now numbers.now) }
@@ -60,7 +60,7 @@ fn push_choices(out: &mut Vec<u8>, letter: &[u8], numbers: &[Word]) -> Result<()
     Ok(())
 }
 
-/// Adds the line of what a name stands for.
+/// Adds the line of a name and its value.
 #[tactic(auto, unfolding(crate::specs::Texts::line_text))]
 fn push_line(out: &mut Vec<u8>, sign: &[u8], name: &[u8], value: Value) -> Result<(), AllocError>
     ensures { OnOk result (out.new.items ≡ out.old.items ++ line_text (sign.now ++ name.now) value) }
@@ -73,7 +73,7 @@ fn push_line(out: &mut Vec<u8>, sign: &[u8], name: &[u8], value: Value) -> Resul
     out.extend_from_slice(b"\n")
 }
 
-/// Adds the line of what a half does.
+/// Adds the line of the effect of a half.
 #[tactic(auto, unfolding(crate::specs::Texts::half_text))]
 fn push_half(out: &mut Vec<u8>, half: &[u8], effect: Effect) -> Result<(), AllocError>
     ensures { OnOk result (out.new.items ≡ out.old.items ++ half_text half.now effect) }

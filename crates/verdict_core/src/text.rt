@@ -26,7 +26,7 @@ pub fn push_verdict(
     push_answer(out, rule, verdict)
 }
 
-/// Adds the verdict's word, and the lines of its counterexample.
+/// Adds the word of the verdict, and the lines of its counterexample where it has one.
 #[tactic(auto, unfolding(crate::specs::Texts::answer_text))]
 fn push_answer(out: &mut Vec<u8>, rule: &Rule, verdict: &Verdict) -> Result<(), AllocError>
     ensures { OnOk result (out.new.items ≡ out.old.items ++ answer_text rule.now verdict.now) }
@@ -39,7 +39,7 @@ fn push_answer(out: &mut Vec<u8>, rule: &Rule, verdict: &Verdict) -> Result<(), 
     }
 }
 
-/// Adds a verdict's word and a counterexample.
+/// Adds the word of a verdict that refutes, and its counterexample.
 fn push_refusal(
     out: &mut Vec<u8>,
     word: &[u8],

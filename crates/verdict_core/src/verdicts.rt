@@ -12,17 +12,17 @@ pub enum Verdict {
     Admitted,
     /// The example is a counterexample, and the source has no `undef` and no freeze.
     Refuted(Example),
-    /// The example is a counterexample by what the rule's `Wit:` gives for the `undef`s and the freeze of its source.
-    /// Another number might do.
+    /// The example is a counterexample where the `undef`s and the freeze of the source take the numbers that the rule's
+    /// `Wit:` gives. With other numbers it might be none.
     WitnessFails(Example),
-    /// The search gave up at its limit, over a setting of more than 12 bits.
+    /// The search reached its limit. The rule has more than 12 bits of inputs at the typing.
     Budget(Tried),
 }
 
-/// What was tried in vain.
+/// What a search has when it reaches its limit.
 #[derive(Drop)]
 pub struct Tried {
-    /// The clauses that stand for the counterexamples of the rule.
+    /// The clauses that stand for the counterexamples of the rule: a model of them is one.
     pub set: Cnf,
     /// The clauses that the search learned.
     pub log: PackedLog,

@@ -1,4 +1,4 @@
-//! Prints numbers, values and what halves do.
+//! Prints numbers, values and effects.
 
 ghost use Rattle.std.specs.Prelude.{◌≡◌, ◌++◌, OnOk, decimal, map};
 ghost use Rattle.std.specs.List.{join_with_byte};
@@ -40,7 +40,7 @@ pub(crate) fn push_value(out: &mut Vec<u8>, value: Value) -> Result<(), AllocErr
     }
 }
 
-/// Adds what a half does: `undefined`, or the value that it gives.
+/// Adds an effect: `undefined`, or the value that it gives.
 #[tactic(auto, unfolding(crate::specs::Texts::effect_text))]
 pub(crate) fn push_effect(out: &mut Vec<u8>, effect: Effect) -> Result<(), AllocError>
     ensures { OnOk result (out.new.items ≡ out.old.items ++ effect_text effect) }

@@ -4,7 +4,7 @@ use Rattle.ops.specs.declared.value.Effect.TheVariants as effects
 use Rattle.blast_value.proofs.Kept.{held_value-kept}
 use Rattle.blast_rule.proofs.halves.after.Goals as goal
 
--- undefined behaviour of either is that of both
+-- undefined behaviour before or here is undefined behaviour of the whole
 either : (before here : Bool) (x : Value) → (if before || here then effects.Undefined else effects.Gives x) ≡ (if before then effects.Undefined else (if here then effects.Undefined else effects.Gives x))
 either true here x = refl
 either false here x = refl

@@ -5,7 +5,7 @@ use Rattle.blast_setting.specs.Inputs.{widths_chosen}
 use Rattle.blast_setting.proofs.ChosenWidths.{width_indexed, widths-one_more}
 use Rattle.blast_setting.proofs.choices.push_widths.Goals as goal
 
--- what is read where nothing stands
+-- a choice that is read past the end of a list
 none : Choice
 none = record { place = 0; class = 0 }
 

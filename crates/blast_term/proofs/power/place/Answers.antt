@@ -11,11 +11,11 @@ use Rattle.blast_term.specs.Gates.{power_gates}
 use Rattle.blast_term.proofs.Powers.{scanned-none, scanned-more, scanned-exponent}
 use Rattle.blast_term.proofs.power.place.Goals as goal
 
--- a turn that isn't finished
+-- the gates of a turn that may stop in the middle stay within the bound of the whole
 turn_within : {C L : Type 0} {state : Ghosts C L} {start now next : C} {i n width : ℕ} → Adds state start now (8 * i) → Adds state now next n → i < width → n ≤ 8 → Adds state start next (power_gates width)
 turn_within before turn inside few = Adds-weaken (Adds-trans before turn) (omega arith)
 
--- a place is below the powers that the places are
+-- the number of a place fits the bits for it
 place_fits : (i n width m : ℕ) → i < n → n ≤ 2 ^ width → m ≡ width → i < 2 ^ m
 place_fits i n width m inside enough is = rw is (omega arith)
 

@@ -14,7 +14,7 @@ use Rattle.blast_term.proofs.Turns.{own_from_get}
 use Rattle.blast_term.proofs.Turns.{sum-more, sum-fewer, map-more, width_chosen, chosen}
 use Rattle.blast_term.proofs.witness.numbers_at.Goals as goal
 
--- what stands at a place, whatever the default is
+-- the element at a place within a list is the same with each default
 there : (places : List ℕ) (i : ℕ) → i < length places → get_or places i 0 ≡ get_or places i (get_or places i 0)
 there places i within = sym (get_or_from_slice_get places i (get_or places i 0) (get_or places i 0) (slice_get-get_or places i 0 within))
 

@@ -10,7 +10,7 @@ use Rattle.circ_muldiv.specs.Gates.{division_step_gates}
 use Rattle.circ_muldiv.proofs.Quotients.{step_left}
 use Rattle.circ_muldiv.proofs.division.divide_step.Goals as goal
 
--- a difference, and a choice by it of the lowest bits of as long a word
+-- the gates of one step: a difference, and a choice by it between the lowest bits of two words
 step_adds : {C L : Type 0} {state : Ghosts C L} {start mid end : C} {bits whole : List L} (width : ℕ) → length bits ≡ width + 1 → whole ≡ bits → Adds state start mid (adder_gates (width + 1)) → Adds state mid end (select_gates (length (take width whole))) → Adds state start end (division_step_gates width)
 step_adds {whole = whole} width longer same less chosen =
     let within : length whole ≡ width + 1 = ap length same ∙ longer in

@@ -18,7 +18,7 @@ returns-clause-number g c inputs admitted =
     rw bits
     (row_sum (m.value c.args.c.now inputs) (m.value c.add_where.new.c inputs) word c.args.a.now c.in_ok-upper.upper.bits c.args.digit c.in_ok-upper.upper.carry place c.requires.place c.requires.same_width lower_kept (rw rest at (c.in_ok-upper.ensures.number inputs admitted)))
 
--- the gates of the bits from a place on
+-- the gates of a row: those of the bits from its place on
 row_few : {L : Type 0} (word a : List L) (place : ℕ) → length word ≡ length a → row_gates (length (take (length word - place) (drop place word))) ≤ row_gates (length a - place)
 row_few word a place same =
     let cut : length (take (length word - place) (drop place word)) ≡ length word - place = length-take-le (length word - place) (drop place word) (omega (arith, length-drop place word)) in

@@ -2,7 +2,7 @@ use Rattle.std.proofs.Common.{◌≡◌, ◌+◌, ◌++◌, drop}
 use Rattle.cnf_build.specs.Definitions.{clauses_from}
 use Rattle.cnf_build.proofs.tseitin.clauses_from.Given as goal
 
--- the clauses so far and those of what is left are all
+-- the clauses so far and those of the definitions that are left are all
 abbrev pub invariant-loop-definition : goal.invariant-loop-definition
 invariant-loop-definition l =
     record {

@@ -14,7 +14,7 @@ use Rattle.first_uip.proofs.Shown.{learned_shown, resolved_shown}
 use Rattle.first_uip.proofs.analysis.learned_of.Goals as goal
 use Rattle.first_uip.proofs.analysis.learned_of.Goals.{in-Some, in-None}
 
--- the literal at the implication point
+-- the asserting literal is the negation of the entry at the implication point
 asserted_is : (entries : List Entry) (point : ℕ) (e f : Entry) (u : Lit) → slice_get entries point ≡ Some e → slice_get entries point ≡ Some f → u ≡ negation_of f.literal → u ≡ negation_of e.literal
 asserted_is entries point e f u at there is = is ∙ ap (λ (g : Entry). negation_of g.literal) (some_same f e (sym there ∙ at))
 

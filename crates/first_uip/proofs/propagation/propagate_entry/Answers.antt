@@ -23,7 +23,7 @@ use Rattle.first_uip.proofs.LookLemmas.{EachBlocked-at, EachBlocked-kept, NamesS
 use Rattle.first_uip.proofs.Guards.{EachGuardedBut, EachGuardedBut-start, EachGuardedBut-stays, EachGuardedBut-left, EachGuardedBut-end, IsWatchingUpTo-stays, IsWatchingUpTo-leaves, LeavesWatch, leaves_unwatched, slice_get_grown, take_grown, HeldWithin-grown}
 use Rattle.first_uip.proofs.propagation.propagate_entry.Goals as goal
 
--- what was read at a place of the list for a literal
+-- the watcher that was read is the one at this place of the literal's watch list
 read_at : (watches : Watches) (l : Lit) (place : ℕ) (first second : List Watcher) (w : Watcher) → first ≡ watchers_of watches l → second ≡ watchers_of watches l → place < length first → w ≡ get_or second place w → slice_get (watchers_of watches l) place ≡ Some w
 read_at watches l place first second w is is' within at =
     subst (λ ws. slice_get ws place ≡ Some w) is' (slice_get_read second (length second) place w refl (omega (arith, within, ap length (is ∙ sym is'))) at)
@@ -120,7 +120,7 @@ look_at-requires-clause-known c =
     read_at c.loop-place.watches l place c.of.result.now c.of-in-loop-place.result.now w c.of.ensures c.of-in-loop-place.ensures (omega (arith, c.loop-place-test.true)) c.index-of-place.is in
     c.loop-place.invariant.watching.watching.listed.known l place w.number (number_at (watchers_of c.loop-place.watches l) place w here)
 
--- what the entry at the head made false is false
+-- the negation of the entry at the head is false
 falsified_by : (entries : List Entry) (head : ℕ) (e : Entry) (l : Lit) → slice_get entries head ≡ Some e → l ≡ negation_of e.literal → is_false (literals entries) l ≡ true
 falsified_by entries head e l here is =
     ap (is_held (literals entries)) (ap negation_of is ∙ negation-negation e.literal) ∙ literal_at entries head e here

@@ -1,7 +1,7 @@
 use Rattle.std.proofs.Common.{◌-◌, ◌≤◌, length, take, All}
 use Rattle.packed_log.proofs.number.leading.Given as goal
 
--- each byte so far says that more follow
+-- each byte before this place has the high bit set
 abbrev pub invariant-loop-count : goal.invariant-loop-count
 invariant-loop-count l =
     record {

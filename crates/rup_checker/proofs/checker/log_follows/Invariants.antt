@@ -6,7 +6,7 @@ use Rattle.clauses.specs.ClauseSet.{StepFollows, clauses_before}
 use Rattle.rup_checker.specs.Table.{Represents, used_in}
 use Rattle.rup_checker.proofs.checker.log_follows.Given as goal
 
--- each step before this one follows, and the table holds nothing and marks nothing
+-- each step before this one follows, and the table holds no literal and marks no clause
 abbrev pub invariant-loop-place : goal.invariant-loop-place
 invariant-loop-place l =
     record {

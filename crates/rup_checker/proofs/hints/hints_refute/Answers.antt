@@ -13,7 +13,7 @@ use Rattle.rup_checker.proofs.HintLemmas.{no_move, after_move, unit_within}
 use Rattle.rup_checker.proofs.UsedLemmas.{UsedAreUnit-none, UsedAreUnit-more, UsedAreUnit-marked, Accounted-more, marked_more}
 use Rattle.rup_checker.proofs.hints.hints_refute.Goals as goal
 
--- what the hints at the start refute, those after a move do
+-- all hints refute the state at the start exactly where those behind a propagation refute the state after it
 goes_on : (clauses : List (List Lit)) (step : Step) (held : List Lit) (number : ℕ) (literal : Lit) (later now : List ℕ) (last : ℕ) → now ++ last ∷ [] ≡ number ∷ (later ++ last ∷ []) → NamesUnit clauses held number literal → (HintsRefute clauses (negations_of step.clause) step.hints ↔ HintsRefute clauses held (now ++ last ∷ [])) → (HintsRefute clauses (negations_of step.clause) step.hints ↔ HintsRefute clauses (literal ∷ held) (later ++ last ∷ []))
 goes_on clauses step held number literal later now last here unit same = (
   λ refutes. after_move clauses held number literal later last unit (subst (HintsRefute clauses held) here (same.0 refutes)),

@@ -7,8 +7,9 @@ use Rattle.clauses.specs.ClauseSet.{clauses_with}
 use Rattle.rup_checker.proofs.UsedLemmas.{UsedAreUnit}
 use Rattle.rup_checker.proofs.hints.hints_refute.Given as goal
 
--- The table represents a state in which each marked clause has a unit literal that is held, and the hints refute the
--- one at the start exactly where those to come refute it. Only literals of marked clauses were held, which hints name.
+-- The table represents a state in which each marked clause has a unit literal that is held; all hints refute the state
+-- at the start exactly where the later hints refute this one. Each literal that is held is of a variable of the step's
+-- clause or of a marked clause, and hints of the step name the marked clauses.
 abbrev pub invariant-loop-number : goal.invariant-loop-number
 invariant-loop-number l =
     record {

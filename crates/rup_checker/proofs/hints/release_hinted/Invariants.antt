@@ -4,7 +4,8 @@ use Rattle.clauses.specs.ClauseSet.{clauses_with}
 use Rattle.rup_checker.specs.Table.{Accounted, used_in}
 use Rattle.rup_checker.proofs.hints.release_hinted.Given as goal
 
--- what is held is of variables of the step's clause or of marked clauses, which hints to come name
+-- Each literal that is held is of a variable of the step's clause or of a marked clause, and later hints name the
+-- marked clauses.
 abbrev pub invariant-loop-number : goal.invariant-loop-number
 invariant-loop-number l =
     record {

@@ -6,7 +6,7 @@ use Rattle.aig.specs.Stands.{Stands}
 use Rattle.aig.proofs.Standing.{nodes_of, negated_table, value_under-negation}
 use Rattle.aig.proofs.graph.Aig.open_choice.Goals as goal
 
--- a choice between two negations is the choice's negation
+-- the negation of a choice between two negations is the choice between the literals
 mux_negated : (graph : Graph) (c y n y' n' : Literal) → y' ≡ negation_of y → n' ≡ negation_of n → (inputs : List Bool) → not (gate_value inputs (gate_values inputs graph.gates) (Mux c y' n')) ≡ (if value_of graph inputs c then value_of graph inputs y else value_of graph inputs n)
 mux_negated graph c y n y' n' is_y is_n inputs =
     let v = value_of graph inputs in
