@@ -8,7 +8,7 @@ use std::io::ErrorKind;
 use std::process::ExitCode;
 use std::{env, rt};
 
-/// The words of the command line. A word that isn't UTF-8 is no word of a command.
+/// The words of the command line. Where one isn't UTF-8, they are no command.
 fn words<R: rt::Env + AllocGlobal>(rt: &R) -> Result<Vec<String>, Status> {
     match env::args(rt) {
         Ok(words) => words.collect(rt.alloc()).map_err(|_| Status::NoMemory),

@@ -1,11 +1,11 @@
--- Words ask for one task.
+-- Words ask for at most one task.
 use Rattle.std.proofs.Common.{◌≡◌, ℕ, List, ap, sym, ◌∙◌}
 use Rattle.command_line.specs.Laws.{SameCommand, WordsSayOneCommand}
 use Rattle.command_line.specs.declared.command.Command.{Command}
 use Rattle.command_line.specs.declared.command.Command.TheVariants as commands
 use Rattle.alive_top.specs.Task.{Task, Load, Asks, task_of}
 
--- a task is the same for all commands that say the same
+-- commands that are the same have one task
 same_task : (x y : Command) → SameCommand x y → task_of x ≡ task_of y
 same_task (commands.Verify r v) (commands.Verify s w) h = let rules = h.0 in let options = h.1 in cc
 same_task (commands.Optimise r v l m) (commands.Optimise s w n k) h = let rules = h.0 in let source = h.1 in let logs = h.2 in let options = h.3 in cc

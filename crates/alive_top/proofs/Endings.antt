@@ -1,4 +1,4 @@
--- How the ways to end come from the work and its writing.
+-- How a call ends, from the work and the writing of it.
 use Rattle.std.proofs.Common.{◌≡◌, ℕ, ◌⊎◌, Bool, true, false, List, [], ◌∷◌, None, Some, length, refl, sym, subst, inl, inr, arith}
 use Rattle.std.specs.Prelude.{cond, MatchBool}
 use Rattle.std.proofs.lemmas.List.{take_all}
@@ -64,11 +64,11 @@ done_or_not_all (Recheck file other options) [] work is = absurd is
 done_or_not_all (Recheck file other options) (x ∷ []) work is = absurd is
 done_or_not_all (Recheck file other options) (x ∷ y ∷ z ∷ more) work is = absurd is
 
--- there was no memory for a line behind a file that was come to
+-- memory was refused for the line on a file that was asked for last
 memory_for_line : (old new : FilesState) (files : List File) {status : Status} {line : List ℕ} → TextIsRefused old new files status line → MemoryIsRefused old new files
 memory_for_line old new files r = record { count = r.comes.place; texts = r.comes.texts; before = r.comes.before; asks = inr r.comes.asks }
 
--- or for one behind all files
+-- memory was refused for the line on proofs, after all files
 memory_for_logs : (old new : FilesState) (task : Task) (fault : Fault LogFaultKind) → LogsAreRefused old new task fault → MemoryIsRefused old new (files_of task)
 memory_for_logs old new task fault r =
     let all = files_of task in
@@ -122,7 +122,7 @@ module _ (task : Task) (files files' : FilesState) (out out' err err' : SinkStat
       by (inl e) = subst IsWorked (let f : Done ≡ status = cc in f) tt
       by (inr e) = subst IsWorked (let f : NotAll ≡ status = cc in f) tt
 
--- ---- how a call ends at its words
+-- ---- how a call ends before any task
 
 usage_text : (words : List (List ℕ)) (text : List ℕ) → (are_taken words ≡ false) ⊎ ((list : List ℕ) × HasBadList words list)
     → ((list : List ℕ) → are_taken words ≡ true → HasBadList words list → text ≡ refusal_of_list list) → IsUsage words text

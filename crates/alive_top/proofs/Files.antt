@@ -1,4 +1,4 @@
--- How far a task came where one of its files was not read or was refused, and where all were read.
+-- How far a task came with its files, where one was not read or was refused, and where all were read.
 use Rattle.std.proofs.Common.{◌≡◌, ℕ, ◌≤◌, List, [], ◌∷◌, Result, Ok, Err, Option, None, Some, refl, sym, subst, ◌∙◌, inl, inr, ⊎_elim, ◌⊎◌, arith, ap}
 use Rattle.std.specs.Prelude.{All, IfSome, take, ◌+◌}
 use Rattle.command_line.specs.declared.command.OptimiseOptions.{OptimiseOptions}
@@ -31,7 +31,7 @@ use Rattle.alive_top.specs.Work.{Work, IsPrinted, IsVerifyWork, IsOptimiseWork, 
 
 -- ---- one file
 
--- a read of a file's text, and what that gives, is a read of the file and what it gives
+-- reading a file's text, and what the text gives, is reading the file
 pub file_from_text : {T : Type 0} (old new : FilesState) (file : File) (text : List ℕ) (P : List ℕ → T → Type 0) (Misfits : List ℕ → Hindrance → Type 0) (result : Result T Hindrance)
     → IsTextOf old file text → AsksOne old new file.name → TextOf file.kind text (P text) (Misfits text) result → FileOf old new file P Misfits result
 file_from_text old new file text P Misfits (Ok x) is asks h = record { asks = asks; text = text; is_text = is; holds = h }
@@ -51,7 +51,7 @@ RefusedAmong old new files (Logs fault) = ⊥
 RefusedAmong old new files (Read name) = ReadFails old new files name.now
 RefusedAmong old new files Memory = MemoryIsRefused old new files
 
--- those of a task
+-- the same for the files of a task
 for_task : (old new : FilesState) (task : Task) (refusal : Hindrance) → RefusedAmong old new (files_of task) refusal → RefusedFor old new task refusal
 for_task old new task (Rules fault) h = h
 for_task old new task (Module fault) h = h
@@ -67,7 +67,7 @@ pub has_rules : (old new : FilesState) (name : List ℕ) (list : List Rule) → 
     → IsReadAs old new (record { name = name; kind = RuleFile }) (Takes RuleFile)
 has_rules old new name list read = record { asks = read.asks; text = read.text; is_text = read.is_text; holds = (list, read.holds) }
 
--- the first file was come to
+-- the first file is asked for
 first_comes : (old new : FilesState) (file : File) (rest : List File) → AsksOne old new file.name → ComesTo old new (file ∷ rest) file
 first_comes old new file rest asks = record { place = 0; is = refl; texts = []; before = tt; asks = asks }
 
@@ -83,11 +83,11 @@ pub first_refused : (old new : FilesState) (task : Task) (file : File) (rest : L
 first_refused old new task file rest refusal files h =
     for_task old new task refusal (subst (λ (fs : List File). RefusedAmong old new fs refusal) (sym files) (first_among old new file rest refusal h))
 
--- memory was refused behind the only file
+-- memory was refused after the only file
 pub memory_behind : (old new : FilesState) (file : File) → AsksOne old new file.name → MemoryIsRefused old new (file ∷ [])
 memory_behind old new file asks = record { count = 0; texts = []; before = tt; asks = inr asks }
 
--- ---- the second file, behind one that holds what it is read for
+-- ---- the second file, after one that is what it is read for
 
 asks_both : (before between after : Option (List (List ℕ))) (one two : File) → between ≡ with_name before one.name → after ≡ with_name between two.name → after ≡ with_names before (one ∷ two ∷ [])
 asks_both before between after one two e f = f ∙ ap (λ names. with_name names two.name) e
@@ -96,7 +96,7 @@ rose_since : (before between after : ℕ) → before ≤ between → Rose betwee
 rose_since before between after h (inl lt) = inl (omega arith)
 rose_since before between after h (inr last) = inr last
 
--- what is told later is told before
+-- what is known of a file later was known before
 text_before : (old new : FilesState) (file : File) (text : List ℕ) → FilesFollow old new → IsTextOf new file text → IsTextOf old file text
 text_before old new file text follow is =
     subst (λ (told : List ℕ → Option (List ℕ)). IfSome (told file.name) (λ bytes. text ≡ take (limit_of file.kind + 1) bytes)) follow.told is
@@ -148,7 +148,7 @@ pub second_refused : (old mid new : FilesState) (task : Task) (one two : File) (
 second_refused old mid new task one two rest refusal files follow first h =
     for_task old new task refusal (subst (λ (fs : List File). RefusedAmong old new fs refusal) (sym files) (second_among old mid new one two rest refusal follow first h))
 
--- two reads, one behind the other
+-- two reads, one after the other
 pub follow_on : (old mid new : FilesState) → FilesFollow old mid → FilesFollow mid new → FilesFollow old new
 follow_on old mid new f g = record { told = g.told ∙ f.told; faults = omega (arith, f.faults, g.faults) }
 
@@ -242,7 +242,7 @@ recheck_refused old mid new rules logs options list (Logs fault) follow first h 
 
 -- ---- rules, a module and proofs
 
--- rules and a module were read, one behind the other
+-- rules and a module were read, one after the other
 pub record AreRead (old new : FilesState) (rules source : List ℕ) (list : List Rule) (m : SourceModule) : Type 0 where
   pub text : List ℕ
   pub is_text : IsTextOf old (record { name = rules; kind = RuleFile }) text
@@ -274,7 +274,7 @@ module _ (old mid new : FilesState) (rules source logs : List ℕ) (options : Op
   asks_three : AsksOne mid new logs → new.asked ≡ with_names old.asked (files_of (Optimise rules source (Some logs) options))
   asks_three asks = asks ∙ ap (λ names. with_name names logs) read.asks
 
-  -- there was no memory behind the first two, or behind the third
+  -- memory was refused after the first two files, or after the third
   pub no_memory : (new.asked ≡ mid.asked) ⊎ AsksOne mid new logs → MemoryIsRefused old new (files_of (Optimise rules source (Some logs) options))
   no_memory asks = record {
     count = 2;

@@ -1,4 +1,4 @@
--- What follows of how a call ends.
+-- The clauses of the top call, from how a call ends.
 use Rattle.std.proofs.Common.{◌≡◌, ℕ, zero, suc, ◌⊎◌, Bool, true, false, IsTrue, ◌↔◌, List, [], ◌∷◌, Option, Some, None, refl, sym, subst, ap, ◌∙◌, inl, inr, ⊎_elim, arith, length}
 use Rattle.std.specs.Prelude.{slice_get, cond, codes, option_map, MatchBool, ◌<◌}
 use Rattle.refusal.specs.declared.fault.Fault.{Fault}
@@ -75,7 +75,7 @@ zip_both R S [] (y ∷ ys) h k = absurd h
 zip_both R S (x ∷ xs) [] h k = absurd h
 zip_both R S (x ∷ xs) (y ∷ ys) h k = ((h.0, k.0), zip_both R S xs ys h.1 k.1)
 
--- the bytes of these files are told, and these are they
+-- the bytes of all these files are known, and these are they
 abbrev AreTold : FilesState → List File → List (List ℕ) → Type 0
 AreTold known files texts = AllZip (λ file text. known.told file.name ≡ Some text) files texts
 
@@ -85,7 +85,7 @@ taken_are_texts known [] (text ∷ texts) h = absurd h
 taken_are_texts known (file ∷ files) [] h = absurd h
 taken_are_texts known (file ∷ files) (text ∷ texts) h = (h.0.0, taken_are_texts known files texts h.1)
 
--- but for proofs, a text that is taken is all that is told
+-- a text that is taken, unless for proofs, is all the known bytes
 all_told : (known : FilesState) (name text bytes : List ℕ) (kind : FileKind) → (kind ≡ LogFile → ⊥) → IsTextOf known (record { name = name; kind = kind }) text → Takes kind text → known.told name ≡ Some bytes → text ≡ bytes
 all_told known name text bytes kind other is takes told = by (taken_is_told known (record { name = name; kind = kind }) text bytes is takes told)
   where
@@ -93,7 +93,7 @@ all_told known name text bytes kind other is takes told = by (taken_is_told know
     by (inl same) = same
     by (inr logs) = absurd (other logs)
 
--- told bytes that are taken are not refused
+-- known bytes that are taken are not refused
 good_not_refused : TakenAreNotRefused → (known new : FilesState) (files : List File) (bytes : List (List ℕ))
     → AreTold known files bytes → AllZip (λ file text. Takes file.kind text) files bytes → (status : Status) (line : List ℕ) → TextIsRefused known new files status line → ⊥
 good_not_refused torn known new files bytes told takes status line r =
@@ -106,15 +106,15 @@ good_not_refused torn known new files bytes told takes status line r =
     by bytes takes (inl same) = torn r.file.kind bytes status line takes (subst (λ (text : List ℕ). Refuses r.file.kind text status line) same r.refuses)
     by bytes takes (inr logs) = let none : Refuses LogFile r.text status line = subst (λ (k : FileKind). Refuses k r.text status line) logs r.refuses in none
 
--- where the told bytes of a file are bad, the texts of all files aren't taken
+-- where the known bytes of a file are bad, not all texts are taken
 bad_not_taken : (known : FilesState) (task : Task) (texts : List (List ℕ)) → HasBadFile known task → AreTaken known (files_of task) texts → ⊥
 bad_not_taken known task texts b taken =
     let read = zip_at (λ file text. IsTextOf known file text × Takes file.kind text) (files_of task) texts b.place b.file taken b.is in
     b.bad (taken_told known b.file read.0 b.bytes read.1.0 read.1.1 b.told)
 
--- ---- runs that name nothing to run
+-- ---- runs of a missing function, or at arguments that do not fit
 
--- the told bytes of such a run are those of a module
+-- the known bytes are a module's
 no_run_takes : (task : Task) (bytes : List (List ℕ)) → NamesNoRun task bytes → TakesEach task bytes
 no_run_takes (Run file name arguments options) (source ∷ []) h = ((h.read, h.source), tt)
 no_run_takes (Run file name arguments options) [] h = absurd h
@@ -124,7 +124,7 @@ no_run_takes (Optimise file other logs options) bytes h = absurd h
 no_run_takes (Load number) bytes h = absurd h
 no_run_takes (Recheck file other options) bytes h = absurd h
 
--- and the texts that are read of it are all that is told
+-- the text that is read is all of them
 no_run_told : (known : FilesState) (task : Task) (texts bytes : List (List ℕ)) → AreTaken known (files_of task) texts → AreTold known (files_of task) bytes
     → (NamesNoRun task bytes → NamesNoRun task texts) × (NamesNoRun task texts → NamesNoRun task bytes)
 no_run_told known (Run file name arguments options) (text ∷ []) (source ∷ []) taken told =
@@ -139,7 +139,7 @@ no_run_told known (Optimise file other logs options) texts bytes taken told = (�
 no_run_told known (Load number) texts bytes taken told = (λ h. absurd h, λ h. absurd h)
 no_run_told known (Recheck file other options) texts bytes taken told = (λ h. absurd h, λ h. absurd h)
 
--- and no work is done on them
+-- no work is done on them
 no_run_no_work : RunsAreNotMisnamed → (task : Task) (texts : List (List ℕ)) (work : Work) → IsWorkOf task texts work → NamesNoRun task texts → ⊥
 no_run_no_work law (Run file name arguments options) (source ∷ []) work is h = law source name arguments options.blocks work.text is.runs h
 no_run_no_work law (Run file name arguments options) [] work is h = h
@@ -151,7 +151,7 @@ no_run_no_work law (Recheck file other options) texts work is h = h
 
 -- ---- proofs with a fault
 
--- the told bytes of such a task are taken
+-- the known bytes are taken
 bad_logs_take : (task : Task) (bytes : List (List ℕ)) → HasBadLogs task bytes → TakesEach task bytes
 bad_logs_take (Recheck file other options) (rules ∷ proofs ∷ []) h = ((h.1.0, h.1.1), (tt, tt))
 bad_logs_take (Recheck file other options) [] h = absurd h.1
@@ -167,11 +167,11 @@ bad_logs_take (Optimise file other (Some logs) options) (x ∷ y ∷ z ∷ w ∷
 bad_logs_take (Optimise file other None options) bytes h = absurd h.1
 bad_logs_take (Load number) bytes h = absurd h.1
 
--- proofs that are too long have a fault beside any rules
+-- proofs that are too long have a fault, given any rules
 long_logs : (list : List Rule) (proofs : List ℕ) → most_bytes < length proofs → IsFault list proofs (record { line = 1; kind = TooLong })
 long_logs list proofs long = of_text (too_long long refl)
 
--- the texts that are read have a fault where the told bytes have one, and the other way round
+-- the texts that are read have a fault exactly where the known bytes do
 bad_logs_told : (known : FilesState) (task : Task) (texts bytes : List (List ℕ)) → AreTaken known (files_of task) texts → AreTold known (files_of task) bytes
     → (HasBadLogs task bytes → HasBadLogs task texts) × (HasBadLogs task texts → HasBadLogs task bytes)
 bad_logs_told known (Recheck file other options) (rules ∷ proofs ∷ []) (rules' ∷ proofs' ∷ []) taken told =
@@ -220,7 +220,7 @@ bad_logs_told known (Optimise file other (Some logs) options) (rules ∷ source 
 bad_logs_told known (Optimise file other None options) texts bytes taken told = (λ h. absurd h.1, λ h. absurd h.1)
 bad_logs_told known (Load number) texts bytes taken told = (λ h. absurd h.1, λ h. absurd h.1)
 
--- and no work is done on them
+-- no work is done on them
 bad_logs_no_work : TextsHaveOneListOrFault → TextsHaveProofsOrFault → (task : Task) (texts : List (List ℕ)) (work : Work) → IsWorkOf task texts work → HasBadLogs task texts → ⊥
 bad_logs_no_work lists law (Recheck file other options) (rules ∷ proofs ∷ []) work is h =
     let same : h.1.0 ≡ is.0 = lists.one_list rules h.1.0 is.0 h.1.1.file is.1.file in
@@ -242,7 +242,7 @@ bad_logs_no_work lists law (Load number) texts work is h = h.1
 
 -- ---- what the words say
 
--- the list of widths that `verify` was given is within its form, and the other commands were given none
+-- the malformed list of widths is the one given to `verify`; the other commands take none
 listed : (name : Text) (rows : List Row) (list : List ℕ) → name ≡ codes "verify" → list_of (Some (name, rows)) ≡ Some list → first_of (codes "widths") rows ≡ Some list
 listed name rows list e g = let h : list_of (Some (codes "verify", rows)) ≡ Some list = subst (λ (n : Text). list_of (Some (n, rows)) ≡ Some list) e g in h
 
@@ -273,7 +273,7 @@ some_failed out out' err err' text report (inl w) = inl w.0.0
 some_failed out out' err err' text (Some report) (inr w) = inr w.1.0
 some_failed out out' err err' text None (inr w) = absurd w.1
 
--- out got one put, whether or not all was written
+-- the output got one put, whether or not all was written
 some_put : (out out' err err' : SinkState) (text : List ℕ) (report : Option (List ℕ)) → WroteSome out out' err err' text report → out'.puts ≡ option_map raised out.puts
 some_put out out' err err' text report (inl w) = w.0.1.2.1
 some_put out out' err err' text report (inr w) = w.0.0.1
@@ -385,13 +385,13 @@ module _ (out out' err err' : SinkState) (ended : Ended) (work : Work) (table : 
 -- ---- the clauses
 
 module _ (words : List (List ℕ)) (files files' : FilesState) (out out' err err' : SinkState) (ended : Ended) where
-  -- at the words nothing was done
+  -- before any task no work was done
   no_task : (status : Status) → EndsAtWords words out out' err err' ended status → IsNoTask status
   no_task Usage h = tt
   no_task NoMemory h = tt
   no_task status h = absurd h
 
-  -- a call ends as its task says, or at the words
+  -- a call ends as its task says, or before any task
   by_task : WordsSayOneCommand → Ends words files files' out out' err err' ended → (task : Task) → Asks words task
       → EndsWith task files files' out out' err err' ended ended.status ⊎ IsNoTask ended.status
   by_task law (inl e) task asks = inr (no_task ended.status e.1)

@@ -1,4 +1,4 @@
--- What is read of a file with a limit: all that is told, or more than the limit.
+-- What is read of a file within a limit: all its bytes, or one more than the limit.
 use Rattle.std.proofs.Common.{◌≡◌, ℕ, ◌+◌, ◌<◌, ◌≤◌, ◌⊎◌, List, length, take, Option, Some, refl, sym, ap, subst, ◌∙◌, inl, inr, arith}
 use Rattle.std.specs.Prelude.{IfSome}
 use Rattle.std.proofs.lemmas.Bool.{cases_lt}
@@ -18,13 +18,13 @@ within n told items e h =
 whole : (n : ℕ) (told items : List ℕ) → items ≡ take (n + 1) told → length told ≤ n → items ≡ told
 whole n told items e h = e ∙ take_all (n + 1) told (omega arith)
 
--- what is taken is within its limit, but proofs
+-- a text that is taken, unless for proofs, is within its limit
 short : (kind : FileKind) (text : List ℕ) → Takes kind text → (length text ≤ limit_of kind) ⊎ (kind ≡ Logs)
 short Rules text takes = inl takes.1.short
 short Source text takes = inl takes.1.limit
 short Logs text takes = inr refl
 
--- proofs are taken whatever they are
+-- any text is taken for proofs
 all_taken : (kind : FileKind) (text : List ℕ) → kind ≡ Logs → Takes kind text
 all_taken kind text e = subst (λ (k : FileKind). Takes k text) (sym e) tt
 
@@ -35,7 +35,7 @@ cut known file text bytes is told =
     in
     read
 
--- a text that is taken is all that is told, unless it is of proofs
+-- a text that is taken, unless for proofs, is all the known bytes
 pub taken_is_told : (known : FilesState) (file : File) (text bytes : List ℕ) → IsTextOf known file text → Takes file.kind text → known.told file.name ≡ Some bytes → (text ≡ bytes) ⊎ (file.kind ≡ Logs)
 taken_is_told known file text bytes is takes told = by (short file.kind text takes)
   where
@@ -43,7 +43,7 @@ taken_is_told known file text bytes is takes told = by (short file.kind text tak
     by (inl few) = inl (within (limit_of file.kind) bytes text (cut known file text bytes is told) few)
     by (inr logs) = inr logs
 
--- where a text is taken, what is told is
+-- where a text is taken, so are the known bytes
 pub taken_told : (known : FilesState) (file : File) (text bytes : List ℕ) → IsTextOf known file text → Takes file.kind text → known.told file.name ≡ Some bytes → Takes file.kind bytes
 taken_told known file text bytes is takes told = by (taken_is_told known file text bytes is takes told)
   where
@@ -51,7 +51,7 @@ taken_told known file text bytes is takes told = by (taken_is_told known file te
     by (inl same) = subst (Takes file.kind) same takes
     by (inr logs) = all_taken file.kind bytes logs
 
--- told bytes that are taken are the text, unless it is of proofs
+-- known bytes that are taken, unless for proofs, are the text
 pub told_is_text : (known : FilesState) (file : File) (text bytes : List ℕ) → IsTextOf known file text → Takes file.kind bytes → known.told file.name ≡ Some bytes → (text ≡ bytes) ⊎ (file.kind ≡ Logs)
 told_is_text known file text bytes is takes told = by (short file.kind bytes takes)
   where
@@ -59,7 +59,7 @@ told_is_text known file text bytes is takes told = by (short file.kind bytes tak
     by (inl few) = inl (whole (limit_of file.kind) bytes text (cut known file text bytes is told) few)
     by (inr logs) = inr logs
 
--- told bytes are the text, or both are more than the limit
+-- the known bytes are the text, or both are longer than the limit
 pub told_or_long : (known : FilesState) (file : File) (text bytes : List ℕ) → IsTextOf known file text → known.told file.name ≡ Some bytes
     → (text ≡ bytes) ⊎ ((limit_of file.kind < length text) × (limit_of file.kind < length bytes))
 told_or_long known file text bytes is told = by (cases_lt (limit_of file.kind) (length bytes))

@@ -6,7 +6,7 @@ use Rattle.alive_top.specs.declared.status.Status.{Status}
 use Rattle.alive_top.specs.File.{FileKind, Rules as RuleFile, Source as ModuleFile, Logs as LogFile}
 use Rattle.alive_top.specs.Taken.{Takes, Refuses}
 
--- it is so for each kind of file
+-- the same for each kind of file
 abbrev pub TakenAreNotRefused : Type 0
 TakenAreNotRefused = (kind : FileKind) (bytes : List ℕ) (s : Status) (line : List ℕ) → Takes kind bytes → Refuses kind bytes s line → ⊥
 

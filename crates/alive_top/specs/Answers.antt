@@ -1,4 +1,4 @@
--- The answers of the steps of a command's work.
+-- What the steps of a command's work answer: a result, or why there is none.
 use Rattle.std.specs.Prelude.{◌≡◌, ℕ, ◌⊎◌, List, option_map, Result, Ok, Err}
 use Rattle.outside.specs.Faults.{Rose}
 use Rattle.outside.specs.Files.{FilesState}
@@ -28,8 +28,8 @@ ReadOf old new name P (Err (Module fault)) = ⊥
 ReadOf old new name P (Err Argument) = ⊥
 ReadOf old new name P (Err (Logs fault)) = ⊥
 
--- why a text that is taken may not fit what it is read with: it fits, or arguments do not fit it, or it has a fault
--- beside rules
+-- what may hinder although the text was taken: nothing; below, that a run's arguments do not fit it, and that it has a
+-- fault, given the rules
 abbrev pub Fits : Hindrance → Type 0
 Fits refusal = ⊥
 
@@ -41,7 +41,7 @@ abbrev pub MisfitsRules : List Rule → List ℕ → Hindrance → Type 0
 MisfitsRules rules text (Logs fault) = IsFault rules text fault
 MisfitsRules rules text refusal = ⊥
 
--- what a text gives, read as what it is read for: this, or why it is refused, or does not fit
+-- what reading a text for its purpose answers: what it gives, or a refusal of the text, or that it does not fit
 abbrev pub TextOf : {T : Type 0} → FileKind → List ℕ → (T → Type 0) → (Hindrance → Type 0) → Result T Hindrance → Type 0
 TextOf kind text P Misfits (Ok x) = P x
 TextOf kind text P Misfits (Err (Rules fault)) = Refuses kind text statuses.RuleRefused (rules_line fault)
@@ -51,14 +51,14 @@ TextOf kind text P Misfits (Err (Logs fault)) = Misfits (Logs fault)
 TextOf kind text P Misfits (Err Memory) = Unit {0}
 TextOf kind text P Misfits (Err (Read n)) = ⊥
 
--- the file was asked for, and this holds of its text
+-- the file was asked for, and P holds of its text
 pub record IsReadAs (old new : FilesState) (file : File) (P : List ℕ → Type 0) : Type 0 where
   pub asks : AsksOne old new file.name
   pub text : List ℕ
   pub is_text : IsTextOf old file text
   pub holds : P text
 
--- why a file gave nothing: it could not be read, its text was refused or does not fit, or there was no memory
+-- why a file gave nothing: it could not be read, its text was refused or does not fit, or memory was refused
 abbrev pub FileRefused : FilesState → FilesState → File → (List ℕ → Hindrance → Type 0) → Hindrance → Type 0
 FileRefused old new file Misfits (Rules fault) = IsReadAs old new file (λ text. Refuses file.kind text statuses.RuleRefused (rules_line fault))
 FileRefused old new file Misfits (Module fault) = IsReadAs old new file (λ text. Refuses file.kind text statuses.ModuleRefused (module_line fault))
@@ -67,12 +67,12 @@ FileRefused old new file Misfits (Logs fault) = IsReadAs old new file (λ text. 
 FileRefused old new file Misfits (Read n) = Rose old.faults new.faults × (n.now ≡ file.name) × AsksOne old new file.name
 FileRefused old new file Misfits Memory = AsksNone old new ⊎ AsksOne old new file.name
 
--- a read of a file, and what its text gives
+-- what reading a file answers, from what its text gives
 abbrev pub FileOf : {T : Type 0} → FilesState → FilesState → File → (List ℕ → T → Type 0) → (List ℕ → Hindrance → Type 0) → Result T Hindrance → Type 0
 FileOf old new file P Misfits (Ok x) = IsReadAs old new file (λ text. P text x)
 FileOf old new file P Misfits (Err refusal) = FileRefused old new file Misfits refusal
 
--- what is written, without where it lies in memory
+-- the work as the code holds it, with bytes in place of references
 abbrev pub seen_work : Stored → Work
 seen_work work = record { text = work.text.items; report = option_map (λ report. report.items) work.report; table = work.table; proofs = work.proofs; status = work.status }
 

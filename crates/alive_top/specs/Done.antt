@@ -1,4 +1,4 @@
--- What a task has done where it was done and written.
+-- What a task has done, where its work was done and written.
 use Rattle.std.specs.Prelude.{◌≡◌, ◌≤◌, ◌↔◌, ℕ, IsTrue, List, [], ◌∷◌, None, Some, length, Bool, MatchBool}
 use Rattle.outside.specs.Sink.{SinkState, Appends}
 use Rattle.command_line.specs.declared.command.OptimiseOptions.{OptimiseOptions}
@@ -24,8 +24,8 @@ use Rattle.alive_top.specs.declared.status.Status.TheVariants.{Done}
 use Rattle.load_text.specs.RuleText.{IsRuleText}
 use Rattle.alive_top.specs.Task.{Task, Verify, Optimise, Run, Load, Recheck}
 
--- `verify` decided the rules of a text, handed back their verdicts and wrote the texts of them. All are admitted
--- exactly with status 0.
+-- `verify` decided the rules of a text, and gave their verdicts as a table and as text on the output. The status is 0
+-- exactly where all are admitted.
 pub record HasVerified (text : List ℕ) (options : VerifyOptions) (out out' : SinkState) (ended : Ended) : Type 0 where
   pub rules : List Rule
   pub file : IsRuleText text rules
@@ -36,8 +36,8 @@ pub record HasVerified (text : List ℕ) (options : VerifyOptions) (out out' : S
   pub no_proofs : ended.proofs ≡ []
   pub all : (ended.status ≡ Done) ↔ IsTrue verified.all_admitted
 
--- `verify --logs` did the same, but wrote the text of the proofs of those that are admitted, and handed these back with
--- the sets that they refute.
+-- `verify --logs` did the same, but wrote the text of the proofs of those that are admitted, and gave these proofs as
+-- well, with the clauses that they refute.
 pub record HasProved (text : List ℕ) (options : VerifyOptions) (out out' : SinkState) (ended : Ended) : Type 0 where
   pub rules : List Rule
   pub file : IsRuleText text rules
@@ -48,8 +48,8 @@ pub record HasProved (text : List ℕ) (options : VerifyOptions) (out out' : Sin
   pub wrote : Appends out out' proved.text.items
   pub all : (ended.status ≡ Done) ↔ IsTrue proved.all_admitted
 
--- `recheck` decided what the proofs of another text are of, handed back the verdicts and wrote the texts of them. All
--- are admitted exactly with status 0.
+-- `recheck` decided the pairs of the proofs of another text, and gave their verdicts as a table and as text on the
+-- output. The status is 0 exactly where all are admitted.
 pub record HasRechecked (text proofs : List ℕ) (options : RecheckOptions) (out out' : SinkState) (ended : Ended) : Type 0 where
   pub rules : List Rule
   pub file : IsRuleText text rules
@@ -60,8 +60,8 @@ pub record HasRechecked (text proofs : List ℕ) (options : RecheckOptions) (out
   pub no_proofs : ended.proofs ≡ []
   pub all : (ended.status ≡ Done) ↔ IsTrue rechecked.all_admitted
 
--- `optimise` wrote the module that may stand in the place of that of a text, by the rules of another text, and a
--- report; and handed back the verdicts.
+-- `optimise` wrote a module that refines that of a text, by the rules of another text, and a report, and gave the
+-- verdicts as a table.
 pub record HasOptimised (text source : List ℕ) (options : OptimiseOptions) (out out' err err' : SinkState) (ended : Ended) : Type 0 where
   pub rules : List Rule
   pub file : IsRuleText text rules
@@ -75,8 +75,8 @@ pub record HasOptimised (text source : List ℕ) (options : OptimiseOptions) (ou
   pub no_proofs : ended.proofs ≡ []
   pub status : ended.status ≡ Done
 
--- With proofs, which are of the rules and have no fault, it did the same: and no set that a `Budget` of the table keeps
--- is refuted by the log that they hold for its rule and typing.
+-- With proofs, which are good ones of the rules, it did the same; and no log that they hold refutes the clauses of a
+-- `Budget` on its pair in the table.
 pub record HasOptimisedByLogs (text source proofs : List ℕ) (options : OptimiseOptions) (out out' err err' : SinkState) (ended : Ended) : Type 0 where
   pub optimised : HasOptimised text source options out out' err err' ended
   pub kept_to : AreKeptTo optimised.rules proofs ended.table
@@ -90,7 +90,8 @@ pub record HasRun (text name : List ℕ) (arguments : List (List ℕ)) (options 
   pub no_proofs : ended.proofs ≡ []
   pub status : ended.status ≡ Done
 
--- `load` wrote what comes of the module that is made of the number by the built-in rules, and handed back the verdicts.
+-- `load` wrote what comes of the module that is generated from the number, by the built-in rules, and gave the verdicts
+-- as a table.
 pub record HasLoaded (number : ℕ) (out out' err err' : SinkState) (ended : Ended) : Type 0 where
   pub text : List ℕ
   pub loaded : IsLoaded number text ended.table
@@ -99,7 +100,7 @@ pub record HasLoaded (number : ℕ) (out out' err err' : SinkState) (ended : End
   pub no_proofs : ended.proofs ≡ []
   pub status : ended.status ≡ Done
 
--- What the task has done on the texts of its files.
+-- what the task has done, given the texts of its files
 abbrev pub HasDone : Task → List (List ℕ) → SinkState → SinkState → SinkState → SinkState → Ended → Type 0
 HasDone (Verify file options) (rules ∷ []) out out' err err' ended =
     MatchBool options.logs (HasProved rules options out out' ended) (HasVerified rules options out out' ended)

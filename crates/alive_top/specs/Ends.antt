@@ -1,4 +1,4 @@
--- How each status comes: what was read, what was written and which counts of faults rose.
+-- When a call ends with which status: what was read, what was written and which counts of faults rose.
 use Rattle.std.specs.Prelude.{◌≡◌, ℕ, false, ◌⊎◌, List, []}
 use Rattle.outside.specs.Files.{FilesState}
 use Rattle.outside.specs.Sink.{SinkState}
@@ -18,8 +18,8 @@ use Rattle.alive_top.specs.Texts.{AreTaken}
 use Rattle.alive_top.specs.Work.{Work, IsWorkOf}
 use Rattle.alive_top.specs.Written.{Took, WroteAll, WroteSome}
 
--- The work of the task was done: all its files were read and hold what they are read for, the table and the proofs are
--- the work's, and its text and report were written so.
+-- The work of the task was done: all its files were read and are what they are read for, the table and the proofs are
+-- those of the work, and its text and report were written as `Wrote` says.
 pub record Worked (task : Task) (files files' : FilesState) (ended : Ended) (Wrote : Work → Type 0) : Type 0 where
   pub asks : AsksAll files files' (files_of task)
   pub texts : List (List ℕ)
@@ -30,14 +30,14 @@ pub record Worked (task : Task) (files files' : FilesState) (ended : Ended) (Wro
   pub proofs : ended.proofs ≡ work.proofs
   pub wrote : Wrote work
 
--- nothing was written but a line on the error stream, and no verdict and no proof is handed back
+-- nothing was written but a line on the error stream, and the call gives no verdicts and no proofs
 pub record Refused (out out' err err' : SinkState) (ended : Ended) (line : List ℕ) : Type 0 where
   pub out_stays : out' ≡ out
   pub takes_line : Took err err' line
   pub no_verdicts : ended.table ≡ []
   pub no_proofs : ended.proofs ≡ []
 
--- how each status comes under a task, in the order of the causes
+-- when a task ends with which status; the first cause decides
 abbrev pub EndsWith : Task → FilesState → FilesState → SinkState → SinkState → SinkState → SinkState → Ended → Status → Type 0
 EndsWith task files files' out out' err err' ended Usage = ⊥
 EndsWith task files files' out out' err err' ended ReadFault =
@@ -59,15 +59,15 @@ EndsWith task files files' out out' err err' ended WriteFault =
 EndsWith task files files' out out' err err' ended NoMemory =
     MemoryIsRefused files files' (files_of task) × Refused out out' err err' ended memory_line
 
--- the words are no command: `clap` does not take them, or the list of widths is outside its form
+-- the words are no command: `clap` does not take them, or the list of widths is malformed
 abbrev pub IsNoCommand : List (List ℕ) → Type 0
 IsNoCommand words = (are_taken words ≡ false) ⊎ ((list : List ℕ) × HasBadList words list)
 
--- and this text says so: `clap`'s where it does not take them, and else one that names the list
+-- the text on such words: `clap`'s where it does not take them, and else one that names the list
 abbrev pub IsUsage : List (List ℕ) → List ℕ → Type 0
 IsUsage words text = (are_taken words ≡ false) ⊎ ((list : List ℕ) × HasBadList words list × (text ≡ refusal_of_list list))
 
--- how each status comes where no command was read from the words, or memory was refused for it
+-- when a call ends with which status before any task: the words are no command, or memory was refused for them
 abbrev pub EndsAtWords : List (List ℕ) → SinkState → SinkState → SinkState → SinkState → Ended → Status → Type 0
 EndsAtWords words out out' err err' ended Usage = (text : List ℕ) × IsUsage words text × Refused out out' err err' ended text
 EndsAtWords words out out' err err' ended NoMemory = Refused out out' err err' ended memory_line

@@ -11,7 +11,7 @@ pub data FileKind : Type 0 where
   Source : FileKind
   Logs : FileKind
 
--- a file that is read, by its name
+-- a file that is read: its name, and what for
 pub record File : Type 0 where
   pub name : List ℕ
   pub kind : FileKind

@@ -16,14 +16,14 @@ use Rattle.verdict.specs.Rule.{Rule}
 use Rattle.verdict.specs.Table.{IsHonestTable, table_text}
 use Rattle.verdict_core.specs.declared.verdicts.Row.{Row}
 
--- a module that the strategy takes, whatever steps it is given, and that has the forms which its text needs
+-- a module that the strategy takes, with any number of steps, and that has the forms of a printed text
 pub record IsReady (m : Module) : Type 0 where
   pub checks : ModuleMeetsChecks m
   pub forms : ModuleHasForms m
   pub countable : (steps : ℕ) → steps ≤ most_steps → ModuleIsCountable steps m
 
--- The module that `optimise` writes for the text of another by these rules, the table of verdicts by which it came to
--- be, and for each function how often it was rewritten and whether it is limited.
+-- What `optimise` writes for the text of a module by these rules: a new module, by a table of verdicts, with the count
+-- of rewrites of each function, and whether it ran out of steps.
 pub record IsOptimised (rules : List Rule) (options : OptimiseOptions) (bytes : List ℕ) (new : Module) (table : List Row) (counts : List ℕ) (limited : List Bool) : Type 0 where
   pub read : Module
   pub source : IsModuleText bytes read
@@ -31,19 +31,19 @@ pub record IsOptimised (rules : List Rule) (options : OptimiseOptions) (bytes : 
   pub strategy : IsPlainStrategy rules options.steps table read new counts limited
   -- a rule that is admitted is valid there, a counterexample is one, and a search gave up only at its limit
   pub honest : IsHonestTable rules options.conflicts table
-  -- each match that is left has a verdict, and none is admitted in a function that is not limited
+  -- each match that is left has a verdict, and none is admitted, unless its function ran out of steps
   pub decided : MatchesAreDecided rules table new limited
-  -- it may stand in the place of the module read
+  -- it refines the module that was read
   pub refines : ModuleRefines read new
   pub checks : ModuleMeetsChecks new
-  -- its printed form, however long, is the text of that module again
+  -- its printed form, however long, reads as the module again
   pub reads : IsModuleText (text_of new) new
 
--- the report: the texts of the verdicts in order, and then the line of each function
+-- the report: the texts of the verdicts in order, and then a line for each function
 abbrev pub optimised_report : List Rule → List Row → Module → List ℕ → List Bool → List ℕ
 optimised_report rules table new counts limited = table_text rules table ++ report_of new counts limited
 
--- the printed form of that module, the report on it, and its table
+-- the printed form of such a module, the report on it, and its table
 pub record Prints (rules : List Rule) (options : OptimiseOptions) (bytes out report : List ℕ) (table : List Row) : Type 0 where
   pub new : Module
   pub counts : List ℕ

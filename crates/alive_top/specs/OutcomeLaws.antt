@@ -7,7 +7,8 @@ use Rattle.verdict_core.specs.declared.verdicts.Row.{Row}
 use Rattle.run_text.specs.OutcomeLaws.{ModuleHasOutcomes}
 use Rattle.alive_top.specs.Optimised.{IsOptimised}
 
--- each function of a module that `optimise` writes has an outcome at all arguments and every bound of blocks entered
+-- each function of a module that `optimise` writes has an outcome at all arguments, for every bound on the blocks
+-- entered
 abbrev pub ModulesWrittenHaveOutcomes : Type 0
 ModulesWrittenHaveOutcomes = (rules : List Rule) (options : OptimiseOptions) (bytes : List ℕ) (new : Module) (table : List Row) (counts : List ℕ) (limited : List Bool)
     → IsOptimised rules options bytes new table counts limited → ModuleHasOutcomes new

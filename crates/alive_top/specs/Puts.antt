@@ -1,4 +1,4 @@
--- The puts of lines and texts, and the statuses that they leave.
+-- What is put to the error stream and the output, and the status then.
 use Rattle.std.specs.Prelude.{◌≡◌, ◌⊎◌, ℕ, List}
 use Rattle.outside.specs.Sink.{SinkState}
 use Rattle.alive_top.specs.declared.hindrance.Hindrance.{Hindrance}
@@ -9,15 +9,15 @@ use Rattle.error_lines.specs.Lines.{rules_line, module_line, read_fault_line, ar
 use Rattle.alive_top.specs.Work.{Work}
 use Rattle.alive_top.specs.Written.{Took, WroteAll, WroteSome}
 
--- the line was put, and this is the status
+-- the line is put, and the status is this one
 abbrev pub Says : SinkState → SinkState → Status → List ℕ → Status → Type 0
 Says err err' status line given = (given ≡ status) × Took err err' line
 
--- the line on memory was
+-- the line on want of memory is put, and the status is `NoMemory`
 abbrev pub SaysMemory : SinkState → SinkState → Status → Type 0
 SaysMemory err err' given = Says err err' statuses.NoMemory memory_line given
 
--- how a refusal ends: by its line, or by that on memory where there was none for its own
+-- how a refusal ends: with its line, or with that on memory where there was no memory for its own
 abbrev pub RefusedAs : Hindrance → SinkState → SinkState → Status → Type 0
 RefusedAs (Rules fault) err err' given = Says err err' statuses.RuleRefused (rules_line fault) given ⊎ SaysMemory err err' given
 RefusedAs (Module fault) err err' given = Says err err' statuses.ModuleRefused (module_line fault) given ⊎ SaysMemory err err' given

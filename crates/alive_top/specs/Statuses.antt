@@ -1,4 +1,4 @@
--- The exit status of each way to end, and which of them come where.
+-- The exit status of each way to end, and which ways there are in certain cases.
 use Rattle.std.specs.Prelude.{ℕ}
 use Rattle.alive_top.specs.declared.status.Status.{Status}
 use Rattle.alive_top.specs.declared.status.Status.TheVariants.{Done, NotAll, Usage, RuleRefused, ModuleRefused, ReadFault, WriteFault, NoMemory, Argument, LogRefused}
@@ -29,27 +29,27 @@ IsWorked NotAll = Unit {0}
 IsWorked WriteFault = Unit {0}
 IsWorked status = ⊥
 
--- those that may come where the words are no command
+-- the ways to end where the words are no command
 abbrev pub IsNoTask : Status → Type 0
 IsNoTask Usage = Unit {0}
 IsNoTask NoMemory = Unit {0}
 IsNoTask status = ⊥
 
--- those that may come where a module has no function of a run's name, or the arguments do not fit it
+-- the ways to end where a module has no function of the run's name, or the arguments do not fit it
 abbrev pub IsNoRun : Status → Type 0
 IsNoRun Argument = Unit {0}
 IsNoRun ReadFault = Unit {0}
 IsNoRun NoMemory = Unit {0}
 IsNoRun status = ⊥
 
--- those that may come where proofs have a fault
+-- the ways to end where the proofs have a fault
 abbrev pub IsLogRefusal : Status → Type 0
 IsLogRefusal LogRefused = Unit {0}
 IsLogRefusal ReadFault = Unit {0}
 IsLogRefusal NoMemory = Unit {0}
 IsLogRefusal status = ⊥
 
--- those that may come where nothing is wrong
+-- the ways to end where nothing is wrong
 abbrev pub IsDoneOrNoMemory : Status → Type 0
 IsDoneOrNoMemory Done = Unit {0}
 IsDoneOrNoMemory NotAll = Unit {0}

@@ -1,4 +1,4 @@
--- Which texts are taken, as what their file is read for, and how the others are refused.
+-- Which texts are what their file is read for (taken), and how the others are refused.
 use Rattle.std.specs.Prelude.{◌≡◌, ℕ, List}
 use Rattle.ir_core.specs.declared.module.Module.{Module}
 use Rattle.refusal.specs.declared.fault.Fault.{Fault}
@@ -14,8 +14,8 @@ pub use Rattle.load_text.specs.RuleText.{IsRuleText}
 use Rattle.alive_top.specs.File.{FileKind, Rules, Source, Logs}
 use Rattle.error_lines.specs.Lines.{rules_line, module_line}
 
--- the text is taken: it is what its file is read for. What is wrong with proofs is told beside the rules, when all
--- files are read
+-- the text is what its file is read for; any text is taken for proofs, since their faults are told once all files are
+-- read
 abbrev pub Takes : FileKind → List ℕ → Type 0
 Takes Rules text = (rules : List Rule) × IsRuleText text rules
 Takes Source text = (m : Module) × IsReadAs text m

@@ -8,7 +8,7 @@ use Rattle.command_line.specs.declared.command.RunOptions.{RunOptions}
 use Rattle.command_line.specs.declared.command.VerifyOptions.{VerifyOptions}
 use Rattle.command_line.specs.Words.{are_taken, Says}
 
--- a command, with the names of its files, or with the number of which its module is made
+-- a command, with the names of its files, or with the number that a module is generated from
 pub data Task : Type 0 where
   Verify : (rules : List ℕ) → (options : VerifyOptions) → Task
   Optimise : (rules source : List ℕ) → (logs : Option (List ℕ)) → (options : OptimiseOptions) → Task
@@ -16,7 +16,7 @@ pub data Task : Type 0 where
   Load : (number : ℕ) → Task
   Recheck : (rules logs : List ℕ) → (options : RecheckOptions) → Task
 
--- the task of a command, without where its names lie in memory
+-- the task of a command, with bytes in place of references
 abbrev pub task_of : Command → Task
 task_of (commands.Verify rules options) = Verify rules.now options
 task_of (commands.Optimise rules source logs options) = Optimise rules.now source.now (option_map (λ name. name.now) logs) options

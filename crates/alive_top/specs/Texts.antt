@@ -6,8 +6,8 @@ use Rattle.alive_top.specs.File.{File, files_of, limit_of}
 use Rattle.alive_top.specs.Taken.{Takes}
 use Rattle.alive_top.specs.Task.{Task}
 
--- The text of a file is what is told under its name, where that is told; of more than the limit it is the first bytes,
--- one over it.
+-- The text of a file is its bytes, where these are known; of a file that is longer than the limit, the first bytes, one
+-- more than the limit.
 abbrev pub IsTextOf : FilesState → File → List ℕ → Type 0
 IsTextOf known file text = IfSome (known.told file.name) (λ told. text ≡ take (limit_of file.kind + 1) told)
 
@@ -15,15 +15,15 @@ IsTextOf known file text = IfSome (known.told file.name) (λ told. text ≡ take
 abbrev pub AreTexts : FilesState → List File → List (List ℕ) → Type 0
 AreTexts known files texts = AllZip (IsTextOf known) files texts
 
--- the same where each is what its file is read for
+-- the same, where each text is what its file is read for
 abbrev pub AreTaken : FilesState → List File → List (List ℕ) → Type 0
 AreTaken known files texts = AllZip (λ file text. IsTextOf known file text × Takes file.kind text) files texts
 
--- this holds of texts of the task's files
+-- P holds of some texts of the task's files
 abbrev pub OfSomeTexts : FilesState → Task → (List (List ℕ) → Type 0) → Type 0
 OfSomeTexts known task P = (texts : List (List ℕ)) × AreTexts known (files_of task) texts × P texts
 
--- the bytes of all files of the task are told, and this holds of them
+-- the bytes of all files of the task are known, and P holds of them
 abbrev pub OfToldTexts : FilesState → Task → (List (List ℕ) → Type 0) → Type 0
 OfToldTexts known task P = (texts : List (List ℕ)) × AllZip (λ file text. known.told file.name ≡ Some text) (files_of task) texts × P texts
 
@@ -31,7 +31,7 @@ OfToldTexts known task P = (texts : List (List ℕ)) × AllZip (λ file text. kn
 abbrev pub TakesEach : Task → List (List ℕ) → Type 0
 TakesEach task texts = AllZip (λ file text. Takes file.kind text) (files_of task) texts
 
--- the bytes of a file of the task are told, and are not what it is read for
+-- the bytes of a file of the task are known, and are not what it is read for
 pub record HasBadFile (known : FilesState) (task : Task) : Type 0 where
   pub place : ℕ
   pub file : File

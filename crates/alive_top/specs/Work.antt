@@ -1,4 +1,4 @@
--- The work of each task: what is written, the verdicts that are handed back, and the status.
+-- The work of each task: what is written, the verdicts that the call gives, and the status.
 use Rattle.std.specs.Prelude.{◌≡◌, ℕ, ◌≤◌, List, [], ◌∷◌, Option, None, Some, length, if◌then◌else◌, MatchBool}
 use Rattle.command_line.specs.declared.command.OptimiseOptions.{OptimiseOptions}
 use Rattle.command_line.specs.declared.command.RecheckOptions.{RecheckOptions}
@@ -23,8 +23,8 @@ use Rattle.alive_top.specs.declared.status.Status.TheVariants.{Done, NotAll}
 use Rattle.load_text.specs.RuleText.{IsRuleText}
 use Rattle.alive_top.specs.Task.{Task, Verify, Optimise, Run, Load, Recheck}
 
--- a text for the output, a report for the error stream if the task has one, a table of verdicts, the proofs beside it,
--- and the status once both are written
+-- a text for the output, a report for the error stream, if the task has one, a table of verdicts, the proofs that come
+-- with it, and the status once both are written
 pub record Work : Type 0 where
   pub text : List ℕ
   pub report : Option (List ℕ)
@@ -32,7 +32,7 @@ pub record Work : Type 0 where
   pub proofs : List Refutation
   pub status : Status
 
--- `verify` decides the rules of its file: their verdicts are the table, and their texts the output.
+-- `verify` decides the rules of its file; their verdicts are the table, and the texts of these the output.
 pub record IsVerdictWork (rules : List Rule) (options : VerifyOptions) (work : Work) : Type 0 where
   pub verified : Verified
   pub right : IsVerified rules options.widths options.conflicts verified
@@ -42,8 +42,8 @@ pub record IsVerdictWork (rules : List Rule) (options : VerifyOptions) (work : W
   pub no_proofs : work.proofs ≡ []
   pub status : work.status ≡ (if verified.all_admitted then Done else NotAll)
 
--- With `--logs` the output is the text of the proofs of those that are admitted, and these are handed back with the
--- sets that they refute.
+-- With `--logs` the output is the text of the proofs of those that are admitted, and the work has these, with the
+-- clauses that they refute.
 pub record IsProofWork (rules : List Rule) (options : VerifyOptions) (work : Work) : Type 0 where
   pub proved : Proved
   pub right : IsProved rules options.widths options.conflicts proved
@@ -56,7 +56,7 @@ pub record IsProofWork (rules : List Rule) (options : VerifyOptions) (work : Wor
 abbrev pub IsVerifyWork : List Rule → VerifyOptions → Work → Type 0
 IsVerifyWork rules options work = MatchBool options.logs (IsProofWork rules options work) (IsVerdictWork rules options work)
 
--- `recheck` decides what the proofs of a text are of: their verdicts are the table, and their texts the output.
+-- `recheck` decides the pairs of the proofs of a text; their verdicts are the table, and the texts of these the output.
 pub record IsRecheckWork (rules : List Rule) (proofs : List ℕ) (options : RecheckOptions) (work : Work) : Type 0 where
   pub rechecked : Rechecked
   pub right : IsRechecked rules proofs options.conflicts rechecked
@@ -66,12 +66,11 @@ pub record IsRecheckWork (rules : List Rule) (proofs : List ℕ) (options : Rech
   pub no_proofs : work.proofs ≡ []
   pub status : work.status ≡ (if rechecked.all_admitted then Done else NotAll)
 
--- what is printed for the text of a module, which is not too long, the report on it, and its table of verdicts
+-- what is printed for the text of a module within the limit, the report on it, and its table of verdicts
 abbrev pub IsPrinted : List Rule → OptimiseOptions → List ℕ → List ℕ → List ℕ → List Row → Type 0
 IsPrinted rules options source out report table = (length source ≤ most_bytes) × Prints rules options source out report table
 
--- `optimise` writes the module that may stand in the place of the one read, and a report. The verdicts that it asked
--- for are the table.
+-- `optimise` writes a module that refines the one read, and a report. The verdicts that it asked for are the table.
 pub record IsOptimiseWork (rules : List Rule) (options : OptimiseOptions) (source : List ℕ) (work : Work) : Type 0 where
   pub report : List ℕ
   pub has_report : work.report ≡ Some report
@@ -87,8 +86,8 @@ pub record IsRunWork (source name : List ℕ) (arguments : List (List ℕ)) (opt
   pub no_proofs : work.proofs ≡ []
   pub status : work.status ≡ Done
 
--- `load` writes what comes of the module that is made of the number by the built-in rules. The verdicts that it asked
--- for are the table.
+-- `load` writes what comes of the module that is generated from the number, by the built-in rules. The verdicts that it
+-- asked for are the table.
 pub record IsLoadWork (number : ℕ) (work : Work) : Type 0 where
   pub loaded : IsLoaded number work.text work.table
   pub report : work.report ≡ None

@@ -52,7 +52,7 @@ fn read_module_file<'a, F: Files>(
     module_of(alloc, bytes.as_slice())
 }
 
-/// The logs of the proofs of a text.
+/// The logs of the proofs in a text, each for its rule and typing.
 fn logs_of<'a>(alloc: Global, bytes: &[u8], rules: &[Rule]) -> Result<StoredLogs, Hindrance<'a>>
     requires ready { AreReady rules.now }
     requires few { length rules.now < 2 ^ 32 }

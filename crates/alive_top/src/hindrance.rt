@@ -8,16 +8,16 @@ use rule_reader::RuleFault;
 use std::alloc::AllocError;
 use stored_logs::LogFault;
 
-/// What hindered the work.
+/// Why the work was not done.
 #[derive(Drop)]
 pub(crate) enum Hindrance<'a> {
-    /// The rule file is none.
+    /// The rule file is not one.
     Rules(RuleFault),
-    /// The module is none.
+    /// The module is not one.
     Module(IrFault),
     /// The module has no function of the name, or the arguments do not fit it.
     Argument,
-    /// The proofs have a fault.
+    /// The proofs have a fault, given the rules.
     Logs(LogFault),
     /// The file of this name could not be read.
     Read(&'a str),

@@ -1,7 +1,7 @@
 //! The program as one call over values: from the words of a command line, the files and the sinks to a status.
 //!
 //! The definitions stand in `specs/`: `Task` says what the words ask for, `Texts` what is read of its files, `Work` and
-//! `Done` what is written for them, and `Ends` how each status comes.
+//! `Done` what is written for them, and `Ends` when a call ends with which status.
 #![tactic(auto)]
 
 mod by_logs;

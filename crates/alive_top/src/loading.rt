@@ -1,4 +1,4 @@
-//! What `load` writes of a number.
+//! What `load` writes for a number.
 
 ghost use Rattle.std.specs.Prelude.{◌≡◌, ◌<◌, ◌^◌, length, All, IsTrue, IfOk};
 ghost use Rattle.ir_core.specs.Checks.{ModuleMeetsChecks};
@@ -32,7 +32,7 @@ fn are_admitted(table: &[Row]) -> bool
         .all(|row| matches!(row.verdict, Verdict::Admitted))
 }
 
-/// What the plain strategy gives for a module where the words tell no limits, if it admits each verdict.
+/// What the plain strategy gives for a module with the default limits, if it admits each pair that it asks for.
 fn optimised_by(alloc: Global, module: &Module, rules: &[Rule]) -> Result<Done, AllocError>
     requires checks { ModuleMeetsChecks module.now }
     requires numbers { ModuleNumbersFit module.now }
@@ -66,13 +66,13 @@ fn optimised(alloc: Global, module: &Module) -> Result<Done, AllocError>
     Ok(done)
 }
 
-/// Generates the module of a number with 200 functions, rewrites it by the built-in rules as `optimise` does where the
-/// words tell no limits, and says how many instructions it had before and has after, how often functions were
-/// rewritten, and how many are limited.
+/// Generates the module of a number, with 200 functions, rewrites it by the built-in rules as `optimise` does by
+/// default, and says how many instructions it had before and has after, how often functions were rewritten, and how
+/// many ran out of steps.
 ///
-/// The only error is want of memory. Were a verdict another than `Admitted`, that would be answered so too. It doesn't
-/// come to that: at the widths that are generated, 3 to 5, no built-in rule has more than 12 bits of input, so that
-/// each is decided, and all are valid.
+/// The only error is want of memory. A verdict other than `Admitted` would be answered so, too. But there is none: at
+/// the widths that are generated, 3 to 5, no built-in rule has more than 12 bits of input, so each is decided, and all
+/// are valid.
 pub fn load(alloc: Global, number: u32) -> Result<Loaded, AllocError>
     ensures { IfOk result (λ loaded. IsLoaded number loaded.text.items loaded.table) }
 {

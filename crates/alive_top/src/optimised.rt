@@ -1,4 +1,4 @@
-//! What `optimise` writes of the text of a module by the rules of a file.
+//! What `optimise` writes for the text of a module by the rules of a file.
 
 ghost use Rattle.std.specs.Prelude.{◌≤◌, ◌<◌, ◌^◌, ℕ, List, length, All, IfOk, OnOk, IfErr};
 ghost use Rattle.command_line.specs.Limits.{most_conflicts, most_steps};
@@ -20,20 +20,20 @@ use std::alloc::{AllocError, Global};
 use strategy::StoredLogs;
 use verdict_core::Table;
 
-/// What `optimise` writes, and the verdicts by which it came to be.
+/// What `optimise` writes, and the verdicts behind it.
 #[derive(Drop)]
 pub struct Optimised {
     /// The text of the module.
     pub out: Vec<u8>,
-    /// The texts of the verdicts in order, and then for each function how often it was rewritten and whether it is
-    /// limited.
+    /// The texts of the verdicts in order, and then for each function how often it was rewritten, and whether it ran
+    /// out of steps.
     pub report: Vec<u8>,
     /// The verdicts in the order in which they were first asked for.
     pub table: Table,
 }
 
 /// What is written for the text of a module: what the plain strategy gives for it by rules that were read, and the
-/// report. What is written, however long, is the text of that module again.
+/// report. What is written, however long, reads as that module again.
 ///
 /// `Refused` tells the text's first fault. Beside [`read_module`]'s and [`strategy::optimise`]'s it takes as many steps
 /// as the texts that are written have bytes.
@@ -69,8 +69,8 @@ pub(crate) fn read_source(alloc: Global, bytes: &[u8]) -> Result<Module, IrError
     Ok(source)
 }
 
-/// What is written for a module that was read, whatever the logs are; no set that a `Budget` keeps is refuted by the
-/// log that is stored for its pair. The only error is want of memory.
+/// What is written for a module that was read, whatever the logs are; no log that is stored refutes the clauses of a
+/// `Budget` on its pair. The only error is want of memory.
 pub(crate) fn optimise_module(
     alloc: Global,
     source: &Module,
@@ -87,7 +87,7 @@ pub(crate) fn optimise_module(
         → Prints rules.now options bytes o.out.items o.report.items o.table) }
     ensures unrefuted { IfOk result (λ o. All (IsUnrefutedIn logs) o.table) }
 {
-    // what the strategy gives has the forms that its text needs
+    // the strategy keeps the forms of a printed text
     optimised_forms::formed_modules_numbers_fit();
     optimised_forms::optimised_modules_have_forms();
     let done = strategy::optimise(alloc, source, rules, logs, options.conflicts, options.steps)?;

@@ -19,7 +19,7 @@ use rule_reader::Rule;
 use std::alloc::Global;
 use stored_logs::{LogError, Rechecked};
 
-/// What comes of the proofs of a text.
+/// The verdicts on the pairs of the proofs in a text.
 fn rechecked<'a>(
     alloc: Global,
     proofs: &[u8],
@@ -39,7 +39,7 @@ fn rechecked<'a>(
     }
 }
 
-/// Reads proofs, and gives what comes of them.
+/// Reads a file of proofs, and gives the verdicts on their pairs.
 fn read_and_recheck<'a, F: Files>(
     alloc: Global,
     files: &mut F,

@@ -11,7 +11,7 @@ use std::alloc::{AllocError, Global};
 use strategy_core::Done;
 use verdict_core::{Row, push_verdict};
 
-/// Adds the text of a row's verdict on its rule.
+/// Appends the text of a row's verdict on its rule.
 fn push_row(out: &mut Vec<u8>, rules: &[Rule], row: &Row) -> Result<(), AllocError>
     ensures { OnOk result (out.new.items ≡ out.old.items ++ option_map_or (λ rule. row_text rule row.now) (slice_get rules.now row.now.rule) []) }
 {
@@ -21,7 +21,7 @@ fn push_row(out: &mut Vec<u8>, rules: &[Rule], row: &Row) -> Result<(), AllocErr
     push_verdict(out, rule, &row.typing, &row.verdict)
 }
 
-/// Adds the texts of verdicts, in order.
+/// Appends the texts of verdicts, in order.
 fn push_table(out: &mut Vec<u8>, rules: &[Rule], table: &[Row]) -> Result<(), AllocError>
     ensures { OnOk result (out.new.items ≡ out.old.items ++ table_text rules.now table.now) }
 {
@@ -31,7 +31,7 @@ fn push_table(out: &mut Vec<u8>, rules: &[Rule], table: &[Row]) -> Result<(), Al
     Ok(())
 }
 
-/// The report on what the strategy gave by these rules: the texts of its verdicts in order, and then the line of each
+/// The report on what the strategy gave by these rules: the texts of its verdicts in order, and then a line for each
 /// function.
 ///
 /// The only error is want of memory.

@@ -1,4 +1,4 @@
-//! How a command ends.
+//! How a call ends.
 
 ghost use Rattle.std.specs.Prelude.{◌≡◌};
 ghost use Rattle.alive_top.specs.Statuses.{code_of};
@@ -51,7 +51,7 @@ impl Status {
     }
 }
 
-/// What a command leaves beside what it wrote.
+/// What a call gives beside what it wrote.
 #[derive(Drop)]
 pub struct Ended {
     pub status: Status,

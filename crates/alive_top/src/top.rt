@@ -1,4 +1,4 @@
-//! The top call.
+//! The whole program as one call.
 
 ghost use Rattle.std.specs.Prelude.{◌≡◌, ◌⊎◌, map, option_map, string_bytes, [], MatchResult};
 ghost use Rattle.command_line.specs.Limits.{IsWithinLimits};
@@ -33,7 +33,7 @@ fn put_line<E: Sink>(line: &[u8], err: &mut E)
     let _ = err.put(line);
 }
 
-/// Puts a line that had to be made, and gives the status; or the line on memory, where there was none for it.
+/// Puts a line that had to be built, and gives the status; or the line on memory, where there was none to build it.
 fn put_made<E: Sink>(line: Result<Vec<u8>, AllocError>, status: Status, err: &mut E) -> Status
     ensures answer { MatchResult line
         (λ made. Says (E.state err.old) (E.state err.new) status made.items result)
@@ -52,7 +52,7 @@ fn put_made<E: Sink>(line: Result<Vec<u8>, AllocError>, status: Status, err: &mu
     }
 }
 
-/// Puts a refusal's line, and gives its status, which stays if the put fails.
+/// Puts a refusal's line, and gives its status, even if the put fails.
 fn refuse<E: Sink>(alloc: Global, refusal: Hindrance<'_>, err: &mut E) -> Status
     ensures answer { RefusedAs refusal.entry (E.state err.old) (E.state err.new) result }
     ensures follows { SinkFollows (E.state err.old) (E.state err.new) }
@@ -75,7 +75,7 @@ fn refuse<E: Sink>(alloc: Global, refusal: Hindrance<'_>, err: &mut E) -> Status
     }
 }
 
-/// Writes the text, and then the report if there is one: each by one put, also where it is empty.
+/// Writes the text, and then the report, if there is one: each by one put, even an empty one.
 fn write<O: Sink, E: Sink>(work: &Work, out: &mut O, err: &mut E) -> Status
     ensures answer { WrittenAs (seen_work work.now) (O.state out.old) (O.state out.new) (E.state err.old) (E.state err.new) result }
     ensures out_follows { SinkFollows (O.state out.old) (O.state out.new) }
@@ -162,7 +162,7 @@ fn run_words<F: Files, O: Sink, E: Sink>(
     }
 }
 
-/// Runs the command that the words name, of which the first is the program's own name.
+/// Runs the command that the words name; the first word is the program's own name.
 ///
 /// `verify RULES [--widths LIST] [--conflicts N] [--logs]` decides each rule of a file at each of its typings over the
 /// list of widths, and writes the verdicts to `out`. A verdict is `admitted` only where the rule is valid there, and a
@@ -171,17 +171,16 @@ fn run_words<F: Files, O: Sink, E: Sink>(
 /// `recheck RULES LOGS [--conflicts N]` reads such proofs, and decides what they are of: by its log where that refutes
 /// the counterexamples, and else by a search.
 ///
-/// `optimise RULES MODULE [--conflicts N] [--steps N] [--logs LOGS]` reads both files and writes the module to `out`,
-/// each function rewritten by the rules where they match and are admitted, with its needed instructions alone; and to
-/// `err` the verdicts that it asked for, and how often each function was rewritten. What it writes may stand in the
-/// place of what it read. With `--logs LOGS` it reads proofs too, and a verdict is asked of the log that is stored for
-/// it before there is a search.
+/// `optimise RULES MODULE [--conflicts N] [--steps N] [--logs LOGS]` reads both files and writes to `out` the module,
+/// each function rewritten by the rules where they match and are admitted, and without dead code; and to `err` the
+/// verdicts that it asked for, and how often each function was rewritten. What it writes refines what it read. With
+/// `--logs LOGS` it reads proofs too, and tries the log that is stored for a verdict before it searches.
 ///
 /// `run [--blocks N] MODULE NAME [ARG..]` runs a function of a module and writes what it returned, that its behaviour
-/// is undefined, or where it was after so many blocks.
+/// is undefined, or which block it would enter next once it has entered as many as it may.
 ///
-/// `load NUMBER` makes a module of the number, rewrites it by the built-in rules, and writes how large it was and is,
-/// and how often functions were rewritten. It reads no file.
+/// `load NUMBER` generates a module from the number, rewrites it by the built-in rules, and writes how large it was and
+/// is, and how often functions were rewritten. It reads no file.
 ///
 /// A rule file of more than 1 MiB, a module of more than 16 MiB and proofs of more than 64 MiB are refused. The status
 /// says how it ended.
@@ -192,32 +191,32 @@ pub fn alive<F: Files, O: Sink, E: Sink>(
     out: &mut O,
     err: &mut E,
 ) -> Ended
-    // How each status comes, in the order of the causes, by the task that the words ask for: what was asked for, what
-    // was read and written, and which counts rose.
+    // When the call ends with which status; the first cause decides, by the task that the words ask for: what was asked
+    // for, what was read and written, and which counts of faults rose.
     ensures ends { Ends (map string_bytes words.now.items) (F.state files.old) (F.state files.new)
         (O.state out.old) (O.state out.new) (E.state err.old) (E.state err.new) result }
 
-    // With status 0 or 1 the task was done on texts of its files, and all verdicts handed back are honest. `verify`
-    // wrote one for each rule and typing, or the proofs of those that are admitted, and `recheck` one for each proof: 0
-    // says that all are. `optimise` wrote the module that the plain strategy gives by them, which may stand in the
-    // place of the one read, and a report: given proofs, it left nothing undecided that the one of its rule and typing
-    // refutes. `run` wrote an outcome of its function, and `load` five lines on a module of its number.
+    // With status 0 or 1 the task was done on texts of its files, and all verdicts that the call gives are honest.
+    // `verify` wrote one for each rule and typing, or the proofs of those that are admitted, and `recheck` one for each
+    // proof: 0 says that all are admitted. `optimise` wrote the module that the plain strategy gives by them, which
+    // refines the one read, and a report: given proofs, it left no pair undecided that its proof decides. `run` wrote
+    // an outcome of its function, and `load` five lines on a module of its number.
     ensures done { (task : Task) → Asks (map string_bytes words.now.items) task → IsDone result.status
         → OfSomeTexts (F.state files.old) task (λ texts. HasDone task texts
         (O.state out.old) (O.state out.new) (E.state err.old) (E.state err.new) result) }
 
-    // Status 2 comes only where `clap` does not take the words or the list of widths is outside its form; and there
-    // nothing else comes, but want of memory.
+    // Status 2 comes only where `clap` does not take the words or the list of widths is malformed; and there nothing
+    // else comes, but want of memory.
     ensures usage { (result.status ≡ Status.Usage → IsNoCommand (map string_bytes words.now.items))
         × (IsNoCommand (map string_bytes words.now.items) → IsNoTask result.status) }
 
-    // Where a file's bytes are told and aren't what it is read for, the work is not done.
+    // Where a file's bytes are known and aren't what it is read for, the work is not done.
     ensures refused { (task : Task) → Asks (map string_bytes words.now.items) task
         → HasBadFile (F.state files.old) task → ¬ IsWorked result.status }
 
     // Status 8 comes only where a run's module has no function of the name or the arguments do not fit it, and status 9
-    // only where proofs have a fault beside the rules; and where that is so of the told bytes, nothing else comes but a
-    // read fault or want of memory.
+    // only where proofs have a fault, given the rules; and where that is so of the known bytes, nothing else comes but
+    // a read fault or want of memory.
     ensures argument { (task : Task) → Asks (map string_bytes words.now.items) task
         → (result.status ≡ Status.Argument → OfSomeTexts (F.state files.old) task (NamesNoRun task))
         × (OfToldTexts (F.state files.old) task (NamesNoRun task) → IsNoRun result.status) }
@@ -225,15 +224,16 @@ pub fn alive<F: Files, O: Sink, E: Sink>(
         → (result.status ≡ Status.LogRefused → OfSomeTexts (F.state files.old) task (HasBadLogs task))
         × (OfToldTexts (F.state files.old) task (HasBadLogs task) → IsLogRefusal result.status) }
 
-    // A read fault comes only where the count of the files rose, and a write fault only where that of a sink did.
+    // A read fault comes only where the files' count of faults rose, and a write fault only where a sink's did.
     ensures read_fault { result.status ≡ Status.ReadFault
         → Rose (F.state files.old).faults (F.state files.new).faults }
     ensures write_fault { result.status ≡ Status.WriteFault
         → Rose (O.state out.old).faults (O.state out.new).faults
         ⊎ Rose (E.state err.old).faults (E.state err.new).faults }
 
-    // The words of a command, told bytes that are what their files are read for, of a run its function and arguments
-    // that fit, proofs without a fault, and no faults leave nothing but the whole work, or want of memory.
+    // Where the words are a command, all bytes are known and are what their files are read for, a run's function is
+    // there and its arguments fit, proofs are without a fault, and no read or put fails, the whole work is done, or
+    // memory is wanting.
     ensures complete { ¬ IsNoCommand (map string_bytes words.now.items)
         → ((task : Task) → Asks (map string_bytes words.now.items) task
         → OfToldTexts (F.state files.old) task
@@ -243,15 +243,15 @@ pub fn alive<F: Files, O: Sink, E: Sink>(
         → ¬ Rose (E.state err.old).faults (E.state err.new).faults
         → IsDoneOrNoMemory result.status }
 
-    // Where the work was done, the output got it by one put, and where it was not, the output is as it was. What the
-    // files tell stays, and no count of faults falls.
+    // Where the work was done, the output got it by one put, and where it was not, the output is as it was. What is
+    // known of the files stays, and no count of faults falls.
     ensures one_put { IsWorked result.status → (O.state out.new).puts ≡ option_map raised (O.state out.old).puts }
     ensures untouched { ¬ IsWorked result.status → out.new ≡ out.old }
     ensures files_follow { FilesFollow (F.state files.old) (F.state files.new) }
     ensures out_follows { SinkFollows (O.state out.old) (O.state out.new) }
     ensures err_follows { SinkFollows (E.state err.old) (E.state err.new) }
 {
-    // words ask for one task, and what a text is read as is not refused
+    // words ask for one task, and a text that is taken is not refused
     command_line::words_say_one_command();
     rule_reader::every_text_has_one_list_or_one_fault();
     ir_reader::every_text_has_one_module_or_one_fault();

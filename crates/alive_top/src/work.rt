@@ -27,7 +27,7 @@ use std::alloc::{AllocError, Global};
 use stored_logs::Refutations;
 use verdict_core::Table;
 
-/// What a command writes: a text for the output, and a report if the command has one. Beside them the verdicts, the
+/// What a command writes: a text for the output, and a report, if the command has one. With them the verdicts, the
 /// proofs, and the status once both are written.
 #[derive(Drop)]
 pub(crate) struct Work {
@@ -71,7 +71,7 @@ pub(crate) fn rules_of<'a>(alloc: Global, bytes: &[u8]) -> Result<Vec<Rule>, Hin
     }
 }
 
-/// What is written for the text of a module by these rules.
+/// What is written for the text of a module, optimised by these rules.
 fn optimised<'a>(
     alloc: Global,
     source: &[u8],
@@ -108,7 +108,7 @@ pub(crate) fn read_rule_file<'a, F: Files>(
     rules_of(alloc, bytes.as_slice())
 }
 
-/// Reads a module, and gives what is written for it by these rules.
+/// Reads a module, and gives what is written for it, optimised by these rules.
 fn read_and_optimise<'a, F: Files>(
     alloc: Global,
     files: &mut F,
@@ -128,7 +128,7 @@ fn read_and_optimise<'a, F: Files>(
     optimised(alloc, bytes.as_slice(), rules, options)
 }
 
-/// What is written of the verdicts on a list of rules.
+/// The verdicts on a list of rules, as work.
 fn verified(alloc: Global, rules: &[Rule], options: &VerifyOptions) -> Result<Work, AllocError>
     requires ready { AreReady rules.now }
     requires few { length rules.now < 2 ^ 32 }
@@ -145,7 +145,7 @@ fn verified(alloc: Global, rules: &[Rule], options: &VerifyOptions) -> Result<Wo
     })
 }
 
-/// What is written of the proofs of a list of rules.
+/// The proofs of a list of rules, as work.
 fn proved(alloc: Global, rules: &[Rule], options: &VerifyOptions) -> Result<Work, AllocError>
     requires ready { AreReady rules.now }
     requires few { length rules.now < 2 ^ 32 }
@@ -162,7 +162,7 @@ fn proved(alloc: Global, rules: &[Rule], options: &VerifyOptions) -> Result<Work
     })
 }
 
-/// What is written for a list of rules.
+/// The work of `verify` on a list of rules.
 fn verified_or_proved(
     alloc: Global,
     rules: &[Rule],
@@ -231,7 +231,7 @@ fn optimise<'a, F: Files>(
     })
 }
 
-/// What is written of a run of a function of the text of a module.
+/// What is written for a run of a function of a module's text.
 fn run_of<'a>(
     alloc: Global,
     source: &[u8],
@@ -250,7 +250,7 @@ fn run_of<'a>(
     }
 }
 
-/// Reads a module, and gives what is written of a run of one of its functions.
+/// Reads a module, and gives what is written for a run of one of its functions.
 fn read_and_run<'a, F: Files>(
     alloc: Global,
     files: &mut F,

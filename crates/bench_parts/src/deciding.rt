@@ -1,9 +1,9 @@
-//! Rules that are decided: the circuit of each, its clauses, the search and the check of its log. A line is printed of
-//! each.
+//! Decides rules and measures the steps: the circuit of each rule, its clauses, the search, and the check of its log.
+//! It prints a line for each.
 //!
-//! The words are `RULES CONFLICTS`, a file of rules whose types are written and the most clauses that a search learns;
-//! `untimed` after them leaves all but the answers out, and `--dimacs FOLDER` has the clause set of each rule written
-//! to `FOLDER/PLACE.cnf`, by its place in the file, from 0.
+//! The words are `RULES CONFLICTS`: a file of rules whose types are written, and the most clauses that a search may
+//! learn. `untimed` behind them leaves out all but the answers; `--dimacs FOLDER` writes the clause set of each rule to
+//! `FOLDER/PLACE.cnf`, PLACE being the rule's place in the file, from 0.
 
 ghost use Rattle.std.specs.Prelude.{◌≤◌, IfOk, All};
 ghost use Rattle.rule_core.specs.Checks.{IsRule};

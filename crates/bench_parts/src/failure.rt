@@ -8,7 +8,7 @@ use std::fmt;
 /// A cause of the program's failure.
 #[derive(Clone, Copy, Debug)]
 pub(crate) enum Failure {
-    /// The words ask for nothing.
+    /// The words are none that the program takes.
     Usage,
     /// The file couldn't be read.
     Unreadable,
@@ -16,13 +16,13 @@ pub(crate) enum Failure {
     NoModule(usize),
     /// The file is no rule file; its first fault is on this line.
     NoRules(usize),
-    /// A variable of the set's clauses isn't one of the set's.
+    /// A clause names a variable that the set doesn't have.
     NoSuchSet,
     /// A graph has too many gates for clauses.
     TooLarge,
     /// The checker refused the log of a refutation.
     RefusedLog,
-    /// Memory is wanting.
+    /// Want of memory.
     NoMemory,
     /// The clock couldn't be read.
     Clock,

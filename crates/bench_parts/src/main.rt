@@ -1,8 +1,8 @@
 //! Measures parts of the work: how modules are read, how sets of clauses are searched, and how rules are decided.
 //!
-//! Its words are `read MODULE`, `search SET [untimed]` or `verify RULES CONFLICTS [untimed | --dimacs FOLDER]`, of
-//! which the modules `reading`, `searching` and `deciding` say more. Without words it reads three modules that it
-//! makes, searches the set of 7 pigeons, and decides the rules of `rules.alive`, and tells no times. Its status is 0
+//! Its words are `read MODULE`, `search SET [untimed]` or `verify RULES CONFLICTS [untimed | --dimacs FOLDER]`; the
+//! modules `reading`, `searching` and `deciding` say more. Without words it reads three modules that it generates,
+//! searches the pigeonhole set of 7 pigeons, and decides the rules of `rules.alive`, without times. Its status is 0
 //! unless it fails; then a line on the error stream says why.
 #![tactic(auto)]
 
@@ -36,7 +36,7 @@ fn run_each(rt: HostRuntime) -> Result<(), Failure> {
     decide_few(rt)
 }
 
-/// Does the part that the words name, of which the first is the program's own name.
+/// Does the part that the words name; the first word is the program's own name.
 fn run_part(rt: HostRuntime, words: &[String]) -> Result<(), Failure> {
     match words {
         [_] => run_each(rt),
@@ -59,7 +59,7 @@ fn main(rt: HostRuntime) -> ExitCode {
     match run(rt) {
         Ok(()) => ExitCode::SUCCESS,
         Err(failure) => {
-            // the status tells of a failure even where the error stream can't be written
+            // the status tells of the failure even where the error stream can't be written
             let _ = eprintln!(rt; "{failure}");
             ExitCode::FAILURE
         }

@@ -9,7 +9,7 @@ use clauses::{Cnf, Step};
 use rup_checker::check_refutation;
 use std::time::{Duration, Instant};
 
-/// How large a log is: its clauses, their literals, and their hints.
+/// The size of a log: its clauses, their literals, and their hints.
 #[derive(Clone, Copy, Debug)]
 pub(crate) struct LogSize {
     pub(crate) clauses: usize,
@@ -17,8 +17,8 @@ pub(crate) struct LogSize {
     pub(crate) hints: usize,
 }
 
-/// What a search came to. The learned clauses of a refutation include the empty one that ends it, and
-/// the checker found that its log refutes the set.
+/// What a search came to. The learned clauses of a refutation include the empty one that ends it, and the checker found
+/// that the log refutes the set.
 #[derive(Clone, Copy, Debug)]
 pub(crate) enum Outcome {
     Sat,

@@ -1,6 +1,6 @@
-//! Sets of clauses that are searched, and the checker of logs beside the search.
+//! Searches sets of clauses, and checks the logs.
 //!
-//! The words are `random INPUTS CLAUSES SEED`, `pigeonhole PIGEONS` or `parity INPUTS SEED`, and `untimed` after them
+//! The words are `random INPUTS CLAUSES SEED`, `pigeonhole PIGEONS` or `parity INPUTS SEED`, and `untimed` behind them
 //! leaves the times out.
 
 mod clause_sets;
@@ -14,7 +14,7 @@ use clause_sets::Family;
 use command::Command;
 use measurement::Measurement;
 
-/// After so many learned clauses the search gives up.
+/// The most clauses that a search may learn.
 const LIMIT: u32 = 1_000_000;
 
 /// Searches the set that the command names, and prints the line.
@@ -34,7 +34,7 @@ pub(crate) fn search_named(rt: &HostRuntime, words: &[String]) -> Result<(), Fai
     measure(rt, command)
 }
 
-/// Searches the set of 7 pigeons, and tells no times.
+/// Searches the pigeonhole set of 7 pigeons, without times.
 pub(crate) fn search_pigeons(rt: &HostRuntime) -> Result<(), Failure> {
     let command = Command {
         family: Family::Pigeonhole { pigeons: 7 },

@@ -13,17 +13,17 @@ use Rattle.command_line.specs.declared.descriptions.Described.{Described}
 use Rattle.command_line.specs.Descriptions.{rule_described, shape_described, IsDescribedArgument}
 use Rattle.command_line.specs.Leaf.{IsLeaf}
 
--- one more, behind those that were made so far
+-- one more element goes with its description
 pub zip_more : {X Y : Type 0} (R : X → Y → Type 0) (xs : List X) (ys : List Y) (i : ℕ) (x : X) (y : Y) → i < length xs → AllZip R (take i xs) ys → R (get_or xs i x) y
     → AllZip R (take (i + 1) xs) (ys ++ y ∷ [])
 zip_more {X} R xs ys i x y within so_far new =
     subst (λ (zs : List X). AllZip R zs (ys ++ y ∷ [])) (sym (take_more xs i x within)) (all_zipped_more R (take i xs) ys (get_or xs i x) y so_far new)
 
--- a command of this name with these arguments, and without commands
+-- a command with this name and these arguments, and no subcommands
 abbrev leaf : Text → List Rule → App
 leaf name rules = record { top = record (new_shape name) { rules = rules }; subs = [] }
 
--- arguments that are added in turn stand behind those that the command has
+-- arguments that are added one by one come behind those that the command has
 pub rules_in_turn : (described : List Argument) (arguments : List Arg) (name : Text) (before : List Rule) (old new : Command) → app_of old ≡ leaf name before
     → AllZip IsDescribedArgument described arguments → AddsInTurn AddsArg old arguments new → app_of new ≡ leaf name (before ++ map rule_described described)
 rules_in_turn [] [] name before old new e are adds = ap app_of (sym adds) ∙ e ∙ ap (leaf name) (sym (append-nil before))
@@ -36,7 +36,7 @@ rules_in_turn (d ∷ ds) (x ∷ xs) name before old new e are (m, step, adds) =
 abbrev pub with_described : App → Described → App
 with_described app described = with_subcommand app (shape_described described)
 
--- commands that are added in turn
+-- the same of subcommands
 pub subs_in_turn : (described : List Described) (commands : List Command) (old new : Command) → AllZip (λ one. IsLeaf (shape_described one)) described commands
     → AddsInTurn AddsSubcommand old commands new → app_of new ≡ fold with_described (app_of old) described
 subs_in_turn [] [] old new are adds = ap app_of (sym adds)

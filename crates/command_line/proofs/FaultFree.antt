@@ -1,4 +1,4 @@
--- Where `clap` finds no fault in the words, it takes them.
+-- Where the model of `clap` finds no fault in the words, it takes them.
 use Rattle.std.proofs.Common.{◌≡◌, ℕ, zero, suc, ◌≤◌, Bool, true, false, ◌&&◌, ◌||◌, List, [], ◌∷◌, Option, Some, None, length, ap, ap₂, refl, sym, ◌∙◌, arith, nat_lt, ◌==◌, drop, codes}
 use Rattle.std.specs.Prelude.{not, is_some, find, if◌then◌else◌, slice_get, encode_utf8}
 use Rattle.std.specs.List.{list_all, list_any}
@@ -20,7 +20,7 @@ use Rattle.clap.specs.Faults as fault
 use Rattle.clap.specs.Takes as pass
 use Rattle.clap.proofs.WalkLemmas.{both}
 
--- ---- tests and lists of kinds
+-- ---- tests, and lists of kinds of errors
 
 both_hold : (a b : Bool) → a ≡ true → b ≡ true → (a && b) ≡ true
 both_hold a b p q = ap₂ (λ x y. x && y) p q
@@ -49,7 +49,7 @@ option_holds : {X : Type 0} (f : X → Kinds) (g : X → Bool) → ((x : X) → 
 option_holds f g each None e = refl
 option_holds f g each (Some x) e = each x e
 
--- ---- one use of an argument
+-- ---- the values of one occurrence of an argument
 
 values_pass : (ic : Bool) (p : ValueParser) (vs : List Text) → values_kinds ic p vs ≡ [] → list_all (accepts ic p) vs ≡ true
 values_pass ic p [] e = refl
@@ -103,7 +103,7 @@ use_passes again a vs rows e =
     let range = range_passes (unwrap_or_range a.range).start_inclusive (most_values a) (length vs) parts.0 in
     both_hold _ _ (le-leb _ _ range.0) (both_hold _ _ (le-leb _ _ range.1) (action_passes (action_of a) again a (values_or_missing a vs) rows parts.1))
 
--- ---- the walk
+-- ---- the loop over the words
 
 settle_passes : (c : List Rule) (again : Bool) (h : Held) → fault.settle_fault c again h ≡ [] → pass.settle_passes c again h ≡ true
 settle_passes c again h e = option_holds _ _ (λ p. option_holds _ _ (λ a. use_passes again a p.1 h.rows) (arg_by_id c p.0)) h.pending e
@@ -186,9 +186,9 @@ walk_passes s names w (word ∷ rest) e =
     let parts = neither (fault.turn_fault s names w word) _ e in
     both_hold _ _ (turn_passes s names w word parts.0) (walk_passes s names (walked s.rules names w word) rest parts.1)
 
--- ---- after the walk
+-- ---- checks behind the loop
 
--- what `takes` asks of the arguments alone
+-- the checks of a definition that concern its arguments alone
 abbrev pub has_sound_rules : Shape → Bool
 has_sound_rules s = list_all pass.default_passes s.rules && list_all (λ a. a.is_free) s.rules
 
@@ -249,7 +249,7 @@ found_passes p q (y ∷ ys) x e h = go (p y) (λ k. found_passes p q ys x k (bot
     go true rest e = let same : y ≡ x = cc in ap q (sym same) ∙ (both (q y) _ h).0
     go false rest e = rest e
 
--- where no kind of error is to be feared, the words are taken
+-- where no kind of error is possible, the words are taken
 pub no_fault_takes : (a : App) (words : List Text) → is_simple a ≡ true → is_sound (built a) ≡ true → fault.fault_of a words ≡ [] → pass.takes a words ≡ true
 no_fault_takes a words simple sound e =
     let b = built a in

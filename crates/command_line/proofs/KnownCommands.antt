@@ -55,7 +55,7 @@ recheck_plain : ArePlain recheck_leaf.rules
 unfolding clap_on_literals
 recheck_plain = (record { first = refl; plain = refl }, (record { first = refl; plain = refl }, (record { first = refl; plain = refl }, (record { first = refl; plain = refl }, tt))))
 
--- a text that the parser of a flag takes is `true` or `false`
+-- a text that a flag's parser takes is `true` or `false`
 truth_of : (rows : List Row) (argument text : Text) → first_of argument rows ≡ Some text → one_of argument rows ≡ Some text → (bytes_eq text (codes "true") || bytes_eq text (codes "false")) ≡ true → HasTruth rows argument
 truth_of rows argument text first one ok = go (bytes_eq text (codes "true")) refl ok
   where

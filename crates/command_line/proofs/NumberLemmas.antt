@@ -1,4 +1,4 @@
--- What a getter of clap's matches reads of a number that passed its parser.
+-- What a getter of `clap`'s matches reads of a number that passed its value parser.
 use Rattle.std.proofs.Common.{◌≡◌, ℕ, ◌<◌, ◌^◌, Option, Some, None, Result, Ok, Err, ap, ◌∙◌, arith}
 use Rattle.std.specs.Str.Parse.{ParsesUnsigned}
 use Rattle.clap.specs.Words.{ReadsOne, Text, one_text, rows_of}

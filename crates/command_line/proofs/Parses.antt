@@ -1,4 +1,4 @@
--- What a parse by the program's definition says of the words.
+-- What parsing by the program's definition says of the words.
 use Rattle.std.proofs.Common.{◌≡◌, Bool, true, false, List, [], ap, refl, sym, subst, ◌∙◌}
 use Rattle.std.specs.Fmt.{digits}
 use Rattle.clap.specs.Words.{App, HasMatchesOf, Text, fault_of, is_simple, is_simple_and_free, subcommand_of, subcommand_rows_of, takes}

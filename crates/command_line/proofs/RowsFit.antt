@@ -1,4 +1,4 @@
--- Where `clap` takes the words, each row of its matches has values, and they passed the parser of their argument.
+-- Where `clap` takes the words, each row of its matches has values that passed their argument's value parser.
 use Rattle.std.proofs.Common.{◌≡◌, ℕ, zero, suc, ◌<◌, Bool, true, false, ◌&&◌, ◌||◌, List, [], ◌∷◌, ◌++◌, Option, Some, None, length, ap, ap₂, refl, sym, ◌∙◌, arith, nat_le, drop, subst}
 use Rattle.std.specs.Prelude.{not, is_some, find, fold, if◌then◌else◌, slice_get, encode_utf8}
 use Rattle.std.specs.List.{AllByRecursion, list_all, list_any}
@@ -23,13 +23,13 @@ use Rattle.clap.proofs.WalkLemmas.{both}
 
 -- ---- rows
 
--- the row has values, which passed the parser of the argument, and are read as the parser says
+-- the row has values that passed the argument's value parser, and are read as that says
 pub record IsOf (a : Rule) (r : Row) : Type 0 where
   pub some : 0 < length r.values
   pub pass : pass.values_pass a r.values ≡ true
   pub reading : r.reading ≡ reading_by a
 
--- and so with the argument that has the row's name
+-- the same for the argument whose name the row has
 abbrev pub Fits : List Rule → Row → Type 0
 Fits c r = (a : Rule) → arg_by_id c r.id ≡ Some a → IsOf a r
 
@@ -52,10 +52,10 @@ at_row_all P id change missing absent each (r ∷ rs) h = go (bytes_eq r.id id) 
     go true is rest = all_append P (change r) rs (each r is h.0) h.1
     go false is rest = (h.0, rest)
 
--- ---- one use of an argument
+-- ---- one occurrence of an argument
 
--- what is asked of an argument: it is the first of its name, and takes one value or more where it is used, or stands
--- for one
+-- what is required of an argument: it is the first of its name, and takes one value or more where it occurs, or has one
+-- that stands for it
 abbrev takes_some : ArgAction → Rule → Bool
 takes_some Set a = nat_le 1 (unwrap_or_range a.range).start_inclusive
 takes_some Append a = nat_le 1 (unwrap_or_range a.range).start_inclusive
@@ -140,7 +140,7 @@ module _ (c : List Rule) where
       go HelpLong t vs least ok = cc
       go Version t vs least ok = cc
 
--- ---- the walk
+-- ---- the loop over the words
 
 module _ (c : List Rule) (are : ArePlain c) (again : Bool) where
   plain_in : (p : Rule → Bool) (a : Rule) → find p c ≡ Some a → IsPlainIn c a
@@ -166,7 +166,7 @@ module _ (c : List Rule) (are : ArePlain c) (again : Bool) where
   option_fit a (Some v) h is ok fit = reacted_fit a (v ∷ []) h is ok fit
   option_fit a None h is ok fit = settled_fit h ok fit
 
-  -- a flag by its long name
+  -- a flag or an option by its long name
   long_fit : (o : Option Rule) (v : Option Text) (h : Held) → ((a : Rule) → o ≡ Some a → IsPlainIn c a) → pass.long_passes c again o v h ≡ true → AllFit c h.rows → AllFit c (long_met c o v h).0.rows
   long_fit None v h is ok fit = fit
   long_fit (Some a) v h is ok fit = go (takes_values a) v ok
@@ -200,7 +200,7 @@ module _ (c : List Rule) (are : ArePlain c) (again : Bool) where
           short_fit (arg_by_short c x) rest h (bundle_met c k rest 0 done) (pass.flags_pass c again k rest 0) (λ a e. plain_in _ a e) (more rest 0 done) ok fit
       go more (Some x) (suc n) ok = more (drop (length (encode_utf8 x)) flags) n so_far h ok fit
 
-  -- a word that waits for a value keeps the rows
+  -- a plain word, whatever argument it is a value of, changes no row yet
   plain_word_rows : (w : Waiting) (word : Text) (h : Held) → (plain_word c w word h).0.rows ≡ h.rows
   plain_word_rows idle word h = refl
   plain_word_rows positional word h = refl
@@ -228,7 +228,7 @@ module _ (c : List Rule) (are : ArePlain c) (again : Bool) where
       go None ok = kept_by _ _ (plain_word_rows w word h) fit
       go (Some flags) ok = kept_by _ _ (after_flag_rows w word (bundle c flags h).0 (bundle c flags h).1) (bundle_fit (length flags) flags h.skip plain (record h { skip = 0 }) ok fit)
 
--- ---- a level of the parse
+-- ---- one subcommand's level
 
 module _ (s : Shape) (are : ArePlain s.rules) where
   abbrev rows_of_word : Names → Walk → Text → List Row
@@ -283,7 +283,7 @@ module _ (s : Shape) (are : ArePlain s.rules) where
       let parts = both (pass.turn_passes s names w word) _ ok in
       walk_fit names rest (walked s.rules names w word) parts.1 (turn_fit names w word parts.0 fit)
 
--- ---- after the walk
+-- ---- defaults behind the loop
 
 default_fit : (c : List Rule) (a : Rule) (rows : List Row) → IsPlainIn c a → pass.default_passes a ≡ true → AllFit c rows → AllFit c (with_default rows a)
 default_fit c a rows is ok fit = go (has_row a.id rows)
@@ -305,7 +305,7 @@ defaults_fit c (a ∷ xs) rows are ok fit =
     let parts = both (pass.default_passes a) _ ok in
     defaults_fit c xs (with_default rows a) are.1 parts.1 (default_fit c a rows are.0 parts.0 fit)
 
--- a row with this name is there, and stays there
+-- a row of this name is there from then on
 has_new : (id : Text) (how : Reading) (s : ValueSource) (vs : List Text) (rows : List Row) → has_row id (with_values id how s vs rows) ≡ true
 has_new id how s vs [] = rw ((bytes_eq-Decides id id).1 refl) refl
 has_new id how s vs (r ∷ rs) = go (bytes_eq r.id id) refl (has_new id how s vs rs)
@@ -367,9 +367,9 @@ given_has id (r ∷ rs) h = go (bytes_eq r.id id) h (given_has id rs)
     go true h rest = refl
     go false h rest = rest h
 
--- ---- what an argument has
+-- ---- the values of an argument
 
--- the argument has a value, which passed its parser
+-- the argument has a value that passed its value parser
 pub record HasValueOf (rows : List Row) (a : Rule) : Type 0 where
   pub text : Text
   pub first : first_of a.id rows ≡ Some text
@@ -395,7 +395,7 @@ value_there c a (r ∷ rs) first fit h = go (bytes_eq r.id a.id) refl h (value_t
         record { text = v.0; first = rw is v.1; one = rw is v.2; pass = v.3 }
     go false is h rest = let v = rest h in record { text = v.text; first = rw is v.first; one = rw is v.one; pass = v.pass }
 
--- an argument that is required, or has a default
+-- the argument is required or has a default
 abbrev pub is_always_there : Rule → Bool
 is_always_there a = a.required || not (is_empty a.defaults)
 
@@ -411,7 +411,7 @@ each_there c rows fit (a ∷ xs) are defaults asked =
     has false false t h d = d refl
     has false true t h d = cc
 
--- in the matches of a subcommand that takes the words, each such argument has a value
+-- where a subcommand takes the words, each such argument has a value
 pub leaf_values : (s : Shape) (words : List Text) → ArePlain s.rules → pass.level_passes s [] nothing_held words false ≡ true
     → AllByRecursion (λ a. is_always_there a ≡ true → HasValueOf (rows_after s.rules [] words) a) s.rules
 leaf_values s words are ok =

@@ -20,7 +20,7 @@ use Rattle.std.proofs.lemmas.List.Folds.{list_all_at, list_all_more, list_all-ma
 own : IsNumeralModel (λ ds. all_ascii_digits ds ≡ true) (digits_value 10)
 own = numerals_by_value _ tells_all_ascii_digits
 
--- the parts of `is_width`
+-- what `is_width` tests
 record IsWidth (text : List ℕ) : Type 0 where
   digits : all_ascii_digits text ≡ true
   least : 1 ≤ number text
@@ -60,7 +60,7 @@ module _ {E : Type 0} (text : List ℕ) (r : Result ℕ E) (parsed : ParsesUnsig
       let small : number text < 2 ^ 32 = omega (arith, p.most) in
       never (number text) (parse_gives own 32 text r parsed p.digits (not_empty text p.least) small) p.least p.most)
 
--- without a hyphen the item is both its ends
+-- an item without a hyphen is both ends of its span
 pub no_hyphen : (item : List ℕ) → position_or_len is_hyphen item ≡ length item → item ≡ last_of_item item
 no_hyphen item e = rw (list_any-position is_hyphen item, e, ltb-refl (length item)) refl
   where
@@ -71,7 +71,7 @@ no_hyphen item e = rw (list_any-position is_hyphen item, e, ltb-refl (length ite
     ltb-refl : (n : ℕ) → nat_lt n n ≡ false
     ltb-refl n = grind (arith, nat_tests)
 
--- one more number of a loop that counts from 1
+-- the loop counts one number further
 pub filter-up_to : (p : ℕ → Bool) (n : ℕ) → 1 ≤ n → filter p (up_to (n + 1 - 1)) ≡ filter p (up_to (n - 1)) ++ filter p (n ∷ [])
 unfolding up_to
 filter-up_to p zero h = absurd (omega arith)
@@ -111,7 +111,7 @@ module _ (xs : List (Bor (List ℕ))) (i : ℕ) (x : Bor (List ℕ)) (lt : i < l
         ap₂ (λ a b. a ++ b ∷ []) so_far.1 one.1 ∙ sym (ap (map (λ item. span_in item.now)) (take_more xs i x lt) ∙ map-append (λ item. span_in item.now) (take i xs) (get_or xs i x ∷ [])),
       )
 
--- what is said of the items as texts, and of a list of references to them
+-- the items as texts, and as references in the code
 module _ (refs : List (Bor (List ℕ))) (text : List ℕ) (same : map (λ item. item.now) refs ≡ items text) where
   pub form_of : list_all (λ item. is_item item.now) refs ≡ is_width_list text
   form_of = sym (list_all-map is_item (λ item. item.now) refs) ∙ ap (list_all is_item) same

@@ -1,4 +1,4 @@
--- Arguments that have their values, as a command is read from them.
+-- Arguments that have the values that reading a command needs.
 use Rattle.std.specs.Prelude.{◌≡◌, ◌⊎◌, ℕ, Bool, true, false, List, Some, codes, is_some}
 use Rattle.clap.specs.Words.{IsUnsignedIn, Row, Text, first_of, one_of}
 use Rattle.command_line.specs.Limits.{most_conflicts, most_steps, most_blocks, most_number}
@@ -12,16 +12,16 @@ use Rattle.command_line.specs.declared.command.CommandError.TheVariants.{Usage, 
 abbrev pub HasValue : List Row → Text → Type 0
 HasValue rows argument = is_some (first_of argument rows) ≡ true
 
--- the argument has a number from 0 to `most`, which is read as it is written
+-- the argument has a number from 0 to `most`, which the getter reads as it is written
 abbrev pub HasNumberUpTo : ℕ → List Row → Text → Type 0
 HasNumberUpTo most rows argument = (text : Text) × (first_of argument rows ≡ Some text) × (one_of argument rows ≡ Some text) × IsUnsignedIn 0 most text
 
--- the flag has one of its two texts, which is read as it is written
+-- the flag has one of its two texts, which the getter reads as it is written
 abbrev pub HasTruth : List Row → Text → Type 0
 HasTruth rows argument = (flag : Bool) × HasFlag rows argument flag × (one_of argument rows ≡ first_of argument rows)
 
--- each argument of `verify` has its value, and so of `optimise`, of `run`, whose ARGs may be none, of `load` and of
--- `recheck`
+-- each argument of `verify` has its value; below the same of `optimise`, of `run` (whose ARGs may be none), of `load`
+-- and of `recheck`
 pub record HasVerify (rows : List Row) : Type 0 where
   pub rules_file : HasValue rows (codes "rules")
   pub width_list : HasValue rows (codes "widths")
@@ -47,12 +47,12 @@ pub record HasRecheck (rows : List Row) : Type 0 where
   pub logs_file : HasValue rows (codes "logs")
   pub most_conflicts : HasNumberUpTo most_conflicts rows (codes "conflicts")
 
--- usage comes only with a list of widths outside its form, and names it
+-- a usage error comes only of a list of widths that is malformed, and names it
 abbrev pub RefusesList : List Row → CommandError → Type 0
 RefusesList rows NoMemory = Unit {0}
 RefusesList rows (Usage text) = (list : Text) × HasText rows (codes "widths") list × (is_width_list list ≡ false) × (text.items ≡ refusal_of_list list)
 
--- usage comes only where the words aren't taken
+-- a usage error comes only of words that `clap` doesn't take
 abbrev pub IsUntaken : List Text → CommandError → Type 0
 IsUntaken words NoMemory = Unit {0}
 IsUntaken words (Usage text) = are_taken words ≡ false
@@ -63,7 +63,7 @@ IsKnown said = ((said.0 ≡ codes "verify") × HasVerify said.1) ⊎ (((said.0 �
     ⊎ (((said.0 ≡ codes "run") × HasRun said.1)
     ⊎ (((said.0 ≡ codes "load") × HasLoad said.1) ⊎ ((said.0 ≡ codes "recheck") × HasRecheck said.1))))
 
--- usage comes only with LIST outside its form, and names it
+-- a usage error comes only of a LIST that is malformed, and names it
 abbrev pub RefusesGiven : Text × List Row → CommandError → Type 0
 RefusesGiven said NoMemory = Unit {0}
 RefusesGiven said (Usage text) = (list : Text) × (list_of (Some said) ≡ Some list) × (is_width_list list ≡ false) × (text.items ≡ refusal_of_list list)

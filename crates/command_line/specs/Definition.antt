@@ -1,4 +1,4 @@
--- The command line as `clap` sees its definition.
+-- The definition of the command line, as the model of `clap` has it.
 use Rattle.std.specs.Prelude.{ℕ, true, false, [], ◌∷◌, Some, codes, decimal}
 use Rattle.clap.specs.Words.{App, Rule, Shape, Text, new_rule}
 use Rattle.clap.specs.Simple.{new_shape}
@@ -6,15 +6,15 @@ use Rattle.clap.specs.declared.builder.action.ArgAction.TheVariants.{Append, Set
 use Rattle.clap.specs.declared.builder.value_parser.ValueParser.TheVariants.{Unsigned}
 use Rattle.command_line.specs.Limits.{most_conflicts, most_steps, most_blocks, most_number, default_conflicts, default_steps}
 
--- an argument that has to be given: by its place, and not by an option
+-- a positional argument that has to be given
 abbrev pub required_argument : Text → Rule
 required_argument name = record (new_rule name) { value_names = 1; required = true }
 
--- the same where the word is a number from 0 to `most`
+-- such an argument that is a number from 0 to `most`
 abbrev pub required_number : Text → ℕ → Rule
 required_number name most = record (required_argument name) { parser = Some (Unsigned 0 most) }
 
--- the words that follow in their places, of which there may be none
+-- all further positional arguments, of which there may be none
 abbrev pub repeated_argument : Text → Rule
 repeated_argument name = record (new_rule name) { value_names = 1; action = Some Append }
 
@@ -22,15 +22,15 @@ repeated_argument name = record (new_rule name) { value_names = 1; action = Some
 abbrev pub optional_argument : Text → Rule
 optional_argument name = record (new_rule name) { long = Some name; value_names = 1 }
 
--- the same with a value that stands for it where it is left out
+-- an option `--NAME` with a value, and its default
 abbrev pub option_argument : Text → Text → Rule
 option_argument name default = record (optional_argument name) { defaults = default ∷ [] }
 
--- the same where the value is a number from 0 to `most`
+-- an option `--NAME` with a number from 0 to `most`, and its default
 abbrev pub number_argument : Text → ℕ → Text → Rule
 number_argument name most default = record (option_argument name default) { parser = Some (Unsigned 0 most) }
 
--- a flag `--NAME`, which may stand among the words
+-- a flag `--NAME`
 abbrev pub flag_argument : Text → Rule
 flag_argument name = record (new_rule name) { long = Some name; action = Some SetTrue }
 

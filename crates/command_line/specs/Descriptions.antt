@@ -1,4 +1,4 @@
--- What the descriptions of commands say.
+-- What the code's descriptions of commands stand for.
 use Rattle.std.specs.Prelude.{◌≡◌, true, false, List, [], map, fold}
 use Rattle.clap.specs.Words.{App, Rule, Shape, Text, rule_of, with_subcommand}
 use Rattle.clap.specs.Simple.{new_shape}
@@ -23,7 +23,7 @@ rule_of_kind name Flag = flag_argument name
 abbrev pub rule_described : Argument → Rule
 rule_described argument = rule_of_kind argument.name.now argument.kind
 
--- the argument is the one that is described, and stands for its own command alone
+-- the argument is the one that is described, and belongs to its own command alone
 abbrev pub IsDescribedArgument : Argument → Arg → Type 0
 IsDescribedArgument described argument = (rule_of argument ≡ rule_described described) × (argument.global ≡ false)
 

@@ -1,11 +1,11 @@
--- What holds of the words of every command line.
+-- Laws of all command lines.
 use Rattle.std.specs.Prelude.{◌≡◌, List, map, option_map}
 use Rattle.clap.specs.Words.{Text}
 use Rattle.command_line.specs.Words.{Says}
 use Rattle.command_line.specs.declared.command.Command.{Command}
 use Rattle.command_line.specs.declared.command.Command.TheVariants.{Verify, Optimise, Run, Load, Recheck}
 
--- the same command, of the same files, name, arguments, options and number
+-- the commands are the same, with the same files, name, arguments, options and number
 abbrev pub SameCommand : Command → Command → Type 0
 SameCommand (Verify rules options) (Verify rules' options') = (rules.now ≡ rules'.now) × (options ≡ options')
 SameCommand (Optimise rules source logs options) (Optimise rules' source' logs' options') =
@@ -16,6 +16,6 @@ SameCommand (Load number) (Load number') = number ≡ number'
 SameCommand (Recheck rules logs options) (Recheck rules' logs' options') = (rules.now ≡ rules'.now) × (logs.now ≡ logs'.now) × (options ≡ options')
 SameCommand _ _ = ⊥
 
--- words say one command
+-- the words of a command line say at most one command
 abbrev pub WordsSayOneCommand : Type 0
 WordsSayOneCommand = (words : List Text) (a b : Command) → Says words a → Says words b → SameCommand a b

@@ -1,4 +1,4 @@
--- The limits of the options, and what stands where the words tell none.
+-- The limits of the options, and their defaults.
 use Rattle.std.specs.Prelude.{ℕ, ◌≤◌}
 use Rattle.command_line.specs.declared.command.Command.{Command}
 use Rattle.command_line.specs.declared.command.Command.TheVariants.{Verify, Optimise, Run, Load, Recheck}
@@ -15,15 +15,15 @@ most_steps = 100000
 abbrev pub most_blocks : ℕ
 most_blocks = 100000000
 
--- the greatest number of which a module is made
+-- the greatest number from which a module is generated
 abbrev pub most_number : ℕ
 most_number = 4294967295
 
--- the most clauses that a search may learn where the words tell no number
+-- the default of `--conflicts`
 abbrev pub default_conflicts : ℕ
 default_conflicts = 20000
 
--- the most rewrites of a function where the words tell no number
+-- the default of `--steps`
 abbrev pub default_steps : ℕ
 default_steps = 10000
 

@@ -1,4 +1,4 @@
--- The widths from one to another that an item of a list names.
+-- The span of widths that an item of a list names.
 use Rattle.std.specs.Prelude.{ℕ, ◌==◌, ◌&&◌, ◌||◌, slice_index, Bool, List, Option, Some, None, if◌then◌else◌, nat_le}
 use Rattle.std.specs.List.{list_any}
 use Rattle.command_line.specs.Widths.{number, is_width, is_item, first_of_item, last_of_item}
@@ -7,7 +7,7 @@ use Rattle.command_line.specs.declared.widths.Span.{Span}
 abbrev pub begins_with_zero_or_plus : List ℕ → Bool
 begins_with_zero_or_plus text = (slice_index text 0 == 48) || (slice_index text 0 == 43)
 
--- what the texts of a width and of an item give, where they have their form
+-- the width that a text is, and below the span that an item is, where they are well-formed
 abbrev pub width_of : List ℕ → Option ℕ
 width_of text = if is_width text then Some (number text) else None
 

@@ -1,4 +1,4 @@
--- When words are no command, and the text that says so.
+-- When words say no command, and the text for the error stream then.
 use Rattle.std.specs.Prelude.{◌≡◌, ◌⊎◌, false, List, ◌++◌, Option, Some, None, if◌then◌else◌, codes}
 use Rattle.std.specs.Str.{bytes_eq}
 use Rattle.clap.specs.Words.{Row, Text, first_of}
@@ -15,15 +15,15 @@ list_of (Some said) = if bytes_eq said.0 (codes "verify") then first_of (codes "
 abbrev pub list_given : List Text → Option Text
 list_given words = list_of (command_and_rows words)
 
--- LIST is outside its form
+-- LIST is malformed
 abbrev pub HasBadList : List Text → Text → Type 0
 HasBadList words text = (list_given words ≡ Some text) × (is_width_list text ≡ false)
 
--- the text on a LIST outside its form
+-- the text for a LIST that is malformed
 abbrev pub refusal_of_list : Text → Text
 refusal_of_list text = codes "error: widths " ++ text ++ codes "\n"
 
--- usage comes only where the words aren't taken, or where LIST is outside its form
+-- a usage error comes only of words that `clap` doesn't take, or of a LIST that is malformed
 abbrev pub IsUsageOf : List Text → CommandError → Type 0
 IsUsageOf words NoMemory = Unit {0}
 IsUsageOf words (Usage text) = (are_taken words ≡ false) ⊎ ((list : Text) × HasBadList words list)

@@ -11,7 +11,7 @@ is_comma b = b == 44
 abbrev pub is_hyphen : ℕ → Bool
 is_hyphen b = b == 45
 
--- the number that digits write
+-- the number that decimal digits spell
 abbrev pub number : List ℕ → ℕ
 number digits = digits_value 10 digits
 
@@ -19,26 +19,26 @@ number digits = digits_value 10 digits
 abbrev pub is_width : List ℕ → Bool
 is_width text = all_ascii_digits text && not (slice_index text 0 == 48) && nat_le 1 (number text) && nat_le (number text) 64
 
--- of an item `a` or `a-b`: the text a, and the text b, which is a where there is none
+-- the ends of an item, which is `a` or `a-b`: a, and b, which is a where it is missing
 abbrev pub first_of_item : List ℕ → List ℕ
 first_of_item item = before_first is_hyphen item
 
 abbrev pub last_of_item : List ℕ → List ℕ
 last_of_item item = if list_any is_hyphen item then after_first is_hyphen item else item
 
--- the item is of this form, with a <= b
+-- the item is well-formed: two widths, the first not above the second
 abbrev pub is_item : List ℕ → Bool
 is_item item = is_width (first_of_item item) && is_width (last_of_item item) && nat_le (number (first_of_item item)) (number (last_of_item item))
 
--- the width stands from a to b
+-- the item's span holds the width
 abbrev pub names : ℕ → List ℕ → Bool
 names width item = nat_le (number (first_of_item item)) width && nat_le width (number (last_of_item item))
 
--- the items of a list, which commas join
+-- the items of a list, without the commas between them
 abbrev pub items : List ℕ → List (List ℕ)
 items text = slice_split is_comma text
 
--- each item is of the form
+-- each item is well-formed
 abbrev pub is_width_list : List ℕ → Bool
 is_width_list text = list_all is_item (items text)
 
@@ -47,7 +47,7 @@ unfoldable pub up_to : ℕ → List ℕ
 up_to zero = []
 up_to (suc n) = up_to n ++ suc n ∷ []
 
--- the widths that some item names, in order and each once
+-- the widths in some item's span, ascending and each once
 abbrev pub widths_named : List ℕ → List ℕ
 widths_named text = filter (λ width. list_any (names width) (items text)) (up_to 64)
 

@@ -15,27 +15,27 @@ use Rattle.command_line.specs.declared.command.VerifyOptions.{VerifyOptions}
 unfoldable pub are_taken : List Text → Bool
 are_taken words = takes program words
 
--- the command that the words name, and what `clap` found for its arguments: the words, or defaults
+-- the name of the command, and the rows of its arguments: what `clap` took from the words, or defaults
 unfoldable pub command_and_rows : List Text → Option (Text × List Row)
 command_and_rows words = subcommand_of program words
 
--- the number that a word says: digits, which may stand behind a plus sign
+-- the number that a word spells: digits, with an optional plus sign before them
 abbrev pub number_said : Text → ℕ
 number_said word = digits_value 10 (without_leading_plus word)
 
--- the text of an argument
+-- the argument has this one text
 abbrev pub HasText : List Row → Text → Text → Type 0
 HasText rows argument text = first_of argument rows ≡ Some text
 
--- the text of an argument that may be left out
+-- the argument has this text, or may be left out
 abbrev pub MayHaveText : List Row → Text → Option Text → Type 0
 MayHaveText rows argument text = first_of argument rows ≡ text
 
--- all the texts of an argument, in order, of which there may be none
+-- the argument has these texts, in order; there may be none
 abbrev pub HasTexts : List Row → Text → List Text → Type 0
 HasTexts rows argument texts = unwrap_or (all_of argument rows) [] ≡ texts
 
--- the number of an argument
+-- the argument has this number
 abbrev pub HasNumber : List Row → Text → ℕ → Type 0
 HasNumber rows argument number = option_map number_said (first_of argument rows) ≡ Some number
 

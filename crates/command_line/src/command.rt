@@ -1,4 +1,4 @@
-//! The commands, and why words are none.
+//! Commands, and why words are none.
 
 use lists::List;
 use ops::Width;
@@ -16,23 +16,23 @@ pub enum Command<'a> {
     Optimise {
         rules: &'a str,
         module: &'a str,
-        /// A file of proofs, which are asked before there is a search.
+        /// A file of proofs, which are tried before a search.
         logs: Option<&'a str>,
         options: OptimiseOptions,
     },
-    /// Runs the function of this name, which stands without its `@`, on these arguments.
+    /// Runs the function of this name, given without its `@`, on these arguments.
     Run {
         module: &'a str,
         name: &'a str,
-        /// The words that follow the name, in order and as they stand.
+        /// The words behind the name, in order.
         arguments: List<&'a str>,
         options: RunOptions,
     },
-    /// Optimises the module that is made of a number by the built-in rules.
+    /// Optimises the module that is generated from a number, by the built-in rules.
     Load {
         number: u32,
     },
-    /// Decides what the proofs in a file are of, by their logs.
+    /// Decides the rules that the proofs in a file are of, by their logs.
     Recheck {
         rules: &'a str,
         logs: &'a str,

@@ -1,4 +1,4 @@
-//! The command line, as `clap` takes its definition.
+//! The definition of the command line for `clap`.
 
 ghost use Rattle.std.specs.Prelude.{◌≡◌, true, false, IfOk};
 ghost use Rattle.std.specs.List.{AllZip};
@@ -14,7 +14,7 @@ use clap::{Arg, ArgAction, Command};
 use lists::List;
 use std::alloc::{AllocError, Global};
 
-/// An argument that has to be given, by its place.
+/// A positional argument that has to be given.
 fn required_argument<'a>(alloc: Global, name: &'a str, shown: &'a str, help: &'a str) -> Arg<'a>
     ensures rule { rule_of result ≡ required_argument name.entry.now }
     ensures local { result.global ≡ false }
@@ -25,7 +25,7 @@ fn required_argument<'a>(alloc: Global, name: &'a str, shown: &'a str, help: &'a
         .required(true)
 }
 
-/// A number from 0 to `most` that has to be given, by its place.
+/// A positional argument that has to be given, a number from 0 to `most`.
 fn required_number<'a>(
     alloc: Global,
     name: &'a str,
@@ -39,7 +39,7 @@ fn required_number<'a>(
     required_argument(alloc, name, shown, help).value_parser(ValueParser::unsigned(0, most))
 }
 
-/// The words that follow in their places, of which there may be none.
+/// All further positional arguments, of which there may be none.
 fn repeated_argument<'a>(alloc: Global, name: &'a str, shown: &'a str, help: &'a str) -> Arg<'a>
     ensures rule { rule_of result ≡ repeated_argument name.entry.now }
     ensures local { result.global ≡ false }
@@ -164,7 +164,7 @@ fn described_commands<'a>(
     Ok(commands)
 }
 
-/// The program, without its commands, of which one has to be given.
+/// The program without its commands; one command has to be given.
 fn program_alone<'a>(alloc: Global) -> Command<'a>
     ensures { IsLeaf (record program.top { is_leaf = true }) result }
 {

@@ -1,36 +1,36 @@
-//! The commands and their arguments, as they are described.
+//! Descriptions of the commands and of their arguments, from which the definition is built.
 
-/// The most clauses that a search may be told to learn before its verdict is `budget`.
+/// The greatest value of `--conflicts`.
 const MOST_CONFLICTS: u64 = 1_000_000;
 
-/// The most rewrites of a function.
+/// The greatest value of `--steps`.
 const MOST_STEPS: u64 = 100_000;
 
-/// The most blocks that a run may enter.
+/// The greatest value of `--blocks`.
 const MOST_BLOCKS: u64 = 100_000_000;
 
-/// The greatest number of which a module is made.
+/// The greatest NUMBER of `load`.
 const MOST_NUMBER: u64 = 4_294_967_295;
 
-/// How many clauses a search learns before its verdict is `budget`, where the words tell no number.
+/// The default of `--conflicts`: how many clauses a search learns before its verdict is `budget`.
 pub const DEFAULT_CONFLICTS: u32 = 20_000;
 
-/// The most rewrites of a function where the words tell no number.
+/// The default of `--steps`: the most rewrites of a function.
 pub const DEFAULT_STEPS: u32 = 10_000;
 
-/// What a command takes for an argument, and how a value of it is shown.
+/// Kinds of arguments, with how a value is shown in the help.
 #[derive(Clone, Copy)]
 pub(crate) enum Kind {
-    /// A word that has to be given, by its place.
+    /// A positional argument that has to be given.
     Required {
         shown: &'static str,
     },
-    /// A number from 0 to `most` that has to be given, by its place.
+    /// A positional argument that has to be given, a number from 0 to `most`.
     RequiredNumber {
         shown: &'static str,
         most: u64,
     },
-    /// The words that follow in their places, of which there may be none.
+    /// All further positional arguments, of which there may be none.
     Repeated {
         shown: &'static str,
     },
@@ -138,21 +138,21 @@ const NUMBER: Argument = Argument {
     help: "The number that the module is made of",
 };
 
-/// `verify` writes proofs.
+/// `--logs` of `verify`: proofs are written.
 const LOGS_FLAG: Argument = Argument {
     name: "logs",
     kind: Kind::Flag,
     help: "Writes proofs in place of verdicts",
 };
 
-/// `optimise` may be given proofs.
+/// `--logs` of `optimise`: proofs are tried before searches.
 const LOGS_OPTION: Argument = Argument {
     name: "logs",
     kind: Kind::Optional { shown: "LOGS" },
     help: "The file of proofs that are asked before a search",
 };
 
-/// `recheck` has to be given proofs.
+/// LOGS of `recheck`.
 const LOGS: Argument = Argument {
     name: "logs",
     kind: Kind::Required { shown: "LOGS" },

@@ -2,7 +2,7 @@
 
 ghost use Rattle.command_line.specs.Laws.{WordsSayOneCommand};
 
-/// Words say one command.
+/// The words of a command line say at most one command.
 pub fn words_say_one_command()
     ensures one { WordsSayOneCommand }
 {}

@@ -63,7 +63,7 @@ fn flag_of(found: &ArgMatches<'_>, argument: &str) -> bool
     found.get_flag(argument)
 }
 
-/// `clap`'s text on words that it doesn't take.
+/// `clap`'s text for words that it doesn't take.
 fn usage(alloc: Global, error: Error) -> CommandError
     ensures { kind_of error ≡ OutOfMemory → result ≡ CommandError.NoMemory }
 {
@@ -76,7 +76,7 @@ fn usage(alloc: Global, error: Error) -> CommandError
     }
 }
 
-/// What `clap` finds in the words.
+/// What `clap` takes from the words.
 fn parse<'a>(alloc: Global, words: &'a [String]) -> Result<ArgMatches<'a>, CommandError>
     ensures taken { OnOk result (are_taken (map string_bytes words.entry.now) ≡ true) }
     ensures rows { IfOk result (λ found. subcommand_rows_of found ≡ command_and_rows (map string_bytes words.entry.now)) }
@@ -89,7 +89,7 @@ fn parse<'a>(alloc: Global, words: &'a [String]) -> Result<ArgMatches<'a>, Comma
     }
 }
 
-/// The text on a list of widths that is outside its form.
+/// The text for a list of widths that is malformed.
 fn refusal_text(alloc: Global, list: &str) -> Result<Vec<u8>, AllocError>
     ensures { IfOk result (λ text. text.items ≡ refusal_of_list list.now) }
 {
@@ -180,7 +180,7 @@ fn read_recheck<'a>(found: &ArgMatches<'a>) -> Command<'a>
     }
 }
 
-/// The command that the words name, and what `clap` found for its arguments.
+/// The name of the command, and what `clap` took for its arguments.
 fn named<'a, 'm>(matches: &'m ArgMatches<'a>) -> (&'a str, &'m ArgMatches<'a>)
     requires { is_some (subcommand_rows_of matches.now) ≡ true }
     ensures { subcommand_rows_of matches.now ≡ Some (result.0.now, rows_of (found_of result.1.now)) }
@@ -212,10 +212,9 @@ fn read_named<'a>(
     }
 }
 
-/// Reads the command that the words say, of which the first is the program's own name.
+/// Reads the command that the words say; the first word is the program's own name.
 ///
-/// `Usage` has `clap`'s text where it doesn't take the words, and else names the list of widths that is outside its
-/// form.
+/// `Usage` has `clap`'s text where that doesn't take the words, and else names the list of widths, which is malformed.
 pub fn read_command<'a>(alloc: Global, words: &'a [String]) -> Result<Command<'a>, CommandError>
     ensures taken { OnOk result (are_taken (map string_bytes words.entry.now) ≡ true) }
     ensures says { IfOk result (Says (map string_bytes words.entry.now)) }

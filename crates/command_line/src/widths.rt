@@ -9,21 +9,21 @@ use lists::List;
 use ops::Width;
 use std::alloc::{AllocError, Global};
 
-/// The widths from one to another.
+/// A span of widths, from the first to the last.
 #[derive(Clone, Copy)]
 struct Span {
     first: u32,
     last: u32,
 }
 
-/// Whether a text begins as no width does, though `parse` takes it: with a zero or a plus sign.
+/// Whether the text begins with a zero or a plus sign: `parse` takes that, but a width may not.
 fn begins_with_zero_or_plus(text: &str) -> bool
     ensures { result ≡ begins_with_zero_or_plus text.now }
 {
     matches!(text.as_bytes().first(), Some(b'0' | b'+'))
 }
 
-/// The number from 1 to 64 that digits write, without a leading zero.
+/// The width, from 1 to 64, that digits without a leading zero spell.
 fn read_width(text: &str) -> Option<u32>
     ensures { result ≡ width_of text.now }
 {
@@ -53,7 +53,7 @@ fn ends_of(item: &str) -> (&str, &str)
     }
 }
 
-/// What an item `a` or `a-b` names.
+/// The span of an item `a` or `a-b`, if it is well-formed.
 fn read_item(item: &str) -> Option<Span>
     ensures { result ≡ span_of item.now }
 {
@@ -64,14 +64,14 @@ fn read_item(item: &str) -> Option<Span>
     }
 }
 
-/// The items of a list.
+/// The items of a list, without the commas between them.
 fn items_of<'a>(alloc: Global, text: &'a str) -> Result<Vec<&'a str>, AllocError>
     ensures { IfOk result (λ all. map (λ item. item.now) all.items ≡ items text.now) }
 {
     text.split(',').collect(alloc)
 }
 
-/// What the items name, or `None` where one is outside the form.
+/// The spans of the items, or `None` where one is malformed.
 fn read_items(alloc: Global, items: &[&str]) -> Result<Option<Vec<Span>>, AllocError>
     ensures { IfOk result (λ read. MatchOption read (list_all (λ item. is_item item.now) items.now ≡ false)
         (λ spans. (list_all (λ item. is_item item.now) items.now ≡ true) × (spans.items ≡ map (λ item. span_in item.now) items.now))) }
@@ -86,7 +86,7 @@ fn read_items(alloc: Global, items: &[&str]) -> Result<Option<Vec<Span>>, AllocE
     Ok(Some(spans))
 }
 
-/// Whether a span holds a width.
+/// Whether one of the spans holds the width.
 fn is_named(spans: &[Span], bits: u32) -> bool
     ensures { result ≡ is_in_some spans.now bits }
 {
@@ -95,7 +95,7 @@ fn is_named(spans: &[Span], bits: u32) -> bool
         .any(|span| span.first <= bits && bits <= span.last)
 }
 
-/// Adds a width that is in a span.
+/// Appends a width, if it is in a span.
 fn push_if_named(widths: &mut List<Width>, spans: &[Span], bits: u32) -> Result<(), AllocError>
     requires least { 1 ≤ bits }
     requires most { bits ≤ 64 }
@@ -107,7 +107,7 @@ fn push_if_named(widths: &mut List<Width>, spans: &[Span], bits: u32) -> Result<
     Ok(())
 }
 
-/// The widths in the spans, in order and each once.
+/// The widths in the spans, ascending and each once.
 fn widths_in(alloc: Global, spans: &[Span]) -> Result<List<Width>, AllocError>
     ensures { IfOk result (λ widths. widths ≡ filter (is_in_some spans.now) (up_to 64)) }
 {
@@ -118,7 +118,7 @@ fn widths_in(alloc: Global, spans: &[Span]) -> Result<List<Width>, AllocError>
     Ok(widths)
 }
 
-/// The widths that a list names, or `None` where it is outside the form.
+/// The widths of a list, or `None` where it is malformed.
 pub(crate) fn read_widths(alloc: Global, text: &str) -> Result<Option<List<Width>>, AllocError>
     ensures { IfOk result (λ read. MatchOption read (is_width_list text.now ≡ false) (IsWidthList text.now)) }
 {

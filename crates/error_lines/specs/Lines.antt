@@ -1,4 +1,4 @@
--- The lines that say why a command's work was not done.
+-- The lines on the error stream that say why a command failed.
 use Rattle.std.specs.Prelude.{ℕ, List, ◌++◌, codes, decimal}
 use Rattle.ir_reader.specs.Identifier.{Identifier}
 use Rattle.ir_reader.specs.Identifier.TheVariants.{Named, Numbered}
@@ -11,7 +11,7 @@ use Rattle.ir_reader.specs.IrFaultKind.TheVariants as ir
 use Rattle.rule_reader.specs.RuleFaultKind.{RuleFaultKind}
 use Rattle.rule_reader.specs.RuleFaultKind.TheVariants.{TooLong, BadByte, Syntax, LeftOut, TooMany, Duplicate, Unbound, RootMissing, Redefines, UnusedTemp, UndefInside, WitnessCount, NoType, OpenType}
 
--- the name of a kind of fault, with what was left out
+-- the name of a kind of fault of a rule file, with what was left out
 unfoldable pub kind_text : RuleFaultKind → List ℕ
 kind_text TooLong = codes "TooLong"
 kind_text BadByte = codes "BadByte"
@@ -28,7 +28,7 @@ kind_text WitnessCount = codes "WitnessCount"
 kind_text NoType = codes "NoType"
 kind_text OpenType = codes "OpenType"
 
--- the line on a rule file: where its first fault is, and of which kind
+-- the line on a rule file: the line and the kind of its first fault
 abbrev pub rules_line : Fault RuleFaultKind → List ℕ
 rules_line fault = codes "rules: line " ++ decimal fault.line ++ codes ": " ++ kind_text fault.kind ++ codes "\n"
 
@@ -37,7 +37,7 @@ unfoldable pub register_text : Identifier → List ℕ
 register_text (Named name) = codes "%" ++ name_text name
 register_text (Numbered n) = codes "%" ++ decimal n
 
--- the same of a module; of a register that isn't assigned, which and in which block
+-- the name of a kind of fault of a module, with what was left out, or which register isn't assigned in which block
 unfoldable pub ir_kind_text : IrFaultKind → List ℕ
 ir_kind_text ir.TooLong = codes "TooLong"
 ir_kind_text ir.BadByte = codes "BadByte"
@@ -53,7 +53,7 @@ ir_kind_text ir.BadPhi = codes "BadPhi"
 ir_kind_text ir.EntryPred = codes "EntryPred"
 ir_kind_text (ir.Unassigned register block) = codes "Unassigned " ++ register_text register ++ codes " in block " ++ decimal block
 
--- the line on a module: where its first fault is, and of which kind
+-- the line on a module: the line and the kind of its first fault
 abbrev pub module_line : Fault IrFaultKind → List ℕ
 module_line fault = codes "module: line " ++ decimal fault.line ++ codes ": " ++ ir_kind_text fault.kind ++ codes "\n"
 
@@ -66,7 +66,7 @@ log_kind_text logs.UnknownRule = codes "UnknownRule"
 log_kind_text logs.BadTyping = codes "BadTyping"
 log_kind_text logs.Repeated = codes "Repeated"
 
--- the line on a text of proofs: where its first fault is, and of which kind
+-- the line on a text of proofs: the line and the kind of its first fault
 abbrev pub logs_line : Fault LogFaultKind → List ℕ
 logs_line fault = codes "logs: line " ++ decimal fault.line ++ codes ": " ++ log_kind_text fault.kind ++ codes "\n"
 
@@ -74,10 +74,10 @@ logs_line fault = codes "logs: line " ++ decimal fault.line ++ codes ": " ++ log
 abbrev pub read_fault_line : List ℕ → List ℕ
 read_fault_line name = codes "read fault: " ++ name ++ codes "\n"
 
--- the line on a function that the module does not have, or on arguments that do not fit it
+-- the line on a missing function, or on arguments that do not fit it
 abbrev pub argument_line : List ℕ
 argument_line = codes "argument refused\n"
 
--- the line on memory
+-- the line on want of memory
 abbrev pub memory_line : List ℕ
 memory_line = codes "want of memory\n"

@@ -1,4 +1,4 @@
-//! The lines that say why a command's work was not done.
+//! The lines on the error stream that say why a command failed.
 //!
 //! The definitions stand in `specs/`: `Lines` says which line there is on a rule file, on a module, on proofs, on a
 //! file that could not be read, on arguments and on memory.

@@ -22,7 +22,7 @@ fn word_of(kind: &LogFaultKind) -> &[u8]
     }
 }
 
-/// The line on a text of proofs: where its first fault is, and of which kind.
+/// The line on a text of proofs: the line and the kind of its first fault.
 pub fn logs_line(alloc: Global, fault: &LogFault) -> Result<Vec<u8>, AllocError>
     ensures { IfOk result (λ line. line.items ≡ logs_line fault.now) }
 {

@@ -61,7 +61,7 @@ fn push_ir_kind(out: &mut Vec<u8>, kind: &IrFaultKind) -> Result<(), AllocError>
     }
 }
 
-/// The line on a module: where its first fault is, and of which kind.
+/// The line on a module: the line and the kind of its first fault.
 pub fn module_line(alloc: Global, fault: &IrFault) -> Result<Vec<u8>, AllocError>
     ensures { IfOk result (λ line. line.items ≡ module_line fault.now) }
 {

@@ -39,7 +39,7 @@ fn push_kind(out: &mut Vec<u8>, kind: &RuleFaultKind) -> Result<(), AllocError>
     out.extend_from_slice(left_out)
 }
 
-/// The line on a rule file: where its first fault is, and of which kind.
+/// The line on a rule file: the line and the kind of its first fault.
 pub fn rules_line(alloc: Global, fault: &RuleFault) -> Result<Vec<u8>, AllocError>
     ensures { IfOk result (λ line. line.items ≡ rules_line fault.now) }
 {

@@ -30,7 +30,7 @@ pub generated_size : GeneratedEntriesAreOfTwenty → GeneratedEntriesAreCounted 
 generated_size twenty counted number count =
     of_entries (generated number count).entries (twenty number count) ∙ ap (λ (n : ℕ). 20 * n) (counted number count)
 
--- ---- they are few enough for the strategy
+-- ---- the sizes fit 32 bits
 
 pub generated_countable : GeneratedFunctionsAreSmall → (number count : ℕ) → ModuleIsCountable default_steps (generated number count)
 generated_countable small number count k f at =

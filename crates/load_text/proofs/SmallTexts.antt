@@ -1,4 +1,4 @@
--- A text spells no more rules than it has bytes: each has a name, and before it the five bytes of `Name:`.
+-- A text spells no more rules than it has bytes: each rule has a name, behind the five bytes of `Name:`.
 use Rattle.std.proofs.Common.{◌≡◌, ◌≢◌, ℕ, suc, ◌+◌, ◌-◌, ◌≤◌, Bool, true, false, cond, eqb, List, [], ◌∷◌, ◌++◌, length, refl, sym, ap, subst, ◌∙◌, arith}
 use Rattle.std.specs.Prelude.{codes, drop}
 use Rattle.std.specs.Str.{bytes_eq}
@@ -18,7 +18,7 @@ use Rattle.rule_parse.specs.declared.raw.RawRule.{RawRule}
 use Rattle.rule_parse.specs.Grammar.{SpellsRules, SpellsFile}
 use Rattle.load_text.specs.Laws.{RuleTextsAreSmall}
 
--- how many names of rules stand among the tokens
+-- how many of the tokens are names of rules
 abbrev names_in : List Token → ℕ
 names_in [] = 0
 names_in (Name text ∷ tokens) = suc (names_in tokens)
@@ -29,7 +29,7 @@ names_append [] ys = omega arith
 names_append (Name text ∷ xs) ys = omega (arith, names_append xs ys)
 names_append (t ∷ xs) ys = names_append xs ys
 
--- ---- each rule has one
+-- ---- each rule has one of them
 
 rules_named : (limits : Limits) (version : Version) (raws : List RawRule) (tokens : List Token) → SpellsRules limits version raws tokens → length raws ≤ names_in tokens
 rules_named limits version [] tokens is = omega arith
@@ -43,7 +43,7 @@ file_named limits raws tokens (version, (front, back, is_version, is, whole)) =
     let all : names_in tokens ≡ names_in front + names_in back = ap names_in whole ∙ names_append front back in
     omega (arith, all, rules_named limits version raws back is)
 
--- ---- and no text has more than it has bytes
+-- ---- a text has no more of them than bytes
 
 -- no other token is one
 word_none : (opcode : Bool) (bytes : List ℕ) (tokens : List Token) → names_in (word_of opcode bytes ∷ tokens) ≡ names_in tokens
@@ -67,7 +67,7 @@ line_none before line t tokens = by (eqb line before)
     by true = refl
     by false = refl
 
--- behind `Name:` one name is read more than bytes are left
+-- the tokens from a place on have at most one name more than bytes are left, and behind `Name:` one more
 abbrev AreFew : List ℕ → Place → ℕ → List Token → Type 0
 AreFew text (AtToken c) at tokens = names_in tokens ≤ length text - at
 AreFew text (AtName c) at tokens = names_in tokens ≤ suc (length text - at)

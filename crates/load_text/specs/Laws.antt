@@ -1,4 +1,4 @@
--- What holds of every rule file.
+-- A law of all rule files.
 use Rattle.std.specs.Prelude.{ℕ, ◌≤◌, List, length}
 use Rattle.rule_reader.specs.Faults.{IsRuleFile}
 use Rattle.verdict.specs.Rule.{Rule}

@@ -25,7 +25,7 @@ built_in_text =
     ++ codes "\nName: not-add\n%1 = xor %x, -1\n%2 = add %1, C\n=>\n%2 = sub C-1, %x\n"
     ++ codes "\nName: mul-two\n%r = mul %x, 2\n=>\n%r = shl %x, 1\n"
 
--- how many instructions a function and a module have, terminators not counted
+-- how many instructions a function has, and below a module, terminators not counted
 abbrev pub instructions_of : Function → ℕ
 instructions_of f = sum_by (λ block. length block.insts) f.blocks
 
@@ -36,12 +36,12 @@ instructions_of_entry (entries.Function f) = instructions_of f
 abbrev pub instructions_in : Module → ℕ
 instructions_in m = sum_by instructions_of_entry m.entries
 
--- a line of a number, with a text before it
+-- a line with a text and a number
 abbrev pub count_line : List ℕ → ℕ → List ℕ
 count_line text n = text ++ decimal n ++ codes "\n"
 
--- The lines on a module with so many functions and instructions, on the one that the strategy gives for it, on how
--- often its functions were rewritten, and on how many of them are limited.
+-- The lines: how many functions and instructions the module has, how many instructions the strategy leaves, how often
+-- its functions were rewritten, and how many of them ran out of steps.
 abbrev pub load_text : ℕ → ℕ → Module → List ℕ → List Bool → List ℕ
 load_text functions before new counts limited =
     count_line (codes "functions ") functions
@@ -50,17 +50,17 @@ load_text functions before new counts limited =
     ++ count_line (codes "rewrites ") (sum counts)
     ++ count_line (codes "limit ") (count_by (λ limited. limited) limited)
 
--- what is written of a number, and the table of verdicts by which it came to be
+-- what is written for a number, and the table of verdicts behind it
 pub record IsLoaded (number : ℕ) (text : List ℕ) (table : List Row) : Type 0 where
   pub rules : List Rule
   pub built_in : IsRuleText built_in_text rules
   pub new : Module
   pub counts : List ℕ
   pub limited : List Bool
-  -- they are what the plain strategy gives for the generated module, by this table
+  -- this module is what the plain strategy gives for the generated one, by this table
   pub strategy : IsPlainStrategy rules default_steps table (generated number 200) new counts limited
   pub honest : IsHonestTable rules default_conflicts table
-  -- in which each verdict is that the rule is valid
+  -- each verdict of the table is `Admitted`
   pub admitted : All (λ row. row.verdict ≡ Admitted) table
-  -- the generated module has always as many instructions
+  -- the generated module always has 200 functions and 4000 instructions
   pub text_is : text ≡ load_text 200 4000 new counts limited

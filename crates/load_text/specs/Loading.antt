@@ -1,4 +1,4 @@
--- What is made on the way to what `load` writes.
+-- Definitions for the functions between a number and what `load` writes.
 use Rattle.std.specs.Prelude.{◌≡◌, ℕ, List, ◌++◌, All, codes}
 use Rattle.ir_core.specs.declared.module.Module.{Module}
 use Rattle.strategy_core.specs.declared.done.Done.{Done}
@@ -10,7 +10,7 @@ use Rattle.command_line.specs.Limits.{default_conflicts, default_steps}
 use Rattle.load_text.specs.Load.{built_in_text, count_line}
 use Rattle.load_text.specs.RuleText.{IsRuleText}
 
--- what the plain strategy gives for a module by the built-in rules, each verdict of which is that the rule is valid
+-- what the plain strategy gives for a module by the built-in rules, where each verdict is `Admitted`
 pub record IsDoneByBuiltIn (m : Module) (done : Done) : Type 0 where
   pub rules : List Rule
   pub built_in : IsRuleText built_in_text rules
@@ -18,7 +18,7 @@ pub record IsDoneByBuiltIn (m : Module) (done : Done) : Type 0 where
   pub honest : IsHonestTable rules default_conflicts done.table
   pub admitted : All (λ row. row.verdict ≡ Admitted) done.table
 
--- the lines on so many functions, instructions before and after, rewrites, and functions that are limited
+-- the lines, from their five numbers
 abbrev pub counts_text : ℕ → ℕ → ℕ → ℕ → ℕ → List ℕ
 counts_text functions before after rewrites limited =
     count_line (codes "functions ") functions

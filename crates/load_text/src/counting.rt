@@ -1,5 +1,5 @@
-//! What is counted of a module and of what the strategy gives. Where no `usize` counts it, that is answered as for want
-//! of memory; no module that fits in memory has so much.
+//! Counts of a module and of what the strategy gives. A count beyond `usize` is answered as want of memory; no module
+//! that fits in memory has one.
 
 ghost use Rattle.std.specs.Prelude.{◌≡◌, ◌+◌, sum, count_by, IfOk};
 ghost use Rattle.load_text.specs.Load.{instructions_of, instructions_of_entry, instructions_in};
@@ -7,7 +7,7 @@ ghost use Rattle.load_text.specs.Load.{instructions_of, instructions_of_entry, i
 use ir_core::{Entry, Function, Module};
 use std::alloc::AllocError;
 
-/// A sum that a `usize` holds.
+/// A sum, if it fits a `usize`.
 fn plus(a: usize, b: usize) -> Result<usize, AllocError>
     ensures { IfOk result (λ sum. sum ≡ a + b) }
 {

@@ -60,17 +60,17 @@ Name: mul-two
 %r = shl %x, 1
 ";
 
-/// What `load` writes, and the verdicts by which it came to be.
+/// What `load` writes, and the verdicts behind it.
 #[derive(Drop)]
 pub struct Loaded {
     /// Five lines: how many functions the generated module has, how many instructions before and after, how often
-    /// functions were rewritten, and how many are limited.
+    /// functions were rewritten, and how many ran out of steps.
     pub text: Vec<u8>,
     /// The verdicts in the order in which they were first asked for, all of them `Admitted`.
     pub table: Table,
 }
 
-/// The built-in rules. Were their text refused, that would be answered as for want of memory; the tests show that it
+/// The built-in rules. If their text were refused, that would be answered as want of memory; the tests show that it
 /// isn't.
 pub fn built_in_rules(alloc: Global) -> Result<Vec<Rule>, AllocError>
     ensures text { IfOk result (λ rules. IsRuleText built_in_text rules.items) }
@@ -86,7 +86,7 @@ pub fn built_in_rules(alloc: Global) -> Result<Vec<Rule>, AllocError>
     }
 }
 
-/// Adds a line of a number, with a text before it.
+/// Appends a line with a text and a number.
 fn push_count(out: &mut Vec<u8>, text: &[u8], number: usize) -> Result<(), AllocError>
     ensures { OnOk result (out.new.items ≡ out.old.items ++ count_line text.now number) }
 {
@@ -97,7 +97,7 @@ fn push_count(out: &mut Vec<u8>, text: &[u8], number: usize) -> Result<(), Alloc
     Ok(())
 }
 
-/// Adds the lines on these numbers.
+/// Appends the lines, from their five numbers.
 fn push_counts(
     out: &mut Vec<u8>,
     before: usize,

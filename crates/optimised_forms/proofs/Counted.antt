@@ -1,4 +1,4 @@
--- The module of a text within the limit is counted in 32 bits.
+-- The sizes of the module of a text within the limit fit 32 bits.
 use Rattle.std.proofs.Common.{length, get_or, arith}
 use Rattle.std.proofs.lemmas.Option.{slice_get-get_or}
 use Rattle.ir_round_trip.specs.Laws.{HasAtMost, ModuleTextsAreSmall}

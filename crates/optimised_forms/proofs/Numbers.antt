@@ -1,4 +1,4 @@
--- The numbers of what has its forms are of their widths.
+-- Literals of a module with the forms of a printed text are numbers of their widths.
 use Rattle.std.proofs.Common.{◌≡◌, ℕ, Some, subst}
 use Rattle.std.specs.Prelude.{slice_get}
 use Rattle.std.proofs.lemmas.Option.{slice_get_within, get_or_from_slice_get}

@@ -1,4 +1,4 @@
--- What the plain strategy gives has its forms.
+-- The plain strategy keeps the forms of a printed text.
 use Rattle.std.proofs.Common.{◌≡◌, ℕ, zero, suc, Bool, List, Some, get_or}
 use Rattle.std.specs.Prelude.{slice_get}
 use Rattle.std.proofs.lemmas.Option.{slice_get-get_or}
@@ -17,7 +17,7 @@ use Rattle.optimised_forms.specs.Laws.{OptimisedModulesHaveForms, RewrittenFunct
 use Rattle.optimised_forms.proofs.Numbers.{entry_forms, modules_fit}
 
 module _ (rules : List Rule) (table : List Row) where
-  -- a kept line was there
+  -- a kept line of the new module was in the old one
   kept_back : {steps : ℕ} {old new : List Entry} {counts : List ℕ} {limited : List Bool} {asked : List Pair} → AreOptimised rules table steps old new counts limited asked
       → (k : ℕ) (line : List ℕ) → slice_get new k ≡ Some (entries.Kept line) → slice_get old k ≡ Some (entries.Kept line)
   kept_back none k line at = absurd cc

@@ -1,4 +1,4 @@
--- A rewritten function has its forms.
+-- Rewriting keeps the forms of a function.
 use Rattle.std.proofs.Common.{◌≡◌, ◌<◌, ◌^◌, refl, sym, subst}
 use Rattle.ops.specs.Number.{Number}
 use Rattle.ir_core.specs.declared.function.Block.{Block}

@@ -1,4 +1,4 @@
--- What a rewritten function reads has the width of a type.
+-- The operands of a rewritten function have widths of integer types.
 use Rattle.std.proofs.Common.{◌≡◌, ℕ, zero, suc, ◌==◌, Bool, true, false, cond, inl, inr, List, [], ◌∷◌, length, Option, None, Some, refl, sym, ap, subst, ◌∙◌, map, arith}
 use Rattle.std.specs.Prelude.{slice_get, Contains}
 use Rattle.std.proofs.lemmas.List.Elements.{Contains-get_or}
@@ -43,11 +43,11 @@ width_there [] i r have at = absurd cc
 width_there (x ∷ reads) zero r have at = subst (λ (y : Read). IsWidth y.width) (same_Some x r at) have.0
 width_there (x ∷ reads) (suc i) r have at = width_there reads i r have.1 at
 
--- the width of a condition
+-- the width of a condition, 1, is one
 one : IsWidth 1
 one = (omega arith, omega arith)
 
--- what an instruction or a terminator reads has its forms
+-- all operands of an instruction or a terminator have their forms
 abbrev AllHaveForms : List Read → Type 0
 AllHaveForms reads = (i : ℕ) (r : Read) → slice_get reads i ≡ Some r → ReadHasForms r
 
@@ -72,7 +72,7 @@ module _ (to : Substitution) (f g : Function) (b k n : ℕ) where
   stayed_end (terminators.Switch a width other cases) returned forms = ((forms 0 (read b k width a) refl).width, tt)
   stayed_end terminators.Unreachable returned forms = tt
 
--- ---- what is put
+-- ---- the instructions that are inserted
 
 module _ (rule : Rule) (binding : Binding) (typed : IsTyping rule binding.typing) where
   class_has : (c : ℕ) → Contains (classes_of rule) c → IsWidth (class_width rule binding c)
@@ -108,7 +108,7 @@ module _ (f : Function) (forms : FunctionHasForms f) (rule : Rule) (binding : Bi
   abbrev new : Function
   new = rewritten_function w f
 
-  -- an instruction that is put is that of a statement
+  -- an inserted instruction is that of a statement of the target
   put_for : (b n : ℕ) (inst : Inst) (p : InstPut w b n inst) → PutFor rule binding root.name 0 p.place inst
   put_for b n inst p = put_from rule binding root.name rule.target 0 (all_aligned rule binding) p.place inst p.is_put
 

@@ -1,5 +1,5 @@
--- What the plain strategy gives has the forms that a printed text needs, and the module of a text is one that the
--- strategy takes.
+-- What the plain strategy gives can be printed and read back (it has the forms of a printed text), and the strategy
+-- takes each module that is read.
 use Rattle.std.specs.Prelude.{ℕ, ◌≤◌, Bool, List, length}
 use Rattle.ir_core.specs.Checks.{MeetsChecks, ModuleMeetsChecks}
 use Rattle.ir_core.specs.declared.function.Function.{Function}
@@ -18,23 +18,23 @@ use Rattle.ir_parse.specs.Text.{most_bytes}
 use Rattle.ir_reader.specs.Faults.{IsModuleText}
 use Rattle.ir_text.specs.Forms.{FunctionHasForms, ModuleHasForms}
 
--- A function to which a rule is applied where it matches has the forms that the old one has.
+-- Rewriting by a rule at a match keeps these forms.
 abbrev pub RewrittenFunctionsHaveForms : Type 0
 RewrittenFunctionsHaveForms = (f new : Function) (b k : ℕ) (rule : Rule) (binding : Binding)
     → IsRule rule → MeetsChecks f → FunctionHasForms f
     → IsMatch f b k rule binding → IsRewritten f binding rule new → FunctionHasForms new
 
--- The module that the strategy gives has the forms that the old one has.
+-- The strategy keeps these forms.
 abbrev pub OptimisedModulesHaveForms : Type 0
 OptimisedModulesHaveForms = (rules : List Rule) (steps : ℕ) (table : List Row) (old new : Module) (counts : List ℕ) (limited : List Bool)
     → AreReady rules → ModuleMeetsChecks old → ModuleHasForms old
     → IsPlainStrategy rules steps table old new counts limited → ModuleHasForms new
 
--- The numbers of a module that has its forms are of their widths.
+-- In a module with these forms literals are numbers of their widths.
 abbrev pub FormedModulesNumbersFit : Type 0
 FormedModulesNumbersFit = (m : Module) → ModuleHasForms m → ModuleNumbersFit m
 
--- What stands in the module of a text that is read is counted in 32 bits, within 100,000 steps.
+-- The sizes of a module that is read fit 32 bits, even after 100,000 steps.
 abbrev pub ModuleTextsAreCountable : Type 0
 ModuleTextsAreCountable = (text : List ℕ) (m : Module) (steps : ℕ)
     → length text ≤ most_bytes → steps ≤ 100000 → IsModuleText text m → ModuleIsCountable steps m

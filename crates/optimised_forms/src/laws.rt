@@ -1,4 +1,4 @@
-//! The laws of the forms that optimised modules have, each the contract of a function that does nothing.
+//! The laws of the forms of optimised modules, each the contract of a function that does nothing.
 
 ghost use Rattle.optimised_forms.specs.Laws.{FormedModulesNumbersFit, ModuleTextsAreCountable, OptimisedModulesHaveForms, RewrittenFunctionsHaveForms};
 
@@ -7,13 +7,13 @@ use ir_round_trip::{cleaning_keeps_forms, module_texts_are_small};
 use needed::{every_cleaned_function_refines_the_old, every_cleaned_number_was_there};
 use rewriter::{rewritten_functions_meet_checks, rewritten_functions_refine};
 
-/// A function to which a rule is applied where it matches has the forms that the old one has.
+/// Rewriting by a rule at a match keeps the forms of a function that a printed text needs.
 pub fn rewritten_functions_have_forms()
     ensures { RewrittenFunctionsHaveForms }
 {}
 
-/// The module that the plain strategy gives by rules that are read has the forms that the old one has, whatever their
-/// verdicts and however many the steps are.
+/// The plain strategy keeps the forms of a module, by any rules that were read, whatever their verdicts are, and for
+/// any number of steps.
 pub fn optimised_modules_have_forms()
     ensures { OptimisedModulesHaveForms }
 {
@@ -26,12 +26,12 @@ pub fn optimised_modules_have_forms()
     refinement_is_an_order();
 }
 
-/// The numbers of a module that has its forms are of their widths.
+/// In a module with these forms literals are numbers of their widths.
 pub fn formed_modules_numbers_fit()
     ensures { FormedModulesNumbersFit }
 {}
 
-/// What stands in the module of a text that is read is counted in 32 bits, within 100,000 steps.
+/// The sizes of a module that is read fit 32 bits, even after 100,000 steps.
 pub fn module_texts_are_countable()
     ensures { ModuleTextsAreCountable }
 {

@@ -1,6 +1,5 @@
-//! What the plain strategy gives is printed so that it is read again: applying a rule keeps the forms that a printed
-//! text needs, as cleaning does, and so the module that the strategy gives has them. The module of a text is one that
-//! the strategy takes.
+//! What the plain strategy gives can be printed and read back: rewriting keeps the forms that a printed text needs,
+//! dead code elimination does, and so the strategy does. And the strategy takes each module that is read from a text.
 //!
 //! The laws stand in `specs/Laws`; which forms there are, in `ir_text`, and what the strategy gives, in
 //! `strategy_core`.

@@ -1,4 +1,4 @@
--- Whether each of the values is a number, and with a formula that holds the precondition.
+-- The precondition holds exactly where each of the terms' values is a number and the formula holds.
 use Rattle.std.proofs.Common.{◌≡◌, ◌↔◌, ℕ, ◌+◌, ◌<◌, ◌≤◌, below_more, true, false, IsTrue, List, length, Some, refl, sym, subst, ◌∙◌, arith}
 use Rattle.std.specs.Prelude.{slice_get}
 use Rattle.std.proofs.lemmas.Option.{same_Some, slice_get_within}

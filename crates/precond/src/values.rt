@@ -37,7 +37,7 @@ fn number_in(value: Value) -> Option<Word>
     }
 }
 
-/// What the nodes of the rule's constant terms give, in front, and then values of no meaning.
+/// An array that begins with what the nodes of the rule's constant terms give; the values behind these have no meaning.
 pub(crate) fn constant_values(
     rule: &Rule,
     typing: &Typing,

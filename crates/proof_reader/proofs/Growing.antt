@@ -1,4 +1,4 @@
--- The good proofs so far, and one more.
+-- The proofs so far are good, and one more is tested.
 use Rattle.std.proofs.Common.{◌≡◌, inl, inr, ℕ, zero, suc, ◌+◌, ◌<◌, ◌≤◌, List, [], ◌∷◌, ◌++◌, length, take, Some, refl, sym, ap, subst, ◌∙◌, arith}
 use Rattle.std.specs.Prelude.{slice_get}
 use Rattle.std.specs.List.{AllByRecursion}
@@ -46,7 +46,7 @@ good_more rules earlier proof good more place at_place at = elim (cases_lt place
       rw front (subst (IsGood rules earlier) (sym last.1) more)
 ]
 
--- behind good proofs, one that is bad gives the text's fault
+-- a bad proof behind good ones gives the text's fault
 pub bad_next : (rules : List Rule) (earlier rest : List Proof) (proof : Proof) (line : ℕ) (fault : LogFault) → AreGood rules earlier → line ≡ feeds (text_of earlier) + 1
     → RefusesProof rules earlier proof line fault → IsAtProof rules (earlier ++ proof ∷ rest) fault
 bad_next rules earlier rest proof line fault good line_is bad =
@@ -64,13 +64,13 @@ pub well_formed_at : (earlier rest : List Proof) (proof : Proof) → AllByRecurs
 well_formed_at [] rest proof all = all.0
 well_formed_at (p ∷ earlier) rest proof all = well_formed_at earlier rest proof all.1
 
--- the line of the next proof, which is behind those of this one
+-- the next proof's line is behind those of this one
 pub next_line : (text : List ℕ) (earlier rest : List Proof) (proof : Proof) (line : ℕ) → IsTextOf text (earlier ++ proof ∷ rest) → line ≡ feeds (text_of earlier) + 1
     → line + (2 + length proof.log) ≡ feeds (text_of (earlier ++ proof ∷ [])) + 1
 next_line text earlier rest proof line is line_is =
     let more = lines_more earlier proof (well_formed_at earlier rest proof is.1) in omega arith
 
--- lines are no more than bytes
+-- a text has no more lines than bytes
 pub few_lines : (text : List ℕ) (earlier rest : List Proof) (proof : Proof) (line : ℕ) → IsTextOf text (earlier ++ proof ∷ rest) → line ≡ feeds (text_of earlier) + 1
     → line + (2 + length proof.log) ≤ most_bytes + 1
 few_lines text earlier rest proof line is line_is =

@@ -1,4 +1,4 @@
--- Which proofs the keys of a set are of.
+-- Which proofs the keys in the set are of.
 use Rattle.std.proofs.Common.{◌≡◌, ℕ, zero, suc, Bool, true, false, List, [], ◌∷◌, ◌++◌, map, Some, refl, sym, ap, subst, ◌∙◌, nat_eq, arith}
 use Rattle.std.specs.Prelude.{◌||◌, not, slice_get}
 use Rattle.std.specs.Bool.{Decides}
@@ -18,19 +18,19 @@ use Rattle.proof_reader.proofs.RuleNames.{name_at}
 decided : (x y : Key) → Decides (is_same_key x y) ((x.0 ≡ y.0) × (x.1.items ≡ y.1.items))
 decided x y = Decides-and (nat_eq x.0 y.0) (bytes_eq x.1.items y.1.items) (Decides-eqb x.0 y.0) (bytes_eq-Decides x.1.items y.1.items)
 
--- at one place one name
+-- the rule at a place has one name
 one_name : (rules : List Rule) (place other : ℕ) (name called : List ℕ) → place ≡ other → HasNameAt rules place name → HasNameAt rules other called → name ≡ called
 one_name rules place other name called e (r, at, is) (q, there, same) =
     let rule : r ≡ q = same_Some r q (sym at ∙ subst (λ (n : ℕ). slice_get rules n ≡ Some q) (sym e) there) in
     sym is ∙ (ap (λ (x : Rule). x.name) rule ∙ same)
 
--- and one name at one place
+-- a name is that of the rule at one place
 one_place : (rules : List Rule) (place other : ℕ) (name : List ℕ) → AreDistinct (map (λ (r : Rule). r.name) rules) → HasNameAt rules place name → HasNameAt rules other name → place ≡ other
 one_place rules place other name distinct (r, at, is) (q, there, same) =
     distinct place other name (name_at rules place r at ∙ ap (λ (n : List ℕ). Some n) is) (name_at rules other q there ∙ ap (λ (n : List ℕ). Some n) same)
 
 module _ (rules : List Rule) (proof : Proof) (key : Key) (named : HasNameAt rules key.0 proof.name) (widths : key.1.items ≡ proof.widths) where
-  -- a key that the set has is of a proof that is among these
+  -- where the set has the key, a proof of the pair is among these
   pub found : (earlier : List Proof) (keys : List Key) → AreKeysOf rules earlier keys → list_any (is_same_key key) keys ≡ true → IsAmong earlier proof
   found [] [] are has = cc
   found [] (k ∷ keys) are has = absurd are
@@ -43,7 +43,7 @@ module _ (rules : List Rule) (proof : Proof) (key : Key) (named : HasNameAt rule
           (zero, p, omega arith, refl, (sym (one_name rules key.0 k.0 proof.name p.name same.0 named are.0.0), sym are.0.1 ∙ (sym same.1 ∙ widths)))
       go false is among has = let (n, other, within, at, h) = among has in (suc n, other, omega arith, at, h)
 
-  -- one that it lacks is of none of them
+  -- where it does not, none is
   pub lost : AreDistinct (map (λ (r : Rule). r.name) rules) → (earlier : List Proof) (keys : List Key) → AreKeysOf rules earlier keys → list_any (is_same_key key) keys ≡ false → IsAmong earlier proof → ⊥
   lost distinct [] keys are has (n, other, within, at, h) = omega arith
   lost distinct (p ∷ earlier) [] are has among = are
@@ -63,7 +63,7 @@ module _ (rules : List Rule) (proof : Proof) (key : Key) (named : HasNameAt rule
       not_later true b none = absurd cc
       not_later false b none = none
 
--- one key more, of one proof more
+-- the key of one more proof is appended
 pub keys_more : (rules : List Rule) (earlier : List Proof) (keys : List Key) (proof : Proof) (key : Key) → AreKeysOf rules earlier keys → HasNameAt rules key.0 proof.name → key.1.items ≡ proof.widths
     → AreKeysOf rules (earlier ++ proof ∷ []) (keys ++ key ∷ [])
 keys_more rules [] [] proof key are named widths = ((named, widths), tt)
@@ -71,7 +71,7 @@ keys_more rules [] (k ∷ keys) proof key are named widths = absurd are
 keys_more rules (p ∷ earlier) [] proof key are named widths = absurd are
 keys_more rules (p ∷ earlier) (k ∷ keys) proof key are named widths = (are.0, keys_more rules earlier keys proof key are.1 named widths)
 
--- whether a key is new says whether the set lacked it
+-- whether `insert` said that the key was new says whether the set did not have it
 pub lacked : (found new : Bool) → new ≡ not found → new ≡ true → found ≡ false
 lacked true new is h = absurd cc
 lacked false new is h = refl

@@ -21,7 +21,7 @@ use Rattle.proof_text.proofs.Numerals.{numeral_digits}
 two : (xs ys : List ℕ) (m n : ℕ) → feeds xs ≡ m → feeds ys ≡ n → feeds (xs ++ ys) ≡ m + n
 two xs ys m n e f = feeds_append xs ys ∙ ap₂ (λ (a b : ℕ). a + b) e f
 
--- bytes that pass a test which a line feed does not pass
+-- bytes that pass a test which a line feed fails hold no line feed
 feedless : (p : ℕ → Bool) (xs : List ℕ) → p 10 ≡ false → AllByRecursion (λ c. p c ≡ true) xs → feeds xs ≡ 0
 feedless p [] fails all = refl
 feedless p (x ∷ xs) fails all = feeds_append (x ∷ []) xs ∙ ⊎_elim
@@ -86,7 +86,7 @@ proof_lines p is =
     let sum : 1 + suc (length p.log) ≡ 2 + length p.log = omega arith in
     two (head_text p.name p.widths) (log_text p.log) 1 (suc (length p.log)) (head_lines p.name p.widths is.0) (log_lines p.log) ∙ sum
 
--- so one proof more has so many lines more
+-- one proof more has as many lines more
 pub lines_more : (earlier : List Proof) (p : Proof) → IsWellFormed p → feeds (text_of (earlier ++ p ∷ [])) ≡ feeds (text_of earlier) + (2 + length p.log)
 lines_more earlier p good =
     ap feeds (flat_map-append proof_text earlier (p ∷ [])) ∙ feeds_append (text_of earlier) (text_of (p ∷ []))

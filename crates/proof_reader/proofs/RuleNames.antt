@@ -1,4 +1,4 @@
--- Rules by their names, as the table of their places grows.
+-- The map of rules by their names, as it is filled.
 use Rattle.std.proofs.Common.{◌≡◌, inl, inr, ℕ, zero, suc, ◌+◌, ◌<◌, Bool, true, false, cond, List, [], ◌∷◌, length, take, get_or, Option, Some, None, sym, ap, subst, ◌∙◌, arith}
 use Rattle.std.specs.Prelude.{slice_get, MatchOption, map}
 use Rattle.std.specs.Str.{bytes_eq}
@@ -26,7 +26,7 @@ take_at (suc n) (y ∷ xs) (suc k) x lt at = take_at n xs k x (omega arith) at
 pub read_at : {X : Type 0} (xs : List X) (k : ℕ) (x : X) → k < length xs → x ≡ get_or xs k x → slice_get xs k ≡ Some x
 read_at xs k x within is = slice_get-get_or xs k x within ∙ ap (λ y. Some y) (sym is)
 
--- what the table of the rules has for a name
+-- what the map has for a name
 abbrev pub Known : List Rule → List ℕ → Option ℕ → Type 0
 Known rules name found = MatchOption found (¬ IsNamed rules name) (λ place. HasNameAt rules place name)
 
@@ -56,7 +56,7 @@ name_at [] k rule at = absurd (let none : k < 0 = slice_get_within [] k rule at 
 name_at (r ∷ rules) zero rule at = ap (λ (x : Rule). Some x.name) (same_Some r rule at)
 name_at (r ∷ rules) (suc k) rule at = name_at rules k rule at
 
--- of rules with different names one has the name of a proof
+-- where all rules have different names, the rule with the proof's name is one
 pub same_rule : (rules : List Rule) (proof : Proof) (place : ℕ) (rule other : Rule) → AreDistinct (map (λ (r : Rule). r.name) rules) → slice_get rules place ≡ Some rule → rule.name ≡ proof.name → IsRuleOf rules proof other → rule ≡ other
 same_rule rules proof place rule other distinct at named ((q, there), other_named) =
     let one : slice_get (map (λ (r : Rule). r.name) rules) place ≡ Some proof.name = name_at rules place rule at ∙ ap (λ (n : List ℕ). Some n) named in

@@ -13,7 +13,7 @@ HasNameAt rules place name = (rule : Rule) × (slice_get rules place ≡ Some ru
 abbrev pub IsNamed : List Rule → List ℕ → Type 0
 IsNamed rules name = (place : ℕ) × HasNameAt rules place name
 
--- the table has the place of a rule for each name that one has, and for no other
+-- the map has the place of a rule for each name of one, and no other names
 abbrev pub ArePlaces : {S : Type 0} → List Rule → IndexMap (Bor (List ℕ)) ℕ S → Type 0
 ArePlaces rules places =
     (name : Bor (List ℕ)) → MatchOption (get (λ a b. bytes_eq a.now b.now) places name) (¬ IsNamed rules name.now) (λ place. HasNameAt rules place name.now)

@@ -13,7 +13,7 @@ use Rattle.proof_reader.specs.declared.proof.RuleProof.{RuleProof}
 use Rattle.proof_reader.specs.Names.{HasNameAt}
 use Rattle.proof_reader.specs.Faults.{IsTextOfGood, IsGood, AreGood, IsBad}
 
--- what is read of the proof: the place of the rule that has its name, its widths, which are a typing of that rule, and
+-- what is read of a proof: the place of the rule that has its name, its widths, which are a typing of that rule, and
 -- its log
 pub record IsProofOf (rules : List Rule) (proof : Proof) (read : RuleProof) : Type 0 where
   pub rule : Rule
@@ -23,7 +23,7 @@ pub record IsProofOf (rules : List Rule) (proof : Proof) (read : RuleProof) : Ty
   pub typed : IsTyping rule read.typing
   pub log : read.log ≡ proof.log
 
--- the rule at the place has the name of the proof, and the proof's widths are this typing of it
+-- the rule at the place has the name of the proof, and the typing is the proof's widths, and one of that rule
 pub record IsTypedAt (rules : List Rule) (proof : Proof) (place : ℕ) (typing : List ℕ) : Type 0 where
   pub rule : Rule
   pub is : slice_get rules place ≡ Some rule
@@ -31,13 +31,13 @@ pub record IsTypedAt (rules : List Rule) (proof : Proof) (place : ℕ) (typing :
   pub widths : typing ≡ proof.widths
   pub typed : IsTyping rule typing
 
--- what is read of the text: each of its proofs, in order
+-- what is read of a text: each of its proofs, in order
 pub record IsReadOf (rules : List Rule) (text : List ℕ) (read : List RuleProof) : Type 0 where
   pub proofs : List Proof
   pub text_is : IsTextOfGood rules text proofs
   pub each : AllZip (IsProofOf rules) proofs read
 
--- the place of the rule of a proof, and the proof's widths
+-- the place of the rule that a proof is of, and the proof's widths
 abbrev pub Key : Type 0
 Key = ℕ × Vec ℕ Global
 
@@ -49,7 +49,7 @@ is_same_key x y = nat_eq x.0 y.0 && bytes_eq x.1.items y.1.items
 abbrev pub has_key : List Key → Key → Bool
 has_key keys key = list_any (is_same_key key) keys
 
--- a key of the rule at this place and of these widths stands behind the old ones, of which none is the same
+-- no old key is of this rule and these widths, and such a key is appended
 pub record AddsKey (old : List Key) (place : ℕ) (widths : List ℕ) (new : List Key) : Type 0 where
   pub key : Key
   pub rule_is : key.0 ≡ place
@@ -64,28 +64,28 @@ pub record HasKey (keys : List Key) (place : ℕ) (widths : List ℕ) : Type 0 w
   pub widths_are : key.1.items ≡ widths
   pub had : has_key keys key ≡ true
 
--- the keys are of these proofs, in order: the place of a rule that has the proof's name, and its widths
+-- these are the keys of the proofs, in order
 abbrev pub AreKeysOf : List Rule → List Proof → List Key → Type 0
 AreKeysOf rules proofs keys = AllZip (λ proof key. HasNameAt rules key.0 proof.name × (key.1.items ≡ proof.widths)) proofs keys
 
--- the proofs are good; these are their keys and what is read of them, and this is the line behind theirs
+-- all these proofs are good; these are their keys, what is read of them, and the number of the line behind them
 pub record AreTaken (rules : List Rule) (proofs : List Proof) (keys : List Key) (read : List RuleProof) (line : ℕ) : Type 0 where
   pub good : AreGood rules proofs
   pub each : AllZip (IsProofOf rules) proofs read
   pub keys_are : AreKeysOf rules proofs keys
   pub line_is : line ≡ feeds (text_of proofs) + 1
 
--- the proof is good behind the earlier ones, and this is what is read of it; its key stands behind theirs from then on
+-- the proof is good behind the earlier ones; this is what is read of it, and these are the keys with its own
 pub record TakesProof (rules : List Rule) (earlier : List Proof) (proof : Proof) (read : RuleProof) (keys : List Key) : Type 0 where
   pub good : IsGood rules earlier proof
   pub is : IsProofOf rules proof read
   pub keys_are : AreKeysOf rules (earlier ++ proof ∷ []) keys
 
--- the proof is bad behind the earlier ones, and this is its fault
+-- the proof is not good behind the earlier ones, and this is the kind of its fault
 pub record RefusesProof (rules : List Rule) (earlier : List Proof) (proof : Proof) (line : ℕ) (fault : LogFault) : Type 0 where
   pub bad : IsBad rules earlier proof fault.kind
   pub line_is : fault.line ≡ line
 
--- the proof is of one of the rules, at one of its typings
+-- what is read is of one of the rules, at one of its typings
 abbrev pub IsTypedIn : List Rule → RuleProof → Type 0
 IsTypedIn rules read = (rule : Rule) × (slice_get rules read.rule ≡ Some rule) × IsTyping rule read.typing

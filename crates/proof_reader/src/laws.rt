@@ -2,7 +2,7 @@
 
 ghost use Rattle.proof_reader.specs.Laws.{TextsHaveProofsOrFault};
 
-/// Beside rules a text has one list of good proofs or a fault, never both.
+/// Given some rules, a text has one list of good proofs or one fault, and never both.
 pub fn texts_have_proofs_or_a_fault()
     ensures { TextsHaveProofsOrFault }
 {

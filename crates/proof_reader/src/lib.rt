@@ -1,6 +1,6 @@
-//! The proofs in a text, each of one of some rules at one of its typings.
+//! The reader of proofs: the proofs in a text, each of one of some rules at one of its typings.
 //!
-//! `specs/Faults` says which texts are of proofs of the rules, and which is the first fault of one that is not.
+//! `specs/Faults` says which texts hold proofs of the rules, and what the first fault of any other text is.
 #![tactic(auto)]
 
 mod laws;

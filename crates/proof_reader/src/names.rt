@@ -7,7 +7,7 @@ use indexmap::IndexMap;
 use rule_core::Rule;
 use std::alloc::{AllocError, Global};
 
-/// The places of rules by their names: so a name is found in as long a time however many there are.
+/// The places of rules by their names, hashed: finding one takes as long however many there are.
 pub(crate) type Places<'a> = IndexMap<&'a [u8], u32>;
 
 /// The places of the rules by their names.

@@ -3,7 +3,7 @@
 use clauses::Log;
 use rule_core::Typing;
 
-/// That a rule is valid at a typing: the log of a refutation of its counterexamples.
+/// A proof that a rule is valid at a typing: a log that refutes its counterexamples.
 #[derive(Drop)]
 pub struct RuleProof {
     /// The place of the rule in its file, from 0.

@@ -42,7 +42,7 @@ pub fn read_logs(alloc: Global, rules: &[Rule], bytes: &[u8]) -> Result<Vec<Rule
     taken(alloc, rules, &places, proofs)
 }
 
-/// The proofs of a text as those of rules, or the fault of the first that is bad.
+/// Resolves the proofs of a text to rules, or tells the fault of the first that is bad.
 fn taken(
     alloc: Global,
     rules: &[Rule],
@@ -63,7 +63,7 @@ fn taken(
     Ok(so_far.into_read())
 }
 
-/// The rules, by their places, and the widths of the proofs so far: so a repeated one is found in as long a time
+/// The rules, by their places, and the widths of the proofs so far, hashed: finding a repeated one takes as long
 /// however many there are.
 type Seen = IndexSet<(u32, Vec<u32>)>;
 
@@ -73,7 +73,7 @@ struct SoFar {
     seen: Seen,
     /// What is read of each, in order.
     read: List<RuleProof>,
-    /// The line behind theirs.
+    /// The number of the line behind the proofs so far.
     line: usize,
 }
 
@@ -89,7 +89,7 @@ impl SoFar {
         }
     }
 
-    /// Takes the next proof, or tells its fault.
+    /// Resolves the next proof, or tells its fault.
     fn take(
         &mut self,
         alloc: Global,
@@ -122,7 +122,7 @@ impl SoFar {
     }
 }
 
-/// The proof as one of a rule, or its fault, which is on this line.
+/// Resolves the proof to a rule, or tells its fault, which is on this line.
 fn checked(
     alloc: Global,
     rules: &[Rule],
@@ -142,8 +142,7 @@ fn checked(
     unless_repeated(seen, rule, typing, proof, line)
 }
 
-/// The proof as one of the rule at this place, at this typing, unless an earlier one is of that rule and has the
-/// same widths.
+/// The proof as one of this rule at this typing, unless an earlier one is of the same rule at the same widths.
 fn unless_repeated(
     seen: &mut Seen,
     rule: u32,
@@ -177,8 +176,8 @@ fn add_key(seen: &mut Seen, rule: u32, widths: Vec<u32>, line: usize) -> Result<
     Ok(())
 }
 
-/// The rule that has the name of the proof, by its place, and the typing of it that the proof's widths are, or the
-/// fault, which is on this line.
+/// The rule that has the proof's name, by its place, and the typing of it that the proof's widths are; or the fault,
+/// which is on this line.
 fn typed(
     alloc: Global,
     rules: &[Rule],

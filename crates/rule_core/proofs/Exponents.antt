@@ -14,7 +14,7 @@ use Rattle.rule_core.specs.Terms.{exponent}
 is_power : ℕ → ℕ → Bool
 is_power a k = 2 ^ k == a
 
--- the first place at which it is found, or the end
+-- the search finds the least k with 2^k = a that is below N, or nothing
 at_first : (N a k : ℕ) → k ≤ N → ((j : ℕ) → j < k → (2 ^ j == a) ≡ false) → (k < N → (2 ^ k == a) ≡ true) → exponent N a ≡ slice_get (range_with_len 0 N) k
 unfolding exponent is_power
 at_first N a k within before here =
@@ -48,7 +48,7 @@ within_width N a k is =
     let passes : is_power a k ≡ true = ap (is_power a) (sym read) ∙ passes_at_first (is_power a) places 0 inside in
     (omega arith, sym (eqb-true (2 ^ k) a passes))
 
--- 1 moved to the left by fewer than 64 places
+-- a 1 shifted left by fewer than 64 bits isn't cut off at 64 bits
 pub shifted : (k : ℕ) → k < 64 → 1 * 2 ^ k % 18446744073709551616 ≡ 2 ^ k
 shifted k small =
     let less : 2 ^ k < 2 ^ 64 = pow-lt small in
@@ -61,7 +61,7 @@ below_power : (n : ℕ) → n < 2 ^ n
 below_power zero = omega arith
 below_power (suc n) = omega (arith, below_power n)
 
--- so an exponent is a number of its width
+-- so an exponent that is found is a number of N bits
 pub exponent_fits : (N a k : ℕ) → exponent N a ≡ Some k → k < 2 ^ N
 exponent_fits N a k is = let bounds = within_width N a k is in omega (arith, bounds.0, below_power k, pow-lt bounds.0)
 
@@ -75,7 +75,7 @@ below_width N k small = elim (cases_lt k N) [
   ]
 ]
 
--- so is each exponent found, and no other
+-- so of each power of two that is a number of iN its exponent is found
 pub of_power : (N k : ℕ) → 2 ^ k < 2 ^ N → exponent N (2 ^ k) ≡ Some k
 of_power N k small =
     found N (2 ^ k) k (below_width N k small)

@@ -71,7 +71,7 @@ function_value_fits : (function : Function) (N : ℕ) (v : Value) → IsValueOf 
 function_value_fits function N Poison is = tt
 function_value_fits function N (Bits a) is = function_fits function N a.number is.1
 
--- what a node of iN reads fits
+-- what a node of iN reads is of the width N
 abbrev pub NodeFits : Meanings → List Value → ℕ → Node → Type 0
 NodeFits names before N (nodes.Literal z) = Unit {0}
 NodeFits names before N (nodes.Constant k) = IsValueOf N (number_at names.constants k)
@@ -81,7 +81,7 @@ NodeFits names before N (nodes.Width r c) = Unit {0}
 NodeFits names before N (nodes.Unary function a) = IsValueOf N (value_at before a)
 NodeFits names before N (nodes.Binary op a b) = IsValueOf N (value_at before a) × IsValueOf N (value_at before b)
 
--- and so does what it gives
+-- then so is what it gives
 node_fits : (typing : List ℕ) (names : Meanings) (before : List Value) (N : ℕ) (node : Node) → NodeFits names before N node → IsValueOf N (node_gives typing names before N node)
 node_fits typing names before N (nodes.Literal z) fit = (refl, residue_lt N z)
 node_fits typing names before N (nodes.Constant k) fit = fit
@@ -92,7 +92,7 @@ node_fits typing names before N (nodes.Unary function a) fit = function_value_fi
 node_fits typing names before N (nodes.Binary op a b) fit =
     value_fits N (instruction op no_flags N (value_at before a) (value_at before b)) (IsEffectOf-instruction op no_flags N (value_at before a) (value_at before b) fit.0 fit.1)
 
--- Values behind each of which stands another of its element's width:
+-- Values, each of the width of the class of the element at its place:
 module _ {X : Type 0} (class : X → ℕ) (typing : List ℕ) where
   abbrev pub Fit : List X → List Value → Type 0
   Fit xs values = (k : ℕ) (x : X) (v : Value) (N : ℕ) → slice_get xs k ≡ Some x → slice_get values k ≡ Some v → slice_get typing (class x) ≡ Some N → IsValueOf N v
@@ -101,7 +101,7 @@ module _ {X : Type 0} (class : X → ℕ) (typing : List ℕ) where
   Fit-none xs zero x v N there here width = cc
   Fit-none xs (suc k) x v N there here width = cc
 
-  -- what stands in a list with one more element
+  -- an element of a list that one was appended to is an old one or that one
   get_push : {Y : Type 0} (ys : List Y) (y : Y) (k : ℕ) (u : Y) → slice_get (ys ++ y ∷ []) k ≡ Some u → (slice_get ys k ≡ Some u) ⊎ ((k ≡ length ys) × (u ≡ y))
   get_push [] y zero u at = inr (refl, cc)
   get_push [] y (suc k) u at = cc
@@ -118,7 +118,7 @@ module _ {X : Type 0} (class : X → ℕ) (typing : List ℕ) where
             rw same (new N N_x)
       ]
 
--- The nodes of terms, of which each fits where those before it do:
+-- Nodes of terms, each of which can be evaluated once those before it give values of their widths:
 module _ (typing : List ℕ) (names : Meanings) (terms : List Term)
     (ready : (n : ℕ) (t : Term) (before : List Value) (N : ℕ) → slice_get terms n ≡ Some t → length before ≡ n → TermsFit typing terms before → slice_get typing t.class ≡ Some N → NodeFits names before N t.node) where
   pub first_length : (i : ℕ) → i ≤ length terms → length (values_of typing names (take i terms)) ≡ i

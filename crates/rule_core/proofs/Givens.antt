@@ -1,4 +1,5 @@
--- What statements read beside registers fits: the numbers of constants and of a half's choices, and what terms give.
+-- What statements read beside registers is there, of its width: numbers of constants and of a half's choices, and
+-- terms.
 use Rattle.std.proofs.Common.{◌≡◌, ℕ, suc, ◌-◌, ◌<◌, List, [], length, take, length-take, Some, sym, ap, subst, ◌∙◌, arith, get_or}
 use Rattle.std.specs.Prelude.{slice_get, Contains, map}
 use Rattle.std.specs.List.{range_with_len}
@@ -22,7 +23,7 @@ use Rattle.rule_core.specs.Readiness.{GivenFits}
 use Rattle.rule_core.proofs.Members.{Contains-from_get, Contains-map, flat_map-from, statement_open, choice_opens, reads_undef, freezes}
 use Rattle.rule_core.proofs.Ready.{constant_values_fit}
 
--- an element of the first ones is one of all
+-- an element of a prefix is one of the list, at the same place
 pub get_taken : {X : Type 0} (xs : List X) (n k : ℕ) (x : X) → slice_get (take n xs) k ≡ Some x → (slice_get xs k ≡ Some x) × (k < n)
 get_taken xs n k x at =
     let inside : k < length (take n xs) = slice_get_within (take n xs) k x at in
@@ -30,13 +31,13 @@ get_taken xs n k x at =
     let within : k < length xs = omega (arith, length-take n xs) in
     (slice_get-get_or xs k x within ∙ ap (λ y. Some y) (sym (get_or-take n xs k x less) ∙ get_or_from_slice_get (take n xs) k x x at), less)
 
--- and one of all at a place below their number is one of the first ones
+-- an element of the list whose place is below the prefix's length is one of the prefix
 pub Contains-take : {X : Type 0} (xs : List X) (n k : ℕ) (x : X) → k < n → slice_get xs k ≡ Some x → Contains (take n xs) x
 Contains-take xs n k x less at =
     let within : k < length xs = slice_get_within xs k x at in
     (k, omega (arith, length-take n xs), get_or-take n xs k x less ∙ get_or_from_slice_get xs k x x at)
 
--- the place of a choice is below the number of the half's
+-- the number of a choice is below the count of its half's choices
 choice_within : (statements : List Statement) (k c : ℕ) → ChoicesInOrder statements → LeavesOpen statements k c → k < length (choices_among statements)
 choice_within statements k c order left_open =
     let count : ℕ = length (choices_among statements) in
@@ -46,7 +47,7 @@ choice_within statements k c order left_open =
     let small : placed.0 < count = omega (arith, placed.1, length-range_with_len 0 count) in
     omega (arith, small, placed.2, get_or-range_with_len 0 count placed.0 k small)
 
--- choices of the source are its root's
+-- a statement of the source that has a choice is the root's
 pub opens_root : (rule : Rule) → IsRule rule → (j : ℕ) (s : Statement) (choice : Choice) → slice_get rule.source j ≡ Some s → Contains (choices_of s) choice → suc j ≡ length rule.source
 opens_root rule checked j s choice at among =
     elim (choice_opens s choice among) [
@@ -62,7 +63,7 @@ choice_ready N k choices within fits =
     (n, at, fits n at)
 
 module _ (rule : Rule) (typing : List ℕ) (constants : List Number) (checked : IsRule rule) (typed : IsTyping rule typing) (fits : ConstantsFit rule typing constants) where
-  -- the choices of the first statements of the source are those of all
+  -- a choice of the first statements of the source is one of the source
   among_source : (count k c : ℕ) → LeavesOpen (take count rule.source) k c
       → (j : ℕ) × (s : Statement) × (slice_get rule.source j ≡ Some s) × (j < count) × Contains (choices_of s) (record { place = k; class = c })
   among_source count k c left_open =
@@ -82,7 +83,7 @@ module _ (rule : Rule) (typing : List ℕ) (constants : List Number) (checked : 
         terms = constant_values_fit rule typing constants checked typed fits;
       }
 
-  -- no choice stands before the root
+  -- before the root no choice is needed, since none stands there
   pub given_before_root : GivenFits rule typing (take (length rule.source - 1) rule.source) (given_by typing constants [] rule)
   given_before_root =
       record {
@@ -105,7 +106,7 @@ module _ (rule : Rule) (typing : List ℕ) (constants : List Number) (checked : 
         terms = constant_values_fit rule typing constants checked typed fits;
       }
 
--- the same of equal parts
+-- the same for parts that are equal to these
 pub GivenFits-at : (rule : Rule) (typing classes : List ℕ) (half : List Statement) (constants choices numbers chosen : List Number) (terms : List Value)
     → classes ≡ typing → numbers ≡ constants → chosen ≡ choices → terms ≡ constant_values typing constants rule
     → GivenFits rule typing half (given_by typing constants choices rule) → GivenFits rule classes half (record { constants = numbers; choices = chosen; terms = terms })

@@ -18,18 +18,18 @@ use Rattle.rule_core.specs.declared.rule.Register.{Register}
 use Rattle.rule_core.specs.declared.rule.Choice.{Choice}
 use Rattle.rule_core.specs.Positions.{operands_of, operands_among, operands_in, IsOperandAmong, undef_in, frozen_in, choices_of, choices_among, LeavesOpen, classes_of_statement, classes_of_term, classes_of, terms_in, IsStatementOf, IsTermOf}
 
--- what stands at a place is an element
+-- what is at a place of a list is an element of it
 pub Contains-from_get : {X : Type 0} (xs : List X) (k : ℕ) (x : X) → slice_get xs k ≡ Some x → Contains xs x
 Contains-from_get xs k x at = (k, slice_get_within xs k x at, get_or_from_slice_get xs k x x at)
 
--- an element of what an element is mapped to is one of all that the elements are mapped to
+-- an element of f x, for an element x, is one of `flat_map f`
 pub Contains-flat_map : {X Y : Type 0} (f : X → List Y) (xs : List X) (x : X) (y : Y) → Contains xs x → Contains (f x) y → Contains (flat_map f xs) y
 Contains-flat_map f [] x y (k, lt, e) h = absurd (omega arith)
 Contains-flat_map f (a ∷ xs) x y (zero, lt, e) h = Contains-append_left (f a) (flat_map f xs) y (rw (sym e) at h)
 Contains-flat_map f (a ∷ xs) x y (suc k, lt, e) h =
     Contains-append_right (f a) (flat_map f xs) y (Contains-flat_map f xs x y (k, omega arith, e) h)
 
--- and one of all is one of what some element is mapped to
+-- an element of `flat_map f` is one of f x, for some x at some place
 pub flat_map-from : {X Y : Type 0} (f : X → List Y) (xs : List X) (y : Y) → Contains (flat_map f xs) y → (j : ℕ) × (x : X) × (slice_get xs j ≡ Some x) × Contains (f x) y
 flat_map-from f [] y (k, lt, e) = absurd (omega arith)
 flat_map-from f (a ∷ xs) y among =
@@ -38,12 +38,12 @@ flat_map-from f (a ∷ xs) y among =
       | inr there ↦ let rest = flat_map-from f xs y there in (suc rest.0, rest.1, rest.2, rest.3)
     ]
 
--- the one element of a list is that
+-- the element of a list of one is that one
 single : {X : Type 0} (a x : X) → Contains (a ∷ []) x → a ≡ x
 single a x (zero, lt, e) = e
 single a x (suc k, lt, e) = absurd (omega arith)
 
--- what an element is mapped to is an element
+-- f x is an element of `map f` where x is one of the list
 pub Contains-map : {X Y : Type 0} (f : X → Y) (xs : List X) (x : X) → Contains xs x → Contains (map f xs) (f x)
 Contains-map f [] x (k, lt, e) = absurd (omega arith)
 Contains-map f (a ∷ xs) x (zero, lt, e) = (0, omega arith, ap f e)
@@ -55,7 +55,7 @@ source_statement rule k s at = Contains-append_left rule.source rule.target s (C
 pub target_statement : (rule : Rule) (k : ℕ) (s : Statement) → slice_get rule.target k ≡ Some s → IsStatementOf rule s
 target_statement rule k s at = Contains-append_right rule.source rule.target s (Contains-from_get rule.target k s at)
 
--- the operands of a statement of the rule are the rule's, and so are the classes
+-- the operands of a statement are operands of the rule, and their classes classes of the rule
 pub operand_stands : (rule : Rule) (s : Statement) (o : Operand) → IsStatementOf rule s → Contains (operands_of s.op) o → Contains (operands_in rule) o
 operand_stands rule s o stands among = Contains-flat_map (λ (t : Statement). operands_of t.op) (rule.source ++ rule.target) s o stands among
 
@@ -95,14 +95,15 @@ constant_term rule n t at = Contains-append_left rule.terms rule.witness_terms t
 pub witness_term : (rule : Rule) (n : ℕ) (t : Term) → slice_get rule.witness_terms n ≡ Some t → IsTermOf rule t
 witness_term rule n t at = Contains-append_right rule.terms rule.witness_terms t (Contains-from_get rule.witness_terms n t at)
 
--- the classes half by half, and then those of the constant terms and those of `Wit:`
+-- the classes of a rule: those of its source, of its target, of the constant terms and of `Wit:`, one list behind the
+-- other
 pub classes_apart : (rule : Rule) → classes_of rule ≡ flat_map classes_of_statement rule.source ++ (flat_map classes_of_statement rule.target ++ flat_map classes_of_term (terms_in rule))
 classes_apart rule =
     rw (flat_map-append classes_of_statement rule.source rule.target)
     (append_assoc (flat_map classes_of_statement rule.source) (flat_map classes_of_statement rule.target) (flat_map classes_of_term (terms_in rule)))
 
--- what stands at a place of the first list stands there in both, and what stands in the second one stands behind the
--- first
+-- two lists one behind the other keep the first one's places, and those of the second are moved by the first one's
+-- length
 pub get-append_left : {X : Type 0} (xs ys : List X) (k : ℕ) (x : X) → slice_get xs k ≡ Some x → slice_get (xs ++ ys) k ≡ Some x
 get-append_left [] ys k x at = elim k as (λ j. slice_get [] j ≡ Some x → slice_get ys j ≡ Some x) [ zero ↦ λ h. cc | suc j ↦ λ h. cc ] at
 get-append_left (a ∷ xs) ys zero x at = at
@@ -112,7 +113,7 @@ pub get-append_right : {X : Type 0} (xs ys : List X) (k : ℕ) → slice_get (xs
 get-append_right [] ys k = rw zero-add refl
 get-append_right (a ∷ xs) ys k = rw (suc-add (length xs) k) (get-append_right xs ys k)
 
--- what stands at a place of what an element is mapped to, counted from what those before it are mapped to
+-- where f x is in `flat_map f`: behind what all before x are mapped to
 pub get-flat_map : {X Y : Type 0} (f : X → List Y) (xs : List X) (i : ℕ) (x : X) (k : ℕ) (y : Y) → i < length xs → x ≡ get_or xs i x → slice_get (f x) k ≡ Some y → slice_get (flat_map f xs) (length (flat_map f (take i xs)) + k) ≡ Some y
 get-flat_map f [] i x k y within is at = absurd (omega arith)
 get-flat_map f (a ∷ xs) zero x k y within is at = rw zero-add (get-append_left (f a) (flat_map f xs) k y (rw is at at))
@@ -120,7 +121,7 @@ get-flat_map f (a ∷ xs) (suc i) x k y within is at =
     rw (length-append (f a) (flat_map f (take i xs)), add_assoc (length (f a)) (length (flat_map f (take i xs))) k)
     (get-append_right (f a) (flat_map f xs) (length (flat_map f (take i xs)) + k) ∙ get-flat_map f xs i x k y (omega arith) is at)
 
--- and the same where a place is counted from the end of the first list
+-- the same where the place is given as counted from the end of the first list
 pub get_behind : {X : Type 0} (xs ys : List X) (k rest : ℕ) (x : X) → k ≡ length xs + rest → slice_get ys rest ≡ Some x → slice_get (xs ++ ys) k ≡ Some x
 get_behind xs ys k rest x is at = rw is (get-append_right xs ys rest ∙ at)
 
@@ -135,7 +136,7 @@ target_operand rule o among =
     rw (flat_map-append (λ (s : Statement). operands_of s.op) rule.source rule.target)
     (Contains-append_right (operands_among rule.source) (operands_among rule.target) o among)
 
--- The choices of a statement: those that its operands are,
+-- The choices of a statement are those that its operands make
 undefs_of : Operand → List Choice
 undefs_of o = undef_in o.class o.value
 
@@ -146,7 +147,7 @@ undef_chosen s o k among is =
     let own : Contains (undefs_of o) choice = rw is (Contains-from_get (choice ∷ []) 0 choice refl) in
     Contains-append_left (flat_map undefs_of (operands_of s.op)) (frozen_in s.class s.op) choice (Contains-flat_map undefs_of (operands_of s.op) o choice among own)
 
--- and that of a freeze;
+-- and the one that a freeze makes;
 pub freeze_chosen : (s : Statement) (a : Operand) (k : ℕ) → s.op ≡ Freeze a k → Contains (choices_of s) (record { place = k; class = s.class })
 unfolding undefs_of
 freeze_chosen s a k is =
@@ -167,7 +168,7 @@ freeze_is c (Freeze a k) choice here =
     (ap (λ (other : Choice). other.class) same, (a, ap (λ (other : Choice). Freeze a other.place) same))
 freeze_is c op choice (k, lt, e) = absurd (omega arith)
 
--- the choice is an `undef` that the statement reads, or what it freezes to
+-- a choice of a statement is an `undef` that it reads, or the number of its freeze
 pub data Opens (s : Statement) (choice : Choice) : Type 0 where
   reads_undef : (o : Operand) → Contains (operands_of s.op) o → o.value ≡ arguments.Undef choice.place → o.class ≡ choice.class → Opens s choice
   freezes : (a : Operand) → s.op ≡ Freeze a choice.place → s.class ≡ choice.class → Opens s choice
@@ -183,7 +184,7 @@ choice_opens s choice among =
       | inr frozen ↦ let is = freeze_is s.class s.op choice frozen in freezes is.1.0 is.1.1 is.0
     ]
 
--- a half leaves open what its statements do
+-- a choice of a statement is one of its half
 pub statement_open : (statements : List Statement) (s : Statement) (choice : Choice) → Contains statements s → Contains (choices_of s) choice → Contains (choices_among statements) choice
 statement_open statements s choice here among = Contains-flat_map choices_of statements s choice here among
 

@@ -1,4 +1,4 @@
--- Each part of a run has one answer.
+-- A run is a function: each operand, operation and list of statements comes to one end.
 use Rattle.std.proofs.Common.{◌≡◌, ℕ, List, [], ◌∷◌, sym, ◌∙◌}
 use Rattle.std.proofs.lemmas.Option.{same_Some}
 use Rattle.ops.specs.Number.{Number}

@@ -40,7 +40,7 @@ frozen_fits : (N : ℕ) (v : Value) (n : Number) → IsValueOf N v → IsValueOf
 frozen_fits N Poison n is fit = fit
 frozen_fits N (Bits a) n is fit = is
 
--- what is ready gives a value of its width
+-- an operand that can be read, and a statement whose operands can, gives a value of its width
 module _ (typing : List ℕ) (given : Given) (held : Held) where
   argument_gives : (N : ℕ) (x : Argument) → ArgumentIsReady given held N x → (v : Value) × ArgumentGives typing given held N x v × IsValueOf N v
   argument_gives N (arguments.Register r) ready = ready
@@ -87,7 +87,7 @@ module _ (typing : List ℕ) (given : Given) (held : Held) where
       let given = op_gives N s.op ready in
       (given.0, (N, width, given.1), λ M width'. let same : N ≡ M = same_Some N M (sym width ∙ width') in rw (← same) given.2)
 
--- Statements of which each is ready in good states, and leads from one to the next, come to an end.
+-- A run whose every statement is ready in the states that the ones before it lead to comes to an end.
 GoodEnd : (ℕ → Held → Type 0) → ℕ → Ending → Type 0
 GoodEnd Good n Undefines = Unit {0}
 GoodEnd Good n (Holds held) = Good n held
@@ -113,20 +113,20 @@ module _ (typing : List ℕ) (given : Given) (holding : Held → Value → Held)
             (tail.0, (effects.Gives v, gives, tail.1), subst (λ n. GoodEnd Good n tail.0) count tail.2)
       ] step.1 step.2
 
--- after k source statements, all that is held fits
+-- k source statements have run, and all registers hold values of their widths
 record SourceHeld (rule : Rule) (typing : List ℕ) (k : ℕ) (held : Held) : Type 0 where
   fits : HeldFits rule typing held
   count : length held.source ≡ k
   none : length held.target ≡ 0
 
--- and after k target statements
+-- the source's temporaries and k target statements have run, and likewise
 record TargetHeld (rule : Rule) (typing : List ℕ) (k : ℕ) (held : Held) : Type 0 where
   fits : HeldFits rule typing held
   before : length held.source + 1 ≡ length rule.source
   count : length held.target ≡ k
 
 module _ (rule : Rule) (typing : List ℕ) (checked : IsRule rule) (typed : IsTyping rule typing) (constants : List Number) (known : ConstantsFit rule typing constants) where
-  -- the first statements of the source come to an end
+  -- the first `count` statements of the source come to an end
   source_ends : (given : Given) (count : ℕ) → GivenFits rule typing (take count rule.source) given → count ≤ length rule.source → (inputs : List Value) → InputsFit rule typing inputs
       → (end : Ending) × Follows typing given holding_source (take count rule.source) (at_start inputs) end × GoodEnd (SourceHeld rule typing) count end
   source_ends given count given_fits within inputs fit =
@@ -180,7 +180,7 @@ module _ (rule : Rule) (typing : List ℕ) (checked : IsRule rule) (typed : IsTy
             (last.0, (Holds held, follows, last.1))
       ] all run.2
 
-  -- the target has one after the source's temporaries
+  -- the target has one, from what the source's temporaries hold
   target_goes_on : (choices : List Number) (held : Held) → TargetChoicesFit rule typing choices → TargetHeld rule typing 0 held → (e : Effect) × TargetGoesOn typing constants choices rule held e
   unfolding GoodEnd
   target_goes_on choices held chosen good =
@@ -197,7 +197,7 @@ module _ (rule : Rule) (typing : List ℕ) (checked : IsRule rule) (typed : IsTy
       → (end : Ending) × TemporariesEnd typing constants rule inputs end × GoodEnd (SourceHeld rule typing) (length rule.source - 1) end
   temporaries_end inputs fit = source_ends (given_by typing constants [] rule) (length rule.source - 1) (given_before_root rule typing constants checked typed known) (omega arith) inputs fit
 
-  -- what they hold then fits
+  -- the values that they hold then are of their widths
   pub temporaries_fit : (inputs : List Value) → InputsFit rule typing inputs → (held : Held) → TemporariesEnd typing constants rule inputs (Holds held) → HeldFits rule typing held
   unfolding GoodEnd
   temporaries_fit inputs fit held ends =
@@ -223,11 +223,12 @@ start_fits : (rule : Rule) (typing : List ℕ) (inputs : List Value) → InputsF
 start_fits rule typing inputs fit = record { inputs = fit; source = ValuesFit-none typing rule.source; target = ValuesFit-none typing rule.target }
 
 module _ (rule : Rule) (typing : List ℕ) (setting : Setting) (checked : IsRule rule) (typed : IsTyping rule typing) (fits : SettingFits rule typing setting) where
-  -- what `Wit:` chooses where registers hold these values
+  -- the numbers that `Wit:` chooses where registers hold these values
   abbrev chosen_at : Held → List Number
   chosen_at held = map (witness_number rule typing setting held) rule.witnesses
 
-  -- one outcome, where the temporaries end so and these registers that fit are what they hold, if they hold something
+  -- there is one outcome: `held` is what the temporaries hold, or, where they end in undefined behaviour, any values
+  -- that fit
   outcome : (end : Ending) (held : Held) → TemporariesEnd typing setting.constants rule setting.inputs end → HeldFits rule typing held
       → ((other : Held) → end ≡ Holds other → held ≡ other) → ((end ≡ Undefines) ⊎ (end ≡ Holds held))
       → (choices : List Number) × (source : Effect) × (target : Effect) × HaveEffects rule typing setting choices source target

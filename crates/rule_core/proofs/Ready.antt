@@ -46,8 +46,7 @@ constant_ready rule typing constants k c N fits named width within =
     let at : slice_get constants k ≡ Some n = slice_get-get_or constants k zero_bits (omega (arith, fits.count)) in
     (n, at, fits.widths k c N n named width at)
 
--- what a register that is assigned holds has the width of each position that names it, and so have a constant and a
--- term
+-- what a register, a constant or a term gives has the width of each position that names it
 module _ (rule : Rule) (typing : List ℕ) (half : List Statement) (given : Given) (held : Held) (typed : IsTyping rule typing) (given_fits : GivenFits rule typing half given) (fits : HeldFits rule typing held) (o : Operand) (N : ℕ) (stands : Contains (operands_in rule) o) (width : slice_get typing o.class ≡ Some N) where
   read_input : (i : ℕ) → o.value ≡ arguments.Register (registers.Input i) → i < length held.inputs → ArgumentIsReady given held N (arguments.Register (registers.Input i))
   read_input i is within =
@@ -83,7 +82,7 @@ module _ (rule : Rule) (typing : List ℕ) (half : List Statement) (given : Give
   truth_width : (b : Bool) → o.value ≡ arguments.Truth b → N ≡ 1
   truth_width b is = same_Some N 1 (sym width ∙ typed.fixed o.class 1 (truth stands is))
 
-  -- what a statement may read is there: of the source, once those before it have run
+  -- what source statement k may read has a value once the statements before it have run
   source_argument : (k : ℕ) (s : Statement) (x : Argument) → k < length rule.source → length held.source ≡ k → IsOperandAmong half o → o.value ≡ x → SourceMayRead rule k x → ArgumentIsReady given held N x
   source_argument k s (arguments.Register (registers.Input i)) within so_far among is may = read_input i is (omega (arith, fits.inputs.count))
   source_argument k s (arguments.Register (registers.Source j)) within so_far among is may =
@@ -95,7 +94,7 @@ module _ (rule : Rule) (typing : List ℕ) (half : List Statement) (given : Give
   source_argument k s (arguments.Undef j) within so_far among is may = given_fits.choices j o.class N (operand_open half o j among is) width
   source_argument k s (arguments.Term n) within so_far among is may = absurd may
 
-  -- and of the target, once the source's temporaries and those before it have
+  -- and what target statement k may, once the source's temporaries and the target statements before it have
   target_argument : (k : ℕ) (s : Statement) (x : Argument) → k < length rule.target → length held.source + 1 ≡ length rule.source → length held.target ≡ k → IsOperandAmong half o → o.value ≡ x → TargetMayRead rule k x → ArgumentIsReady given held N x
   target_argument k s (arguments.Register (registers.Input i)) within before so_far among is may = read_input i is (omega (arith, fits.inputs.count))
   target_argument k s (arguments.Register (registers.Source j)) within before so_far among is may =
@@ -108,11 +107,11 @@ module _ (rule : Rule) (typing : List ℕ) (half : List Statement) (given : Give
   target_argument k s (arguments.Undef j) within before so_far among is may = given_fits.choices j o.class N (operand_open half o j among is) width
   target_argument k s (arguments.Term n) within before so_far among is may = read_term n is may
 
--- a statement is ready once all that it reads is
+-- every operand of the operation can be read
 AllReady : List ℕ → Given → Held → Op → Type 0
 AllReady typing given held op = (o : Operand) (N : ℕ) → Contains (operands_of op) o → slice_get typing o.class ≡ Some N → ArgumentIsReady given held N o.value
 
--- and all that it leaves open
+-- every choice of the statement has a number
 AllChosen : List ℕ → Given → Statement → Type 0
 AllChosen typing given s = (k c N : ℕ) → Contains (choices_of s) (record { place = k; class = c }) → slice_get typing c ≡ Some N → ChoiceIsReady given N k
 
@@ -159,8 +158,7 @@ statement_ready rule typing given held s typed stands fit ready chosen =
     let w = class_width rule typing s.class typed (class_stands rule s stands) in
     (w.0, w.1, op_ready rule typing given held s w.0 s.op typed stands w.1 refl fit ready chosen)
 
--- source statement k is ready once those before it have run, where what is given fits the statements of a part of the
--- source
+-- source statement k is ready once those before it have run, where `given` fits some statements of which it is one
 pub source_ready : (rule : Rule) (typing : List ℕ) (half : List Statement) (given : Given) (held : Held) (k : ℕ) (s : Statement) → IsRule rule → IsTyping rule typing → GivenFits rule typing half given → HeldFits rule typing held
     → slice_get rule.source k ≡ Some s → Contains half s → length held.source ≡ k → StatementIsReady typing given held s
 unfolding AllReady AllChosen
@@ -184,7 +182,7 @@ target_ready rule typing given held k s checked typed given_fits fits at before 
     (Contains-flat_map (λ (s : Statement). operands_of s.op) rule.target s o (Contains-from_get rule.target k s at) among) refl (checked.target_reads k s o at among))
     (λ j c N among width. given_fits.choices j c N (statement_open rule.target s (record { place = j; class = c }) (Contains-from_get rule.target k s at) among) width)
 
--- a value of the next result's width fits behind those that do
+-- values stay of their widths where one of the next result's width is appended
 pub ValuesFit-push : (typing : List ℕ) (statements : List Statement) (values : List Value) (s : Statement) (v : Value)
     → ValuesFit typing statements values → slice_get statements (length values) ≡ Some s → ((N : ℕ) → slice_get typing s.class ≡ Some N → IsValueOf N v) → ValuesFit typing statements (values ++ v ∷ [])
 ValuesFit-push typing = Fit-push (λ (s : Statement). s.class) typing
@@ -192,7 +190,7 @@ ValuesFit-push typing = Fit-push (λ (s : Statement). s.class) typing
 pub ValuesFit-none : (typing : List ℕ) (statements : List Statement) → ValuesFit typing statements []
 ValuesFit-none typing = Fit-none (λ (s : Statement). s.class) typing
 
--- what holds before source statement k, and before target statement k
+-- the registers after the statements before source statement k, and before target statement k, let it run
 pub source_next : (rule : Rule) (typing : List ℕ) (half : List Statement) (given : Given) (inputs values : List Value) (k : ℕ) (s : Statement)
     → IsRule rule → IsTyping rule typing → GivenFits rule typing half given → InputsFit rule typing inputs → ValuesFit typing rule.source values → length values ≡ k → slice_get rule.source k ≡ Some s → Contains half s
     → StatementIsReady typing given (record { inputs = inputs; source = values; target = [] }) s

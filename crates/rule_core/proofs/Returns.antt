@@ -1,4 +1,4 @@
--- What the halves do, from how their statements ran.
+-- What `run_source` and `run_target` return, from how far their statements ran.
 use Rattle.std.proofs.Common.{◌≡◌, ℕ, ◌-◌, ◌<◌, List, [], length, Option, None, Some, refl, sym, ◌∙◌, ap, arith, get_or}
 use Rattle.std.proofs.lemmas.List.{take_all}
 use Rattle.std.proofs.lemmas.Option.{slice_get_read}
@@ -10,7 +10,7 @@ use Rattle.rule_core.specs.Terms.{constant_values}
 use Rattle.rule_core.specs.Run.{Undefines, Holds, GivesLast, given_by, SourceGives, TargetGives}
 use Rattle.rule_core.specs.Readiness.{SourceRan, TargetRan}
 
--- the same from equal parts
+-- the values of the terms, for parts that are equal to these
 pub terms_are : (rule : Rule) (typing classes : List ℕ) (constants numbers : List Number) (items terms : List Value)
     → classes ≡ typing → numbers ≡ constants → items ≡ constant_values classes numbers rule → terms ≡ items → terms ≡ constant_values typing constants rule
 terms_are rule typing classes constants numbers items terms p q r s = s ∙ r ∙ ap (λ N. constant_values N numbers rule) p ∙ ap (λ n. constant_values typing n rule) q

@@ -9,7 +9,7 @@ use Rattle.ops.specs.declared.value.Effect.{Effect}
 use Rattle.rule_core.specs.declared.rule.Statement.{Statement}
 use Rattle.rule_core.specs.Run.{Held, Given, Ending, GoesOn, StatementGives, Follows}
 
--- the statement at a place gives its effect, and the run goes on from the next one
+-- a run from statement i on: the statement has its effect, and the run from the next one follows
 pub Follows-step : (typing : List ℕ) (given : Given) (holding : Held → Value → Held) (statements : List Statement) (i : ℕ) (s : Statement) (held : Held) (e : Effect) (end : Ending)
     → i < length statements → s ≡ get_or statements i s → StatementGives typing given held s e
     → GoesOn (λ v. Follows typing given holding (drop (i + 1) statements) (holding held v) end) e end
@@ -18,7 +18,7 @@ Follows-step typing given holding statements i s held e end within is gives goes
     let parts : drop i statements ≡ s ∷ drop (i + 1) statements = rw add-one (drop-cons statements i s within ∙ ap (λ x. x ∷ drop (suc i) statements) (sym is)) in
     rw parts (e, gives, goes)
 
--- the same for the first statements, so many
+-- the same where only the first `count` statements of the list are run
 pub Follows-step-take : (typing : List ℕ) (given : Given) (holding : Held → Value → Held) (statements : List Statement) (count i : ℕ) (s : Statement) (held : Held) (e : Effect) (end : Ending)
     → i < count → count ≤ length statements → slice_get statements i ≡ Some s → StatementGives typing given held s e
     → GoesOn (λ v. Follows typing given holding (drop (i + 1) (take count statements)) (holding held v) end) e end

@@ -1,4 +1,4 @@
--- Elements that give in turn, each from what those before it gave.
+-- Evaluations in order (`in_turn`): each element gives one result, from those before it.
 use Rattle.std.proofs.Common.{◌≡◌, ℕ, zero, suc, ◌+◌, ◌<◌, ◌≤◌, List, [], ◌∷◌, ◌++◌, length, take, drop, length-append, length-take, add-zero, zero-add, add-one, Some, refl, sym, ap, ◌∙◌, arith, get_or}
 use Rattle.std.specs.Prelude.{slice_get}
 use Rattle.std.proofs.Math.Seq.{take-suc}
@@ -16,19 +16,19 @@ module _ {X Y : Type 0} (gives : List Y → X → Y) where
   in_turn-length done [] = sym (add-zero (length done))
   in_turn-length done (x ∷ xs) = omega (arith, in_turn-length (done ++ gives done x ∷ []) xs, length-append done (gives done x ∷ []))
 
-  -- what is done stays
+  -- a result stays as it is in all that follow
   in_turn-keeps : (done : List Y) (xs : List X) (k : ℕ) (y : Y) → slice_get done k ≡ Some y → slice_get (in_turn gives done xs) k ≡ Some y
   in_turn-keeps done [] k y at = at
   in_turn-keeps done (x ∷ xs) k y at = in_turn-keeps (done ++ gives done x ∷ []) xs k y (get-append_left done (gives done x ∷ []) k y at)
 
-  -- one element more
+  -- one element more gives one result more
   pub in_turn-step : (xs : List X) (i : ℕ) (x : X) → slice_get xs i ≡ Some x → in_turn gives [] (take (i + 1) xs) ≡ in_turn gives [] (take i xs) ++ gives (in_turn gives [] (take i xs)) x ∷ []
   in_turn-step xs i x at =
       let inside : i < length xs = slice_get_within xs i x at in
       let parts : take (i + 1) xs ≡ take i xs ++ x ∷ [] = rw add-one (take-suc xs i x inside ∙ ap (λ y. take i xs ++ y ∷ []) (get_or_from_slice_get xs i x x at)) in
       rw (parts, in_turn-append [] (take i xs) (x ∷ [])) refl
 
-  -- at each place stands what its element gives from what those before it gave
+  -- the result of an element is what it gives from the results before it
   behind : (done : List Y) (xs : List X) (n : ℕ) (x : X) → slice_get xs n ≡ Some x → slice_get (in_turn gives done xs) (length done + n) ≡ Some (gives (in_turn gives done (take n xs)) x)
   behind done [] n x at = elim n as (λ m. slice_get [] m ≡ Some x → slice_get (in_turn gives done []) (length done + n) ≡ Some (gives (in_turn gives done (take n [])) x)) [ zero ↦ λ h. cc | suc m ↦ λ h. cc ] at
   behind done (a ∷ xs) zero x at =
@@ -43,7 +43,7 @@ module _ {X Y : Type 0} (gives : List Y → X → Y) where
   pub at_place : (xs : List X) (n : ℕ) (x : X) → slice_get xs n ≡ Some x → slice_get (in_turn gives [] xs) n ≡ Some (gives (in_turn gives [] (take n xs)) x)
   at_place xs n x at = rw (zero-add n) at (behind [] xs n x at)
 
-  -- and what those before a place gave is what stands there in the end
+  -- the results before a place are the same in the whole evaluation
   pub before_place : (xs : List X) (n j : ℕ) (d : Y) → n ≤ length xs → j < n → get_or (in_turn gives [] (take n xs)) j d ≡ get_or (in_turn gives [] xs) j d
   before_place xs n j d within less =
       let part : List Y = in_turn gives [] (take n xs) in
@@ -52,7 +52,7 @@ module _ {X Y : Type 0} (gives : List Y → X → Y) where
       let whole : in_turn gives [] xs ≡ in_turn gives part (drop n xs) = ap (in_turn gives []) (sym (take-append-drop n xs)) ∙ in_turn-append [] (take n xs) (drop n xs) in
       sym (get_or_from_slice_get (in_turn gives [] xs) j (get_or part j d) d (rw whole (in_turn-keeps part (drop n xs) j (get_or part j d) here)))
 
-  -- So it gives the same from what all of them gave, if it reads only places before its own.
+  -- So an element that reads only results of earlier ones gives the same from all the results.
   pub settled : (xs : List X) (n : ℕ) (x : X) → slice_get xs n ≡ Some x
       → ((some all : List Y) → ((j : ℕ) (d : Y) → j < n → get_or some j d ≡ get_or all j d) → gives some x ≡ gives all x)
       → slice_get (in_turn gives [] xs) n ≡ Some (gives (in_turn gives [] xs) x)

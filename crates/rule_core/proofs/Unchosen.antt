@@ -1,4 +1,4 @@
--- Statements that leave nothing open run the same whatever is chosen.
+-- Statements without choices run the same whatever numbers the choices have.
 use Rattle.std.proofs.Common.{◌≡◌, ℕ, suc, ◌-◌, ◌<◌, List, [], ◌∷◌, ◌++◌, length, drop, Some, refl, arith}
 use Rattle.std.specs.Prelude.{slice_get, Contains}
 use Rattle.std.proofs.lemmas.List.{take-append-drop}
@@ -21,7 +21,7 @@ use Rattle.rule_core.proofs.Members.{Contains-from_get, undef_chosen, freeze_cho
 use Rattle.rule_core.proofs.Givens.{get_taken, opens_root}
 use Rattle.rule_core.proofs.Once.{follows_once}
 
--- statements that end in undefined behaviour do so with others behind them
+-- a run that ends in undefined behaviour does so with more statements behind
 pub follows-stops : (typing : List ℕ) (given : Given) (holding : Held → Value → Held) (first more : List Statement) (start : Held) → Follows typing given holding first start Undefines
     → Follows typing given holding (first ++ more) start Undefines
 follows-stops typing given holding [] more start ran = cc
@@ -34,7 +34,7 @@ follows-stops typing given holding (s ∷ first) more start (e, gives, goes) = (
   ] goes,
 )
 
--- it is no `undef`
+-- the operand isn't `undef`
 NoUndef : Argument → Type 0
 NoUndef argument = (k : ℕ) → argument ≡ arguments.Undef k → ⊥
 
@@ -83,7 +83,7 @@ module _ (rule : Rule) (typing : List ℕ) (constants choices : List Number) whe
         | effects.Gives v ↦ λ gives goes. (effects.Gives v, (N, width, gives), follows_same statements (holding_source held v) end (λ k. none (suc k)) goes)
       ] same goes
 
-  -- so do the source's temporaries
+  -- the source's temporaries have no choices, so they run the same
   pub temporaries_same : IsRule rule → (held : Held) (end : Ending) → Follows typing (given_by typing constants [] rule) holding_source (temporaries_of rule) held end
       → Follows typing (given_by typing constants choices rule) holding_source (temporaries_of rule) held end
   temporaries_same checked held end ran =
@@ -93,7 +93,7 @@ module _ (rule : Rule) (typing : List ℕ) (constants choices : List Number) whe
       let before : k < length rule.source - 1 = whole.1 in
       absurd (omega arith)) ran
 
-  -- and the source has undefined behaviour where they have it
+  -- where they have undefined behaviour, the source does
   pub undefined_source : IsRule rule → (inputs : List Value) (e : Effect) → TemporariesEnd typing constants rule inputs Undefines → SourceGives typing constants choices rule inputs e → e ≡ effects.Undefined
   undefined_source checked inputs e ends (end, follows, leads) =
       let count : ℕ = length rule.source - 1 in

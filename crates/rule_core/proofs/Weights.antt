@@ -1,4 +1,4 @@
--- A rule has few nodes.
+-- How many nodes a rule has at most, from its count of operands, names, literals, operators and functions.
 use Rattle.std.proofs.Common.{ℕ, ◌+◌, ◌≤◌, List, [], ◌∷◌, length, length-append, arith}
 use Rattle.std.specs.Prelude.{sum_by}
 use Rattle.std.proofs.lemmas.List.Sums.{sum_by-cons}
@@ -22,7 +22,7 @@ formula_counts : (formula : Formula) → 1 ≤ formula_weight formula
 formula_counts (formulas.HasOneUse j) = omega arith
 formula_counts formula = omega arith
 
--- nodes of the rule's terms, and of its precondition
+-- the nodes of the terms and of the precondition are at most 256
 pub few_terms : (rule : Rule) → IsRule rule → length rule.terms + length rule.witness_terms ≤ 256
 few_terms rule checked =
     omega (arith, checked.few_nodes, counted term_weight (terms_in rule) (λ t. node_counts t.node), length-append rule.terms rule.witness_terms)

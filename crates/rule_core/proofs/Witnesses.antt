@@ -30,7 +30,7 @@ use Rattle.rule_core.proofs.Members.{Contains-from_get, witness_term}
 use Rattle.rule_core.proofs.Turns.{in_turn-length}
 use Rattle.rule_core.proofs.Fits.{NodeFits, number_or_zero_fits, all_fit}
 
--- what stands at a place of a list that is mapped
+-- an element of `map f` is f of the one at its place
 get-map : {X Y : Type 0} (f : X → Y) (xs : List X) (k : ℕ) (y : Y) → slice_get (map f xs) k ≡ Some y → (x : X) × (slice_get xs k ≡ Some x) × (y ≡ f x)
 get-map f [] zero y at = cc
 get-map f [] (suc k) y at = cc

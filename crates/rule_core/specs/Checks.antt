@@ -1,4 +1,4 @@
--- What a rule that is read meets: a field for each kind of fault that its text could have had.
+-- What a rule that was read meets: a field for each kind of fault that its text could have had.
 use Rattle.std.specs.Prelude.{◌≡◌, ℕ, suc, ◌+◌, ◌<◌, ◌≤◌, List, length, Some, Contains, slice_get, map, sum_by}
 use Rattle.std.specs.List.{range_with_len}
 use Rattle.ops.specs.Flags.{FlagsFit, CastFlagsFit}
@@ -50,15 +50,15 @@ IsBeforeRoot rule (registers.Input i) = i < length rule.inputs
 IsBeforeRoot rule (registers.Source j) = suc j < length rule.source
 IsBeforeRoot rule (registers.Target j) = ⊥
 
--- a register of which a target statement may name the width: one of these, or what a target statement but the root's
--- assigns
+-- a register of which a target statement may name the width: an input, a source temporary, or what a target statement
+-- but the root's assigns
 abbrev pub HasKnownWidth : Rule → Register → Type 0
 HasKnownWidth rule (registers.Input i) = i < length rule.inputs
 HasKnownWidth rule (registers.Source j) = suc j < length rule.source
 HasKnownWidth rule (registers.Target j) = suc j < length rule.target
 
--- node n of the constant terms may be this one: its operands are earlier nodes, and no register and no `undef` stands
--- in it
+-- node n of the constant terms may be this one: its operands are earlier nodes, it holds no register's value and no
+-- choice, and `width( )` is of a register whose width is known
 abbrev pub MayBeTerm : Rule → ℕ → Node → Type 0
 MayBeTerm rule n (nodes.Literal z) = Unit {0}
 MayBeTerm rule n (nodes.Constant k) = k < length rule.constants
@@ -68,12 +68,12 @@ MayBeTerm rule n (nodes.Width r c) = HasKnownWidth rule r
 MayBeTerm rule n (nodes.Unary function a) = a < n
 MayBeTerm rule n (nodes.Binary op a b) = (a < n) × (b < n)
 
--- the widths that a term of target statement k names are of registers that it may read
+-- the registers whose widths a term of target statement k names are ones that the statement may read
 abbrev pub TargetMayMeasure : Rule → ℕ → Argument → Type 0
 TargetMayMeasure rule k (arguments.Term n) = (r : Register) → NamesWidth rule.terms n r → TargetMayRead rule k (arguments.Register r)
 TargetMayMeasure rule k argument = Unit {0}
 
--- and those that a term of the precondition names
+-- the registers whose widths a term of the precondition names are inputs or source temporaries
 abbrev pub MeasuresBeforeRoot : Rule → ℕ → Type 0
 MeasuresBeforeRoot rule n = (r : Register) → NamesWidth rule.terms n r → IsBeforeRoot rule r
 
@@ -83,7 +83,7 @@ FormulaMayMeasure rule (formulas.IsPowerOfTwo a) = MeasuresBeforeRoot rule a
 FormulaMayMeasure rule (formulas.IsSignBit a) = MeasuresBeforeRoot rule a
 FormulaMayMeasure rule formula = Unit {0}
 
--- and node n of the expressions of `Wit:`
+-- node n of the expressions of `Wit:` may be this one
 abbrev pub MayBeWitness : Rule → ℕ → Node → Type 0
 MayBeWitness rule n (nodes.Literal z) = Unit {0}
 MayBeWitness rule n (nodes.Constant k) = k < length rule.constants
@@ -93,8 +93,8 @@ MayBeWitness rule n (nodes.Width r c) = IsBeforeRoot rule r
 MayBeWitness rule n (nodes.Unary function a) = a < n
 MayBeWitness rule n (nodes.Binary op a b) = (a < n) × (b < n)
 
--- and node n of the precondition: its operands are earlier nodes, or constant terms, and one use is asked of a source's
--- temporary
+-- node n of the precondition may be this one: its operands are earlier nodes of it, or constant terms, and `hasOneUse`
+-- is asked of a source temporary
 abbrev pub MayBeFormula : Rule → ℕ → Formula → Type 0
 MayBeFormula rule n (formulas.Compare pred a b) = (a < length rule.terms) × (b < length rule.terms)
 MayBeFormula rule n (formulas.IsPowerOfTwo a) = a < length rule.terms
@@ -126,17 +126,17 @@ ReadsNoUndefAlone (Freeze a k) = IsNoUndef a.value
 ReadsNoUndefAlone (Copy a) = IsNoUndef a.value
 ReadsNoUndefAlone op = Unit {0}
 
--- the choices of a half are known by the places of their order
+-- the choices of a half are numbered from 0, in the order of the text
 abbrev pub ChoicesInOrder : List Statement → Type 0
 ChoicesInOrder statements = map (λ c. c.place) (choices_among statements) ≡ range_with_len 0 (length (choices_among statements))
 
--- how many operands, names, literals, operators and functions stand where an operand does: those of its term are
--- counted there
+-- how many of the 256 operands, names, literals, operators and functions of a rule an operand counts as: none where it
+-- is a term, whose nodes count instead
 abbrev pub argument_weight : Argument → ℕ
 argument_weight (arguments.Term n) = 0
 argument_weight argument = 1
 
--- a node and the register in it
+-- a node counts once, and `width( )` once more for its register
 abbrev pub node_weight : Node → ℕ
 node_weight (nodes.Width r c) = 2
 node_weight node = 1
@@ -148,7 +148,7 @@ abbrev pub formula_weight : Formula → ℕ
 formula_weight (formulas.HasOneUse j) = 2
 formula_weight formula = 1
 
--- of a whole rule
+-- what a whole rule counts as
 abbrev pub weight_of : Rule → ℕ
 weight_of rule = sum_by (λ o. argument_weight o.value) (operands_in rule) + sum_by term_weight (terms_in rule) + sum_by formula_weight rule.precondition
 
@@ -165,11 +165,11 @@ abbrev pub ReadsOnly : (ℕ → Argument → Type 0) → List Statement → Type
 ReadsOnly MayRead statements =
     (k : ℕ) (s : Statement) (o : Operand) → slice_get statements k ≡ Some s → Contains (operands_of s.op) o → MayRead k o.value
 
--- operand q of the source's operands, in the order of the text, is this
+-- operand q of the source, in the order of the text, is this
 abbrev pub StandsAt : Rule → ℕ → Argument → Type 0
 StandsAt rule q argument = (o : Operand) × (slice_get (operands_among rule.source) q ≡ Some o) × (o.value ≡ argument)
 
--- it reads the register
+-- operand q of the source is the register
 abbrev pub ReadsAt : Rule → ℕ → Register → Type 0
 ReadsAt rule q r = StandsAt rule q (arguments.Register r)
 
@@ -204,7 +204,7 @@ pub record IsRule (rule : Rule) : Type 0 where
   pub terms : (n : ℕ) (t : Term) → slice_get rule.terms n ≡ Some t → MayBeTerm rule n t.node
   pub witness_terms : (n : ℕ) (t : Term) → slice_get rule.witness_terms n ≡ Some t → MayBeWitness rule n t.node
   pub precondition : (n : ℕ) (f : Formula) → slice_get rule.precondition n ≡ Some f → MayBeFormula rule n f
-  -- and is there where it stands
+  -- and may be named where it stands
   pub target_widths : ReadsOnly (TargetMayMeasure rule) rule.target
   pub precondition_widths : (n : ℕ) (f : Formula) → slice_get rule.precondition n ≡ Some f → FormulaMayMeasure rule f
   -- RootMissing: there is a root, and the last target statement assigns it
@@ -230,5 +230,5 @@ pub record IsRule (rule : Rule) : Type 0 where
   -- WitnessCount: `Wit:` has an expression for each choice of the source
   pub witnesses : length rule.witnesses ≡ length (choices_among rule.source)
   pub witnesses_there : (k n : ℕ) → slice_get rule.witnesses k ≡ Some n → n < length rule.witness_terms
-  -- the expressions stand one behind the other, and are chosen by their last nodes
+  -- the expressions stand one behind the other; each is known by its last node
   pub witnesses_last : AreLastNodes rule.witness_terms 0 rule.witnesses

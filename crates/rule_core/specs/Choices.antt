@@ -1,4 +1,4 @@
--- What may be there, as a list.
+-- A choice that may be missing, as a list of one or none.
 use Rattle.std.specs.Prelude.{List, [], ◌∷◌, Option, Some, None}
 use Rattle.rule_core.specs.declared.rule.Choice.{Choice}
 

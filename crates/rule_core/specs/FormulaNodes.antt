@@ -1,13 +1,14 @@
--- What stands in a formula: its nodes, of which the last is the whole, and each stands behind its operands.
+-- Which nodes of a list are those of one formula, and where `hasOneUse` may be among them: each stands behind its
+-- operands, and the last one is the whole formula.
 use Rattle.std.specs.Prelude.{◌≡◌, ◌⊎◌, ℕ, List, Some, slice_get}
 use Rattle.rule_core.specs.declared.rule.Formula.{Formula}
 use Rattle.rule_core.specs.declared.rule.Formula.TheVariants as formulas
 
--- how a node stands to other nodes of its formula
+-- a node of a formula, as far as it matters to where `hasOneUse` may stand: by its operands among the nodes
 pub data Joint : Type 0 where
   -- it is `hasOneUse`
   OneUse : Joint
-  -- it is another member of one node
+  -- it is another node without operands in the formula, as a comparison
   Single : Joint
   Turns : (operand : ℕ) → Joint
   Both : (left right : ℕ) → Joint
@@ -27,18 +28,18 @@ IsPartOf a (Both b c) = (a ≡ b) ⊎ (a ≡ c)
 IsPartOf a (Either b c) = (a ≡ b) ⊎ (a ≡ c)
 IsPartOf a node = ⊥
 
--- `hasOneUse` stands in what the node at the place is the whole of
+-- `hasOneUse` stands in the formula whose last node is at the place
 pub data AsksOneUse (joints : List Joint) : ℕ → Type 0 where
   itself : {n : ℕ} → slice_get joints n ≡ Some OneUse → AsksOneUse joints n
   part : {n : ℕ} (a : ℕ) (node : Joint) → slice_get joints n ≡ Some node → IsPartOf a node → AsksOneUse joints a → AsksOneUse joints n
 
--- where it may stand: in no `!`, in no `||`, and in what is on the right of a `&&` as that alone
+-- where it may stand below this node: in no `!`, in no `||`, and on the right of a `&&` only as the whole right side
 abbrev pub OneUseMayStand : List Joint → Joint → Type 0
 OneUseMayStand joints (Turns a) = ¬ AsksOneUse joints a
 OneUseMayStand joints (Both a b) = AsksOneUse joints b → slice_get joints b ≡ Some OneUse
 OneUseMayStand joints (Either a b) = (¬ AsksOneUse joints a) × (¬ AsksOneUse joints b)
 OneUseMayStand joints node = Unit {0}
 
--- so it stands as a member of the outermost `&&` alone
+-- each node keeps to that, so `hasOneUse` stands as a member of the outermost `&&` alone
 abbrev pub OneUseIsOutermost : List Joint → Type 0
 OneUseIsOutermost joints = (n : ℕ) (node : Joint) → slice_get joints n ≡ Some node → OneUseMayStand joints node

@@ -34,8 +34,8 @@ RulesWithoutCounterexampleAreValid =
     ((setting : Setting) (choices : List Number) (source target : Effect) → IsCounterexample rule typing setting choices source target → ⊥) →
     IsValid rule typing
 
--- where the operands of each node stand before it, there is a value for each node, and it is what the node gives from
--- all of these values
+-- Where the operands of each node stand before it, there is a value for each node, and evaluating the node over all the
+-- values, and not only over those before it, gives that value again.
 abbrev pub NodesGiveTheirValues : Type 0
 NodesGiveTheirValues =
     (typing : List ℕ) (names : Meanings) (terms : List Term) →
@@ -44,7 +44,7 @@ NodesGiveTheirValues =
     × ((n : ℕ) (t : Term) → slice_get terms n ≡ Some t →
     slice_get (values_of typing names terms) n ≡ Some (term_value typing names (values_of typing names terms) t))
 
--- and so it is with the nodes of a formula
+-- the same of the nodes of a formula and whether they hold
 abbrev pub FormulasHoldAsTheyRead : Type 0
 FormulasHoldAsTheyRead =
     (values : List Value) (formulas : List Formula) →

@@ -39,12 +39,12 @@ operands_of (Copy a) = a ∷ []
 abbrev pub operands_among : List Statement → List Operand
 operands_among statements = flat_map (λ s. operands_of s.op) statements
 
--- an `undef` is a choice of its half
+-- the choice that an operand is: one where it is `undef`, else none
 abbrev pub undef_in : ℕ → Argument → List Choice
 undef_in c (arguments.Undef k) = record { place = k; class = c } ∷ []
 undef_in c argument = []
 
--- and so is what a freeze gives where its operand is poison
+-- the choice that a freeze makes, of the number that it gives where its operand is poison
 abbrev pub frozen_in : ℕ → Op → List Choice
 frozen_in c (Freeze a k) = record { place = k; class = c } ∷ []
 frozen_in c op = []
@@ -57,7 +57,7 @@ choices_of s = flat_map (λ o. undef_in o.class o.value) (operands_of s.op) ++ f
 abbrev pub choices_among : List Statement → List Choice
 choices_among statements = flat_map choices_of statements
 
--- the statements have this choice
+-- the choice with number k among these statements' is of class c
 abbrev pub LeavesOpen : List Statement → ℕ → ℕ → Type 0
 LeavesOpen statements k c = Contains (choices_among statements) (record { place = k; class = c })
 

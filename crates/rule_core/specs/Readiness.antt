@@ -22,19 +22,19 @@ use Rattle.rule_core.specs.declared.rule.Node.TheVariants as nodes
 use Rattle.rule_core.specs.Positions.{LeavesOpen}
 use Rattle.rule_core.specs.Valid.{InputsFit, ConstantsFit}
 
--- what the code's view of the registers shows
+-- the registers of the code's view, as the definitions have them
 abbrev pub seen : View → Held
 seen held = record { inputs = held.inputs.now; source = held.source.now; target = held.target.now }
 
--- and its view of what is given beside them
+-- constants, choices and terms of the code's view, as the definitions have them
 abbrev pub shown : GivenView → Given
 shown given = record { constants = given.constants.now; choices = given.choices.now; terms = given.terms.now }
 
--- there is a number of the width N for the choice
+-- choice k has a number, and it is of the width N
 abbrev pub ChoiceIsReady : Given → ℕ → ℕ → Type 0
 ChoiceIsReady given N k = (n : Number) × (slice_get given.choices k ≡ Some n) × IsValueOf N (Bits n)
 
--- what is read can be read at the width N
+-- the operand has a value of the width N
 abbrev pub ArgumentIsReady : Given → Held → ℕ → Argument → Type 0
 ArgumentIsReady given held N (arguments.Register r) = (v : Value) × (value_of held r ≡ Some v) × IsValueOf N v
 ArgumentIsReady given held N (arguments.Literal z) = Unit {0}
@@ -64,13 +64,13 @@ ValuesFit typing statements values =
     (k : ℕ) (s : Statement) (v : Value) (N : ℕ) →
     slice_get statements k ≡ Some s → slice_get values k ≡ Some v → slice_get typing s.class ≡ Some N → IsValueOf N v
 
--- all that is held fits
+-- every register that is assigned holds a value of its width
 pub record HeldFits (rule : Rule) (typing : List ℕ) (held : Held) : Type 0 where
   pub inputs : InputsFit rule typing held.inputs
   pub source : ValuesFit typing rule.source held.source
   pub target : ValuesFit typing rule.target held.target
 
--- the first statements of the source, so many, have run: to undefined behaviour, or to these values
+-- the first `count` statements of the source have run: to undefined behaviour, or to these values
 abbrev pub SourceRan : List ℕ → Given → Rule → List Value → ℕ → Option (List Value) → Type 0
 SourceRan typing given rule inputs count None =
     Follows typing given holding_source (take count rule.source) (at_start inputs) Undefines
@@ -78,7 +78,8 @@ SourceRan typing given rule inputs count (Some values) =
     (length values ≡ count) × ValuesFit typing rule.source values
     × Follows typing given holding_source (take count rule.source) (at_start inputs) (Holds (record { inputs = inputs; source = values; target = [] }))
 
--- and the statements of the target after values of the source's
+-- the target's statements have run after the source's gave these values: to undefined behaviour, or to these of their
+-- own
 abbrev pub TargetRan : List ℕ → Given → Rule → List Value → List Value → Option (List Value) → Type 0
 TargetRan typing given rule inputs source None =
     Follows typing given holding_target rule.target (record { inputs = inputs; source = source; target = [] }) Undefines
@@ -92,13 +93,14 @@ TermsFit typing terms values =
     (k : ℕ) (t : Term) (v : Value) (N : ℕ) →
     slice_get terms k ≡ Some t → slice_get values k ≡ Some v → slice_get typing t.class ≡ Some N → IsValueOf N v
 
--- What statements of a half may read beside registers fits: constants, the choices of these statements, and terms.
+-- What statements of a half read beside registers is there, of its width: constants, the choices of these statements,
+-- and terms.
 pub record GivenFits (rule : Rule) (typing : List ℕ) (statements : List Statement) (given : Given) : Type 0 where
   pub constants : ConstantsFit rule typing given.constants
   pub choices : (k c N : ℕ) → LeavesOpen statements k c → slice_get typing c ≡ Some N → ChoiceIsReady given N k
   pub terms : (length given.terms ≡ length rule.terms) × TermsFit typing rule.terms given.terms
 
--- what a node of iN of a constant term needs, where the nodes before it give these values
+-- what evaluating a node of iN of a constant term needs, where the nodes before it give these values
 abbrev pub NodeIsReady : List ℕ → List Number → List Value → ℕ → Node → Type 0
 NodeIsReady typing constants before N (nodes.Literal z) = Unit {0}
 NodeIsReady typing constants before N (nodes.Constant k) = (n : Number) × (slice_get constants k ≡ Some n) × IsValueOf N (Bits n)
@@ -109,6 +111,6 @@ NodeIsReady typing constants before N (nodes.Unary function a) = (v : Value) × 
 NodeIsReady typing constants before N (nodes.Binary op a b) =
     (v : Value) × (w : Value) × (slice_get before a ≡ Some v) × (slice_get before b ≡ Some w) × IsValueOf N v × IsValueOf N w
 
--- what the next node of a constant term needs is there
+-- a constant term's next node can be evaluated
 abbrev pub TermIsReady : List ℕ → List Number → List Value → Term → Type 0
 TermIsReady typing constants before t = (N : ℕ) × (slice_get typing t.class ≡ Some N) × NodeIsReady typing constants before N t.node

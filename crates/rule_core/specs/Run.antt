@@ -33,7 +33,7 @@ value_of held (registers.Input k) = slice_get held.inputs k
 value_of held (registers.Source k) = slice_get held.source k
 value_of held (registers.Target k) = slice_get held.target k
 
--- once the next source statement, or the next target statement, has assigned v
+-- the registers after the next source statement, or the next target statement, has assigned v
 abbrev pub holding_source : Held → Value → Held
 holding_source held v = record held { source = held.source ++ v ∷ [] }
 
@@ -45,12 +45,12 @@ pub data Ending : Type 0 where
   Undefines : Ending
   Holds : (held : Held) → Ending
 
--- after a statement: undefined behaviour ends them, a value is held and the next one follows
+-- behind a statement with this effect: undefined behaviour ends the run, and after a value the rest of the run follows
 abbrev pub GoesOn : (Value → Type 0) → Effect → Ending → Type 0
 GoesOn next effects.Undefined end = end ≡ Undefines
 GoesOn next (effects.Gives v) end = next v
 
--- after statements: undefined behaviour is the effect, else what comes next
+-- behind statements that end so: undefined behaviour is the effect of the whole, and else what comes next has it
 abbrev pub Leads : (Held → Effect → Type 0) → Ending → Effect → Type 0
 Leads next Undefines e = e ≡ effects.Undefined
 Leads next (Holds held) e = next held e
@@ -67,14 +67,14 @@ GivesLast values e = (v : Value) × (slice_get values (length values - 1) ≡ So
 abbrev pub temporaries_of : Rule → List Statement
 temporaries_of rule = take (length rule.source - 1) rule.source
 
--- what statements read beside registers: a number for each constant, one for each choice of their half, and what terms
--- give
+-- what statements read beside registers: a number for each constant, one for each choice of their half, and a value for
+-- each node of the constant terms
 pub record Given : Type 0 where
   pub constants : List Number
   pub choices : List Number
   pub terms : List Value
 
--- the same, from what the constants are
+-- the same, the values of the terms being those at the constants
 abbrev pub given_by : List ℕ → List Number → List Number → Rule → Given
 given_by typing constants choices rule = record { constants = constants; choices = choices; terms = constant_values typing constants rule }
 
@@ -118,31 +118,31 @@ module _ (typing : List ℕ) (given : Given) where
   abbrev pub StatementGives : Held → Statement → Effect → Type 0
   StatementGives held s e = (N : ℕ) × (slice_get typing s.class ≡ Some N) × OpGives held N s.op e
 
-  -- statements follow in order, each result held
+  -- the statements run in order, each result held for those behind it
   abbrev pub Follows : (Held → Value → Held) → List Statement → Held → Ending → Type 0
   Follows holding [] held end = end ≡ Holds held
   Follows holding (s ∷ statements) held end = (e : Effect) × StatementGives held s e × GoesOn (λ v. Follows holding statements (holding held v) end) e end
 
--- the source: its statements in order, and then the root
+-- the source: its statements run in order; undefined behaviour of one is its effect, and else it gives the root
 abbrev pub SourceGives : List ℕ → List Number → List Number → Rule → List Value → Effect → Type 0
 SourceGives typing constants choices rule inputs e =
     (end : Ending)
     × Follows typing (given_by typing constants choices rule) holding_source rule.source (at_start inputs) end
     × Leads (λ held. GivesLast held.source) end e
 
--- how the source's temporaries end, in which no choice stands
+-- how the source's temporaries end; no choice stands in them
 abbrev pub TemporariesEnd : List ℕ → List Number → Rule → List Value → Ending → Type 0
 TemporariesEnd typing constants rule inputs end =
     Follows typing (given_by typing constants [] rule) holding_source (temporaries_of rule) (at_start inputs) end
 
--- the target's statements in order from what is held, and then the root
+-- the target's own statements, from what is held: they run in order, with the same two ends
 abbrev pub TargetGoesOn : List ℕ → List Number → List Number → Rule → Held → Effect → Type 0
 TargetGoesOn typing constants choices rule held e =
     (end : Ending)
     × Follows typing (given_by typing constants choices rule) holding_target rule.target held end
     × Leads (λ after. GivesLast after.target) end e
 
--- the target: first the source's temporaries in order
+-- the target: first the source's temporaries run in order, and then its own statements
 abbrev pub TargetGives : List ℕ → List Number → List Number → Rule → List Value → Effect → Type 0
 TargetGives typing constants choices rule inputs e =
     (end : Ending) × TemporariesEnd typing constants rule inputs end × Leads (TargetGoesOn typing constants choices rule) end e

@@ -1,4 +1,4 @@
--- What stands in a term: its nodes, of which the last is the whole, and each stands behind its operands.
+-- Which nodes of a list are those of one term: each stands behind its operands, and the last one is the whole term.
 use Rattle.std.specs.Prelude.{◌≡◌, ◌⊎◌, ℕ, suc, ◌≤◌, List, [], ◌∷◌, length, Some, slice_get}
 use Rattle.rule_core.specs.declared.rule.Register.{Register}
 use Rattle.rule_core.specs.declared.rule.Term.{Term}
@@ -20,11 +20,11 @@ pub data StandsIn (terms : List Term) (m : ℕ) : ℕ → Type 0 where
 abbrev pub NamesWidth : List Term → ℕ → Register → Type 0
 NamesWidth terms n r = (m c : ℕ) × (t : Term) × StandsIn terms m n × (slice_get terms m ≡ Some t) × (t.node ≡ nodes.Width r c)
 
--- no node from the first to the last has an operand before the first
+-- the nodes from `first` to `last` have no operand before `first`
 abbrev pub OwnsOperands : List Term → ℕ → ℕ → Type 0
 OwnsOperands terms first last = (n a : ℕ) (t : Term) → first ≤ n → n ≤ last → slice_get terms n ≡ Some t → IsOperandOf a t.node → first ≤ a
 
--- from a place on terms stand one behind the other, of which these are the last nodes
+-- from node `first` on the nodes are those of whole terms, one behind the other, of which these are the last nodes
 abbrev pub AreLastNodes : List Term → ℕ → List ℕ → Type 0
 AreLastNodes terms first [] = first ≡ length terms
 AreLastNodes terms first (last ∷ others) = (first ≤ last) × OwnsOperands terms first last × AreLastNodes terms (suc last) others

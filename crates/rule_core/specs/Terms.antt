@@ -24,7 +24,7 @@ use Rattle.rule_core.specs.declared.rule.Function.TheVariants.{Negate, Not, Log2
 use Rattle.rule_core.specs.declared.rule.Formula.{Formula}
 use Rattle.rule_core.specs.declared.rule.Formula.TheVariants as formulas
 
--- the number that a value is, and 0 for poison
+-- a value's number, and 0 for poison
 abbrev pub number_or_zero : Value → ℕ
 number_or_zero Poison = 0
 number_or_zero (Bits a) = a.number
@@ -36,7 +36,7 @@ pub record Meanings : Type 0 where
   pub choices : List Number
   pub registers : Register → Value
 
--- in a constant term constants alone stand
+-- in a constant term only constants have a meaning
 abbrev pub of_constants : List Number → Meanings
 of_constants constants = record { constants = constants; choices = []; registers = λ r. Poison }
 
@@ -48,32 +48,32 @@ number_at numbers k = option_map_or Bits (slice_get numbers k) Poison
 abbrev pub value_at : List Value → ℕ → Value
 value_at values k = slice_index_or values k Poison
 
--- what an instruction gives; none where it is undefined behaviour
+-- the value of an effect; none where it is undefined behaviour
 abbrev pub value_given : Effect → Value
 value_given effects.Undefined = Poison
 value_given (effects.Gives v) = v
 
--- the number, if it is one of iN
+-- the number n where it is one of iN, else no value
 abbrev pub within : ℕ → ℕ → Value
 within N n = if nat_lt n (2 ^ N) then bits N n else Poison
 
--- the exponent below N of which a is the power of two, if there is one
+-- the k below N where a is 2^k, if there is one
 unfoldable pub exponent : ℕ → ℕ → Option ℕ
 exponent N a = find (λ k. 2 ^ k == a) (range_with_len 0 N)
 
--- the number of iN that a function gives at a
+-- what a function gives at the number a of iN
 abbrev pub function_at : Function → ℕ → ℕ → Value
 function_at Negate N a = value_given (instruction Sub no_flags N (bits N 0) (bits N a))
 function_at Not N a = value_given (instruction Xor no_flags N (bits N (minus_one N)) (bits N a))
 function_at Log2 N a = option_map_or (bits N) (exponent N a) Poison
 function_at Abs N a = bits N (if nat_lt a (least N) then a else 2 ^ N - a)
 
--- and at a value
+-- what it gives at a value: nothing where there is none
 abbrev pub function_value : Function → ℕ → Value → Value
 function_value function N Poison = Poison
 function_value function N (Bits a) = function_at function N a.number
 
--- what elements give behind those that are done, each from what all before it gave
+-- an evaluation in order: behind the results `done`, each element gives one from all the results before it
 abbrev pub in_turn : {X Y : Type 0} → (List Y → X → Y) → List Y → List X → List Y
 in_turn gives done [] = done
 in_turn gives done (x ∷ xs) = in_turn gives (done ++ gives done x ∷ []) xs
@@ -106,11 +106,11 @@ module _ (typing : List ℕ) where
   abbrev pub term_value : Meanings → List Value → Term → Value
   term_value names before t = node_gives names before (slice_index typing t.class) t.node
 
-  -- what nodes give
+  -- the values of all nodes, in order
   abbrev pub values_of : Meanings → List Term → List Value
   values_of names terms = in_turn (term_value names) [] terms
 
-  -- what the constant terms of a rule give
+  -- the values of a rule's constant terms at these constants
   abbrev pub constant_values : List Number → Rule → List Value
   constant_values constants rule = values_of (of_constants constants) rule.terms
 
@@ -140,7 +140,7 @@ formula_holds values before (formulas.Not a) = not (slice_index_or before a fals
 formula_holds values before (formulas.And a b) = slice_index_or before a false && slice_index_or before b false
 formula_holds values before (formulas.Or a b) = slice_index_or before a false || slice_index_or before b false
 
--- whether nodes hold
+-- which nodes hold, in order
 abbrev pub truths_of : List Value → List Formula → List Bool
 truths_of values formulas = in_turn (formula_holds values) [] formulas
 

@@ -11,7 +11,7 @@ use Rattle.rule_core.specs.Positions.{operands_in, classes_of, IsTermOf, Line, F
 abbrev pub width_at : Rule → List ℕ → ℕ → Option ℕ
 width_at rule typing position = option_and_then (λ c. slice_get typing c) (slice_get (classes_of rule) position)
 
--- a literal is a number of iN, without a sign or with one
+-- the literal can be written at iN: it is one of N bits, unsigned or in two's complement
 abbrev pub FitsLiteral : ℕ → ℤ → Type 0
 FitsLiteral N z = (neg_ℤ (pos (2 ^ (N - 1))) ≤ℤ z) × (z <ℤ pos (2 ^ N))
 
@@ -21,12 +21,12 @@ pub record IsTyping (rule : Rule) (typing : List ℕ) : Type 0 where
   -- the classes are the numbers below the count of widths
   pub classes : (c : ℕ) → Contains (classes_of rule) c → c < length typing
   pub no_more : (c : ℕ) → c < length typing → Contains (classes_of rule) c
-  -- what one line keeps at one width has one
+  -- two classes that a line of the table keeps at one width have one width
   pub same : (c d : ℕ) → Line rule c d → slice_get typing c ≡ slice_get typing d
-  -- a width that one line fixes is that one
+  -- a class of which a line of the table fixes the width has that width
   pub fixed : (c N : ℕ) → Fixed rule c N → slice_get typing c ≡ Some N
-  -- a width that one line keeps below another is below it
+  -- a class that a line of the table keeps below another has a smaller width
   pub smaller : (c d N M : ℕ) → Smaller rule c d → slice_get typing c ≡ Some N → slice_get typing d ≡ Some M → N < M
-  -- literals fit
+  -- literals fit their widths
   pub literals : (o : Operand) (z : ℤ) (N : ℕ) → Contains (operands_in rule) o → o.value ≡ arguments.Literal z → slice_get typing o.class ≡ Some N → FitsLiteral N z
   pub term_literals : (t : Term) (z : ℤ) (N : ℕ) → IsTermOf rule t → t.node ≡ nodes.Literal z → slice_get typing t.class ≡ Some N → FitsLiteral N z

@@ -50,15 +50,15 @@ abbrev pub meanings_at : Setting → Held → Meanings
 meanings_at setting held =
     record { constants = setting.constants; choices = setting.target_choices; registers = λ r. unwrap_or (value_of held r) Poison }
 
--- what the nodes of the expressions give then
+-- the values of the nodes of the `Wit:` expressions then
 abbrev pub witness_values : Rule → List ℕ → Setting → Held → List Value
 witness_values rule typing setting held = values_of typing (meanings_at setting held) rule.witness_terms
 
--- the width of a node of the expressions
+-- the width of a node of the `Wit:` expressions
 abbrev pub witness_width : Rule → List ℕ → ℕ → ℕ
 witness_width rule typing n = option_map_or (λ t. slice_index typing t.class) (slice_get rule.witness_terms n) 0
 
--- the number that an expression gives, which is 0 where it has no value
+-- the number that an expression chooses: 0 where it has no value
 abbrev pub witness_number : Rule → List ℕ → Setting → Held → ℕ → Number
 witness_number rule typing setting held n =
     record { width = witness_width rule typing n; number = number_or_zero (value_at (witness_values rule typing setting held) n) }
@@ -75,7 +75,7 @@ pub record HaveEffects (rule : Rule) (typing : List ℕ) (setting : Setting) (ch
   pub of_source : SourceGives typing setting.constants choices rule setting.inputs source
   pub of_target : TargetGives typing setting.constants setting.target_choices rule setting.inputs target
 
--- what a setting has to meet so that the halves are compared there
+-- what a setting has to meet so that the halves are compared there: it fits, and the precondition holds
 pub record SettingCounts (rule : Rule) (typing : List ℕ) (setting : Setting) : Type 0 where
   pub fits : SettingFits rule typing setting
   pub precondition : PreconditionHolds rule typing setting.constants

@@ -1,4 +1,4 @@
-//! What statements leave open, as lists.
+//! The choices of statements (`undef`s and freezes), as lists.
 
 ghost use Rattle.std.specs.Prelude.{◌≡◌, ◌++◌, ◌≤◌};
 ghost use Rattle.rule_core.specs.Choices.{if_any};
@@ -7,7 +7,7 @@ ghost use Rattle.rule_core.specs.Positions.{undef_in, choices_of};
 use crate::rule::{Argument, Choice, Op, Operand, Statement};
 use std::marker::Model;
 
-/// The choices of a statement, of which there are at most three.
+/// The choices of a statement, in the order of the text; there are at most three.
 #[derive(Drop)]
 pub struct Choices {
     held: [Choice; 3],
@@ -24,7 +24,7 @@ impl Model for Choices {
     ghost view = { λ c. take c.count c.held };
 }
 
-/// Stands where there is no choice.
+/// Fills the array behind the last choice.
 const NO_CHOICE: Choice = Choice { place: 0, class: 0 };
 
 impl Choices {
@@ -56,7 +56,7 @@ impl Choices {
         &self.held[..self.count]
     }
 
-    /// Those of these that are there.
+    /// The list of the ones that are `Some`.
     fn listed(first: Option<Choice>, second: Option<Choice>, third: Option<Choice>) -> Choices
         ensures { result ≡ if_any first ++ if_any second ++ if_any third }
     {

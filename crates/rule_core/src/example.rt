@@ -3,7 +3,7 @@
 use lists::List;
 use ops::{Effect, Value, Word};
 
-/// What a rule is run on, and what its halves do there.
+/// A setting of a rule, with the source's choices, and what the halves do there.
 #[derive(Drop)]
 pub struct Example {
     /// A value for each input.

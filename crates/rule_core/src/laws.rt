@@ -16,12 +16,13 @@ pub fn rules_without_counterexample_are_valid()
     ensures { RulesWithoutCounterexampleAreValid }
 {}
 
-/// Each node of terms gives what it gives from the values of all of them, where its operands stand before it.
+/// Where the operands of each node stand before it, evaluating a node over the values of all nodes gives its value
+/// again.
 pub fn nodes_give_their_values()
     ensures { NodesGiveTheirValues }
 {}
 
-/// Each node of a formula holds as it does from whether all of them hold, where its operands stand before it.
+/// The same for the nodes of a formula, and whether they hold.
 pub fn formulas_hold_as_they_read()
     ensures { FormulasHoldAsTheyRead }
 {}

@@ -19,9 +19,9 @@ pub struct Rule {
     pub inputs: List<Text>,
     /// The names of the abstract constants, in the order in which the source first names them.
     pub constants: List<Text>,
-    /// The statements that are looked for. The last one assigns the root.
+    /// The statements of the pattern. The last one assigns the root.
     pub source: List<Statement>,
-    /// The statements that come in place of the root's. The last one assigns the root.
+    /// The statements that replace the root's. The last one assigns the root.
     pub target: List<Statement>,
     /// The nodes of the constant terms: those of the target and then those of the precondition, from left to right, and
     /// each behind its operands.
@@ -31,7 +31,7 @@ pub struct Rule {
     pub precondition: List<Formula>,
     /// The nodes of the expressions of `Wit:`, from left to right, and each behind its operands.
     pub witness_terms: List<Term>,
-    /// What each choice of the source is, in the order of the text: the place of an expression's node.
+    /// For each choice of the source, in the order of the text, the place of the node of `Wit:` that gives its number.
     pub witnesses: List<u32>,
 }
 
@@ -60,8 +60,8 @@ pub enum Op {
     Select(Operand, Operand, Operand),
     /// A cast of the operand to the result's width, which the last type says, if it is written.
     Convert(Cast, Flags, Operand, Option<Width>),
-    /// `freeze`: the operand, which has the result's class, and where that is poison a number, which is the choice of
-    /// its half at this place. In a source it is the root's alone.
+    /// `freeze`: the operand, which has the result's class, or a number where that is poison. The number is the choice
+    /// of its half at this place. In a source only the root's statement is one.
     Freeze(Operand, u32),
     /// The operand itself, which has the result's class. It stands in a target alone.
     Copy(Operand),
@@ -83,7 +83,7 @@ pub enum Argument {
     /// What the register holds.
     Register(Register),
     /// A number as it is written, with its sign. At a width of N it is from -2^(N-1) to 2^N - 1, and means itself
-    /// modulo 2^N. One past an end of `i128` is held as that end, which fits no width.
+    /// modulo 2^N. Beyond `i128` it is saturated; no width fits such a number.
     Literal(i128),
     /// `true` or `false`: 1 or 0, of width 1.
     Truth(bool),
@@ -96,7 +96,7 @@ pub enum Argument {
     Term(u32),
 }
 
-/// What a half leaves open: an `undef`, or what a freeze gives where its operand is poison.
+/// A choice of a half: an `undef`, or the number that a freeze gives where its operand is poison.
 #[derive(Clone, Copy)]
 pub struct Choice {
     /// Its place among the choices of its half, from 0.
@@ -116,7 +116,7 @@ pub enum Register {
     Target(u32),
 }
 
-/// What has one width wherever it is named.
+/// What a rule names in several positions, which all have one width.
 #[derive(Clone, Copy, PartialEq, Eq)]
 pub enum Name {
     Register(Register),

@@ -125,7 +125,7 @@ fn constant_values(
     Ok(values)
 }
 
-/// What the first statements of the source, so many, assign, or `None` where one is undefined behaviour.
+/// What the first `count` statements of the source assign, or `None` where one of them is undefined behaviour.
 fn source_values(
     alloc: Global,
     rule: &Rule,

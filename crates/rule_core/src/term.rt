@@ -84,11 +84,11 @@ fn within(width: Width, number: u32) -> Value
     }
 }
 
-/// The exponent of which the number is the power of two, if it is one.
+/// The exponent k where the number is 2^k, if it is a power of two.
 pub fn exponent(a: Word) -> Option<u32>
     ensures power { (k : ℕ) → (result ≡ Some k) ↔ (a.number ≡ 2 ^ k) }
     ensures none { (result ≡ None) ↔ ((k : ℕ) → a.number ≢ 2 ^ k) }
-    // as the values of terms are defined
+    // the same by the definition that the values of terms use
     ensures value { result ≡ exponent a.width a.number }
 {
     let number = a.number();
@@ -112,7 +112,7 @@ fn logarithm(width: Width, a: Word) -> Value
     }
 }
 
-/// The number without its sign.
+/// The absolute value, taking the number as one in two's complement.
 fn absolute(width: Width, a: Word) -> Word
     requires { a.width ≡ width }
     ensures { result ≡ record { width = width; number = (if nat_lt a.number (least width) then a.number else 2 ^ width - a.number) } }

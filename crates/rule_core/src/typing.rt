@@ -8,10 +8,10 @@ ghost use Rattle.rule_core.specs.Typing.{IsTyping, width_at};
 use crate::rule::{Node, Op, Rule, Statement, Term, Typing};
 use ops::Width;
 
-/// The width of a position of the rule. Positions count results, operands and nodes from 0: statement by statement, the
-/// source's before the target's, of each the result and then the operands from left to right; and behind these the
-/// nodes of the terms, those of `Wit:` last, where a node that is a register's width has a second position, which is
-/// the register's. It takes as many steps as there are statements and nodes.
+/// The width of a position of the rule. Positions are counted from 0 in the order of the text: of each statement of the
+/// source, and then of the target, the result and then the operands; behind these the nodes of the terms, those of
+/// `Wit:` last. A node `width(%x)` has two positions, its own and that of its register. It takes as many steps as there
+/// are statements and nodes.
 pub fn width_at(rule: &Rule, typing: &Typing, position: u32) -> Width
     requires typing { IsTyping rule.now typing.now }
     requires position { position < length (classes_of rule.now) }
@@ -75,7 +75,7 @@ pub fn class_at(rule: &Rule, position: u32) -> u32
     }
 }
 
-/// The class of a position behind those of the source.
+/// The class of a position that is behind the source's, which are counted off already.
 fn class_behind_source(rule: &Rule, position: usize) -> u32
     requires { position < length (flat_map classes_of_statement rule.now.target ++ flat_map classes_of_term (terms_in rule.now)) }
     ensures { slice_get (flat_map classes_of_statement rule.now.target ++ flat_map classes_of_term (terms_in rule.now)) position ≡ Some result }
@@ -92,7 +92,7 @@ fn class_behind_source(rule: &Rule, position: usize) -> u32
     }
 }
 
-/// The class of a position among those of some nodes, or the place that it has behind them.
+/// The class at this position among those of the nodes, or, where these are fewer, the position counted from their end.
 fn class_in_terms(terms: &[Term], position: usize) -> Result<u32, usize>
     ensures { MatchResult result (λ class. slice_get (flat_map classes_of_term terms.now) position ≡ Some class) (λ rest. position ≡ length (flat_map classes_of_term terms.now) + rest) }
 {
@@ -106,7 +106,7 @@ fn class_in_terms(terms: &[Term], position: usize) -> Result<u32, usize>
     Err(rest)
 }
 
-/// The same among the positions of one node.
+/// The same for the positions of one node.
 fn class_in_term(term: &Term, position: usize) -> Result<u32, usize>
     ensures { MatchResult result (λ class. slice_get (classes_of_term term.now) position ≡ Some class) (λ rest. position ≡ length (classes_of_term term.now) + rest) }
 {
@@ -118,7 +118,8 @@ fn class_in_term(term: &Term, position: usize) -> Result<u32, usize>
     }
 }
 
-/// The class of a position among those of some statements, or the place that it has behind them.
+/// The class at this position among those of the statements, or, where these are fewer, the position counted from their
+/// end.
 fn class_among(statements: &[Statement], position: usize) -> Result<u32, usize>
     ensures { MatchResult result (λ class. slice_get (flat_map classes_of_statement statements.now) position ≡ Some class) (λ rest. position ≡ length (flat_map classes_of_statement statements.now) + rest) }
 {
@@ -132,7 +133,7 @@ fn class_among(statements: &[Statement], position: usize) -> Result<u32, usize>
     Err(rest)
 }
 
-/// The same among the positions of one statement.
+/// The same for the positions of one statement.
 fn class_in(statement: &Statement, position: usize) -> Result<u32, usize>
     ensures { MatchResult result (λ class. slice_get (classes_of_statement statement.now) position ≡ Some class) (λ rest. position ≡ length (classes_of_statement statement.now) + rest) }
 {

@@ -45,7 +45,7 @@ module _ (limits : Limits) where
   BeginsOperand (Mark mark ∷ tokens) = Unit {0}
   BeginsOperand tokens = ⊥
 
-  -- a term of constants begins with no register, and with no `undef`
+  -- a constant term begins with no register, and not with `undef`
   abbrev pub BeginsTerm : List Token → Type 0
   BeginsTerm (Number text ∷ tokens) = Unit {0}
   BeginsTerm (Word word ∷ tokens) = IsOperandWord word × (bytes_eq word (codes "undef") ≡ false)
@@ -66,7 +66,7 @@ module _ (limits : Limits) where
 
   -- ---- words
 
-  -- a word that is none of their flags is no flag of an intrinsic
+  -- a word that differs from the flags of intrinsics is none of them
   pub no_truth_flag : (word : List ℕ) → bytes_eq word (codes "minpoison") ≡ false → bytes_eq word (codes "zeropoison") ≡ false → (op : Intrinsic) → is_truth_flag op word ≡ false
   no_truth_flag word least zero intrinsics.Abs = least
   no_truth_flag word least zero intrinsics.CtPop = refl
@@ -86,7 +86,7 @@ module _ (limits : Limits) where
   unfolding type_in operation_in flag_in
   width_word = (record { no_type = refl; no_operation = λ version. refl; no_flag = λ taken. refl; no_truth = no_truth_flag (codes "width") refl refl }, refl)
 
-  -- `abs` as an opcode is no word
+  -- the word `abs` is no opcode: as one it is an opcode token
   no_abs : (version : Version) → operation_in version false (codes "abs") ≡ None
   unfolding operation_in
   no_abs One = refl

@@ -1,4 +1,4 @@
--- Tokens are kept up to and with the first one with which more than 256 are counted in a rule.
+-- The tokens with the limit end with the first one with which more than 256 count in a rule.
 use Rattle.std.proofs.Common.{◌≡◌, ℕ, zero, suc, ◌+◌, ◌≤◌, Bool, true, false, List, [], ◌∷◌, ◌++◌, Option, Some, None, inl, inr, refl, sym, ap, subst, ◌∙◌, arith}
 use Rattle.std.specs.Prelude.{◌⊎◌, ◌||◌, if◌then◌else◌}
 use Rattle.std.specs.List.{list_any}
@@ -8,13 +8,13 @@ use Rattle.rule_parse.specs.OneReading.{TokensAreKeptUpToTheLimit}
 use Rattle.rule_parse.specs.CutTokens.{is_counted, ends_before_line, begins_rule, one_less, room_behind, or_excess, limited_to}
 use Rattle.rule_parse.specs.Limits.{most_nodes}
 
--- ---- counting along the tokens
+-- ---- counting token by token
 
--- so many are counted behind a token, where so many are before it
+-- the count behind a token, where it was n before: a token that begins a rule sets it to 0
 abbrev counted_behind : Bool → Bool → ℕ → ℕ
 counted_behind head counts n = if head then 0 else ((if counts then 1 else 0) + n)
 
--- so many are counted in the last rule behind tokens, where so many are before them
+-- the count in the last rule behind these tokens, where it was n before
 abbrev counted_along : ℕ → Bool → List Token → ℕ
 counted_along n begins [] = n
 counted_along n begins (token ∷ tokens) = counted_along (counted_behind (begins_rule token) (is_counted begins token) n) (ends_before_line token) tokens
@@ -67,7 +67,7 @@ along-is tokens = along 0 false tokens ∙ whole (list_any begins_rule tokens) r
         let same : counted_at_end tokens ≡ counted tokens = ap counted (no-rule tokens is) in
         omega (arith, more, same)
 
--- ---- along the tokens, from a count on
+-- ---- where the limit is passed, from a count on
 
 abbrev IsWithinFrom : ℕ → Bool → List Token → Type 0
 IsWithinFrom n begins tokens = (front back : List Token) → tokens ≡ front ++ back → counted_along n begins front ≤ most_nodes
@@ -112,7 +112,7 @@ one-kept n begins token tokens kept le (inr c) =
       cut = ap (λ (ts : List Token). token ∷ ts) c.cut;
     })
 
--- a token leaves so much room, where so many are counted before it and with it, or it is one too many
+-- what is left of the room: the count behind the token and the room add up to the limit, or the token passed it
 abbrev Leaves : ℕ → ℕ → Option ℕ → Type 0
 Leaves n more None = (n ≡ most_nodes) × (more ≡ most_nodes + 1)
 Leaves n more (Some left) = more + left ≡ most_nodes
@@ -140,14 +140,14 @@ all-limited room n begins (token ∷ tokens) e =
     one-limited n begins token tokens (room_behind room begins token) (omega arith) (leaves (begins_rule token) (is_counted begins token) n room e)
     (λ left fits. all-limited left (counted_behind (begins_rule token) (is_counted begins token) n) (ends_before_line token) tokens fits)
 
--- the number of a line is not counted
+-- a line's number doesn't count
 line-along : (n : ℕ) (begins : Bool) (front : List Token) (number : ℕ) → counted_along n begins (front ++ Line number ∷ []) ≡ counted_along n begins front
 line-along n begins [] number = omega arith
 line-along n begins (token ∷ front) number = line-along (counted_behind (begins_rule token) (is_counted begins token) n) (ends_before_line token) front number
 
--- ---- from the first token on
+-- ---- from the first token of a text on
 
--- so with none the limit is passed
+-- so the token that passes the limit is no line's number
 pub passed_by_no_line : (tokens kept : List Token) (c : IsCut tokens kept) (number : ℕ) → c.token ≡ Line number → ⊥
 passed_by_no_line tokens kept c number is =
     let stays : counted_at_end (c.front ++ Line number ∷ []) ≡ counted_at_end c.front = sym (along-is (c.front ++ Line number ∷ [])) ∙ line-along 0 false c.front number ∙ along-is c.front in

@@ -1,5 +1,5 @@
--- Tokens that stand in front of limited tokens stand in front of those that were limited, and leave less room to the
--- others.
+-- From tokens with the limit back to the text's: those in front of `Excess` are the text's own, and those that count
+-- use up the room.
 use Rattle.std.proofs.Common.{◌≡◌, ℕ, zero, suc, ◌+◌, ◌≤◌, Bool, true, false, not, List, [], ◌∷◌, ◌++◌, Option, Some, None, refl, sym, ap, subst, ◌∙◌, append_assoc, arith}
 use Rattle.std.specs.Prelude.{codes, if◌then◌else◌}
 use Rattle.scan.specs.RuleTokens.{is_among}
@@ -8,7 +8,7 @@ use Rattle.rule_parse.specs.CutTokens.{is_node_word, plain_marks, ends_before_li
 
 -- ---- tokens of texts
 
--- the token is one of a text, and not the mark of the end of what is read
+-- a token of a text, which `Excess` is not
 abbrev pub IsOfText : Token → Type 0
 IsOfText Excess = ⊥
 IsOfText token = Unit {0}
@@ -17,7 +17,7 @@ abbrev pub AreOfText : List Token → Type 0
 AreOfText [] = Unit {0}
 AreOfText (token ∷ tokens) = IsOfText token × AreOfText tokens
 
--- the first token is one of a text
+-- the first token, if there is one, is of a text
 abbrev pub BeginsOfText : List Token → Type 0
 BeginsOfText [] = Unit {0}
 BeginsOfText (token ∷ tokens) = IsOfText token
@@ -38,7 +38,7 @@ pub first_of : (front back : List Token) → AreOfText front → BeginsOfText ba
 first_of [] back are begins = begins
 first_of (token ∷ front) back are begins = are.0
 
--- ---- one token
+-- ---- one token of the text, and the room behind it
 
 pub record Step (room : ℕ) (begins : Bool) (token : Token) (rest tokens : List Token) : Type 0 where
   pub left : ℕ
@@ -64,7 +64,7 @@ step room begins token rest (t ∷ tokens) first e =
       limited = limited ∙ ap (λ (s : Token). limited_to left (ends_before_line s) tokens) same;
     }
 
--- ---- parts
+-- ---- tokens of a part of the grammar, which use up at least w of the room
 
 pub record Cut (w room : ℕ) (own rest tokens : List Token) : Type 0 where
   pub left : ℕ
@@ -73,7 +73,7 @@ pub record Cut (w room : ℕ) (own rest tokens : List Token) : Type 0 where
   pub is : tokens ≡ own ++ others
   pub limited : rest ≡ limited_to left false others
 
--- so many of them are counted, or more, where the first one begins its line or not
+-- the tokens use up at least w of the room, where the first one begins its line or not
 pub record WeighsFrom (begins : Bool) (w : ℕ) (own : List Token) : Type 0 where
   pub of_text : AreOfText own
   pub cut : (room : ℕ) (rest tokens : List Token) → BeginsOfText rest → own ++ rest ≡ limited_to room begins tokens → Cut w room own rest tokens
@@ -112,7 +112,7 @@ at_least v w own less whole = record {
       record { left = a.left; others = a.others; most = omega (arith, less, most); is = a.is; limited = a.limited };
 }
 
--- behind tokens of no weight
+-- tokens that use up nothing come first
 pub light : (w : ℕ) (xs ys : List Token) → Weighs 0 xs → Weighs w ys → Weighs w (xs ++ ys)
 light w xs ys front back = at_least w (0 + w) (xs ++ ys) (omega arith) (join 0 w xs ys front back)
 
@@ -160,7 +160,7 @@ some_same a b e = cc
 pub behind_one : (token : Token) (tokens others more : List Token) → tokens ≡ token ∷ others → others ≡ more → tokens ≡ token ∷ more
 behind_one token tokens others more is same = is ∙ ap (λ (ts : List Token). token ∷ ts) same
 
--- behind a token that is not counted
+-- one token that doesn't count comes first
 led : (begins : Bool) (w : ℕ) (token : Token) (own : List Token) → IsOfText token → ((room : ℕ) → room_behind room begins token ≡ Some room) → WeighsFrom (ends_before_line token) w own → WeighsFrom begins w (token ∷ own)
 led begins w token own plain free behind = record {
   of_text = (plain, behind.of_text);
@@ -172,7 +172,7 @@ led begins w token own plain free behind = record {
       record { left = b.left; others = b.others; most = omega (arith, most, same); is = behind_one token tokens a.others (own ++ b.others) a.is b.is; limited = b.limited };
 }
 
--- a statement, by what stands behind its `=`
+-- a statement uses up what is behind its `=`
 pub assigned : (w line : ℕ) (name : List ℕ) (op : List Token) → Weighs w op → Weighs w (Line line ∷ Register name ∷ Mark (codes "=") ∷ op)
 assigned w line name op behind =
     led false w (Line line) (Register name ∷ Mark (codes "=") ∷ op) tt (λ room. refl)

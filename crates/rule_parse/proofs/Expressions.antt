@@ -1,4 +1,4 @@
--- The expressions of a witness: what is read is spelled so, and what is spelled is read.
+-- The expressions of `Wit:`: the parser reads them exactly as the grammar spells them.
 use Rattle.std.proofs.Common.{◌≡◌, ℕ, zero, suc, ◌≤◌, true, false, List, [], ◌∷◌, ◌++◌, length, drop, Ok, refl, sym, ap, ◌∙◌, ⊎_elim, append_assoc, length-append, arith}
 use Rattle.std.specs.Prelude.{codes}
 use Rattle.std.proofs.lemmas.List.{append-nil}
@@ -22,7 +22,7 @@ use Rattle.rule_terms.proofs.Spellings.{term_at-is, term_at-of}
 use Rattle.rule_tokens.specs.Limits.{Limits}
 
 module _ (limits : Limits) where
-  -- one expression behind those before
+  -- one expression is added to those before
   record TakesOne (before : List (List RawNode)) (tokens : List Token) (x : List (List RawNode) × List Token) : Type 0 where
     nodes : List RawNode
     taken : Takes (SpellsExpression limits nodes) tokens x.1
@@ -40,7 +40,7 @@ module _ (limits : Limits) where
       let one = expression_at-is line before tokens x e in
       omega (arith, ap length one.taken.whole, length-append one.taken.own x.1)
 
-  -- more expressions behind those before
+  -- more expressions are added to those before
   record TakesMore (before : List (List RawNode)) (tokens : List Token) (x : List (List RawNode) × List Token) : Type 0 where
     more : List (List RawNode)
     taken : Takes (SpellsMoreExpressions limits more) tokens x.1

@@ -52,7 +52,7 @@ version_at-is (Line line ∷ Head head ∷ rest) x e = ⊎_elim
     (chosen (bytes_eq head (codes "Version:")) (version_number_at line rest) (done (One, Line line ∷ Head head ∷ rest)) (Ok x) e)
 version_at-is tokens x e = no_version tokens x e
 
--- rules begin with no such line
+-- rules begin with no line of `Version:`
 record Begins (tokens : List Token) : Type 0 where
   ends : EndsLine tokens
   no_line : version_at tokens ≡ Ok (One, tokens)
@@ -70,7 +70,7 @@ version_at-of version own rest (inr (one, none)) ends no_line = rw (one, none) n
 
 -- ---- the whole file
 
--- what is read of a rule file is its version, and its rules stand behind it
+-- the parser reads the file's version, and its rules are spelled by the tokens behind
 pub version_read : (limits : Limits) (raws : List RawRule) (tokens : List Token) → SpellsFile limits raws tokens → (x : Version × List Token) × (version_at tokens ≡ Ok x) × SpellsRules limits x.0 raws x.1
 version_read limits raws tokens (version, (front, back, is_version, is, whole)) =
     let begins = rules_begin limits version raws back is in

@@ -1,4 +1,4 @@
--- A loop that keeps tokens up to the first one that is too many.
+-- The loop that keeps tokens up to the first one that passes the limit.
 use Rattle.std.proofs.Common.{◌≡◌, ℕ, ◌+◌, ◌<◌, ◌≤◌, Bool, List, [], ◌∷◌, ◌++◌, length, get_or, drop, Some, None, refl, sym, ap, ◌∙◌, append_assoc}
 use Rattle.std.proofs.lemmas.List.{append-nil, map-append, drop_more, drop_all}
 use Rattle.rule_tokens.specs.declared.token.Token.{Token as Scanned}

@@ -1,4 +1,4 @@
--- Loops that read one part after another.
+-- Loops that read one part after another, against readers that recurse.
 use Rattle.std.proofs.Common.{◌≡◌, ℕ, zero, suc, ◌+◌, ◌-◌, ◌<◌, ◌≤◌, List, [], ◌∷◌, ◌++◌, length, drop, true, false, Some, Result, Ok, Err, refl, sym, ap, ◌∙◌, append_assoc, length-append, arith}
 use Rattle.std.proofs.lemmas.List.{append-nil}
 use Rattle.ops.specs.declared.opcode.Flags.{Flags}
@@ -20,17 +20,17 @@ use Rattle.rule_tokens.specs.declared.version.Version.{Version}
 use Rattle.rule_tokens.specs.Limits.{Limits}
 
 module _ (limits : Limits) (version : Version) where
-  -- what was read before, and what is still read
+  -- what the recursion reads, with what the loop has read in front
   abbrev pub with_front : {A : Type 0} → List A → Read (List A) → Read (List A)
   with_front front (Ok x) = Ok (front ++ x.0, x.1)
   with_front front (Err e) = Err e
 
-  -- one that was read moves from what is still read to the front
+  -- an item that is read moves from the one to the other
   regroup : {A : Type 0} (front : List A) (x : A) (read : Read (List A)) → with_front front (read >>= λ others. Ok (x ∷ others.0, others.1)) ≡ with_front (front ++ x ∷ []) read
   regroup front x (Ok y) = ap (λ (xs : List _). Ok (xs, y.1)) (sym (append_assoc front (x ∷ []) y.0))
   regroup front x (Err e) = refl
 
-  -- room for another statement behind these
+  -- one statement more uses up one of the room
   room_more : (most n : ℕ) → n < most → most - n ≡ suc (most - (n + 1))
   room_more most n lt = omega arith
 
@@ -92,7 +92,7 @@ module _ (limits : Limits) (version : Version) where
   rules_same (Ok x) f g h = h x refl
   rules_same (Err e) f g h = refl
 
-  -- more than as many as there are tokens are not needed
+  -- a bound of as many rules as there are tokens makes no difference
   rules_enough : (n m last : ℕ) (tokens : List Token) → length tokens ≤ n → length tokens ≤ m → rules_at limits version n last tokens ≡ rules_at limits version m last tokens
   unfolding rules_at
   rules_enough zero zero last [] p q = refl

@@ -1,4 +1,4 @@
--- What is read of a statement is spelled so, by tokens in front of those that are left.
+-- What the parser reads as a statement is what the grammar spells with the tokens that it takes.
 use Rattle.std.proofs.Common.{◌≡◌, ℕ, Bool, true, false, List, [], ◌∷◌, ◌++◌, map, Option, Some, None, Result, Ok, Err, refl, sym, ap, subst, ◌∙◌, ⊎_elim}
 use Rattle.std.specs.Prelude.{codes, drop, if◌then◌else◌}
 use Rattle.std.specs.Str.{bytes_eq}
@@ -75,7 +75,7 @@ module _ (limits : Limits) where
       (λ (h : (is_constant word ≡ false) × (known_or_misplaced line word (source_word_in word) ≡ Ok value)). known-is line word value (source_word_in word) refl h.1)
       (chosen (is_constant word) (name_within limits line word >>= λ held. Ok (arguments.Constant held)) (known_or_misplaced line word (source_word_in word)) (Ok value) e)
 
-  -- a term is a literal, a constant or a term
+  -- a term as an operand is a literal, a constant or a term
   abbrev IsTermArgument : RawArgument → Type 0
   IsTermArgument (arguments.Literal z) = Unit {0}
   IsTermArgument (arguments.Constant name) = Unit {0}
@@ -166,12 +166,12 @@ module _ (limits : Limits) where
 
   -- ---- flags
 
-  -- a token that is a flag which the instruction takes
+  -- the first token is a flag that the instruction takes
   flag_token : (taken : Flags) (token : Token) (rest : List Token) (flag : Flag) → next_flag taken (token ∷ rest) ≡ Some flag → (token ≡ Word (flag_keyword flag)) × (has_flag taken flag ≡ true)
   flag_token taken (Word word) rest flag e = let is = flag_in-is taken word flag e in (ap Word is.0, is.1)
   flag_token taken token rest flag e = absurd cc
 
-  -- flags before, and flags behind these
+  -- more flags are read behind these
   abbrev AddsRead : Flags → Flags → List Token → Flags × List Token → Type 0
   AddsRead taken before tokens x = (written : List Flag) × AddsFlags taken before written x.0 × (tokens ≡ map (λ flag. Word (flag_keyword flag)) written ++ x.1)
 
@@ -204,7 +204,7 @@ module _ (limits : Limits) where
   abbrev IsTruthRead : Intrinsic → List Token → Bool × List Token → Type 0
   IsTruthRead op tokens x = Takes (SpellsTruth op x.0) tokens x.1
 
-  -- what is read behind a truth value: no second one
+  -- what is read behind the flag of a truth value: not the flag again
   abbrev truth_once : ℕ → Intrinsic → List Token → Result (Bool × List Token) RuleFault
   truth_once line op tokens = if is_truth_next op (drop 1 tokens) then Err (fault line Syntax) else Ok (true, drop 1 tokens)
 
@@ -231,7 +231,7 @@ module _ (limits : Limits) where
       (taken_to (untyped_at-is half line behind right r) (line_end-is line right.1 rest ends))))))))
 
   module _ (version : Version) where
-    -- an operation that is read behind its opcode
+    -- an operation, read behind its opcode
     abbrev IsOpBehind : Half → Token → List Token → RawOp × List Token → Type 0
     IsOpBehind half token tokens x = Takes (SpellsOp limits version half x.0) (token ∷ tokens) x.1
 
@@ -253,7 +253,7 @@ module _ (limits : Limits) where
         taken_to (word_as word (predicate_keyword x.0) rest (pred_in-is word x.0 n.0)) n.1
     pred_at-is line tokens x e = absurd cc
 
-    -- the flags that are read are those of an `icmp` with `samesign` or without
+    -- the flags of an `icmp` are `samesign` or none
     icmp_flags-are : (line : ℕ) (tokens : List Token) (x : Flags × List Token) → flags_at flags_of_icmp line no_flags tokens ≡ Ok x → Takes (SpellsFlags flags_of_icmp (icmp_flags x.0.samesign)) tokens x.1
     icmp_flags-are line tokens x e =
         let t = flags_at-is flags_of_icmp line tokens x e in

@@ -1,4 +1,4 @@
--- What is spelled of a statement is read, where the line of its last token ends behind it.
+-- What the grammar spells as a statement is read, where the line of its last token ends behind it.
 use Rattle.std.specs.Prelude.{codes}
 use Rattle.std.proofs.Common.{◌≡◌, ◌≤◌, ℕ, length, Bool, true, false, List, [], ◌∷◌, ◌++◌, map, Option, Some, None, Ok, refl, ◌∙◌, append_assoc}
 use Rattle.ops.specs.declared.opcode.Flags.{Flags}
@@ -57,7 +57,7 @@ module _ (limits : Limits) where
   unfolding source_word source_word_in is_constant
   undef_read line = refl
 
-  -- a term is read as one
+  -- what begins as a term is read as one
   term_read : (line : ℕ) (own rest : List Token) → BeginsTerm limits own → argument_at limits Target line (own ++ rest) ≡ term_argument_at limits line (own ++ rest)
   unfolding argument_at
   term_read line (Number text ∷ ts) rest begins = refl
@@ -85,7 +85,7 @@ module _ (limits : Limits) where
   argument_at-of Target line (arguments.Truth truth) own rest is ends = absurd is
   argument_at-of Target line (arguments.Term nodes) own rest is ends = term_argument_at-of line (arguments.Term nodes) own rest is ends
 
-  -- no type is next before an operand
+  -- what begins an operand is no type
   no_type : (own rest : List Token) → BeginsOperand limits own → maybe_type (own ++ rest) ≡ (None, own ++ rest)
   unfolding maybe_type
   no_type (Register name ∷ ts) rest begins = refl
@@ -155,7 +155,7 @@ module _ (limits : Limits) where
   flags_at-of : (taken : Flags) (line : ℕ) (flags : Flags) (own rest : List Token) → SpellsFlags taken flags own → next_flag taken rest ≡ None → flags_at taken line no_flags (own ++ rest) ≡ Ok (flags, rest)
   flags_at-of taken line flags own rest (written, adds, is) none = rw is (flags_added taken line written no_flags flags rest adds none)
 
-  -- no flag begins an operand
+  -- what begins an operand is no flag
   no_flag : (taken : Flags) (own rest : List Token) → BeginsOperand limits own → next_flag taken (own ++ rest) ≡ None
   no_flag taken (Register name ∷ ts) rest begins = refl
   no_flag taken (Number text ∷ ts) rest begins = refl
@@ -174,7 +174,7 @@ module _ (limits : Limits) where
   truth_at-of line op false own rest is none = rw (is, none) refl
   truth_at-of line op true own rest (word, flag, is) none = rw (is, truth_flag-of limits op word flag, none) refl
 
-  -- no flag of an intrinsic begins an operand
+  -- nor the flag of an intrinsic
   no_truth : (op : Intrinsic) (own rest : List Token) → BeginsOperand limits own → is_truth_next op (own ++ rest) ≡ false
   no_truth op (Register name ∷ ts) rest begins = refl
   no_truth op (Number text ∷ ts) rest begins = refl
@@ -198,7 +198,7 @@ module _ (limits : Limits) where
       let behind : EndsTerm (o1 ++ rest) = rw (is2, append_assoc t2 o2 rest) (comma_ends_term t2 (o2 ++ rest) comma) in
       rw (is1, append_assoc t1 o1 rest, operand_at-of half line a t1 (o1 ++ rest) left behind, is2, append_assoc t2 o2 rest, comma_at-of line t2 (o2 ++ rest) comma, untyped_at-of half line b o2 rest right (line_ends_term rest ends), line_end-of line rest ends) refl
 
-  -- no flag begins what an operand begins
+  -- what begins an operand behind flags is no flag
   operand_begins : (taken : Flags) (half : Half) (a : RawOperand) (first others own rest : List Token) → SpellsOperand limits half a first → own ≡ first ++ others → next_flag taken (own ++ rest) ≡ None
   operand_begins taken half a first others own rest (front, back, type, argument, is) whole =
       rw (whole, append_assoc first others rest, is, append_assoc front back (others ++ rest)) (begins_no_flag taken a.written front back (others ++ rest) type (argument_begins limits half a.value back argument))
@@ -206,7 +206,7 @@ module _ (limits : Limits) where
   pair_begins : (taken : Flags) (half : Half) (a b : RawOperand) (own rest : List Token) → SpellsPair limits half a b own → next_flag taken (own ++ rest) ≡ None
   pair_begins taken half a b own rest (t1, o1, left, others, is1) = operand_begins taken half a t1 o1 own rest left is1
 
-  -- nor begins one a predicate
+  -- nor is a predicate
   predicate_begins : (taken : Flags) (pred : Pred) (first others own rest : List Token) → first ≡ Word (predicate_keyword pred) ∷ [] → own ≡ first ++ others → next_flag taken (own ++ rest) ≡ None
   predicate_begins taken pred first others own rest is whole = rw (whole, is) (predicate_is_no_flag taken pred)
 
@@ -219,7 +219,7 @@ module _ (limits : Limits) where
   copy_at-of line a own rest is ends = rw (operand_at-of Target line a own rest is (line_ends_term rest ends), line_end-of line rest ends) refl
 
   module _ (version : Version) where
-    -- an operand begins with no opcode
+    -- what begins an operand is no opcode, so a copy is read
     no_opcode : (line : ℕ) (own rest : List Token) → BeginsOperand limits own → op_at limits version Target line (own ++ rest) ≡ copy_at limits line (own ++ rest)
     unfolding op_at
     no_opcode line (Register name ∷ ts) rest begins = refl
@@ -233,7 +233,7 @@ module _ (limits : Limits) where
     copy_begins line None front back rest is begins = rw is (no_opcode line back rest begins)
     copy_begins line (Some width) front back rest (written, type, is) begins = rw (is, type_is_no_operation limits version written width type) refl
 
-    -- what stands behind an opcode of the version is read as its operation's
+    -- behind an opcode of the version its operation is read
     opened : (operation : Operation) (half : Half) (line : ℕ) (rest : List Token) → is_known operation version ≡ true → op_at limits version half line (opcode_token operation ∷ rest) ≡ operation_at limits half line operation rest
     unfolding op_at
     opened (operations.Binary op) half line rest known = rw (operation_in-of limits version (operations.Binary op) known) refl

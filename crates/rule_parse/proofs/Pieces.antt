@@ -1,4 +1,4 @@
--- Words: what those that are read spell, and that what is spelled is read.
+-- Words: the parser takes them exactly as the grammar spells them.
 use Rattle.std.proofs.Common.{◌≡◌, ℕ, Bool, true, false, not, cond, List, [], ◌∷◌, Option, Some, None, refl, sym, ap, subst, ◌∙◌, ⊎_elim}
 use Rattle.std.specs.Prelude.{codes, ◌&&◌}
 use Rattle.std.proofs.lemmas.Bool.{and_parts}
@@ -100,7 +100,7 @@ module _ (limits : Limits) where
   pub truth_flag-of : (op : Intrinsic) (word : List ℕ) → truth_flag op ≡ Some word → is_truth_flag op word ≡ true
   truth_flag-of op word e = rw e (word_is word)
 
-  -- one word after the other is tried
+  -- words are compared one after the other
   tried : (word wanted : List ℕ) (a value : RawArgument) (others : Option RawArgument) → SpellsArgument limits Source a (Word wanted ∷ []) → cond (bytes_eq word wanted) (Some a) others ≡ Some value → (others ≡ Some value → SpellsArgument limits Source value (Word word ∷ [])) → SpellsArgument limits Source value (Word word ∷ [])
   tried word wanted a value others is e next = ⊎_elim
       (λ (h : (bytes_eq word wanted ≡ true) × (Some a ≡ Some value)).
@@ -118,7 +118,7 @@ module _ (limits : Limits) where
 
   -- ---- types
 
-  -- the word of a type is none of a flag or an operation
+  -- the word of a type is no flag and no opcode
   pub type_is_no_flag : (taken : Flags) (word : List ℕ) (width : ℕ) → IsWrittenType word width → flag_in taken word ≡ None
   unfolding flag_in
   type_is_no_flag taken word width is = rw is.1 refl

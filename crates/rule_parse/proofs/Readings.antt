@@ -1,4 +1,4 @@
--- What is read is spelled so, by tokens in front of those that are left.
+-- What the parser reads is what the grammar spells with the tokens that it takes.
 use Rattle.std.proofs.Common.{◌≡◌, ℕ, zero, suc, ◌<◌, ◌≤◌, Bool, true, false, cond, List, [], ◌∷◌, ◌++◌, length, Option, Some, None, Ok, Err, refl, sym, ap, subst, ◌∙◌, ⊎_elim, append_assoc, length-append, arith}
 use Rattle.std.specs.Prelude.{codes}
 use Rattle.std.specs.Str.{bytes_eq}
@@ -45,7 +45,7 @@ module _ (limits : Limits) (version : Version) where
         whole = ap (λ (r : List ℕ). Line line ∷ Register r ∷ tokens) name.1 ∙ ap (λ (ts : List Token). Line line ∷ Register held ∷ ts) (mark_at-is limits (codes "=") line tokens behind q ∙ ap (λ (ts : List Token). Mark (codes "=") ∷ ts) op.whole);
       }))))
 
-  -- so many statements at most, and one at least where one begins
+  -- the statements that are read are spelled so, and are no more than there is room for
   pub record TakesStatements (room : ℕ) (half : Half) (statements : List RawStatement) (tokens rest : List Token) : Type 0 where
     pub taken : Takes (SpellsStatements limits version half statements) tokens rest
     pub most : length statements ≤ room
@@ -80,7 +80,7 @@ module _ (limits : Limits) (version : Version) where
   statements_at-is zero half tokens x e = none_taken zero half tokens x e
   statements_at-is (suc room) half tokens x e = none_taken (suc room) half tokens x e
 
-  -- where a statement begins, one is read
+  -- where a statement is next, one at least is read
   some_read : (room : ℕ) (half : Half) (line : ℕ) (name : List ℕ) (rest : List Token) (x : List RawStatement × List Token) → statements_at limits version room half (Line line ∷ Register name ∷ rest) ≡ Ok x → 1 ≤ length x.0
   unfolding statements_at
   some_read zero half line name rest x e = absurd cc

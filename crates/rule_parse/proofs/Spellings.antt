@@ -1,4 +1,4 @@
--- What is spelled is read, where the line of its last token ends behind it.
+-- What the grammar spells is read, where the line of its last token ends behind it.
 use Rattle.std.proofs.Common.{◌≡◌, ℕ, zero, suc, ◌<◌, ◌≤◌, List, [], ◌∷◌, ◌++◌, length, Option, Some, None, Ok, refl, ap, ◌∙◌, append_assoc, length-append, arith}
 use Rattle.std.specs.Prelude.{codes}
 use Rattle.rule_parse.specs.declared.half.Half.{Half}
@@ -90,7 +90,7 @@ module _ (limits : Limits) (version : Version) where
   unfolding arrow_at
   arrow_at-of last line rest ends = line_end-of line rest ends
 
-  -- what goes on with a rule behind its name or behind a part of it
+  -- what follows a rule's name, or its precondition: no `Pre:` is next
   record GoesOn (tokens : List Token) : Type 0 where
     ends : EndsLine tokens
     no_precondition : precondition_at limits tokens ≡ Ok (None, tokens)

@@ -1,4 +1,4 @@
--- The tokens of terms and formulas are at least as many as their nodes and names.
+-- Terms and formulas have no more nodes and names than tokens that count.
 use Rattle.std.proofs.Common.{◌≡◌, ℕ, ◌+◌, true, false, List, [], ◌∷◌, ◌++◌, length, refl, ◌⊎◌, inl, inr, arith}
 use Rattle.std.specs.Prelude.{IsTrue, codes, sum_by, flat_map}
 use Rattle.std.proofs.lemmas.List.Sums.{sum_by-cons, sum_by-append}
@@ -184,7 +184,7 @@ module _ (limits : Limits) where
       at_least _ (formulas_weight left + (1 + formulas_weight right)) _ (omega (arith, formulas_append (left ++ right) (node ∷ []), formulas_append left right))
       (middle_weighs (formulas_weight left) (formulas_weight right) (codes "||") front back refl (formula_weighs a) (formula_weighs b))
 
-  -- the weight of the nodes, and of their terms
+  -- the nodes of formulas, and those of their terms
   own_terms : (f : RawFormula) → whole_weight f ≡ formula_weight f + sum_by (λ t. sum_by node_weight t) (terms_of_formula f)
   own_terms (formulas.Compare pred a b) = omega (arith, nodes_weight-is a, nodes_weight-is b, sum_by-cons (λ (t : List RawNode). sum_by node_weight t) a (b ∷ []))
   own_terms (formulas.IsPowerOfTwo a) = omega (arith, nodes_weight-is a)

@@ -19,7 +19,7 @@ use Rattle.rule_parse.proofs.Weight.{spelled_whole}
 use Rattle.rule_tokens.proofs.Steps.{ok_is}
 use Rattle.rule_tokens.specs.Limits.{rule_limits}
 
--- what is read of a text's tokens
+-- what the parser gives of the text's tokens
 abbrev IsRead : List ℕ → Result (List RawRule) RuleFault → Type 0
 IsRead text r = (tokens : List Token) × (last : ℕ) × AreTokens text tokens last × (all_rules rule_limits last (limited tokens) ≡ r)
 
@@ -31,7 +31,7 @@ one_read one text r s (tokens, last, are, is) (tokens', last', are', is') =
 written_read : (text : List ℕ) (raws : List RawRule) → IsWritten text raws → IsRead text (Ok raws)
 written_read text raws w = (w.tokens, w.last, w.are_tokens, ap (λ (ts : List Token). all_rules rule_limits w.last ts) w.few ∙ all_rules-of rule_limits w.last raws w.tokens w.spelled)
 
--- what is read of limited tokens is written by the whole ones
+-- rules that are read of the tokens with the limit are spelled by all of them
 read_written : (text : List ℕ) (tokens : List Token) (last : ℕ) (raws : List RawRule) → AreTokens text tokens last → all_rules rule_limits last (limited tokens) ≡ Ok raws → IsWritten text raws
 read_written text tokens last raws are e =
     let spelled : SpellsFile rule_limits raws (limited tokens) = all_rules-is rule_limits last (limited tokens) raws e in

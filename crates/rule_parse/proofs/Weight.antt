@@ -1,4 +1,4 @@
--- The tokens of a rule are at least as many as its operands, literals, names, operators and functions.
+-- A rule has no more operands, literals, names, operators and functions than tokens that count.
 use Rattle.std.proofs.Common.{◌≡◌, ℕ, zero, suc, inl, inr, ◌+◌, ◌≤◌, Bool, true, false, List, [], ◌∷◌, ◌++◌, map, Option, Some, None, refl, sym, ap, subst, ◌∙◌, arith}
 use Rattle.std.specs.Prelude.{codes, sum_by, flat_map, slice_get}
 use Rattle.std.specs.Option.{option_map_or}
@@ -104,7 +104,7 @@ module _ (limits : Limits) where
   behind_word : (w : ℕ) (text : List ℕ) (own front back : List Token) → front ≡ Word text ∷ [] → Weighs w back → own ≡ front ++ back → Weighs w own
   behind_word w text own front back is b whole = rw (whole, is) (light w (Word text ∷ []) back (word text) b)
 
-  -- an opcode is none of them
+  -- an opcode doesn't count
   token_weighs : (apart : Bool) (text : List ℕ) → Weighs 0 (token_with apart text ∷ [])
   token_weighs true text = opcode text
   token_weighs false text = word text
@@ -202,7 +202,7 @@ module _ (limits : Limits) where
       (join _ _ s.source _ (statements_weigh version Source raw.source s.source s.is_source.spelled)
       (arrow_led _ s.arrow_line s.target (statements_weigh version Target raw.target s.target s.is_target.spelled))))
 
-  -- ---- the same weights, by kinds
+  -- ---- the same counts, sorted by kinds
 
   argument_weight-is : (a : RawArgument) → one_weight a ≡ argument_weight a + sum_by (λ t. sum_by node_weight t) (terms_of_argument a)
   argument_weight-is (arguments.Register name) = refl
@@ -241,7 +241,7 @@ none_limited room (t ∷ tokens) e = absurd (never (room_behind room false t) e)
     never None e = absurd cc
     never (Some left) e = absurd cc
 
--- limited tokens that spell rules are the whole ones, and the rules are small
+-- where tokens with the limit spell rules, they are all tokens of the text, and no rule passes the limit
 record AreSmall (raws : List RawRule) (own tokens : List Token) : Type 0 where
   same : tokens ≡ own
   small : (k : ℕ) (raw : RawRule) → slice_get raws k ≡ Some raw → raw_weight raw ≤ most_nodes
@@ -253,7 +253,7 @@ one_more : (first : RawRule) (raws : List RawRule) → raw_weight first ≤ most
 one_more first raws small others zero raw at = let same : first ≡ raw = cc in subst (λ (r : RawRule). raw_weight r ≤ most_nodes) same small
 one_more first raws small others (suc k) raw at = others k raw at
 
--- the tokens of rules are tokens of texts
+-- tokens that the grammar spells rules with are tokens of texts: `Excess` isn't among them
 pub spelled_of_text : (limits : Limits) (version : Version) (raws : List RawRule) (tokens : List Token) → SpellsRules limits version raws tokens → AreOfText tokens
 spelled_of_text limits version [] tokens is = subst AreOfText (sym is) tt
 spelled_of_text limits version (raw ∷ raws) tokens (front, back, s, more, whole) =
@@ -280,7 +280,7 @@ rules_small version (raw ∷ raws) own tokens room (front, back, s, more, whole)
       small = one_more raw raws (omega (arith, raw_within rule_limits raw, most, two, three)) rest.small;
     }
 
--- the tokens of a file are, with the line of its version
+-- the same for a whole file
 pub file_of_text : (limits : Limits) (raws : List RawRule) (tokens : List Token) → SpellsFile limits raws tokens → AreOfText tokens
 file_of_text limits raws tokens (version, (front, back, is_version, is, whole)) = elim is_version [
   | inl line ↦ subst AreOfText (sym (whole ∙ ap (λ (ts : List Token). ts ++ back) line.spelled)) (tt, (tt, (tt, spelled_of_text limits version raws back is)))

@@ -1,4 +1,4 @@
--- What stands in a rule as written.
+-- The operands, terms and formulas that stand in a rule as written.
 use Rattle.std.specs.Prelude.{List, [], ◌∷◌, ◌++◌, flat_map}
 use Rattle.std.specs.Option.{option_map_or}
 use Rattle.rule_parse.specs.declared.raw.RawRule.{RawRule}
@@ -11,7 +11,7 @@ use Rattle.rule_terms.specs.declared.raw.RawNode.{RawNode}
 use Rattle.rule_terms.specs.declared.raw.RawFormula.{RawFormula}
 use Rattle.rule_terms.specs.declared.raw.RawFormula.TheVariants as raw_formulas
 
--- what a statement reads, from left to right
+-- the operands of a statement, from left to right
 abbrev pub arguments_of : RawOp → List RawArgument
 arguments_of (raw_ops.Binary op flags a b) = a.value ∷ b.value ∷ []
 arguments_of (raw_ops.Compare pred samesign a b) = a.value ∷ b.value ∷ []
@@ -21,7 +21,7 @@ arguments_of (raw_ops.Convert cast flags a to) = a.value ∷ []
 arguments_of (raw_ops.Freeze a) = a.value ∷ []
 arguments_of (raw_ops.Copy a) = a.value ∷ []
 
--- what statements read, in the order of the text
+-- the operands of statements, in the order of the text
 abbrev pub arguments_among : List RawStatement → List RawArgument
 arguments_among statements = flat_map (λ s. arguments_of s.op) statements
 

@@ -1,4 +1,4 @@
--- The parts of a rule file as written, and which tokens spell them. Each part stands on a line of its own.
+-- The grammar of rule files over tokens. Each part stands on a line of its own.
 use Rattle.std.specs.Prelude.{◌≡◌, ◌⊎◌, IsTrue, ℕ, ◌≤◌, Bool, true, false, List, [], ◌∷◌, ◌++◌, length, map, None, Some, codes}
 use Rattle.ops.specs.declared.opcode.Flags.{Flags}
 use Rattle.ops.specs.declared.opcode.Unary.{Unary as Intrinsic}
@@ -35,7 +35,7 @@ use Rattle.rule_tokens.specs.Tokens.{Token, Line, Head, Name, Register, Word, Nu
 use Rattle.rule_tokens.specs.Versions.{version_number}
 use Rattle.rule_parse.specs.Keywords.{is_known, opcode_token, truth_flag, truth_word, argument_of}
 
--- a term of constants that is this operand
+-- a constant term, as the operand that it is
 abbrev pub SpellsTermOperand : Limits → RawArgument → Part
 SpellsTermOperand limits a tokens = (nodes : List RawNode) × SpellsWholeTerm limits Constant limits.nested nodes tokens × (a ≡ argument_of nodes)
 
@@ -47,7 +47,7 @@ SpellsArgument limits Source (arguments.Literal z) tokens = (text : List ℕ) ×
 SpellsArgument limits Source (arguments.Constant name) tokens = IsTrue (is_constant name) × (length name ≤ limits.name_bytes) × Is (Word name) tokens
 SpellsArgument limits Source (arguments.Truth truth) tokens = Is (Word (truth_word truth)) tokens
 SpellsArgument limits Source (arguments.Term nodes) tokens = ⊥
--- and in the target a term
+-- and in the target any constant term
 SpellsArgument limits Target (arguments.Literal z) tokens = SpellsTermOperand limits (arguments.Literal z) tokens
 SpellsArgument limits Target (arguments.Constant name) tokens = SpellsTermOperand limits (arguments.Constant name) tokens
 SpellsArgument limits Target (arguments.Truth truth) tokens = ⊥
@@ -57,7 +57,7 @@ SpellsArgument limits Target (arguments.Term nodes) tokens = SpellsTermOperand l
 abbrev pub SpellsOperand : Limits → Half → RawOperand → Part
 SpellsOperand limits half a = Maybe SpellsType a.written ⨾ SpellsArgument limits half a.value
 
--- o, before which no type is written
+-- o, without a type before it
 abbrev pub SpellsUntyped : Limits → Half → RawOperand → Part
 SpellsUntyped limits half a tokens = (a.written ≡ None) × SpellsArgument limits half a.value tokens
 
@@ -65,16 +65,16 @@ SpellsUntyped limits half a tokens = (a.written ≡ None) × SpellsArgument limi
 abbrev pub SpellsPair : Limits → Half → RawOperand → RawOperand → Part
 SpellsPair limits half a b = SpellsOperand limits half a ⨾ Comma ⨾ SpellsUntyped limits half b
 
--- flag*, each one that the instruction takes, each once, in any order
+-- flag*, of those that the instruction takes, each at most once, in any order
 abbrev pub SpellsFlags : Flags → Flags → Part
 SpellsFlags taken flags tokens = (written : List Flag) × AddsFlags taken no_flags written flags × (tokens ≡ map (λ flag. Word (flag_keyword flag)) written)
 
--- [flag], which says that the truth value of the intrinsic is true
+-- [flag] by which the truth value of the intrinsic is true
 abbrev pub SpellsTruth : Intrinsic → Bool → Part
 SpellsTruth op false tokens = Nothing tokens
 SpellsTruth op true tokens = (word : List ℕ) × (truth_flag op ≡ Some word) × Is (Word word) tokens
 
--- the opcode of an operation that the version has
+-- the opcode of an operation of the version
 abbrev pub SpellsOpcode : Version → Operation → Part
 SpellsOpcode version operation tokens = IsTrue (is_known operation version) × Is (opcode_token operation) tokens
 
@@ -116,7 +116,7 @@ SpellsStatements limits version half [] tokens = tokens ≡ []
 SpellsStatements limits version half (s ∷ statements) tokens = (own rest : List Token)
     × SpellsStatement limits version half s own × SpellsStatements limits version half statements rest × (tokens ≡ own ++ rest)
 
--- one statement or more, and no more than the limit
+-- from one statement up to the limit
 pub record SpellsHalf (limits : Limits) (version : Version) (half : Half) (statements : List RawStatement) (tokens : List Token) : Type 0 where
   pub some : 1 ≤ length statements
   pub most : length statements ≤ limits.statements

@@ -32,7 +32,7 @@ operations =
     ∷ Binary And ∷ Binary Or ∷ Binary Xor ∷ Compare ∷ Select ∷ Convert Trunc ∷ Convert ZExt ∷ Convert SExt ∷ Freeze
     ∷ Binary UMin ∷ Binary UMax ∷ Binary SMin ∷ Binary SMax ∷ Unary Abs ∷ Unary CtPop ∷ Unary CtLz ∷ Unary CtTz ∷ []
 
--- version 2 is the first one that has the operation
+-- version 2 brought the operation
 abbrev pub is_of_second : Operation → Bool
 is_of_second (Binary op) = is_intrinsic op
 is_of_second (Unary op) = true
@@ -43,41 +43,41 @@ abbrev pub is_second : Version → Bool
 is_second One = false
 is_second Two = true
 
--- the operation is one of the version
+-- the version has the operation
 abbrev pub is_known : Operation → Version → Bool
 is_known operation version = if is_of_second operation then is_second version else true
 
--- the operation's word is that of a function of terms too, so that the opcode is a token of its own
+-- the operation's word is that of a function of terms too, so its opcode is a kind of token of its own (`abs`)
 abbrev pub is_apart : Operation → Bool
 is_apart (Unary Abs) = true
 is_apart operation = false
 
--- a token of its own, or a word
+-- an opcode token, or a word
 abbrev pub token_with : Bool → List ℕ → Token
 token_with true word = Opcode word
 token_with false word = Word word
 
--- the opcode
+-- the opcode of an operation
 abbrev pub opcode_token : Operation → Token
 opcode_token operation = token_with (is_apart operation) (operation_word operation)
 
--- the operation's opcode is a token of its own where that is asked for, or else a word
+-- whether the opcode of the operation is an opcode token, where `true` asks for those, or a word
 abbrev pub is_told : Bool → Operation → Bool
 is_told true operation = is_apart operation
 is_told false operation = not (is_apart operation)
 
--- the operation of the version whose opcode a token with these bytes is, which is one of its own or a word
+-- the operation of the version that an opcode token (`apart`) or a word with these bytes names
 unfoldable pub operation_in : Version → Bool → List ℕ → Option Operation
 operation_in version apart word = find (λ operation. bytes_eq word (operation_word operation) && is_known operation version && is_told apart operation) operations
 
--- the flag that says that the truth value of an intrinsic is true
+-- the flag by which the truth value of an intrinsic is true
 abbrev pub truth_flag : Intrinsic → Option (List ℕ)
 truth_flag Abs = Some (codes "minpoison")
 truth_flag CtPop = None
 truth_flag CtLz = Some (codes "zeropoison")
 truth_flag CtTz = Some (codes "zeropoison")
 
--- a word is that flag
+-- the word is that flag
 abbrev pub is_truth_flag : Intrinsic → List ℕ → Bool
 is_truth_flag op word = option_map_or (bytes_eq word) (truth_flag op) false
 
@@ -85,14 +85,14 @@ abbrev pub truth_word : Bool → List ℕ
 truth_word true = codes "true"
 truth_word false = codes "false"
 
--- what a word of the source is as an operand, where it is no constant: a truth or `undef`
+-- the operand of a source that a word is, where it is no constant: `true`, `false` or `undef`
 unfoldable pub source_word_in : List ℕ → Option RawArgument
 source_word_in word =
     if bytes_eq word (codes "true") then Some (arguments.Truth true)
     else (if bytes_eq word (codes "false") then Some (arguments.Truth false)
     else (if bytes_eq word (codes "undef") then Some arguments.Undef else None))
 
--- a term as an operand: a literal or a constant alone is known as such
+-- a term as an operand: a single literal or constant is kept as such
 unfoldable pub argument_of : List RawNode → RawArgument
 argument_of (Literal z ∷ []) = arguments.Literal z
 argument_of (Constant name ∷ []) = arguments.Constant name

@@ -1,11 +1,11 @@
--- How many operands, literals, names, operators and functions stand in the last rule of tokens.
+-- How many operands, literals, names, operators and functions the last rule of a list of tokens has.
 use Rattle.std.specs.Prelude.{◌≡◌, ℕ, ◌+◌, ◌≤◌, false, if◌then◌else◌, List, [], ◌∷◌, ◌++◌}
 use Rattle.std.specs.List.{list_any}
 use Rattle.rule_parse.specs.CutTokens.{is_counted, begins_rule}
 use Rattle.rule_parse.specs.Limits.{most_nodes}
 use Rattle.rule_tokens.specs.Tokens.{Token, Line, Register, Excess}
 
--- so many of the tokens are counted; a register that begins a line is not
+-- how many of the tokens count; a register that begins a line does not
 abbrev pub counted : List Token → ℕ
 counted [] = 0
 counted (Line number ∷ Register name ∷ tokens) = counted tokens
@@ -18,15 +18,15 @@ last_rule (token ∷ tokens) =
     if list_any begins_rule tokens then last_rule tokens
     else (if begins_rule token then tokens else token ∷ tokens)
 
--- so many are counted in the last rule of the tokens
+-- how many count in the last rule of the tokens
 abbrev pub counted_at_end : List Token → ℕ
 counted_at_end tokens = counted (last_rule tokens)
 
--- in the last rule of each front of the tokens at most 256 are counted
+-- in no prefix of the tokens the last rule has more than 256
 abbrev pub IsWithinLimit : List Token → Type 0
 IsWithinLimit tokens = (front back : List Token) → tokens ≡ front ++ back → counted_at_end front ≤ most_nodes
 
--- the tokens up to and with one that passes the limit, and `Excess` behind it
+-- the tokens up to and with the first one that passes the limit, and `Excess` behind it
 pub record IsCut (tokens kept : List Token) : Type 0 where
   pub front : List Token
   pub token : Token

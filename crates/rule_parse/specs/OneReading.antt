@@ -1,4 +1,4 @@
--- What holds of every text.
+-- Laws of all texts.
 use Rattle.std.specs.Prelude.{◌≡◌, ◌↔◌, ◌⊎◌, ℕ, ◌≤◌, List, Some, Ok, slice_get}
 use Rattle.rule_tokens.specs.RuleFaults.{RuleFault}
 use Rattle.rule_parse.specs.declared.raw.RawRule.{RawRule}
@@ -12,7 +12,7 @@ use Rattle.rule_parse.specs.Weight.{raw_weight}
 use Rattle.rule_tokens.specs.Limits.{Limits}
 use Rattle.rule_tokens.specs.Tokens.{Token}
 
--- reading from left to right answers rules exactly where the grammar spells them, within any limits
+-- the parser gives these rules exactly where the grammar spells them, within any limits
 abbrev pub RulesAreReadAsSpelled : Type 0
 RulesAreReadAsSpelled = (limits : Limits) (last : ℕ) (tokens : List Token) (raws : List RawRule) → (all_rules limits last tokens ≡ Ok raws) ↔ SpellsFile limits raws tokens
 
@@ -27,7 +27,7 @@ pub record TextsHaveOneReadingOrFault : Type 0 where
 abbrev pub WrittenRulesAreSmall : Type 0
 WrittenRulesAreSmall = (text : List ℕ) (raws : List RawRule) → IsWritten text raws → (k : ℕ) (raw : RawRule) → slice_get raws k ≡ Some raw → raw_weight raw ≤ most_nodes
 
--- tokens are kept whole, where no rule has more than the limit, or else up to and with the first token with which one
--- has
+-- what the parser is given: all tokens, where no rule passes the limit, or else those up to and with the first token
+-- with which one does
 abbrev pub TokensAreKeptUpToTheLimit : Type 0
 TokensAreKeptUpToTheLimit = (tokens : List Token) → (IsWithinLimit tokens × (limited tokens ≡ tokens)) ⊎ IsCut tokens (limited tokens)

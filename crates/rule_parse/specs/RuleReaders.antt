@@ -1,5 +1,5 @@
--- Reading the parts of a rule from left to right: what the tokens spell and the tokens behind it, or the fault of the
--- first token that does not fit.
+-- The parser of rules, as functions over tokens: what the first tokens spell and the tokens that are left, or the fault
+-- of the first token that does not fit.
 use Rattle.std.specs.Prelude.{ℕ, zero, suc, Bool, true, false, if◌then◌else◌, List, [], ◌∷◌, ◌++◌, length, drop, Option, None, Some, Result, Ok, Err, codes}
 use Rattle.std.specs.Str.{bytes_eq}
 use Rattle.ops.specs.declared.opcode.Opcode.{Opcode}
@@ -48,7 +48,7 @@ use Rattle.rule_tokens.specs.Versions.{version_in}
 abbrev pub register_at : Limits → ℕ → List ℕ → List Token → Read RawArgument
 register_at limits line name rest = name_within limits line name >>= λ held. Ok (arguments.Register held, rest)
 
--- a word of the source: a constant, a truth or `undef`
+-- a word of the source: a constant, `true`, `false` or `undef`
 abbrev pub known_or_misplaced : ℕ → List ℕ → Option RawArgument → Result RawArgument RuleFault
 known_or_misplaced line word (Some value) = Ok value
 known_or_misplaced line word None = Err (misplaced_word line word)
@@ -58,11 +58,11 @@ source_word limits line word =
     if is_constant word then (name_within limits line word >>= λ held. Ok (arguments.Constant held))
     else known_or_misplaced line word (source_word_in word)
 
--- a term, or the literal or the constant that is one
+-- a constant term as an operand
 abbrev pub term_argument_at : Limits → ℕ → List Token → Read RawArgument
 term_argument_at limits line tokens = term_at limits Constant limits.nested line tokens >>= λ term. Ok (argument_of term.0, term.1)
 
--- an operand without its type
+-- an operand without a type before it
 unfoldable pub argument_at : Limits → Half → ℕ → List Token → Read RawArgument
 argument_at limits Source line (Register name ∷ rest) = register_at limits line name rest
 argument_at limits Source line (Number text ∷ rest) = Ok (arguments.Literal (literal_value text), rest)
@@ -73,15 +73,15 @@ argument_at limits Target line (Word word ∷ rest) =
     if bytes_eq word (codes "undef") then Ok (arguments.Undef, rest) else term_argument_at limits line (Word word ∷ rest)
 argument_at limits Target line tokens = term_argument_at limits line tokens
 
--- an operand with this type before it
+-- an operand behind the type that was read, if one was
 unfoldable pub typed_at : Limits → Half → ℕ → Option ℕ → List Token → Read RawOperand
 typed_at limits half line written tokens = argument_at limits half line tokens >>= λ value. Ok (record { written = written; value = value.0 }, value.1)
 
--- an operand, before which a type may be written
+-- an operand, with an optional type before it
 abbrev pub operand_at : Limits → Half → ℕ → List Token → Read RawOperand
 operand_at limits half line tokens = typed_at limits half line (maybe_type tokens).0 (maybe_type tokens).1
 
--- the end of the line, maybe behind `to` and a type
+-- `to` and a type, optional, and the end of the line
 unfoldable pub to_at : ℕ → List Token → Read (Option ℕ)
 to_at line (Word word ∷ rest) =
     if bytes_eq word (codes "to")
@@ -91,12 +91,12 @@ to_at line tokens = line_end line tokens >>= λ rest. Ok (None, rest)
 
 -- ---- flags
 
--- the flag that is next, where the instruction takes it
+-- the flag that is next, if it is one that the instruction takes
 abbrev pub next_flag : Flags → List Token → Option Flag
 next_flag taken (Word word ∷ rest) = flag_in taken word
 next_flag taken tokens = None
 
--- the flags before, and those that stand here; one that stands among them is no further one
+-- the flags so far where no flag is next, and else more of them; a repeated flag is a fault
 abbrev pub flag_or_end : ℕ → Flags → Option Flag → (Flags → Read Flags) → List Token → Read Flags
 flag_or_end line before None others tokens = Ok (before, tokens)
 flag_or_end line before (Some flag) others tokens = if has_flag before flag then Err (fault line Syntax) else others (with_flag before flag)
@@ -108,7 +108,7 @@ flags_at taken line before (token ∷ rest) =
 
 -- ---- what a statement computes
 
--- two operands of one type, and the end of the line
+-- two operands with one type before them, and the end of the line
 unfoldable pub pair_at : Limits → Half → ℕ → List Token → Read (RawOperand × RawOperand)
 pair_at limits half line tokens = do
   left ← operand_at limits half line tokens
@@ -137,12 +137,12 @@ compare_at limits half line tokens = do
   pair ← pair_at limits half line pred.1
   Ok (Compare pred.0 flags.0.samesign pair.0.0 pair.0.1, pair.1)
 
--- the flag is next that says that the truth value of an intrinsic is true
+-- the flag is next by which the truth value of the intrinsic is true
 abbrev pub is_truth_next : Intrinsic → List Token → Bool
 is_truth_next op (Word word ∷ rest) = is_truth_flag op word
 is_truth_next op tokens = false
 
--- the truth value of an intrinsic, which is true where its flag is written, once
+-- the truth value of an intrinsic: true where its flag is next, which may not be repeated
 unfoldable pub truth_at : Intrinsic → ℕ → List Token → Read Bool
 truth_at op line tokens =
     if is_truth_next op tokens
@@ -157,7 +157,7 @@ unary_at limits half line op tokens = do
   rest ← line_end line operand.1
   Ok (Unary op truth.0 operand.0, rest)
 
--- a choice, behind `select`
+-- the operands of a `select`, behind its opcode
 unfoldable pub select_at : Limits → Half → ℕ → List Token → Read RawOp
 select_at limits half line tokens = do
   condition ← operand_at limits half line tokens
@@ -190,7 +190,7 @@ copy_at limits line tokens = do
   rest ← line_end line operand.1
   Ok (Copy operand.0, rest)
 
--- behind its opcode
+-- what an operation reads behind its opcode
 abbrev pub operation_at : Limits → Half → ℕ → Operation → List Token → Read RawOp
 operation_at limits half line (operations.Binary op) tokens = binary_at limits half line op tokens
 operation_at limits half line operations.Compare tokens = compare_at limits half line tokens
@@ -199,7 +199,7 @@ operation_at limits half line operations.Select tokens = select_at limits half l
 operation_at limits half line (operations.Convert cast) tokens = convert_at limits half line cast tokens
 operation_at limits half line operations.Freeze tokens = freeze_at limits half line tokens
 
--- where it begins with no opcode: a copy, in the target
+-- what has no opcode: in the target a copy, in the source a fault
 abbrev pub other_at : Limits → Half → ℕ → List Token → Read RawOp
 other_at limits Source line tokens = Err (left_out line tokens)
 other_at limits Target line tokens = copy_at limits line tokens
@@ -210,7 +210,7 @@ next_operation version (Word word ∷ rest) = operation_in version false word
 next_operation version (OpcodeToken word ∷ rest) = operation_in version true word
 next_operation version tokens = None
 
--- behind its opcode, where it begins with one
+-- by its opcode, if one is next
 abbrev pub operation_or_other : Limits → Half → ℕ → Option Operation → List Token → Read RawOp
 operation_or_other limits half line (Some operation) tokens = operation_at limits half line operation (drop 1 tokens)
 operation_or_other limits half line None tokens = other_at limits half line tokens
@@ -218,7 +218,7 @@ operation_or_other limits half line None tokens = other_at limits half line toke
 unfoldable pub op_at : Limits → Version → Half → ℕ → List Token → Read RawOp
 op_at limits version half line tokens = operation_or_other limits half line (next_operation version tokens) tokens
 
--- the statement of a register, behind it
+-- a statement, behind the register that it assigns
 unfoldable pub statement_at : Limits → Version → Half → ℕ → List ℕ → List Token → Read RawStatement
 statement_at limits version half line register tokens = do
   name ← name_within limits line register
@@ -226,7 +226,7 @@ statement_at limits version half line register tokens = do
   op ← op_at limits version half line behind
   Ok (record { line = line; name = name; op = op.0 }, op.1)
 
--- Statements as long as a line begins with a register, and room for so many more.
+-- Statements, as long as a line begins with a register; `room` is how many there may be.
 unfoldable pub statements_at : Limits → Version → ℕ → Half → List Token → Read (List RawStatement)
 statements_at limits version zero half (Line line ∷ Register name ∷ rest) = Err (fault line TooMany)
 statements_at limits version (suc room) half (Line line ∷ Register name ∷ rest) = do
@@ -235,31 +235,31 @@ statements_at limits version (suc room) half (Line line ∷ Register name ∷ re
   Ok (first.0 ∷ others.0, others.1)
 statements_at limits version room half tokens = Ok ([], tokens)
 
--- no statement begins here
+-- no statement is next
 abbrev pub IsNoStatement : List Token → Type 0
 IsNoStatement (Line line ∷ Register name ∷ rest) = ⊥
 IsNoStatement tokens = Unit {0}
 
--- ---- the parts of a rule, where `last` is the last line of the text
+-- ---- the lines of a rule; `last` is the text's last line
 
--- another line should begin here; at the end of the text the fault is on its last line
+-- the fault of the token that begins the next line, or, where there is no such line, one on the text's last line
 abbrev pub unexpected_line : ℕ → List Token → RuleFault
 unexpected_line last (Line line ∷ tokens) = unexpected line tokens
 unexpected_line last tokens = unexpected last tokens
 
--- the name, behind its head
+-- a rule's name, behind `Name:`
 abbrev pub name_text : Limits → ℕ → List Token → Read (List ℕ)
 name_text limits line (Name [] ∷ rest) = Err (fault line Syntax)
 name_text limits line (Name (b ∷ text) ∷ rest) = name_within limits line (b ∷ text) >>= λ name. Ok (name, rest)
 name_text limits line tokens = Err (unexpected line tokens)
 
--- the line of the name, and the name
+-- the line of `Name:`: its number, and the name
 unfoldable pub name_at : Limits → ℕ → List Token → Read (ℕ × List ℕ)
 name_at limits last (Line line ∷ Head head ∷ rest) =
     if bytes_eq head (codes "Name:") then (name_text limits line rest >>= λ name. Ok ((line, name.0), name.1)) else Err (fault line Syntax)
 name_at limits last tokens = Err (unexpected_line last tokens)
 
--- the precondition, if one is next
+-- `Pre:` and its formula, optional
 abbrev pub behind_precondition : Limits → ℕ → List Token → Read (Option RawPrecondition)
 behind_precondition limits line tokens = formula_at limits line tokens >>= λ formula. Ok (Some (record { line = line; formula = formula.0 }), formula.1)
 
@@ -267,14 +267,14 @@ unfoldable pub precondition_at : Limits → List Token → Read (Option RawPreco
 precondition_at limits (Line line ∷ Head head ∷ rest) = if bytes_eq head (codes "Pre:") then behind_precondition limits line rest else Ok (None, Line line ∷ Head head ∷ rest)
 precondition_at limits tokens = Ok (None, tokens)
 
--- an expression of a witness, behind others
+-- one expression of `Wit:`, added to those before
 abbrev pub expression_at : Limits → ℕ → Reader (List (List RawNode))
 expression_at limits line before tokens = term_at limits Witness limits.nested line tokens >>= λ term. Ok (before ++ term.0 ∷ [], term.1)
 
 abbrev pub more_expressions : Limits → ℕ → Reader (List (List RawNode))
 more_expressions limits line before tokens = chain_at (codes ",") (expression_at limits line) before tokens
 
--- expressions behind each other, with `,` between them, and the end of the line
+-- expressions with `,` between them, and the end of the line
 unfoldable pub expressions_at : Limits → ℕ → List Token → Read (List (List RawNode))
 expressions_at limits line tokens = do
   first ← expression_at limits line [] tokens
@@ -282,7 +282,7 @@ expressions_at limits line tokens = do
   rest ← line_end line all.1
   Ok (all.0, rest)
 
--- the witness, if one is next
+-- `Wit:` and its expressions, optional
 abbrev pub behind_witness : Limits → ℕ → List Token → Read (Option RawWitness)
 behind_witness limits line tokens = expressions_at limits line tokens >>= λ all. Ok (Some (record { line = line; expressions = all.0 }), all.1)
 
@@ -290,7 +290,7 @@ unfoldable pub witness_at : Limits → List Token → Read (Option RawWitness)
 witness_at limits (Line line ∷ Head head ∷ rest) = if bytes_eq head (codes "Wit:") then behind_witness limits line rest else Ok (None, Line line ∷ Head head ∷ rest)
 witness_at limits tokens = Ok (None, tokens)
 
--- one statement or more
+-- the source: one statement or more
 unfoldable pub source_at : Limits → Version → ℕ → List Token → Read (List RawStatement)
 source_at limits version last (Line line ∷ Register name ∷ rest) = statements_at limits version limits.statements Source (Line line ∷ Register name ∷ rest)
 source_at limits version last tokens = Err (unexpected_line last tokens)
@@ -300,7 +300,7 @@ unfoldable pub arrow_at : ℕ → List Token → Result (List Token) RuleFault
 arrow_at last (Line line ∷ Arrow ∷ rest) = line_end line rest
 arrow_at last tokens = Err (unexpected_line last tokens)
 
--- one statement or more
+-- the target: one statement or more
 unfoldable pub target_at : Limits → Version → ℕ → List Token → Read (List RawStatement)
 target_at limits version last (Line line ∷ Register name ∷ rest) = statements_at limits version limits.statements Target (Line line ∷ Register name ∷ rest)
 target_at limits version last tokens = Err (unexpected_line last tokens)
@@ -315,7 +315,7 @@ rule_at limits version last tokens = do
   target ← target_at limits version last behind
   Ok (record { line = name.0.0; name = name.0.1; precondition = precondition.0; witness = witness.0; source = source.0; target = target.0 }, target.1)
 
--- Rules up to the end of the text. The number bounds how many; that of the tokens is enough.
+-- Rules up to the end of the tokens. At most n are read; as many as there are tokens is always enough.
 unfoldable pub rules_at : Limits → Version → ℕ → ℕ → List Token → Result (List RawRule) RuleFault
 rules_at limits version n last [] = Ok []
 rules_at limits version zero last (token ∷ tokens) = Err (fault last Syntax)
@@ -324,22 +324,22 @@ rules_at limits version (suc n) last (token ∷ tokens) = do
   others ← rules_at limits version n last first.1
   Ok (first.0 ∷ others)
 
--- ---- the whole text
+-- ---- the whole file
 
--- the number of a version, behind its head
+-- the number behind `Version:`, and the end of the line
 unfoldable pub version_number_at : ℕ → List Token → Read Version
 version_number_at line (Number text ∷ rest) = or_left_out line text (version_in text) rest >>= λ version. line_end line version.1 >>= λ behind. Ok (version.0, behind)
 version_number_at line tokens = Err (unexpected line tokens)
 
--- the version, if the first line says it
+-- the version of the file: its first line says it, or it is 1
 unfoldable pub version_at : List Token → Read Version
 version_at (Line line ∷ Head head ∷ rest) = if bytes_eq head (codes "Version:") then version_number_at line rest else Ok (One, Line line ∷ Head head ∷ rest)
 version_at tokens = Ok (One, tokens)
 
--- all rules of these tokens, in their version
+-- all rules of the tokens behind the version's line
 abbrev pub rules_of : Limits → Version → ℕ → List Token → Result (List RawRule) RuleFault
 rules_of limits version last tokens = rules_at limits version (length tokens) last tokens
 
--- all rules of a text
+-- all rules of a file
 abbrev pub all_rules : Limits → ℕ → List Token → Result (List RawRule) RuleFault
 all_rules limits last tokens = version_at tokens >>= λ version. rules_of limits version.0 last version.1

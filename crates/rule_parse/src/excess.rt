@@ -1,4 +1,4 @@
-//! The limit of how many operands, literals, names, operators and functions stand in a rule.
+//! Stops at the token with which a rule passes the limit of operands, literals, names, operators and functions.
 
 ghost use Rattle.std.specs.Prelude.{◌≡◌, IfOk};
 ghost use Rattle.rule_parse.specs.CutTokens as spelled;
@@ -35,7 +35,7 @@ fn is_node_word(word: &[u8]) -> bool
         )
 }
 
-/// Whether a token is counted, where it begins its line or not.
+/// Whether a token counts towards the limit; `begins` where it is the first of its line.
 fn is_counted(begins: bool, token: &Token<'_>) -> bool
     ensures { result ≡ spelled.is_counted begins (seen_token token.now) }
 {
@@ -68,7 +68,7 @@ fn ends_before_line(token: &Token<'_>) -> bool
     }
 }
 
-/// How many more tokens of a rule may be counted behind this one; none if it is one too many.
+/// The room that is left behind this token, of this room before it; `None` where it passes the limit.
 fn room_behind(room: u32, begins: bool, token: &Token<'_>) -> Option<u32>
     ensures { result ≡ spelled.room_behind room begins (seen_token token.now) }
 {
@@ -81,8 +81,9 @@ fn room_behind(room: u32, begins: bool, token: &Token<'_>) -> Option<u32>
     }
 }
 
-/// The tokens up to and with the first one with which a rule has too many operands, literals, names, operators and
-/// functions. Behind it stands `Excess`, so that it is told by its own kind where it does not fit.
+/// The tokens, or, where a rule has too many operands, literals, names, operators and functions, those up to and with
+/// the one that passes the limit. `Excess` stands behind that one, so that it is refused by its own kind where it does
+/// not fit.
 pub(crate) fn limited<'a>(alloc: Global, tokens: &[Token<'a>]) -> Result<Vec<Token<'a>>, AllocError>
     ensures { IfOk result (λ kept. seen kept.items ≡ spelled.limited (seen tokens.now)) }
 {

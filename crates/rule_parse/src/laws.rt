@@ -1,7 +1,7 @@
 //! The laws of rule files, each the contract of a function that does nothing.
 ghost use Rattle.rule_parse.specs.OneReading.{RulesAreReadAsSpelled, TextsHaveOneReadingOrFault, TokensAreKeptUpToTheLimit, WrittenRulesAreSmall};
 
-/// Reading from left to right answers rules exactly where the grammar spells them.
+/// The parser gives rules exactly where the grammar spells them.
 pub fn rules_are_read_as_they_are_spelled()
     ensures { RulesAreReadAsSpelled }
 {}
@@ -18,8 +18,8 @@ pub fn written_rules_are_small()
     ensures { WrittenRulesAreSmall }
 {}
 
-/// Tokens are kept whole where no rule has more than 256 operands, literals, names, operators and functions, or else up
-/// to and with the first token with which one has.
+/// What the parser is given: all tokens, where no rule has more than 256 operands, literals, names, operators and
+/// functions, or else those up to and with the first token with which one has.
 pub fn tokens_are_kept_up_to_the_limit()
     ensures { TokensAreKeptUpToTheLimit }
 {}

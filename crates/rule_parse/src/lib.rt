@@ -1,7 +1,7 @@
-//! Rules as they are written in a text, or the first token that does not fit, with its line.
+//! The parser of rule files: from bytes to rules as written, or the first token that does not fit, with its line.
 //!
-//! A text is read in two steps: bytes to tokens with their lines, and those to rules (`rule`, `statement`, `op`,
-//! `operand`).
+//! The lexer is in `rule_tokens`; from its tokens `rule`, `statement`, `op` and `operand` read rules by recursive
+//! descent.
 #![tactic(auto)]
 
 mod excess;

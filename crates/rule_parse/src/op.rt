@@ -21,7 +21,7 @@ use rule_tokens::{
 };
 use std::alloc::Global;
 
-/// The flag that is next, if one that the instruction takes is; goes behind it.
+/// Takes the flag that is next, if it is one of those that the instruction takes.
 fn flag(taken: Flags, tokens: &mut &[Token<'_>]) -> Option<Flag>
     ensures flag { result ≡ parsing.next_flag taken (seen tokens.old.now) }
     ensures goes { IfSome result (λ _. seen tokens.new.now ≡ drop 1 (seen tokens.old.now)) }
@@ -35,7 +35,7 @@ fn flag(taken: Flags, tokens: &mut &[Token<'_>]) -> Option<Flag>
     Some(flag)
 }
 
-/// The flags of an instruction, of those that it takes, in any order.
+/// Reads flags, of those that the instruction takes, in any order, each at most once.
 fn flags(taken: Flags, line: usize, tokens: &mut &[Token<'_>]) -> Result<Flags, RuleFault>
     ensures { Reads (λ x. (x, seen tokens.new.now)) result (parsing.flags_at taken line no_flags (seen tokens.old.now)) }
 {
@@ -50,7 +50,7 @@ fn flags(taken: Flags, line: usize, tokens: &mut &[Token<'_>]) -> Result<Flags, 
     Ok(flags)
 }
 
-/// Two operands of one type, and that the line ends behind them.
+/// Reads two operands, with one type before them, and the end of the line.
 #[tactic(auto, unfolding(crate::specs::RuleReaders::pair_at))]
 fn pair(
     alloc: Global,
@@ -83,7 +83,7 @@ fn binary(
     Ok(RawOp::Binary(opcode, flags, left, right))
 }
 
-/// A predicate.
+/// Reads a predicate.
 #[tactic(auto, unfolding(crate::specs::RuleReaders::pred_at))]
 fn predicate(alloc: Global, line: usize, tokens: &mut &[Token<'_>]) -> Result<Pred, RuleError>
     ensures { Gives (λ x. (x, seen tokens.new.now)) result (parsing.pred_at line (seen tokens.old.now)) }
@@ -116,7 +116,7 @@ fn comparison(
     Ok(RawOp::Compare(pred, flags.samesign, left, right))
 }
 
-/// Whether the flag is next that says that the truth value of an intrinsic is true.
+/// Whether the flag is next by which the truth value of the intrinsic is true.
 fn is_truth_next(op: Unary, tokens: &[Token<'_>]) -> bool
     ensures { result ≡ parsing.is_truth_next op (seen tokens.now) }
 {
@@ -126,7 +126,7 @@ fn is_truth_next(op: Unary, tokens: &[Token<'_>]) -> bool
     }
 }
 
-/// The truth value of an intrinsic, which is true where its flag is written, once.
+/// Reads the truth value of an intrinsic: true where its flag is next, which may not be repeated.
 #[tactic(auto, unfolding(crate::specs::RuleReaders::truth_at))]
 fn truth(op: Unary, line: usize, tokens: &mut &[Token<'_>]) -> Result<bool, RuleFault>
     ensures { Reads (λ x. (x, seen tokens.new.now)) result (parsing.truth_at op line (seen tokens.old.now)) }
@@ -162,7 +162,7 @@ fn intrinsic(
     Ok(RawOp::Unary(op, truth, operand))
 }
 
-/// A choice, behind `select`.
+/// The operands of a `select`, behind its opcode.
 #[tactic(auto, unfolding(crate::specs::RuleReaders::select_at))]
 fn selection(
     alloc: Global,
@@ -223,7 +223,7 @@ fn copy(alloc: Global, line: usize, tokens: &mut &[Token<'_>]) -> Result<RawOp, 
     Ok(RawOp::Copy(operand))
 }
 
-/// What an operation computes, behind its opcode.
+/// Reads the operation, behind its opcode.
 fn behind_opcode(
     alloc: Global,
     half: Half,
@@ -243,7 +243,7 @@ fn behind_opcode(
     }
 }
 
-/// What a statement computes that begins with no opcode.
+/// Reads what has no opcode: in a target a copy, in a source a fault.
 fn other(
     alloc: Global,
     half: Half,
@@ -269,7 +269,7 @@ fn next_operation(version: Version, tokens: &[Token<'_>]) -> Option<Operation>
     }
 }
 
-/// What a statement computes, behind its `=`.
+/// Reads what a statement computes, behind its `=`, and the end of the line.
 #[tactic(auto, unfolding(crate::specs::RuleReaders::op_at))]
 pub(crate) fn op(
     alloc: Global,

@@ -1,4 +1,4 @@
-//! Types and operands from tokens, and what stands behind them.
+//! Operands from tokens, with their types, and the end of a line behind them.
 
 ghost use Rattle.std.specs.Prelude.{◌≡◌, IfOk};
 ghost use Rattle.refusal.specs.Refusals.{Gives};
@@ -23,7 +23,7 @@ use rule_tokens::{
 };
 use std::alloc::{AllocError, Global};
 
-/// A word of the source: a constant, a truth or `undef`.
+/// A word of the source as an operand: a constant, `true`, `false` or `undef`.
 #[tactic(auto, unfolding(crate::specs::RuleReaders::source_word))]
 fn source_word(alloc: Global, line: usize, word: &[u8]) -> Result<RawArgument, RuleError>
     ensures { Gives (λ x. x) result (parsing.source_word rule_limits line word.now) }
@@ -37,7 +37,7 @@ fn source_word(alloc: Global, line: usize, word: &[u8]) -> Result<RawArgument, R
     }
 }
 
-/// An operand of the source without its type.
+/// Reads an operand of the source without a type before it.
 #[tactic(auto, unfolding(crate::specs::RuleReaders::argument_at))]
 fn source_argument(
     alloc: Global,
@@ -63,7 +63,7 @@ fn source_argument(
     }
 }
 
-/// A term as an operand: a literal or a constant alone is known as such.
+/// A term as an operand: a single literal or constant is kept as such.
 #[tactic(auto, unfolding(crate::specs::Keywords::argument_of))]
 fn argument_of(alloc: Global, term: RawTerm) -> Result<RawArgument, AllocError>
     ensures { IfOk result (λ x. x ≡ spelled.argument_of term) }
@@ -78,7 +78,7 @@ fn argument_of(alloc: Global, term: RawTerm) -> Result<RawArgument, AllocError>
     }
 }
 
-/// A term of constants as an operand.
+/// Reads a constant term as an operand.
 fn term_argument(
     alloc: Global,
     line: usize,
@@ -90,7 +90,7 @@ fn term_argument(
     Ok(argument_of(alloc, nodes)?)
 }
 
-/// An operand of the target without its type.
+/// Reads an operand of the target without a type before it.
 #[tactic(auto, unfolding(crate::specs::RuleReaders::argument_at))]
 fn target_argument(
     alloc: Global,
@@ -112,7 +112,7 @@ fn target_argument(
     }
 }
 
-/// An operand without its type.
+/// Reads an operand without a type before it.
 fn argument(
     alloc: Global,
     half: Half,
@@ -127,7 +127,7 @@ fn argument(
     }
 }
 
-/// An operand, behind the type that is written before it.
+/// Reads an operand, behind the type that was read, if one was.
 #[tactic(auto, unfolding(crate::specs::RuleReaders::typed_at))]
 pub(crate) fn typed(
     alloc: Global,
@@ -142,7 +142,7 @@ pub(crate) fn typed(
     Ok(RawOperand { written, value })
 }
 
-/// An operand, before which a type may be written.
+/// Reads an operand, with an optional type before it.
 pub(crate) fn operand(
     alloc: Global,
     half: Half,
@@ -155,7 +155,7 @@ pub(crate) fn operand(
     typed(alloc, half, line, written, tokens)
 }
 
-/// The type behind a `to`, if one is written, and that the line ends there.
+/// Reads `to` and a type, which are optional, and the end of the line.
 #[tactic(auto, unfolding(crate::specs::RuleReaders::to_at))]
 pub(crate) fn result_type(
     alloc: Global,

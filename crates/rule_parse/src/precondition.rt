@@ -11,7 +11,7 @@ use rule_terms::formula;
 use rule_tokens::{RuleError, Token};
 use std::alloc::Global;
 
-/// The precondition, if one is next; goes behind it.
+/// Reads `Pre:` and its formula, if that is next.
 #[tactic(auto, unfolding(crate::specs::RuleReaders::precondition_at))]
 pub(crate) fn precondition(
     alloc: Global,

@@ -27,7 +27,7 @@ pub struct RawPrecondition {
     pub formula: List<RawFormula>,
 }
 
-/// What the choices of the source are, as written.
+/// The expressions of `Wit:`, which say what the choices of the source are.
 #[derive(Drop)]
 pub struct RawWitness {
     /// Their line, counted from 1.
@@ -78,7 +78,7 @@ pub struct RawOperand {
 pub enum RawArgument {
     /// A register by its name, without the `%`.
     Register(Text),
-    /// A number with its sign; past an end of `i128` that end.
+    /// A number with its sign, saturated to `i128`.
     Literal(i128),
     /// `true` or `false`.
     Truth(bool),

@@ -14,7 +14,7 @@ use crate::version::version;
 use rule_tokens::{RuleError, Token, tokens_of};
 use std::alloc::Global;
 
-/// The rules that tokens spell, in their version, where this is the last line of the text, or the first fault.
+/// The rules of a file's tokens, or the first fault; `last` is the text's last line.
 fn all_rules(alloc: Global, last: usize, tokens: &[Token<'_>]) -> Result<Vec<RawRule>, RuleError>
     ensures { Gives (λ x. x.items) result (parsing.all_rules rule_limits last (seen tokens.now)) }
 {

@@ -25,7 +25,7 @@ use std::alloc::Global;
 /// The most statements of a half.
 const MOST_STATEMENTS: usize = 32;
 
-/// The fault of the first token, where another line should begin; at the end of the text the one of the last line.
+/// The fault of the token that begins the next line, or, where there is no such line, one on the text's last line.
 fn unexpected_line(last: usize, tokens: &[Token<'_>]) -> RuleFault
     ensures { result ≡ parsing.unexpected_line last (seen tokens.now) }
 {
@@ -35,7 +35,7 @@ fn unexpected_line(last: usize, tokens: &[Token<'_>]) -> RuleFault
     }
 }
 
-/// The name of a rule, behind its head.
+/// Reads a rule's name, behind `Name:`.
 fn name_text(alloc: Global, line: usize, tokens: &mut &[Token<'_>]) -> Result<Text, RuleError>
     ensures { Gives (λ x. (x, seen tokens.new.now)) result (parsing.name_text rule_limits line (seen tokens.old.now)) }
 {
@@ -49,7 +49,7 @@ fn name_text(alloc: Global, line: usize, tokens: &mut &[Token<'_>]) -> Result<Te
     }
 }
 
-/// The line of a rule's name, and the name.
+/// Reads the line of `Name:`: its number, and the name.
 #[tactic(auto, unfolding(crate::specs::RuleReaders::name_at))]
 fn name(alloc: Global, last: usize, tokens: &mut &[Token<'_>]) -> Result<(usize, Text), RuleError>
     ensures { Gives (λ x. (x, seen tokens.new.now)) result (parsing.name_at rule_limits last (seen tokens.old.now)) }
@@ -67,7 +67,7 @@ fn name(alloc: Global, last: usize, tokens: &mut &[Token<'_>]) -> Result<(usize,
     }
 }
 
-/// The line and the register that begin a statement, where one begins here; goes behind them.
+/// Takes the line number and the register that begin a statement, if those are next.
 fn register<'a>(tokens: &mut &[Token<'a>]) -> Option<(usize, &'a [u8])>
     ensures some { IfSome result (λ x. seen tokens.old.now ≡ Line x.0 ∷ Register x.1.now ∷ seen tokens.new.now) }
     ensures none { IfNone result (IsNoStatement (seen tokens.old.now)) }
@@ -82,7 +82,7 @@ fn register<'a>(tokens: &mut &[Token<'a>]) -> Option<(usize, &'a [u8])>
     }
 }
 
-/// Statements as long as a line begins with a register.
+/// Reads statements, as long as a line begins with a register.
 fn statements(
     alloc: Global,
     version: Version,
@@ -101,7 +101,7 @@ fn statements(
     Ok(statements)
 }
 
-/// The source: one statement or more.
+/// Reads the source: one statement or more.
 #[tactic(auto, unfolding(crate::specs::RuleReaders::source_at))]
 fn source(
     alloc: Global,
@@ -122,7 +122,7 @@ fn source(
     }
 }
 
-/// The line of the `=>`.
+/// Reads the line of the `=>`.
 #[tactic(auto, unfolding(crate::specs::RuleReaders::arrow_at))]
 fn arrow(last: usize, tokens: &mut &[Token<'_>]) -> Result<(), RuleFault>
     ensures { Reads (λ _. seen tokens.new.now) result (parsing.arrow_at last (seen tokens.old.now)) }
@@ -136,7 +136,7 @@ fn arrow(last: usize, tokens: &mut &[Token<'_>]) -> Result<(), RuleFault>
     }
 }
 
-/// The target: one statement or more.
+/// Reads the target: one statement or more.
 #[tactic(auto, unfolding(crate::specs::RuleReaders::target_at))]
 fn target(
     alloc: Global,
@@ -157,7 +157,7 @@ fn target(
     }
 }
 
-/// The first rule of a text.
+/// Reads a rule.
 #[tactic(auto, unfolding(crate::specs::RuleReaders::rule_at))]
 fn rule(
     alloc: Global,
@@ -183,7 +183,7 @@ fn rule(
     })
 }
 
-/// The rules of a version that tokens spell, where this is the last line of the text, or the first fault.
+/// Reads the rules of tokens, in this version, up to their end, or the first fault; `last` is the text's last line.
 pub(crate) fn rules(
     alloc: Global,
     version: Version,

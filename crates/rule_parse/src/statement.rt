@@ -12,7 +12,7 @@ use rule_terms::mark;
 use rule_tokens::{RuleError, Token, Version, name_within};
 use std::alloc::Global;
 
-/// The statement of a register, behind it.
+/// Reads a statement, behind the register that it assigns.
 #[tactic(auto, unfolding(crate::specs::RuleReaders::statement_at))]
 pub(crate) fn statement(
     alloc: Global,

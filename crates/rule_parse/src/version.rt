@@ -10,7 +10,7 @@ use rule_tokens::{
 };
 use std::alloc::Global;
 
-/// The number of a version, behind its head.
+/// Reads the number behind `Version:`.
 #[tactic(auto, unfolding(crate::specs::RuleReaders::version_number_at))]
 fn number(alloc: Global, line: usize, tokens: &mut &[Token<'_>]) -> Result<Version, RuleError>
     ensures { Gives (λ x. (x, seen tokens.new.now)) result (parsing.version_number_at line (seen tokens.old.now)) }
@@ -28,7 +28,7 @@ fn number(alloc: Global, line: usize, tokens: &mut &[Token<'_>]) -> Result<Versi
     }
 }
 
-/// The version, if the first line says it; goes behind that line.
+/// Reads the version, if the first line says it.
 #[tactic(auto, unfolding(crate::specs::RuleReaders::version_at))]
 pub(crate) fn version(alloc: Global, tokens: &mut &[Token<'_>]) -> Result<Version, RuleError>
     ensures { Gives (λ x. (x, seen tokens.new.now)) result (parsing.version_at (seen tokens.old.now)) }

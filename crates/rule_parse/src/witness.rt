@@ -1,4 +1,4 @@
-//! Witnesses from the tokens of a text.
+//! `Wit:` from the tokens of a text.
 
 ghost use Rattle.refusal.specs.Refusals.{Gives};
 ghost use Rattle.rule_tokens.specs.SeenTokens.{seen};
@@ -13,7 +13,7 @@ use rule_terms::{RawTerm, TermPlace, takes, term};
 use rule_tokens::{RuleError, Token, line_end};
 use std::alloc::Global;
 
-/// An expression of a witness, behind others.
+/// Reads an expression, and adds it to those before.
 fn expression(
     alloc: Global,
     line: usize,
@@ -27,7 +27,7 @@ fn expression(
     Ok(())
 }
 
-/// The expressions behind the first one, each behind a `,`.
+/// Reads the expressions behind the first one, each behind a `,`.
 fn more_expressions(
     alloc: Global,
     line: usize,
@@ -42,7 +42,7 @@ fn more_expressions(
     Ok(())
 }
 
-/// Expressions with `,` between them; the line ends behind them.
+/// Reads expressions with `,` between them, and the end of the line.
 #[tactic(auto, unfolding(crate::specs::RuleReaders::expressions_at))]
 fn expressions(
     alloc: Global,
@@ -58,7 +58,7 @@ fn expressions(
     Ok(expressions)
 }
 
-/// The witness, if one is next; goes behind it.
+/// Reads `Wit:` and its expressions, if that is next.
 #[tactic(auto, unfolding(crate::specs::RuleReaders::witness_at))]
 pub(crate) fn witness(
     alloc: Global,

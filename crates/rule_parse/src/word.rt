@@ -62,7 +62,7 @@ const OPERATIONS: [Operation; 27] = [
     Operation::Unary(Unary::CtTz),
 ];
 
-/// Whether version 2 is the first one that has the operation.
+/// Whether version 2 brought the operation.
 fn is_of_second(operation: Operation) -> bool
     ensures { result ≡ spelled.is_of_second operation }
 {
@@ -73,7 +73,7 @@ fn is_of_second(operation: Operation) -> bool
     }
 }
 
-/// Whether the operation is one of the version.
+/// Whether the version has the operation.
 fn is_known(operation: Operation, version: Version) -> bool
     ensures { result ≡ spelled.is_known operation version }
 {
@@ -84,14 +84,14 @@ fn is_known(operation: Operation, version: Version) -> bool
     }
 }
 
-/// Whether the operation's word is that of a function of terms too, so that the opcode is a token of its own.
+/// Whether the operation's word is that of a function of terms too, so that its opcode is a kind of token of its own.
 fn is_apart(operation: Operation) -> bool
     ensures { result ≡ spelled.is_apart operation }
 {
     matches!(operation, Operation::Unary(Unary::Abs))
 }
 
-/// Whether the operation's opcode is a token of its own where that is asked for, or else a word.
+/// Whether the opcode of the operation is an opcode token, where `apart` asks for those, or a word.
 fn is_told(apart: bool, operation: Operation) -> bool
     ensures { result ≡ spelled.is_told apart operation }
 {
@@ -101,7 +101,7 @@ fn is_told(apart: bool, operation: Operation) -> bool
     }
 }
 
-/// The operation of the version whose opcode a token with these bytes is, which is one of its own or a word.
+/// The operation of the version that an opcode token (`apart`) or a word with these bytes names.
 #[tactic(auto, unfolding(crate::specs::Keywords::operation_in))]
 pub(crate) fn operation_of(version: Version, apart: bool, word: &[u8]) -> Option<Operation>
     ensures { result ≡ spelled.operation_in version apart word.now }
@@ -113,7 +113,7 @@ pub(crate) fn operation_of(version: Version, apart: bool, word: &[u8]) -> Option
     })
 }
 
-/// Whether a word is the flag that says that the truth value of an intrinsic is true.
+/// Whether the word is the flag by which the truth value of the intrinsic is true.
 pub(crate) fn is_truth_flag(op: Unary, word: &[u8]) -> bool
     ensures { result ≡ spelled.is_truth_flag op word.now }
 {
@@ -124,7 +124,7 @@ pub(crate) fn is_truth_flag(op: Unary, word: &[u8]) -> bool
     }
 }
 
-/// What a word of the source is as an operand, where it is no constant: a truth or `undef`.
+/// The operand of a source that a word is, where it is no constant: `true`, `false` or `undef`.
 #[tactic(auto, unfolding(crate::specs::Keywords::source_word_in))]
 pub(crate) fn source_word_of(word: &[u8]) -> Option<RawArgument>
     ensures { result ≡ spelled.source_word_in word.now }

@@ -29,7 +29,7 @@ module _ (earlier : List RawRule) (raw : RawRule) (well : IsWellFormed raw) wher
   pub duplicate_name : HasNameOf earlier raw.name → IsFirstLine (DuplicateAt earlier raw) raw.line
   duplicate_name named = first_left (λ l. HasNameOf earlier raw.name × (raw.line ≡ l)) Again raw.line ((named, refl), λ other h. omega (arith, h.1)) name_line_first
 
-  -- what is found in the halves, which the code sees as these lists
+  -- the answer of a loop over these statements
   abbrev Finds : List RawStatement → Option ℕ → Type 0
   Finds half found = IsFirst (StandsAt half (AssignsAgain half)) found
 
@@ -50,11 +50,11 @@ module _ (earlier : List RawRule) (raw : RawRule) (well : IsWellFormed raw) wher
       duplicate_rest unnamed (subst (λ o. Finds raw.source o) none (subst (λ ss. Finds ss before) is finds)) found (subst (λ ss. Finds ss found) is' finds')
 
 module _ (raw : RawRule) (well : IsWellFormed raw) where
-  -- the name that is tested is the root's
+  -- the test whether this is the name of the root
   pub tested_root : (half : List RawStatement) (t : RawStatement) (name : List ℕ) (b : Bool) → half ≡ raw.source → name ≡ t.name → (IsTrue b → IsRoot half name) × (IsRoot half name → IsTrue b) → (IsTrue b → IsRoot raw.source t.name) × (IsRoot raw.source t.name → IsTrue b)
   tested_root half t name b is is' says = subst (λ n. (IsTrue b → IsRoot raw.source n) × (IsRoot raw.source n → IsTrue b)) is' (subst (λ ss. (IsTrue b → IsRoot ss name) × (IsRoot ss name → IsTrue b)) is says)
 
-  -- the target's last statement
+  -- the loop's last statement is the target's
   pub root_there : (last : ℕ) (t : RawStatement) → suc last ≡ length raw.target → slice_get raw.target last ≡ Some t → IsRoot raw.source t.name → (line : ℕ) → ¬ RootMissingAt raw line
   root_there last t end at root line (k, s, at', (end', not_root), is) =
       let e : k ≡ last = omega arith in
@@ -64,10 +64,10 @@ module _ (raw : RawRule) (well : IsWellFormed raw) where
   pub root_missed : (last : ℕ) (t : RawStatement) → suc last ≡ length raw.target → slice_get raw.target last ≡ Some t → ¬ IsRoot raw.source t.name → IsFirstLine (RootMissingAt raw) t.line
   root_missed last t end at not_root = first_here raw.target (MissesRoot raw) last t well.target.in_order (λ k s lt at' (end', _). absurd (omega arith)) at (end, not_root)
 
--- what the names of temporaries are
+-- a name is a temporary's where a statement before the last assigns it
 pub temporary_is : (source : List RawStatement) (name : List ℕ) → 0 < length source → (AssignedBefore source (length source - 1) name → IsTemporary source name) × (IsTemporary source name → AssignedBefore source (length source - 1) name)
 temporary_is source name some = (λ (k, lt, at). (k, (omega arith), at), λ (k, lt, at). (k, (omega arith), at))
 
--- a test that says one thing says what is the same
+-- a test for P is one for an equivalent Q
 pub says_as : (b : Bool) (P Q : Type 0) → (IsTrue b → P) × (P → IsTrue b) → (P → Q) × (Q → P) → (IsTrue b → Q) × (Q → IsTrue b)
 says_as b P Q h k = (λ t. k.0 (h.0 t), λ q. h.1 (k.1 q))

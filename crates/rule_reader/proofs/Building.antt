@@ -1,4 +1,4 @@
--- Building a rule from one as written whose names are all there to use.
+-- Resolving a rule as written whose names may all be used where they are.
 use Rattle.std.proofs.Common.{◌≡◌, ℕ, ◌+◌, ◌<◌, ◌≤◌, List, [], ◌∷◌, ◌++◌, length, Some, refl, sym, ap, subst, ◌∙◌, arith, take, drop, get_or}
 use Rattle.std.specs.Prelude.{slice_get, Contains, flat_map, sum_by}
 use Rattle.std.proofs.lemmas.List.{take-append-drop, take_all}
@@ -66,7 +66,7 @@ module _ (raw : RawRule) (well : IsWellFormed raw) where
   whole_half halves.Target k s at =
       each_of IsWhole (arguments_of s.op) (λ a among. is_whole a (λ t is. well.terms t (target_term raw t (term_among raw k s t at (subst (Contains (arguments_of s.op)) is among)))))
 
-  -- what a statement reads can mean something
+  -- the operands of a statement can be resolved
   pub ready_at : (half : Half) (ws : List RawStatement) (k : ℕ) (s : RawStatement) (c : Counts) → HalfIsBound raw half → ws ≡ half_of half raw → k < length ws → s ≡ get_or ws k s → c ≡ past_all no_counts (counted_among (take k ws)) → AreReady raw (place_in half k) c (arguments_of s.op)
   ready_at half ws k s c bound is within item before =
       let at : slice_get (half_of half raw) k ≡ Some s = subst (λ l. slice_get l k ≡ Some s) is (read_at ws k s within item) in
@@ -93,7 +93,7 @@ module _ (raw : RawRule) (well : IsWellFormed raw) where
       let at : slice_get raw.target k ≡ Some s = subst (λ l. slice_get l k ≡ Some s) is (read_at ws k s within item) in
       ready_terms (places.Target k) (arguments_of s.op) (bound k s at) (whole_half halves.Target k s at)
 
--- the terms of statements up to one of them and with it
+-- the terms of the statements up to and with number k
 abbrev pub terms_upto : List RawStatement → ℕ → List (List RawNode)
 terms_upto ws k = flat_map terms_of_argument (arguments_among (take k ws))
 
@@ -126,7 +126,7 @@ more_terms raw names ws k s terms new within item means adds = subst (λ l. Term
 pub all_terms : (raw : RawRule) (names : Names) (ws : List RawStatement) (k : ℕ) (terms : List Meant) → ws ≡ raw.target → length ws ≤ k → TermsMean raw names (terms_upto ws k) terms → TermsMean raw names (target_terms raw) terms
 all_terms raw names ws k terms is past means = subst (λ l. TermsMean raw names (flat_map terms_of_argument (arguments_among l)) terms) is (subst (λ l. TermsMean raw names (flat_map terms_of_argument (arguments_among l)) terms) (take_all k ws past) means)
 
--- a node of a term that is added
+-- a node of a term keeps small operands when the term is appended
 pub node_fits : (before k : ℕ) (t : List RawNode) (node : RawNode) → IsTerm t → before + length t ≤ 256 → k < length t → node ≡ get_or t k node → NodeFits before node
 node_fits before k t node is few within item = fits node (is.each k node (read_at t k node within item))
   where
@@ -147,6 +147,6 @@ pub half_in_order : (raw : RawRule) (half : Half) → IsWellFormed raw → AreIn
 half_in_order raw halves.Source well = well.source.in_order
 half_in_order raw halves.Target well = well.target.in_order
 
--- the item of a loop over a half, which the code sees as a list of its own
+-- the statement that the loop reads at k is statement k of the half
 pub item_at : (raw : RawRule) (half : Half) (ws : List RawStatement) (k : ℕ) (s : RawStatement) → ws ≡ half_of half raw → k < length ws → s ≡ get_or ws k s → slice_get (half_of half raw) k ≡ Some s
 item_at raw half ws k s is within item = subst (λ l. slice_get l k ≡ Some s) is (read_at ws k s within item)

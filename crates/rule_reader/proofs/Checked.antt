@@ -1,4 +1,4 @@
--- A rule that a rule as written without faults means meets each check of a rule.
+-- A rule that a rule as written without faults means is an `IsRule`.
 use Rattle.std.proofs.Common.{◌≡◌, inl, inr, ℕ, zero, suc, ◌+◌, ◌-◌, ◌<◌, ◌≤◌, Bool, List, [], ◌∷◌, ◌++◌, append_assoc, length, Some, refl, sym, ap, subst, ◌∙◌, arith, get_or}
 use Rattle.std.specs.Prelude.{slice_get, Contains, map, flat_map}
 use Rattle.std.specs.List.{range_with_len}
@@ -65,7 +65,7 @@ use Rattle.rule_reader.proofs.Meaning.{assigning_statement, statement_assigns, n
 use Rattle.rule_reader.proofs.OneRegister.{IsPlain, one_place, one_register, not_redefined, input_or_earlier, target_register, before_root_register}
 use Rattle.rule_reader.proofs.NameDecisions.{dec_uses_at}
 
--- no check of the registers, constants and `undef`s fails
+-- no check of registers, constants and choices fails
 pub record IsBound (raw : RawRule) : Type 0 where
   pub plain : IsPlain raw
   pub there : NamesAreThere raw
@@ -131,7 +131,7 @@ module _ (raw : RawRule) (names : Names) where
   named_constant b name (arguments.Constant k) means = (k, refl, means)
   named_constant b name a means = absurd means
 
--- what is counted of a statement is what it reads, and maybe a freeze behind that
+-- the counted operands of a statement are its operands, and maybe one for a freeze
 counted_behind : (op : RawOp) → (frozen : List RawArgument) × (counted_of op ≡ arguments_of op ++ frozen)
 counted_behind (raw_ops.Binary op flags a b) = ([], refl)
 counted_behind (raw_ops.Compare pred samesign a b) = ([], refl)
@@ -157,7 +157,7 @@ last_within n (t ∷ ts) (suc k) m some at =
     let rest : m < n + length t + nodes_in ts = last_within (n + length t) ts k m (λ u among. let (j, there') = somewhere ts u among in some u (Contains-from_get (t ∷ ts) (suc j) u there')) at in
     omega (arith, nodes_append (t ∷ []) ts, rest)
 
--- and the terms of a formula's node stand before the end
+-- so is each node of the terms of a node of `Pre:`
 formula_within : (n : ℕ) (fs : List RawFormula) (k : ℕ) (x : ℕ × RawFormula) → slice_get (with_terms n fs) k ≡ Some x → x.0 + nodes_in (terms_of_formula x.1) ≤ n + nodes_in (flat_map terms_of_formula fs)
 formula_within n [] k x at = elim k as (λ j. slice_get [] j ≡ Some x → x.0 + nodes_in (terms_of_formula x.1) ≤ n + 0) [ zero ↦ λ h. absurd (cc) | suc j ↦ λ h. absurd (cc) ] at
 formula_within n (f ∷ fs) zero x at =
@@ -188,13 +188,13 @@ module _ (raw : RawRule) (rule : Rule) (well : IsWellFormed raw) (bound : IsBoun
   target_at : (k : ℕ) (name : List ℕ) → slice_get (names_of rule.target) k ≡ Some name → AssignsAt raw.target k name
   target_at k name at = subst (λ ns. slice_get ns k ≡ Some name) target_names at
 
-  -- the statement as written
+  -- the statement as written of a statement
   written : (ws : List RawStatement) (ss : List Statement) (k : ℕ) (s : Statement) → HalfMeans raw own ws ss → slice_get ss k ≡ Some s → (b : Counts) × (w : RawStatement) × (slice_get ws k ≡ Some w) × StatementMeans raw own b w s
   written ws ss k s all at =
       let (x, at', goes) = zip_right (λ (x : Counts × RawStatement) (y : Statement). StatementMeans raw own x.0 x.1 y) (with_counts no_counts ws) ss k s all at in
       (x.0, x.1, with_counts_at no_counts ws k x at', goes)
 
-  -- what a statement's operand is as written
+  -- the operand as written of a statement's operand
   used : (ws : List RawStatement) (ss : List Statement) (k : ℕ) (s : Statement) (o : Operand) → HalfMeans raw own ws ss → slice_get ss k ≡ Some s → Contains (operands_meant s.op) o
       → (w : RawStatement) × (b : Counts) × (v : RawArgument) × (slice_get ws k ≡ Some w) × Contains (arguments_of w.op) v × ArgumentMeans raw own b v o.value
   used ws ss k s o all at among =
@@ -203,7 +203,7 @@ module _ (raw : RawRule) (rule : Rule) (well : IsWellFormed raw) (bound : IsBoun
       let (b, v, spot, goes') = read_go raw own c w.op s.op q o goes.1 place in
       (w, b, v, at', Contains-from_get (arguments_of w.op) q v spot, goes')
 
-  -- what leaves something open in the source is the root's statement
+  -- a source statement that makes a choice is the root's
   at_root : (k : ℕ) (w : RawStatement) → slice_get raw.source k ≡ Some w → LeavesOpen w.op → suc k ≡ length rule.source
   at_root k w at leaves = elim (order (suc k) (length raw.source)) [
     | inl lt ↦ absurd (bound.undefs_right w.line (inl (k, w, at, inl (lt, leaves), refl)))
@@ -231,7 +231,7 @@ module _ (raw : RawRule) (rule : Rule) (well : IsWellFormed raw) (bound : IsBoun
   target_nodes : nodes_in (target_terms raw) ≤ length rule.terms
   target_nodes = omega (arith, terms_long, nodes_append (target_terms raw) (flat_map terms_of_formula (formula_of raw)))
 
-  -- the term of a target operand
+  -- the term that a target operand is
   term_within : (q : ℕ) (o : Operand) (n : ℕ) → slice_get (operands_among rule.target) q ≡ Some o → o.value ≡ arguments.Term n → n < length rule.terms
   term_within q o n at is =
       let (k, s, there, among) = flat_at (λ (s : Statement). operands_meant s.op) rule.target q o at in
@@ -380,7 +380,7 @@ module _ (raw : RawRule) (rule : Rule) (well : IsWellFormed raw) (bound : IsBoun
   may_be_term n b k (raw_nodes.Binary op a c) (nodes.Binary op' x y) sum is behind stands named = (omega (arith, is.1, behind.0), omega (arith, is.2, behind.1))
   may_be_term n b k w m sum is behind stands named = absurd is
 
-  -- a half has as many choices as are counted, each at the place of its order
+  -- a half has as many choices as are counted, numbered in order
   choices_long : (ws : List RawStatement) (ss : List Statement) → HalfMeans raw own ws ss → length (choices_among ss) ≡ (in_half ws).choices
   choices_long ws ss all =
       sym (length-map (choices_among ss) (λ c. c.place)) ∙ ap length (half_choices raw own ws ss all) ∙ length-range_with_len 0 (in_half ws).choices
@@ -460,7 +460,7 @@ module _ (raw : RawRule) (rule : Rule) (well : IsWellFormed raw) (bound : IsBoun
 
   -- ---- widths
 
-  -- a register that a statement of the target may use is one that it may read
+  -- a register that a target statement may use as written is one that it may read
   target_use : (k : ℕ) (name : List ℕ) (r : Register) → MayUse raw (places.Target k) name → HasName raw own r name → TargetMayRead rule k (arguments.Register r)
   target_use k name r may has = elim (target_register raw own bound.plain means.names k name r (λ not. not may) has) [
     | inl (i, lt, e) ↦ subst (λ x. TargetMayRead rule k (arguments.Register x)) (sym e) lt
@@ -481,7 +481,7 @@ module _ (raw : RawRule) (rule : Rule) (well : IsWellFormed raw) (bound : IsBoun
       let there : TermIsBound raw (places.Target k) t = each_in (ArgumentIsBound raw (places.Target k)) (arguments_of w.op) (raw_arguments.Term t) (bound.there.target k w at) among in
       target_use k name r (each_in (NodeIsBound raw (places.Target k)) t (raw_nodes.Width name) there inside) has
 
-  -- an operand of it, where so much stands before it
+  -- an operand of it, with these counts before
   target_operand : (k : ℕ) (w : RawStatement) (b : Counts) (v : RawArgument) (front back : List RawArgument) (a : Argument) → slice_get raw.target k ≡ Some w → Contains (arguments_of w.op) v
       → counted_among raw.target ≡ front ++ v ∷ back → b ≡ past_all no_counts front → ArgumentMeans raw own b v a → TargetMayMeasure rule k a
   target_operand k w b (raw_arguments.Term t) front back (arguments.Term n) at among whole is goes =

@@ -1,4 +1,4 @@
--- From check to check of a rule: what is known of a rule in which none has failed so far, and its first fault.
+-- From check to check: what is known of a rule that has passed some, and what its first fault is.
 use Rattle.std.proofs.Common.{◌≡◌, inl, inr, ℕ, suc, ◌<◌, List, [], ◌∷◌, Some, refl, sym, subst, arith}
 use Rattle.std.specs.Prelude.{slice_get, Bool, true, false}
 use Rattle.std.proofs.lemmas.Bool.{false≢true}
@@ -27,7 +27,7 @@ use Rattle.rule_reader.proofs.Classes.{same_meaning}
 use Rattle.rule_reader.proofs.Once.{one_rule}
 use Rattle.rule_reader.proofs.Places.{order, same_at}
 
--- a check is known by how many come before it
+-- the checks, by their ranks
 abbrev checks : List Check
 checks = Duplicate ∷ Unbound ∷ RootMissing ∷ Redefines ∷ UnusedTemp ∷ UndefInside ∷ WitnessCount ∷ ManyClasses ∷ NoType ∷ OpenType ∷ []
 
@@ -50,7 +50,7 @@ few_checks : (c : Check) → rank c < 10
 few_checks c = slice_get_within checks (rank c) c (at_rank c)
 
 module _ (earlier : List RawRule) (raw : RawRule) where
-  -- no check of the first ones, so many, fails
+  -- the first n checks pass
   abbrev pub Clear : ℕ → Type 0
   Clear n = (check : Check) (line : ℕ) → rank check < n → ¬ FailsAt earlier raw check line
 
@@ -88,11 +88,11 @@ module _ (earlier : List RawRule) (raw : RawRule) where
   pub clear_7 : Clear 6 → ((line : ℕ) → ¬ WitnessCountAt raw line) → Clear 7
   clear_7 clear none = clear_more WitnessCount clear none
 
-  -- the fault where a check fails
+  -- where a check fails behind those that pass, it gives the first fault
   pub fault_at : (check : Check) (line : ℕ) → Clear (rank check) → IsFirstLine (FailsAt earlier raw check) line → IsFirstRuleFault earlier raw (record { line = line; kind = kind_of check })
   fault_at check line clear first = first_fault check (record { line = line; kind = kind_of check }) clear refl first
 
-  -- none of the checks of registers fails
+  -- the rule has passed all checks of registers
   pub bound_of : Clear 7 → IsBound raw
   bound_of clear =
       record {
@@ -108,7 +108,7 @@ module _ (earlier : List RawRule) (raw : RawRule) where
         enough = λ line h. clear WitnessCount line (omega arith) h;
       }
 
-  -- a fault of classes is that of the rule with its classes, which is one
+  -- where the one rule with its classes doesn't have the fault, no rule that is meant does
   no_class_fault : (rule : Rule) (HasFault : Rule → Type 0) (line : ℕ) → IsBound raw → Means raw rule → IsClassified rule → ¬ HasFault rule → ¬ ClassesAt raw HasFault line
   no_class_fault rule HasFault line bound means classes not ((other, means', classes', fault), is) = not (subst HasFault (one_rule raw other rule bound means' classes' means classes) fault)
 
@@ -142,12 +142,12 @@ module _ (earlier : List RawRule) (raw : RawRule) where
   fault_of_classes rule fault clear means found =
       class_fault found.classified fault clear (same_meaning raw rule found.classified (sym found.rest) means) found.classes found.line found.class_fault found.is_fault found.kind
 
--- some earlier rules for which a mark is right
+-- some list of earlier rules for which the flag of a repeated name is right
 pub some_earlier : (is_repeated : Bool) (raw : RawRule) → (earlier : List RawRule) × MarksRule is_repeated earlier raw
 some_earlier true raw = (raw ∷ [], (λ _. (0, raw, refl, refl), λ _. refl))
 some_earlier false raw = ([], (λ t. absurd (false≢true t), λ (k, other, at, is). absurd (let lt : k < 0 = slice_get_within [] k other at in omega arith)))
 
--- what is said of all earlier rules for which the mark is right
+-- what holds for every list of earlier rules for which the flag is right
 module _ (raw : RawRule) (is_repeated : Bool) where
   abbrev pub ForEarlier : (List RawRule → Type 0) → Type 0
   ForEarlier P = (earlier : List RawRule) → MarksRule is_repeated earlier raw → P earlier
@@ -164,7 +164,7 @@ module _ (raw : RawRule) (is_repeated : Bool) where
   pub classified_refused : (rule : Rule) (fault : RuleFault) → ForEarlier (λ earlier. Clear earlier raw 7) → Means raw rule → IsClassFault rule raw.line fault → ForEarlier (λ earlier. IsFirstRuleFault earlier raw fault)
   classified_refused rule fault clear means is earlier marks = fault_of_classes earlier raw rule fault (clear earlier marks) means is
 
-  -- the refusal where a rule repeats a name
+  -- the refusal where a name is repeated
   pub refused_duplicate : (line : ℕ) (e : RuleError) → e ≡ Refused (record { line = line; kind = kind_of Duplicate }) → ForEarlier (λ earlier. IsFirstLine (DuplicateAt earlier raw) line)
       → IfRefused e (λ fault. ForEarlier (λ earlier. IsFirstRuleFault earlier raw fault))
   refused_duplicate line e is first =

@@ -1,4 +1,4 @@
--- Rules that differ in their classes alone mean the same, and a rule has its classes in one way.
+-- Rules that differ in nothing but their classes have one meaning, and the numbers of classes are determined.
 use Rattle.std.proofs.Common.{◌≡◌, ℕ, ◌+◌, List, [], ◌∷◌, length, sym, ap, subst, ◌∙◌}
 use Rattle.std.specs.List.{AllZip}
 use Rattle.rule_parse.specs.declared.raw.RawRule.{RawRule}
@@ -24,12 +24,12 @@ use Rattle.rule_reader.specs.declared.counts.Counts.{Counts}
 use Rattle.rule_parse.specs.Contents.{terms_of, expressions_of, formula_of}
 use Rattle.rule_reader.specs.Meaning.{past, past_all, counted_of, no_counts, with_counts, with_nodes, AreNames, ArgumentMeans, OperandMeans, OpMeans, StatementMeans, NodeMeans, PreconditionMeans, HalfMeans, TermsMean, Means, names_of_rule}
 
--- what a class number stands in place of
+-- an operand with this class in place of its own
 abbrev with_class : Operand → ℕ → Operand
 with_class a n = record a { class = n }
 
 module _ (raw : RawRule) (names : Names) where
-  -- operands that differ in their class alone
+  -- operands that differ in nothing but their classes mean the same
   same_operand : (u : Counts) (w : RawOperand) (a b : Operand) (m n : ℕ) → with_class a m ≡ with_class b n → OperandMeans raw names u w a → OperandMeans raw names u w b
   same_operand u w a b m n e means =
       (sym (ap (λ (z : Operand). z.written) e) ∙ means.0, subst (ArgumentMeans raw names u w.value) (ap (λ (z : Operand). z.value) e) means.1)
@@ -83,12 +83,12 @@ module _ (raw : RawRule) (names : Names) where
       let op : numbered_op (m + 1) s.op ≡ numbered_op (n + 1) t.op = ap (λ (z : Statement). z.op) first in
       ((sym name ∙ all.0.0, same_op u (m + 1) (n + 1) w.op s.op t.op op all.0.1), same_statements (past_all u (counted_of w.op)) (m + length (classes_of_statement s)) (n + length (classes_of_statement t)) ws ss ts rest all.1)
 
-  -- the class of a register means nothing
+  -- the class that `width( )` keeps of its register has no part in what is meant
   any_class : (b : ℕ) (w : RawNode) (r : Register) (c c' : ℕ) → NodeMeans raw names b w (nodes.Width r c) → NodeMeans raw names b w (nodes.Width r c')
   any_class b (raw_nodes.Width name) r c c' means = means
   any_class b w r c c' means = absurd means
 
-  -- nodes that differ in the class of a register alone
+  -- nodes that differ in nothing but that class mean the same
   same_node : (b m n : ℕ) (w : RawNode) (x y : Node) → numbered_node m x ≡ numbered_node n y → NodeMeans raw names b w x → NodeMeans raw names b w y
   same_node b m n w (nodes.Literal z) (nodes.Literal z') e means = subst (NodeMeans raw names b w) e means
   same_node b m n w (nodes.Constant k) (nodes.Constant k') e means = subst (NodeMeans raw names b w) e means
@@ -110,7 +110,7 @@ module _ (raw : RawRule) (names : Names) where
       let rest : numbered_terms (m + length (classes_of_term s)) ss ≡ numbered_terms (n + length (classes_of_term t)) ts = cc in
       (same_node w.0 (m + 1) (n + 1) w.1 s.node t.node (ap (λ (z : Term). z.node) first) all.0, same_terms (m + length (classes_of_term s)) (n + length (classes_of_term t)) ws ss ts rest all.1)
 
--- a rule as written means each of two rules that differ in their classes alone, or none
+-- where two rules differ in nothing but their classes, both are meant by a rule as written, or neither
 pub same_meaning : (raw : RawRule) (rule other : Rule) → numbered rule ≡ numbered other → Means raw rule → Means raw other
 same_meaning raw rule other e means =
     let inputs : rule.inputs ≡ other.inputs = ap (λ (r : Rule). r.inputs) e in

@@ -1,4 +1,4 @@
--- How many choices and nodes of terms stand before and behind what.
+-- Counts of choices and of nodes of terms before and behind statements and operands.
 use Rattle.std.proofs.Common.{◌≡◌, ℕ, zero, suc, ◌+◌, ◌<◌, ◌≤◌, List, [], ◌∷◌, ◌++◌, length, Some, refl, sym, ap, subst, ◌∙◌, arith, take, drop, get_or}
 use Rattle.std.specs.Prelude.{slice_get}
 use Rattle.std.specs.List.{AllZip}
@@ -36,12 +36,12 @@ few_before c (a ∷ os) few = few_one c a (few_before (past c a) os few)
 pub past_append : (c : Counts) (xs ys : List RawArgument) → past_all c (xs ++ ys) ≡ past_all (past_all c xs) ys
 past_append c xs ys = fold-append past c xs ys
 
--- what statements read, up to one of them and behind it
+-- the operands of the statements up to k are those before k and k's own
 pub arguments_more : (ss : List RawStatement) (k : ℕ) (s : RawStatement) → k < length ss → s ≡ get_or ss k s → arguments_among (take (k + 1) ss) ≡ arguments_among (take k ss) ++ arguments_of s.op
 arguments_more ss k s within is =
     ap arguments_among (take_more ss k s within ∙ ap (λ x. take k ss ++ x ∷ []) (sym is)) ∙ flat_map-append (λ (x : RawStatement). arguments_of x.op) (take k ss) (s ∷ []) ∙ ap (λ l. arguments_among (take k ss) ++ l) (append-nil (arguments_of s.op))
 
--- and what is counted of them
+-- the same for the operands as they are counted
 counted_more : (ss : List RawStatement) (k : ℕ) (s : RawStatement) → k < length ss → s ≡ get_or ss k s → counted_among (take (k + 1) ss) ≡ counted_among (take k ss) ++ counted_of s.op
 counted_more ss k s within is =
     ap counted_among (take_more ss k s within ∙ ap (λ x. take k ss ++ x ∷ []) (sym is)) ∙ flat_map-append (λ (x : RawStatement). counted_of x.op) (take k ss) (s ∷ []) ∙ ap (λ l. counted_among (take k ss) ++ l) (append-nil (counted_of s.op))
@@ -57,11 +57,11 @@ few_at ss k s c few within is before =
     let whole : in_half ss ≡ past_all (past_all no_counts (counted_among (take (k + 1) ss))) (counted_among (drop (k + 1) ss)) = ap (past_all no_counts) parts ∙ past_append no_counts (counted_among (take (k + 1) ss)) (counted_among (drop (k + 1) ss)) in
     subst AreFew (sym (counts_more ss k s c within is before)) (few_before (past_all no_counts (counted_among (take (k + 1) ss))) (counted_among (drop (k + 1) ss)) (subst AreFew whole few))
 
--- at the end
+-- at the end of the loop all are counted
 pub counts_all : (ss : List RawStatement) (k : ℕ) (c : Counts) → length ss ≤ k → c ≡ past_all no_counts (counted_among (take k ss)) → c ≡ in_half ss
 counts_all ss k c past_end is = is ∙ ap in_half (take_all k ss past_end)
 
--- what a statement reads is few where all that is counted of it is
+-- the operands of a statement are few where they and a freeze are
 pub few_read : (c : Counts) (op : RawOp) → AreFew (past_all c (counted_of op)) → AreFew (past_all c (arguments_of op))
 few_read c (raw_ops.Binary op flags a b) few = few
 few_read c (raw_ops.Compare pred samesign a b) few = few
@@ -71,12 +71,12 @@ few_read c (raw_ops.Convert cast flags a to) few = few
 few_read c (raw_ops.Freeze a) few = few_one (past c a.value) Undef few
 few_read c (raw_ops.Copy a) few = few
 
--- arguments that are bound, whole and few can mean something
+-- operands can be resolved whose names may be used, whose terms are in order, and which are few
 pub ready : (raw : RawRule) (place : Place) (c : Counts) (os : List RawArgument) → Each (ArgumentIsBound raw place) os → Each IsWhole os → AreFew (past_all c os) → AreReady raw place c os
 ready raw place c [] bound whole few = tt
 ready raw place c (a ∷ os) bound whole few = ((bound.0, whole.0, few_before (past c a) os few), ready raw place (past c a) os bound.1 whole.1 few)
 
--- ---- statements with what stands before them
+-- ---- statements with the counts before them
 
 pub with_counts_at : (c : Counts) (ss : List RawStatement) (k : ℕ) (x : Counts × RawStatement) → slice_get (with_counts c ss) k ≡ Some x → slice_get ss k ≡ Some x.1
 with_counts_at c [] k x at = elim k as (λ j. slice_get [] j ≡ Some x → slice_get [] j ≡ Some x.1) [ zero ↦ λ h. cc | suc j ↦ λ h. cc ] at
@@ -90,7 +90,7 @@ with_counts_push c (t ∷ ss) s =
     let same : past_all (past_all c (counted_of t.op)) (counted_among ss) ≡ past_all c (counted_of t.op ++ counted_among ss) = sym (past_append c (counted_of t.op) (counted_among ss)) in
     ap (λ l. (c, t) ∷ l) (rest ∙ ap (λ b. with_counts (past_all c (counted_of t.op)) ss ++ (b, s) ∷ []) same)
 
--- one more statement of a half
+-- one more statement of a half is resolved
 pub half_more : (raw : RawRule) (names : Names) (ws : List RawStatement) (k : ℕ) (w : RawStatement) (c : Counts) (ss zs : List Statement) (s : Statement) → k < length ws → w ≡ get_or ws k w → c ≡ past_all no_counts (counted_among (take k ws))
     → HalfMeans raw names (take k ws) ss → zs ≡ ss ++ s ∷ [] → StatementMeans raw names c w s → HalfMeans raw names (take (k + 1) ws) zs
 half_more raw names ws k w c ss zs s within is before all more means =

@@ -20,13 +20,13 @@ use Rattle.rule_reader.proofs.FirstLines.{FirstOf, first_duplicate, first_unboun
 use Rattle.rule_reader.proofs.Reading.{AreFirstRules, first_rules_none, first_rules_more, first_rules_pass, all_rules}
 use Rattle.rule_reader.proofs.Written.{written_well_formed}
 
--- ---- a rule as written, these being the earlier ones
+-- ---- a rule as written, with these before it in the file
 
 module _ (earlier : List RawRule) (raw : RawRule) (well : IsWellFormed raw) where
   abbrev HasFault : Type 0
   HasFault = (fault : RuleFault) × IsFirstRuleFault earlier raw fault
 
-  -- one more check fails or passes
+  -- the next check fails or passes
   checked_next : (check : Check) → FirstOf (FailsAt earlier raw check) → HasFault ⊎ Clear earlier raw (rank check) → HasFault ⊎ Clear earlier raw (suc (rank check))
   checked_next check found (inl fault) = inl fault
   checked_next check (None, none) (inr clear) = inr (clear_more earlier raw check clear none)

@@ -1,4 +1,4 @@
--- The first line on which a check of a rule as written fails, or none.
+-- The first line on which a check of a rule as written fails exists, or the check passes.
 use Rattle.std.proofs.Common.{◌≡◌, ◌⊎◌, inl, inr, ℕ, zero, suc, ◌+◌, ◌≤◌, List, length, Option, None, Some, refl, sym, ◌∙◌, arith}
 use Rattle.std.proofs.lemmas.Bool.{cases_lt}
 use Rattle.rule_parse.specs.declared.raw.RawRule.{RawRule}
@@ -19,7 +19,7 @@ use Rattle.rule_reader.proofs.Assignments.{Again, name_line_first}
 use Rattle.rule_reader.proofs.NameDecisions.{dec_name, dec_assigned_before, dec_temporary, dec_root, dec_input, dec_each, dec_op, dec_formula, dec_term, dec_unused, dec_undef_inside, dec_undef_alone}
 use Rattle.rule_reader.proofs.Unbound.{InSource, InTarget, in_precondition, in_witness, in_source, in_target, one_precondition, bound_precondition, one_witness, bound_witness}
 
--- the first line, or none
+-- there is a first line, or none at all
 abbrev pub FirstOf : (ℕ → Type 0) → Type 0
 FirstOf Holds = (found : Option ℕ) × IsFirst Holds found
 
@@ -39,7 +39,7 @@ module _ (statements : List RawStatement) (Q : ℕ → RawStatement → Type 0) 
   first_of : FirstOf (StandsAt statements Q)
   first_of = from (length statements) 0 (λ k s lt at. absurd (omega arith)) (omega arith)
 
--- of two, the first comes before the second
+-- the first line of two kinds, where those of the one come before those of the other
 first_of_two : (P R : ℕ → Type 0) → FirstOf P → FirstOf R → ((l m : ℕ) → P l → R m → l ≤ m) → FirstOf (λ l. P l ⊎ R l)
 first_of_two P R (Some line, first) second before = (Some line, first_left P R line first before)
 first_of_two P R (None, none) (Some line, first) before = (Some line, first_right P R line none first)

@@ -1,4 +1,4 @@
--- The first line of statements of which something holds.
+-- The first line with a statement that Q holds of.
 use Rattle.std.proofs.Common.{◌≡◌, ◌⊎◌, inl, inr, ℕ, ◌+◌, ◌<◌, ◌≤◌, List, length, Some, refl, ap, subst, arith}
 use Rattle.std.specs.Prelude.{slice_get}
 use Rattle.std.proofs.lemmas.Option.{slice_get_within}
@@ -8,7 +8,7 @@ use Rattle.rule_reader.specs.FaultKinds.{StandsAt}
 use Rattle.rule_reader.specs.Faults.{IsFirstLine}
 use Rattle.rule_reader.proofs.Places.{order, same_at}
 
--- it holds of no statement before a place
+-- Q holds of no statement before this place
 abbrev pub NoneBefore : List RawStatement → (ℕ → RawStatement → Type 0) → ℕ → Type 0
 NoneBefore statements Q place = (k : ℕ) (s : RawStatement) → k < place → slice_get statements k ≡ Some s → ¬ Q k s
 
@@ -37,7 +37,7 @@ module _ (statements : List RawStatement) (Q : ℕ → RawStatement → Type 0) 
     | inr (inr gt) ↦ absurd (omega arith)
   ]
 
--- what holds first of two, where the one comes before the other
+-- of two kinds of lines, the first of the one that comes first is the first of both
 pub first_left : (P R : ℕ → Type 0) (line : ℕ) → IsFirstLine P line → ((l m : ℕ) → P l → R m → l ≤ m) → IsFirstLine (λ l. P l ⊎ R l) line
 first_left P R line first before = (inl first.0, λ other h. elim h [ inl p ↦ first.1 other p | inr r ↦ before line other first.0 r ])
 

@@ -1,4 +1,4 @@
--- What is found for names.
+-- What the lookup of a name finds.
 use Rattle.std.proofs.Common.{◌≡◌, inl, inr, ℕ, ◌-◌, ◌<◌, List, length, Option, None, Some, refl, sym, ap, subst, ◌∙◌, arith}
 use Rattle.std.specs.Prelude.{slice_get, Contains, MatchOption}
 use Rattle.rule_parse.specs.declared.raw.RawRule.{RawRule}
@@ -35,7 +35,7 @@ module _ (raw : RawRule) (names : Names) (are : AreNames raw.source names) (name
   input_here : (k : ℕ) → slice_get names.inputs k ≡ Some name → IsInput raw.source name
   input_here k at = input_of raw.source names are name (Contains-from_get names.inputs k name at)
 
-  -- in the source, where no earlier statement assigns it
+  -- in a source statement: no earlier one assigns it, so it is an input
   pub found_in_source : (place : ℕ) (half : List RawStatement) (found : Option Register) → half ≡ raw.source → Free half place → IsInputOf found → Finds raw names (places.Source place) name found
   found_in_source place half None is free no_input = λ may. elim may [
     | inl input ↦ no_input (of_input raw.source names are name input)
@@ -43,7 +43,7 @@ module _ (raw : RawRule) (names : Names) (are : AreNames raw.source names) (name
   ]
   found_in_source place half (Some r) is free (k, e, at) = (inl (input_here k at), subst (λ x. HasName raw names x name) (sym e) at)
 
-  -- before the source, where no temporary is it
+  -- in `Pre:` and `Wit:`: it is no temporary, so it is an input
   pub found_before_root : (half : List RawStatement) (found : Option Register) → half ≡ raw.source → Free half (length half - 1) → IsInputOf found → Finds raw names places.Heading name found
   found_before_root half None is free no_input = λ may. elim may [
     | inl input ↦ no_input (of_input raw.source names are name input)
@@ -56,7 +56,7 @@ module _ (raw : RawRule) (names : Names) (are : AreNames raw.source names) (name
       let at' : AssignsAt raw.source k name = subst (λ ss. AssignsAt ss k name) is at in
       (inr (k, (let e : length half ≡ length raw.source = ap length is in omega arith), at'), at')
 
-  -- in the target, where no earlier statement assigns it
+  -- in a target statement: no earlier one assigns it
   pub found_in_target : (place : ℕ) (half : List RawStatement) (found : Option Register) → half ≡ raw.target → ¬ IsRoot raw.source name → Free half place → Finds raw names places.Heading name found → Finds raw names (places.Target place) name found
   found_in_target place half None is not_root free none = λ may. elim may.1 [
     | inl input ↦ none (inl input)
@@ -68,7 +68,7 @@ module _ (raw : RawRule) (names : Names) (are : AreNames raw.source names) (name
     | inr temporary ↦ ((not_root, inr (inl temporary)), has)
   ]
 
--- the inputs are what a name is among
+-- a name is an input's where it is among the inputs
 pub among_inputs : (source : List RawStatement) (inputs : List (List ℕ)) (name : List ℕ) → AreInputs source inputs → (Contains inputs name → IsInput source name) × (IsInput source name → Contains inputs name)
 among_inputs source inputs name are = (
   λ among. let (q, (a, at, (is, free))) = (are.each name).0 among in ((q, at ∙ ap (λ x. Some x) is), free),

@@ -21,7 +21,7 @@ none_at : {X : Type 0} (k : ℕ) (x : X) → slice_get [] k ≡ Some x → ⊥
 none_at zero x at = cc
 none_at (suc k) x at = cc
 
--- at the end of a list with one more element
+-- an element of a list that one was appended to is an old one or that one
 at_end : {X : Type 0} (xs : List X) (y : X) (k : ℕ) (x : X) → slice_get (xs ++ y ∷ []) k ≡ Some x → (slice_get xs k ≡ Some x) ⊎ ((k ≡ length xs) × (y ≡ x))
 at_end xs y k x at = elim (at_append xs (y ∷ []) k x at) [
   | inl here ↦ inl here
@@ -67,7 +67,7 @@ module _ (Gives : RawArgument → List ℕ → Type 0) (one : GivesOne Gives) (o
   last_or : (a : RawArgument) (q : ℕ) (n : List ℕ) → GivenAt Gives (os ++ a ∷ []) q n → GivenAt Gives os q n ⊎ ((q ≡ length os) × Gives a n)
   last_or a q n (b, at, gives) = elim (at_end os a q b at) [ inl before ↦ inl (b, before, gives) | inr (e, is) ↦ inr (e, subst (λ x. Gives x n) (sym is) gives) ]
 
-  -- an argument that gives no new name
+  -- an operand that gives no new name
   keeps : (a : RawArgument) → ((name : List ℕ) → Gives a name → Contains names name) → AreFirstGiven Gives (os ++ a ∷ []) names
   keeps a old =
       record {
@@ -142,7 +142,7 @@ more_names source os before after a among added =
 pub all_names : (source : List RawStatement) (names : Names) → AreNamesAmong source (arguments_among source) names → AreNames source names
 all_names source names among = record { inputs = among.inputs; constants = among.constants }
 
--- a name is given no sooner than its place says
+-- name number i is given by operand i or a later one
 at_most : (Gives : RawArgument → List ℕ → Type 0) (os : List RawArgument) (names : List (List ℕ)) (i q : ℕ) (name : List ℕ) → AreFirstGiven Gives os names → slice_get names i ≡ Some name → GivenAt Gives os q name → i ≤ q
 at_most Gives os names zero q name first at given = omega arith
 at_most Gives os names (suc h) q name first at given =
@@ -165,7 +165,7 @@ few_of : (ss : List RawStatement) → length (arguments_among ss) ≤ 3 * length
 few_of [] = omega arith
 few_of (s ∷ ss) = let one = few_of_op s.op in let rest = few_of ss in omega (arith, length-append (arguments_of s.op) (arguments_among ss))
 
--- a half gives few names
+-- a half of at most 32 statements gives at most 96 names
 few_given : (Gives : RawArgument → List ℕ → Type 0) (source : List RawStatement) (names : List (List ℕ)) → AreFirstGiven Gives (arguments_among source) names → length source ≤ 32 → length names ≤ 96
 few_given Gives source names first few = elim (cases_lt 96 (length names)) [
   | inr le ↦ le
@@ -183,7 +183,7 @@ few_inputs source names are few = few_given (GivesInput source) source names.inp
 pub few_constants : (source : List RawStatement) (names : Names) → AreNames source names → length source ≤ 32 → length names.constants ≤ 96
 few_constants source names are few = few_given GivesConstant source names.constants are.constants few
 
--- the arguments of a statement
+-- the operands of a statement
 pub one_use : (source : List RawStatement) (before after : Names) (a : RawArgument) → AddsNames source before a after → AddsUses source before (a ∷ []) after
 one_use source before after a added os uses = more_names source os before after a uses added
 

@@ -35,7 +35,7 @@ same_fault : (f g : RuleFault) → f.line ≡ g.line → f.kind ≡ g.kind → f
 same_fault f g p q =
     let e : ◌≡◌ {A = RuleFault} (record { line = f.line; kind = f.kind }) (record { line = g.line; kind = g.kind }) = cc in e
 
--- a rule has one first fault
+-- a rule has at most one first fault
 one_first : (earlier : List RawRule) (raw : RawRule) (f g : RuleFault) → IsFirstRuleFault earlier raw f → IsFirstRuleFault earlier raw g → f ≡ g
 one_first earlier raw f g p q = elim (order (rank p.check) (rank q.check)) [
   | inl lt ↦ absurd (q.first p.check f.line lt p.line.0)
@@ -49,11 +49,11 @@ one_first earlier raw f g p q = elim (order (rank p.check) (rank q.check)) [
   | inr (inr gt) ↦ absurd (p.first q.check g.line gt q.line.0)
 ]
 
--- a rule with a fault passes not all checks
+-- a rule with a fault doesn't pass all checks
 not_passed : (earlier : List RawRule) (raw : RawRule) (f : RuleFault) → IsFirstRuleFault earlier raw f → Passes earlier raw → ⊥
 not_passed earlier raw f first passes = passes first.check f.line first.line.0
 
--- all rules before a place pass
+-- all rules before this place pass
 abbrev PassBefore : List RawRule → ℕ → Type 0
 PassBefore raws k = (j : ℕ) (earlier : RawRule) → j < k → slice_get raws j ≡ Some earlier → Passes (take j raws) earlier
 

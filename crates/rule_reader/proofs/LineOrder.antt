@@ -1,4 +1,4 @@
--- The lines of a rule's parts stand in their order.
+-- The parts of a rule stand on lines in their order.
 use Rattle.std.proofs.Common.{◌≡◌, ℕ, zero, suc, ◌+◌, ◌<◌, ◌≤◌, Bool, true, false, cond, eqb, List, [], ◌∷◌, ◌++◌, length, append_assoc, take, Option, Some, None, refl, sym, ap, subst, ◌∙◌, arith}
 use Rattle.std.specs.Prelude.{slice_get, codes}
 use Rattle.std.specs.List.{sum_by}
@@ -20,7 +20,7 @@ use Rattle.rule_reader.specs.WellFormed.{AreInLineOrder}
 use Rattle.rule_tokens.specs.declared.version.Version.{Version}
 use Rattle.rule_tokens.specs.Limits.{rule_limits}
 
--- the lines begin in their order, none before a line
+-- the lines' numbers ascend, and none is below `low`
 unfoldable pub Ascend : ℕ → List Token → Type 0
 Ascend low [] = Unit {0}
 Ascend low (Line n ∷ tokens) = (low ≤ n) × Ascend n tokens
@@ -52,7 +52,7 @@ lower low high (Other ∷ tokens) le up = lower low high tokens le up
 lower low high (Bad ∷ tokens) le up = lower low high tokens le up
 lower low high (Excess ∷ tokens) le up = lower low high tokens le up
 
--- behind some tokens the lines go on in their order
+-- behind some of the tokens they go on ascending
 pub skip : (low : ℕ) (xs ys : List Token) → Ascend low (xs ++ ys) → (m : ℕ) × (low ≤ m) × Ascend m ys
 unfolding Ascend
 skip low [] ys up = (low, (omega arith), up)
@@ -69,7 +69,7 @@ skip low (Other ∷ xs) ys up = skip low xs ys up
 skip low (Bad ∷ xs) ys up = skip low xs ys up
 skip low (Excess ∷ xs) ys up = skip low xs ys up
 
--- a later place stands on no earlier line
+-- a later place in the text is on the same or a later line
 line_more : (text : List ℕ) (m n : ℕ) → m ≤ n → line_of text m ≤ line_of text n
 line_more text m n le =
     let f : ℕ → ℕ = λ b. cond (eqb b 10) 1 0 in
@@ -77,7 +77,7 @@ line_more text m n le =
     let same : sum_by f (take m (take n text)) ≡ sum_by f (take m text) = ap (sum_by f) (take-take m n text le) in
     omega (arith, parts, same)
 
--- a token of a kind begins no line
+-- a token of this kind is no line's number
 no_word_line : (opcode : Bool) (bytes : List ℕ) (low : ℕ) (tokens : List Token) → Ascend low tokens → Ascend low (word_of opcode bytes ∷ tokens)
 unfolding Ascend
 no_word_line true bytes low tokens up = up
@@ -126,7 +126,7 @@ up_from text _ at before last _ (bad_token next) =
     on_line (eqb last before) (line_of text at) last Bad [] (omega (arith, next.line_is)) tt
 up_from text _ at before last _ (bad_name next) = tt
 
--- statements of a half, behind which more tokens follow
+-- statements on lines from `low` on, in order, and more tokens on lines behind theirs
 pub record Ordered (low : ℕ) (ss : List RawStatement) (behind : List Token) : Type 0 where
   pub not_before : (k : ℕ) (s : RawStatement) → slice_get ss k ≡ Some s → low ≤ s.line
   pub in_order : AreInLineOrder ss
@@ -180,7 +180,7 @@ ordered version half low (s ∷ ss) tokens behind (own, rest, spelled, others, i
       goes_on = next.goes_on;
     }
 
--- a part that begins a line, where it is there, behind which more tokens follow
+-- an optional part on a line from `low` on, and more tokens on lines behind it
 pub record Headed {X : Type 0} (line : X → ℕ) (low : ℕ) (part : Option X) (behind : List Token) : Type 0 where
   pub not_before : (x : X) → part ≡ Some x → low ≤ line x
   pub last : ℕ
@@ -188,7 +188,7 @@ pub record Headed {X : Type 0} (line : X → ℕ) (low : ℕ) (part : Option X) 
   pub reaches : low ≤ last
   pub goes_on : Ascend last behind
 
--- these tokens begin a line
+-- what spells the part begins with the number of its line
 abbrev pub BeginsLine : {X : Type 0} → (X → ℕ) → (X → Part) → Type 0
 BeginsLine {X} line P = (x : X) (own : List Token) → P x own → (inner : List Token) × (own ≡ Line (line x) ∷ inner)
 

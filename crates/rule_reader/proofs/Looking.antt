@@ -1,4 +1,4 @@
--- Looking for a name from the front of a list on.
+-- Linear search for a name in a list.
 use Rattle.std.proofs.Common.{◌≡◌, ◌⊎◌, inl, inr, ℕ, suc, ◌+◌, ◌<◌, Bool, true, false, List, length, Some, sym, ap, subst, ◌∙◌, arith, get_or}
 use Rattle.std.specs.Prelude.{slice_get, Contains, IsTrue, map}
 use Rattle.std.specs.Str.{bytes_eq}
@@ -15,7 +15,7 @@ equal_names a b r is h = (bytes_eq-Decides a b).0 (sym is ∙ h)
 pub unequal_names : (a b : List ℕ) (r : Bool) → r ≡ bytes_eq a b → r ≡ false → ¬ (a ≡ b)
 unequal_names a b r is h same = false≢true (sym h ∙ is ∙ (bytes_eq-Decides a b).1 same)
 
--- one more place at which the name does not stand
+-- one more name was compared and is another
 pub not_more : (names : List (List ℕ)) (place : ℕ) (other name : List ℕ) → slice_get names place ≡ Some other → ¬ (other ≡ name)
     → ((k : ℕ) → k < place → ¬ (slice_get names k ≡ Some name)) → (k : ℕ) → k < place + 1 → ¬ (slice_get names k ≡ Some name)
 not_more names place other name at differ none k lt here = elim (order k place) [
@@ -27,21 +27,21 @@ not_more names place other name at differ none k lt here = elim (order k place) 
 pub not_there : (names : List (List ℕ)) (name : List ℕ) → ((k : ℕ) → k < length names → ¬ (slice_get names k ≡ Some name)) → ¬ Contains names name
 not_there names name none among = let (k, at) = somewhere names name among in none k (slice_get_within names k name at) at
 
--- what a test says
+-- a test that answered `true` says that P holds
 pub says : (b : Bool) (P : Type 0) → (IsTrue b → P) × (P → IsTrue b) → b ≡ true → P
 says b P h is = h.0 is
 
 pub denies : (b : Bool) (P : Type 0) → (IsTrue b → P) × (P → IsTrue b) → b ≡ false → ¬ P
 denies b P h is p = false≢true (sym is ∙ h.1 p)
 
--- a test that succeeds, and one that does not
+-- a test that answers rightly
 pub is_yes : (b : Bool) (P : Type 0) → b ≡ true → P → (IsTrue b → P) × (P → IsTrue b)
 is_yes b P is p = (λ _. p, λ _. is)
 
 pub is_no : (b : Bool) (P : Type 0) → b ≡ false → ¬ P → (IsTrue b → P) × (P → IsTrue b)
 is_no b P is not = (λ t. absurd (false≢true (sym is ∙ t)), λ p. absurd (not p))
 
--- one that is made of two
+-- a test of a disjunction
 pub is_either : (a b : Bool) (P Q : Type 0) → a ≡ false → (IsTrue a → P) × (P → IsTrue a) → (IsTrue b → Q) × (Q → IsTrue b) → (IsTrue b → P ⊎ Q) × (P ⊎ Q → IsTrue b)
 is_either a b P Q is p q = (λ t. inr (q.0 t), λ h. elim h [ inl h ↦ absurd (denies a P p is h) | inr h ↦ q.1 h ])
 

@@ -1,4 +1,4 @@
--- What a rule that is meant has of the rule as written: names, operands and registers.
+-- What the rule that is meant has in common with the rule as written: names, operands and registers.
 use Rattle.std.proofs.Common.{◌≡◌, ℕ, zero, suc, ◌+◌, ◌<◌, ◌≤◌, List, [], ◌∷◌, ◌++◌, length, None, Some, refl, sym, ap, subst, ◌∙◌, arith}
 use Rattle.std.specs.Prelude.{slice_get, map, flat_map}
 use Rattle.std.proofs.lemmas.Grind.{flat_map-append}
@@ -35,7 +35,7 @@ statement_assigns statements k s at = map_at (λ (s : RawStatement). s.name) sta
 pub assigns_within : (statements : List RawStatement) (k : ℕ) (name : List ℕ) → AssignsAt statements k name → k < length statements
 assigns_within statements k name at = let found = assigning_statement statements k name at in slice_get_within statements k found.0 found.1
 
--- arguments, each with what stands before it
+-- operands, each with the counts before it
 abbrev pub with_before : Counts → List RawArgument → List (Counts × RawArgument)
 with_before b [] = []
 with_before b (a ∷ arguments) = (b, a) ∷ with_before (past b a) arguments
@@ -67,14 +67,13 @@ choices_grow b (raw_arguments.Constant name ∷ xs) = choices_grow b xs
 choices_grow b (raw_arguments.Undef ∷ xs) = omega (arith, choices_grow (past b raw_arguments.Undef) xs)
 choices_grow b (raw_arguments.Term t ∷ xs) = choices_grow (past b (raw_arguments.Term t)) xs
 
--- the nodes up to an argument are not more than those of all
+-- no more nodes are counted up to an operand than in all
 pub nodes_upto : (b : Counts) (xs : List RawArgument) (q : ℕ) (x : Counts × RawArgument) → slice_get (with_before b xs) q ≡ Some x → (past x.0 x.1).nodes ≤ (past_all b xs).nodes
 nodes_upto b [] q x at = elim q as (λ j. slice_get [] j ≡ Some x → (past x.0 x.1).nodes ≤ b.nodes) [ zero ↦ λ h. absurd (cc) | suc j ↦ λ h. absurd (cc) ] at
 nodes_upto b (a ∷ xs) zero x at = subst (λ (y : Counts × RawArgument). (past y.0 y.1).nodes ≤ (past_all (past b a) xs).nodes) (same_Some (b, a) x at) (nodes_grow (past b a) xs)
 nodes_upto b (a ∷ xs) (suc q) x at = nodes_upto (past b a) xs q x at
 
--- what is counted of a statement that is meant: its operands, and a freeze as an `undef` of its class behind its
--- operand
+-- the operands as they are counted, for a statement that is meant: its own, and an `undef` of its class for a freeze
 abbrev pub frozen_operand : ℕ → Op → List Operand
 frozen_operand c (ops.Freeze a k) = record { value = arguments.Undef k; written = None; class = c } ∷ []
 frozen_operand c op = []
@@ -85,7 +84,7 @@ counted_meant s = operands_meant s.op ++ frozen_operand s.class s.op
 undefs_of : Operand → List Choice
 undefs_of o = undef_in o.class o.value
 
--- these are the statement's choices
+-- that `undef` is the freeze's choice
 frozen_choices : (c : ℕ) (op : Op) → frozen_in c op ≡ flat_map undefs_of (frozen_operand c op)
 unfolding undefs_of
 frozen_choices c (ops.Freeze a k) = refl
@@ -111,18 +110,18 @@ abbrev pub places : List Choice → List ℕ
 places choices = map (λ c. c.place) choices
 
 module _ (raw : RawRule) (names : Names) where
-  -- what an operand reads, as written
+  -- the operand is what the operand as written means, with the counts before it
   abbrev pub Goes : Counts × RawArgument → Operand → Type 0
   Goes w o = ArgumentMeans raw names w.0 w.1 o.value
 
   abbrev pub Go : Counts → List RawArgument → List Operand → Type 0
   Go b ws os = AllZip Goes (with_before b ws) os
 
-  -- what an argument of whatever counts means
+  -- the same with some counts
   abbrev pub Reads : RawArgument → Operand → Type 0
   Reads w o = (c : Counts) × ArgumentMeans raw names c w o.value
 
-  -- what is counted of a statement
+  -- the same for all operands of a statement as they are counted
   counted_go : (b : Counts) (c : ℕ) (w : RawOp) (op : Op) → OpMeans raw names b w op → Go b (counted_of w) (operands_meant op ++ frozen_operand c op)
   counted_go b c (raw_ops.Binary op flags a d) (ops.Binary op' flags' x y) means = (means.2.1, (means.3.1, tt))
   counted_go b c (raw_ops.Compare pred samesign a d) (ops.Compare pred' samesign' x y) means = (means.2.1, (means.3.1, tt))
@@ -143,7 +142,7 @@ module _ (raw : RawRule) (names : Names) where
   operands_go b (raw_ops.Copy a) (ops.Copy x) means = (means.1, tt)
   operands_go b w op means = absurd means
 
-  -- statements from what stands before them on
+  -- statements, with these counts before the first
   abbrev pub MeanFrom : Counts → List RawStatement → List Statement → Type 0
   MeanFrom b ws ss = AllZip (λ w s. StatementMeans raw names w.0 w.1 s) (with_counts b ws) ss
 
@@ -169,7 +168,7 @@ module _ (raw : RawRule) (names : Names) where
   all_go b (w ∷ ws) (s ∷ ss) all =
       go_append b (counted_of w.op) (counted_among ws) (counted_meant s) (flat_map counted_meant ss) (counted_go b s.class w.op s.op all.0.1) (all_go (past_all b (counted_of w.op)) ws ss all.1)
 
-  -- what statements read, whatever stands before it
+  -- the operands of statements mean what is written, with some counts
   reads_of : (b : Counts) (ws : List RawArgument) (os : List Operand) → Go b ws os → AllZip Reads ws os
   reads_of b [] [] go = tt
   reads_of b [] (o ∷ os) go = absurd go
@@ -184,7 +183,7 @@ module _ (raw : RawRule) (names : Names) where
       zip_append Reads (arguments_of w.op) (operands_meant s.op) (arguments_among ws) (operands_among ss)
       (reads_of b (arguments_of w.op) (operands_meant s.op) (operands_go b w.op s.op all.0.1)) (all_read (past_all b (counted_of w.op)) ws ss all.1)
 
-  -- what a statement's operand reads stands in the statement as written
+  -- an operand of a statement has one in the statement as written
   pub read_go : (b : Counts) (w : RawOp) (op : Op) (q : ℕ) (o : Operand) → OpMeans raw names b w op → slice_get (operands_meant op) q ≡ Some o → (c : Counts) × (a : RawArgument) × (slice_get (arguments_of w) q ≡ Some a) × ArgumentMeans raw names c a o.value
   read_go b w op q o means at =
       let found = zip_right Goes (with_before b (arguments_of w)) (operands_meant op) q o (operands_go b w op means) at in
@@ -201,7 +200,7 @@ module _ (raw : RawRule) (names : Names) where
   choice_first b raw_arguments.Undef ws c (arguments.Undef k) behind (suc m) means rest sum = let later = rest m (omega arith) in let first : k ≡ b.choices = means in cc
   choice_first b w ws c a behind n means rest sum = absurd means
 
-  -- the choices are numbered in their order
+  -- choices are numbered in order, from those counted before
   choices_from : (b : Counts) (ws : List RawArgument) (os : List Operand) (n : ℕ) → Go b ws os → (past_all b ws).choices ≡ b.choices + n → places (flat_map undefs_of os) ≡ range_with_len b.choices n
   unfolding undefs_of
   choices_from b [] [] n go sum = ap (range_with_len b.choices) (let e : 0 ≡ n = omega arith in e)
@@ -209,12 +208,12 @@ module _ (raw : RawRule) (names : Names) where
   choices_from b (w ∷ ws) [] n go sum = absurd go
   choices_from b (w ∷ ws) (o ∷ os) n go sum = choice_first b w ws o.class o.value (flat_map undefs_of os) n go.0 (λ m e. choices_from (past b w) ws os m go.1 e) sum
 
-  -- so many as are counted, each at the place of its order
+  -- a half has as many choices as are counted, numbered in order
   pub half_choices : (ws : List RawStatement) (ss : List Statement) → MeanFrom no_counts ws ss → places (choices_among ss) ≡ range_with_len 0 (past_all no_counts (counted_among ws)).choices
   half_choices ws ss all =
       ap places (choices_counted ss) ∙ choices_from no_counts (counted_among ws) (flat_map counted_meant ss) (past_all no_counts (counted_among ws)).choices (all_go no_counts ws ss all) (omega arith)
 
--- operand q of a half that is meant reads what is written there, and none other is
+-- operand q of a half that is meant is operand q as written, and the other way round
 pub reads_written : (raw : RawRule) (names : Names) (ws : List RawStatement) (ss : List Statement) (q : ℕ) (o : Operand) → HalfMeans raw names ws ss → slice_get (operands_among ss) q ≡ Some o
     → (c : Counts) × (a : RawArgument) × (slice_get (arguments_among ws) q ≡ Some a) × ArgumentMeans raw names c a o.value
 reads_written raw names ws ss q o means at =

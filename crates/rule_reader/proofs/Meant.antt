@@ -1,4 +1,4 @@
--- A rule as written that uses nothing unbound means a rule.
+-- A rule as written that names nothing unbound means some rule.
 use Rattle.std.proofs.Common.{◌≡◌, inl, inr, ℕ, suc, ◌+◌, ◌-◌, List, [], ◌∷◌, ◌++◌, length, append_assoc, Some, refl, sym, subst, arith}
 use Rattle.std.specs.Prelude.{slice_get, Contains}
 use Rattle.std.specs.List.{AllZip}

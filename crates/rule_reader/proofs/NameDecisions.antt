@@ -1,4 +1,4 @@
--- What can be decided of the names in a rule as written.
+-- What is decided of names in a rule as written.
 use Rattle.std.proofs.Common.{◌≡◌, inl, inr, ℕ, suc, ◌<◌, ◌≤◌, List, [], ◌∷◌, length, Some, refl, ap, subst, ◌∙◌}
 use Rattle.std.specs.Prelude.{slice_get, Contains, map, flat_map}
 use Rattle.std.proofs.Math.Decide.{map_dec, dec_le, dec_lt}
@@ -23,7 +23,7 @@ use Rattle.rule_reader.proofs.Stable.{same_name}
 pub dec_name : (a b : List ℕ) → Dec (a ≡ b)
 dec_name a b = elim (same_name a b) [ inl same ↦ yes same | inr differ ↦ no differ ]
 
--- a name stands at a place of which P holds
+-- whether a name is at a place of which P holds is decided
 dec_name_at : (P : ℕ → Type 0) (names : List (List ℕ)) (name : List ℕ) → ((k : ℕ) → Dec (P k)) → Dec ((k : ℕ) × P k × (slice_get names k ≡ Some name))
 dec_name_at P names name each =
     map_dec (λ (k, other, at, (p, same)). (k, p, at ∙ ap (λ n. Some n) same)) (λ (k, p, at). (k, name, at, (p, refl))) (dec_place (λ k other. P k × (other ≡ name)) names (λ k other. dec_both (each k) (dec_name other name)))
@@ -40,7 +40,7 @@ dec_temporary source name = dec_name_at (λ k. suc k < length source) (map (λ s
 pub dec_root : (source : List RawStatement) (name : List ℕ) → Dec (IsRoot source name)
 dec_root source name = dec_name_at (λ k. suc k ≡ length source) (map (λ s. s.name) source) name (λ k. dec_number (suc k) (length source))
 
--- an argument is the register, the constant or an `undef`
+-- whether an operand is this register, this constant or an `undef` is decided
 dec_argument : (o : RawArgument) (name : List ℕ) → Dec (o ≡ Register name)
 dec_argument (Register other) name = map_dec (λ same. ap (λ n. Register n) same) (λ e. cc) (dec_name other name)
 dec_argument (Literal z) name = no (λ e. cc)
@@ -151,7 +151,7 @@ dec_unused source k s =
     dec_both (dec_lt (suc k) (length source)) (dec_not (map_dec (λ (j, t, at, (le, uses)). (j, t, le, at, uses)) (λ (j, t, le, at, uses). (j, t, at, (le, uses)))
     (dec_place (λ j t. (suc k ≤ j) × Uses t.op s.name) source (λ j t. dec_both (dec_le (suc k) j) (dec_uses t.op s.name)))))
 
--- an argument of the source is the register, or none is
+-- whether an operand of the source is the register is decided
 pub dec_uses_at : (source : List RawStatement) (name : List ℕ) → Dec ((q : ℕ) × UsesAt source q name)
 dec_uses_at source name =
     map_dec (λ (q, o, at, is). (q, at ∙ ap (λ x. Some x) is)) (λ (q, at). (q, Register name, at, refl)) (dec_place (λ q o. o ≡ Register name) (arguments_among source) (λ q o. dec_argument o name))

@@ -1,4 +1,4 @@
--- The nodes of terms, one term behind the other.
+-- The nodes of terms, the terms one behind the other.
 use Rattle.std.proofs.Common.{◌≡◌, inl, inr, ℕ, zero, suc, ◌+◌, ◌-◌, ◌<◌, List, [], ◌∷◌, ◌++◌, length, length-append, Some, refl, sym, ap, subst, ◌∙◌, arith, take, get_or, append_assoc}
 use Rattle.std.specs.Prelude.{slice_get, Contains, flat_map, map}
 use Rattle.std.specs.List.{AllZip}
@@ -40,11 +40,11 @@ nodes_behind n (t ∷ xs) ys =
     let same : n + length t + nodes_in xs ≡ n + nodes_in (t ∷ xs) = omega (arith, nodes_cons t xs) in
     ap (λ l. map (λ node. (n, node)) t ++ l) (rest ∙ ap (λ m. with_nodes (n + length t) xs ++ with_nodes m ys) same) ∙ sym (append_assoc (map (λ node. (n, node)) t) (with_nodes (n + length t) xs) (with_nodes (n + nodes_in (t ∷ xs)) ys))
 
--- the nodes of a term, each with this number
+-- the nodes of a term, each with the number of nodes before the term
 abbrev named : ℕ → List RawNode → List (ℕ × RawNode)
 named n t = map (λ node. (n, node)) t
 
--- where a node of the list stands in its term
+-- which node of which term is at place q of the list
 pub node_at : (n : ℕ) (ts : List (List RawNode)) (q : ℕ) (x : ℕ × RawNode) → slice_get (with_nodes n ts) q ≡ Some x → (t : List RawNode) × Contains ts t × ((k : ℕ) × (slice_get t k ≡ Some x.1) × (x.0 + k ≡ n + q))
 node_at n [] q x at = elim q as (λ j. slice_get [] j ≡ Some x → (t : List RawNode) × Contains [] t × ((k : ℕ) × (slice_get t k ≡ Some x.1) × (x.0 + k ≡ n + j))) [ zero ↦ λ h. cc | suc j ↦ λ h. cc ] at
 node_at n (t ∷ ts) q x at = elim (at_append (map (λ node. (n, node)) t) (with_nodes (n + length t) ts) q x at) [
@@ -60,7 +60,7 @@ node_at n (t ∷ ts) q x at = elim (at_append (map (λ node. (n, node)) t) (with
       (u, (suc m, omega arith, same), (k, at', sum'))
 ]
 
--- ---- adding the nodes of a term
+-- ---- appending the nodes of a term
 
 module _ (raw : RawRule) (names : Names) where
   abbrev Means : ℕ × RawNode → Term → Type 0
@@ -69,7 +69,7 @@ module _ (raw : RawRule) (names : Names) where
   pub terms_length : (ts : List (List RawNode)) (terms : List Term) → TermsMean raw names ts terms → length terms ≡ nodes_in ts
   terms_length ts terms means = zip_length Means (with_nodes 0 ts) terms means ∙ count_nodes 0 ts
 
-  -- the first nodes of a term, behind others
+  -- the first nodes of a term are appended to others
   abbrev pub Added : List Term → List RawNode → List Term → Type 0
   Added old nodes new = (added : List Term) × (new ≡ old ++ added) × AllZip (λ w t. NodeMeans raw names (length old) w t.node) nodes added
 

@@ -1,4 +1,4 @@
--- A rule as written has one list of inputs and one of constants, and means one rule with its classes.
+-- A rule as written determines its inputs, its constants, and the rule with its classes that it means.
 use Rattle.std.proofs.Common.{◌≡◌, ◌⊎◌, inl, inr, ℕ, zero, suc, ◌+◌, ◌<◌, List, [], ◌∷◌, ◌++◌, length, length-append, append_assoc, Some, refl, sym, ap, subst, ◌∙◌, arith}
 use Rattle.std.specs.Prelude.{slice_get, Contains, map, flat_map}
 use Rattle.std.specs.List.{AllZip}
@@ -49,7 +49,7 @@ use Rattle.rule_reader.proofs.Checked.{IsBound}
 -- ---- names
 
 module _ (Gives : RawArgument → List ℕ → Type 0) (os : List RawArgument) where
-  -- m is given before n, which is given
+  -- m is first given before n
   abbrev GivenBefore : List ℕ → List ℕ → Type 0
   GivenBefore m n = ((q : ℕ) × GivenAt Gives os q n) × ((q : ℕ) → GivenAt Gives os q n → (p : ℕ) × (p < q) × GivenAt Gives os p m)
 
@@ -105,13 +105,13 @@ one_names source a b p q =
     let same : ◌≡◌ {A = Names} (record { inputs = a.inputs; constants = a.constants }) (record { inputs = b.inputs; constants = b.constants }) = cc in
     same
 
--- ---- what is meant, but for classes
+-- ---- the rule that is meant, without its classes
 
--- the operand with this class
+-- the operand with this class in place of its own
 abbrev at_class : Operand → ℕ → Operand
 at_class a n = record a { class = n }
 
--- no register that an argument, or a node, names is the root
+-- the register that an operand or a node names is not the root
 abbrev Rootless : RawRule → RawArgument → Type 0
 Rootless raw w = (name : List ℕ) → w ≡ raw_arguments.Register name → ¬ IsRoot raw.source name
 
@@ -281,7 +281,7 @@ module _ (raw : RawRule) (names : Names) (plain : IsPlain raw) (are : AreNames r
       let rest : fs ≡ gs = one_precondition (n + nodes_in (terms_of_formula w)) ws fs gs p.1 q.1 in
       cc
 
--- ---- what is bound is not the root
+-- ---- the root may not be used
 
 rootless : (raw : RawRule) (place : Place) (w : RawArgument) → ((name : List ℕ) → MayUse raw place name → ¬ IsRoot raw.source name) → ArgumentIsBound raw place w → Rootless raw w
 rootless raw place (raw_arguments.Register other) free bound name e root = let same : other ≡ name = cc in free other bound (subst (IsRoot raw.source) (sym same) root)
@@ -333,7 +333,7 @@ module _ (raw : RawRule) (names : Names) (bound : IsBound raw) (are : AreNames r
       let (t, among, (k, spot, sum)) = node_at 0 (expressions_of raw) q w at in
       free_before w.1 (each_in (NodeIsBound raw places.Heading) t w.1 (each_in (TermIsBound raw places.Heading) (expressions_of raw) t bound.there.witness among) (Contains-from_get t k w.1 spot))
 
--- two rules that are meant differ in their classes alone
+-- two rules that one rule as written means differ in nothing but their classes
 pub one_meaning : (raw : RawRule) (rule other : Rule) → IsBound raw → Means raw rule → Means raw other → numbered rule ≡ numbered other
 one_meaning raw rule other bound p q =
     let own = names_of_rule rule in
@@ -363,7 +363,7 @@ one_meaning raw rule other bound p q =
 same_class_of : (rule other : Rule) (p q : ℕ) → numbered rule ≡ numbered other → SameClass rule p q → SameClass other p q
 same_class_of rule other p q e h = subst (λ r. Joined r p q) e h
 
--- the classes at a place are the same, up to any place
+-- at each place both have the same class, by induction over the places
 same_number_at : (rule other : Rule) → numbered rule ≡ numbered other → IsClassified rule → IsClassified other → length (classes_of rule) ≡ length (classes_of other) → (fuel p c d : ℕ) → p < fuel → slice_get (classes_of rule) p ≡ Some c → slice_get (classes_of other) p ≡ Some d → c ≡ d
 same_number_at rule other e one two long zero p c d lt at at' = absurd (omega arith)
 same_number_at rule other e one two long (suc fuel) p c d lt at at' = elim (order c d) [
@@ -405,7 +405,7 @@ same_statement s t p q r =
 abbrev op_classes : Op → List ℕ
 op_classes op = map (λ o. o.class) (operands_meant op)
 
--- an operation is what it is without its classes, and these
+-- an operation is determined by itself without its classes, and by these
 same_op : (m n : ℕ) (p q : Op) (xs ys : List ℕ) → numbered_op m p ≡ numbered_op n q → op_classes p ++ xs ≡ op_classes q ++ ys → (p ≡ q) × (xs ≡ ys)
 same_op m n (ops.Binary o f x y) (ops.Binary o' f' x' y') xs ys e classes =
     let left : x ≡ x' = same_operand x x' m n (cc) (cc) in
@@ -458,7 +458,7 @@ same_statements m n (s ∷ ss) (t ∷ ts) xs ys e classes =
     let own : s ≡ t = same_statement s t (ap (λ (z : Statement). z.name) first) result op in
     (cc, left)
 
--- rules that differ in their classes alone have as many of them
+-- rules that differ in nothing but their classes have as many positions
 as_many_of : (m n : ℕ) (p q : Op) → numbered_op m p ≡ numbered_op n q → length (op_classes p) ≡ length (op_classes q)
 as_many_of m n (ops.Binary o f x y) (ops.Binary o' f' x' y') e = refl
 as_many_of m n (ops.Compare o s x y) (ops.Compare o' s' x' y') e = refl
@@ -554,7 +554,7 @@ parts_length rule =
     let V = flat_map classes_of_term rule.witness_terms in
     omega (arith, ap length (all_parts rule), length-append S (T ++ (U ++ (V ++ []))), length-append T (U ++ (V ++ [])), length-append U (V ++ []), ap length (append-nil V))
 
--- a rule has its classes in one way
+-- the classes of a classified rule are determined by the rule without them
 pub one_classified : (rule other : Rule) → numbered rule ≡ numbered other → IsClassified rule → IsClassified other → rule ≡ other
 one_classified rule other e one two =
     let sources = ap (λ (r : Rule). r.source) e in
@@ -578,6 +578,6 @@ one_classified rule other e one two =
     (record { name = other.name; inputs = other.inputs; constants = other.constants; source = other.source; target = other.target; terms = other.terms; precondition = other.precondition; witness_terms = other.witness_terms; witnesses = other.witnesses }) = cc in
     same
 
--- a rule as written means one rule with its classes
+-- so a rule as written means one rule with its classes
 pub one_rule : (raw : RawRule) (rule other : Rule) → IsBound raw → Means raw rule → IsClassified rule → Means raw other → IsClassified other → rule ≡ other
 one_rule raw rule other bound p one q two = one_classified rule other (one_meaning raw rule other bound p q) one two

@@ -1,4 +1,4 @@
--- In a rule as written without faults of assignments a name is that of one register.
+-- In a rule as written whose assignments are without faults a name is that of one register.
 use Rattle.std.proofs.Common.{◌≡◌, ◌⊎◌, inl, inr, ℕ, suc, ◌<◌, List, length, Some, refl, sym, ap, subst, arith}
 use Rattle.std.specs.Prelude.{slice_get}
 use Rattle.std.proofs.lemmas.Bool.{cases_lt}
@@ -27,7 +27,7 @@ again statements once j k name lt first second =
     let (s, at, is) = assigning_statement statements k name second in
     once s.line (k, s, at, (j, lt, subst (λ n. AssignsAt statements j n) (sym is) first), refl)
 
--- one statement assigns a register
+-- a register is assigned by one statement
 pub one_place : (statements : List RawStatement) → ((line : ℕ) → ¬ StandsAt statements (AssignsAgain statements) line) → (j k : ℕ) (name : List ℕ) → AssignsAt statements j name → AssignsAt statements k name → j ≡ k
 one_place statements once j k name p q = elim (order j k) [ inl lt ↦ absurd (again statements once j k name lt p q) | inr (inl e) ↦ e | inr (inr gt) ↦ absurd (again statements once k j name gt q p) ]
 
@@ -49,7 +49,7 @@ module _ (raw : RawRule) (names : Names) (plain : IsPlain raw) (are : AreNames r
   source_target : (j k : ℕ) (name : List ℕ) → ¬ IsRoot raw.source name → AssignsAt raw.source j name → AssignsAt raw.target k name → ⊥
   source_target j k name not_root p q = elim (temporary_or_root raw.source j name p) [ inl temporary ↦ not_redefined k name q (inr temporary) | inr root ↦ not_root root ]
 
-  -- a name that is not the root's is that of one register
+  -- a name other than the root's is that of one register
   pub one_register : (r s : Register) (name : List ℕ) → ¬ IsRoot raw.source name → HasName raw names r name → HasName raw names s name → r ≡ s
   one_register (registers.Input j) (registers.Input k) name not_root p q = ap (λ n. registers.Input n) (are.inputs.once j k name p q)
   one_register (registers.Input j) (registers.Source k) name not_root p q = absurd ((input_of j name p).1 k q)
@@ -61,12 +61,12 @@ module _ (raw : RawRule) (names : Names) (plain : IsPlain raw) (are : AreNames r
   one_register (registers.Target j) (registers.Source k) name not_root p q = absurd (source_target k j name not_root q p)
   one_register (registers.Target j) (registers.Target k) name not_root p q = ap (λ n. registers.Target n) (one_place raw.target plain.target_once j k name p q)
 
-  -- no statement may use the root
+  -- the root may not be used in the source
   pub not_root_in_source : (k : ℕ) (name : List ℕ) → k < length raw.source → MayUse raw (places.Source k) name → ¬ IsRoot raw.source name
   not_root_in_source k name within (inl input) (j, last, at) = input.1 j at
   not_root_in_source k name within (inr (i, lt, at)) (j, last, at') = let e : i ≡ j = one_place raw.source plain.source_once i j name at at' in absurd (omega arith)
 
-  -- what a statement of the source uses is an input, or what an earlier one assigns
+  -- a register that may be used in a source statement is an input or assigned by an earlier one
   pub input_or_earlier : (k : ℕ) (name : List ℕ) (r : Register) → k < length raw.source → ¬ (¬ MayUse raw (places.Source k) name) → HasName raw names r name
       → ((i : ℕ) × (i < length names.inputs) × (r ≡ registers.Input i)) ⊎ ((j : ℕ) × (j < k) × (r ≡ registers.Source j))
   input_or_earlier k name (registers.Input i) within may is = inl (i, slice_get_within names.inputs i name is, refl)
@@ -82,7 +82,7 @@ module _ (raw : RawRule) (names : Names) (plain : IsPlain raw) (are : AreNames r
     | inr (i, lt, at) ↦ not_redefined j name is (inr (i, (omega arith), at))
   ]))
 
-  -- what a statement of the target uses is an input, a temporary of the source, or what an earlier one assigns
+  -- one that may be used in a target statement is an input, a temporary of the source, or assigned by an earlier one
   pub target_register : (k : ℕ) (name : List ℕ) (r : Register) → ¬ (¬ MayUse raw (places.Target k) name) → HasName raw names r name
       → ((i : ℕ) × (i < length names.inputs) × (r ≡ registers.Input i)) ⊎ (((j : ℕ) × (suc j < length raw.source) × (r ≡ registers.Source j)) ⊎ ((j : ℕ) × (j < k) × (r ≡ registers.Target j)))
   target_register k name (registers.Input i) may is = inl (i, slice_get_within names.inputs i name is, refl)
@@ -102,7 +102,7 @@ module _ (raw : RawRule) (names : Names) (plain : IsPlain raw) (are : AreNames r
     ]))
   ]
 
-  -- what stands before the source uses an input or a temporary of the source, and not the root
+  -- one that may be used in `Pre:` and `Wit:` is not the root
   pub not_root_before : (name : List ℕ) → MayUse raw places.Heading name → ¬ IsRoot raw.source name
   not_root_before name (inl input) (j, last, at) = input.1 j at
   not_root_before name (inr (i, lt, at)) (j, last, at') = let e : i ≡ j = one_place raw.source plain.source_once i j name at at' in absurd (omega arith)

@@ -1,4 +1,4 @@
--- In a formula as it is spelled `hasOneUse` stands as a member of the outermost `&&` alone.
+-- The grammar of formulas has `hasOneUse` as a member of the outermost `&&` alone.
 use Rattle.std.proofs.Common.{◌≡◌, ◌⊎◌, inl, inr, ℕ, zero, suc, ◌+◌, ◌-◌, ◌^◌, ◌<◌, ◌≤◌, List, [], ◌∷◌, ◌++◌, length, map, Option, None, Some, refl, sym, ap, subst, ◌∙◌, arith, length-append}
 use Rattle.std.specs.Prelude.{slice_get, sum_by}
 use Rattle.std.specs.Option.{option_map_or}
@@ -28,7 +28,7 @@ right_at : {X : Type 0} (xs ys : List X) (i : ℕ) (x : X) → slice_get ys i �
 right_at [] ys i x at = subst (λ j. slice_get ys j ≡ Some x) (let same : i ≡ 0 + i = omega arith in same) at
 right_at (y ∷ xs) ys i x at = subst (λ j. slice_get (y ∷ xs ++ ys) j ≡ Some x) (let same : suc (length xs + i) ≡ length (y ∷ xs) + i = omega arith in same) (right_at xs ys i x at)
 
--- no node is `hasOneUse`
+-- none of the nodes is `hasOneUse`
 abbrev AsksNone : List RawFormula → Type 0
 AsksNone nodes = (i : ℕ) (f : RawFormula) → slice_get nodes i ≡ Some f → raw_joint f ≡ OneUse → ⊥
 
@@ -39,7 +39,7 @@ none_one : (f : RawFormula) → (raw_joint f ≡ OneUse → ⊥) → AsksNone (f
 none_one f p zero g at = subst (λ h. raw_joint h ≡ OneUse → ⊥) (same_Some f g at) p
 none_one f p (suc i) g at = absurd cc
 
--- nodes from a place on, each of whose operands is one of those before it
+-- the operands of these nodes, which begin at `start`, are among them, each before its node
 abbrev OwnParts : ℕ → List RawFormula → Type 0
 OwnParts start nodes = (i a : ℕ) (f : RawFormula) → slice_get nodes i ≡ Some f → IsPartOf a (raw_joint f) → (start ≤ a) × (a < start + i)
 
@@ -53,7 +53,7 @@ own_one : (start from : ℕ) (f : RawFormula) → from ≤ start → ((a : ℕ) 
 own_one start from f le p zero a g at is = let bounds = p a (subst (λ h. IsPartOf a (raw_joint h)) (sym (same_Some f g at)) is) in (bounds.0, omega (arith, bounds.1))
 own_one start from f le p (suc i) a g at is = absurd cc
 
--- and one behind them all, whose operands are among them
+-- a node appended behind its operands
 own_behind : (start : ℕ) (xs : List RawFormula) (f : RawFormula) → OwnParts start xs → ((a : ℕ) → IsPartOf a (raw_joint f) → (start ≤ a) × (a < start + length xs)) → OwnParts start (xs ++ f ∷ [])
 own_behind start xs f p q i a g at is = elim (at_append xs (f ∷ []) i g at) [
   | inl here ↦ p i a g here is
@@ -64,7 +64,7 @@ own_behind start xs f p q i a g at is = elim (at_append xs (f ∷ []) i g at) [
 ]
 
 module _ (joints : List Joint) where
-  -- the nodes stand in the formula from the place on
+  -- these nodes are those of the formula from `start` on
   abbrev StandFrom : ℕ → List RawFormula → Type 0
   StandFrom start nodes = (i : ℕ) (f : RawFormula) → slice_get nodes i ≡ Some f → slice_get joints (start + i) ≡ Some (raw_joint f)
 
@@ -74,7 +74,7 @@ module _ (joints : List Joint) where
   stand_right : (start : ℕ) (xs ys : List RawFormula) → StandFrom start (xs ++ ys) → StandFrom (start + length xs) ys
   stand_right start xs ys all i f at = subst (λ j. slice_get joints j ≡ Some (raw_joint f)) (let same : start + (length xs + i) ≡ start + length xs + i = omega arith in same) (all (length xs + i) f (right_at xs ys i f at))
 
-  -- none of the nodes asks one use, nor does what they are the whole of
+  -- where none of the nodes is `hasOneUse`, none of the formulas whose last node is among them has one
   quiet : (start : ℕ) (nodes : List RawFormula) → StandFrom start nodes → OwnParts start nodes → AsksNone nodes → (m i : ℕ) → m ≡ start + i → i < length nodes → AsksOneUse joints m → ⊥
   quiet start nodes stand own none m i e within (itself at) =
       let (f, at') = there nodes i within in
@@ -99,7 +99,7 @@ module _ (joints : List Joint) where
   may_one f p zero g at = subst (λ h. OneUseMayStand joints (raw_joint h)) (same_Some f g at) p
   may_one f p (suc i) g at = absurd cc
 
-  -- what stands within asks none
+  -- a formula that stands inside another has no `hasOneUse`
   abbrev Quiet : Standing → List RawFormula → Type 0
   Quiet Within nodes = AsksNone nodes
   Quiet Outermost nodes = Unit {0}
@@ -112,7 +112,7 @@ module _ (joints : List Joint) where
   quiet_joined Within xs ys f p q r = none_both (xs ++ ys) (f ∷ []) (none_both xs ys p q) (none_one f r)
   quiet_joined Outermost xs ys f p q r = tt
 
-  -- a member is `hasOneUse`, or asks none
+  -- a member is `hasOneUse` itself or has none
   abbrev IsMember : Level → List RawFormula → Type 0
   IsMember Member nodes = ((f : RawFormula) × (nodes ≡ f ∷ []) × (raw_joint f ≡ OneUse)) ⊎ AsksNone nodes
   IsMember level nodes = Unit {0}
@@ -138,7 +138,7 @@ module _ (joints : List Joint) where
   last_at : (start : ℕ) (nodes : List RawFormula) → 1 ≤ length nodes → start + length nodes ≤ 2 ^ 32 → last_place (start + length nodes) ≡ start + (length nodes - 1)
   last_at start nodes some few = omega (arith, some, few)
 
-  -- where so many nodes stand the one on the right of a `&&` is `hasOneUse` itself, or asks none
+  -- the right side of a `&&`, a member, is `hasOneUse` itself or has none
   right_alone : (start : ℕ) (nodes : List RawFormula) → 1 ≤ length nodes → StandFrom start nodes → OwnParts start nodes → IsMember Member nodes → (b : ℕ) → b ≡ start + (length nodes - 1) → AsksOneUse joints b → slice_get joints b ≡ Some OneUse
   right_alone start nodes some stand own (inl (f, whole, asks)) b e which =
       let one : length nodes ≡ 1 = ap length whole in
@@ -147,7 +147,7 @@ module _ (joints : List Joint) where
       subst (λ k. slice_get joints k ≡ Some OneUse) place (stand 0 f first ∙ ap (λ (x : Joint). Some x) asks)
   right_alone start nodes some stand own (inr none) b e which = let within : length nodes - 1 < length nodes = omega (arith, some) in absurd (quiet start nodes stand own none b (length nodes - 1) e within which)
 
-  -- two parts and the node behind them
+  -- two operands and their operator's node behind them
   record Halves (start : ℕ) (left right : List RawFormula) (node : RawFormula) : Type 0 where
     long : length (left ++ right ++ node ∷ []) ≡ length left + length right + 1
     left_few : start + length left ≤ 2 ^ 32
@@ -254,7 +254,7 @@ module _ (joints : List Joint) where
         is_member = tt;
       }
 
--- the formula of a precondition, where there is one
+-- the formula of `Pre:`, if there is one
 pub precondition_one_use : (p : Option RawPrecondition) (tokens : List Token) → Maybe (SpellsPrecondition rule_limits) p tokens → length (option_map_or (λ q. q.formula) p []) ≤ 2 ^ 32 → OneUseIsOutermost (map raw_joint (option_map_or (λ q. q.formula) p []))
 precondition_one_use None tokens spelled few n node at = elim n as (λ j. slice_get [] j ≡ Some node → OneUseMayStand [] node) [ zero ↦ λ h. absurd (cc) | suc j ↦ λ h. absurd (cc) ] at
 precondition_one_use (Some p) tokens spelled few n node at =
@@ -265,7 +265,7 @@ precondition_one_use (Some p) tokens spelled few n node at =
     let (f, at', is) = at_map raw_joint p.formula n node at in
     subst (OneUseMayStand joints) is (x.may n f at')
 
--- a formula has not more nodes than it weighs
+-- a formula has no more nodes than it counts as
 one_weighs : (f : RawFormula) → 1 ≤ formula_weight f
 one_weighs (raw_formulas.HasOneUse name) = omega arith
 one_weighs f = omega arith

@@ -1,5 +1,5 @@
--- The nodes of a term that is meant are those of the term as written, behind the nodes of the terms before it. So what
--- stands in it is its own.
+-- The nodes of a term that is meant are those of the term as written, moved behind those of the terms before it. So a
+-- term has no node of another.
 use Rattle.std.proofs.Common.{◌≡◌, inl, inr, ℕ, zero, suc, ◌+◌, ◌-◌, ◌<◌, List, [], ◌∷◌, ◌++◌, length, map, Some, refl, sym, ap, subst, ◌∙◌, append_assoc, arith}
 use Rattle.std.specs.Prelude.{slice_get, Contains, flat_map}
 use Rattle.std.proofs.lemmas.List.{append-nil, length-map}
@@ -31,7 +31,7 @@ use Rattle.rule_reader.proofs.Places.{at_append, at_map, zip_right}
 
 -- ---- where a term stands among others
 
--- what is counted of a statement, and what stands before it
+-- statement k with the counts before it, and the statements before and behind
 pub statement_split : (c : Counts) (ws : List RawStatement) (k : ℕ) (x : Counts × RawStatement) → slice_get (with_counts c ws) k ≡ Some x
     → (front back : List RawArgument) × (counted_among ws ≡ front ++ (counted_of x.1.op ++ back)) × (x.0 ≡ past_all c front)
 statement_split c [] k x at = elim k as (λ j. slice_get [] j ≡ Some x → (front back : List RawArgument) × (counted_among [] ≡ front ++ (counted_of x.1.op ++ back)) × (x.0 ≡ past_all c front)) [ zero ↦ λ h. absurd (cc) | suc j ↦ λ h. absurd (cc) ] at
@@ -53,7 +53,7 @@ argument_split b (a ∷ xs) zero x at =
     ([], xs, ap (λ (y : Counts × RawArgument). y.1 ∷ xs) same, ap (λ (y : Counts × RawArgument). y.0) (sym same))
 argument_split b (a ∷ xs) (suc q) x at = let (front, back, whole, is) = argument_split (past b a) xs q x at in (a ∷ front, back, ap (λ (l : List RawArgument). a ∷ l) whole, is)
 
--- the terms before an argument have so many nodes
+-- the nodes that are counted before an operand are those of the terms before it
 pub nodes_past : (c : Counts) (xs : List RawArgument) → (past_all c xs).nodes ≡ c.nodes + nodes_in (flat_map terms_of_argument xs)
 nodes_past c [] = omega arith
 nodes_past c (raw_arguments.Register name ∷ xs) = nodes_past c xs
@@ -63,7 +63,7 @@ nodes_past c (raw_arguments.Constant name ∷ xs) = nodes_past c xs
 nodes_past c (raw_arguments.Undef ∷ xs) = nodes_past (past c raw_arguments.Undef) xs
 nodes_past c (raw_arguments.Term t ∷ xs) = omega (arith, nodes_past (past c (raw_arguments.Term t)) xs, nodes_append (t ∷ []) (flat_map terms_of_argument xs))
 
--- a node of a formula, and what stands before its terms
+-- node k of `Pre:` with the count before it, and the nodes before and behind
 pub formula_split : (n : ℕ) (fs : List RawFormula) (k : ℕ) (x : ℕ × RawFormula) → slice_get (with_terms n fs) k ≡ Some x → (front back : List RawFormula) × (fs ≡ front ++ x.1 ∷ back) × (x.0 ≡ n + nodes_in (flat_map terms_of_formula front))
 formula_split n [] k x at = elim k as (λ j. slice_get [] j ≡ Some x → (front back : List RawFormula) × ([] ≡ front ++ x.1 ∷ back) × (x.0 ≡ n + nodes_in (flat_map terms_of_formula front))) [ zero ↦ λ h. absurd (cc) | suc j ↦ λ h. absurd (cc) ] at
 formula_split n (f ∷ fs) zero x at =
@@ -74,7 +74,7 @@ formula_split n (f ∷ fs) (suc k) x at =
     let (front, back, whole, is) = formula_split (n + nodes_in (terms_of_formula f)) fs k x at in
     (f ∷ front, back, ap (λ (l : List RawFormula). f ∷ l) whole, omega (arith, is, nodes_append (terms_of_formula f) (flat_map terms_of_formula front)))
 
--- ---- its nodes
+-- ---- the nodes of one term
 
 module _ (raw : RawRule) (names : Names) where
   operand_own : (n : ℕ) (w : RawNode) (m : Node) (a : ℕ) → NodeMeans raw names n w m → IsOperandOf a m → (b : ℕ) × (a ≡ n + b) × ((j : ℕ) → IsBehindOperands j w → b < j)
@@ -118,7 +118,7 @@ module _ (raw : RawRule) (names : Names) where
               ]
         ]
 
-    -- what stands in the term of a node of it is a node of it
+    -- what stands in a term (`StandsIn`) is among these nodes
     stands_own : IsTerm t → (m n : ℕ) → StandsIn terms m n → (j : ℕ) → j < length t → n ≡ start + j → (i : ℕ) × (i < length t) × (m ≡ start + i)
     stands_own own m n itself j within e = (j, within, e)
     stands_own own m n (operand a x at is more) j within e =
@@ -127,7 +127,7 @@ module _ (raw : RawRule) (names : Names) where
         let smaller : b < j = less j (own.each j node spot) in
         stands_own own m a more b (omega arith) sum
 
-    -- a width that it names is one that it names as written
+    -- the widths that a term names are those that it names as written
     pub measures : IsTerm t → (n : ℕ) (r : Register) → suc n ≡ start + length t → NamesWidth terms n r → (name : List ℕ) × Contains t (raw_nodes.Width name) × HasName raw names r name
     measures own n r end (m, c, x, stands, at, is) =
         let some : 0 < length t = own.some in
@@ -139,7 +139,7 @@ module _ (raw : RawRule) (names : Names) where
         let (name, width, has) = width_means start node r c (subst (NodeMeans raw names start node) is goes) in
         (name, subst (Contains t) width (Contains-from_get t i node spot), has)
 
-    -- the operands of its nodes are its own
+    -- the operands of these nodes are among them
     pub owns : (last : ℕ) → suc last ≡ start + length t → OwnsOperands terms start last
     owns last end n a x from to at which =
         let j : ℕ = n - start in

@@ -1,22 +1,22 @@
--- What stands at a place of a list.
+-- Elements of lists by their places.
 use Rattle.std.proofs.Common.{◌≡◌, ◌⊎◌, inl, inr, ℕ, zero, suc, ◌+◌, ◌-◌, ◌<◌, List, [], ◌∷◌, ◌++◌, length, take, Some, refl, sym, ap, subst, ◌∙◌, arith, get_or}
 use Rattle.std.specs.Prelude.{slice_get, Contains, map}
 use Rattle.std.specs.List.{AllZip}
 use Rattle.std.proofs.lemmas.Bool.{cases_lt}
 use Rattle.std.proofs.lemmas.Option.{slice_get-get_or, same_Some}
 
--- two numbers in their order
+-- two numbers are below, equal or above
 pub order : (m n : ℕ) → (m < n) ⊎ ((m ≡ n) ⊎ (n < m))
 order m n = elim (cases_lt m n) [ inl lt ↦ inl lt | inr ge ↦ elim (cases_lt n m) [ inl gt ↦ inr (inr gt) | inr le ↦ inr (inl (omega arith)) ] ]
 
 pub same_at : {X : Type 0} (xs : List X) (k : ℕ) (x y : X) → slice_get xs k ≡ Some x → slice_get xs k ≡ Some y → x ≡ y
 same_at xs k x y p q = same_Some x y (sym p ∙ q)
 
--- the item of a loop stands at its index
+-- the item that a loop reads at k is element k
 pub read_at : {X : Type 0} (xs : List X) (k : ℕ) (x : X) → k < length xs → x ≡ get_or xs k x → slice_get xs k ≡ Some x
 read_at xs k x within is = slice_get-get_or xs k x within ∙ ap (λ y. Some y) (sym is)
 
--- and so does the last element, where the code sees the list as ys
+-- the last item of a list that the code sees as `ys` is its last element
 pub read_last : {X : Type 0} (xs ys : List X) (n : ℕ) (x : X) → ys ≡ xs → n ≡ length xs → 0 < length xs → x ≡ get_or ys (n - 1) x → slice_get xs (length xs - 1) ≡ Some x
 read_last xs ys n x is len some read = read_at xs (length xs - 1) x (omega arith) (read ∙ ap (λ l. get_or l (n - 1) x) is ∙ ap (λ m. get_or xs (m - 1) x) len)
 
@@ -26,11 +26,11 @@ there [] k within = absurd (omega arith)
 there (x ∷ xs) zero within = (x, refl)
 there (x ∷ xs) (suc k) within = there xs k (omega arith)
 
--- an element stands somewhere
+-- an element is at some place
 pub somewhere : {X : Type 0} (xs : List X) (x : X) → Contains xs x → (k : ℕ) × (slice_get xs k ≡ Some x)
 somewhere xs x (k, within, is) = (k, slice_get-get_or xs k x within ∙ ap (λ y. Some y) is)
 
--- the first elements of a list
+-- an element of a prefix is one of the list
 pub at_take : {X : Type 0} (n : ℕ) (xs : List X) (k : ℕ) (x : X) → slice_get (take n xs) k ≡ Some x → (k < n) × (slice_get xs k ≡ Some x)
 at_take zero xs k x at = elim k as (λ j. slice_get [] j ≡ Some x → (j < 0) × (slice_get xs j ≡ Some x)) [ zero ↦ λ h. cc | suc j ↦ λ h. cc ] at
 at_take (suc n) [] k x at = elim k as (λ j. slice_get [] j ≡ Some x → (j < suc n) × (slice_get [] j ≡ Some x)) [ zero ↦ λ h. cc | suc j ↦ λ h. cc ] at
@@ -43,13 +43,13 @@ take_at (suc n) [] k x lt at = at
 take_at (suc n) (y ∷ xs) zero x lt at = at
 take_at (suc n) (y ∷ xs) (suc k) x lt at = take_at n xs k x (omega arith) at
 
--- what stands in two lists one behind the other stands in one of them
+-- an element of two lists, one behind the other, is one of either
 pub at_append : {X : Type 0} (xs ys : List X) (k : ℕ) (x : X) → slice_get (xs ++ ys) k ≡ Some x → (slice_get xs k ≡ Some x) ⊎ ((j : ℕ) × (k ≡ length xs + j) × (slice_get ys j ≡ Some x))
 at_append [] ys k x at = inr (k, omega arith, at)
 at_append (a ∷ xs) ys zero x at = inl at
 at_append (a ∷ xs) ys (suc k) x at = elim (at_append xs ys k x at) [ inl here ↦ inl here | inr (j, is, there) ↦ inr (j, omega arith, there) ]
 
--- what stands at a place of a list whose elements are mapped
+-- an element of `map f` is f of the one at its place
 pub at_map : {X Y : Type 0} (f : X → Y) (xs : List X) (k : ℕ) (y : Y) → slice_get (map f xs) k ≡ Some y → (x : X) × (slice_get xs k ≡ Some x) × (f x ≡ y)
 at_map f [] k y at = elim k as (λ j. slice_get [] j ≡ Some y → (x : _) × (slice_get [] j ≡ Some x) × (f x ≡ y)) [ zero ↦ λ h. cc | suc j ↦ λ h. cc ] at
 at_map f (x ∷ xs) zero y at = (x, refl, same_Some (f x) y at)
@@ -60,7 +60,7 @@ map_at f [] k x at = elim k as (λ j. slice_get [] j ≡ Some x → slice_get []
 map_at f (a ∷ xs) zero x at = ap (λ y. Some (f y)) (same_Some a x at)
 map_at f (a ∷ xs) (suc k) x at = map_at f xs k x at
 
--- Of two lists whose elements go together one by one, an element of either has one of the other at its place.
+-- Where two lists go together element by element, each has an element at every place of the other.
 pub zip_right : {X Y : Type 0} (R : X → Y → Type 0) (xs : List X) (ys : List Y) (k : ℕ) (y : Y) → AllZip R xs ys → slice_get ys k ≡ Some y → (x : X) × (slice_get xs k ≡ Some x) × R x y
 zip_right R [] [] k y all at = elim k as (λ j. slice_get [] j ≡ Some y → (x : _) × (slice_get [] j ≡ Some x) × R x y) [ zero ↦ λ h. cc | suc j ↦ λ h. cc ] at
 zip_right R [] (b ∷ ys) k y all at = absurd all

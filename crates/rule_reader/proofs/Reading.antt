@@ -20,7 +20,7 @@ use Rattle.rule_reader.proofs.Places.{order, same_at, at_append, take_at, at_map
 use Rattle.rule_reader.proofs.Checked.{checked_rule}
 use Rattle.rule_reader.proofs.Checking.{bound_of}
 
--- rules are those of the first rules as written, so many
+-- the rules are those of the first `place` rules as written
 pub record AreFirstRules (raws : List RawRule) (place : ℕ) (rules : List Rule) : Type 0 where
   pub count : length rules ≡ place
   pub each : (k : ℕ) (raw : RawRule) (rule : Rule) → slice_get raws k ≡ Some raw → slice_get rules k ≡ Some rule → IsRuleOf (take k raws) raw rule
@@ -44,17 +44,17 @@ first_rules_more raws place raw rule rules rules' first here more own =
       ];
     }
 
--- all of them
+-- at the end they are those of all
 pub all_rules : (raws : List RawRule) (place : ℕ) (rules : List Rule) → place ≡ length raws → AreFirstRules raws place rules → AreRulesOf raws rules
 all_rules raws place rules end first = record { count = first.count ∙ end; each = first.each }
 
--- those before a place have no fault
+-- the rules as written before this place have no fault
 pub first_rules_pass : (raws : List RawRule) (place : ℕ) (rules : List Rule) → AreFirstRules raws place rules → (j : ℕ) (raw : RawRule) → j < place → slice_get raws j ≡ Some raw → Passes (take j raws) raw
 first_rules_pass raws place rules first j raw lt at =
     let (rule, at') = there rules j (omega (arith, first.count)) in
     (first.each j raw rule at at').passes
 
--- what a rule that is read meets
+-- what holds of each rule that is read
 module _ (raws : List RawRule) (rules : List Rule) (well : (k : ℕ) (raw : RawRule) → slice_get raws k ≡ Some raw → IsWellFormed raw) (read : AreRulesOf raws rules) where
   each_rule : (P : Rule → Type 0) → ((earlier : List RawRule) (raw : RawRule) (rule : Rule) → IsWellFormed raw → IsRuleOf earlier raw rule → P rule) → All P rules
   each_rule P holds = λ k d within.
@@ -93,7 +93,7 @@ module _ (raws : List RawRule) (rules : List Rule) (well : (k : ℕ) (raw : RawR
   pub names_are_distinct : AreDistinct (map (λ rule. rule.name) rules)
   names_are_distinct j k name p q = elim (order j k) [ inl lt ↦ absurd (again j k name lt p q) | inr (inl e) ↦ e | inr (inr gt) ↦ absurd (again k j name gt q p) ]
 
--- a fault of the text, and of a rule
+-- a fault of the text's tokens, and a fault of one of its rules, is the text's
 pub text_fault : (text : List ℕ) (e : RuleError) → length text ≤ most_bytes → IfRefused e (IsTextFault text) → IfRefused e (IsFault text)
 text_fault text (Refused fault) short is = of_text short is
 text_fault text NoMemory short is = tt
@@ -103,6 +103,6 @@ pub rule_fault : (text : List ℕ) (raws : List RawRule) (place : ℕ) (raw : Ra
 rule_fault text raws place raw rules mark (Refused fault) short written first at marks is = of_rule raws place raw short written at (first_rules_pass raws place rules first) (is (take place raws) marks)
 rule_fault text raws place raw rules mark NoMemory short written first at marks is = tt
 
--- the mark of a rule, where the code sees the rules as a list of its own
+-- the flag of a repeated name for the rule at this place
 pub mark_at : (raws seen : List RawRule) (marks : List Bool) (place : ℕ) (raw : RawRule) (mark : Bool) → seen ≡ raws → MarksRepeated seen marks → slice_get raws place ≡ Some raw → slice_get marks place ≡ Some mark → MarksRule mark (take place raws) raw
 mark_at raws seen marks place raw mark is repeated at at' = (subst (λ l. MarksRepeated l marks) is repeated).each place raw mark at at'

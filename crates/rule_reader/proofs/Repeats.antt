@@ -1,4 +1,4 @@
--- Names of rules, rule by rule.
+-- Repeated names of rules, rule by rule.
 use Rattle.std.proofs.Common.{◌≡◌, inl, inr, ℕ, ◌+◌, ◌<◌, Bool, true, false, cond, List, [], ◌∷◌, ◌++◌, length, length-append, take, Option, None, Some, refl, sym, ap, subst, ◌∙◌, arith}
 use Rattle.std.specs.Prelude.{slice_get, IsTrue, is_some}
 use Rattle.std.specs.Str.{bytes_eq}
@@ -10,7 +10,7 @@ use Rattle.rule_reader.specs.FaultKinds.{HasNameOf}
 use Rattle.rule_reader.specs.RepeatedNames.{MarksRule, MarksRepeated}
 use Rattle.rule_reader.proofs.Places.{order, same_at, at_take, take_at, at_append}
 
--- whether there is a value says whether one of the rules has the name
+-- the map has the name exactly where one of the rules does
 abbrev pub Known : Option (Unit {0}) → List RawRule → List ℕ → Type 0
 Known o rules name = (IsTrue (is_some o) → HasNameOf rules name) × (HasNameOf rules name → IsTrue (is_some o))
 
@@ -40,7 +40,7 @@ known_more rules i rule key name old within here is known false e = (
 pub known_none : (name : List ℕ) → Known None [] name
 known_none name = (λ t. absurd (false≢true t), λ (k, other, at, is). absurd (let lt : k < 0 = slice_get_within [] k other at in omega arith))
 
--- marks of the first rules
+-- the flags of the first i rules
 pub record MarksFirst (rules : List RawRule) (i : ℕ) (marks : List Bool) : Type 0 where
   pub count : length marks ≡ i
   pub each : (k : ℕ) (raw : RawRule) (mark : Bool) → slice_get rules k ≡ Some raw → slice_get marks k ≡ Some mark → MarksRule mark (take k rules) raw

@@ -1,4 +1,4 @@
--- A rule that is meant has as many operands, nodes and names as the rule as written.
+-- A rule that is meant counts as many operands, nodes and names as the rule as written.
 use Rattle.std.proofs.Common.{◌≡◌, ℕ, ◌+◌, List, [], ◌∷◌, ◌++◌, length, refl, ap, ◌∙◌, arith}
 use Rattle.std.specs.Prelude.{map, sum_by}
 use Rattle.std.specs.List.{AllZip}

@@ -1,5 +1,5 @@
--- What the grammar says of operations: names are short, flags fit, a source has no copies and no terms, and a target
--- has constant terms. A half is known by what its copies are.
+-- What the grammar ensures of operations: names are short, flags fit, a source has no copies and no terms, and a target
+-- only constant terms. A half comes in by what it allows as a copy.
 use Rattle.std.proofs.Common.{◌≡◌, ℕ, ◌≤◌, Bool, true, false, refl, List, [], ◌∷◌, length, subst}
 use Rattle.std.specs.Prelude.{Contains, flat_map}
 use Rattle.ops.specs.Flags.{flags_of, flags_of_cast}
@@ -42,7 +42,7 @@ untyped half a tokens spelled = (tokens, spelled.1)
 pair : (half : _) (a b : RawOperand) (tokens : List Token) → SpellsPair rule_limits half a b tokens → Each (IsSpelled (SpellsArgument rule_limits half)) (a.value ∷ b.value ∷ [])
 pair half a b tokens spelled = (operand half a spelled.0 spelled.2, (untyped half b spelled.3.1 spelled.3.3, tt))
 
--- What an operation reads is spelled. A copy, where the half has one, is an operand.
+-- the grammar spells each operand of an operation; of a copy, where the half has one, that is assumed
 arguments_spelled : (version : Version) (half : _) → ((a : RawOperand) (tokens : List Token) → SpellsOp rule_limits version half (Copy a) tokens → SpellsOperand rule_limits half a tokens) → (op : RawOp) (tokens : List Token) → SpellsOp rule_limits version half op tokens → Each (IsSpelled (SpellsArgument rule_limits half)) (arguments_of op)
 arguments_spelled version half copies (Binary op flags a b) tokens spelled = pair half a b spelled.3.1 spelled.3.3
 arguments_spelled version half copies (Compare pred samesign a b) tokens spelled = pair half a b spelled.3.3.1 spelled.3.3.3
@@ -56,7 +56,7 @@ arguments_spelled version half copies (Copy a) tokens spelled = (operand half a 
 pub argument_spelled : (version : Version) (half : _) → ((a : RawOperand) (tokens : List Token) → SpellsOp rule_limits version half (Copy a) tokens → SpellsOperand rule_limits half a tokens) → (op : RawOp) (tokens : List Token) (a : RawArgument) → SpellsOp rule_limits version half op tokens → Contains (arguments_of op) a → IsSpelled (SpellsArgument rule_limits half) a
 argument_spelled version half copies op tokens a spelled among = each_in (IsSpelled (SpellsArgument rule_limits half)) (arguments_of op) a (arguments_spelled version half copies op tokens spelled) among
 
--- and what statements read
+-- likewise each operand of statements
 among_spelled : (version : Version) (half : _) → ((a : RawOperand) (tokens : List Token) → SpellsOp rule_limits version half (Copy a) tokens → SpellsOperand rule_limits half a tokens) → (ss : List RawStatement) (tokens : List Token) → SpellsStatements rule_limits version half ss tokens → Each (IsSpelled (SpellsArgument rule_limits half)) (arguments_among ss)
 among_spelled version half copies [] tokens spelled = tt
 among_spelled version half copies (s ∷ ss) tokens (own, rest, spelled, others, is) =
@@ -64,7 +64,7 @@ among_spelled version half copies (s ∷ ss) tokens (own, rest, spelled, others,
 
 -- ---- the terms of a target
 
--- a constant is the only node of its term
+-- a constant that is a term's operand is its only node
 constant_alone : (name : List ℕ) (nodes : List RawNode) → Constant name ≡ argument_of nodes → Each IsConstantNode nodes → length name ≤ 200
 unfolding argument_of
 constant_alone name (raw_nodes.Constant other ∷ []) e each = let same : other ≡ name = cc in subst (λ n. length n ≤ 200) same each.0
@@ -83,7 +83,7 @@ same_term t nodes e = cc
 pub term_operand : (t : List RawNode) (tokens : List Token) → SpellsTermOperand rule_limits (Term t) tokens → IsConstantTerm t
 term_operand t tokens spelled = subst IsConstantTerm (same_term t spelled.0 spelled.2) (constant_term rule_limits.nested spelled.0 tokens spelled.1)
 
--- the terms of what is read, where each term is a constant one
+-- the terms of operands are constant terms
 terms_among : (half : _) → ((t : List RawNode) (tokens : List Token) → SpellsArgument rule_limits half (Term t) tokens → IsConstantTerm t) → (arguments : List RawArgument) → Each (IsSpelled (SpellsArgument rule_limits half)) arguments → Each IsConstantTerm (flat_map terms_of_argument arguments)
 terms_among half constant [] spelled = tt
 terms_among half constant (Term t ∷ arguments) spelled = (constant t spelled.0.0 spelled.0.1, terms_among half constant arguments spelled.1)
@@ -94,7 +94,7 @@ spelled_terms version half copies constant ss tokens spelled = terms_among half 
 
 -- ---- flags and copies
 
--- a truth value is one that the intrinsic has
+-- the truth value that is spelled is one that the intrinsic takes
 written_truth : (op : Intrinsic) (truth : Bool) (tokens : List Token) → SpellsTruth op truth tokens → TruthFits op truth
 written_truth op false tokens spelled = refl
 written_truth intrinsics.Abs true tokens spelled = refl
@@ -102,7 +102,7 @@ written_truth intrinsics.CtPop true tokens (word, flag, is) = absurd cc
 written_truth intrinsics.CtLz true tokens spelled = refl
 written_truth intrinsics.CtTz true tokens spelled = refl
 
--- flags are ones that the instruction takes
+-- the flags that are spelled are ones that the instruction takes
 pub written_flags : (version : Version) (half : _) (op : RawOp) (tokens : List Token) → SpellsOp rule_limits version half op tokens → FlagsFitOp op
 written_flags version half (Binary op flags a b) tokens spelled = let written = spelled.3.2 in taken_flags (flags_of op) written.0 flags written.1
 written_flags version half (Unary op truth a) tokens spelled = written_truth op truth spelled.3.0 spelled.3.2

@@ -1,5 +1,5 @@
--- Terms, formulas and expressions that are spelled: their nodes stand in order, and those of constant terms are no
--- registers.
+-- What the grammar ensures of terms, formulas and expressions: nodes stand behind their operands, and constant terms
+-- have no registers.
 use Rattle.std.proofs.Common.{◌≡◌, inl, inr, ℕ, zero, suc, ◌+◌, ◌<◌, ◌≤◌, List, [], ◌∷◌, ◌++◌, length, Option, Some, None, sym, subst, length-append, arith}
 use Rattle.std.specs.Prelude.{slice_get}
 use Rattle.std.specs.Option.{option_map_or}
@@ -25,7 +25,7 @@ use Rattle.rule_reader.specs.WellFormed.{IsTerm, MayStandInTerm, IsBehindFormula
 use Rattle.rule_reader.proofs.Members.{each_append, each_push}
 use Rattle.rule_tokens.specs.Limits.{rule_limits}
 
--- a node of a constant term, whose constant has a short name
+-- a node of a constant term, and its name is short
 abbrev pub IsConstantNode : RawNode → Type 0
 IsConstantNode (raw_nodes.Constant name) = length name ≤ 200
 IsConstantNode node = MayStandInTerm node
@@ -61,7 +61,7 @@ constant_term nesting t tokens spelled = (is_term term_places.Constant nesting t
 
 -- ---- formulas
 
--- nodes from a place on
+-- the nodes, the first at this place, are each behind their operands
 abbrev AreBehind : ℕ → List RawFormula → Type 0
 AreBehind start [] = Unit {0}
 AreBehind start (f ∷ nodes) = IsBehindFormulas start f × AreBehind (suc start) nodes
@@ -88,7 +88,7 @@ last_below n m some le = omega arith
 abbrev pub HasConstantTerms : RawFormula → Type 0
 HasConstantTerms f = Each IsConstantTerm (terms_of_formula f)
 
--- a node or more, from the place on
+-- there is one at least
 record Nodes (start : ℕ) (nodes : List RawFormula) : Type 0 where
   some : 1 ≤ length nodes
   behind : AreBehind start nodes
@@ -116,7 +116,7 @@ together start left right a b =
       terms = each_append HasConstantTerms left right a.terms b.terms;
     }
 
--- the node behind two operands
+-- two operands and their operator's node behind them
 joins : (start : ℕ) (left right : List RawFormula) (node : RawFormula) → Nodes start left → Nodes (start + length left) right → IsBehindFormulas (start + length (left ++ right)) node → HasConstantTerms node → Nodes start (left ++ right ++ node ∷ [])
 joins start left right node a b behind terms =
     together start (left ++ right) (node ∷ []) (together start left right a b) (lone (start + length (left ++ right)) node behind terms)
@@ -150,7 +150,7 @@ spelled_formula (either {start = start} {left = left} {right = right} a b) =
     let y = spelled_formula b in
     joins start left right _ x y (below start left right x y) tt
 
--- the formula of a precondition, where there is one
+-- the formula of `Pre:`, if there is one
 pub formula_behind : (p : Option RawPrecondition) (tokens : List Token) → Maybe (SpellsPrecondition rule_limits) p tokens → (k : ℕ) (f : RawFormula) → slice_get (option_map_or (λ q. q.formula) p []) k ≡ Some f → IsBehindFormulas k f
 formula_behind None tokens spelled k f at = absurd cc
 formula_behind (Some p) tokens spelled k f at = at_place (0 + k) k f (omega arith) (behind_at 0 p.formula k f (spelled_formula spelled.1).behind at)

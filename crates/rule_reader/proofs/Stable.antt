@@ -1,4 +1,4 @@
--- Names, and uses of names, that are there or not.
+-- Equality of numbers and of names is decided, and so is whether a name is used.
 use Rattle.std.proofs.Common.{◌≡◌, ◌⊎◌, inl, inr, ℕ, List, [], ◌∷◌, refl, arith}
 use Rattle.rule_reader.proofs.Places.{order}
 

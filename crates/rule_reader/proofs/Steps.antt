@@ -1,4 +1,4 @@
--- Terms and formulas that are added one behind the other.
+-- Terms and nodes of formulas are resolved and appended one by one.
 use Rattle.std.proofs.Common.{◌≡◌, ℕ, ◌+◌, ◌-◌, ◌<◌, ◌≤◌, List, [], ◌∷◌, ◌++◌, length, Some, sym, ap, subst, ◌∙◌, arith, take, drop, get_or, append_assoc}
 use Rattle.std.specs.Prelude.{slice_get, flat_map}
 use Rattle.std.proofs.lemmas.List.{append-nil, take-append-drop, take_all, take_more}

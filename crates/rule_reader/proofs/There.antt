@@ -1,4 +1,4 @@
--- A rule as written in which nothing is unbound names only what is there to use.
+-- Where the check of unbound names passes, all names may be used where they are.
 use Rattle.std.proofs.Common.{◌≡◌, ◌⊎◌, inl, inr, ℕ, zero, suc, ◌<◌, List, [], ◌∷◌, length, Option, Some, None, refl, subst, arith}
 use Rattle.std.specs.Prelude.{slice_get, Contains, flat_map}
 use Rattle.std.proofs.lemmas.Option.{slice_get_within, same_Some}
@@ -40,7 +40,7 @@ module _ (raw : RawRule) (none : (line : ℕ) → ¬ UnboundAt raw line) where
         target = λ k s at. stable (dec_op raw (places.Target k) s.op) (λ not. none s.line (inr (inr (inr (k, s, at, not, refl)))));
       }
 
--- what a node of a constant term names is there, for a statement of the target or before the source
+-- what a node of a constant term names may be used, in some target statement or in `Pre:`
 abbrev pub IsThere : RawRule → RawNode → Type 0
 IsThere raw node = ((j : ℕ) × (j < length raw.target) × NodeIsBound raw (places.Target j) node) ⊎ NodeIsBound raw places.Heading node
 

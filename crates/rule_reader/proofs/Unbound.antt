@@ -1,4 +1,4 @@
--- The first line on which something is unbound: that of `Pre:`, of `Wit:`, or the first one of the source or of the
+-- The first line on which something is unbound is that of `Pre:`, of `Wit:`, or the first one of the source, or of the
 -- target.
 use Rattle.std.proofs.Common.{◌≡◌, ◌⊎◌, inl, inr, ℕ, ◌≤◌, List, Option, None, Some, refl, sym, ap, subst, ◌∙◌, arith}
 use Rattle.std.specs.Prelude.{slice_get}
@@ -30,7 +30,7 @@ module _ (raw : RawRule) (well : IsWellFormed raw) where
   source_target : (l m : ℕ) → InSource l → InTarget m → l ≤ m
   source_target = lines_before raw.source raw.target (StatementUnbound raw (λ k. places.Source k)) (StatementUnbound raw (λ k. places.Target k)) well.source_first
 
-  -- a line that comes before those of the source comes before those of the statements
+  -- a line that is not behind the source's is not behind that of any statement
   before_statements : (l : ℕ) → ((k : ℕ) (s : RawStatement) → slice_get raw.source k ≡ Some s → l ≤ s.line) → (m : ℕ) → InStatements m → l ≤ m
   before_statements l first m (inl (k, s, at, not, is)) = let le : l ≤ s.line = first k s at in omega (arith, is)
   before_statements l first m (inr (k, t, at, not, is)) =
@@ -78,7 +78,7 @@ module _ (raw : RawRule) (well : IsWellFormed raw) where
   pub alone_target : (half other : List RawStatement) (found : Option ℕ) → half ≡ raw.source → other ≡ raw.target → ((line : ℕ) → ¬ StandsAt half (HasUndefInside half) line) → IsFirst (StandsAt other (λ k s. ReadsUndefAlone s.op)) found → IsFirst (UndefInsideAt raw) found
   alone_target half other found is is' none first = rest found (subst (λ ss. (line : ℕ) → ¬ StandsAt ss (HasUndefInside ss) line) is none) (subst (λ ss. IsFirst (StandsAt ss (λ k s. ReadsUndefAlone s.op)) found) is' first)
 
--- what stands behind a head is one thing
+-- there is one `Pre:`, so its line is the first where it names what is unbound
 pub one_precondition : (raw : RawRule) (p : RawPrecondition) → raw.precondition ≡ Some p → ¬ Each (FormulaIsBound raw) p.formula → IsFirstLine (PreconditionUnbound raw) p.line
 one_precondition raw p is not = (
   (p, is, not, refl),

@@ -1,4 +1,4 @@
--- What is known of numbers from the weight of a rule as written.
+-- Bounds on counts, from what a rule as written counts as.
 use Rattle.std.proofs.Common.{◌≡◌, ℕ, ◌+◌, ◌≤◌, List, [], ◌∷◌, ◌++◌, length, refl, sym, ap, ◌∙◌, arith}
 use Rattle.std.specs.Prelude.{Contains, flat_map, sum_by}
 use Rattle.std.proofs.lemmas.List.Sums.{sum_by-append}
@@ -46,7 +46,7 @@ nodes_past c (Constant name) = omega arith
 nodes_past c Undef = omega arith
 nodes_past c (Term t) = omega arith
 
--- the nodes that are counted are those of the terms
+-- the nodes that are counted behind operands are those of their terms
 pub nodes_weigh : (c : Counts) (xs : List RawArgument) → (past_all c xs).nodes ≡ c.nodes + nodes_in (flat_map terms_of_argument xs)
 nodes_weigh c [] = omega arith
 nodes_weigh c (a ∷ xs) = omega (arith, nodes_past c a, nodes_weigh (past c a) xs, nodes_append (terms_of_argument a) (flat_map terms_of_argument xs))
@@ -68,7 +68,7 @@ terms_weigh : (ts : List (List RawNode)) → nodes_in ts ≤ sum_by (λ t. sum_b
 terms_weigh [] = omega arith
 terms_weigh (t ∷ ts) = omega (arith, term_weighs t, terms_weigh ts, sum_cons length t ts, sum_cons (λ (t : List RawNode). sum_by node_weight t) t ts)
 
--- a freeze is counted beside what it reads, and is no term
+-- a freeze counts as one operand more, and as no term
 one_counted : (op : RawOp) → (sum_by argument_weight (counted_of op) ≤ sum_by argument_weight (arguments_of op) + 1) × (flat_map terms_of_argument (counted_of op) ≡ flat_map terms_of_argument (arguments_of op))
 one_counted (raw_ops.Binary op flags a b) = (omega arith, refl)
 one_counted (raw_ops.Compare pred samesign a b) = (omega arith, refl)
@@ -113,7 +113,7 @@ module _ (raw : RawRule) (well : IsWellFormed raw) where
     omega (arith, few_terms, nodes_weigh no_counts (counted_among raw.target), ap nodes_in (counted_terms raw.target), nodes_append (target_terms raw) (flat_map terms_of_formula (formula_of raw))),
   )
 
-  -- no terms stand in the source
+  -- the source has no terms, so no nodes of terms are counted
   none_in : (xs : List RawArgument) → ((t : List RawNode) → ¬ Contains xs (Term t)) → flat_map terms_of_argument xs ≡ []
   none_in [] none = refl
   none_in (Register name ∷ xs) none = none_in xs (λ t among. none t (Contains-behind (Register name) xs (Term t) among))

@@ -1,4 +1,4 @@
--- Rules as written are well formed.
+-- Rules as the parser gives them are well formed.
 use Rattle.std.proofs.Common.{◌≡◌, inl, inr, ℕ, zero, suc, ◌≤◌, List, [], ◌∷◌, ◌++◌, length, append_assoc, Some, subst, arith}
 use Rattle.std.specs.Prelude.{slice_get, Contains, flat_map, codes}
 use Rattle.std.proofs.lemmas.Option.{same_Some}
@@ -28,7 +28,7 @@ use Rattle.rule_reader.proofs.Spelled.{argument_spelled, short_alone, term_opera
 use Rattle.rule_tokens.specs.declared.version.Version.{Version}
 use Rattle.rule_tokens.specs.Limits.{rule_limits}
 
--- a statement of a half is spelled
+-- the grammar spells each statement of a half
 spelled_at : (version : Version) (half : _) (ss : List RawStatement) (tokens : List Token) (k : ℕ) (s : RawStatement) → SpellsStatements rule_limits version half ss tokens → slice_get ss k ≡ Some s → (own : List Token) × SpellsStatement rule_limits version half s own
 spelled_at version half [] tokens k s is at = absurd (none_at k s at)
 spelled_at version half (s ∷ ss) tokens zero t (own, rest, spelled, others, is) at = (own, subst (λ x. SpellsStatement rule_limits version half x own) (same_Some s t at) spelled)
@@ -64,7 +64,7 @@ all_terms version raw tokens spelled =
     (spelled_terms version _ (λ a own copy. copy) term_operand raw.target spelled.target spelled.is_target)
     (each_flat IsConstantTerm terms_of_formula (formula_of raw) (formula_terms raw.precondition spelled.precondition spelled.is_precondition))
 
--- parts one behind the other
+-- the order of lines over parts one behind the other
 behind_part : (low : ℕ) (xs ys zs : List Token) → Ascend low ((xs ++ ys) ++ zs) → Ascend low (xs ++ (ys ++ zs))
 behind_part low xs ys zs up = subst (λ l. Ascend low l) (append_assoc xs ys zs) up
 
@@ -109,7 +109,7 @@ rules_well_formed version low (rule ∷ rules) tokens (own, rest, spelled, other
     let (m, le, later) = skip low own rest (subst (Ascend low) is up) in
     rules_well_formed version m rules rest others later k raw at small
 
--- the rules stand behind the line of the version
+-- the order of lines of the rules behind the version's line
 behind_version : (version : Version) (front back : List Token) (low : ℕ) → SpellsVersion version front → Ascend low (front ++ back) → (m : ℕ) × (low ≤ m) × Ascend m back
 behind_version version front back low (inl line) up = skip low front back up
 behind_version version front back low (inr (one, none)) up = (low, omega arith, subst (λ l. Ascend low (l ++ back)) none up)

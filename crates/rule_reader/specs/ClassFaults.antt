@@ -9,14 +9,14 @@ use Rattle.rule_core.specs.Checks.{IsRule}
 use Rattle.rule_tokens.specs.RuleFaults.{RuleFault}
 use Rattle.rule_reader.specs.Faults.{kind_of, class_check}
 
--- it is the rule with its classes, which have no fault
+-- the classified rule is this one with the numbers of its classes written, and its classes have no fault
 pub record IsClassifiedAs (rule classified : Rule) : Type 0 where
   pub is_rule : IsRule classified
   pub rest : numbered classified ≡ numbered rule
   pub classes : IsClassified classified
   pub typed : HasNoFault classified
 
--- the rule's classes have this fault, and it is told at the line
+-- the rule's classes have this fault, which is told at the line
 pub record IsClassFault (rule : Rule) (at : ℕ) (fault : RuleFault) : Type 0 where
   pub class_fault : ClassFault
   pub classified : Rule

@@ -1,4 +1,4 @@
--- Which texts are rule files, of which rules, and which is the first fault of one that is none.
+-- Which texts are rule files, with which rules, and what the first fault of any other text is.
 use Rattle.std.specs.Prelude.{◌≡◌, ℕ, ◌<◌, ◌≤◌, List, length, take, Option, None, Some, slice_get}
 use Rattle.rule_parse.specs.declared.raw.RawRule.{RawRule}
 use Rattle.rule_tokens.specs.RuleFaults.{RuleFault}
@@ -27,7 +27,7 @@ pub data Check : Type 0 where
   NoType : Check
   OpenType : Check
 
--- how many checks come before
+-- how many checks are made before this one
 abbrev pub rank : Check → ℕ
 rank Duplicate = 0
 rank Unbound = 1
@@ -59,7 +59,7 @@ class_check class_faults.TooMany = ManyClasses
 class_check class_faults.NoType = NoType
 class_check class_faults.OpenType = OpenType
 
--- A check of a rule, these being the earlier ones, fails at the line
+-- the check of a rule, with these rules before it in the file, fails at the line
 abbrev pub FailsAt : List RawRule → RawRule → Check → ℕ → Type 0
 FailsAt earlier raw Duplicate = DuplicateAt earlier raw
 FailsAt earlier raw Unbound = UnboundAt raw
@@ -96,24 +96,26 @@ pub record IsFirstRuleFault (earlier : List RawRule) (raw : RawRule) (fault : Ru
   pub line : IsFirstLine (FailsAt earlier raw check) fault.line
   pub first : (other : Check) (line : ℕ) → rank other < rank check → ¬ FailsAt earlier raw other line
 
--- a rule as written, these being the earlier ones, passes each check and is the rule
+-- a rule as written, with these before it in the file, passes all checks and means the rule, in which the numbers of
+-- classes are written
 pub record IsRuleOf (earlier : List RawRule) (raw : RawRule) (rule : Rule) : Type 0 where
   pub passes : Passes earlier raw
   pub means : Means raw rule
   pub classes : IsClassified rule
 
--- rules as written are the rules, in order
+-- each rule as written is the rule at its place
 pub record AreRulesOf (raws : List RawRule) (rules : List Rule) : Type 0 where
   pub count : length rules ≡ length raws
   pub each : (k : ℕ) (raw : RawRule) (rule : Rule) → slice_get raws k ≡ Some raw → slice_get rules k ≡ Some rule → IsRuleOf (take k raws) raw rule
 
--- The text is a rule file of these rules. Of the limit on its bytes this says nothing.
+-- The text is a rule file of these rules, whatever its length.
 pub record IsRuleFile (text : List ℕ) (rules : List Rule) : Type 0 where
   pub raws : List RawRule
   pub written : IsWritten text raws
   pub read : AreRulesOf raws rules
 
--- The first fault of a text: too many bytes, then what is no rule as written, and then rule by rule.
+-- The first fault of a text: that it is too long; else the first token that does not fit; else the first fault of the
+-- first rule that has one.
 pub data IsFault (text : List ℕ) : RuleFault → Type 0 where
   too_long : most_bytes < length text → IsFault text (record { line = 1; kind = kinds.TooLong })
   of_text : {fault : RuleFault} → length text ≤ most_bytes → IsTextFault text fault → IsFault text fault

@@ -1,4 +1,4 @@
--- What is found for a name, and what is known of a rule whose names are all there to use.
+-- What is looked up for a name, and what is known of a rule whose names may all be used where they are.
 use Rattle.std.specs.Prelude.{◌≡◌, ◌+◌, ◌≤◌, ℕ, List, [], ◌∷◌, ◌++◌, length, Option, None, Some, slice_get}
 use Rattle.rule_parse.specs.declared.raw.RawRule.{RawRule}
 use Rattle.rule_parse.specs.declared.raw.RawStatement.{RawStatement}
@@ -25,58 +25,58 @@ abbrev pub half_of : Half → RawRule → List RawStatement
 half_of halves.Source raw = raw.source
 half_of halves.Target raw = raw.target
 
--- the place of statement k of a half
+-- statement k of a half, as the place of a use
 abbrev pub place_in : Half → ℕ → Place
 place_in halves.Source k = places.Source k
 place_in halves.Target k = places.Target k
 
--- none where the register may not be used, and else the register of that name
+-- the register of the name that may be used at the place, or none where none may
 abbrev pub Finds : RawRule → Names → Place → List ℕ → Option Register → Type 0
 Finds raw names place name None = ¬ MayUse raw place name
 Finds raw names place name (Some r) = MayUse raw place name × HasName raw names r name
 
--- all that the statements of a half name is there to use
+-- all that the statements of a half name may be used there
 abbrev pub HalfIsBound : RawRule → Half → Type 0
 HalfIsBound raw half = (k : ℕ) (s : RawStatement) → slice_get (half_of half raw) k ≡ Some s → OpIsBound raw (place_in half k) s.op
 
--- and all that the rule names
+-- all that the rule names may be used where it is
 pub record NamesAreThere (raw : RawRule) : Type 0 where
   pub precondition : Each (FormulaIsBound raw) (formula_of raw)
   pub witness : Each (TermIsBound raw places.Heading) (expressions_of raw)
   pub source : HalfIsBound raw halves.Source
   pub target : HalfIsBound raw halves.Target
 
--- so few choices and nodes are counted: of the choices at most 256 are `undef`s, and at most 32 are freezes
+-- so few choices and nodes that they can be counted: at most 256 choices are `undef`s, and at most 32 freezes
 abbrev pub AreFew : Counts → Type 0
 AreFew counts = (counts.choices ≤ 288) × (counts.nodes ≤ 256)
 
--- an argument that is a term is one
+-- a term as an operand has its nodes in order
 abbrev pub IsWhole : RawArgument → Type 0
 IsWhole (raw_arguments.Term t) = IsTerm t
 IsWhole argument = Unit {0}
 
--- arguments of a place mean something, where so much stands before them
+-- operands at a place can be resolved, with these counts before the first
 abbrev pub AreReady : RawRule → Place → Counts → List RawArgument → Type 0
 AreReady raw place before [] = Unit {0}
 AreReady raw place before (a ∷ arguments) = (ArgumentIsBound raw place a × IsWhole a × AreFew (past before a)) × AreReady raw place (past before a) arguments
 
--- operands of a node are so many nodes on, and these are few
+-- with this many nodes before the term the operands of a node are still small numbers
 abbrev pub NodeFits : ℕ → RawNode → Type 0
 NodeFits before (raw_nodes.Unary function a) = before + a ≤ 256
 NodeFits before (raw_nodes.Binary op a b) = (before + a ≤ 256) × (before + b ≤ 256)
 NodeFits before node = Unit {0}
 
--- The nodes of terms become those of these terms behind them too.
+-- with these terms behind the terms that gave the nodes before, they give the nodes after
 abbrev pub AddsTerms : RawRule → Names → List Term → List (List RawNode) → List Term → Type 0
 AddsTerms raw names before more after = (written : List (List RawNode)) → TermsMean raw names written before → TermsMean raw names (written ++ more) after
 
--- the statement of the place is one of the rule
+-- the place is one of the rule, or the one behind the last statement of a half
 abbrev pub IsPlaceOf : RawRule → Place → Type 0
 IsPlaceOf raw (places.Source k) = k ≤ length raw.source
 IsPlaceOf raw (places.Target k) = k ≤ length raw.target
 IsPlaceOf raw places.Heading = Unit {0}
 
--- the terms of an argument may be written at a place
+-- a term can be resolved at the place: its names may be used there, and its nodes are in order
 abbrev pub TermIsReady : RawRule → Place → List RawNode → Type 0
 TermIsReady raw place t = TermIsBound raw place t × IsTerm t
 
@@ -84,6 +84,6 @@ abbrev pub HasReadyTerm : RawRule → Place → RawArgument → Type 0
 HasReadyTerm raw place (raw_arguments.Term t) = TermIsReady raw place t
 HasReadyTerm raw place argument = Unit {0}
 
--- and those of a node of a formula
+-- the terms of a node of `Pre:` can be resolved
 abbrev pub HasReadyTerms : RawRule → RawFormula → Type 0
 HasReadyTerms raw f = FormulaIsBound raw f × Each IsTerm (terms_of_formula f)

@@ -1,4 +1,4 @@
--- What holds of every text.
+-- Laws of all texts.
 use Rattle.std.specs.Prelude.{◌≡◌, ◌⊎◌, ℕ, ◌≤◌, List, length}
 use Rattle.rule_core.specs.declared.rule.Rule.{Rule}
 use Rattle.rule_tokens.specs.RuleFaults.{RuleFault}

@@ -1,5 +1,5 @@
--- What a rule as written means: the rule whose registers, constants, choices and terms are known by place. It says
--- nothing of classes.
+-- Name resolution: which rule a rule as written means, in which registers, constants, choices and terms are known by
+-- place. It says nothing of classes.
 use Rattle.std.specs.Prelude.{◌≡◌, ◌↔◌, ℕ, suc, ◌+◌, ◌-◌, ◌<◌, List, [], ◌∷◌, ◌++◌, length, map, flat_map, fold, sum_by, Some, Contains, slice_get}
 use Rattle.std.specs.List.{AllZip}
 use Rattle.rule_parse.specs.declared.raw.RawRule.{RawRule}
@@ -66,11 +66,11 @@ IsRoot source name = (k : ℕ) × (suc k ≡ length source) × AssignsAt source 
 abbrev pub IsConstant : List RawStatement → List ℕ → Type 0
 IsConstant source name = (q : ℕ) × (slice_get (arguments_among source) q ≡ Some (raw_arguments.Constant name))
 
--- argument q gives the name, where Gives says which argument gives which
+-- operand q gives the name, where Gives says which operand gives which
 abbrev pub GivenAt : (RawArgument → List ℕ → Type 0) → List RawArgument → ℕ → List ℕ → Type 0
 GivenAt Gives arguments q name = (a : RawArgument) × (slice_get arguments q ≡ Some a) × Gives a name
 
--- the names that arguments give, each once, in the order in which they are first given
+-- the names that operands give, each once, in order of first use
 pub record AreFirstGiven (Gives : RawArgument → List ℕ → Type 0) (arguments : List RawArgument) (names : List (List ℕ)) : Type 0 where
   pub each : (name : List ℕ) → Contains names name ↔ ((q : ℕ) × GivenAt Gives arguments q name)
   pub once : AreDistinct names
@@ -80,7 +80,7 @@ pub record AreFirstGiven (Gives : RawArgument → List ℕ → Type 0) (argument
 abbrev pub GivesInput : List RawStatement → RawArgument → List ℕ → Type 0
 GivesInput source a name = (a ≡ raw_arguments.Register name) × ((k : ℕ) → AssignsAt source k name → ⊥)
 
--- and a constant where it is one
+-- an operand gives a constant where it is one
 abbrev pub GivesConstant : RawArgument → List ℕ → Type 0
 GivesConstant a name = a ≡ raw_arguments.Constant name
 
@@ -88,7 +88,7 @@ GivesConstant a name = a ≡ raw_arguments.Constant name
 abbrev pub AreInputs : List RawStatement → List (List ℕ) → Type 0
 AreInputs source inputs = AreFirstGiven (GivesInput source) (arguments_among source) inputs
 
--- and its constants
+-- the constants of a source, each once, in the order of their first uses
 abbrev pub AreConstants : List RawStatement → List (List ℕ) → Type 0
 AreConstants source constants = AreFirstGiven GivesConstant (arguments_among source) constants
 
@@ -96,9 +96,9 @@ pub record AreNames (source : List RawStatement) (names : Names) : Type 0 where
   pub inputs : AreInputs source names.inputs
   pub constants : AreConstants source names.constants
 
--- ---- places of choices and of terms
+-- ---- numbering choices and nodes of terms
 
--- how many choices, and how many nodes of terms, stand before what is behind an argument
+-- the counts of choices and of nodes of terms behind an operand, from those before it
 abbrev pub past : Counts → RawArgument → Counts
 past before raw_arguments.Undef = record before { choices = before.choices + 1 }
 past before (raw_arguments.Term t) = record before { nodes = before.nodes + length t }
@@ -107,7 +107,7 @@ past before argument = before
 abbrev pub past_all : Counts → List RawArgument → Counts
 past_all before arguments = fold past before arguments
 
--- what is counted of a statement: what it reads, and a freeze as an `undef` behind its operand
+-- the operands of a statement as they are counted: a freeze is one choice more, as an `undef` behind its operand
 abbrev pub counted_of : RawOp → List RawArgument
 counted_of (raw_ops.Freeze a) = a.value ∷ raw_arguments.Undef ∷ []
 counted_of op = arguments_of op
@@ -115,25 +115,25 @@ counted_of op = arguments_of op
 abbrev pub counted_among : List RawStatement → List RawArgument
 counted_among statements = flat_map (λ s. counted_of s.op) statements
 
--- before a half there are none
+-- at the beginning of a half nothing is counted
 abbrev pub no_counts : Counts
 no_counts = record { choices = 0; nodes = 0 }
 
--- how many stand in a half
+-- the counts of a whole half
 abbrev pub in_half : List RawStatement → Counts
 in_half statements = past_all no_counts (counted_among statements)
 
--- statements, each with what stands before it in its half
+-- statements, each with the counts before it in its half
 abbrev pub with_counts : Counts → List RawStatement → List (Counts × RawStatement)
 with_counts before [] = []
 with_counts before (s ∷ statements) = (before, s) ∷ with_counts (past_all before (counted_of s.op)) statements
 
--- the nodes of terms, each with the number of nodes before its term
+-- the nodes of all terms, each with the number of nodes before its term
 abbrev pub with_nodes : ℕ → List (List RawNode) → List (ℕ × RawNode)
 with_nodes before [] = []
 with_nodes before (t ∷ terms) = map (λ node. (before, node)) t ++ with_nodes (before + length t) terms
 
--- the nodes of a formula, each with the number of nodes of terms before its own terms
+-- the nodes of `Pre:`, each with the number of nodes of terms before its own terms
 abbrev pub with_terms : ℕ → List RawFormula → List (ℕ × RawFormula)
 with_terms before [] = []
 with_terms before (f ∷ formula) = (before, f) ∷ with_terms (before + nodes_in (terms_of_formula f)) formula
@@ -143,7 +143,7 @@ abbrev pub last_nodes : ℕ → List (List RawNode) → List ℕ
 last_nodes before [] = []
 last_nodes before (t ∷ terms) = (before + length t - 1) ∷ last_nodes (before + length t) terms
 
--- ---- what is meant
+-- ---- the rule that is meant
 
 -- Of a rule as written, whose inputs and constants these are:
 module _ (raw : RawRule) (names : Names) where
@@ -156,8 +156,8 @@ module _ (raw : RawRule) (names : Names) where
   abbrev pub IsConstantOf : ℕ → List ℕ → Type 0
   IsConstantOf k name = slice_get names.constants k ≡ Some name
 
-  -- A name means a register or a constant of that name, a literal or a truth value itself, an `undef` the number of
-  -- choices before it, and a term its last node.
+  -- A name means the register or the constant of that name, a literal or a truth value itself, an `undef` the choice
+  -- whose number is the count before it, and a term its last node.
   abbrev pub ArgumentMeans : Counts → RawArgument → Argument → Type 0
   ArgumentMeans before (raw_arguments.Register name) (arguments.Register r) = HasName r name
   ArgumentMeans before (raw_arguments.Literal z) (arguments.Literal number) = number ≡ z
@@ -193,7 +193,7 @@ module _ (raw : RawRule) (names : Names) where
   abbrev pub HalfMeans : List RawStatement → List Statement → Type 0
   HalfMeans written statements = AllZip (λ w s. StatementMeans w.0 w.1 s) (with_counts no_counts written) statements
 
-  -- an operand of a node is so many nodes on as stand before the term
+  -- an operand of a node is moved by the number of nodes before the term
   abbrev pub NodeMeans : ℕ → RawNode → Node → Type 0
   NodeMeans before (raw_nodes.Literal z) (nodes.Literal number) = number ≡ z
   NodeMeans before (raw_nodes.Constant name) (nodes.Constant k) = IsConstantOf k name
@@ -208,7 +208,7 @@ module _ (raw : RawRule) (names : Names) where
   abbrev pub TermsMean : List (List RawNode) → List Term → Type 0
   TermsMean written terms = AllZip (λ w t. NodeMeans w.0 w.1 t.node) (with_nodes 0 written) terms
 
-  -- a term of a formula is its last node
+  -- a term of `Pre:` is known by its last node
   abbrev pub FormulaMeans : ℕ → RawFormula → Formula → Type 0
   FormulaMeans before (raw_formulas.Compare pred a b) (formulas.Compare pred' x y) =
       (pred' ≡ pred) × (suc x ≡ before + length a) × (suc y ≡ before + length a + length b)
@@ -220,7 +220,7 @@ module _ (raw : RawRule) (names : Names) where
   FormulaMeans before (raw_formulas.Or a b) (formulas.Or x y) = (x ≡ a) × (y ≡ b)
   FormulaMeans before written formula = ⊥
 
-  -- the nodes of a formula, whose terms stand behind those of the target
+  -- the nodes of `Pre:`, whose terms come behind those of the target
   abbrev pub PreconditionMeans : List RawFormula → List Formula → Type 0
   PreconditionMeans written formula = AllZip (λ w f. FormulaMeans w.0 w.1 f) (with_terms (nodes_in (target_terms raw)) written) formula
 
@@ -228,7 +228,7 @@ module _ (raw : RawRule) (names : Names) where
 abbrev pub names_of_rule : Rule → Names
 names_of_rule rule = record { inputs = rule.inputs; constants = rule.constants }
 
--- a rule as written means the rule
+-- the rule is the one that the rule as written means
 pub record Means (raw : RawRule) (rule : Rule) : Type 0 where
   pub name : rule.name ≡ raw.name
   pub names : AreNames raw.source (names_of_rule rule)

@@ -1,9 +1,9 @@
--- MarksRule on the rules whose names an earlier one has.
+-- Which rules of a file have the name of an earlier one.
 use Rattle.std.specs.Prelude.{◌≡◌, ◌↔◌, ℕ, Bool, IsTrue, List, length, take, Some, slice_get}
 use Rattle.rule_parse.specs.declared.raw.RawRule.{RawRule}
 use Rattle.rule_reader.specs.FaultKinds.{HasNameOf}
 
--- the mark of a rule says whether one of the earlier ones has its name
+-- the flag of a rule says whether one of the earlier rules has its name
 abbrev pub MarksRule : Bool → List RawRule → RawRule → Type 0
 MarksRule is_repeated earlier raw = IsTrue is_repeated ↔ HasNameOf earlier raw.name
 

@@ -1,4 +1,4 @@
--- What the grammar and the limits say of a rule as written.
+-- What the parser ensures of a rule as written: the form that the grammar gives it, and the limits.
 use Rattle.std.specs.Prelude.{◌≡◌, ℕ, ◌<◌, ◌≤◌, List, length, map, Some, Contains, slice_get}
 use Rattle.ops.specs.Flags.{FlagsFit, CastFlagsFit}
 use Rattle.ops.specs.Truths.{TruthFits}
@@ -19,7 +19,7 @@ use Rattle.rule_parse.specs.Contents.{arguments_of, formula_of, terms_of, expres
 use Rattle.rule_reader.specs.Meaning.{Uses}
 use Rattle.rule_parse.specs.Weight.{raw_weight}
 
--- no statement stands on a line before that of an earlier one
+-- no statement stands on an earlier line than one before it
 abbrev pub AreInLineOrder : List RawStatement → Type 0
 AreInLineOrder statements = (j k : ℕ) (s t : RawStatement) → j < k → slice_get statements j ≡ Some s → slice_get statements k ≡ Some t → s.line ≤ t.line
 
@@ -35,7 +35,7 @@ FlagsFitOp (raw_ops.Unary op truth a) = TruthFits op truth
 FlagsFitOp (raw_ops.Convert cast flags a to) = CastFlagsFit cast flags
 FlagsFitOp op = Unit {0}
 
--- a half: 1 to 32 statements one behind the other, names of at most 200 bytes, and flags that fit
+-- a half: 1 to 32 statements in order of lines, names of at most 200 bytes, and flags that fit
 pub record IsHalf (statements : List RawStatement) : Type 0 where
   pub some : 0 < length statements
   pub few : length statements ≤ 32
@@ -56,14 +56,14 @@ MayStandInTerm (raw_nodes.Register name) = ⊥
 MayStandInTerm (raw_nodes.Choice k) = ⊥
 MayStandInTerm node = Unit {0}
 
--- node k of a formula has those of its operands that are nodes of it before it
+-- the operands of node k of `Pre:` that are nodes of it are earlier ones
 abbrev pub IsBehindFormulas : ℕ → RawFormula → Type 0
 IsBehindFormulas k (raw_formulas.Not a) = a < k
 IsBehindFormulas k (raw_formulas.And a b) = (a < k) × (b < k)
 IsBehindFormulas k (raw_formulas.Or a b) = (a < k) × (b < k)
 IsBehindFormulas k formula = Unit {0}
 
--- how a node of a formula stands to its others
+-- a node of `Pre:`, as far as it matters to where `hasOneUse` may stand
 abbrev pub raw_joint : RawFormula → Joint
 raw_joint (raw_formulas.HasOneUse name) = OneUse
 raw_joint (raw_formulas.Not a) = Turns a
@@ -75,7 +75,7 @@ pub record IsWellFormed (raw : RawRule) : Type 0 where
   pub short_name : length raw.name ≤ 200
   pub source : IsHalf raw.source
   pub target : IsHalf raw.target
-  -- `Name:` stands before `Pre:`, that before `Wit:`, that before the source, and the source before the target
+  -- the parts stand in the order of their lines: `Name:`, `Pre:`, `Wit:`, the source, the target
   pub name_first : (k : ℕ) (s : RawStatement) → slice_get raw.source k ≡ Some s → raw.line ≤ s.line
   pub precondition_first : (p : RawPrecondition) (k : ℕ) (s : RawStatement) → raw.precondition ≡ Some p → slice_get raw.source k ≡ Some s → p.line ≤ s.line
   pub precondition_before : (p : RawPrecondition) (w : RawWitness) → raw.precondition ≡ Some p → raw.witness ≡ Some w → p.line ≤ w.line
@@ -84,7 +84,7 @@ pub record IsWellFormed (raw : RawRule) : Type 0 where
   -- no copies and no terms stand in the source
   pub source_ops : (k : ℕ) (s : RawStatement) → slice_get raw.source k ≡ Some s → MayStandInSource s.op
   pub source_arguments : (k : ℕ) (s : RawStatement) (t : List RawNode) → slice_get raw.source k ≡ Some s → ¬ Contains (arguments_of s.op) (raw_arguments.Term t)
-  -- terms, formulas and the expressions of `Wit:` are in the order of their nodes
+  -- the nodes of all terms, of `Pre:` and of `Wit:` stand behind their operands
   pub terms : (t : List RawNode) → Contains (terms_of raw) t → IsTerm t
   pub constant_terms : (t : List RawNode) (node : RawNode) → Contains (terms_of raw) t → Contains t node → MayStandInTerm node
   pub expressions : (t : List RawNode) → Contains (expressions_of raw) t → IsTerm t

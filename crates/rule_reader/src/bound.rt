@@ -1,4 +1,4 @@
-//! Whether what a rule names is there to use.
+//! The check that all that a rule names may be used where it is.
 
 ghost use Rattle.std.specs.Prelude.{◌↔◌, IsTrue};
 ghost use Rattle.rule_reader.specs.Meaning.{AreNames, IsConstant};
@@ -14,7 +14,7 @@ use crate::registers::{is_among, is_assigned};
 use crate::resolve::found;
 use rule_parse::{RawArgument, RawFormula, RawNode, RawOp, RawRule, RawTerm};
 
-/// Whether the name is that of a constant.
+/// Whether the name is that of a constant of the source.
 fn is_constant(rule: &RawRule, names: &Names, name: &[u8]) -> bool
     requires { AreNames rule.now.source names.now }
     ensures { IsTrue result ↔ IsConstant rule.now.source name.now }
@@ -22,7 +22,7 @@ fn is_constant(rule: &RawRule, names: &Names, name: &[u8]) -> bool
     is_among(names.constants.as_slice(), name)
 }
 
-/// Whether what a node of a term names is there to use.
+/// Whether what a node of a term names may be used at the place.
 fn node_is_bound(rule: &RawRule, names: &Names, place: Place, node: &RawNode) -> bool
     requires rule { IsWellFormed rule.now }
     requires names { AreNames rule.now.source names.now }
@@ -39,7 +39,7 @@ fn node_is_bound(rule: &RawRule, names: &Names, place: Place, node: &RawNode) ->
     }
 }
 
-/// Whether what a term names is.
+/// Whether what a term names may be used at the place.
 fn term_is_bound(rule: &RawRule, names: &Names, place: Place, term: &[RawNode]) -> bool
     requires rule { IsWellFormed rule.now }
     requires names { AreNames rule.now.source names.now }
@@ -54,7 +54,7 @@ fn term_is_bound(rule: &RawRule, names: &Names, place: Place, term: &[RawNode]) 
     true
 }
 
-/// Whether what an operand names is.
+/// Whether what an operand names may be used at the place.
 fn argument_is_bound(rule: &RawRule, names: &Names, place: Place, read: &RawArgument) -> bool
     requires rule { IsWellFormed rule.now }
     requires names { AreNames rule.now.source names.now }
@@ -69,7 +69,7 @@ fn argument_is_bound(rule: &RawRule, names: &Names, place: Place, read: &RawArgu
     }
 }
 
-/// Whether what a statement reads is.
+/// Whether what a statement reads may be used at the place.
 fn op_is_bound(rule: &RawRule, names: &Names, place: Place, op: &RawOp) -> bool
     requires rule { IsWellFormed rule.now }
     requires names { AreNames rule.now.source names.now }
@@ -93,7 +93,7 @@ fn op_is_bound(rule: &RawRule, names: &Names, place: Place, op: &RawOp) -> bool
     }
 }
 
-/// The first line of a half on which something is not there.
+/// The first line of a half with a statement that names what may not be used there.
 fn unbound_statement(rule: &RawRule, names: &Names, half: Half) -> Option<usize>
     requires rule { IsWellFormed rule.now }
     requires names { AreNames rule.now.source names.now }
@@ -108,7 +108,7 @@ fn unbound_statement(rule: &RawRule, names: &Names, half: Half) -> Option<usize>
     None
 }
 
-/// Whether what a node of a formula names is there.
+/// Whether what a node of `Pre:` names may be used there.
 fn formula_node_is_bound(rule: &RawRule, names: &Names, node: &RawFormula) -> bool
     requires rule { IsWellFormed rule.now }
     requires names { AreNames rule.now.source names.now }
@@ -130,7 +130,7 @@ fn formula_node_is_bound(rule: &RawRule, names: &Names, node: &RawFormula) -> bo
     }
 }
 
-/// Whether what a formula names is.
+/// Whether what the nodes of `Pre:` name may be used there.
 fn formula_is_bound(rule: &RawRule, names: &Names, formula: &[RawFormula]) -> bool
     requires rule { IsWellFormed rule.now }
     requires names { AreNames rule.now.source names.now }
@@ -144,7 +144,7 @@ fn formula_is_bound(rule: &RawRule, names: &Names, formula: &[RawFormula]) -> bo
     true
 }
 
-/// Whether what expressions of `Wit:` name is.
+/// Whether what expressions of `Wit:` name may be used there.
 fn expressions_are_bound(rule: &RawRule, names: &Names, expressions: &[RawTerm]) -> bool
     requires rule { IsWellFormed rule.now }
     requires names { AreNames rule.now.source names.now }
@@ -158,7 +158,7 @@ fn expressions_are_bound(rule: &RawRule, names: &Names, expressions: &[RawTerm])
     true
 }
 
-/// The line of `Pre:`, where that names what is not there.
+/// The line of `Pre:`, where that names what may not be used there.
 fn unbound_precondition(rule: &RawRule, names: &Names) -> Option<usize>
     requires rule { IsWellFormed rule.now }
     requires names { AreNames rule.now.source names.now }
@@ -172,7 +172,7 @@ fn unbound_precondition(rule: &RawRule, names: &Names) -> Option<usize>
     }
 }
 
-/// The line of `Wit:`, where that does.
+/// The line of `Wit:`, where that names what may not be used there.
 fn unbound_witness(rule: &RawRule, names: &Names) -> Option<usize>
     requires rule { IsWellFormed rule.now }
     requires names { AreNames rule.now.source names.now }
@@ -186,8 +186,8 @@ fn unbound_witness(rule: &RawRule, names: &Names) -> Option<usize>
     }
 }
 
-/// The first line on which something is not there, where `Pre:` and `Wit:` stand before the source and that before the
-/// target.
+/// The first line on which something is named that may not be used there: `Pre:` is tested before `Wit:`, that before
+/// the source, and the source before the target, which is the order of their lines.
 pub(crate) fn unbound(rule: &RawRule, names: &Names) -> Option<usize>
     requires rule { IsWellFormed rule.now }
     requires names { AreNames rule.now.source names.now }

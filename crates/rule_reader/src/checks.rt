@@ -1,4 +1,4 @@
-//! The checks of a rule's assignments. Each answers the first line at which it fails.
+//! The checks of what a rule assigns. Each answers the first line at which it fails.
 
 ghost use Rattle.std.specs.Prelude.{◌≡◌, ◌⊎◌, ◌↔◌, ◌<◌, List, Some, length, slice_get, IsTrue};
 ghost use Rattle.rule_parse.specs.declared.raw.RawRule.{RawRule as written_rule};
@@ -12,7 +12,7 @@ use crate::registers::{is_among, is_assigned, is_root, uses};
 use lists::Text;
 use rule_parse::{RawRule, RawStatement};
 
-/// The first statement that assigns what an earlier one does.
+/// The first line on which a statement assigns what an earlier one does.
 fn assigned_again(statements: &[RawStatement]) -> Option<usize>
     requires { AreInLineOrder statements.now }
     ensures { IsFirst (StandsAt statements.now (AssignsAgain statements.now)) result }
@@ -25,7 +25,7 @@ fn assigned_again(statements: &[RawStatement]) -> Option<usize>
     None
 }
 
-/// The first line at which the rule repeats a name, its own or one that a half has assigned.
+/// The first line of the rule on which a name is repeated: its own, or that of a register that a half has assigned.
 pub(crate) fn duplicate(rule: &RawRule, is_repeated: bool) -> Option<usize>
     requires { IsWellFormed rule.now }
     ensures { (earlier : List written_rule) → (IsTrue is_repeated ↔ HasNameOf earlier rule.now.name) →

@@ -1,4 +1,4 @@
-//! How many choices and nodes of terms stand in a part of a half.
+//! Counts of the choices and of the nodes of terms before a place in a half, from which they get their numbers.
 
 ghost use Rattle.std.specs.Prelude.{◌≡◌};
 ghost use Rattle.rule_reader.specs.Meaning.{past, past_all, counted_of, in_half};
@@ -8,7 +8,7 @@ ghost use Rattle.rule_reader.specs.WellFormed.{IsWellFormed};
 use crate::place::Half;
 use rule_parse::{RawArgument, RawOp, RawRule, RawStatement};
 
-/// How many choices, which are `undef`s and freezes, and nodes of terms stand in a part of a half.
+/// How many choices (`undef`s and freezes) and nodes of terms come before a place in a half.
 #[derive(Clone, Copy, PartialEq, Eq)]
 pub(crate) struct Counts {
     pub(crate) choices: u32,
@@ -16,13 +16,13 @@ pub(crate) struct Counts {
 }
 
 impl Counts {
-    /// Before a half there are none.
+    /// At the beginning of a half nothing is counted.
     pub(crate) const NONE: Counts = Counts {
         choices: 0,
         nodes: 0,
     };
 
-    /// How many there are behind an argument, where so many stand before it.
+    /// The counts behind an operand, from those before it.
     pub(crate) fn past(self, argument: &RawArgument) -> Counts
         requires { AreFew (past self argument.now) }
         ensures { result ≡ past self argument.now }
@@ -43,7 +43,7 @@ impl Counts {
         }
     }
 
-    /// How many there are behind a statement.
+    /// The counts behind a statement, from those before it.
     pub(crate) fn past_op(self, op: &RawOp) -> Counts
         requires { AreFew (past_all self (counted_of op.now)) }
         ensures { result ≡ past_all self (counted_of op.now) }
@@ -63,7 +63,7 @@ impl Counts {
     }
 }
 
-/// How many there are in a half.
+/// The counts of a whole half.
 fn in_half(statements: &[RawStatement]) -> Counts
     requires { AreFew (in_half statements.now) }
     ensures { result ≡ in_half statements.now }

@@ -1,4 +1,4 @@
-//! Faults of classes as faults of a text.
+//! Faults of classes, by the kinds of faults of texts.
 
 ghost use Rattle.std.specs.Prelude.{◌≡◌};
 ghost use Rattle.rule_reader.specs.Faults.{kind_of, class_check};
@@ -6,7 +6,7 @@ ghost use Rattle.rule_reader.specs.Faults.{kind_of, class_check};
 use rule_parse::RuleFaultKind;
 use rule_typing::ClassFault;
 
-/// What is wrong where classes have the fault.
+/// The kind of a fault of classes.
 pub(crate) fn kind_of_class_fault(fault: ClassFault) -> RuleFaultKind
     ensures { result ≡ kind_of (class_check fault) }
 {

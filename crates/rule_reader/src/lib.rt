@@ -1,9 +1,9 @@
 //! Rule files, read exactly: the rules of a text, or its first fault with kind and line.
 //!
-//! A text is read in two steps: bytes to rules as written (`rule_parse`), and those to rules whose names are known by
-//! place: each check of a rule in its turn (`checks`, `bound`, `undefs`), and then what it means (`resolve`, `terms`,
-//! `precondition`, `witness`). What the second step means stands in `specs/`: `Meaning` says which rule is meant,
-//! `FaultKinds` where a rule has which fault, and `Faults` which fault is the first.
+//! A text is read in two steps: `rule_parse` makes rules as written of its bytes, and here their names are resolved.
+//! Each rule passes its checks in turn (`checks`, `bound`, `undefs`), and then registers, constants, choices and terms
+//! are known by place (`resolve`, `terms`, `precondition`, `witness`). The definitions stand in `specs/`: `Meaning`
+//! says which rule is meant, `FaultKinds` where a rule has which fault, and `Faults` which fault is the first.
 #![tactic(auto)]
 
 mod bound;

@@ -33,7 +33,7 @@ pub(crate) fn names_of(alloc: Global, source: &[RawStatement]) -> Result<Names, 
     Ok(names)
 }
 
-/// Adds the names that a statement of the source gives, where they are new.
+/// Appends the names that a statement of the source gives, where they are new.
 fn add_names(
     alloc: Global,
     names: &mut Names,
@@ -62,7 +62,7 @@ fn add_names(
     Ok(())
 }
 
-/// Adds the name that an operand of the source gives, where that is new.
+/// Appends the name that an operand of the source gives, where it is new.
 fn add_name(
     alloc: Global,
     names: &mut Names,
@@ -80,7 +80,7 @@ fn add_name(
     }
 }
 
-/// Adds a name, where it is new.
+/// Appends a name, where it is new.
 fn add_new(alloc: Global, names: &mut List<Text>, name: &[u8]) -> Result<(), AllocError>
     ensures { OnOk result (AddsNew names.old name.now names.new) }
 {

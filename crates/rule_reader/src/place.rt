@@ -12,7 +12,7 @@ pub(crate) enum Half {
     Target,
 }
 
-/// Where a name is used: which names are there to use depends on it.
+/// Where a name is used, which decides what it may be.
 #[derive(Clone, Copy, PartialEq, Eq)]
 pub(crate) enum Place {
     /// In a statement of the source, by its place.
@@ -24,7 +24,7 @@ pub(crate) enum Place {
 }
 
 impl Half {
-    /// The place of a statement of the half.
+    /// A use in this statement of the half.
     pub(crate) fn place(self, statement: usize) -> Place
         ensures { result ≡ place_in self statement }
     {

@@ -1,4 +1,4 @@
-//! Preconditions whose names are known by place, from formulas as written.
+//! Resolves the formula of `Pre:`.
 
 ghost use Rattle.std.specs.Prelude.{◌≡◌, ◌+◌, ◌≤◌, ◌∷◌, [], suc, length, IfOk, OnOk};
 ghost use Rattle.rule_parse.specs.Contents.{formula_of, target_terms, terms_of, terms_of_formula};
@@ -16,7 +16,7 @@ use rule_core::{Formula, Term};
 use rule_parse::{RawFormula, RawNode, RawRule};
 use std::alloc::{AllocError, Global};
 
-/// Adds the nodes of a term of the formula behind those of others. The answer is the last one's place.
+/// Appends the nodes of a term to those of others. The answer is the place of its last node.
 fn place_of_term(
     alloc: Global,
     terms: &mut List<Term>,
@@ -36,7 +36,7 @@ fn place_of_term(
     Ok(terms.len() as u32 - 1)
 }
 
-/// The source statement that assigns a temporary.
+/// The source statement that assigns the temporary of this name.
 fn temporary(rule: &RawRule, name: &[u8]) -> u32
     requires rule { IsWellFormed rule.now }
     requires bound { IsTemporary rule.now.source name.now }
@@ -49,7 +49,7 @@ fn temporary(rule: &RawRule, name: &[u8]) -> u32
     }
 }
 
-/// A node of the formula, whose terms are added behind those of others.
+/// Resolves a node of the formula, and appends the nodes of its terms to those of others.
 fn node(
     alloc: Global,
     terms: &mut List<Term>,
@@ -92,7 +92,7 @@ fn node(
     })
 }
 
-/// The nodes of a formula, whose terms are added behind those of the target.
+/// Resolves the nodes of a formula, and appends the nodes of their terms to those of the target.
 fn formula(
     alloc: Global,
     terms: &mut List<Term>,
@@ -115,7 +115,7 @@ fn formula(
     Ok(formula)
 }
 
-/// The nodes of `Pre:`, if that is written.
+/// The nodes of `Pre:`, or none where a rule has no `Pre:`.
 pub(crate) fn precondition(
     alloc: Global,
     terms: &mut List<Term>,

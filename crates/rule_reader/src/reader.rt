@@ -57,7 +57,7 @@ pub fn read_rules(alloc: Global, bytes: &[u8]) -> Result<Vec<Rule>, RuleError>
     Ok(rules)
 }
 
-/// The rule that is meant, or its first fault.
+/// The rule that a rule as written means, or the first fault of that; `is_repeated` where an earlier rule has its name.
 fn checked(alloc: Global, raw: &RawRule, is_repeated: bool) -> Result<Rule, RuleError>
     requires { IsWellFormed raw.now }
     ensures ok { IfOk result (λ rule. (earlier : Seq written_rule) → MarksRule is_repeated earlier raw.now → IsRuleOf earlier raw.now rule) }
@@ -72,7 +72,7 @@ fn checked(alloc: Global, raw: &RawRule, is_repeated: bool) -> Result<Rule, Rule
     Ok(classified(rule, raw.line)?)
 }
 
-/// That a rule passes the checks behind that of repeated names and before those of classes, or its first fault.
+/// Makes the checks between that of repeated names and those of classes; the answer is the first fault.
 fn check_uses(raw: &RawRule, names: &Names) -> Result<(), RuleFault>
     requires rule { IsWellFormed raw.now }
     requires names { AreNames raw.now.source names.now }
@@ -106,7 +106,7 @@ fn check_uses(raw: &RawRule, names: &Names) -> Result<(), RuleFault>
     Ok(())
 }
 
-/// The rule with its classes, or the fault of these.
+/// The rule with its classes written, or the fault of its classes.
 fn classified(mut rule: Rule, line: usize) -> Result<Rule, RuleFault>
     requires { IsRule rule }
     ensures ok { IfOk result (IsClassifiedAs rule) }

@@ -1,4 +1,4 @@
-//! Registers among statements as written, looked for one by one: a half has at most 32 statements.
+//! Registers among statements as written. Linear search is enough: a half has at most 32 statements.
 
 ghost use Rattle.std.specs.Prelude.{◌≡◌, ◌↔◌, ◌<◌, ◌≤◌, ℕ, Contains, IfSome, IfNone, IsTrue, Some, length, slice_get};
 ghost use Rattle.rule_parse.specs.declared.raw.RawArgument.TheVariants.{Register as register};
@@ -7,7 +7,7 @@ ghost use Rattle.rule_reader.specs.Meaning.{Uses, AssignsAt, IsRoot};
 use lists::Text;
 use rule_parse::{RawArgument, RawOp, RawOperand, RawStatement};
 
-/// The first of the statements before a place that assigns the register.
+/// The first statement before the place that assigns the register.
 pub(crate) fn assigning(statements: &[RawStatement], place: usize, name: &[u8]) -> Option<usize>
     requires { place ≤ length statements.now }
     ensures before { IfSome result (λ k. k < place) }
@@ -38,7 +38,7 @@ pub(crate) fn is_root(source: &[RawStatement], name: &[u8]) -> bool
     source[source.len() - 1].name.as_slice() == name
 }
 
-/// The place of a name.
+/// The place of a name among these.
 pub(crate) fn place_of(names: &[Text], name: &[u8]) -> Option<usize>
     ensures some { IfSome result (λ k. slice_get names.now k ≡ Some name.now) }
     ensures none { IfNone result (¬ Contains names.now name.now) }

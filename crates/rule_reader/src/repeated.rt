@@ -7,7 +7,7 @@ use indexmap::IndexMap;
 use rule_parse::RawRule;
 use std::alloc::{AllocError, Global};
 
-/// For each rule, whether an earlier one has its name.
+/// For each rule, whether an earlier one has its name, by a map of the names so far.
 pub(crate) fn repeated_names(alloc: Global, rules: &[RawRule]) -> Result<Vec<bool>, AllocError>
     ensures { IfOk result (λ repeated. MarksRepeated rules.now repeated.items) }
 {

@@ -1,4 +1,4 @@
-//! Statements whose names are known by place, from statements as written, whose names are all there to use.
+//! Resolves the names of statements, which may all be used where they are.
 
 ghost use Rattle.std.specs.Prelude.{◌≡◌, ◌≤◌, ℕ, [], ◌∷◌, length, Contains, Some, slice_get, IfOk, MatchOption};
 ghost use Rattle.rule_parse.specs.Contents.{arguments_of, formula_of, terms_of, expressions_of};
@@ -19,7 +19,7 @@ use rule_core::{Argument, Formula, Op, Operand, Register, Rule, Statement, Term}
 use rule_parse::{RawArgument, RawOp, RawOperand, RawRule, RawStatement};
 use std::alloc::{AllocError, Global};
 
-/// The input of a name.
+/// The input of this name.
 fn input(names: &Names, name: &[u8]) -> Option<Register>
     requires { length names.now.inputs ≤ 96 }
     ensures { MatchOption result
@@ -29,7 +29,7 @@ fn input(names: &Names, name: &[u8]) -> Option<Register>
     Some(Register::Input(place_of(names.inputs.as_slice(), name)? as u32))
 }
 
-/// What statement `place` of the source may use by a name: what an earlier statement assigns, or an input.
+/// The register that a name is in source statement `place`: what an earlier statement assigns, or an input.
 fn in_source(rule: &RawRule, names: &Names, place: usize, name: &[u8]) -> Option<Register>
     requires rule { IsWellFormed rule.now }
     requires names { AreNames rule.now.source names.now }
@@ -42,7 +42,7 @@ fn in_source(rule: &RawRule, names: &Names, place: usize, name: &[u8]) -> Option
     }
 }
 
-/// What `Pre:` and `Wit:` may use by a name: a temporary of the source, or an input.
+/// The register that a name is in `Pre:` and `Wit:`: a temporary of the source, or an input.
 fn before_root(rule: &RawRule, names: &Names, name: &[u8]) -> Option<Register>
     requires rule { IsWellFormed rule.now }
     requires names { AreNames rule.now.source names.now }
@@ -55,8 +55,8 @@ fn before_root(rule: &RawRule, names: &Names, name: &[u8]) -> Option<Register>
     }
 }
 
-/// What statement `place` of the target may use by a name: what an earlier one of its statements assigns, a temporary
-/// of the source, or an input, but not the root.
+/// The register that a name is in target statement `place`: what an earlier target statement assigns, a temporary of
+/// the source, or an input; never the root.
 fn in_target(rule: &RawRule, names: &Names, place: usize, name: &[u8]) -> Option<Register>
     requires rule { IsWellFormed rule.now }
     requires names { AreNames rule.now.source names.now }
@@ -72,7 +72,7 @@ fn in_target(rule: &RawRule, names: &Names, place: usize, name: &[u8]) -> Option
     }
 }
 
-/// The register of a name that is used at a place, if it may be used there.
+/// The register that a name is at the place, if one may be used there.
 pub(crate) fn found(rule: &RawRule, names: &Names, place: Place, name: &[u8]) -> Option<Register>
     requires rule { IsWellFormed rule.now }
     requires names { AreNames rule.now.source names.now }
@@ -86,7 +86,7 @@ pub(crate) fn found(rule: &RawRule, names: &Names, place: Place, name: &[u8]) ->
     }
 }
 
-/// The register of a name that may be used at a place.
+/// The register that a name is at the place, where one may be used.
 pub(crate) fn register(rule: &RawRule, names: &Names, place: Place, name: &[u8]) -> Register
     requires rule { IsWellFormed rule.now }
     requires names { AreNames rule.now.source names.now }
@@ -100,7 +100,7 @@ pub(crate) fn register(rule: &RawRule, names: &Names, place: Place, name: &[u8])
     }
 }
 
-/// The place of a constant.
+/// The place of a constant among the source's.
 pub(crate) fn constant(rule: &RawRule, names: &Names, name: &[u8]) -> u32
     requires rule { IsWellFormed rule.now }
     requires names { AreNames rule.now.source names.now }
@@ -113,7 +113,7 @@ pub(crate) fn constant(rule: &RawRule, names: &Names, name: &[u8]) -> u32
     }
 }
 
-/// What an operand reads, where so much stands before it.
+/// Resolves an operand, with these counts before it.
 fn argument(
     rule: &RawRule,
     names: &Names,
@@ -141,7 +141,7 @@ fn argument(
     }
 }
 
-/// The same with the type that is written before it.
+/// The same with the type before the operand.
 fn operand(
     rule: &RawRule,
     names: &Names,
@@ -162,7 +162,7 @@ fn operand(
     }
 }
 
-/// What a statement computes, where so much stands before it.
+/// Resolves what a statement computes, with these counts before it.
 fn op(rule: &RawRule, names: &Names, place: Place, before: Counts, written: &RawOp) -> Op
     requires rule { IsWellFormed rule.now }
     requires names { AreNames rule.now.source names.now }
@@ -210,7 +210,7 @@ fn op(rule: &RawRule, names: &Names, place: Place, before: Counts, written: &Raw
     }
 }
 
-/// A statement that computes this.
+/// The statement with this operation.
 fn statement(alloc: Global, written: &RawStatement, op: Op) -> Result<Statement, AllocError>
     ensures name { IfOk result (λ s. s.name ≡ written.now.name) }
     ensures op { IfOk result (λ s. s.op ≡ op) }
@@ -222,7 +222,7 @@ fn statement(alloc: Global, written: &RawStatement, op: Op) -> Result<Statement,
     })
 }
 
-/// The statements of a half.
+/// Resolves the statements of a half.
 fn statements(
     alloc: Global,
     rule: &RawRule,
@@ -245,7 +245,7 @@ fn statements(
     Ok(statements)
 }
 
-/// The statements of both halves.
+/// Resolves the statements of both halves.
 fn halves(
     alloc: Global,
     rule: &RawRule,
@@ -262,7 +262,7 @@ fn halves(
     Ok((source, target))
 }
 
-/// The nodes of the terms of the target and of `Pre:`, those of the formula of `Pre:`, and what `Wit:` says.
+/// The nodes of the constant terms (of the target and of `Pre:`), those of the formula of `Pre:`, and what `Wit:` says.
 fn heading(
     alloc: Global,
     rule: &RawRule,

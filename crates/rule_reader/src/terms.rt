@@ -1,4 +1,4 @@
-//! Terms whose names are known by place, from terms as written, whose names are all there to use.
+//! Resolves terms, whose names may all be used where they are.
 
 ghost use Rattle.std.specs.Prelude.{◌≡◌, ◌+◌, ◌≤◌, ◌∷◌, [], length, flat_map, sum_by, IfOk, OnOk};
 ghost use Rattle.rule_parse.specs.Contents.{arguments_of, terms_of_argument, target_terms};
@@ -15,7 +15,7 @@ use rule_core::{Node, Term};
 use rule_parse::{RawArgument, RawNode, RawOp, RawRule};
 use std::alloc::{AllocError, Global};
 
-/// A node of a term before which so many nodes stand.
+/// Resolves a node of a term, before which there are `before` nodes of other terms.
 fn node(rule: &RawRule, names: &Names, place: Place, before: u32, written: &RawNode) -> Node
     requires rule { IsWellFormed rule.now }
     requires names { AreNames rule.now.source names.now }
@@ -37,7 +37,7 @@ fn node(rule: &RawRule, names: &Names, place: Place, before: u32, written: &RawN
     }
 }
 
-/// Adds the nodes of a term behind those of others.
+/// Appends the nodes of a term to those of others.
 pub(crate) fn add_term(
     alloc: Global,
     terms: &mut List<Term>,
@@ -64,7 +64,7 @@ pub(crate) fn add_term(
     Ok(())
 }
 
-/// Adds the nodes of the term that an operand is, if it is one.
+/// Appends the nodes of the term that an operand is, if it is one.
 fn add_argument(
     alloc: Global,
     terms: &mut List<Term>,
@@ -87,7 +87,7 @@ fn add_argument(
     }
 }
 
-/// Adds the nodes of the terms that a statement reads.
+/// Appends the nodes of the terms that a statement reads.
 fn add_op(
     alloc: Global,
     terms: &mut List<Term>,

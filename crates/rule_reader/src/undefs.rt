@@ -57,7 +57,7 @@ fn reads_undef_alone(op: &RawOp) -> bool
     }
 }
 
-/// Whether a statement leaves something open and is not the last one, or freezes an `undef`.
+/// Whether a statement makes a choice and is not the last one, or freezes an `undef`.
 fn is_inside(source: &[RawStatement], place: usize) -> bool
     requires { place < length source.now }
     ensures { (s : written_statement) → slice_get source.now place ≡ Some s → (IsTrue result ↔ HasUndefInside source.now place s) }
@@ -66,7 +66,7 @@ fn is_inside(source: &[RawStatement], place: usize) -> bool
     (place + 1 < source.len() && leaves_open(op)) || reads_undef_alone(op)
 }
 
-/// The first line of the source at which a statement other than the last leaves something open, or one freezes an
+/// The first line of the source with a statement other than the last that makes a choice, or one that freezes an
 /// `undef`.
 fn undef_in_source(source: &[RawStatement]) -> Option<usize>
     requires { AreInLineOrder source.now }
@@ -93,8 +93,8 @@ fn undef_alone(target: &[RawStatement]) -> Option<usize>
     None
 }
 
-/// The first line at which the source leaves something open outside the root, or an `undef` is frozen, or in the target
-/// copied.
+/// The first line on which the source makes a choice outside the root's statement, or an `undef` is frozen, or, in the
+/// target, copied.
 pub(crate) fn undef_inside(rule: &RawRule) -> Option<usize>
     requires { IsWellFormed rule.now }
     ensures { IsFirst (UndefInsideAt rule.now) result }
@@ -105,8 +105,8 @@ pub(crate) fn undef_inside(rule: &RawRule) -> Option<usize>
     }
 }
 
-/// How many expressions `Wit:` has, and the line that a wrong number is told at: where there is no `Wit:`, that of the
-/// name.
+/// How many expressions `Wit:` has, and the line at which a wrong number is told: that of `Wit:`, or of the rule's name
+/// where there is none.
 fn witness_size(rule: &RawRule) -> (usize, usize)
     ensures count { result.0 ≡ length (expressions_of rule.now) }
     ensures line { result.1 ≡ witness_line rule.now }
@@ -117,7 +117,7 @@ fn witness_size(rule: &RawRule) -> (usize, usize)
     }
 }
 
-/// The line of `Wit:`, or of the name, where the expressions are not as many as the source's choices.
+/// That line, where the expressions are not as many as the source's choices.
 pub(crate) fn witness_count(rule: &RawRule) -> Option<usize>
     requires { IsWellFormed rule.now }
     ensures { IsFirst (WitnessCountAt rule.now) result }

@@ -1,4 +1,4 @@
-//! What the choices of the source are by place, from the expressions of `Wit:` as written.
+//! Resolves the expressions of `Wit:`.
 
 ghost use Rattle.std.specs.Prelude.{◌≡◌, IfOk};
 ghost use Rattle.rule_parse.specs.Contents.{expressions_of};
@@ -14,16 +14,16 @@ use rule_core::Term;
 use rule_parse::{RawRule, RawTerm};
 use std::alloc::{AllocError, Global};
 
-/// What the expressions of `Wit:` are.
+/// The expressions of `Wit:`, one for each choice of the source.
 #[derive(Drop)]
 pub(crate) struct Choices {
     /// Their nodes, one expression behind the other.
     pub(crate) terms: List<Term>,
-    /// The last node of each.
+    /// The place of the last node of each.
     pub(crate) places: List<u32>,
 }
 
-/// The expressions.
+/// Resolves the expressions.
 fn expressions(
     alloc: Global,
     rule: &RawRule,

@@ -1,4 +1,4 @@
--- Parts that a mark joins: one step of reading more.
+-- Chains of parts joined by a mark: one part more.
 use Rattle.std.proofs.Common.{◌≡◌, ℕ, zero, suc, ◌<◌, ◌≤◌, Bool, true, false, cond, List, [], ◌∷◌, length, drop, Result, Ok, Err, refl, sym, ap, subst, ◌∙◌, arith}
 use Rattle.rule_tokens.specs.RuleFaults.{RuleFault, RuleError}
 use Rattle.refusal.specs.declared.refusal.Refusal.TheVariants.{Refused, NoMemory}
@@ -13,7 +13,7 @@ pub next_is-is : (mark : List ℕ) (tokens : List Token) → next_is mark tokens
 next_is-is mark (Mark found ∷ tokens) e = mark_is mark found tokens e
 next_is-is mark tokens e = absurd cc
 
--- a part leaves no more tokens than there were
+-- the parser leaves no more tokens than there were
 abbrev pub Shortens : {A : Type 0} → Reader A → Type 0
 Shortens {A} part = (before : A) (tokens : List Token) (x : A × List Token) → part before tokens ≡ Ok x → length x.1 ≤ length tokens
 
@@ -25,7 +25,7 @@ cond_same : {A : Type 0} (b : Bool) (x y z : A) → x ≡ y → cond b x z ≡ c
 cond_same true x y z e = e
 cond_same false x y z e = refl
 
--- more than as many as there are tokens are not needed
+-- a bound of as many parts as there are tokens makes no difference
 chain_enough : {A : Type 0} (part : Reader A) → Shortens part → (mark : List ℕ) (n m : ℕ) (before : A) (tokens : List Token) → length tokens ≤ n → length tokens ≤ m → chain_of n mark part before tokens ≡ chain_of m mark part before tokens
 unfolding chain_of
 chain_enough part short mark zero zero before tokens p q = refl
@@ -40,7 +40,7 @@ chain_enough part short mark (suc n) (suc m) before (token ∷ tokens) p q =
     let fewer : length x.1 ≤ length tokens = short before tokens x e in
     chain_enough part short mark n m x.0 x.1 (omega arith) (omega arith)))
 
--- with the part behind the mark, the chain goes on
+-- one part behind the mark, and the rest of the chain
 pub chain-more : {A : Type 0} (part : Reader A) → Shortens part → (mark : List ℕ) (before : A) (tokens : List Token) (x : A × List Token) → next_is mark tokens ≡ true → part before (drop 1 tokens) ≡ Ok x → chain_at mark part before tokens ≡ chain_at mark part x.0 x.1
 unfolding chain_of
 chain-more part short mark before [] x next e = absurd cc
@@ -60,7 +60,7 @@ unfolding chain_of
 chain-done part mark before [] none = refl
 chain-done part mark before (token ∷ tokens) none = rw none refl
 
--- ---- loops that go behind the mark as long as it is next
+-- ---- loops that take the mark as long as it is next
 
 taken_drops : (tokens behind : List Token) (taken : Bool) → taken ≡ true → behind ≡ cond taken (drop 1 tokens) tokens → behind ≡ drop 1 tokens
 taken_drops tokens behind true t goes = goes

@@ -1,4 +1,4 @@
--- Loops that read operators of one level.
+-- The loops that read operators of one level.
 use Rattle.std.proofs.Common.{◌≡◌, ℕ, zero, suc, ◌<◌, List, length, Option, Some, None, Result, Ok, Err, refl, sym, ap, ◌∙◌, arith}
 use Rattle.ops.specs.declared.opcode.Opcode.{Opcode}
 use Rattle.rule_tokens.specs.RuleFaults.{RuleFault, RuleError}
@@ -15,7 +15,7 @@ use Rattle.rule_terms.proofs.Meanings.{operator_at-is}
 use Rattle.rule_tokens.specs.Limits.{Limits}
 
 module _ (limits : Limits) where
-  -- fewer tokens are left behind what is read
+  -- the parser leaves fewer tokens than there were
   abbrev pub Shortens : Reader → Type 0
   Shortens read = (before : List RawNode) (tokens : List Token) (x : List RawNode × List Token) → read before tokens ≡ Ok x → length x.1 < length tokens
 
@@ -32,7 +32,7 @@ module _ (limits : Limits) where
       let fewer : length both.1 < length next.1 = short left next.1 both e in
       same (join next.0 left both.0) both.1 (omega (arith, ap length n.whole)))
 
-  -- more than as many as there are tokens are not needed
+  -- a bound above the number of tokens makes no difference
   chain_enough : (operand : Reader) (level n m : ℕ) (left : List RawNode) (tokens : List Token) → Shortens operand → length tokens < n → length tokens < m → chain_at operand level n left tokens ≡ chain_at operand level m left tokens
   unfolding chain_at
   chain_enough operand level zero m left tokens short p q = absurd (omega arith)
@@ -59,7 +59,7 @@ module _ (limits : Limits) where
   unfolding chain_at
   chain-done operand level left tokens none = rw none refl
 
-  -- ---- one level more, and one nested more
+  -- ---- one level of operators more, and one level of nesting more
 
   pub behind_at-tightest : (primary : Reader) (level : ℕ) (left : List RawNode) (tokens : List Token) → level ≡ 0 → behind_at primary level left tokens ≡ Ok (left, tokens)
   unfolding behind_at
@@ -87,7 +87,7 @@ module _ (limits : Limits) where
   unfolding primary_at
   primary-begun place line nesting before tokens left start rest more e = rw (more, e) refl
 
-  -- what is given where nothing more may be nested
+  -- what an operand gives where no level of nesting is left
   pub primary-shallow : {X : Type 0} (place : TermPlace) (line nesting : ℕ) (before after : List RawNode) (tokens : List Token) (start : Start) (rest : List Token) (r : Result X RuleError) → nesting ≡ 0 → start_at limits place line tokens ≡ Ok (start, rest) → Gives (λ _. after) r (shallow_in line before start)
       → Gives (λ _. (after, rest)) r (primary_at limits place line nesting before tokens)
   unfolding primary_at

@@ -1,4 +1,4 @@
--- No operator is next behind a term that is read.
+-- No binary operator is next behind a term that was read.
 use Rattle.std.proofs.Common.{◌≡◌, ℕ, zero, suc, ◌<◌, List, ◌∷◌, length, Option, Some, None, Ok, refl, sym, ap, subst, ⊎_elim, ◌⊎◌, arith}
 use Rattle.std.proofs.lemmas.Bool.{eq-eqb, ne_eqb}
 use Rattle.ops.specs.declared.opcode.Opcode.{Opcode}
@@ -30,7 +30,7 @@ module _ (limits : Limits) where
       below_or_same : (a b : ℕ) → a < suc b → (a < b) ⊎ (a ≡ b)
       below_or_same a b lt = grind arith
 
-  -- no operator has the level 0
+  -- no operator has level 0
   none_at_0 : (rest : List Token) → operator_at 0 rest ≡ None
   unfolding operator_at
   none_at_0 (Mark mark ∷ rest) = none (operator_in mark) refl
@@ -40,7 +40,7 @@ module _ (limits : Limits) where
       none (Some op) f = rw (ne_eqb (level_of op) 0 (λ e. omega (arith, e, (operator_level mark op f).0))) refl
   none_at_0 rest = refl
 
-  -- what holds behind each operand holds behind the chain, and no operator of its level is next there
+  -- what holds behind each operand holds behind the chain; and no operator of its level is next there
   further : (operand others : Reader) (level : ℕ) (left : List RawNode) (tokens : List Token) (x : List RawNode × List Token) → ((before : List RawNode) (ts : List Token) (y : List RawNode × List Token) → operand before ts ≡ Ok y → NoneBelow level y.1) → Shortens limits operand → NoneBelow level tokens
       → (found : Option (Opcode × List Token)) → operator_at level tokens ≡ found → joined_or_end operand others left tokens found ≡ Ok x → ((ls : List RawNode) (ts : List Token) → length ts < length tokens → NoneBelow level ts → others ls ts ≡ Ok x → NoneBelow (suc level) x.1) → NoneBelow (suc level) x.1
   further operand others level left tokens x ends short below None f e more = read_as (λ (y : List RawNode × List Token). NoneBelow (suc level) y.1) (left, tokens) x e (none_more level tokens below f)

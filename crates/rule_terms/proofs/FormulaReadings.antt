@@ -1,4 +1,4 @@
--- What is read of a formula is spelled so, by tokens in front of those that are left.
+-- What the parser reads as a formula is what the grammar spells with the tokens that it takes.
 use Rattle.std.proofs.Common.{◌≡◌, ℕ, zero, suc, ◌+◌, ◌≤◌, Bool, true, false, List, [], ◌∷◌, ◌++◌, length, drop, Option, Some, None, Ok, refl, sym, ap, subst, ◌∙◌, ⊎_elim, append_assoc, length-append, arith}
 use Rattle.std.specs.Prelude.{codes, ◌&&◌, ◌||◌, if◌then◌else◌}
 use Rattle.std.specs.List.{list_any}
@@ -35,7 +35,7 @@ use Rattle.rule_terms.proofs.Starts.{mark_at-is}
 use Rattle.rule_tokens.specs.Limits.{Limits}
 
 module _ (limits : Limits) where
-  -- nodes behind those before, spelled by tokens in front of those that are left
+  -- nodes are appended, and the tokens that were taken spell them
   pub record Adds (standing : Standing) (level : Level) (nesting : ℕ) (before : List RawFormula) (tokens : List Token) (x : List RawFormula × List Token) : Type 0 where
     pub nodes : List RawFormula
     pub own : List Token
@@ -43,7 +43,7 @@ module _ (limits : Limits) where
     pub made : x.0 ≡ before ++ nodes
     pub whole : tokens ≡ own ++ x.1
 
-  -- what such a reader reads is spelled so
+  -- all that the parser reads is spelled so
   abbrev pub Reads : Standing → Level → ℕ → Reader (List RawFormula) → Type 0
   Reads standing level nesting read = (before : List RawFormula) (tokens : List Token) (x : List RawFormula × List Token) → read before tokens ≡ Ok x → Adds standing level nesting before tokens x
 
@@ -85,7 +85,7 @@ module _ (limits : Limits) where
   deeper-is line zero inside e = absurd cc
   deeper-is line (suc n) inside e = read_as (λ (k : ℕ). suc n ≡ suc k) n inside e refl
 
-  -- tokens of a part, and `)` behind it
+  -- a part behind which `)` is taken
   closed : (own rest : List Token) (behind : List Token) → behind ≡ Mark (codes ")") ∷ rest → own ++ behind ≡ (own ++ Mark (codes ")") ∷ []) ++ rest
   closed own rest behind is = ap (λ (ts : List Token). own ++ ts) is ∙ sym (append_assoc own (Mark (codes ")") ∷ []) rest)
 
@@ -132,7 +132,7 @@ module _ (limits : Limits) where
 
   -- ---- chains
 
-  -- the nodes of an operator behind its operands
+  -- the nodes of two operands and their operator, appended
   pub operator_made : (operator : ℕ → ℕ → RawFormula) (before left right : List RawFormula) →
       ((before ++ left) ++ right) ++ operator (last_place (length (before ++ left))) (last_place (length ((before ++ left) ++ right))) ∷ []
       ≡ before ++ joined operator (length before) left right
@@ -142,7 +142,7 @@ module _ (limits : Limits) where
       let node : List RawFormula = operator (last_place (length before + length left)) (last_place (length before + length left + length right)) ∷ [] in
       rw (one, both) (ap (λ (ns : List RawFormula). ns ++ node) (append_assoc before left right) ∙ append_assoc before (left ++ right) node)
 
-  -- a part that a mark joins to what was read before
+  -- a part that is read behind a mark and joined with what was read before
   record Joined (operator : ℕ → ℕ → RawFormula) (standing : Standing) (level : Level) (nesting : ℕ) (before left : List RawFormula) (tokens : List Token) (x : List RawFormula × List Token) : Type 0 where
     nodes : List RawFormula
     own : List Token
@@ -163,7 +163,7 @@ module _ (limits : Limits) where
         whole = a.whole;
       }))
 
-  -- what a chain's mark joins is of the level again
+  -- what the mark of a chain joins is of the same nonterminal again
   abbrev Continues : (operator : ℕ → ℕ → RawFormula) (mark : List ℕ) (standing : Standing) (level part : Level) (inner : Standing) → ℕ → Type 0
   Continues operator mark standing level part inner nesting = (start : ℕ) (left right : List RawFormula) (front back : List Token) →
       SpellsFormula limits standing level nesting start left front → SpellsFormula limits inner part nesting (start + length left) right back
@@ -208,7 +208,7 @@ module _ (limits : Limits) where
 
   -- ---- members
 
-  -- the tokens of a member that begins so
+  -- these tokens begin such a member
   abbrev pub StartsSo : Opening → List Token → Type 0
   StartsSo Turns tokens = tokens ≡ Mark (codes "!") ∷ drop 1 tokens
   StartsSo Encloses tokens = tokens ≡ Mark (codes "(") ∷ drop 1 tokens
@@ -283,7 +283,7 @@ module _ (limits : Limits) where
       subst (λ (ts : List Token). Adds standing Member (suc nesting) before ts x) (sym start) (tests_at-is standing predicate (suc nesting) line before (drop 1 tokens) x e)
   begun_at-is standing nesting line inside before tokens x Compares reads start e = compares_at-is standing (suc nesting) line before tokens x e
 
-  -- where nothing more may be nested
+  -- members where no level of nesting is left
   shallow-is : (standing : Standing) (line : ℕ) (before : List RawFormula) (tokens : List Token) (x : List RawFormula × List Token) (o : Opening) → StartsSo o tokens → begun_at limits o zero line (too_deep line) before tokens ≡ Ok x → Adds standing Member zero before tokens x
   shallow-is standing line before tokens x Turns start e = absurd cc
   shallow-is standing line before tokens x Encloses start e = absurd cc
@@ -305,7 +305,7 @@ module _ (limits : Limits) where
       (chosen (bytes_eq word (codes "hasOneUse")) (one_use_at limits line before rest) (member_at limits limits.nested line before (Word word ∷ rest)) (Ok x) e)
   outer_member_at-is line before tokens x e = member_at-is Outermost limits.nested line before tokens x e
 
-  -- no more tokens are left than there were
+  -- what appends nodes leaves no more tokens than there were
   pub adds_shortens : {standing : Standing} {level : Level} {nesting : ℕ} {before : List RawFormula} {tokens : List Token} {x : List RawFormula × List Token} → Adds standing level nesting before tokens x → length x.1 ≤ length tokens
   adds_shortens {x} a = omega (arith, ap length a.whole, length-append a.own x.1)
 
@@ -318,7 +318,7 @@ module _ (limits : Limits) where
   pub reads_shorten : {standing : Standing} {level : Level} {nesting : ℕ} {part : Reader (List RawFormula)} → Reads standing level nesting part → Shortens part
   reads_shorten reads before tokens x e = adds_shortens (reads before tokens x e)
 
-  -- what is read of a part is read of it joined, and so is its fault
+  -- a part is read where it is joined, and its fault is that of both
   pub joins-read : (operator : ℕ → ℕ → RawFormula) (part : Reader (List RawFormula)) (before after : List RawFormula) (tokens rest : List Token) → part before tokens ≡ Ok (after, rest) → joins operator part before tokens ≡ Ok (after ++ operator (last_place (length before)) (last_place (length after)) ∷ [], rest)
   joins-read operator part before after tokens rest e = rw e refl
 
@@ -328,7 +328,7 @@ module _ (limits : Limits) where
 
   -- ---- the whole formula
 
-  -- none in a whole is none in its parts
+  -- what isn't in a list isn't in its parts
   neither : (p q : Bool) → (p || q) ≡ false → (p ≡ false) × (q ≡ false)
   neither false false e = (refl, refl)
   neither false true e = absurd cc
@@ -337,7 +337,7 @@ module _ (limits : Limits) where
   none_among : (front back : List RawFormula) → list_any asks_one_use (front ++ back) ≡ false → (list_any asks_one_use front ≡ false) × (list_any asks_one_use back ≡ false)
   none_among front back none = neither (list_any asks_one_use front) (list_any asks_one_use back) (sym (list_any-append asks_one_use front back) ∙ none)
 
-  -- without `hasOneUse` it may stand within another
+  -- a formula without `hasOneUse` may also stand inside another
   pub stands_within : {standing : Standing} {level : Level} {nesting start : ℕ} {nodes : List RawFormula} {own : List Token} → SpellsFormula limits standing level nesting start nodes own → list_any asks_one_use nodes ≡ false → SpellsFormula limits Within level nesting start nodes own
   stands_within (compares pred left right) none = compares pred left right
   stands_within (tests predicate term) none = tests predicate term

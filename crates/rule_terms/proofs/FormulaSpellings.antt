@@ -1,4 +1,4 @@
--- What is spelled of a formula is read, where what stands behind goes on with no term.
+-- What the grammar spells as a formula is read, where the token behind doesn't go on with a term.
 use Rattle.std.proofs.Common.{◌≡◌, ℕ, zero, suc, ◌+◌, ◌≤◌, Bool, true, false, List, [], ◌∷◌, ◌++◌, length, Result, Ok, Err, refl, sym, ap, subst, ◌∙◌, ⊎_elim, append_assoc, length-append, arith}
 use Rattle.std.specs.Prelude.{codes}
 use Rattle.std.specs.List.{list_any}
@@ -55,11 +55,11 @@ module _ (limits : Limits) where
   unfolding opens_formula
   opens_step depth token tokens = refl
 
-  -- a token that says nothing of formulas is passed
+  -- a token that may stand in terms is skipped
   pub plain_passed : (depth : ℕ) (token : Token) (tokens : List Token) → sign_of token ≡ signs.Plain → opens_formula depth (token ∷ tokens) ≡ opens_formula depth tokens
   plain_passed depth token tokens plain = opens_step depth token tokens ∙ ap (λ (s : Sign). opens_behind s depth (λ more. opens_formula more tokens)) plain
 
-  -- nothing in these tokens says that a formula stands there, and their parentheses are closed
+  -- tokens with closed parentheses, none of which stands in formulas alone
   abbrev pub IsPlain : List Token → Type 0
   IsPlain own = (depth : ℕ) (rest : List Token) → opens_formula depth (own ++ rest) ≡ opens_formula depth rest
 
@@ -283,7 +283,7 @@ module _ (limits : Limits) where
   no_mark : (mark : List ℕ) (part : Reader (List RawFormula)) (before : List RawFormula) (rest : List Token) → next_is mark rest ≡ false → chain_at mark part before rest ≡ Ok (before, rest)
   no_mark mark part before rest none = chain-done part mark before rest none
 
-  -- what members that stand one behind the other read
+  -- what conjunctions one behind the other read
   members_more : (part : Reader (List RawFormula)) (start : ℕ) (before left right : List RawFormula) (tokens rest : List Token) → Shortens (joins raw.And part) → start ≡ length before → part (before ++ left) tokens ≡ Ok ((before ++ left) ++ right, rest)
       → more_members part (before ++ left) (Mark (codes "&&") ∷ tokens) ≡ more_members part (before ++ joined raw.And start left right) rest
   members_more part start before left right tokens rest short e is =
@@ -296,7 +296,7 @@ module _ (limits : Limits) where
 
   -- ---- formulas
 
-  -- what a formula of a level within another reads, up to what may go on with it
+  -- what a formula inside another reads, up to a token that goes on with it
   abbrev pub ReadsTo : Level → ℕ → ℕ → List RawFormula → List Token → List Token → List RawFormula → Type 0
   ReadsTo Member nesting line before own rest after = member_at limits nesting line before (own ++ rest) ≡ Ok (after, rest)
   ReadsTo Members nesting line before own rest after = members_of (member_at limits nesting line) before (own ++ rest) ≡ more_members (member_at limits nesting line) after rest
@@ -330,7 +330,7 @@ module _ (limits : Limits) where
 
   -- ---- the whole formula
 
-  -- a member that may stand within another is no `hasOneUse`
+  -- a member that may stand inside another is no `hasOneUse`
   ended : opens_formula 0 [] ≡ false
   unfolding opens_formula
   ended = refl
@@ -367,7 +367,7 @@ module _ (limits : Limits) where
   deep : (nesting line : ℕ) (before : List RawFormula) (tokens : List Token) (x : List RawFormula × List Token) → nesting ≡ limits.nested → member_at limits nesting line before tokens ≡ Ok x → member_at limits limits.nested line before tokens ≡ Ok x
   deep nesting line before tokens x e is = subst (λ (n : ℕ). member_at limits n line before tokens ≡ Ok x) e is
 
-  -- what a formula of a level that may stand outermost reads
+  -- what a formula at the outermost level reads
   abbrev pub OuterReadsTo : Level → ℕ → List RawFormula → List Token → List Token → List RawFormula → Type 0
   OuterReadsTo Member line before own rest after = outer_member_at limits line before (own ++ rest) ≡ Ok (after, rest)
   OuterReadsTo Members line before own rest after = members_of (outer_member_at limits line) before (own ++ rest) ≡ more_members (outer_member_at limits line) after rest
@@ -402,7 +402,7 @@ module _ (limits : Limits) where
       let end : List RawFormula = operator (last_place (start + length left)) (last_place (start + length left + length right)) ∷ [] in
       list_any-append asks_one_use (left ++ right) end ∙ rw (list_any-append asks_one_use left right, l, r, node (last_place (start + length left)) (last_place (start + length left + length right))) refl
 
-  -- a formula that may stand within another asks of no use
+  -- a formula that may stand inside another has no `hasOneUse`
   pub none_within : {standing : Standing} {level : Level} {nesting start : ℕ} {nodes : List RawFormula} {own : List Token} → SpellsFormula limits standing level nesting start nodes own → standing ≡ Within → list_any asks_one_use nodes ≡ false
   none_within (compares pred l r) w = refl
   none_within (tests IsPowerOfTwo is) w = refl
@@ -417,7 +417,7 @@ module _ (limits : Limits) where
   none_within (members all) w = none_within all w
   none_within (either {start = start} {left = left} {right = right} l r) w = none_joined left right raw.Or start (λ a b. refl) (none_within l refl) (none_within r refl)
 
-  -- the outermost members, and what may go on with them
+  -- the members of the outermost `&&`, and what may follow them
   abbrev whole_at : ℕ → List Token → Result (List RawFormula × List Token) RuleFault
   whole_at line tokens = members_of (outer_member_at limits line) [] tokens >>= λ first. or_alternatives limits line (list_any asks_one_use first.0) first.0 first.1
 

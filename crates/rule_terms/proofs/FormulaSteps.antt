@@ -1,4 +1,4 @@
--- Members by how they begin: one level of nesting more, where one is left.
+-- Members by what they begin with, and one level of nesting where one is left.
 use Rattle.std.proofs.Common.{◌≡◌, ℕ, zero, suc, List, [], ◌∷◌, ◌++◌, length, drop, Result, Ok, Err, refl, ap}
 use Rattle.std.specs.Prelude.{codes}
 use Rattle.rule_tokens.specs.RuleFaults.{RuleFault, RuleError}
@@ -37,7 +37,7 @@ module _ (limits : Limits) where
   member-compares zero line before tokens o = rw (← o) refl
   member-compares (suc n) line before tokens o = rw (← o) refl
 
-  -- no level is left
+  -- no level of nesting is left
   pub turns-too_deep : (nesting line : ℕ) (before : List RawFormula) (tokens : List Token) (f : RuleFault) → Turns ≡ opening_at tokens → deeper line nesting ≡ Err f → member_at limits nesting line before tokens ≡ Err f
   unfolding member_at
   turns-too_deep zero line before tokens f o e = rw (← o) cc
@@ -48,7 +48,7 @@ module _ (limits : Limits) where
   encloses-too_deep zero line before tokens f o e = rw (← o) cc
   encloses-too_deep (suc n) line before tokens f o e = absurd cc
 
-  -- ---- what a member gives, where the part in it was read so
+  -- ---- what a member gives, from what is read inside it
 
   pub turned-fault : (nesting line inside : ℕ) (before : List RawFormula) (tokens behind : List Token) (e : RuleError) → Turns ≡ opening_at tokens → deeper line nesting ≡ Ok inside → behind ≡ drop 1 tokens
       → Fails e (member_at limits inside line before behind) → Fails e (member_at limits nesting line before tokens)

@@ -1,4 +1,4 @@
--- Words, marks and operators: what those that are read spell, and that what is spelled is read.
+-- Words, marks and operators: the parser takes them exactly as the grammar spells them.
 use Rattle.std.proofs.Common.{◌≡◌, ◌≢◌, ℕ, suc, ◌<◌, ◌-◌, ◌^◌, min, Bool, true, false, cond, eqb, ◌&&◌, List, [], ◌∷◌, Option, Some, None, refl, sym, ap, subst, ◌∙◌, ⊎_elim, arith}
 use Rattle.std.specs.Prelude.{codes, not}
 use Rattle.std.specs.List.{list_all}
@@ -21,7 +21,7 @@ use Rattle.rule_terms.specs.declared.word.Meaning.TheVariants as meanings
 use Rattle.rule_terms.specs.TermReaders.{of_level, operator_at}
 use Rattle.rule_terms.specs.Keywords.{operator_mark, operators, operator_in, level_of, IsCalled, IsChoice, choice_in, choice_meaning, name_in, meaning_in}
 
--- ---- operators of two operands
+-- ---- binary operators
 
 operator_in-is : (mark : List ℕ) (op : Opcode) → operator_in mark ≡ Some op → mark ≡ operator_mark op
 unfolding operator_in
@@ -31,13 +31,13 @@ nothing_marked : operator_in [] ≡ None
 unfolding operator_in
 nothing_marked = refl
 
--- what has no mark is not found
+-- an instruction that is no operator of terms isn't found
 unmarked : (mark : List ℕ) (op : Opcode) → operator_mark op ≡ [] → operator_in mark ≢ Some op
 unmarked mark op none e =
     let found : None ≡ Some op = sym nothing_marked ∙ sym (ap operator_in (operator_in-is mark op e ∙ none)) ∙ e in
     absurd cc
 
--- what is found has a level of operators
+-- what is found has a level from 1 to 6
 pub operator_level : (mark : List ℕ) (op : Opcode) → operator_in mark ≡ Some op → (0 < level_of op) × (level_of op < 7)
 operator_level mark Mul e = (omega arith, omega arith)
 operator_level mark SDiv e = (omega arith, omega arith)
@@ -77,7 +77,7 @@ operator_in-of level UMax is = absurd (omega (arith, is))
 operator_in-of level SMin is = absurd (omega (arith, is))
 operator_in-of level SMax is = absurd (omega (arith, is))
 
--- the operator of the level is next, and these tokens are behind it
+-- an operator of the level is next, with these tokens behind it
 pub record IsNext (level : ℕ) (tokens : List Token) (next : Opcode × List Token) : Type 0 where
   pub is_level : level_of next.0 ≡ level
   pub whole : tokens ≡ Mark (operator_mark next.0) ∷ next.1
@@ -100,7 +100,7 @@ operator_at-of level op rest e = rw (operator_in-of level op e, eq-eqb (level_of
 
 -- ---- words
 
--- what a word with a meaning is
+-- the words that mean this
 abbrev pub Means : TermPlace → Meaning → List ℕ → Type 0
 Means place meanings.Width word = word ≡ codes "width"
 Means place (meanings.Call function) word = IsCalled function word
@@ -148,7 +148,7 @@ name_in-is places.Witness word m e = ⊎_elim
     (λ (h : (is_constant word ≡ false) × (choice_meaning (choice_in word) ≡ Some m)). choice_meaning-is word (choice_in word) m refl h.1)
     (chosen (is_constant word) (Some meanings.Constant) (choice_meaning (choice_in word)) (Some m) e)
 
--- one word after the other is tried
+-- words are compared one after the other
 tried : (place : TermPlace) (word wanted : List ℕ) (a m : Meaning) (others : Option Meaning) → Means place a wanted → cond (bytes_eq word wanted) (Some a) others ≡ Some m → (others ≡ Some m → Means place m word) → Means place m word
 tried place word wanted a m others is e next = ⊎_elim
     (λ (h : (bytes_eq word wanted ≡ true) × (Some a ≡ Some m)). means_as place word a m h.1 (subst (λ (w : List ℕ). Means place a w) (sym (same_word word wanted h.0)) is))
@@ -168,7 +168,7 @@ constant_means place [] e = absurd cc
 constant_means places.Constant (b ∷ digits) e = rw (eqb-true b 67 (and_left (eqb b 67) (list_all is_digit digits) e), and_right (eqb b 67) (list_all is_digit digits) e) refl
 constant_means places.Witness (b ∷ digits) e = rw (eqb-true b 67 (and_left (eqb b 67) (list_all is_digit digits) e), and_right (eqb b 67) (list_all is_digit digits) e) refl
 
--- a word that begins with `t` is tried as a choice alone
+-- a word that begins with `t` can only be a choice
 only_choice : (digits : List ℕ) → meaning_in places.Witness (116 ∷ digits) ≡ choice_meaning (choice_in (116 ∷ digits))
 unfolding meaning_in name_in is_constant
 only_choice digits = refl

@@ -1,4 +1,4 @@
--- Nodes of a term that is spelled stand behind their operands.
+-- Nodes of a term that the grammar spells stand behind their operands.
 use Rattle.std.proofs.Common.{◌≡◌, ℕ, zero, suc, ◌+◌, ◌<◌, ◌≤◌, List, [], ◌∷◌, ◌++◌, length, Some, subst, length-append, arith}
 use Rattle.std.specs.Prelude.{slice_get}
 use Rattle.ops.specs.declared.opcode.Opcode.{Opcode}
@@ -12,7 +12,7 @@ use Rattle.rule_terms.specs.Nodes.{IsBehindOperands, NodesStandBehindOperands}
 use Rattle.rule_tokens.specs.Limits.{Limits}
 
 module _ (limits : Limits) where
-  -- nodes from a place on
+  -- the nodes, the first at this place, are each behind their operands
   abbrev AreBehind : ℕ → List RawNode → Type 0
   AreBehind start [] = Unit {0}
   AreBehind start (node ∷ nodes) = IsBehindOperands start node × AreBehind (suc start) nodes
@@ -38,7 +38,7 @@ module _ (limits : Limits) where
   last_below : (n m : ℕ) → 1 ≤ n → n ≤ m → last_place n < m
   last_below n m some le = omega arith
 
-  -- a node or more, from the place on
+  -- there is one at least
   record Nodes (start : ℕ) (nodes : List RawNode) : Type 0 where
     some : 1 ≤ length nodes
     behind : AreBehind start nodes

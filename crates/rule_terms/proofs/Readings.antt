@@ -1,4 +1,4 @@
--- What is read of a term is spelled so, by tokens in front of those that are left.
+-- What the parser reads as a term is what the grammar spells with the tokens that it takes.
 use Rattle.std.proofs.Common.{◌≡◌, ℕ, zero, suc, ◌+◌, ◌<◌, ◌≤◌, List, [], ◌∷◌, ◌++◌, length, Option, Some, None, Ok, refl, sym, ap, subst, ◌∙◌, append_assoc, length-append, arith}
 use Rattle.std.specs.Prelude.{codes}
 use Rattle.ops.specs.declared.opcode.Opcode.{Opcode}
@@ -18,7 +18,7 @@ use Rattle.rule_terms.proofs.Starts.{Starts, mark_at-is, measured_at-is, start_a
 use Rattle.rule_tokens.specs.Limits.{Limits}
 
 module _ (limits : Limits) where
-  -- nodes behind those before, spelled by tokens in front of those that are left
+  -- nodes are appended, and the tokens that were taken spell them
   pub record Adds (place : TermPlace) (nesting level : ℕ) (before : List RawNode) (tokens : List Token) (x : List RawNode × List Token) : Type 0 where
     pub nodes : List RawNode
     pub own : List Token
@@ -26,11 +26,11 @@ module _ (limits : Limits) where
     pub made : x.0 ≡ before ++ nodes
     pub whole : tokens ≡ own ++ x.1
 
-  -- what such a reader reads is spelled so
+  -- all that the parser reads is spelled so
   abbrev pub Reads : TermPlace → ℕ → ℕ → Reader → Type 0
   Reads place nesting level read = (before : List RawNode) (tokens : List Token) (x : List RawNode × List Token) → read before tokens ≡ Ok x → Adds place nesting level before tokens x
 
-  -- ---- operators of two operands
+  -- ---- binary operators
 
   pub join_made : (op : Opcode) (before left right : List RawNode) →
       join op (before ++ left) ((before ++ left) ++ right)
@@ -52,7 +52,7 @@ module _ (limits : Limits) where
         whole = a.whole ∙ ap (λ (ts : List Token). a.own ++ ts) (n.whole ∙ ap (λ (ts : List Token). Mark (operator_mark next.0) ∷ ts) b.whole) ∙ sym (append_assoc a.own (Mark (operator_mark next.0) ∷ b.own) both.1);
       }
 
-  -- an operator and its right operand are read, and what goes on behind them
+  -- an operator with its right operand is read, and then what is behind them
   further : (place : TermPlace) (nesting level : ℕ) (operand others : Reader) (before left : List RawNode) (tokens behind : List Token) (x : List RawNode × List Token) → Reads place nesting level operand → Adds place nesting (suc level) before tokens (left, behind) → (found : Option (Opcode × List Token)) → operator_at (suc level) behind ≡ found
       → joined_or_end operand others left behind found ≡ Ok x → ((ls : List RawNode) (ts : List Token) → Adds place nesting (suc level) before tokens (ls, ts) → others ls ts ≡ Ok x → Adds place nesting (suc level) before tokens x) → Adds place nesting (suc level) before tokens x
   further place nesting level operand others before left tokens behind x reads a None f e more = read_as (Adds place nesting (suc level) before tokens) (left, behind) x e a
@@ -68,7 +68,7 @@ module _ (limits : Limits) where
       further place nesting level operand (λ ls ts. chain_at operand (suc level) many ls ts) before left tokens behind x reads a (operator_at (suc level) behind) refl e
       (λ ls ts b f. chain_at-is place nesting level many operand before ls tokens ts x reads b f)
 
-  -- behind an operand of the level 0
+  -- operators behind an operand of level 0
   pub behind_at-is : (place : TermPlace) (nesting level : ℕ) (primary : Reader) (before : List RawNode) (tokens : List Token) (first x : List RawNode × List Token) → Reads place nesting 0 primary → Adds place nesting 0 before tokens first → behind_at primary level first.0 first.1 ≡ Ok x → Adds place nesting level before tokens x
   unfolding behind_at
   behind_at-is place nesting zero primary before tokens first x reads a e = read_as (Adds place nesting 0 before tokens) (first.0, first.1) x e a
@@ -83,7 +83,7 @@ module _ (limits : Limits) where
   operand_at-is place nesting level primary reads before tokens x e =
       bound (primary before tokens) _ _ e (λ y p e1. behind_at-is place nesting level primary before tokens y x reads (reads before tokens y p) e1)
 
-  -- ---- operands of the level 0
+  -- ---- operands of level 0
 
   pub unary_made : (function : Function) (before nodes : List RawNode) → add_unary function (before ++ nodes) ≡ before ++ (nodes ++ raw_nodes.Unary function (last_place (length before + length nodes)) ∷ [])
   unary_made function before nodes = rw (length-append before nodes) (append_assoc before nodes _)
@@ -162,7 +162,7 @@ module _ (limits : Limits) where
       bound (start_at limits place line tokens) _ _ e (λ s p e1.
       begun_at-is place nesting line (primary_at limits place line nesting) before s.0 tokens s.1 x (primary_at-is place line nesting) (start_at-is limits place line tokens s p) e1)
 
-  -- ---- fewer tokens are left
+  -- ---- each operand takes a token
 
   pub spells_some : {place : TermPlace} {nesting start level : ℕ} {nodes : List RawNode} {tokens : List Token} → SpellsTerm limits place nesting start level nodes tokens → 1 ≤ length tokens
   spells_some (leaf (raw_nodes.Literal z) tokens (text, value, is)) = rw is (omega arith)

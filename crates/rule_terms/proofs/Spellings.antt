@@ -1,4 +1,4 @@
--- What is spelled of a term is read, where no operator that binds tighter than its level is next behind it.
+-- What the grammar spells as a term is read, where no operator that binds tighter than its level is next behind it.
 use Rattle.std.proofs.Common.{◌≡◌, ℕ, zero, suc, ◌+◌, ◌<◌, List, [], ◌∷◌, ◌++◌, length, None, Result, Ok, Err, refl, sym, ap, ◌∙◌, append_assoc, length-append, subst, arith}
 use Rattle.std.specs.Prelude.{codes}
 use Rattle.std.proofs.lemmas.Bool.{ne_eqb}
@@ -21,11 +21,11 @@ use Rattle.rule_terms.proofs.Starts.{mark_at-of, measured_at-of, start_at-of}
 use Rattle.rule_tokens.specs.Limits.{Limits}
 
 module _ (limits : Limits) where
-  -- no operator of these levels is next
+  -- no operator of a level below this one is next
   abbrev NotTighter : ℕ → List Token → Type 0
   NotTighter level rest = (k : ℕ) → k < level → operator_at k rest ≡ None
 
-  -- what goes on with an operand of the level, by operators of this level alone
+  -- what is behind an operand: operators of this level alone
   abbrev goes_on_at : Reader → ℕ → Reader
   goes_on_at primary zero left tokens = Ok (left, tokens)
   goes_on_at primary (suc level) left tokens = whole_chain_at (operand_at primary level) (suc level) left tokens
@@ -50,7 +50,7 @@ module _ (limits : Limits) where
       same (Ok x) = refl
       same (Err e) = refl
 
-  -- an operator is of its own level alone
+  -- an operator has one level only
   other_level : (level k : ℕ) (op : Opcode) (rest : List Token) → level_of op ≡ suc level → k < suc level → operator_at k (Mark (operator_mark op) ∷ rest) ≡ None
   unfolding operator_at
   other_level level k op rest is less = rw (operator_in-of level op is, ne_eqb (level_of op) k (λ same. omega (arith, same, is, less))) refl
@@ -64,7 +64,7 @@ module _ (limits : Limits) where
   ended level (Mark mark ∷ rest) ends = rw ends refl
   ended level rest ends = refl
 
-  -- ---- operands of the level 0
+  -- ---- operands of level 0
 
   leaf_read : (place : TermPlace) (line nesting : ℕ) (before : List RawNode) (node : RawNode) (tokens rest : List Token) → start_at limits place line tokens ≡ Ok (Leaf node, rest) → primary_at limits place line nesting before tokens ≡ Ok (before ++ node ∷ [], rest)
   unfolding primary_at
@@ -124,7 +124,7 @@ module _ (limits : Limits) where
   term_at-of place nesting line nodes own rest s ends =
       spelled_read s line [] rest refl (λ k lt. ended k rest ends) ∙ goes_on-done (primary_at limits place line nesting) loosest nodes rest (ended loosest rest ends)
 
-  -- the nodes that are read, spelled by tokens in front of those that are left
+  -- the nodes that are read are those that the tokens that were taken spell
   pub record TakesTerm (place : TermPlace) (nesting : ℕ) (tokens : List Token) (x : List RawNode × List Token) : Type 0 where
     pub own : List Token
     pub is_own : SpellsWholeTerm limits place nesting x.0 own

@@ -1,4 +1,4 @@
--- What an operand begins with: what is read is so, and what is so is read.
+-- What an operand begins with: the parser takes it exactly as it is written.
 use Rattle.std.proofs.Common.{◌≡◌, ℕ, ◌≤◌, true, false, cond, List, [], ◌∷◌, ◌++◌, length, Option, Some, None, Ok, refl, sym, ap, subst, ◌∙◌, ⊎_elim}
 use Rattle.std.specs.Prelude.{codes}
 use Rattle.std.specs.Str.{bytes_eq}
@@ -26,7 +26,7 @@ use Rattle.rule_terms.proofs.Meanings.{Means, meaning_in-is, meaning_in-of}
 use Rattle.rule_tokens.specs.Limits.{Limits}
 
 module _ (limits : Limits) where
-  -- the tokens begin so, in front of the rest
+  -- the tokens are such a beginning, and the rest
   abbrev pub Starts : TermPlace → Start → List Token → List Token → Type 0
   Starts place (Leaf node) tokens rest = (own : List Token) × SpellsLeaf limits place node own × (tokens ≡ own ++ rest)
   Starts place (Prefix function) tokens rest = (mark : List ℕ) × IsPrefix function mark × (tokens ≡ Mark mark ∷ rest)
@@ -34,7 +34,7 @@ module _ (limits : Limits) where
   Starts place (Call function) tokens rest = (word : List ℕ) × IsCalled function word × (tokens ≡ Word word ∷ Mark (codes "(") ∷ rest)
   Starts place Width tokens rest = tokens ≡ Word (codes "width") ∷ Mark (codes "(") ∷ rest
 
-  -- ---- what is read
+  -- ---- what is taken is written so
 
   pub mark_at-is : (wanted : List ℕ) (line : ℕ) (tokens rest : List Token) → mark_at wanted line tokens ≡ Ok rest → tokens ≡ Mark wanted ∷ rest
   unfolding mark_at
@@ -86,7 +86,7 @@ module _ (limits : Limits) where
       (Word held ∷ [], (held, m.0, m.1, w.0, refl), ap (λ (r : List ℕ). Word r ∷ rest) w.1))
   word_at-is place line word None rest x f e = absurd cc
 
-  -- one mark after the other is tried
+  -- marks are compared one after the other
   tried : (place : TermPlace) (mark wanted : List ℕ) (rest : List Token) (a start : Start) (others : Option Start) → Starts place a (Mark wanted ∷ rest) rest → cond (bytes_eq mark wanted) (Some a) others ≡ Some start → (others ≡ Some start → Starts place start (Mark mark ∷ rest) rest) → Starts place start (Mark mark ∷ rest) rest
   tried place mark wanted rest a start others is e next = ⊎_elim
       (λ (h : (bytes_eq mark wanted ≡ true) × (Some a ≡ Some start)).
@@ -117,7 +117,7 @@ module _ (limits : Limits) where
   start_at-is place line (Mark mark ∷ rest) x e = opening_at-is place line mark (opening_in mark) rest x refl e
   start_at-is place line tokens x e = absurd cc
 
-  -- ---- what is so
+  -- ---- what is written so is taken
 
   pub mark_at-of : (wanted : List ℕ) (line : ℕ) (rest : List Token) → bytes_eq wanted wanted ≡ true → mark_at wanted line (Mark wanted ∷ rest) ≡ Ok rest
   unfolding mark_at

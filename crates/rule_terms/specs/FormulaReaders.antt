@@ -1,4 +1,4 @@
--- Reading a formula from left to right. Its nodes are read behind those that were read before.
+-- The parser of formulas, as functions over tokens. Nodes are appended to those that were read before.
 use Rattle.std.specs.Prelude.{ℕ, zero, suc, Bool, true, false, ◌&&◌, if◌then◌else◌, List, [], ◌∷◌, ◌++◌, length, drop, Option, Some, None, Result, Ok, Err, codes}
 use Rattle.std.specs.List.{list_any}
 use Rattle.std.specs.Str.{bytes_eq}
@@ -23,9 +23,9 @@ use Rattle.rule_terms.specs.TermReaders.{mark_at, term_at}
 use Rattle.rule_terms.specs.FormulaKeywords.{comparison_in, predicate_in, predicate_node, formula_marks, formula_words}
 use Rattle.rule_tokens.specs.Limits.{Limits}
 
--- ---- what begins here
+-- ---- looking ahead: what a member begins with
 
--- what a token says of the parentheses that it stands in
+-- whether a token opens or closes a parenthesis, ends the line, or stands in formulas and not in terms
 abbrev pub mark_sign : List ℕ → Sign
 mark_sign mark =
     if bytes_eq mark (codes "(") then signs.Opens
@@ -41,8 +41,8 @@ sign_of (Mark mark) = mark_sign mark
 sign_of (Word word) = word_sign word
 sign_of token = signs.Plain
 
--- A formula, and no term, stands in parentheses that are open here, behind so many more that are: a token that stands
--- in formulas alone comes before they end, or the line.
+-- Whether the open `(` encloses a formula and not a term: a token that stands in formulas alone comes before its `)`
+-- and before the end of the line. `depth` is how many more are open inside.
 abbrev pub opens_behind : Sign → ℕ → (ℕ → Bool) → Bool
 opens_behind signs.Opens depth rest = rest (suc depth)
 opens_behind signs.Closes zero rest = false
@@ -55,7 +55,7 @@ unfoldable pub opens_formula : ℕ → List Token → Bool
 opens_formula depth [] = false
 opens_formula depth (token ∷ tokens) = opens_behind (sign_of token) depth (λ more. opens_formula more tokens)
 
--- how a member of a formula begins
+-- what a member of a formula begins with
 abbrev pub mark_opening : List ℕ → List Token → Opening
 mark_opening mark rest =
     if bytes_eq mark (codes "!") then Turns
@@ -72,7 +72,7 @@ opening_at tokens = Compares
 
 -- ---- members
 
--- the comparison
+-- the comparison that a mark is, or the fault that it is none
 abbrev pub comparison_or_fault : ℕ → Option Pred → List Token → Read Pred
 comparison_or_fault line (Some pred) rest = Ok (pred, rest)
 comparison_or_fault line None rest = Err (fault line Syntax)
@@ -81,7 +81,7 @@ unfoldable pub comparison_at : ℕ → List Token → Read Pred
 comparison_at line (Mark mark ∷ rest) = comparison_or_fault line (comparison_in mark) rest
 comparison_at line tokens = Err (unexpected line tokens)
 
--- two terms and a comparison between them
+-- two terms with a comparison between them
 unfoldable pub compares_at : Limits → ℕ → ℕ → Reader (List RawFormula)
 compares_at limits nesting line before tokens = do
   left ← term_at limits Constant nesting line tokens
@@ -89,12 +89,12 @@ compares_at limits nesting line before tokens = do
   right ← term_at limits Constant nesting line pred.1
   Ok (before ++ Compare pred.0 left.0 right.0 ∷ [], right.1)
 
--- one level of nesting more, if the limit leaves it
+-- one level of nesting less is left; none is a fault
 abbrev pub deeper : ℕ → ℕ → Result ℕ RuleFault
 deeper line zero = Err (fault line TooMany)
 deeper line (suc nesting) = Ok nesting
 
--- a term in parentheses, behind a predicate
+-- behind a predicate's word: a term in parentheses
 unfoldable pub tests_at : Limits → Predicate → ℕ → ℕ → Reader (List RawFormula)
 tests_at limits predicate nesting line before tokens = do
   opened ← mark_at (codes "(") line tokens
@@ -103,7 +103,7 @@ tests_at limits predicate nesting line before tokens = do
   rest ← mark_at (codes ")") line term.1
   Ok (before ++ predicate_node predicate term.0 ∷ [], rest)
 
--- a register in parentheses, behind `hasOneUse`
+-- behind `hasOneUse`: a register in parentheses
 abbrev pub register_at : Limits → ℕ → List Token → Read (List ℕ)
 register_at limits line (Register name ∷ rest) = name_within limits line name >>= λ held. Ok (held, rest)
 register_at limits line tokens = Err (unexpected line tokens)
@@ -117,25 +117,25 @@ one_use_at limits line before tokens = do
 
 -- ---- formulas
 
--- the part behind, joined with what was read before
+-- the part is read, and its node joined by the operator with what was read before
 abbrev pub joins : (ℕ → ℕ → RawFormula) → Reader (List RawFormula) → Reader (List RawFormula)
 joins operator part before tokens = part before tokens >>= λ x. Ok (x.0 ++ operator (last_place (length before)) (last_place (length x.0)) ∷ [], x.1)
 
--- members joined by `&&`, and those behind the first one
+-- `&& member`, any number of times; and a whole conjunction
 abbrev pub more_members : Reader (List RawFormula) → Reader (List RawFormula)
 more_members member before tokens = chain_at (codes "&&") (joins And member) before tokens
 
 abbrev pub members_of : Reader (List RawFormula) → Reader (List RawFormula)
 members_of member before tokens = member before tokens >>= λ first. more_members member first.0 first.1
 
--- these joined by `||`
+-- `|| conjunction`, any number of times; and a whole disjunction
 abbrev pub more_alternatives : Reader (List RawFormula) → Reader (List RawFormula)
 more_alternatives member before tokens = chain_at (codes "||") (joins Or (members_of member)) before tokens
 
 abbrev pub alternatives_of : Reader (List RawFormula) → Reader (List RawFormula)
 alternatives_of member before tokens = members_of member before tokens >>= λ first. more_alternatives member first.0 first.1
 
--- behind `!`, and behind `(`
+-- behind `!`: what is negated; and behind `(`: a formula and `)`
 abbrev pub turns_at : Reader (List RawFormula) → Reader (List RawFormula)
 turns_at inside before tokens = inside before tokens >>= λ x. Ok (x.0 ++ Not (last_place (length x.0)) ∷ [], x.1)
 
@@ -145,23 +145,23 @@ encloses_at line inside before tokens = do
   rest ← mark_at (codes ")") line formula.1
   Ok (formula.0, rest)
 
--- a member that begins so, where `inside` reads those one level further in
+-- a member that begins so; `inside` reads a member one level of nesting further in
 abbrev pub begun_at : Limits → Opening → ℕ → ℕ → Reader (List RawFormula) → Reader (List RawFormula)
 begun_at limits Turns nesting line inside before tokens = turns_at inside before (drop 1 tokens)
 begun_at limits Encloses nesting line inside before tokens = encloses_at line inside before (drop 1 tokens)
 begun_at limits (Tests predicate) nesting line inside before tokens = tests_at limits predicate nesting line before (drop 1 tokens)
 begun_at limits Compares nesting line inside before tokens = compares_at limits nesting line before tokens
 
--- no level further in is left
+-- where no level of nesting is left
 abbrev pub too_deep : ℕ → Reader (List RawFormula)
 too_deep line before tokens = Err (fault line TooMany)
 
--- a member, where so many levels of nesting are left
+-- a member, with `nesting` levels of nesting left
 unfoldable pub member_at : Limits → ℕ → ℕ → Reader (List RawFormula)
 member_at limits zero line before tokens = begun_at limits (opening_at tokens) zero line (too_deep line) before tokens
 member_at limits (suc nesting) line before tokens = begun_at limits (opening_at tokens) (suc nesting) line (member_at limits nesting line) before tokens
 
--- a member of the outermost `&&`
+-- a member of the outermost `&&`, where `hasOneUse` may stand
 unfoldable pub outer_member_at : Limits → ℕ → Reader (List RawFormula)
 outer_member_at limits line before (Word word ∷ rest) = if bytes_eq word (codes "hasOneUse") then one_use_at limits line before rest else member_at limits limits.nested line before (Word word ∷ rest)
 outer_member_at limits line before tokens = member_at limits limits.nested line before tokens
@@ -171,12 +171,12 @@ abbrev pub asks_one_use : RawFormula → Bool
 asks_one_use (HasOneUse name) = true
 asks_one_use node = false
 
--- `||` may only go on with what has no `hasOneUse` in it
+-- `||` follows only where the conjunction before it has no `hasOneUse`
 abbrev pub or_alternatives : Limits → ℕ → Bool → Reader (List RawFormula)
 or_alternatives limits line true before tokens = Ok (before, tokens)
 or_alternatives limits line false before tokens = more_alternatives (member_at limits limits.nested line) before tokens
 
--- the formula of a precondition, behind its head, and the end of its line
+-- the formula of a precondition, behind `Pre:`, and the end of its line
 unfoldable pub formula_at : Limits → ℕ → List Token → Read (List RawFormula)
 formula_at limits line tokens = do
   first ← members_of (outer_member_at limits line) [] tokens

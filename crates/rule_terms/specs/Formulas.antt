@@ -1,5 +1,5 @@
--- The formulas of `Pre:`, and which tokens spell them. A node stands behind its operands and names their places, which
--- count from 0 at the first node of the whole formula.
+-- The grammar of the formulas of `Pre:`, with the nodes that each production gives. A node stands behind its operands
+-- and names their places, counted from 0 in the whole formula.
 use Rattle.std.specs.Prelude.{ℕ, suc, ◌+◌, ◌≤◌, List, [], ◌∷◌, ◌++◌, length, codes}
 use Rattle.rule_tokens.specs.Limits.{Limits}
 use Rattle.rule_tokens.specs.Tokens.{Token, Word, Register, Mark}
@@ -13,24 +13,24 @@ use Rattle.ops.specs.declared.comparison.Pred.{Pred}
 use Rattle.rule_tokens.specs.Parts.{Part}
 use Rattle.rule_terms.specs.FormulaKeywords.{comparison_mark, predicate_word, predicate_node}
 
--- where a formula stands: it is the whole one or a member of its outermost `&&`, or it stands in parentheses, behind
--- `!` or beside `||`
+-- where a formula stands: it is the whole one or a member of its outermost `&&`; or it is in parentheses, behind `!` or
+-- beside `||`
 pub data Standing : Type 0 where
   Outermost : Standing
   Within : Standing
 
--- what a formula is, the tightest first: a member of a `&&`; members joined by `&&`; these joined by `||`
+-- the nonterminals, from the tightest: a member of a conjunction; a conjunction, by `&&`; a disjunction, by `||`
 pub data Level : Type 0 where
   Member : Level
   Members : Level
   Alternatives : Level
 
--- the node behind two operands
+-- the nodes of two operands and then that of the operator; the first has the place `start`
 abbrev pub joined : (ℕ → ℕ → RawFormula) → ℕ → List RawFormula → List RawFormula → List RawFormula
 joined operator start left right = left ++ right ++ operator (last_place (start + length left)) (last_place (start + length left + length right)) ∷ []
 
--- the tokens spell the nodes of a formula, of which the first has the place `start`, where so many levels of nesting
--- are left
+-- The tokens spell a formula with these nodes, the first at the place `start`. At most `nesting` more parentheses, `!`
+-- and unary operators are open at a token.
 pub data SpellsFormula (limits : Limits) : Standing → Level → ℕ → ℕ → List RawFormula → List Token → Type 0 where
   -- t == t
   compares : {standing : Standing} {nesting start : ℕ} {left right : List RawNode} {front back : List Token} (pred : Pred)
@@ -51,19 +51,19 @@ pub data SpellsFormula (limits : Limits) : Standing → Level → ℕ → ℕ �
   encloses : {standing : Standing} {nesting start : ℕ} {nodes : List RawFormula} {own : List Token}
       → SpellsFormula limits Within Alternatives nesting start nodes own
       → SpellsFormula limits standing Member (suc nesting) start nodes (Mark (codes "(") ∷ own ++ Mark (codes ")") ∷ [])
-  -- f && f, from left to right
+  -- f && f, left-associative
   member : {standing : Standing} {nesting start : ℕ} {nodes : List RawFormula} {own : List Token}
       → SpellsFormula limits standing Member nesting start nodes own → SpellsFormula limits standing Members nesting start nodes own
   both : {standing : Standing} {nesting start : ℕ} {left right : List RawFormula} {front back : List Token}
       → SpellsFormula limits standing Members nesting start left front → SpellsFormula limits standing Member nesting (start + length left) right back
       → SpellsFormula limits standing Members nesting start (joined And start left right) (front ++ Mark (codes "&&") ∷ back)
-  -- f || f, from left to right
+  -- f || f, left-associative
   members : {standing : Standing} {nesting start : ℕ} {nodes : List RawFormula} {own : List Token}
       → SpellsFormula limits standing Members nesting start nodes own → SpellsFormula limits standing Alternatives nesting start nodes own
   either : {standing : Standing} {nesting start : ℕ} {left right : List RawFormula} {front back : List Token}
       → SpellsFormula limits Within Alternatives nesting start left front → SpellsFormula limits Within Members nesting (start + length left) right back
       → SpellsFormula limits standing Alternatives nesting start (joined Or start left right) (front ++ Mark (codes "||") ∷ back)
 
--- the formula of a precondition
+-- the whole formula of a precondition
 abbrev pub SpellsWholeFormula : Limits → List RawFormula → Part
 SpellsWholeFormula limits nodes tokens = SpellsFormula limits Outermost Alternatives limits.nested 0 nodes tokens

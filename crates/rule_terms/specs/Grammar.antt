@@ -1,4 +1,4 @@
--- Terms as written, and which tokens spell them.
+-- The grammar of terms, with the nodes that each production gives.
 use Rattle.std.specs.Prelude.{◌≡◌, ℕ, suc, ◌+◌, ◌-◌, ◌≤◌, IsTrue, List, [], ◌∷◌, ◌++◌, length, None, codes}
 use Rattle.ops.specs.declared.opcode.Opcode.{Opcode}
 use Rattle.rule_core.specs.declared.rule.Function.{Function}
@@ -13,11 +13,11 @@ use Rattle.rule_terms.specs.declared.raw.RawNode.{RawNode}
 use Rattle.rule_terms.specs.declared.raw.RawNode.TheVariants.{Literal, Constant, Register, Choice, Width, Unary, Binary}
 use Rattle.rule_terms.specs.Keywords.{operator_mark, operator_in, level_of, loosest, IsPrefix, IsCalled, held_place, IsChoice}
 
--- the place of the last of so many nodes
+-- the place of the last of `count` nodes, as a rule holds it
 abbrev pub last_place : ℕ → ℕ
 last_place count = held_place (count - 1)
 
--- a node of one token: a literal or a constant, and in a witness a register or an `undef` of the target too
+-- a node of one token: a literal or a constant, and in `Wit:` also a register or a choice of the target
 abbrev pub SpellsLeaf : Limits → TermPlace → RawNode → Part
 SpellsLeaf limits place (Literal z) tokens = (text : List ℕ) × (z ≡ literal_value text) × Is (Number text) tokens
 SpellsLeaf limits place (Constant name) tokens = IsTrue (is_constant name) × (length name ≤ limits.name_bytes) × Is (Word name) tokens
@@ -25,9 +25,9 @@ SpellsLeaf limits place (Register name) tokens = (place ≡ Witness) × (length 
 SpellsLeaf limits place (Choice k) tokens = (word : List ℕ) × (place ≡ Witness) × IsChoice word k × (length word ≤ limits.name_bytes) × Is (Word word) tokens
 SpellsLeaf limits place node tokens = ⊥
 
--- The tokens spell a term of these nodes, each behind its operands, where the first node has the place `start`: at most
--- `nesting` open parentheses and pending operators of one operand at each token, and no operator looser than the level
--- outside parentheses.
+-- The tokens spell a term with these nodes, each behind its operands, the first at the place `start`. At most `nesting`
+-- more parentheses and unary operators are open at a token, and outside parentheses no binary operator binds looser
+-- than `level`; at level 0 there is none.
 pub data SpellsTerm (limits : Limits) (place : TermPlace) : ℕ → ℕ → ℕ → List RawNode → List Token → Type 0 where
   leaf : {nesting start : ℕ} (node : RawNode) (tokens : List Token)
       → SpellsLeaf limits place node tokens
@@ -45,16 +45,16 @@ pub data SpellsTerm (limits : Limits) (place : TermPlace) : ℕ → ℕ → ℕ 
       → SpellsTerm limits place nesting start loosest nodes tokens
       → SpellsTerm limits place (suc nesting) start 0 (nodes ++ Unary function (last_place (start + length nodes)) ∷ [])
       (Word word ∷ Mark (codes "(") ∷ tokens ++ Mark (codes ")") ∷ [])
-  -- ('-' | '~') and a term without operators of two operands
+  -- ('-' | '~') and an operand without binary operators outside parentheses
   prefixed : {nesting start : ℕ} {nodes : List RawNode} {tokens : List Token} (function : Function) (mark : List ℕ)
       → IsPrefix function mark
       → SpellsTerm limits place nesting start 0 nodes tokens
       → SpellsTerm limits place (suc nesting) start 0 (nodes ++ Unary function (last_place (start + length nodes)) ∷ []) (Mark mark ∷ tokens)
-  -- a term without operators of a level
+  -- a term of a tighter level
   tighter : {nesting start level : ℕ} {nodes : List RawNode} {tokens : List Token}
       → SpellsTerm limits place nesting start level nodes tokens
       → SpellsTerm limits place nesting start (suc level) nodes tokens
-  -- operators of one level, from left to right
+  -- a binary operator of the level, left-associative
   joined : {nesting start level : ℕ} {left right : List RawNode} {front back : List Token} (op : Opcode)
       → level_of op ≡ suc level
       → SpellsTerm limits place nesting start (suc level) left front
@@ -67,7 +67,7 @@ pub data SpellsTerm (limits : Limits) (place : TermPlace) : ℕ → ℕ → ℕ 
 abbrev pub SpellsWholeTerm : Limits → TermPlace → ℕ → List RawNode → Part
 SpellsWholeTerm limits place nesting nodes = SpellsTerm limits place nesting 0 loosest nodes
 
--- no operator of two operands is next
+-- no binary operator is next
 abbrev pub EndsTerm : List Token → Type 0
 EndsTerm (Mark mark ∷ rest) = operator_in mark ≡ None
 EndsTerm tokens = Unit {0}

@@ -13,9 +13,9 @@ use Rattle.rule_terms.specs.declared.place.TermPlace.TheVariants as places
 use Rattle.rule_terms.specs.declared.word.Meaning.{Meaning}
 use Rattle.rule_terms.specs.declared.word.Meaning.TheVariants as meanings
 
--- ---- operators of two operands
+-- ---- binary operators
 
--- an operator is known by the instruction that computes the same
+-- how an operator is written that computes what the instruction does
 abbrev pub operator_mark : Opcode → List ℕ
 operator_mark Mul = codes "*"
 operator_mark SDiv = codes "/"
@@ -38,11 +38,11 @@ operator_mark SMax = []
 abbrev pub operators : List Opcode
 operators = Mul ∷ SDiv ∷ UDiv ∷ SRem ∷ URem ∷ Add ∷ Sub ∷ Shl ∷ AShr ∷ LShr ∷ And ∷ Xor ∷ Or ∷ []
 
--- the operator that a mark is
+-- the operator that a mark is, as its instruction
 unfoldable pub operator_in : List ℕ → Option Opcode
 operator_in mark = find (λ op. bytes_eq mark (operator_mark op)) operators
 
--- how loosely an operator binds; what is no operator has the level 0
+-- the precedence level of an operator, 1 for the tightest; 0 for what is no operator of terms
 abbrev pub level_of : Opcode → ℕ
 level_of Mul = 1
 level_of SDiv = 1
@@ -62,19 +62,19 @@ level_of UMax = 0
 level_of SMin = 0
 level_of SMax = 0
 
--- the level of a whole term
+-- the level of a whole term: that of the loosest operator
 abbrev pub loosest : ℕ
 loosest = 6
 
--- ---- operators and functions of one operand
+-- ---- unary operators and functions
 
--- the mark before an operand
+-- how a unary operator is written
 abbrev pub IsPrefix : Function → List ℕ → Type 0
 IsPrefix Negate mark = mark ≡ codes "-"
 IsPrefix Not mark = mark ≡ codes "~"
 IsPrefix function mark = ⊥
 
--- the word before an operand in parentheses
+-- how a function is written
 abbrev pub IsCalled : Function → List ℕ → Type 0
 IsCalled Log2 word = word ≡ codes "log2"
 IsCalled Abs word = word ≡ codes "abs"
@@ -82,17 +82,17 @@ IsCalled function word = ⊥
 
 -- ---- words
 
--- a place as a rule holds it, in 32 bits: one past their end as that end
+-- a place as a rule holds it: 32 bits, saturated
 abbrev pub held_place : ℕ → ℕ
 held_place place = min place (2 ^ 32 - 1)
 
--- an `undef` of the target, by its place: `t1` is the place 0
+-- a choice of the target by its place: `t1` is at 0
 abbrev pub IsChoice : List ℕ → ℕ → Type 0
 IsChoice word place = (digits : List ℕ)
     × (word ≡ 116 ∷ digits) × IsTrue (are_digits digits) × IsTrue (not (begins_with (λ b. b == 48) digits))
     × (place ≡ held_place (decimal_value digits - 1))
 
--- the place of the target's `undef` that a word is
+-- the place of the choice of the target that a word names
 unfoldable pub choice_in : List ℕ → Option ℕ
 choice_in [] = None
 choice_in (b ∷ digits) =
@@ -103,12 +103,12 @@ abbrev pub choice_meaning : Option ℕ → Option Meaning
 choice_meaning None = None
 choice_meaning (Some place) = Some (meanings.Choice place)
 
--- what a name means in an operand's place
+-- what a name means where an operand begins
 unfoldable pub name_in : TermPlace → List ℕ → Option Meaning
 name_in places.Constant word = if is_constant word then Some meanings.Constant else None
 name_in places.Witness word = if is_constant word then Some meanings.Constant else choice_meaning (choice_in word)
 
--- what a word means in an operand's place
+-- what a word means where an operand begins
 unfoldable pub meaning_in : TermPlace → List ℕ → Option Meaning
 meaning_in place word =
     if bytes_eq word (codes "width") then Some meanings.Width

@@ -13,7 +13,7 @@ IsBehindOperands k (Unary function a) = a < k
 IsBehindOperands k (Binary op a b) = (a < k) × (b < k)
 IsBehindOperands k node = Unit {0}
 
--- a term that is spelled has a node or more, each behind its operands
+-- what the grammar spells as a term has a node or more, each behind its operands
 abbrev pub NodesStandBehindOperands : Type 0
 NodesStandBehindOperands = (limits : Limits) (place : TermPlace) (nesting : ℕ) (nodes : List RawNode) (tokens : List Token) → SpellsWholeTerm limits place nesting nodes tokens
     → (0 < length nodes) × ((k : ℕ) (node : RawNode) → slice_get nodes k ≡ Some node → IsBehindOperands k node)

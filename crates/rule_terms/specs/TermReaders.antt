@@ -1,5 +1,5 @@
--- Reading terms from left to right: the nodes that were there before and those that are read, and the tokens behind, or
--- the fault of the first token that does not fit.
+-- The parser of terms, as functions over tokens: the nodes of before with those that are read, and the tokens that are
+-- left, or the fault of the first token that does not fit.
 use Rattle.std.specs.Prelude.{ℕ, zero, suc, ◌==◌, if◌then◌else◌, List, [], ◌∷◌, ◌++◌, length, Option, None, Some, Result, Ok, Err, codes}
 use Rattle.std.specs.Str.{bytes_eq}
 use Rattle.ops.specs.declared.opcode.Opcode.{Opcode}
@@ -25,19 +25,19 @@ use Rattle.rule_tokens.specs.Limits.{Limits}
 
 -- ---- marks
 
--- this mark, and the tokens behind it
+-- this mark is next; it is taken
 unfoldable pub mark_at : List ℕ → ℕ → List Token → Result (List Token) RuleFault
 mark_at wanted line (Mark mark ∷ rest) = if bytes_eq mark wanted then Ok rest else Err (fault line Syntax)
 mark_at wanted line tokens = Err (unexpected line tokens)
 
--- ---- what an operand begins with, and the tokens behind it
+-- ---- what an operand begins with
 
--- a register, which stands in a witness alone
+-- a register, in `Wit:` alone
 abbrev pub register_in : Limits → TermPlace → ℕ → List ℕ → Result Start RuleFault
 register_in limits places.Constant line name = Err (fault line Syntax)
 register_in limits places.Witness line name = name_within limits line name >>= λ held. Ok (Leaf (nodes.Register held))
 
--- a word with a meaning
+-- a word that means something where an operand begins
 abbrev pub word_at : Limits → ℕ → List ℕ → Option Meaning → List Token → Read Start
 word_at limits line word (Some meanings.Width) rest = mark_at (codes "(") line rest >>= λ behind. Ok (Width, behind)
 word_at limits line word (Some (meanings.Call function)) rest = mark_at (codes "(") line rest >>= λ behind. Ok (Call function, behind)
@@ -45,7 +45,7 @@ word_at limits line word (Some meanings.Constant) rest = name_within limits line
 word_at limits line word (Some (meanings.Choice place)) rest = name_within limits line word >>= λ name. Ok (Leaf (nodes.Choice place), rest)
 word_at limits line word None rest = Err (misplaced_word line word)
 
--- a parenthesis, or an operator of one operand
+-- a parenthesis or a unary operator
 unfoldable pub opening_in : List ℕ → Option Start
 opening_in mark =
     if bytes_eq mark (codes "(") then Some Parenthesis
@@ -63,13 +63,13 @@ start_at limits place line (Word word ∷ rest) = word_at limits line word (mean
 start_at limits place line (Mark mark ∷ rest) = opening_at line (opening_in mark) rest
 start_at limits place line tokens = Err (unexpected line tokens)
 
--- ---- operators of two operands
+-- ---- binary operators
 
--- behind these nodes and before these tokens: all nodes, and the tokens behind
+-- a parser, given the nodes so far: all nodes, and the tokens that are left
 abbrev pub Reader : Type 0
 Reader = List RawNode → List Token → Read (List RawNode)
 
--- the operator of the level that is next, and the tokens behind it
+-- the operator that is next, where it is of the level, and the tokens behind it
 abbrev pub of_level : ℕ → Option Opcode → List Token → Option (Opcode × List Token)
 of_level level None rest = None
 of_level level (Some op) rest = if level_of op == level then Some (op, rest) else None
@@ -78,17 +78,17 @@ unfoldable pub operator_at : ℕ → List Token → Option (Opcode × List Token
 operator_at level (Mark mark ∷ rest) = of_level level (operator_in mark) rest
 operator_at level tokens = None
 
--- an operator behind its operands
+-- the node of an operator, behind its operands'
 abbrev pub join : Opcode → List RawNode → List RawNode → List RawNode
 join op left both = both ++ nodes.Binary op (last_place (length left)) (last_place (length both)) ∷ []
 
--- an operator and its right operand, and what goes on behind them
+-- an operator with its right operand, and what `others` reads behind them; or nothing
 abbrev pub joined_or_end : Reader → Reader → List RawNode → List Token → Option (Opcode × List Token) → Read (List RawNode)
 joined_or_end operand others left tokens None = Ok (left, tokens)
 joined_or_end operand others left tokens (Some next) = operand left next.1 >>= λ both. others (join next.0 left both.0) both.1
 
--- Operators of one level and their right operands, as long as one is next. The number bounds how many; more than that
--- of the tokens is enough.
+-- Operators of one level with their right operands, as long as one is next. At most `many` are read; more than the
+-- number of tokens is always enough.
 unfoldable pub chain_at : Reader → ℕ → ℕ → Reader
 chain_at operand level zero left tokens = Ok (left, tokens)
 chain_at operand level (suc many) left tokens = joined_or_end operand (λ ls ts. chain_at operand level many ls ts) left tokens (operator_at level tokens)
@@ -96,30 +96,31 @@ chain_at operand level (suc many) left tokens = joined_or_end operand (λ ls ts.
 abbrev pub whole_chain_at : Reader → ℕ → Reader
 whole_chain_at operand level left tokens = chain_at operand level (suc (length tokens)) left tokens
 
--- what goes on with an operand, up to the level; `primary` reads an operand of the level 0
+-- what is behind an operand of level 0: operators of the levels up to this one with their right operands; `primary`
+-- reads an operand of level 0
 unfoldable pub behind_at : Reader → ℕ → Reader
 behind_at primary zero left tokens = Ok (left, tokens)
 behind_at primary (suc level) left tokens =
     behind_at primary level left tokens
     >>= λ first. whole_chain_at (λ ns ts. primary ns ts >>= λ x. behind_at primary level x.0 x.1) (suc level) first.0 first.1
 
--- an operand of the level
+-- an operand with binary operators of the levels up to this one
 abbrev pub operand_at : Reader → ℕ → Reader
 operand_at primary level before tokens = primary before tokens >>= λ x. behind_at primary level x.0 x.1
 
--- ---- operands of the level 0
+-- ---- operands of level 0
 
 abbrev pub add_unary : Function → List RawNode → List RawNode
 add_unary function before = before ++ nodes.Unary function (last_place (length before)) ∷ []
 
--- a term and the parenthesis behind it
+-- behind `(`: a term and `)`
 abbrev pub inside_at : ℕ → Reader → Reader
 inside_at line primary before tokens = do
   inside ← operand_at primary loosest before tokens
   behind ← mark_at (codes ")") line inside.1
   Ok (inside.0, behind)
 
--- the register of `width`, and the parenthesis behind it
+-- behind `width(`: a register and `)`
 unfoldable pub measured_at : Limits → ℕ → List Token → Read (List ℕ)
 measured_at limits line (Register name ∷ rest) = do
   held ← name_within limits line name
@@ -127,7 +128,7 @@ measured_at limits line (Register name ∷ rest) = do
   Ok (held, behind)
 measured_at limits line tokens = Err (unexpected line tokens)
 
--- behind its beginning, where the primaries in it are read so
+-- what is behind the beginning of an operand; `primary` reads the operands of level 0 in it
 abbrev pub begun_at : Limits → ℕ → Reader → List RawNode → Start → List Token → Read (List RawNode)
 begun_at limits line primary before (Leaf node) rest = Ok (before ++ node ∷ [], rest)
 begun_at limits line primary before (Prefix function) rest = primary before rest >>= λ x. Ok (add_unary function x.0, x.1)
@@ -135,12 +136,12 @@ begun_at limits line primary before Parenthesis rest = inside_at line primary be
 begun_at limits line primary before (Call function) rest = inside_at line primary before rest >>= λ x. Ok (add_unary function x.0, x.1)
 begun_at limits line primary before Width rest = measured_at limits line rest >>= λ x. Ok (before ++ nodes.Width x.0 ∷ [], x.1)
 
--- the same where nothing more may be nested
+-- an operand where no level of nesting is left: it has to be of one token
 abbrev pub shallow_in : ℕ → List RawNode → Start → Result (List RawNode) RuleFault
 shallow_in line before (Leaf node) = Ok (before ++ node ∷ [])
 shallow_in line before start = Err (fault line TooMany)
 
--- an operand of the level 0, with so many more nested at most
+-- an operand of level 0, with `nesting` levels of nesting left
 unfoldable pub primary_at : Limits → TermPlace → ℕ → ℕ → Reader
 primary_at limits place line zero before tokens = start_at limits place line tokens >>= λ start. shallow_in line before start.0 >>= λ nodes. Ok (nodes, start.1)
 primary_at limits place line (suc nesting) before tokens =
@@ -148,6 +149,6 @@ primary_at limits place line (suc nesting) before tokens =
 
 -- ---- terms
 
--- a term
+-- a whole term
 unfoldable pub term_at : Limits → TermPlace → ℕ → ℕ → List Token → Read (List RawNode)
 term_at limits place nesting line tokens = operand_at (primary_at limits place line nesting) loosest [] tokens

@@ -1,7 +1,7 @@
-//! Formulas from the tokens of a line.
+//! Formulas from the tokens of a line, by recursive descent.
 //!
-//! A comparison binds tighter than `!`, `!` tighter than `&&`, and `&&` tighter than `||`. Only nesting is followed by
-//! recursion.
+//! A comparison binds tighter than `!`, `!` tighter than `&&`, and `&&` tighter than `||`. Chains of `&&` and `||` are
+//! loops, so the depth of recursion is that of nesting.
 
 ghost use Rattle.std.specs.Prelude.{◌≡◌, drop, length};
 ghost use Rattle.std.specs.List.{list_any};
@@ -24,10 +24,10 @@ use ops::keywords::is;
 use rule_tokens::{RuleError, RuleFault, RuleFaultKind, Token, line_end, name_within, unexpected};
 use std::alloc::Global;
 
-/// The most open parentheses and pending operators of one operand at a token.
+/// The most open parentheses and pending unary operators at a token.
 const MOST_NESTED: u32 = 32;
 
-/// One level of nesting more.
+/// One level of nesting less; none left is a fault.
 fn deeper(line: usize, nesting: u32) -> Result<u32, RuleFault>
     ensures { Reads (λ x. x) result (reading.deeper line nesting) }
 {
@@ -39,7 +39,7 @@ fn deeper(line: usize, nesting: u32) -> Result<u32, RuleFault>
     }
 }
 
-/// The place of the last node; past the end of `u32` that end.
+/// The place of the last node, saturated to `u32`.
 fn last_place(nodes: &List<RawFormula>) -> u32
     ensures { result ≡ last_place (length nodes.now) }
 {
@@ -49,7 +49,7 @@ fn last_place(nodes: &List<RawFormula>) -> u32
     }
 }
 
-/// A comparison.
+/// Reads a comparison.
 #[tactic(auto, unfolding(crate::specs::FormulaReaders::comparison_at))]
 fn comparison(line: usize, tokens: &mut &[Token<'_>]) -> Result<Pred, RuleFault>
     ensures { Reads (λ x. (x, seen tokens.new.now)) result (reading.comparison_at line (seen tokens.old.now)) }
@@ -69,7 +69,7 @@ fn comparison(line: usize, tokens: &mut &[Token<'_>]) -> Result<Pred, RuleFault>
     }
 }
 
-/// Two terms and a comparison between them.
+/// Reads two terms with a comparison between them.
 #[tactic(auto, unfolding(crate::specs::FormulaReaders::compares_at))]
 fn compares(
     alloc: Global,
@@ -87,7 +87,7 @@ fn compares(
     Ok(())
 }
 
-/// A term in parentheses, behind its predicate.
+/// Reads a term in parentheses, behind its predicate.
 #[tactic(auto, unfolding(crate::specs::FormulaReaders::tests_at))]
 fn tests(
     alloc: Global,
@@ -107,7 +107,7 @@ fn tests(
     Ok(())
 }
 
-/// A register.
+/// Reads a register.
 fn register(alloc: Global, line: usize, tokens: &mut &[Token<'_>]) -> Result<Text, RuleError>
     ensures { Gives (λ x. (x, seen tokens.new.now)) result (reading.register_at rule_limits line (seen tokens.old.now)) }
 {
@@ -120,7 +120,7 @@ fn register(alloc: Global, line: usize, tokens: &mut &[Token<'_>]) -> Result<Tex
     }
 }
 
-/// A register in parentheses, behind `hasOneUse`.
+/// Reads a register in parentheses, behind `hasOneUse`.
 #[tactic(auto, unfolding(crate::specs::FormulaReaders::one_use_at))]
 fn one_use(
     alloc: Global,
@@ -137,7 +137,7 @@ fn one_use(
     Ok(())
 }
 
-/// Goes behind the first token.
+/// Takes the first token.
 fn skip(tokens: &mut &[Token<'_>])
     ensures { seen tokens.new.now ≡ drop 1 (seen tokens.old.now) }
 {
@@ -146,7 +146,7 @@ fn skip(tokens: &mut &[Token<'_>])
     }
 }
 
-/// A member of a formula, where so many levels of nesting are left.
+/// Reads a member of a formula, with `nesting` levels of nesting left.
 #[cycle(formula)]
 fn member(
     alloc: Global,
@@ -181,7 +181,7 @@ fn member(
     }
 }
 
-/// Members joined by `&&`.
+/// Reads members joined by `&&`.
 #[cycle(formula)]
 fn members(
     alloc: Global,
@@ -196,7 +196,7 @@ fn members(
     more_members(alloc, nesting, line, nodes, tokens)
 }
 
-/// The members behind the first one.
+/// Reads the members of a `&&` behind the first one.
 #[cycle(formula)]
 fn more_members(
     alloc: Global,
@@ -216,7 +216,7 @@ fn more_members(
     Ok(())
 }
 
-/// These joined by `||`.
+/// Reads conjunctions joined by `||`.
 #[cycle(formula)]
 fn alternatives(
     alloc: Global,
@@ -231,7 +231,7 @@ fn alternatives(
     more_alternatives(alloc, nesting, line, nodes, tokens)
 }
 
-/// The members joined by `||` behind the first ones.
+/// Reads the conjunctions of a `||` behind the first one.
 #[cycle(formula)]
 fn more_alternatives(
     alloc: Global,
@@ -251,7 +251,7 @@ fn more_alternatives(
     Ok(())
 }
 
-/// A member of the outermost `&&`.
+/// Reads a member of the outermost `&&`, where `hasOneUse` may stand.
 #[tactic(auto, unfolding(crate::specs::FormulaReaders::outer_member_at))]
 fn outer_member(
     alloc: Global,
@@ -270,7 +270,7 @@ fn outer_member(
     }
 }
 
-/// The members of the outermost `&&` behind the first one.
+/// Reads the members of the outermost `&&` behind the first one.
 fn more_outer_members(
     alloc: Global,
     line: usize,
@@ -297,7 +297,8 @@ fn asks_one_use(nodes: &[RawFormula]) -> bool
         .any(|node| matches!(node, RawFormula::HasOneUse(_)))
 }
 
-/// The nodes of the formula of a precondition, behind its head, each behind its operands; the line ends behind it.
+/// Reads the formula of a precondition, behind `Pre:`, and the end of its line. The answer is its nodes, each behind
+/// its operands.
 ///
 /// # Errors
 ///

@@ -19,7 +19,7 @@ pub enum Predicate {
     IsSignBit,
 }
 
-/// How a member of a formula begins.
+/// What a member of a formula begins with.
 #[derive(Clone, Copy)]
 pub enum Opening {
     /// By `!`.
@@ -32,13 +32,13 @@ pub enum Opening {
     Compares,
 }
 
-/// What a token says of the parentheses that it stands in.
+/// What the search for a formula in parentheses makes of a token.
 #[derive(Clone, Copy)]
 pub enum Sign {
     Opens,
     Closes,
     LineEnds,
-    /// It stands in formulas alone.
+    /// It stands in formulas and not in terms.
     InFormula,
     Plain,
 }
@@ -74,7 +74,7 @@ fn comparison_name(pred: Pred) -> &'static str
     }
 }
 
-/// The predicate of a comparison.
+/// The predicate that the mark is the comparison by.
 #[tactic(auto, unfolding(crate::specs::FormulaKeywords::comparison_in))]
 pub(crate) fn comparison_of(mark: &[u8]) -> Option<Pred>
     ensures { result ≡ spelled.comparison_in mark.now }
@@ -109,19 +109,19 @@ pub(crate) fn predicate_node(predicate: Predicate, term: RawTerm) -> RawFormula
     }
 }
 
-/// The marks that stand in formulas alone.
+/// The marks that stand in formulas and not in terms.
 const FORMULA_MARKS: [&str; 13] = [
     "==", "!=", "<", "<=", ">", ">=", "u<", "u<=", "u>", "u>=", "!", "&&", "||",
 ];
 
-/// Whether a word or a mark is one of these.
+/// Whether the word or mark is one of these.
 pub fn is_among(word: &[u8], words: &[&str]) -> bool
     ensures { result ≡ list_any (λ w. bytes_eq word.now w.now) words.now }
 {
     words.iter().any(|wanted| is(word, wanted))
 }
 
-/// What a mark says of the parentheses that it stands in.
+/// What the search for a formula in parentheses makes of a mark.
 fn mark_sign(mark: &[u8]) -> Sign
     ensures { result ≡ reading.mark_sign mark.now }
 {
@@ -136,7 +136,7 @@ fn mark_sign(mark: &[u8]) -> Sign
     }
 }
 
-/// What a word says of the parentheses that it stands in.
+/// What it makes of a word.
 fn word_sign(word: &[u8]) -> Sign
     ensures { result ≡ reading.word_sign word.now }
 {
@@ -147,7 +147,7 @@ fn word_sign(word: &[u8]) -> Sign
     }
 }
 
-/// What a token says of the parentheses that it stands in.
+/// What it makes of a token.
 fn sign_of(token: &Token<'_>) -> Sign
     ensures { result ≡ reading.sign_of (seen_token token.now) }
 {
@@ -159,7 +159,7 @@ fn sign_of(token: &Token<'_>) -> Sign
     }
 }
 
-/// Whether a formula, and no term, stands in the parentheses that are open here.
+/// Whether the `(` before these tokens encloses a formula and not a term.
 #[tactic(auto, unfolding(crate::specs::FormulaReaders::opens_formula))]
 pub(crate) fn opens_formula(tokens: &[Token<'_>]) -> bool
     ensures { result ≡ reading.opens_formula 0 (seen tokens.now) }
@@ -184,7 +184,7 @@ pub(crate) fn opens_formula(tokens: &[Token<'_>]) -> bool
     false
 }
 
-/// How a member of a formula begins.
+/// What a member of a formula begins with.
 #[tactic(auto, unfolding(crate::specs::FormulaReaders::opening_at))]
 pub(crate) fn opening_of(tokens: &[Token<'_>]) -> Opening
     ensures { result ≡ reading.opening_at (seen tokens.now) }

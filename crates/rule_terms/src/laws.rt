@@ -2,12 +2,12 @@
 ghost use Rattle.rule_terms.specs.Laws.{TermsAreReadAsSpelled};
 ghost use Rattle.rule_terms.specs.Nodes.{NodesStandBehindOperands};
 
-/// Reading from left to right answers nodes and the tokens behind exactly where the grammar spells them.
+/// The parser gives nodes and the tokens behind exactly where the grammar spells them.
 pub fn terms_are_read_as_they_are_spelled()
     ensures { TermsAreReadAsSpelled }
 {}
 
-/// A term that is spelled has a node or more, each behind its operands.
+/// What the grammar spells as a term has a node or more, each behind its operands.
 pub fn nodes_stand_behind_their_operands()
     ensures { NodesStandBehindOperands }
 {}

@@ -1,4 +1,4 @@
-//! Terms and formulas of rules as they are written, from the tokens of a line.
+//! The parsers of terms and formulas of rules.
 #![tactic(auto)]
 
 mod formula_reading;

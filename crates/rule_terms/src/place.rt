@@ -5,6 +5,6 @@
 pub enum TermPlace {
     /// In a target or a precondition: it is made of constants and literals.
     Constant,
-    /// In `Wit:`, where it may name registers and the target's `undef`s too.
+    /// In `Wit:`, where it may name registers and the target's choices too.
     Witness,
 }

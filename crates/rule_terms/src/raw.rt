@@ -10,19 +10,18 @@ pub type RawTerm = List<RawNode>;
 /// A node of a term as written. Its operands are nodes before it in the term, by their places.
 #[derive(Drop)]
 pub enum RawNode {
-    /// A number with its sign; past an end of `i128` that end.
+    /// A number with its sign, saturated to `i128`.
     Literal(i128),
     /// An abstract constant, by its name.
     Constant(Text),
     /// A register by its name, without the `%`. It stands in `Wit:` alone.
     Register(Text),
-    /// A choice of the target by its place, which is 0 for `t1`; past the end of `u32` that end. It stands in `Wit:`
-    /// alone.
+    /// A choice of the target by its place, which is 0 for `t1`, saturated to `u32`. It stands in `Wit:` alone.
     Choice(u32),
     /// `width(%x)`: the register by its name.
     Width(Text),
     Unary(Function, u32),
-    /// An operator of two operands, as the instruction that computes the same.
+    /// A binary operator, as the instruction that computes the same.
     Binary(Opcode, u32, u32),
 }
 

@@ -1,5 +1,5 @@
-//! Terms from the tokens of a line. Operators of one level are read in a loop; only what is nested, and the levels,
-//! recurse.
+//! Terms from the tokens of a line, by recursive descent over precedence levels. Operators of one level are read in a
+//! loop, so the depth of recursion is bounded by nesting and the number of levels.
 
 ghost use Rattle.std.specs.Prelude.{◌≡◌, length, Some, None, IfSome, IfNone, OnOk};
 ghost use Rattle.refusal.specs.Refusals.{Gives};
@@ -18,7 +18,7 @@ use rule_core::Function;
 use rule_tokens::{RuleError, RuleFaultKind, Token};
 use std::alloc::{AllocError, Global};
 
-/// The level of a whole term, which no operator is looser than.
+/// The level of the loosest operators, so of a whole term.
 const LOOSEST: u32 = 6;
 
 /// Where a term stands in a text, and with what memory it is read.
@@ -29,7 +29,7 @@ struct Site {
     line: usize,
 }
 
-/// The place of the last node; past the end of `u32` that end.
+/// The place of the last node, saturated to `u32`.
 fn last_place(nodes: &RawTerm) -> u32
     ensures { result ≡ last_place (length nodes.now) }
 {
@@ -39,7 +39,7 @@ fn last_place(nodes: &RawTerm) -> u32
     }
 }
 
-/// Adds an operator of the last node.
+/// Adds a unary operator or a function of the last node.
 fn push_unary(function: Function, nodes: &mut RawTerm) -> Result<(), AllocError>
     ensures { OnOk result (nodes.new ≡ parsing.add_unary function nodes.old) }
 {
@@ -48,7 +48,7 @@ fn push_unary(function: Function, nodes: &mut RawTerm) -> Result<(), AllocError>
     Ok(())
 }
 
-/// The operator of the level that is next, if one is; goes behind it.
+/// Takes the operator that is next, if it is of the level.
 #[tactic(auto, unfolding(crate::specs::TermReaders::operator_at))]
 fn operator(level: u32, tokens: &mut &[Token<'_>]) -> Option<Opcode>
     ensures some { IfSome result (λ op. parsing.operator_at level (seen tokens.old.now) ≡ Some (op, seen tokens.new.now)) }
@@ -67,7 +67,7 @@ fn operator(level: u32, tokens: &mut &[Token<'_>]) -> Option<Opcode>
     }
 }
 
-/// What goes on with an operand, by operators up to the level.
+/// Reads what is behind an operand: operators of the levels up to this one with their right operands.
 #[cycle(terms)]
 fn behind(
     site: &Site,
@@ -91,7 +91,7 @@ fn behind(
     Ok(())
 }
 
-/// An operand of an operator that is looser than the level.
+/// Reads an operand with binary operators of the levels up to this one.
 #[cycle(terms)]
 fn operand(
     site: &Site,
@@ -106,7 +106,7 @@ fn operand(
     behind(site, nesting, level, nodes, tokens)
 }
 
-/// A term behind its `(`, and the `)` behind it.
+/// Reads a term, behind its `(`, and the `)` behind it.
 #[cycle(terms)]
 fn inside(
     site: &Site,
@@ -121,7 +121,7 @@ fn inside(
     Ok(())
 }
 
-/// An operand of which this is the whole, where nothing more may be nested.
+/// Adds the node of an operand of one token, where no level of nesting is left for another.
 fn shallow(line: usize, start: Start, nodes: &mut RawTerm) -> Result<(), RuleError>
     ensures { Gives (λ _. nodes.new) result (parsing.shallow_in line nodes.old start) }
 {
@@ -136,7 +136,7 @@ fn shallow(line: usize, start: Start, nodes: &mut RawTerm) -> Result<(), RuleErr
     }
 }
 
-/// An operand behind its beginning, with so many more nested in it at most.
+/// Reads what is behind the beginning of an operand, with `nesting` levels of nesting left in it.
 #[cycle(terms)]
 fn begun(
     site: &Site,
@@ -166,7 +166,7 @@ fn begun(
     Ok(())
 }
 
-/// An operand without operators of two operands outside parentheses, with so many nested at most.
+/// Reads an operand of level 0, without binary operators outside parentheses, with `nesting` levels of nesting left.
 #[cycle(terms)]
 fn primary(
     site: &Site,
@@ -183,8 +183,8 @@ fn primary(
     begun(site, nesting - 1, start, nodes, tokens)
 }
 
-/// The term that stands here; goes behind it. At most `nesting` parentheses and operators of one operand are open at a
-/// token, and the next one is `TooMany`. It takes as many steps as the term has tokens.
+/// Reads a term. At most `nesting` parentheses and unary operators are open at a token; one more is `TooMany`. It takes
+/// as many steps as the term has tokens.
 #[tactic(auto, unfolding(crate::specs::TermReaders::term_at))]
 pub fn term(
     alloc: Global,

@@ -34,7 +34,7 @@ pub enum Start {
     Width,
 }
 
-/// The mark that has to stand here.
+/// Takes the mark that has to be next.
 #[tactic(auto, unfolding(crate::specs::TermReaders::mark_at))]
 pub fn mark(wanted: &str, line: usize, tokens: &mut &[Token<'_>]) -> Result<(), RuleFault>
     ensures { Reads (λ _. seen tokens.new.now) result (parsing.mark_at wanted.now line (seen tokens.old.now)) }
@@ -53,7 +53,7 @@ pub fn mark(wanted: &str, line: usize, tokens: &mut &[Token<'_>]) -> Result<(), 
     }
 }
 
-/// A register, which stands in a witness alone.
+/// A register, in `Wit:` alone.
 fn register(alloc: Global, place: TermPlace, line: usize, name: &[u8]) -> Result<Start, RuleError>
     ensures { Gives (λ x. x) result (parsing.register_in rule_limits place line name.now) }
 {
@@ -63,7 +63,7 @@ fn register(alloc: Global, place: TermPlace, line: usize, name: &[u8]) -> Result
     }
 }
 
-/// A word, behind which these tokens stand.
+/// What the word begins, where these tokens are behind it.
 fn word(
     alloc: Global,
     line: usize,
@@ -94,7 +94,7 @@ fn word(
     }
 }
 
-/// What a mark begins: a parenthesis, or an operator of one operand.
+/// What a mark begins: a parenthesis or a unary operator.
 #[tactic(auto, unfolding(crate::specs::TermReaders::opening_in))]
 fn opening_of(mark: &[u8]) -> Option<Start>
     ensures { result ≡ parsing.opening_in mark.now }
@@ -110,7 +110,7 @@ fn opening_of(mark: &[u8]) -> Option<Start>
     }
 }
 
-/// What the operand begins with that stands here; goes behind it.
+/// Reads what an operand begins with.
 #[tactic(auto, unfolding(crate::specs::TermReaders::start_at))]
 pub(crate) fn begin(
     alloc: Global,
@@ -144,7 +144,7 @@ pub(crate) fn begin(
     }
 }
 
-/// The register of a `width(`, and the parenthesis behind it.
+/// Reads the register of a `width(`, and the `)` behind it.
 #[tactic(auto, unfolding(crate::specs::TermReaders::measured_at))]
 pub(crate) fn measured(
     alloc: Global,

@@ -7,7 +7,7 @@ ghost use Rattle.rule_terms.specs.Chains as reading;
 use ops::keywords::is;
 use rule_tokens::Token;
 
-/// Whether the mark is next; goes behind it, if it is.
+/// Takes the mark if it is next, and says whether it was.
 pub fn takes(mark: &str, tokens: &mut &[Token<'_>]) -> bool
     ensures next { result ≡ reading.next_is mark.now (seen tokens.old.now) }
     ensures goes { seen tokens.new.now ≡ (if result then drop 1 (seen tokens.old.now) else seen tokens.old.now) }

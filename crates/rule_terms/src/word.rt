@@ -32,7 +32,7 @@ fn operator_mark(opcode: Opcode) -> &'static str
     }
 }
 
-/// How loosely an operator binds: the tightest ones have the level 1, and what is no operator of terms has the level 0.
+/// The precedence level of an operator, 1 for the tightest; 0 for what is no operator of terms.
 pub(crate) fn level_of(opcode: Opcode) -> u32
     ensures { result ≡ spelled.level_of opcode }
 {
@@ -63,7 +63,7 @@ const OPERATORS: [Opcode; 13] = [
     Opcode::Or,
 ];
 
-/// The operator of two operands that a mark is.
+/// The binary operator that a mark is, as its instruction.
 #[tactic(auto, unfolding(crate::specs::Keywords::operator_in))]
 pub fn operator_of(mark: &[u8]) -> Option<Opcode>
     ensures { result ≡ spelled.operator_in mark.now }
@@ -85,7 +85,7 @@ pub fn is_constant(word: &[u8]) -> bool
     }
 }
 
-/// The place of a number that counts from 1; past the end of `u32` that end.
+/// The place of what is counted from 1, saturated to `u32`.
 fn place_of(digits: &[u8]) -> u32
     ensures { result ≡ min (decimal_value digits.now - 1) (2 ^ 32 - 1) }
 {
@@ -95,7 +95,7 @@ fn place_of(digits: &[u8]) -> u32
     }
 }
 
-/// The place of the target's `undef` that a word is: 0 for `t1`.
+/// The place of the choice of the target that a word names: 0 for `t1`.
 #[tactic(auto, unfolding(crate::specs::Keywords::choice_in))]
 fn choice_of(word: &[u8]) -> Option<u32>
     ensures { result ≡ spelled.choice_in word.now }
@@ -116,11 +116,11 @@ pub enum Meaning {
     Call(Function),
     /// A constant.
     Constant,
-    /// An `undef` of the target, by its place.
+    /// A choice of the target, by its place.
     Choice(u32),
 }
 
-/// What a name means in an operand's place.
+/// What a name means where an operand begins.
 #[tactic(auto, unfolding(crate::specs::Keywords::name_in))]
 fn name_meaning(place: TermPlace, word: &[u8]) -> Option<Meaning>
     ensures { result ≡ spelled.name_in place word.now }
@@ -137,7 +137,7 @@ fn name_meaning(place: TermPlace, word: &[u8]) -> Option<Meaning>
     }
 }
 
-/// What a word means in an operand's place.
+/// What a word means where an operand begins.
 #[tactic(auto, unfolding(crate::specs::Keywords::meaning_in))]
 pub(crate) fn meaning_of(place: TermPlace, word: &[u8]) -> Option<Meaning>
     ensures { result ≡ spelled.meaning_in place word.now }

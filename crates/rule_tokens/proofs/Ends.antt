@@ -1,4 +1,4 @@
--- What is spelled is read, where the line of its last token ends behind it.
+-- What the grammar spells is read, where the line of its last token ends behind it.
 use Rattle.std.proofs.Common.{◌≡◌, ℕ, ◌≤◌, List, [], ◌∷◌, ◌++◌, length, Ok, refl}
 use Rattle.std.proofs.lemmas.Bool.{le-leb}
 use Rattle.rule_tokens.specs.Limits.{Limits}
@@ -7,7 +7,7 @@ use Rattle.rule_tokens.specs.TypeTokens.{SpellsType}
 use Rattle.rule_tokens.specs.Tokens.{Token, Line}
 use Rattle.rule_tokens.proofs.Types.{type_in-of}
 
--- the line ends here
+-- no token of this line is left
 abbrev pub EndsLine : List Token → Type 0
 EndsLine [] = Unit {0}
 EndsLine (Line next ∷ rest) = Unit {0}

@@ -1,4 +1,4 @@
--- At each place of a text something stands.
+-- At each place of a text the lexer has an answer: a token, the end, or a byte that may not stand.
 use Rattle.std.proofs.Common.{◌≡◌, ◌≢◌, ℕ, zero, suc, ◌+◌, ◌-◌, ◌<◌, ◌≤◌, Bool, true, false, List, Option, Some, None, Result, Ok, Err, length, take, drop, refl, ap, ◌∙◌, ⊎_elim, ◌⊎◌, inl, inr, arith}
 use Rattle.std.proofs.lemmas.List.{nil_from_length}
 use Rattle.scan.specs.declared.rule_token.RuleKind.{RuleKind}
@@ -16,9 +16,9 @@ use Rattle.scan.proofs.GapLemmas.{GapTo, gap_to}
 use Rattle.scan.proofs.KindLemmas.{begins_token, begins_other}
 use Rattle.scan.proofs.PlaceLemmas.{Behind, next_bad, next_token}
 
--- ---- the longest front of a kind
+-- ---- the longest prefix of a kind
 
--- none longer than k bytes
+-- no prefix of up to k bytes is longer
 record LongestUpTo (f : List ℕ → List ℕ → Option RuleKind) (text : List ℕ) (k : ℕ) : Type 0 where
   kind : RuleKind
   n : ℕ
@@ -46,7 +46,7 @@ longest_up_to f text (suc k) = at_most (f (take (suc k) text) (drop (suc k) text
           (below_or_same m k le);
     }
 
--- ---- what a text begins with, where it begins with no gap
+-- ---- what a text without a gap in front begins with
 
 zero_or_more : (n : ℕ) → (n ≡ 0) ⊎ (n ≢ 0)
 zero_or_more zero = inl refl
@@ -67,7 +67,7 @@ begun operator text no_gap = ⊎_elim
     (which (begins_with is_bad text)))
     (zero_or_more (length text))
 
--- ---- what stands behind the gap at a place
+-- ---- what comes behind the gap at a place
 
 pub next_exists : (operator : Bool) (text : List ℕ) (at : ℕ) → at ≤ length text → (r : Result RuleToken BadByte) × IsNext operator text at r
 next_exists operator text at le =

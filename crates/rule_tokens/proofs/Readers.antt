@@ -1,4 +1,4 @@
--- Each text has tokens, and no others.
+-- Each text has exactly one list of tokens.
 use Rattle.std.proofs.Common.{◌≡◌, ◌≢◌, ℕ, zero, suc, ◌+◌, ◌-◌, ◌<◌, ◌≤◌, max, Bool, true, false, List, [], ◌∷◌, Result, Ok, Err, length, refl, sym, ap, subst, ◌∙◌, ⊎_elim, ◌⊎◌, inl, inr, arith}
 use Rattle.std.specs.Prelude.{codes}
 use Rattle.std.specs.Str.{bytes_eq}
@@ -22,7 +22,7 @@ use Rattle.rule_tokens.specs.Tokens.{Token, Name, Bad, Place, AtName, AtToken, t
 use Rattle.rule_tokens.proofs.Nexts.{next_exists}
 use Rattle.rule_tokens.proofs.Tokenising.{token_moves, place_name, place_token}
 
--- ---- one list of tokens
+-- ---- no two lists
 
 abbrev ok_of : RuleToken → Result RuleToken BadByte
 ok_of t = Ok t
@@ -54,7 +54,7 @@ same_names text at a b (span, h, is) (span', h', is') =
     let same : span ≡ span' = ap (λ (s : ℕ). span_of s span.end) start ∙ ap (λ (e : ℕ). span_of span'.start e) end in
     is ∙ ap (λ (s : Span). Name (bytes_at text s)) same ∙ sym is'
 
--- a token, and what is the same behind it
+-- a token that is the same in both, and the lists behind it
 same_behind : (text : List ℕ) (c : Context) (line : ℕ) (t u : RuleToken) (tokens others : List Token) (last end : ℕ) → t ≡ u → TokensFrom text (place_behind c u.kind (bytes_at text u.span)) u.span.end u.line others end
     → ((b : List Token) (e : ℕ) → TokensFrom text (place_behind c t.kind (bytes_at text t.span)) t.span.end t.line b e → (tokens ≡ b) × (last ≡ e))
     → (token_on line t.line (token_at text c t) tokens ≡ token_on line u.line (token_at text c u) others) × (last ≡ end)
@@ -85,7 +85,7 @@ one_reading one text (name {c} {at} {line} {last} {found} {tokens} h behind) le 
 one_reading one text (bad_name {c} {at} {line} {last} h) le others end (name k behind) = absurd (false≢true (sym k.1.printable ∙ h.bad))
 one_reading one text (bad_name {c} {at} {line} {last} h) le others end (bad_name k) = (refl, h.line_is ∙ sym k.line_is)
 
--- ---- there is one
+-- ---- some list
 
 record Reading (text : List ℕ) (place : Place) (at line : ℕ) : Type 0 where
   tokens : List Token

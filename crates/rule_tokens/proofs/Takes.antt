@@ -1,4 +1,4 @@
--- What is read is spelled so, by tokens in front of those that are left.
+-- What is read is what the grammar spells with the tokens that were taken.
 use Rattle.std.proofs.Common.{◌≡◌, ℕ, ◌≤◌, true, leb, List, [], ◌∷◌, ◌++◌, length, Option, Some, None, Ok, refl, sym, ap, subst, ◌∙◌, append_assoc}
 use Rattle.std.specs.Str.{bytes_eq}
 use Rattle.std.proofs.lemmas.Bool.{leb-true}
@@ -13,7 +13,7 @@ use Rattle.rule_tokens.specs.Tokens.{Token, Line, Word, Mark}
 use Rattle.rule_tokens.proofs.Steps.{ok_is, tested, not_left_out}
 use Rattle.rule_tokens.proofs.Types.{type_in-is}
 
--- tokens of a part, in front of the rest
+-- the tokens are some that spell the part, and the rest
 pub record Takes (Spells : Part) (tokens rest : List Token) : Type 0 where
   pub own : List Token
   pub is_own : Spells own
@@ -32,7 +32,7 @@ both {rest = rest} p q = record {
 pub nothing : (tokens : List Token) → Takes Nothing tokens tokens
 nothing tokens = record { own = []; is_own = refl; whole = refl }
 
--- a token that spells a part alone
+-- a part of one token
 pub one : {P : Part} (token : Token) (rest : List Token) → P (token ∷ []) → Takes P (token ∷ rest) rest
 one token rest is = record { own = token ∷ []; is_own = is; whole = refl }
 

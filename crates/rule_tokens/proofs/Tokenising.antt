@@ -1,4 +1,4 @@
--- The tokens of a text from a place on: one step more.
+-- The tokens of a text from a place on: one step of the loop.
 use Rattle.std.proofs.Common.{◌≡◌, ◌≢◌, ℕ, zero, suc, ◌+◌, ◌-◌, ◌<◌, ◌≤◌, Bool, true, false, cond, eqb, List, [], ◌∷◌, ◌++◌, length, refl, sym, ap, subst, ◌∙◌, append_assoc, None, arith}
 use Rattle.std.specs.Prelude.{codes}
 use Rattle.std.specs.Str.{bytes_eq}
@@ -44,11 +44,11 @@ added_on : (front : List Token) (same : Bool) (line : ℕ) (t : Token) (tokens :
 added_on front true line t tokens = append_assoc front (t ∷ []) tokens
 added_on front false line t tokens = append_assoc front (Line line ∷ t ∷ []) tokens
 
--- one token more behind those in front
+-- a token is appended to those in front
 pub added : (front : List Token) (before line : ℕ) (t : Token) (tokens : List Token) → (front ++ token_on before line t []) ++ tokens ≡ front ++ token_on before line t tokens
 added front before line t tokens = added_on front (eqb line before) line t tokens
 
--- the tokens in front are those of the text up to a place, whatever tokens are read from there on
+-- the loop: with any tokens of the text from this place on, those in front are tokens of the whole text
 abbrev pub SoFar : List ℕ → Place → ℕ → ℕ → List Token → Type 0
 SoFar text place at before front = (tokens : List Token) (last : ℕ) → TokensFrom text place at before tokens last → TokensFrom text (AtToken at_start) 0 0 (front ++ tokens) last
 

@@ -1,4 +1,4 @@
--- Types: what those that are read spell, and that what is spelled is read.
+-- A word is read as a type exactly where the grammar spells the type so.
 use Rattle.std.proofs.Common.{◌≡◌, ℕ, ◌≤◌, Bool, true, eqb, leb, ◌&&◌, List, [], ◌∷◌, Some, refl, sym, ap, subst}
 use Rattle.std.proofs.lemmas.Bool.{eqb-true, leb-true, le-leb}
 use Rattle.scan.specs.Bytes.{are_digits}

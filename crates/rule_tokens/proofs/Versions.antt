@@ -1,4 +1,4 @@
--- Which version a text of digits is the number of.
+-- Which version digits spell, as code and definition have it.
 use Rattle.std.proofs.Common.{◌≡◌, ℕ, ◌==◌, true, false, List, Some, None, refl, ⊎_elim}
 use Rattle.std.specs.Prelude.{find}
 use Rattle.std.proofs.lemmas.Bool.{eqb-true}

@@ -1,4 +1,5 @@
--- What the tokens before a token say of it, and where the word `abs` is an opcode and no function of terms.
+-- What the tokens before a token tell the lexer of it, and where the word `abs` is an opcode and not the function of
+-- terms.
 use Rattle.std.specs.Prelude.{ℕ, Bool, true, false, not, ◌&&◌, ◌||◌, if◌then◌else◌, List, Option, Some, None, codes}
 use Rattle.std.specs.Str.{bytes_eq}
 use Rattle.scan.specs.declared.rule_token.RuleKind.{RuleKind}
@@ -11,17 +12,17 @@ use Rattle.rule_tokens.specs.declared.version.Version.{Version}
 use Rattle.rule_tokens.specs.declared.version.Version.TheVariants.{One, Two}
 use Rattle.rule_tokens.specs.Versions.{version_in}
 
--- at the first token of a text
+-- the context of a text's first token
 abbrev pub at_start : Context
 at_start = record { operator = false; version = One; in_target = false; before = Other }
 
--- what a token is for the one directly behind it
+-- what the token directly behind needs to know of this one
 abbrev pub before_of : RuleKind → List ℕ → Before
 before_of kinds.Head bytes = if bytes_eq bytes (codes "Version:") then VersionHead else Other
 before_of kinds.Mark bytes = if bytes_eq bytes (codes "=") then Equals else Other
 before_of kind bytes = Other
 
--- the version that a number behind `Version:` says
+-- the version of the file where a number behind `Version:` says one, known or not
 abbrev pub or_first : Option Version → Version
 or_first None = One
 or_first (Some version) = version
@@ -33,12 +34,12 @@ version_told before version kind bytes = version
 abbrev pub version_behind : Context → RuleKind → List ℕ → Version
 version_behind c kind bytes = version_told c.before c.version kind bytes
 
--- the target begins behind `=>`
+-- behind `=>` the target begins
 abbrev pub is_arrow : RuleKind → Bool
 is_arrow kinds.Arrow = true
 is_arrow kind = false
 
--- behind a token
+-- the context of the token behind one of this kind with these bytes
 abbrev pub context_behind : Context → RuleKind → List ℕ → Context
 context_behind c kind bytes = record {
   operator = ends_primary kind bytes;
@@ -47,7 +48,7 @@ context_behind c kind bytes = record {
   before = before_of kind bytes;
 }
 
--- behind the name of a rule
+-- the context of the token behind the name of a rule
 abbrev pub behind_name : Context → Context
 behind_name c = record at_start { version = c.version }
 

@@ -12,8 +12,8 @@ abbrev pub literal_number : List ℕ → ℤ
 literal_number [] = pos 0
 literal_number (b ∷ digits) = if b == 45 then neg_ℤ (pos (decimal_value digits)) else pos (decimal_value (b ∷ digits))
 
--- and the number that a rule holds of it, in 128 bits: one past an end of these is held as that end, and no width fits
--- either
+-- the number that a rule holds of a literal, in 128 bits: saturated, and no width fits a literal beyond 128 bits, nor
+-- what is held of it
 unfoldable pub literal_value : List ℕ → ℤ
 literal_value text = saturate_signed w128 (literal_number text)
 

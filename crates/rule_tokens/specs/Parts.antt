@@ -1,31 +1,32 @@
--- Parts of a text as the tokens that spell them: a grammar is written with them as usual.
+-- Grammars over tokens: a part (nonterminal) is the set of the token lists that spell it, and productions are written
+-- with these combinators.
 use Rattle.std.specs.Prelude.{◌≡◌, List, [], ◌∷◌, ◌++◌, Option, Some, None, codes}
 use Rattle.rule_tokens.specs.Tokens.{Token, Mark}
 
--- these tokens spell such a part
+-- a part: which tokens spell it
 abbrev pub Part : Type 1
 Part = List Token → Type 0
 
--- this token
+-- this token alone
 abbrev pub Is : Token → Part
 Is token tokens = tokens ≡ token ∷ []
 
 abbrev pub Comma : Part
 Comma = Is (Mark (codes ","))
 
--- nothing, and what is not there
+-- no tokens; and `Never`, which nothing spells
 abbrev pub Nothing : Part
 Nothing tokens = tokens ≡ []
 
 abbrev pub Never : Part
 Never tokens = ⊥
 
--- a part, and behind it another
+-- sequence: the one part, and behind it the other
 infixr 20 ◌⨾◌
 abbrev pub ◌⨾◌ : Part → Part → Part
 (first ⨾ second) tokens = (front back : List Token) × first front × second back × (tokens ≡ front ++ back)
 
--- a part that may be missing
+-- an optional part
 abbrev pub Maybe : {A : Type 0} → (A → Part) → Option A → Part
 Maybe P None = Nothing
 Maybe P (Some x) = P x

@@ -1,4 +1,4 @@
--- Tokens of the code without where they lie in memory.
+-- Tokens of the code, with their bytes in place of references into the text.
 use Rattle.std.specs.Prelude.{List, map}
 use Rattle.rule_tokens.specs.declared.token.Token.{Token as Scanned}
 use Rattle.rule_tokens.specs.declared.token.Token.TheVariants as scanned
@@ -18,6 +18,6 @@ seen_token scanned.Other = Other
 seen_token scanned.Bad = Bad
 seen_token scanned.Excess = Excess
 
--- tokens in order
+-- a list of them
 abbrev pub seen : List Scanned → List Token
 seen tokens = map seen_token tokens

@@ -12,35 +12,35 @@ use Rattle.scan.specs.RuleTokens.{IsNextRuleToken, IsBadNext}
 use Rattle.rule_tokens.specs.declared.context.Context.{Context}
 use Rattle.rule_tokens.specs.Contexts.{at_start, context_behind, behind_name, is_opcode}
 
--- a token, with its bytes
+-- a token, with its bytes where they tell more than its kind
 pub data Token : Type 0 where
-  -- the tokens of another line follow: its number
+  -- the tokens behind stand on another line, with this number
   Line : (number : ℕ) → Token
   -- `Version:`, `Name:`, `Pre:` or `Wit:`
   Head : (text : List ℕ) → Token
   -- the name of a rule: the rest of the line of its `Name:`
   Name : (text : List ℕ) → Token
-  -- without the `%`
+  -- a register, without its `%`
   Register : (name : List ℕ) → Token
   Word : (text : List ℕ) → Token
-  -- a word that is an opcode, where other tokens of its bytes are the function of terms
+  -- a word that is an opcode where the same bytes elsewhere are a function of terms (`abs`)
   Opcode : (text : List ℕ) → Token
   Number : (text : List ℕ) → Token
   Arrow : Token
   Mark : (text : List ℕ) → Token
   -- a printable byte that begins no token
   Other : Token
-  -- a byte that may not stand where it does; nothing behind it is a token
+  -- a byte that may not stand here; it ends the list of tokens
   Bad : Token
-  -- behind a token with which a rule has too many operands, literals, names, operators and functions; nothing behind it
-  -- is read
+  -- stands behind the token with which a rule passes the limit of operands, literals, names, operators and functions,
+  -- and ends the list of tokens
   Excess : Token
 
--- a word, which is an opcode or not
+-- a word, as an opcode or not
 abbrev pub word_of : Bool → List ℕ → Token
 word_of opcode word = if opcode then Opcode word else Word word
 
--- the token of a kind other than the end, with its bytes, where `(` stands directly behind it or not
+-- the token of a kind other than the end, with its bytes; `called` where `(` stands directly behind it
 abbrev pub token_of : Context → Bool → RuleKind → List ℕ → Token
 token_of c called kinds.End bytes = Other
 token_of c called kinds.Other bytes = Other
@@ -51,16 +51,16 @@ token_of c called kinds.Number bytes = Number bytes
 token_of c called kinds.Arrow bytes = Arrow
 token_of c called kinds.Mark bytes = Mark bytes
 
--- a token on a line, behind a token on the line before it or on the same
+-- a token in front of others; the number of its line comes first where the token before is on another line
 abbrev pub token_on : ℕ → ℕ → Token → List Token → List Token
 token_on before line token tokens = if line == before then token ∷ tokens else Line line ∷ token ∷ tokens
 
--- what the next token is read as: the name of a rule, behind `Name:`, or a token
+-- what is looked for next: behind `Name:` the rest of the line, which is a rule's name, and else a token
 pub data Place : Type 0 where
   AtName : (context : Context) → Place
   AtToken : (context : Context) → Place
 
--- what the token behind one of a kind, with these bytes, is read as
+-- what is looked for behind a token of this kind with these bytes
 abbrev pub place_behind : Context → RuleKind → List ℕ → Place
 place_behind c kind bytes = if bytes_eq bytes (codes "Name:") then AtName c else AtToken (context_behind c kind bytes)
 
@@ -68,20 +68,20 @@ place_behind c kind bytes = if bytes_eq bytes (codes "Name:") then AtName c else
 abbrev pub bytes_at : List ℕ → Span → List ℕ
 bytes_at text span = between text span.start span.end
 
--- `(` stands at a place
+-- `(` stands at this place of the text
 abbrev pub is_called : List ℕ → ℕ → Bool
 is_called text at = begins_with (λ b. b == 40) (drop at text)
 
--- a token as it is found in the text
+-- the token that the lexer found, as the parser sees it
 abbrev pub token_at : List ℕ → Context → RuleToken → Token
 token_at text c t = token_of c (is_called text t.span.end) t.kind (bytes_at text t.span)
 
--- the name of a rule, as it stands at a place
+-- the token of the name of a rule that begins at this place
 abbrev pub IsNameToken : List ℕ → ℕ → Token → Type 0
 IsNameToken text at name = (span : Span) × IsNameNext text at span × (name ≡ Name (bytes_at text span))
 
--- The tokens of a text from a place in it on, behind a token on a line, and the text's last line. They end with the
--- text, or at the first byte that may not stand where it does, which is the last one then.
+-- The tokens of a text from a place on, where the token before ended on this line, and the text's last line. They end
+-- with the text, or with the first byte that may not stand where it does.
 pub data TokensFrom (text : List ℕ) : Place → ℕ → ℕ → List Token → ℕ → Type 0 where
   ends : {c : Context} {at line last : ℕ} (t : RuleToken)
       → IsNextRuleToken c.operator text at t → t.kind ≡ kinds.End → last ≡ t.line
@@ -97,6 +97,6 @@ pub data TokensFrom (text : List ℕ) : Place → ℕ → ℕ → List Token →
   bad_token : {c : Context} {at line last : ℕ} → IsBadNext text at last → TokensFrom text (AtToken c) at line (token_on line last Bad []) last
   bad_name : {c : Context} {at line last : ℕ} → IsBadInRest text at last → TokensFrom text (AtName c) at line (Bad ∷ []) last
 
--- the tokens of a text, each line's behind its number, and its last line
+-- the tokens of a text, those of each line behind its number, and the text's last line
 abbrev pub AreTokens : List ℕ → List Token → ℕ → Type 0
 AreTokens text tokens last = TokensFrom text (AtToken at_start) 0 0 tokens last

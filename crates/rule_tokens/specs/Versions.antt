@@ -12,6 +12,6 @@ version_number Two = 2
 abbrev pub versions : List Version
 versions = One ∷ Two ∷ []
 
--- the version of which the text is the number in digits
+-- the version whose number the digits spell
 unfoldable pub version_in : List ℕ → Option Version
 version_in text = if are_digits text then find (λ version. decimal_value text == version_number version) versions else None

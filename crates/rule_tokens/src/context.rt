@@ -1,4 +1,4 @@
-//! What the tokens before a token say of it.
+//! What the tokens before a token tell the lexer of it.
 
 ghost use Rattle.std.specs.Prelude.{◌≡◌};
 ghost use Rattle.rule_tokens.specs.Contexts as meaning;
@@ -17,10 +17,10 @@ pub enum Before {
     Other,
 }
 
-/// What the tokens before a token say of it.
+/// What the tokens before a token tell the lexer of it.
 #[derive(Clone, Copy)]
 pub struct Context {
-    /// Whether an operator may stand there, since the token before ends a primary of a term.
+    /// Whether a binary operator may stand here, since the token before ends a primary expression of a term.
     pub operator: bool,
     /// The version of the file: the first one, until a line says another.
     pub version: Version,
@@ -30,7 +30,7 @@ pub struct Context {
 }
 
 impl Context {
-    /// That of the first token of a text.
+    /// The context of a text's first token.
     pub(crate) const START: Context = Context {
         operator: false,
         version: Version::One,
@@ -38,7 +38,7 @@ impl Context {
         before: Before::Other,
     };
 
-    /// That of what stands behind a token of this kind with these bytes.
+    /// The context of the token behind one of this kind with these bytes.
     pub(crate) fn behind(self, kind: RuleKind, bytes: &[u8]) -> Context
         ensures { result ≡ meaning.context_behind self kind bytes.now }
     {
@@ -50,7 +50,7 @@ impl Context {
         }
     }
 
-    /// That of what stands behind the name of a rule.
+    /// The context of the token behind the name of a rule.
     pub(crate) fn behind_name(self) -> Context
         ensures { result ≡ meaning.behind_name self }
     {
@@ -70,7 +70,7 @@ impl Context {
         }
     }
 
-    /// The version of the file behind such a token.
+    /// The version of the file, once this token is read.
     fn version_behind(self, kind: RuleKind, bytes: &[u8]) -> Version
         ensures { result ≡ meaning.version_behind self kind bytes.now }
     {
@@ -83,7 +83,7 @@ impl Context {
     }
 }
 
-/// What a token is for the one directly behind it.
+/// What the token directly behind needs to know of this one.
 fn before_of(kind: RuleKind, bytes: &[u8]) -> Before
     ensures { result ≡ meaning.before_of kind bytes.now }
 {

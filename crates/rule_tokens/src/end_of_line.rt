@@ -8,7 +8,7 @@ use crate::fault::RuleFault;
 use crate::token::Token;
 use crate::token_fault::unexpected;
 
-/// That nothing more stands on a line, behind what is no operand.
+/// Checks that no token is left on the line, where what was read before is no operand.
 pub fn line_end(line: usize, tokens: &[Token<'_>]) -> Result<(), RuleFault>
     ensures { Reads (λ _. seen tokens.now) result (reading.line_end line (seen tokens.now)) }
 {

@@ -10,30 +10,30 @@ pub enum RuleFaultKind {
     TooLong,
     /// A byte that is no printable ASCII, no blank and no line feed, outside comments.
     BadByte,
-    /// A token that does not fit, or a part that is not whole at the end of its line.
+    /// A token that does not fit, or a line or text that ends too soon.
     Syntax,
-    /// A word of what is left out of the language, or the number of a version that is not there.
+    /// A word that this subset of the language leaves out, or the number of an unknown version.
     LeftOut(Text),
     /// A limit is passed: 32 statements in a half, 256 operands, literals, names, operators and functions in a rule, 32
-    /// open parentheses and pending operators of one operand, 200 bytes of a name, or 8 classes of types in a rule.
+    /// open parentheses and pending unary operators, 200 bytes of a name, or 8 classes of types in a rule.
     TooMany,
     /// A rule's name, or a register of a half, is given twice.
     Duplicate,
-    /// A register is used that is not there to use.
+    /// A register, a constant or a choice is named that is not there to use.
     Unbound,
     /// The last statement of the target does not assign the root.
     RootMissing,
     /// The target assigns an input or a temporary of the source.
     Redefines,
-    /// No later statement of the source uses a register of the source that is not the root.
+    /// A temporary of the source (a register other than the root) that no later statement of the source uses.
     UnusedTemp,
     /// `undef` or a freeze stands in the source outside the root, or `undef` is copied or frozen.
     UndefInside,
-    /// The expressions of `Wit:` are not as many as the source's `undef`s and freezes.
+    /// `Wit:` has not as many expressions as the source has `undef`s and freezes.
     WitnessCount,
     /// No widths are a typing.
     NoType,
-    /// A class of types has no name of the source and no fixed width.
+    /// A class of types has neither a name in the source nor a fixed width.
     OpenType,
 }
 

@@ -1,5 +1,5 @@
-//! The tokens of rule files with their lines, the parts that each part of a rule is made of, and why a token does not
-//! fit.
+//! The lexer of rule files, the parsers of parts that all others are made of (names, types, ends of lines), and the
+//! faults of a text.
 #![tactic(auto)]
 
 mod context;

@@ -19,7 +19,7 @@ pub fn magnitude(digits: &[u8]) -> u128
     number
 }
 
-/// The number that a literal spells, digits with an optional `-` before them; past an end of `i128` that end.
+/// The number that a literal spells, digits with an optional `-` before them, saturated to `i128`.
 #[tactic(auto, unfolding(crate::specs::Numbers::literal_value))]
 pub fn literal(text: &[u8]) -> i128
     ensures { result ≡ literal_value text.now }

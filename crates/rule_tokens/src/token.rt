@@ -1,9 +1,9 @@
 //! Tokens.
 
-/// A token of a rule file, with its bytes.
+/// A token of a rule file, with its bytes where they tell more than its kind.
 #[derive(Clone, Copy, Debug)]
 pub enum Token<'a> {
-    /// The tokens of another line follow: its number, counted from 1.
+    /// The tokens behind stand on another line, with this number, counted from 1.
     Line(usize),
     /// `Version:`, `Name:`, `Pre:` or `Wit:`.
     Head(&'a [u8]),
@@ -12,7 +12,7 @@ pub enum Token<'a> {
     /// The name of a register, without the `%`.
     Register(&'a [u8]),
     Word(&'a [u8]),
-    /// A word that is an opcode where other tokens of its bytes are the function of terms.
+    /// A word that is an opcode where the same bytes elsewhere are a function of terms (`abs`).
     Opcode(&'a [u8]),
     Number(&'a [u8]),
     /// `=>`.
@@ -21,9 +21,9 @@ pub enum Token<'a> {
     Mark(&'a [u8]),
     /// A printable byte that begins no token.
     Other,
-    /// A byte that may not stand here. Nothing behind it is read.
+    /// A byte that may not stand here. It ends the list of tokens.
     Bad,
-    /// Behind a token with which a rule has too many operands, literals, names, operators and functions. Nothing behind
-    /// it is read.
+    /// Stands behind the token with which a rule passes the limit of operands, literals, names, operators and
+    /// functions, and ends the list of tokens.
     Excess,
 }

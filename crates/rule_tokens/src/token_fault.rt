@@ -1,4 +1,4 @@
-//! Faults of tokens, by where they stand.
+//! Faults of the first token of those that are left.
 
 ghost use Rattle.std.specs.Prelude.{◌≡◌};
 ghost use Rattle.refusal.specs.Refusals.{Refuses};
@@ -13,7 +13,7 @@ use ops::keywords::is;
 use refusal::refused;
 use std::alloc::Global;
 
-/// What is left out on a line.
+/// The fault that a word or a number is left out of the language.
 pub fn left_out(alloc: Global, line: usize, bytes: &[u8]) -> RuleError
     ensures { Refuses result (reading.fault line (kinds.LeftOut bytes.now)) }
 {
@@ -23,7 +23,7 @@ pub fn left_out(alloc: Global, line: usize, bytes: &[u8]) -> RuleError
     }
 }
 
-/// The fault of a word that may not stand where words may.
+/// The fault of a word that doesn't fit where other words would.
 pub fn misplaced_word(alloc: Global, line: usize, word: &[u8]) -> RuleError
     ensures { Refuses result (reading.misplaced_word line word.now) }
 {
@@ -34,7 +34,7 @@ pub fn misplaced_word(alloc: Global, line: usize, word: &[u8]) -> RuleError
     }
 }
 
-/// The fault of the first token, where none of its kind may stand.
+/// The fault of the first token, which is of a kind that doesn't fit; or the line ends too soon.
 pub fn unexpected(line: usize, tokens: &[Token<'_>]) -> RuleFault
     ensures { result ≡ reading.unexpected line (seen tokens.now) }
 {
@@ -46,7 +46,7 @@ pub fn unexpected(line: usize, tokens: &[Token<'_>]) -> RuleFault
     RuleFault { line, kind }
 }
 
-/// The fault of the first token, where words may stand, but not this one.
+/// The fault of the first token, which doesn't fit where other words would.
 pub fn misplaced(alloc: Global, line: usize, tokens: &[Token<'_>]) -> RuleError
     ensures { Refuses result (reading.left_out line (seen tokens.now)) }
 {

@@ -16,13 +16,13 @@ use std::alloc::{AllocError, Global};
 /// The tokens of a text, and its last line.
 #[derive(Drop)]
 pub struct Tokens<'a> {
-    /// All tokens in order, or those up to the first byte that may not stand where it does, which is the last one then.
-    /// Each line's are behind its number.
+    /// All tokens in order, or those up to and with the first byte that may not stand where it does. Those of each line
+    /// are behind its number.
     pub tokens: Vec<Token<'a>>,
     pub last_line: usize,
 }
 
-/// Whether `(` stands at a place.
+/// Whether `(` stands at this place of the text.
 fn is_called(text: &[u8], at: usize) -> bool
     requires { at ≤ length text.now }
     ensures { result ≡ is_called text.now at }
@@ -30,7 +30,7 @@ fn is_called(text: &[u8], at: usize) -> bool
     matches!(&text[at..], [b'(', ..])
 }
 
-/// The token of a kind, with its bytes, where `(` stands directly behind it or not; the end of a text is none.
+/// The token of a kind, with its bytes; `called` where `(` stands directly behind it. The end of a text is no token.
 fn token_of(context: Context, called: bool, kind: RuleKind, bytes: &[u8]) -> Option<Token<'_>>
     ensures end { IfNone result (kind ≡ kinds.End) }
     ensures other { OnSome result (kind ≢ kinds.End) }
@@ -52,7 +52,7 @@ fn token_of(context: Context, called: bool, kind: RuleKind, bytes: &[u8]) -> Opt
     }
 }
 
-/// Adds a token on a line, behind a token on the line `before`.
+/// Adds a token; the number of its line comes first where it isn't `before`.
 fn push<'a>(
     tokens: &mut Vec<Token<'a>>,
     before: usize,

@@ -13,7 +13,7 @@ pub enum Version {
     Two,
 }
 
-/// The version that digits are the number of.
+/// The version whose number the digits spell.
 #[tactic(auto, unfolding(crate::specs::Versions::version_in))]
 pub fn written_version(text: &[u8]) -> Option<Version>
     ensures { result ≡ version_in text.now }

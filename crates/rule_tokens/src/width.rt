@@ -12,7 +12,7 @@ use crate::token_fault::{misplaced_word, unexpected};
 use ops::Width;
 use std::alloc::Global;
 
-/// A type.
+/// Reads a type.
 #[tactic(auto, unfolding(crate::specs::PartReaders::type_at))]
 pub fn integer_type(
     alloc: Global,
@@ -33,7 +33,7 @@ pub fn integer_type(
     }
 }
 
-/// The type that is next, if one is; goes behind it.
+/// Reads a type where one is next.
 #[tactic(auto, unfolding(crate::specs::PartReaders::maybe_type))]
 pub fn maybe_type(tokens: &mut &[Token<'_>]) -> Option<Width>
     ensures { (result, seen tokens.new.now) ≡ reading.maybe_type (seen tokens.old.now) }

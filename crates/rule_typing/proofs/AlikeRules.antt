@@ -1,5 +1,5 @@
--- What a rule meets does not speak of its classes: of two rules that differ in no more than those, the second meets it
--- with the first.
+-- What makes a rule an `IsRule` doesn't speak of its classes: of two rules that differ in nothing else, the second is
+-- one where the first is.
 use Rattle.std.proofs.Common.{◌≡◌, ℕ, suc, ◌≤◌, List, [], ◌∷◌, ◌++◌, length, map, Some, refl, sym, ap, subst, ◌∙◌, arith}
 use Rattle.std.specs.Prelude.{slice_get, Contains, flat_map, sum_by}
 use Rattle.std.specs.List.{range_with_len}
@@ -28,7 +28,7 @@ use Rattle.rule_typing.specs.Relabelled.{mapped_op, mapped_statement, mapped_nod
 use Rattle.rule_typing.proofs.Images.{map-map, same_get, same_among}
 use Rattle.rule_typing.proofs.Relabelled.{AreAlike, mapped_operand, mapped_choice, operands-mapped_op, operands-mapped, choices-mapped}
 
--- statements that differ in no more than their classes
+-- a statement with class 0 throughout: two that differ in nothing but classes are equal so
 abbrev pub bare_statement : Statement → Statement
 bare_statement s = mapped_statement (λ c. 0) s
 
@@ -72,7 +72,7 @@ flags_op f (Convert cast flags a to) = refl
 flags_op f (Freeze a j) = refl
 flags_op f (Copy a) = refl
 
--- what is said of the operation at its place, without its classes, carries over
+-- what is said of each operation and its place, and doesn't depend on classes, carries over from one half to the other
 ops_carry : (May May' : ℕ → Op → Type 0) → ((k : ℕ) (f : ℕ → ℕ) (op : Op) → May k (mapped_op f op) ≡ May k op) → ((k : ℕ) (op : Op) → May k op → May' k op) → (xs ys : List Statement) → HalvesAlike xs ys
     → ((k : ℕ) (s : Statement) → slice_get xs k ≡ Some s → May k s.op) → (k : ℕ) (s : Statement) → slice_get ys k ≡ Some s → May' k s.op
 ops_carry May May' blind weaker xs ys same holds k t at =
@@ -80,12 +80,12 @@ ops_carry May May' blind weaker xs ys same holds k t at =
     let across : May k s.op ≡ May k t.op = sym (blind k (λ c. 0) s.op) ∙ ap (λ (x : Statement). May k x.op) e ∙ blind k (λ c. 0) t.op in
     weaker k t.op (subst (λ X. X) across (holds k s there))
 
--- and of the operation alone
+-- likewise what is said of each operation alone
 carries : (P : Op → Type 0) → ((f : ℕ → ℕ) (op : Op) → P (mapped_op f op) ≡ P op) → (xs ys : List Statement) → HalvesAlike xs ys
     → ((k : ℕ) (s : Statement) → slice_get xs k ≡ Some s → P s.op) → (k : ℕ) (s : Statement) → slice_get ys k ≡ Some s → P s.op
 carries P blind xs ys same holds = ops_carry (λ k. P) (λ k. P) (λ k. blind) (λ k op may. may) xs ys same holds
 
--- and so does what is said of the values that are read
+-- likewise what is said of the arguments of operands
 reads_carry : (May May' : ℕ → Argument → Type 0) → ((k : ℕ) (v : Argument) → May k v → May' k v) → (xs ys : List Statement) → HalvesAlike xs ys → ReadsOnly May xs → ReadsOnly May' ys
 reads_carry May May' weaker xs ys same holds k t o at among =
     let (s, there, e) = same_get bare_statement xs ys k t same at in
@@ -108,7 +108,7 @@ copies_op f (Convert cast flags a to) = refl
 copies_op f (Freeze a j) = refl
 copies_op f (Copy a) = refl
 
--- what is summed or gathered over elements is the same over their images, where it is the same of each
+-- sums and lists over elements are those over their images, where each element and its image give the same
 sum_image : {X : Type 0} (weight : X → ℕ) (g : X → X) → ((x : X) → weight (g x) ≡ weight x) → (xs : List X) → sum_by weight (map g xs) ≡ sum_by weight xs
 sum_image weight g same [] = refl
 sum_image weight g same (x ∷ xs) = sum_by-cons weight (g x) (map g xs) ∙ omega (arith, same x, sum_image weight g same xs, sum_by-cons weight x xs)
@@ -116,7 +116,7 @@ sum_image weight g same (x ∷ xs) = sum_by-cons weight (g x) (map g xs) ∙ ome
 same_sum : {X : Type 0} (weight : X → ℕ) (g : X → X) → ((x : X) → weight (g x) ≡ weight x) → (xs ys : List X) → map g xs ≡ map g ys → sum_by weight xs ≡ sum_by weight ys
 same_sum weight g same xs ys alike = sym (sum_image weight g same xs) ∙ ap (sum_by weight) alike ∙ sum_image weight g same ys
 
--- choices that differ in no more than their classes
+-- a choice with class 0
 abbrev pub bare_choice : Choice → Choice
 bare_choice choice = mapped_choice (λ c. 0) choice
 
@@ -136,7 +136,7 @@ same_places xs ys same =
 in_order_too : (xs ys : List Statement) → HalvesAlike xs ys → ChoicesInOrder xs → ChoicesInOrder ys
 in_order_too xs ys same order = sym (same_places xs ys same) ∙ order ∙ ap (range_with_len 0) (count_choices xs ys same)
 
--- nodes that differ in no more than their classes
+-- a node with class 0
 abbrev pub bare_term : Term → Term
 bare_term t = mapped_term (λ c. 0) t
 
@@ -174,7 +174,7 @@ nodes_carry May May' blind weaker xs ys same holds n t at =
     let across : May n s.node ≡ May n t.node = sym (blind n (λ c. 0) s.node) ∙ ap (λ (x : Term). May n x.node) e ∙ blind n (λ c. 0) t.node in
     weaker n t.node (subst (λ X. X) across (holds n s there))
 
--- what stands in a term, and the widths that it names
+-- which nodes are in a term, and the widths that it names, don't depend on classes
 operand_blind : (a : ℕ) (f : ℕ → ℕ) (node : Node) → IsOperandOf a (mapped_node f node) ≡ IsOperandOf a node
 operand_blind a f (nodes.Literal z) = refl
 operand_blind a f (nodes.Constant k) = refl
@@ -219,8 +219,8 @@ module _ (xs ys : List Term) (same : map bare_term xs ≡ map bare_term ys) wher
   last_nodes_across first [] are = are ∙ same_length bare_term xs ys same
   last_nodes_across first (last ∷ ends) (le, owns, more) = (le, owns_across first last owns, last_nodes_across (suc last) ends more)
 
--- What one of two rules may read the other may, where both have as many inputs, constants, statements, nodes and
--- choices.
+-- What may be read in the one rule may be read in the other, where both have as many inputs, constants, statements,
+-- nodes and choices.
 module _ (r s : Rule) (inputs : length r.inputs ≡ length s.inputs) (constants : length r.constants ≡ length s.constants) (source : length r.source ≡ length s.source) (target : length r.target ≡ length s.target)
     (terms : length r.terms ≡ length s.terms) (choices : length (choices_among r.target) ≡ length (choices_among s.target)) where
   source_reads : (k : ℕ) (v : Argument) → SourceMayRead r k v → SourceMayRead s k v

@@ -1,4 +1,4 @@
--- What holds of each of some operands or statements, and of those of a rule, as walks over them find it.
+-- From what loops over operands or statements test to what is said of all those of a rule.
 use Rattle.std.proofs.Common.{◌≡◌, inl, inr, ◌↔◌, ℕ, ◌<◌, List, ◌++◌, length, get_or, Bool, true, false, not, IsTrue, Option, None, Some, refl, sym, ap, subst, ◌∙◌, ◌+◌, ◌≤◌, arith}
 use Rattle.std.proofs.lemmas.Bool.{cases_eq}
 use Rattle.std.proofs.lemmas.Option.{slice_get-get_or, get_or_from_slice_get}
@@ -15,14 +15,14 @@ use Rattle.rule_typing.proofs.Images.{from_flat_map}
 abbrev pub all_operands : List Statement → List Operand
 all_operands statements = flat_map (λ s. operands_of s.op) statements
 
--- what holds of each of two lists holds of each of both
+-- what holds of each element of two lists holds of each of one behind the other, and the other way round
 pub each_of_both : {X : Type 0} (P : X → Type 0) (xs ys : List X) → (((x : X) → Contains xs x → P x) × ((x : X) → Contains ys x → P x)) ↔ ((x : X) → Contains (xs ++ ys) x → P x)
 each_of_both P xs ys = (
   λ h x among. elim (Contains-append_cases xs ys x among) [ inl left ↦ h.0 x left | inr right ↦ h.1 x right ],
   λ each. (λ x left. each x (Contains-append_left xs ys x left), λ x right. each x (Contains-append_right xs ys x right)),
 )
 
--- what holds of each statement of the source and of the target holds of each of the rule
+-- likewise of the statements of source and target, and of those of the rule
 pub each_half : (P : Statement → Type 0) (rule : Rule) → (((s : Statement) → Contains rule.source s → P s) × ((s : Statement) → Contains rule.target s → P s)) ↔ ((s : Statement) → IsStatementOf rule s → P s)
 each_half P rule = (
   λ h s stands. elim (Contains-append_cases rule.source rule.target s stands) [ inl left ↦ h.0 s left | inr right ↦ h.1 s right ],
@@ -53,14 +53,14 @@ module _ (P : Operand → Type 0) where
     ),
   )
 
--- what an answer says once it is known
+-- an answer that is known to be `true` says what it stands for
 pub holds : {P : Type 0} (answer : Bool) → (IsTrue answer ↔ P) → answer ≡ true → P
 holds answer says is = says.0 is
 
 pub fails : {P : Type 0} (answer : Bool) → (IsTrue answer ↔ P) → answer ≡ false → P → ⊥
 fails answer says is p = let h : answer ≡ true = says.1 p in cc
 
--- the answer of `&&`
+-- an answer by `&&`
 pub both : {A B C : Type 0} (x y : Bool) → (IsTrue x ↔ A) → (IsTrue y ↔ B) → ((A × B) ↔ C) → x ≡ true → IsTrue y ↔ C
 both x y a b whole is = (λ h. whole.0 (holds x a is, b.0 h), λ c. b.1 ((whole.1 c).1))
 
@@ -71,11 +71,11 @@ pub neither : {A B : Type 0} (x : Bool) → (IsTrue x ↔ A) → B → IsTrue (n
 neither true a b = (λ h. cc, λ c. absurd (c.0 (a.0 refl)))
 neither false a b = (λ h. (λ p. let e : false ≡ true = a.1 p in cc, b), λ h. refl)
 
--- the same answer to a question that means the same
+-- an answer to one question is one to an equivalent question
 pub says : {A B : Type 0} (x : Bool) → (IsTrue x ↔ A) → (A ↔ B) → IsTrue x ↔ B
 says x a same = (λ h. same.0 (a.0 h), λ b. a.1 (same.1 b))
 
--- a walk over a list: what holds of the elements so far
+-- a loop over a list: P holds of the elements that it has passed
 abbrev pub SoFar : {X : Type 0} → (X → Type 0) → List X → ℕ → Type 0
 SoFar {X} P xs i = (k : ℕ) (x : X) → k < i → slice_get xs k ≡ Some x → P x
 
@@ -91,7 +91,7 @@ all_of_them P xs i before past x (k, within, is) = before k x (omega arith) (sli
 pub stands_here : {X : Type 0} (xs : List X) (i : ℕ) (x : X) → x ≡ get_or xs i x → i < length xs → Contains xs x
 stands_here xs i x is within = (i, within, sym is)
 
--- each has it, or one has not
+-- the loop ends where P holds of each element, or where it doesn't hold of one
 pub each_passes : {X : Type 0} (P : X → Type 0) (xs : List X) (i : ℕ) → SoFar P xs i → length xs ≤ i → IsTrue true ↔ ((y : X) → Contains xs y → P y)
 each_passes P xs i before past = (λ h. all_of_them P xs i before past, λ h. refl)
 

@@ -1,4 +1,4 @@
--- What is answered once the last typing is found, or one too many.
+-- What is answered once no typing is left to find, or one too many is found.
 use Rattle.std.proofs.Common.{◌≡◌, ◌⊎◌, inl, inr, ℕ, ◌<◌, ◌≤◌, List, [], ◌∷◌, ◌++◌, length, None, Some, arith, length-append}
 use Rattle.std.specs.Prelude.{slice_get, Contains}
 use Rattle.rule_core.specs.declared.rule.Rule.{Rule}
@@ -14,7 +14,7 @@ use Rattle.rule_typing.proofs.Solved.{listed_of, of_listed, choices_at_most_64}
 
 module _ (rule : Rule) (widths : List ℕ) (sets : List Widths) (classified : IsClassified rule) (counted : HasClasses rule (length sets))
     (exact : (c : ℕ) (set : Widths) → slice_get sets c ≡ Some set → HasExactly set (MayChoose rule widths c)) (found : List (List ℕ)) where
-  -- no other is left
+  -- where no other is left, the found ones are all typings
   pub all_found : AreFound rule sets found None → AreAllTypings rule widths found
   all_found so_far = record {
     all = λ typing. (
@@ -27,7 +27,7 @@ module _ (rule : Rule) (widths : List ℕ) (sets : List Widths) (classified : Is
   }
 
   module _ (typing : List ℕ) (so_far : AreFound rule sets found (Some typing)) where
-    -- those behind the next one
+    -- the typings behind the next one
     later : Listing (λ other. Solves rule sets other × ComesBefore typing other)
     later = listed (length sets) 65 (λ other. Solves rule sets other × ComesBefore typing other) (λ other. dec_both (dec_solves rule sets other) (dec_before typing other))
         (λ other (solves, before). (solves.chosen.count, choices_at_most_64 rule widths sets classified counted exact other solves))

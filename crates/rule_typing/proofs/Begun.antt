@@ -1,4 +1,4 @@
--- The widths from which a typing that begins as asked is looked for.
+-- The widths from which `settle` is started to find a typing that begins as asked.
 use Rattle.std.proofs.Common.{◌≡◌, inl, inr, ℕ, ◌+◌, ◌<◌, ◌≤◌, List, [], ◌∷◌, ◌++◌, length, get_or, Some, sym, subst, ◌∙◌, arith}
 use Rattle.std.specs.Prelude.{slice_get, slice_index}
 use Rattle.std.proofs.lemmas.Bool.{cases_eq, cases_lt}
@@ -8,7 +8,7 @@ use Rattle.rule_core.specs.declared.rule.Rule.{Rule}
 use Rattle.rule_typing.specs.declared.widths.Widths.{Widths}
 use Rattle.rule_typing.specs.Solutions.{Has, IsLeast, GoesOn, AreOf, SolvesFrom, SolvesBehind, AreLeast}
 
--- of each set the least width that may stand there
+-- of each set the least width that may stand at its place
 abbrev pub AreFirst : List Widths → List ℕ → ℕ → List ℕ → Type 0
 AreFirst sets beginning bound widths = (c : ℕ) (set : Widths) → slice_get sets c ≡ Some set → IsLeast (λ N. Has set N × GoesOn beginning bound c N) (Some (slice_index widths c))
 
@@ -19,7 +19,7 @@ module _ (rule : Rule) (sets : List Widths) (beginning : List ℕ) (bound : ℕ)
   pub first_of : AreOf sets first
   first_of = record { count = count; each = λ c set at. (firsts c set at).0.0 }
 
-  -- what is behind it is from there on, and the other way round
+  -- a solution that begins as asked is one from these widths up, and the other way round
   from_first : (others : List ℕ) → SolvesBehind rule sets beginning bound others → SolvesFrom rule sets (length beginning) first others
   from_first others behind = record {
     solves = behind.solves;
@@ -53,13 +53,13 @@ module _ (rule : Rule) (sets : List Widths) (beginning : List ℕ) (bound : ℕ)
   pub none_behind : ((others : List ℕ) → ¬ SolvesFrom rule sets (length beginning) first others) → (others : List ℕ) → ¬ SolvesBehind rule sets beginning bound others
   none_behind none others behind = none others (from_first others behind)
 
--- a set without such a width
+-- where a set has no such width, no solution begins as asked
 pub no_first : (rule : Rule) (sets : List Widths) (beginning : List ℕ) (bound c : ℕ) (set : Widths) → slice_get sets c ≡ Some set → c < length sets → ((N : ℕ) → ¬ (Has set N × GoesOn beginning bound c N))
     → (others : List ℕ) → ¬ SolvesBehind rule sets beginning bound others
 no_first rule sets beginning bound c set at within none others behind =
     none (slice_index others c) (behind.solves.chosen.each c set at, behind.goes_on c (omega (arith, behind.solves.chosen.count)))
 
--- one width more
+-- one more width is found
 module _ (sets : List Widths) (beginning : List ℕ) (bound : ℕ) where
   abbrev pub AreFirstOf : ℕ → List ℕ → Type 0
   AreFirstOf n widths = (c : ℕ) (set : Widths) → c < n → slice_get sets c ≡ Some set → IsLeast (λ N. Has set N × GoesOn beginning bound c N) (Some (slice_index widths c))

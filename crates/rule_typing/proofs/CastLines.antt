@@ -1,4 +1,4 @@
--- What it means that the width of one class is below that of another, in numbers; and where the classes of casts stand.
+-- When the width of one class is below that of another, in numbers; and which statements the casts of a rule are.
 use Rattle.std.proofs.Common.{◌≡◌, ◌↔◌, Bool, true, false, not, IsTrue, inl, inr, ℕ, ◌<◌, List, ◌++◌, length, Option, None, Some, refl, subst, arith}
 use Rattle.std.specs.Prelude.{slice_index, Contains, IfSome, IfNone, is_some}
 use Rattle.std.proofs.Math.Decide.{map_dec, dec_lt}
@@ -23,7 +23,7 @@ below_from widths c d less N M at at' =
 pub of_below : (widths : List ℕ) (c d : ℕ) → c < length widths → d < length widths → IsBelow widths c d → slice_index widths c < slice_index widths d
 of_below widths c d within within' below = below (slice_index widths c) (slice_index widths d) (slice_get-get_or widths c 0 within) (slice_get-get_or widths d 0 within')
 
--- classes of which one is missing are in order
+-- where one width isn't below the other, both are there, and a cast between their classes is broken
 pub broken_from : (widths : List ℕ) (c d : ℕ) → ¬ IsBelow widths c d → IsBroken widths c d
 broken_from widths c d broken = (
   elim (cases_lt c (length widths)) [ inl within ↦ within | inr past ↦ absurd (broken (λ N M at at'. let h = slice_get_within widths c N at in absurd (omega arith))) ],
@@ -34,7 +34,7 @@ broken_from widths c d broken = (
 not_met : (rule : Rule) (widths : List ℕ) (c d : ℕ) → Smaller rule c d → IsBroken widths c d → ¬ MeetsSmaller rule widths
 not_met rule widths c d line (within, within', most) meets = let h = of_below widths c d within within' (λ N M. meets c d N M line) in omega arith
 
--- lines of the source and of the target
+-- a cast of the rule is one of the source or of the target
 pub in_source : (rule : Rule) (line : ℕ × ℕ) → (s : Statement) × Contains rule.source s × (smaller_line s.class s.op ≡ Some line) → Smaller rule line.0 line.1
 in_source rule line (s, among, is) = at_cast rule s s.op line.0 line.1 (Contains-append_left rule.source rule.target s among) refl is
 
@@ -45,7 +45,7 @@ pub none_broken : (rule : Rule) (widths : List ℕ) (answer : Option (ℕ × ℕ
 none_broken rule widths (Some line) source target = tt
 none_broken rule widths None source target = (each_cast rule widths).0 ((each_half (MeetsCastLine widths) rule).0 (source, target))
 
--- whether casts fit can be decided
+-- whether widths meet casts is decided
 dec_below : (widths : List ℕ) (c d : ℕ) → Dec (IsBelow widths c d)
 dec_below widths c d = elim (dec_lt (slice_index widths c) (slice_index widths d)) [
   | yes less ↦ yes (below_from widths c d less)
@@ -68,7 +68,7 @@ dec_line widths (Some line) = map_dec
 pub dec_lines : (rule : Rule) (widths : List ℕ) → Dec (MeetsSmaller rule widths)
 dec_lines rule widths = map_dec (each_cast rule widths).0 (each_cast rule widths).1 (dec_each (MeetsCastLine widths) (rule.source ++ rule.target) (λ s. dec_line widths (smaller_line s.class s.op)))
 
--- whether there is no broken line says whether all are met
+-- the search for a broken cast finds none exactly where all are met
 pub all_met : (rule : Rule) (widths : List ℕ) (line : Option (ℕ × ℕ)) (answer : Bool) → is_some line ≡ not answer → IfSome line (λ l. Smaller rule l.0 l.1 × IsBroken widths l.0 l.1) → IfNone line (MeetsSmaller rule widths) → IsTrue answer ↔ MeetsSmaller rule widths
 all_met rule widths None true is some meets = (λ h. meets, λ h. refl)
 all_met rule widths None false is some meets = cc

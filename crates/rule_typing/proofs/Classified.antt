@@ -1,4 +1,4 @@
--- Positions that are numbered, merged along lines and renumbered in order are classified.
+-- After numbering the positions, merging along constraints and renumbering in order the rule is classified.
 use Rattle.std.proofs.Common.{◌≡◌, ℕ, ◌*◌, ◌^◌, ◌<◌, ◌≤◌, List, [], ◌∷◌, ◌++◌, length, map, Some, refl, sym, ap, subst, ◌∙◌, arith, length-append}
 use Rattle.std.specs.Prelude.{slice_get, flat_map, sum_by}
 use Rattle.std.proofs.lemmas.List.Sums.{sum_by-cons}
@@ -58,7 +58,7 @@ few_positions rule checked =
       checked.few_nodes,
     )
 
--- classes that are joined have one number once each line's are one
+-- joined classes have one number once every constraint's two classes have
 one_number : (rule : Rule) (f : ℕ → ℕ) → ((c d : ℕ) → Line (mapped f rule) c d → c ≡ d) → (p q : ℕ) → Joined rule p q → f p ≡ f q
 one_number rule f closed p q (line {c} {d} on) = closed (f c) (f d) (line_map f rule c d on)
 one_number rule f closed p q (itself {c}) = refl
@@ -70,7 +70,7 @@ module _ (old base joined new : Rule) (is_base : base ≡ numbered old) (merged 
   rest =
       ap numbered renumbered.is ∙ numbered-mapped renumbered.to joined ∙ ap numbered merged.is ∙ numbered-mapped merged.to base ∙ ap numbered is_base ∙ numbered_alike (numbered old) old (alike_numbered old)
 
-  -- the number of a position
+  -- the number that a position has in the end
   number_of : (p c : ℕ) → slice_get (classes_of new) p ≡ Some c → c ≡ renumbered.to (merged.to p)
   number_of p c at =
       let (b, at_b, is_c) = get_from_map renumbered.to (classes_of joined) p c (sym (ap (λ l. slice_get l p) (ap classes_of renumbered.is ∙ classes_of-mapped renumbered.to joined)) ∙ at) in

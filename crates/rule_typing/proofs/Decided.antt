@@ -1,4 +1,4 @@
--- Whether widths solve sets, and whether they are a typing, can be decided.
+-- Whether widths are a solution for sets, and whether they are a typing, is decided.
 use Rattle.std.proofs.Common.{◌≡◌, ◌↔◌, inl, inr, ℕ, zero, suc, ◌<◌, List, [], ◌∷◌, length, get_or, Bool, true, false, Option, None, Some, refl, sym, subst, arith}
 use Rattle.std.specs.Prelude.{slice_get, slice_index, Contains}
 use Rattle.std.proofs.Math.Decide.{map_dec, dec_le, dec_lt}

@@ -1,4 +1,4 @@
--- What can be decided: of two facts, and of the elements of a list one by one.
+-- Decisions: of a conjunction, and for the elements of a list one by one.
 use Rattle.std.proofs.Common.{◌≡◌, ◌⊎◌, inl, inr, ℕ, zero, suc, List, [], ◌∷◌, Some, refl, sym, subst, ap, ◌∙◌}
 use Rattle.std.specs.Prelude.{slice_get, Contains}
 use Rattle.std.proofs.Math.Decide.{map_dec}
@@ -20,7 +20,7 @@ pub dec_not : {P : Type 0} → Dec P → Dec (¬ P)
 dec_not (yes p) = no (λ h. h p)
 dec_not (no h) = yes h
 
--- what is decided and cannot fail holds
+-- a decided fact that isn't refuted holds
 pub stable : {P : Type 0} → Dec P → ¬ (¬ P) → P
 stable (yes p) h = p
 stable (no k) h = absurd (h k)
@@ -28,7 +28,7 @@ stable (no k) h = absurd (h k)
 pub dec_number : (m n : ℕ) → Dec (m ≡ n)
 dec_number m n = elim (cases_eq m n) [ inl same ↦ yes same | inr other ↦ no other ]
 
--- it holds of an element and its place
+-- whether Q holds of some element and its place is decided
 pub dec_place : {X : Type 0} (Q : ℕ → X → Type 0) (xs : List X) → ((k : ℕ) (x : X) → Dec (Q k x)) → Dec ((k : ℕ) × (x : X) × (slice_get xs k ≡ Some x) × Q k x)
 dec_place Q [] each = no (λ (k, x, at, holds). elim k as (λ j. ¬ (slice_get [] j ≡ Some x)) [ zero ↦ λ h. cc | suc j ↦ λ h. cc ] at)
 dec_place Q (a ∷ xs) each = elim (each 0 a) [
@@ -42,12 +42,12 @@ dec_place Q (a ∷ xs) each = elim (each 0 a) [
   ]
 ]
 
--- one of the elements has it
+-- whether P holds of one of the elements is decided
 pub dec_one : {X : Type 0} (P : X → Type 0) (xs : List X) → ((x : X) → Dec (P x)) → Dec ((x : X) × Contains xs x × P x)
 dec_one P xs each =
     map_dec (λ (k, x, at, holds). (x, Contains-from_get xs k x at, holds)) (λ (x, (k, within, is), holds). (k, x, slice_get-get_or xs k x within ∙ ap (λ y. Some y) is, holds)) (dec_place (λ k. P) xs (λ k. each))
 
--- each of them has it
+-- whether P holds of each element is decided
 pub dec_each : {X : Type 0} (P : X → Type 0) (xs : List X) → ((x : X) → Dec (P x)) → Dec ((x : X) → Contains xs x → P x)
 dec_each P xs each = elim (dec_one (λ x. ¬ P x) xs (λ x. dec_not (each x))) [
   | yes (x, among, lacks) ↦ no (λ all. lacks (all x among))

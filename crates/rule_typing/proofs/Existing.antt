@@ -15,7 +15,7 @@ use Rattle.rule_typing.proofs.Merging.{total, not_merged}
 use Rattle.rule_typing.proofs.Numbering.{IsNumbered, none_yet, known, given, all_seen, same_count}
 use Rattle.rule_typing.proofs.FaultDecisions.{faults_of}
 
--- position by position, each class gets its number
+-- going on position by position, each class gets its number
 numbers : (old rule : Rule) (left place next : ℕ) → IsNumbered old rule place next → length (classes_of old) ≤ place + left → (new : Rule) × (n : ℕ) × IsRenumbered old new × IsInOrder (classes_of new) × HasClasses new n
 numbers old rule zero place next so_far past = let (order, count) = all_seen old rule place next so_far (omega arith) in (rule, next, so_far.renumbered, order, count)
 numbers old rule (suc left) place next so_far past = elim (cases_lt place (length (classes_of rule))) [

@@ -1,4 +1,4 @@
--- Which fault the classes of a rule have, if they have one, can be decided.
+-- Which fault the classes of a rule have, or that they have none, is decided.
 use Rattle.std.proofs.Common.{◌⊎◌, inl, inr, ℕ, ◌≤◌}
 use Rattle.std.proofs.Math.Decide.{map_dec, dec_le}
 use Rattle.rule_core.specs.declared.rule.Rule.{Rule}

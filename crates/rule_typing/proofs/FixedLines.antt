@@ -1,4 +1,4 @@
--- What a rule's lines fix, and what its casts keep below another, statement by statement.
+-- Which widths a rule's constraints fix, and which classes its casts keep below others, by the statement that does it.
 use Rattle.std.proofs.Common.{◌≡◌, ◌↔◌, inl, inr, ℕ, List, ◌++◌, None, Some, refl, sym, ap, subst, arith}
 use Rattle.std.specs.Prelude.{Contains}
 use Rattle.std.proofs.lemmas.Option.{same_Some}
@@ -18,7 +18,7 @@ use Rattle.rule_typing.proofs.MappedLines.{operand_class}
 of_operand : (rule : Rule) (o : Operand) → Contains (operands_in rule) o → (s : Statement) × IsStatementOf rule s × Contains (operands_of s.op) o
 of_operand rule o among = from_flat_map (λ (t : Statement). operands_of t.op) (rule.source ++ rule.target) o among
 
--- ---- widths that are fixed
+-- ---- fixed widths
 
 pub of_fixed : (rule : Rule) (c N : ℕ) → Fixed rule c N → (s : Statement) × IsStatementOf rule s × StatementFixes c N s
 of_fixed rule c N (comparison {s} {pred} {samesign} {a} {b} stands is) = (s, stands, inl (ap (fixed_line s.class) is))
@@ -45,7 +45,7 @@ pub fixed_of : (rule : Rule) (s : Statement) (c N : ℕ) → IsStatementOf rule 
 fixed_of rule s c N stands (inl e) = at_line rule s s.op c N stands refl e
 fixed_of rule s c N stands (inr (o, among, fixes)) = by_operand rule o c N (operand_stands rule s o stands among) fixes
 
--- a class with a fixed width stands in the rule
+-- a class with a fixed width is one of the rule's
 pub fixed_class : (rule : Rule) (c N : ℕ) → Fixed rule c N → Contains (classes_of rule) c
 fixed_class rule c N (comparison {s} {pred} {samesign} {a} {b} stands is) = class_stands rule s stands
 fixed_class rule c N (condition {s} {c = z} {a} {b} stands is) = operand_class rule z (operand_stands rule s z stands (subst (λ x. Contains (operands_of x) z) (sym is) (0, omega arith, refl)))
@@ -53,7 +53,7 @@ fixed_class rule c N (cast_to {s} {cast} {flags} {a} {N = M} stands is) = class_
 fixed_class rule c N (written {o} {N = M} among is) = operand_class rule o among
 fixed_class rule c N (truth {o} {b} among is) = operand_class rule o among
 
--- ---- widths that are kept below others
+-- ---- casts
 
 pub of_smaller : (rule : Rule) (c d : ℕ) → Smaller rule c d → (s : Statement) × IsStatementOf rule s × (smaller_line s.class s.op ≡ Some (c, d))
 of_smaller rule c d (truncated {s} {flags} {a} {to} stands is) = (s, stands, ap (smaller_line s.class) is)
@@ -71,7 +71,7 @@ at_cast rule s (Convert SExt flags a to) c d stands is e = subst (λ (p : ℕ ×
 at_cast rule s (Freeze a j) c d stands is e = cc
 at_cast rule s (Copy a) c d stands is e = cc
 
--- widths meet what casts demand exactly where they meet the line of each statement
+-- widths meet all casts exactly where they meet the constraint of each statement
 pub each_cast : (rule : Rule) (widths : List ℕ) → ((s : Statement) → IsStatementOf rule s → MeetsCastLine widths s) ↔ MeetsSmaller rule widths
 each_cast rule widths = (
   λ each c d N M below at at'. let (s, stands, is) = of_smaller rule c d below in each s stands c d is N M at at',

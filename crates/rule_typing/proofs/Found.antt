@@ -10,11 +10,11 @@ use Rattle.rule_typing.specs.AllTypings.{ComesBefore, IsFirstOf}
 use Rattle.rule_typing.specs.Solutions.{Solves, SolvesBehind, FindsLeast}
 use Rattle.rule_typing.proofs.Order.{same_or_before, before_along}
 
--- a list comes behind all of these
+-- the list comes behind all of these in lexicographic order
 abbrev pub IsBehind : List (List ℕ) → List ℕ → Type 0
 IsBehind found typing = (earlier : List ℕ) → Contains found earlier → ComesBefore earlier typing
 
--- those that are found are in order, each other one comes behind them, and the next one is the first of these
+-- the found ones are solutions, in order; each other solution comes behind them, and `following` is the first of these
 pub record AreFound (rule : Rule) (sets : List Widths) (found : List (List ℕ)) (following : Option (List ℕ)) : Type 0 where
   pub solve : (typing : List ℕ) → Contains found typing → Solves rule sets typing
   pub in_order : AllPairs ComesBefore found

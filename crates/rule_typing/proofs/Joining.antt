@@ -1,4 +1,4 @@
--- Merging one pair of classes after the other, until each line's are one.
+-- Merging one pair of classes after the other, until each constraint's two classes are one, comes to an end.
 use Rattle.std.proofs.Common.{◌≡◌, ◌≢◌, ◌⊎◌, inl, inr, ℕ, zero, suc, ◌<◌, min, max, refl, subst, sym, arith}
 use Rattle.std.specs.Prelude.{Contains}
 use Rattle.std.proofs.lemmas.Bool.{cases_lt}
@@ -12,7 +12,7 @@ use Rattle.rule_typing.proofs.MappedLines.{line_classes}
 use Rattle.rule_typing.proofs.Merging.{total, one_more, sum_falls}
 use Rattle.rule_typing.proofs.Splitting.{split_or_joined}
 
--- the greater and the lesser of two different classes on a line
+-- two different classes of one constraint, the greater one first
 pub record IsPair (rule : Rule) (from to : ℕ) : Type 0 where
   pub less : to < from
   pub stands : Contains (classes_of rule) from
@@ -32,7 +32,7 @@ falls rule new from to two is = rw (is, classes_of-mapped (renamed (Merge from t
 pub more : (old rule new : Rule) (from to : ℕ) → IsMerged old rule → IsPair rule from to → new ≡ mapped (renamed (Merge from to)) rule → IsMerged old new
 more old rule new from to merged two is = subst (IsMerged old) (sym is) (one_more old rule merged from to two.on)
 
--- each merge gives a smaller number to a position, so that there is a last one
+-- each merge makes the sum of the positions' numbers smaller
 pub joined_by : (old rule : Rule) (bound : ℕ) → IsMerged old rule → total (classes_of rule) < bound → (new : Rule) × IsMerged old new × ((c d : ℕ) → Line new c d → c ≡ d)
 joined_by old rule zero merged below = absurd (omega arith)
 joined_by old rule (suc bound) merged below = elim (split_or_joined rule) [

@@ -1,5 +1,5 @@
--- The lines of a rule are the pairs of its statements, operands, choices, nodes and comparisons, and those of its
--- names.
+-- The equality constraints of a rule, taken apart: pairs of its statements, operands, choices, nodes and comparisons,
+-- and names with two positions.
 use Rattle.std.proofs.Common.{◌≡◌, ◌⊎◌, inl, inr, ℕ, List, [], ◌∷◌, ◌++◌, get_or, Option, None, Some, refl, sym, ap, subst, ◌∙◌, arith}
 use Rattle.std.specs.Prelude.{slice_get, Contains, option_map, option_and_then}
 use Rattle.std.proofs.lemmas.Option.{same_Some}
@@ -24,7 +24,7 @@ use Rattle.rule_typing.specs.declared.half.Half.TheVariants as halves
 use Rattle.rule_typing.specs.Splits.{paired, op_pairs, statement_pairs, node_class, chosen_class, term_class, operand_pairs, choice_pairs, node_pairs, term_pairs, formula_pairs, PairOf}
 use Rattle.rule_typing.proofs.NameLines.{statements_of, half_operand, operand_cases}
 
--- the parts
+-- the kinds of parts
 pub data OnLine (rule : Rule) (c d : ℕ) : Type 0 where
   by_statement : PairOf statement_pairs (rule.source ++ rule.target) c d → OnLine rule c d
   by_operand : (half : Half) → PairOf (operand_pairs rule) (operands_among (statements_of rule half)) c d → OnLine rule c d
@@ -34,7 +34,7 @@ pub data OnLine (rule : Rule) (c d : ℕ) : Type 0 where
   by_comparison : PairOf (formula_pairs rule.terms) rule.precondition c d → OnLine rule c d
   by_name : (n : Name) → Names rule n c → Names rule n d → OnLine rule c d
 
--- pairs of short lists
+-- elements of short lists of pairs
 one_pair : (x p : ℕ × ℕ) → Contains (x ∷ []) p → x ≡ p
 one_pair x p (k, within, is) = let first : k ≡ 0 = omega arith in subst (λ j. get_or (x ∷ []) j p ≡ p) first is
 
@@ -50,7 +50,7 @@ here xs p = (0, omega arith, refl)
 later : (x p : ℕ × ℕ) → Contains (x ∷ p ∷ []) p
 later x p = (1, omega arith, refl)
 
--- two classes are paired where there are both
+-- `paired` holds two classes exactly where both are there
 pub from_paired : (a b : Option ℕ) (c d : ℕ) → Contains (paired a b) (c, d) → (a ≡ Some c) × (b ≡ Some d)
 from_paired None b c d among = absurd (no_pair (c, d) among)
 from_paired (Some x) None c d among = absurd (no_pair (c, d) among)
@@ -79,7 +79,7 @@ from_chosen rule k d e = known (slice_get rule.witnesses k) e
 abbrev On : Rule → ℕ × ℕ → Type 0
 On rule p = Line rule p.0 p.1
 
--- ---- from pairs to lines
+-- ---- from parts to constraints
 
 at_op : (rule : Rule) (s : Statement) (op : Op) (p : ℕ × ℕ) → IsStatementOf rule s → s.op ≡ op → Contains (op_pairs s.class op) p → On rule p
 at_op rule s (Binary op flags a b) p stands is among = elim (two_pairs (s.class, a.class) (s.class, b.class) p among) [ inl e ↦ subst (On rule) e (binary_left stands is) | inr e ↦ subst (On rule) e (binary_right stands is) ]
@@ -155,7 +155,7 @@ line_of rule c d (by_witness (t, among, pairs)) = witness_term (at_node rule.wit
 line_of rule c d (by_comparison (f, among, pairs)) = at_formula rule f c d among pairs
 line_of rule c d (by_name n p q) = name p q
 
--- ---- from lines to pairs
+-- ---- from constraints to parts
 
 op_pair : (rule : Rule) (s : Statement) (op : Op) (c d : ℕ) → IsStatementOf rule s → s.op ≡ op → Contains (op_pairs s.class op) (c, d) → OnLine rule c d
 op_pair rule s op c d stands is pairs = by_statement (s, stands, subst (λ x. Contains (op_pairs s.class x) (c, d)) (sym is) pairs)

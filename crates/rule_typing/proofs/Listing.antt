@@ -1,4 +1,4 @@
--- All lists of one length and of small numbers of which something holds that can be decided, in lexicographic order.
+-- A listing, in lexicographic order, of all lists of one length over small numbers with some decidable property.
 use Rattle.std.proofs.Common.{◌≡◌, ◌↔◌, ◌⊎◌, inl, inr, ℕ, zero, suc, ◌+◌, ◌<◌, List, [], ◌∷◌, ◌++◌, length, map, get_or, Some, refl, sym, subst, ap, arith, length-append}
 use Rattle.std.specs.Prelude.{slice_get, slice_index, Contains, AllPairs}
 use Rattle.std.proofs.lemmas.Bool.{cases_lt}
@@ -7,11 +7,11 @@ use Rattle.std.proofs.lemmas.Option.{slice_get_within, slice_get-get_or, get_or_
 use Rattle.rule_typing.specs.AllTypings.{ComesBefore}
 use Rattle.rule_typing.proofs.Images.{Contains-map, from_map, get_from_map, get-append_cases}
 
--- each comes before the later ones
+-- each list comes before all later ones
 abbrev pub InOrder : List (List ℕ) → Type 0
 InOrder xs = (j k : ℕ) (a b : List ℕ) → j < k → slice_get xs j ≡ Some a → slice_get xs k ≡ Some b → ComesBefore a b
 
--- all lists of which P holds
+-- all lists of which P holds, in order
 pub record Listing (P : List ℕ → Type 0) : Type 0 where
   pub all : List (List ℕ)
   pub which : (t : List ℕ) → Contains all t ↔ P t
@@ -67,7 +67,7 @@ only_empty P holds empty = record {
   in_order = λ j k a b less at at'. let h = slice_get_within ([] ∷ []) k b at' in absurd (omega arith);
 }
 
--- with a number before them
+-- the same with one number in front of each list
 behind_number : (x : ℕ) (P : List ℕ → Type 0) → Listing P → Listing (λ t. (u : List ℕ) × (t ≡ x ∷ u) × P u)
 behind_number x P lists = record {
   all = map (λ u. x ∷ u) lists.all;
@@ -81,7 +81,7 @@ behind_number x P lists = record {
       subst (λ c. ComesBefore c b) is (subst (ComesBefore (x ∷ u)) is' (inr (refl, lists.in_order j k u v less at_u at_v)));
 }
 
--- first number by first number
+-- the lists with the least first number, then those with the next one, and so on
 module _ (P : List ℕ → Type 0) (n : ℕ) (sized : (t : List ℕ) → P t → length t ≡ suc n) (each : (x : ℕ) → Listing (λ u. P (x ∷ u))) where
   one_more : (m : ℕ) (t : List ℕ) → P t → slice_index t 0 < m + 1 → (P t × (slice_index t 0 < m)) ⊎ ((u : List ℕ) × (t ≡ m ∷ u) × P (m ∷ u))
   one_more m [] p less = let h = sized [] p in absurd (omega arith)

@@ -1,4 +1,4 @@
--- The lines of a rule whose classes are mapped: those of the rule before, under the map.
+-- The constraints of a rule whose classes are mapped by f are those of the rule, under f.
 use Rattle.std.proofs.Common.{◌≡◌, inl, inr, ℕ, ◌+◌, ◌-◌, ◌==◌, if◌then◌else◌, List, [], ◌∷◌, ◌++◌, length, map, Bool, true, false, Option, None, Some, refl, sym, ap, subst, ◌∙◌, arith}
 use Rattle.std.specs.Prelude.{Contains, slice_get, option_map, option_and_then}
 use Rattle.std.proofs.lemmas.List.{length-map, map-append}
@@ -31,7 +31,7 @@ use Rattle.rule_typing.proofs.Relabelled.{mapped_operand, mapped_choice, stateme
 use Rattle.rule_typing.proofs.NameLines.{statements_of, half_statement, IsNamed, read, assigned, root, named_cases, names_of_named}
 use Rattle.rule_typing.proofs.LineParts.{OnLine, by_statement, by_operand, by_choice, by_term, by_witness, by_comparison, by_name, line_of, line_cases}
 
--- ---- the ends of a line are classes of the rule
+-- ---- both classes of a constraint are classes of the rule
 
 pub operand_class : (rule : Rule) (o : Operand) → Contains (operands_in rule) o → Contains (classes_of rule) o.class
 operand_class rule o among =
@@ -58,7 +58,7 @@ named_class rule n c (term_constant {t} stands is) = term_class_stands rule t st
 named_class rule n c (term_choice {t} stands is) = term_class_stands rule t stands
 named_class rule n c (measures {t} {r} {c = d} stands is) = measured_class_stands rule t r d stands is
 
--- an operand of an operation
+-- the operands of an operation, by number
 first_of : (rule : Rule) (s : Statement) (op : Op) (o : Operand) → Contains (rule.source ++ rule.target) s → s.op ≡ op → Contains (operands_of op) o → Contains (classes_of rule) o.class
 first_of rule s op o stands is among = operand_class_stands rule s o stands (subst (λ x. Contains (operands_of x) o) (sym is) among)
 
@@ -89,7 +89,7 @@ line_classes rule c d (operand {o} {n} {t} among is there) = (operand_class rule
 line_classes rule c d (compared_terms {pred} {a} {b} {x} {y} among there there') = (term_class_stands rule x (constant_term rule a x there), term_class_stands rule y (constant_term rule b y there'))
 line_classes rule c d (witness {k} {c = e} {n} {t} among chosen there) = (choice_class rule halves.Source (record { place = k; class = e }) among, term_class_stands rule t (witness_node rule n t there))
 
--- ---- pairs under a map
+-- ---- pairs under f
 
 abbrev both : (ℕ → ℕ) → ℕ × ℕ → ℕ × ℕ
 both f p = (f p.0, f p.1)
@@ -160,7 +160,7 @@ module _ (f : ℕ → ℕ) where
   formula_pairs-mapped terms (formulas.And a b) = refl
   formula_pairs-mapped terms (formulas.Or a b) = refl
 
-  -- pairs of elements that are mapped
+  -- the pairs of mapped elements are the mapped pairs
   pair_map : {X Y : Type 0} (g : X → Y) (pairs : X → List (ℕ × ℕ)) (pairs' : Y → List (ℕ × ℕ)) → ((x : X) → pairs' (g x) ≡ map (both f) (pairs x)) → (xs : List X) (c d : ℕ) → PairOf pairs xs c d → PairOf pairs' (map g xs) (f c) (f d)
   pair_map g pairs pairs' same xs c d (x, among, pair) = (g x, Contains-map g xs x among, subst (λ l. Contains l (f c, f d)) (sym (same x)) (Contains-map (both f) (pairs x) (c, d) pair))
 
@@ -176,7 +176,7 @@ module _ (f : ℕ → ℕ) where
       let (p, q, inside, is, is') = from_image (pairs x) c d (subst (λ l. Contains l (c, d)) (same x) (subst (λ z. Contains (pairs' z) (c, d)) e pair)) in
       (p, q, (x, stands, inside), is, is')
 
-  -- ---- names under a map
+  -- ---- names under f
 
   abbrev moved : Name × ℕ → Name × ℕ
   moved p = (p.0, f p.1)
@@ -286,7 +286,7 @@ module _ (f : ℕ → ℕ) where
     pub line_map : (c d : ℕ) → Line rule c d → Line (mapped f rule) (f c) (f d)
     line_map c d on = line_of (mapped f rule) (f c) (f d) (parts_map c d (line_cases rule c d on))
 
-    -- ---- backwards
+    -- ---- from the mapped rule back
 
     from_reads : (half : Half) (n : Name) (c : ℕ) → NamingOf operand_naming (operands_among (statements_of (mapped f rule) half)) n c → (p : ℕ) × NamingOf operand_naming (operands_among (statements_of rule half)) n p × (c ≡ f p)
     from_reads half n c h =
@@ -334,6 +334,6 @@ module _ (f : ℕ → ℕ) where
         let (q, named', is') = from_names n d k in
         (p, q, by_name n named named', is, is')
 
-    -- positions of the classes p and q stood on one line, and are c and d now
+    -- a constraint of the mapped rule on c and d is one of the old rule on p and q, with f p = c and f q = d
     pub from_line_map : (c d : ℕ) → Line (mapped f rule) c d → (p : ℕ) × (q : ℕ) × Line rule p q × (c ≡ f p) × (d ≡ f q)
     from_line_map c d on = let (p, q, there, is, is') = from_parts c d (line_cases (mapped f rule) c d on) in (p, q, line_of rule p q there, is, is')

@@ -1,4 +1,4 @@
--- One merge of two classes that a line joins.
+-- One merge of two classes that a chain of constraints joins.
 use Rattle.std.proofs.Common.{◌≡◌, ◌≢◌, ◌⊎◌, inl, inr, ℕ, zero, suc, ◌+◌, ◌<◌, ◌≤◌, List, [], ◌∷◌, map, sym, ap, subst, ◌∙◌, arith}
 use Rattle.std.specs.Prelude.{sum_by, Contains}
 use Rattle.std.proofs.lemmas.List.Sums.{sum_by-cons}
@@ -21,14 +21,14 @@ merged_here a b = grind (arith, nat_tests)
 pub merged_other : (a b c : ℕ) → c ≢ a → renamed (Merge a b) c ≡ c
 merged_other a b c other = grind (arith, nat_tests)
 
--- the sum of numbers
+-- the sum of the positions' numbers, which gets smaller with each merge
 abbrev pub total : List ℕ → ℕ
 total xs = sum_by (λ c. c) xs
 
 total-cons : (x : ℕ) (xs : List ℕ) → total (x ∷ xs) ≡ x + total xs
 total-cons x xs = sum_by-cons (λ (c : ℕ). c) x xs
 
--- it falls where a class that stands there gets a smaller number
+-- it gets smaller where a position has the class that gives up its number
 sum_merged : (a b : ℕ) → b < a → (xs : List ℕ) → total (map (renamed (Merge a b)) xs) ≤ total xs
 sum_merged a b less [] = omega arith
 sum_merged a b less (x ∷ xs) = elim (cases_eq x a) [
@@ -45,7 +45,7 @@ sum_falls a b less (x ∷ xs) (suc k, within, is) = elim (cases_eq x a) [
   | inr other ↦ omega (arith, total-cons x xs, total-cons (renamed (Merge a b) x) (map (renamed (Merge a b)) xs), merged_other a b x other, sum_falls a b less xs (k, omega arith, is))
 ]
 
--- two classes that become one were one, or the two that are merged
+-- classes that have one number after the merge had one before, or are the merged ones
 merged_cases : (a b c d : ℕ) → renamed (Merge a b) c ≡ renamed (Merge a b) d → (c ≡ d) ⊎ (((c ≡ a) × (d ≡ b)) ⊎ ((c ≡ b) × (d ≡ a)))
 merged_cases a b c d same = elim (cases_eq c a) [
   | inl here ↦ elim (cases_eq d a) [
@@ -64,7 +64,7 @@ not_merged rule = record { to = λ c. c; is = sym (mapped-id rule); joined = λ 
 pub IsRule-merged : (old new : Rule) → IsRule old → IsMerged old new → IsRule new
 IsRule-merged old new checked merged = subst IsRule (sym merged.is) (IsRule-alike old (mapped merged.to old) (sym (alike_mapped merged.to old)) checked)
 
--- positions of the classes that a line of the merged rule joins were joined before
+-- what a constraint of the merged rule asks to be equal was joined in the old rule
 line_was_joined : (old new : Rule) (merged : IsMerged old new) (a b c d : ℕ) → Line new a b → merged.to c ≡ a → merged.to d ≡ b → Joined old c d
 line_was_joined old new merged a b c d on c_is d_is =
     let (p, q, before, a_is, b_is) = from_line_map merged.to old a b (subst (λ r. Line r a b) merged.is on) in

@@ -28,12 +28,12 @@ abbrev pub statements_of : Rule → Half → List Statement
 statements_of rule halves.Source = rule.source
 statements_of rule halves.Target = rule.target
 
--- they are the rule's
+-- they are statements of the rule
 pub half_statement : (rule : Rule) (half : Half) (s : Statement) → Contains (statements_of rule half) s → Contains (rule.source ++ rule.target) s
 half_statement rule halves.Source s stands = Contains-append_left rule.source rule.target s stands
 half_statement rule halves.Target s stands = Contains-append_right rule.source rule.target s stands
 
--- operands of a half are the rule's
+-- an operand of the rule is one of the source or of the target
 pub operand_cases : (rule : Rule) (o : Operand) → Contains (operands_in rule) o → Contains (operands_among rule.source) o ⊎ Contains (operands_among rule.target) o
 operand_cases rule o among =
     Contains-append_cases (operands_among rule.source) (operands_among rule.target) o
@@ -48,7 +48,7 @@ half_operand rule halves.Target o among =
 abbrev At : Rule → Name × ℕ → Type 0
 At rule p = Names rule p.0 p.1
 
--- an operand, a choice of the target and a node name what they read
+-- a name is read at a position by an operand, by a choice of the target or by a node of a term
 value_names : (rule : Rule) (o : Operand) (value : Argument) (n : Name) (c : ℕ) → Contains (operands_in rule) o → o.value ≡ value → option_map {U = Name × ℕ} (λ m. (m, o.class)) (name_of value) ≡ Some (n, c) → Names rule n c
 value_names rule o (arguments.Register r) n c among is e = subst (At rule) (same_Some (names.Register r, o.class) (n, c) e) (reads among is)
 value_names rule o (arguments.Constant k) n c among is e = subst (At rule) (same_Some (names.Constant k, o.class) (n, c) e) (reads_constant among is)
@@ -82,7 +82,7 @@ read_names rule n c (inr (inl (o, among, e))) = operand_names rule halves.Target
 read_names rule n c (inr (inr (inl (choice, among, e)))) = choice_names rule halves.Target choice n c among e
 read_names rule n c (inr (inr (inr (t, among, e)))) = term_names rule t n c among e
 
--- what assigns a register, or the root, names it
+-- the result of a statement has the name of the register, or of the root
 result_class : (o : Option Statement) (c : ℕ) → option_map (λ s. s.class) o ≡ Some c → (s : Statement) × (o ≡ Some s) × (s.class ≡ c)
 result_class None c e = cc
 result_class (Some s) c e = (s, refl, same_Some s.class c e)
@@ -124,7 +124,7 @@ root_names rule n c e =
     let h : Names rule (names.Register (registers.Source k)) t.class = assigns_root {k = length rule.target - 1} (omega arith) (omega arith) at in
     subst (λ m. Names rule m c) (sym is) (subst (Names rule (names.Register (registers.Source k))) same h)
 
--- A position names it by reading it, or by a result.
+-- a position has a name by reading it, or as the result that assigns it
 pub data IsNamed (rule : Rule) (n : Name) (c : ℕ) : Type 0 where
   read : IsRead rule n c → IsNamed rule n c
   assigned : assigned_class rule n ≡ Some c → IsNamed rule n c

@@ -1,4 +1,4 @@
--- The typing behind another one, by the place at which they first differ.
+-- The next typing in lexicographic order, by the first place at which it differs.
 use Rattle.std.proofs.Common.{◌≡◌, ◌⊎◌, inl, inr, ℕ, ◌<◌, List, length, take, Some, sym, subst, ◌∙◌, arith, length-take, get_or-take}
 use Rattle.std.specs.Prelude.{slice_get, slice_index}
 use Rattle.std.proofs.lemmas.Bool.{cases_eq, cases_lt}
@@ -9,7 +9,7 @@ use Rattle.rule_typing.specs.Solutions.{Has, Solves, SolvesBehind, AreLeast}
 use Rattle.rule_typing.proofs.Order.{DifferAt, before_from, differ_from, same_or_before}
 
 module _ (rule : Rule) (sets : List Widths) (typing : List ℕ) (solves : Solves rule sets typing) where
-  -- those that differ first at a place
+  -- the solutions that equal the typing before place p and are larger at p
   abbrev pub Behind : ℕ → List ℕ → Type 0
   Behind p other = SolvesBehind rule sets (take p typing) (slice_index typing p) other
 
@@ -39,7 +39,7 @@ module _ (rule : Rule) (sets : List Widths) (typing : List ℕ) (solves : Solves
   pub beginning_has : (p c : ℕ) (set : Widths) → c < length (take p typing) → slice_get sets c ≡ Some set → Has set (slice_index (take p typing) c)
   beginning_has p c set less at = let first : c < p = omega (arith, length-take p typing) in rw (get_or-take p typing c 0 first) (solves.chosen.each c set at)
 
-  -- the least one at a place is the next, where there are none at later places
+  -- the least of these is the next one, where for no later place there are any
   pub next_at : (p : ℕ) (next : List ℕ) → p < length typing → AreLeast (Behind p) next → ((q : ℕ) (other : List ℕ) → p < q → q < length typing → ¬ Behind q other)
       → (Solves rule sets next × ComesBefore typing next) × ((other : List ℕ) → Solves rule sets other × ComesBefore typing other → (next ≡ other) ⊎ ComesBefore next other)
   next_at p next within found none_later =

@@ -1,4 +1,5 @@
--- Lists whose elements are numbered from positions, each behind those of the elements before it.
+-- Lists whose elements are numbered one after the other, each from the first number behind those of the element before
+-- it.
 use Rattle.std.proofs.Common.{◌≡◌, inl, inr, ℕ, zero, suc, ◌+◌, ◌<◌, ◌≤◌, List, [], ◌∷◌, ◌++◌, length, map, take, drop, get_or, Some, refl, sym, ap, ◌∙◌, arith, add-zero, add-one, add_assoc, length-append}
 use Rattle.std.specs.Prelude.{slice_get, slice_set, flat_map}
 use Rattle.std.proofs.lemmas.List.{take_all, drop_all, append-nil}
@@ -22,7 +23,7 @@ from_both n m xs ys behind first second k c at = elim (get-append_cases xs ys k 
   | inr (j, place, there) ↦ let h = second j c there in omega arith
 ]
 
--- what f gives from n on are these numbers
+-- f, at the places from n on, gives these numbers
 abbrev pub Gives : (ℕ → ℕ) → ℕ → List ℕ → Type 0
 Gives f n xs = (k c : ℕ) → slice_get xs k ≡ Some c → f (n + k) ≡ c
 
@@ -39,7 +40,7 @@ module _ (X : Type 0) (classes : X → List ℕ) (number : ℕ → X → X) wher
   length_numbered n [] = refl
   length_numbered n (x ∷ xs) = ap suc (length_numbered (n + length (classes x)) xs)
 
-  -- the element at a place is numbered from the position that stands there
+  -- the element at a place is numbered from the number of positions before it
   pub get_numbered : (n : ℕ) (xs : List X) (i : ℕ) (x d : X) → i < length xs → x ≡ get_or xs i x → get_or (numbered_from classes number n xs) i d ≡ number (n + length (flat_map classes (take i xs))) x
   get_numbered n [] i x d within is = absurd (omega arith)
   get_numbered n (a ∷ xs) zero x d within is = rw (add-zero, is) refl
@@ -47,7 +48,7 @@ module _ (X : Type 0) (classes : X → List ℕ) (number : ℕ → X → X) wher
       get_numbered (n + length (classes a)) xs i x d (omega arith) is
       ∙ ap (λ k. number k x) (add_assoc n (length (classes a)) (length (flat_map classes (take i xs))) ∙ ap (λ k. n + k) (sym (length-append (classes a) (flat_map classes (take i xs)))))
 
-  -- how many positions there are once the element at a place is counted too
+  -- the positions up to and with an element are those before it and its own
   count_next : (xs : List X) (i : ℕ) (x : X) → i < length xs → x ≡ get_or xs i x → length (flat_map classes (take (suc i) xs)) ≡ length (flat_map classes (take i xs)) + length (classes x)
   count_next [] i x within is = absurd (omega arith)
   count_next (a ∷ xs) zero x within is = rw is (length-append (classes a) [] ∙ omega arith)
@@ -57,7 +58,7 @@ module _ (X : Type 0) (classes : X → List ℕ) (number : ℕ → X → X) wher
       ∙ sym (add_assoc (length (classes a)) (length (flat_map classes (take i xs))) (length (classes x)))
       ∙ ap (λ k. k + length (classes x)) (sym (length-append (classes a) (flat_map classes (take i xs))))
 
-  -- the elements before a place are numbered from the first position on, and the next position is that behind theirs
+  -- the loop: elements before `place` are numbered from `first` on, and `following` is the next number
   pub record AreNumbered (first : ℕ) (old now : List X) (place following : ℕ) : Type 0 where
     pub written : now ≡ take place (numbered_from classes number first old) ++ drop place old
     pub next : following ≡ first + length (flat_map classes (take place old))
@@ -85,7 +86,7 @@ module _ (X : Type 0) (classes : X → List ℕ) (number : ℕ → X → X) wher
             ∙ add_assoc first (length (flat_map classes (take place old))) (length (classes x)) ∙ ap (λ k. first + k) (sym (count_next old place x within stood)));
       }
 
-  -- at the end all are written
+  -- at its end all elements are numbered
   pub all_numbered : (first place next : ℕ) (old now : List X) → AreNumbered first old now place next → length old ≤ place → now ≡ numbered_from classes number first old
   all_numbered first place next old now so_far past =
       let past' : length (numbered_from classes number first old) ≤ place = omega (arith, length_numbered first old) in
@@ -103,7 +104,7 @@ module _ (X : Type 0) (classes : X → List ℕ) (number : ℕ → X → X) wher
         from_both n (n + length (classes x)) (classes (number n x)) (flat_map classes (numbered_from classes number (n + length (classes x)) xs)) (omega (arith, count n x)) (own n x)
         (classes-numbered own (n + length (classes x)) xs)
 
-  -- under a map g that changes no more than the classes
+  -- mapping elements by g first makes no difference, where g changes their classes alone
   module _ (g : X → X) where
     pub numbered_image : ((n : ℕ) (x : X) → g (number n x) ≡ g x) → (n : ℕ) (xs : List X) → map g (numbered_from classes number n xs) ≡ map g xs
     numbered_image bare n [] = refl

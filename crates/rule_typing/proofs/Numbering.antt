@@ -1,4 +1,4 @@
--- Classes that get their numbers in the order in which they first appear.
+-- Renumbering the classes in the order in which they first appear.
 use Rattle.std.proofs.Common.{◌≡◌, ◌≢◌, ◌↔◌, inl, inr, ℕ, zero, suc, ◌+◌, ◌<◌, ◌≤◌, List, [], ◌∷◌, ◌++◌, length, map, take, Some, refl, sym, ap, subst, ◌∙◌, arith}
 use Rattle.std.specs.Prelude.{slice_get, Contains}
 use Rattle.std.proofs.lemmas.Bool.{cases_eq}
@@ -41,7 +41,7 @@ swap_more old new a b other =
       apart = λ c d same. other.apart c d (sym (swapped_back a b (other.to c)) ∙ ap (renamed (Swap a b)) same ∙ swapped_back a b (other.to d));
     }
 
--- numbers below n stay where n and a number past them are swapped
+-- swapping n with a number that isn't below it leaves the numbers below n as they are
 pub swap_keeps : (a n : ℕ) (xs : List ℕ) → ((c : ℕ) → Contains xs c → c < n) → n ≤ a → map (renamed (Swap a n)) xs ≡ xs
 swap_keeps a n [] below past = refl
 swap_keeps a n (x ∷ xs) below past =
@@ -54,7 +54,7 @@ last_is c zero e at = (refl, same_Some c e at)
 last_is c (suc zero) e at = cc
 last_is c (suc (suc j)) e at = cc
 
--- one more number, before which all smaller ones stand
+-- a list in order stays so with one more number, where all smaller ones stand in it
 pub order_push : (xs : List ℕ) (c : ℕ) → IsInOrder xs → ((d : ℕ) → d < c → Contains xs d) → IsInOrder (xs ++ c ∷ [])
 order_push xs c ordered below p e d at less = elim (get-append_cases xs (c ∷ []) p e at) [
   | inl here ↦ let (q, before, there) = ordered p e d here less in (q, before, get-append_left xs (c ∷ []) q d there)
@@ -78,14 +78,14 @@ next_push xs n known e = (
   ],
 )
 
--- the positions up to a place have their numbers, of which there are so many
+-- the loop: the positions before `place` have their final numbers, those below `next`
 pub record IsNumbered (old rule : Rule) (place next : ℕ) : Type 0 where
   pub renumbered : IsRenumbered old rule
   pub order : IsInOrder (take place (classes_of rule))
   pub count : (c : ℕ) → Contains (take place (classes_of rule)) c ↔ (c < next)
   pub few : next ≤ place
 
--- no position has a number at first
+-- at first no position has
 pub none_yet : (rule : Rule) → IsNumbered rule rule 0 0
 none_yet rule = record {
   renumbered = not_renumbered rule;
@@ -104,7 +104,7 @@ known old rule place next class so_far at less =
       few = let few : next ≤ place = so_far.few in omega arith;
     }
 
--- a class without a number gets the next one
+-- a class that has no final number yet is given the next one
 pub given : (old rule new : Rule) (place next class : ℕ) → IsNumbered old rule place next → slice_get (classes_of rule) place ≡ Some class → next ≤ class → new ≡ mapped (renamed (Swap class next)) rule → IsNumbered old new (place + 1) (next + 1)
 given old rule new place next class so_far at past is =
     let f : ℕ → ℕ = renamed (Swap class next) in
@@ -120,7 +120,7 @@ given old rule new place next class so_far at past is =
       few = let few : next ≤ place = so_far.few in omega arith;
     }
 
--- all positions are seen
+-- at the end all positions have them
 pub same_count : (old rule : Rule) → IsRenumbered old rule → length (classes_of rule) ≡ length (classes_of old)
 same_count old rule other = ap (λ (r : Rule). length (classes_of r)) other.is ∙ ap length (classes_of-mapped other.to old) ∙ length-map (classes_of old) other.to
 

@@ -1,11 +1,11 @@
--- The lexicographic order of lists of one length.
+-- Lexicographic order of lists of one length, by the first place at which they differ.
 use Rattle.std.proofs.Common.{◌≡◌, ◌⊎◌, inl, inr, ℕ, zero, suc, ◌<◌, List, [], ◌∷◌, length, refl, ◌∙◌, arith}
 use Rattle.std.specs.Prelude.{slice_index}
 use Rattle.std.proofs.lemmas.Bool.{cases_lt}
 use Rattle.rule_typing.specs.AllTypings.{ComesBefore}
 use Rattle.rule_typing.specs.Solutions.{AtMost}
 
--- they are alike before a place, where the second is larger
+-- the lists are equal before place p
 abbrev pub Alike : ℕ → List ℕ → List ℕ → Type 0
 Alike p xs ys = (c : ℕ) → c < p → slice_index xs c ≡ slice_index ys c
 

@@ -1,4 +1,4 @@
--- The least number past those of lists, one after the other.
+-- The least number above all of a list, for lists one behind the other.
 use Rattle.std.proofs.Common.{◌≡◌, inl, inr, ℕ, ◌+◌, ◌<◌, ◌≤◌, max, List, [], ◌∷◌, ◌++◌, length, get_or, take, refl, sym, ap, subst, ◌∙◌, arith, append-nil}
 use Rattle.std.specs.Prelude.{Contains, flat_map, Some}
 use Rattle.std.specs.Ordering.{nat_cmp, ord_max}
@@ -38,7 +38,7 @@ past_next X classes xs i x m n k within is p q most =
     rw (take_more xs i x within, ← is, flat_map-append classes (take i xs) (x ∷ []), append-nil (classes x))
     (past_both (flat_map classes (take i xs)) (classes x) m n k p q most)
 
--- the classes of a rule that keeps its classes are all numbers below the least one past them
+-- the classes of a classified rule are the numbers below the least one above them
 pub all_below : (rule : Rule) (n : ℕ) → IsClassified rule → IsPast (classes_of rule) n → HasClasses rule n
 all_below rule n classified p c = (
   p.past c,
@@ -62,7 +62,7 @@ pub past_four : (r x y z n : ℕ) → n ≡ max (max (max r x) y) z + 1 → IsPa
 past_four r x y z n is =
     past_both (r ∷ x ∷ y ∷ []) (z ∷ []) (max (max r x) y + 1) (z + 1) n (past_three r x y (max (max r x) y + 1) refl) (past_one z (z + 1) refl) (omega arith)
 
--- a node that is no register's width has one position
+-- any node but `width( )` has one position
 pub past_node : (c : ℕ) (node : Node) → ((r : Register) (d : ℕ) → node ≡ nodes.Width r d → ⊥) → IsPast (classes_of_node c node) (c + 1)
 past_node c (nodes.Literal z) other = past_one c (c + 1) refl
 past_node c (nodes.Constant k) other = past_one c (c + 1) refl
@@ -78,7 +78,7 @@ other_greater a b less = grind (arith, nat_tests)
 first_greater : (a b : ℕ) → b ≤ a → ord_max nat_cmp a b ≡ max a b
 first_greater a b most = grind (arith, nat_tests)
 
--- what `max` answers at numbers of 64 bits
+-- `max` of two numbers of 64 bits
 pub greater : (a b : ℕ) → ord_max nat_cmp a b ≡ max a b
 greater a b = elim (cases_lt a b) [
   | inl less ↦ let e : max a b ≡ b = omega arith in other_greater a b less ∙ sym e

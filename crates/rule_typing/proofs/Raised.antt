@@ -1,4 +1,4 @@
--- What raising a width to the next one of its set keeps.
+-- What `settle` keeps when it raises a width to a later one of its set.
 use Rattle.std.proofs.Common.{◌≡◌, ◌≢◌, inl, inr, ℕ, ◌<◌, ◌≤◌, List, length, get_or, slice_set, Some, sym, subst, ◌∙◌, arith, get_or-set_other, get_or-set_same}
 use Rattle.std.specs.Prelude.{slice_get, slice_index}
 use Rattle.std.proofs.lemmas.Bool.{cases_eq}
@@ -10,7 +10,7 @@ use Rattle.rule_typing.specs.declared.widths.Widths.{Widths}
 use Rattle.rule_typing.specs.Solutions.{Has, IsLeast, AreOf, AtMost, SolvesFrom}
 use Rattle.rule_typing.proofs.CastLines.{of_below}
 
--- a set's width is raised
+-- where a width is replaced by another of its set, each width is still of its set
 pub still_of : (sets : List Widths) (widths : List ℕ) (d w : ℕ) (wide : Widths) → AreOf sets widths → slice_get sets d ≡ Some wide → Has wide w → d < length widths → AreOf sets (slice_set widths d w)
 still_of sets widths d w wide chosen at has within = record {
   count = length-set widths d w ∙ chosen.count;
@@ -36,7 +36,8 @@ still_least widths others d w within least low c = elim (cases_eq c d) [
   | inr other ↦ rw (get_or-set_other widths d c w 0 other) (least c)
 ]
 
--- in what solves it, the larger width is above the other one, and of its set
+-- in each solution the wider class of a cast has a width of its set that is above the one that the narrower class has
+-- so far
 pub is_above : (rule : Rule) (sets : List Widths) (kept : ℕ) (first widths others : List ℕ) (c d : ℕ) (wide : Widths) → SolvesFrom rule sets kept first others → AtMost widths others → Smaller rule c d → c < length sets → slice_get sets d ≡ Some wide
     → Has wide (slice_index others d) × (slice_index widths c < slice_index others d)
 is_above rule sets kept first widths others c d wide from least line within at =
@@ -50,17 +51,17 @@ module _ (rule : Rule) (sets : List Widths) (kept : ℕ) (first widths : List �
   wide_at : slice_get sets d ≡ Some (get_or sets d empty)
   wide_at = slice_get-get_or sets d empty within
 
-  -- a width that is kept stands in the way
+  -- there is no solution where a kept width would have to be raised
   pub none_kept : d < kept → ((k : ℕ) → k < kept → slice_index widths k ≡ slice_index first k) → slice_index widths d ≤ slice_index widths c → (others : List ℕ) → ¬ SolvesFrom rule sets kept first others
   none_kept less keeps most others from =
       let above = is_above rule sets kept first widths others c d (get_or sets d empty) from (least others from) line low_within wide_at in
       omega (arith, above.1, keeps d less, from.keeps d less)
 
-  -- no width of the set is above
+  -- there is no solution where the set has no width above
   pub none_above : ((N : ℕ) → ¬ (Has (get_or sets d empty) N × (slice_index widths c < N))) → (others : List ℕ) → ¬ SolvesFrom rule sets kept first others
   none_above none others from = none (slice_index others d) (is_above rule sets kept first widths others c d (get_or sets d empty) from (least others from) line low_within wide_at)
 
-  -- the least one above is taken
+  -- raising to the least width above loses no solution
   pub raised : (w : ℕ) → AreOf sets widths → ((k : ℕ) → k < kept → slice_index widths k ≡ slice_index first k) → AtMost first widths → kept ≤ d → slice_index widths d ≤ slice_index widths c
       → IsLeast (λ N. Has (get_or sets d empty) N × (slice_index widths c < N)) (Some w)
       → record {

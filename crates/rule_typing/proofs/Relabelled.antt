@@ -50,7 +50,7 @@ node_classes f d (nodes.Width r c) = refl
 node_classes f c (nodes.Unary function a) = refl
 node_classes f c (nodes.Binary op a b) = refl
 
--- the classes of elements are mapped
+-- the classes of mapped elements are the mapped classes
 flat-mapped : {X Y : Type 0} (classes : X → List Y) (g : X → X) (f : Y → Y) → ((x : X) → classes (g x) ≡ map f (classes x)) → (xs : List X) → flat_map classes (map g xs) ≡ map f (flat_map classes xs)
 flat-mapped classes g f each [] = refl
 flat-mapped classes g f each (x ∷ xs) = rw (flat-mapped classes g f each xs, each x) (sym (map-append f (classes x) (flat_map classes xs)))
@@ -61,7 +61,7 @@ classes-mapped f xs = flat-mapped classes_of_statement (mapped_statement f) f (�
 pub term_classes-mapped : (f : ℕ → ℕ) (xs : List Term) → flat_map classes_of_term (map (mapped_term f) xs) ≡ map f (flat_map classes_of_term xs)
 term_classes-mapped f xs = flat-mapped classes_of_term (mapped_term f) f (λ t. node_classes f t.class t.node) xs
 
--- and so are those of the rule
+-- the statements of the mapped rule are the mapped statements
 pub statements_mapped : (f : ℕ → ℕ) (rule : Rule) → (mapped f rule).source ++ (mapped f rule).target ≡ map (mapped_statement f) (rule.source ++ rule.target)
 statements_mapped f rule = sym (map-append (mapped_statement f) rule.source rule.target)
 
@@ -73,13 +73,13 @@ classes_of-mapped f rule =
     rw (statements_mapped f rule, terms_mapped f rule, classes-mapped f (rule.source ++ rule.target), term_classes-mapped f (terms_in rule))
     (sym (map-append f (flat_map classes_of_statement (rule.source ++ rule.target)) (flat_map classes_of_term (terms_in rule))))
 
--- and so are the operands
+-- its operands are the mapped operands
 pub operands-mapped : (f : ℕ → ℕ) (xs : List Statement) → operands_among (map (mapped_statement f) xs) ≡ map (mapped_operand f) (operands_among xs)
 operands-mapped f [] = refl
 operands-mapped f (s ∷ xs) =
     rw (operands-mapped f xs, operands-mapped_op f s.op) (sym (map-append (mapped_operand f) (operands_of s.op) (operands_among xs)))
 
--- and the choices
+-- its choices are the mapped choices
 abbrev pub mapped_choice : (ℕ → ℕ) → Choice → Choice
 mapped_choice f choice = record choice { class = f choice.class }
 
@@ -115,7 +115,7 @@ choices_of-mapped f s =
 pub choices-mapped : (f : ℕ → ℕ) (xs : List Statement) → choices_among (map (mapped_statement f) xs) ≡ map (mapped_choice f) (choices_among xs)
 choices-mapped f xs = flat-mapped choices_of (mapped_statement f) (mapped_choice f) (choices_of-mapped f) xs
 
--- one map after the other is one map
+-- f and then g is one map, their composition
 mapped_op-mapped_op : (g f : ℕ → ℕ) (op : Op) → mapped_op g (mapped_op f op) ≡ mapped_op (λ c. g (f c)) op
 mapped_op-mapped_op g f (Binary op flags a b) = refl
 mapped_op-mapped_op g f (Compare pred samesign a b) = refl
@@ -145,7 +145,7 @@ terms-mapped g f (t ∷ xs) = rw (terms-mapped g f xs, node-mapped g f t.node) r
 pub mapped-mapped : (g f : ℕ → ℕ) (rule : Rule) → mapped g (mapped f rule) ≡ mapped (λ c. g (f c)) rule
 mapped-mapped g f rule = rw (statements-mapped g f rule.source, statements-mapped g f rule.target, terms-mapped g f rule.terms, terms-mapped g f rule.witness_terms) refl
 
--- a map that changes no class changes nothing
+-- the identity changes nothing
 mapped_op-id : (op : Op) → mapped_op (λ c. c) op ≡ op
 mapped_op-id (Binary op flags a b) = refl
 mapped_op-id (Compare pred samesign a b) = refl
@@ -221,7 +221,7 @@ alike_numbered rule =
       terms_bare (positions_of rule.source + positions_of rule.target + positions_among rule.terms) rule.witness_terms,
     ) refl
 
--- the classes before play no part in the numbering
+-- numbering doesn't depend on the classes before
 numbered_mapped_op : (f : ℕ → ℕ) (n : ℕ) (op : Op) → numbered_op n (mapped_op f op) ≡ numbered_op n op
 numbered_mapped_op f n (Binary op flags a b) = refl
 numbered_mapped_op f n (Compare pred samesign a b) = refl
@@ -354,7 +354,7 @@ node_from n (nodes.Width r c) = from_two n
 node_from n (nodes.Unary function a) = from_one n
 node_from n (nodes.Binary op a b) = from_one n
 
--- the classes half by half, and then those of the terms and of `Wit:`
+-- the classes of a rule: those of the statements, of the constant terms and of `Wit:`, one list behind the other
 pub classes_apart : (rule : Rule) → classes_of rule ≡ (flat_map classes_of_statement rule.source ++ flat_map classes_of_statement rule.target) ++ (flat_map classes_of_term rule.terms ++ flat_map classes_of_term rule.witness_terms)
 classes_apart rule = rw (flat_map-append classes_of_statement rule.source rule.target, flat_map-append classes_of_term rule.terms rule.witness_terms) refl
 

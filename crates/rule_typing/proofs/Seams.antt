@@ -1,4 +1,4 @@
--- A list that is written from its front on: new elements up to a place, and old ones from there.
+-- A list that is overwritten from its front: elements of ys before a place, and of xs from there on.
 use Rattle.std.proofs.Common.{◌≡◌, ℕ, zero, suc, ◌+◌, ◌<◌, List, [], ◌∷◌, ◌++◌, length, take, drop, refl, ap, ◌∙◌, arith, get_or, add-one}
 use Rattle.std.specs.Prelude.{slice_set}
 
@@ -24,7 +24,7 @@ seam_set ys [] (suc i) y same within is = absurd (omega arith)
 seam_set [] (a ∷ xs) (suc i) y same within is = absurd (omega arith)
 seam_set (b ∷ ys) (a ∷ xs) (suc i) y same within is = ap (λ l. b ∷ l) (seam_set ys xs i y (omega arith) (omega arith) is)
 
--- the next element is written as ys has it, from the one that stood there
+-- one more element is overwritten
 pub seam_next : {X : Type 0} (ys xs now : List X) (i : ℕ) (x y : X) → now ≡ take i ys ++ drop i xs → length ys ≡ length xs → i < length xs → x ≡ get_or now i x → (x ≡ get_or xs i x → y ≡ get_or ys i y) → slice_set now i y ≡ take (i + 1) ys ++ drop (i + 1) xs
 seam_next ys xs now i x y seam same within read written =
     let stood : x ≡ get_or xs i x = read ∙ ap (λ l. get_or l i x) seam ∙ seam_get ys xs i x same in

@@ -1,4 +1,4 @@
--- What sets of widths hold as they are filled.
+-- Sets of widths while a loop fills them.
 use Rattle.std.proofs.Common.{◌≡◌, ◌↔◌, ◌⊎◌, inl, inr, ℕ, ◌+◌, ◌<◌, List, [], ◌∷◌, ◌++◌, length, take, get_or, replicate, true, false, Some, sym, subst, ap, ◌∙◌, arith}
 use Rattle.std.specs.Prelude.{slice_get, Contains}
 use Rattle.std.proofs.lemmas.Bool.{false≢true, cases_eq}
@@ -15,7 +15,7 @@ none_true n N at =
     let within : N < length (replicate n false) = slice_get_within (replicate n false) N true at in
     false≢true (sym (get_or-replicate n N false true (omega (arith, length-replicate n false))) ∙ get_or_from_slice_get (replicate n false) N true true at)
 
--- of candidates among which is one more, which is added where it passes
+-- a set that holds the candidates that passed, of those seen so far, does so after one more candidate
 module _ (Among More Passes : ℕ → Type 0) (w : ℕ) (old : Widths) (more : (N : ℕ) → More N ↔ (Among N ⊎ (N ≡ w))) (so_far : HasExactly old (λ N. Among N × Passes N)) where
   pub added : (new : Widths) → HasExactly new (λ N. Has old N ⊎ (N ≡ w)) → Passes w → HasExactly new (λ N. More N × Passes N)
   added new inserted passes N = (
@@ -38,7 +38,7 @@ module _ (Among More Passes : ℕ → Type 0) (w : ℕ) (old : Widths) (more : (
     ],
   )
 
--- the candidates of walks
+-- the candidates: the numbers below a bound, and the widths of a list
 pub one_below : (w N : ℕ) → (N < w + 1) ↔ ((N < w) ⊎ (N ≡ w))
 one_below w N = (λ less. elim (cases_eq N w) [ inl same ↦ inr same | inr other ↦ inl (omega arith) ], λ one. elim one [ inl less ↦ omega arith | inr same ↦ omega arith ])
 
@@ -52,7 +52,7 @@ one_taken widths i w within is N =
       ]),
     )
 
--- the set of one more class
+-- what holds of the set of each of the first classes holds so of one more
 pub each_push : (P : ℕ → Widths → Type 0) (sets : List Widths) (n : ℕ) (last : Widths) → length sets ≡ n → P n last → ((c : ℕ) (set : Widths) → slice_get sets c ≡ Some set → P c set)
     → (c : ℕ) (set : Widths) → slice_get (sets ++ last ∷ []) c ≡ Some set → P c set
 each_push P sets n last count here before c set at = elim (get-append_cases sets (last ∷ []) c set at) [

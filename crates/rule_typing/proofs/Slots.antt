@@ -1,4 +1,4 @@
--- Sets and widths in the places of an array, of which the first ones are filled.
+-- Sets and widths in arrays of fixed length, of which the first places are filled.
 use Rattle.std.proofs.Common.{◌≡◌, ◌≢◌, ◌↔◌, ◌⊎◌, Bool, true, false, IsTrue, inl, inr, ℕ, ◌+◌, ◌<◌, ◌≤◌, List, [], length, take, get_or, slice_set, Some, refl, sym, subst, ap, ◌∙◌, arith, length-take, get_or-take, get_or-set_other, get_or-set_same}
 use Rattle.std.specs.Prelude.{slice_get, slice_index}
 use Rattle.std.specs.Bool.{OnTrue, OnFalse}
@@ -15,7 +15,7 @@ use Rattle.rule_typing.proofs.Begun.{AreFirst, AreFirstOf, first_of, none_behind
 use Rattle.rule_typing.proofs.Found.{behind_nothing}
 use Rattle.rule_typing.proofs.Solved.{typing_of, solves_of, typing_may}
 
--- what stands in the places once one is written
+-- what the array holds after one place is written
 written : (sets : List Widths) (i c : ℕ) (new set : Widths) → i < length sets → slice_get (slice_set sets i new) c ≡ Some set → ((c ≡ i) × (new ≡ set)) ⊎ ((c ≢ i) × (slice_get sets c ≡ Some set))
 written sets i c new set within at = elim (cases_eq c i) [
   | inl same ↦ inl (same, sym (ap (λ k. get_or (slice_set sets i new) k set) same ∙ get_or-set_same sets i new set within) ∙ get_or_from_slice_get (slice_set sets i new) c set set at)
@@ -32,7 +32,7 @@ exact_more P sets i new within here before c set less at = elim (written sets i 
   | inr (other, at') ↦ before c set (omega arith) at'
 ]
 
--- the least width of all
+-- without a beginning and a bound, the least width that may stand anywhere is the set's least
 least_of_all : (set : Widths) (c w : ℕ) → IsLeast (λ N. Has set N × (0 < N)) (Some w) → IsLeast (λ N. Has set N × GoesOn [] 0 c N) (Some w)
 least_of_all set c w ((has, above), least) = ((has, (λ less. absurd (omega arith), λ same. above)), λ M (has', goes). least M (has', has'.0))
 
@@ -43,7 +43,7 @@ least_more sets widths i w new within place here before c set less at = elim (wr
   | inr (other, at') ↦ rw (get_or-set_other widths i c w 0 other) (before c set (omega arith) at')
 ]
 
--- the first places
+-- an element of the filled part is one of the array
 in_first : (sets : List Widths) (n c : ℕ) (set : Widths) → slice_get (take n sets) c ≡ Some set → (c < n) × (slice_get sets c ≡ Some set)
 in_first sets n c set at =
     let inside : c < length (take n sets) = slice_get_within (take n sets) c set at in
@@ -84,7 +84,7 @@ module _ (rule : Rule) (n i : ℕ) (sets : List Widths) (widths : List ℕ) (cla
   answered true settled found none = (λ h. (settled, slots_typing settled found), λ h. refl)
   answered false settled found none = (λ h. absurd (false≢true h), λ (typing, is). absurd (no_slots none typing is))
 
--- a class without widths
+-- where a class has no width at all, there is no typing
 pub no_width : (rule : Rule) (n c : ℕ) (set : Widths) → HasClasses rule n → c < n → HasExactly set (MayHaveWidth rule c) → ((N : ℕ) → ¬ (Has set N × (0 < N))) → (typing : List ℕ) → ¬ IsTyping rule typing
 no_width rule n c set counted less exact none typing is =
     let has : Has set (slice_index typing c) = (exact (slice_index typing c)).1 (typing_may rule n typing counted is c less) in

@@ -1,4 +1,4 @@
--- What solves sets of the widths that classes may have is a typing.
+-- Solutions over the sets of widths that classes may have are typings.
 use Rattle.std.proofs.Common.{◌≡◌, ◌⊎◌, ℕ, ◌<◌, List, length, Some, subst, arith}
 use Rattle.std.specs.Prelude.{slice_get, slice_index, Contains}
 use Rattle.std.proofs.lemmas.Option.{slice_get-get_or, slice_get_within, get_or_from_slice_get}
@@ -24,7 +24,7 @@ pub typing_may : (rule : Rule) (n : ℕ) (typing : List ℕ) → HasClasses rule
 typing_may rule n typing counted is c less =
     may_have rule typing is c (slice_index typing c) (slice_get-get_or typing c 0 (omega (arith, count_widths rule typing n counted is)))
 
--- sets of widths, all of which the classes may have
+-- where each set holds only widths that its class may have
 module _ (rule : Rule) (sets : List Widths) (Fits : ℕ → ℕ → Type 0) (classified : IsClassified rule) (counted : HasClasses rule (length sets)) (may : (c N : ℕ) → Fits c N → MayHaveWidth rule c N)
     (exact : (c : ℕ) (set : Widths) → slice_get sets c ≡ Some set → HasExactly set (Fits c)) where
   pub fitting : (typing : List ℕ) → Solves rule sets typing → (c : ℕ) → c < length sets → Fits c (slice_index typing c)
@@ -46,7 +46,7 @@ module _ (rule : Rule) (sets : List Widths) (Fits : ℕ → ℕ → Type 0) (cla
   pub at_most_64 : (typing : List ℕ) → Solves rule sets typing → (c : ℕ) → c < length sets → slice_index typing c < 65
   at_most_64 typing solves c less = let h = may c (slice_index typing c) (fitting typing solves c less) in omega (arith, h.within.1)
 
--- sets of the widths that may be chosen
+-- where each set holds the widths that are fixed or listed
 module _ (rule : Rule) (widths : List ℕ) (sets : List Widths) (classified : IsClassified rule) (counted : HasClasses rule (length sets))
     (exact : (c : ℕ) (set : Widths) → slice_get sets c ≡ Some set → HasExactly set (MayChoose rule widths c)) where
   may_choose : (c N : ℕ) → MayChoose rule widths c N → MayHaveWidth rule c N

@@ -1,4 +1,4 @@
--- What the walks over the parts of a rule find are its lines, and those that they pass are all.
+-- The loops over the parts of a rule find only constraints of it, and miss none.
 use Rattle.std.proofs.Common.{◌≡◌, ◌≢◌, inl, inr, ℕ, Option, None, Some, sym, ◌∙◌}
 use Rattle.std.specs.Prelude.{IfSome, IfNone}
 use Rattle.std.proofs.lemmas.Option.{same_Some}
@@ -42,7 +42,7 @@ module _ (rule : Rule) where
   pub root_line : (c d : ℕ) → RootLine rule c d → Line rule c d
   root_line c d (n, h, h') = name (assigned_names rule n c h) (root_names rule n d h')
 
-  -- what is found among lines of one kind is found among all
+  -- what one of the loops finds is a constraint of the rule
   pub line_found : (P : ℕ → ℕ → Type 0) (pair : ℕ × ℕ) → ((c d : ℕ) → P c d → Line rule c d) → Splits P (Some pair) → Line rule pair.0 pair.1 × (pair.0 ≢ pair.1)
   line_found P pair to (on, apart) = (to pair.0 pair.1 on, apart)
 
@@ -52,7 +52,7 @@ module _ (rule : Rule) where
 
   module _ (halves_one : (half : Half) → AreOne (StatementsLine rule half (statements_of rule half))) (terms_one : AreOne (TermsLine rule rule.terms)) (witness_one : AreOne (TermsLine rule rule.witness_terms))
       (comparisons_one : AreOne (PairOf (formula_pairs rule.terms) rule.precondition)) (roots_one : AreOne (RootLine rule)) where
-    -- what reads a name is of one class with all that has it
+    -- where no loop finds anything, all positions with one name are of one class
     read_one : (n : Name) (c d : ℕ) → IsRead rule n c → Names rule n d → c ≡ d
     read_one n c d (inl (o, among, e)) q =
         let (s, stands, here) = from_flat_map (λ (t : Statement). operands_of t.op) rule.source o among in halves_one halves.Source c d (s, stands, inr (inl (o, here, inr (n, e, q))))

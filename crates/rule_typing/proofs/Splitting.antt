@@ -1,4 +1,4 @@
--- Whether positions on one line have different classes.
+-- Whether some constraint asks two different classes to have one width is decided.
 use Rattle.std.proofs.Common.{◌≡◌, ◌≢◌, ◌⊎◌, inl, inr, ℕ, ◌-◌, List, ◌++◌, length, Option, None, Some, refl, sym, ap, subst, ◌∙◌, arith}
 use Rattle.std.specs.Prelude.{Contains}
 use Rattle.std.proofs.Math.Decide.{map_dec}
@@ -18,7 +18,7 @@ use Rattle.rule_typing.proofs.Deciding.{dec_both, dec_either, dec_not, stable, d
 
 -- ---- pairs
 
--- a pair of one of the elements that differs
+-- one of the elements has such a pair
 abbrev Split : (ℕ → ℕ → Type 0) → Type 0
 Split P = (c : ℕ) × (d : ℕ) × P c d × (c ≢ d)
 
@@ -51,13 +51,13 @@ dec_name (names.Constant j) (names.Choice k) = no (λ e. cc)
 dec_name (names.Choice j) (names.Register r) = no (λ e. cc)
 dec_name (names.Choice j) (names.Constant k) = no (λ e. cc)
 
--- what an option holds has it
+-- whether Q holds of what an option holds is decided
 dec_held : {X : Type 0} (Q : X → Type 0) → ((x : X) → Dec (Q x)) → (o : Option X) → Dec ((x : X) × (o ≡ Some x) × Q x)
 dec_held Q each None = no (λ (x, e, q). cc)
 dec_held Q each (Some x) = map_dec (λ q. (x, refl, q)) (λ (y, e, q). subst Q (sym (same_Some x y e)) q) (each x)
 
 module _ (rule : Rule) where
-  -- what reads a name has it
+  -- whether Q holds of what some element names is decided
   dec_naming : {X : Type 0} (naming : X → Option (Name × ℕ)) (Q : Name → ℕ → Type 0) → ((n : Name) (c : ℕ) → Dec (Q n c)) → (xs : List X) → Dec ((n : Name) × (c : ℕ) × NamingOf naming xs n c × Q n c)
   dec_naming {X} naming Q each xs =
       map_dec (λ (x, among, (p, e, q)). (p.0, p.1, (x, among, e), q)) (λ (n, c, (x, among, e), q). (x, among, ((n, c), e, q)))
@@ -82,7 +82,7 @@ module _ (rule : Rule) where
       (dec_either (dec_naming operand_naming Q each (operands_among rule.target))
       (dec_either (dec_naming (choice_naming halves.Target) Q each (choices_among rule.target)) (dec_naming term_naming Q each (terms_in rule)))))
 
-  -- another position of another class has the name
+  -- another position with the name has another class
   Other : Name → ℕ → Type 0
   Other n c = (d : ℕ) × Names rule n d × (c ≢ d)
 
@@ -102,7 +102,7 @@ module _ (rule : Rule) where
       (dec_either (dec_read (λ m d. (m ≡ n) × (c ≢ d)) (λ m d. dec_both (dec_name m n) (dec_not (dec_number c d))))
       (dec_either (dec_held (λ d. c ≢ d) (λ d. dec_not (dec_number c d)) (assigned_class rule n)) (dec_held (λ d. c ≢ d) (λ d. dec_not (dec_number c d)) (root_class rule n))))
 
-  -- the results that assign the root differ
+  -- the two results that assign the root have different classes
   dec_root : Dec (Split (RootLine rule))
   dec_root =
       let n : Name = names.Register (registers.Source (length rule.source - 1)) in
@@ -114,7 +114,7 @@ module _ (rule : Rule) where
       (c, subst (λ x. assigned_class rule x ≡ Some c) same h, (d, subst (λ x. root_class rule x ≡ Some d) same k, apart)))
       (dec_held (λ c. (d : ℕ) × (root_class rule n ≡ Some d) × (c ≢ d)) (λ c. dec_held (λ d. c ≢ d) (λ d. dec_not (dec_number c d)) (root_class rule n)) (assigned_class rule n))
 
-  -- ---- lines
+  -- ---- all constraints
 
   abbrev Found : Type 0
   Found =
@@ -175,7 +175,7 @@ module _ (rule : Rule) where
   line_found c d apart (by_comparison h) = inr (inr (inr (inr (inr (inr (inr (inl (c, d, h, apart))))))))
   line_found c d apart (by_name n p q) = apart_names n c d apart p q (named_cases rule n c p) (named_cases rule n d q)
 
--- on some line two classes differ, or each line's are one
+-- some constraint asks it of two different classes, or each of equal ones
 pub split_or_joined : (rule : Rule) → ((c : ℕ) × (d : ℕ) × Line rule c d × (c ≢ d)) ⊎ ((c d : ℕ) → Line rule c d → c ≡ d)
 split_or_joined rule = elim (dec_found rule) [
   | yes found ↦ inl (found_line rule found)

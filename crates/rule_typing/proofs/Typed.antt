@@ -1,5 +1,5 @@
--- Where a rule keeps its classes, widths are a typing exactly where there is one for each class, and each class may
--- have its own.
+-- Widths are a typing of a classified rule exactly where there is one for each class, each class may have its own, and
+-- casts are met.
 use Rattle.std.proofs.Common.{◌≡◌, ◌↔◌, inl, inr, ℕ, suc, ◌+◌, ◌<◌, List, ◌++◌, length, map, get_or, Some, refl, sym, ap, subst, ◌∙◌, arith, add-zero, length-append}
 use Rattle.std.specs.Prelude.{slice_get, Contains, flat_map}
 use Rattle.std.proofs.lemmas.Bool.{cases_lt}
@@ -23,7 +23,7 @@ use Rattle.rule_typing.proofs.Relabelled.{classes_apart, class_is_position, coun
 use Rattle.rule_typing.proofs.MappedLines.{from_line_map, line_classes}
 use Rattle.rule_typing.proofs.FixedLines.{fixed_class}
 
--- a map that gives each position its class makes the rule of the numbered one
+-- mapping each position of the numbered rule to the class that it had gives the rule
 restored_op : (f : ℕ → ℕ) (n : ℕ) (op : Op) → ((k c : ℕ) → slice_get (map (λ o. o.class) (operands_of op)) k ≡ Some c → f (n + k) ≡ c) → mapped_op f (numbered_op n op) ≡ op
 restored_op f n (Binary op flags a b) gives =
     let left : f n ≡ a.class = ap f (sym (add-zero n)) ∙ gives 0 a.class refl in
@@ -90,7 +90,7 @@ restored rule =
     let fourth = restored_terms f (length source + length target + length terms) rule.witness_terms (gives_right f (length source + length target) (length source + length target + length terms) terms witness refl nodes_give) in
     rw (first, second, third, fourth) refl
 
--- a class of the numbered rule is a position, where the rule keeps its class
+-- a class of the numbered rule is a position, and the rule has a class at it
 kept_at : (rule : Rule) (p : ℕ) → Contains (classes_of (numbered rule)) p → slice_get (classes_of rule) p ≡ Some (class_at rule p)
 unfolding class_at
 kept_at rule p (k, within, is) =
@@ -103,7 +103,7 @@ on_one_line rule classified c d on =
     let ends = line_classes (numbered rule) p q before in
     c_is ∙ (classified.classes p q (class_at rule p) (class_at rule q) (kept_at rule p ends.0) (kept_at rule q ends.1)).1 (line before) ∙ sym d_is
 
--- a width that a line fixes is the one of its class
+-- a width that is fixed for a class is the one given to it, where it is one that the class may have
 fixed_at : (rule : Rule) (widths : List ℕ) (n : ℕ) → HasClasses rule n → length widths ≡ n → ((c N : ℕ) → slice_get widths c ≡ Some N → MayHaveWidth rule c N) → (c N : ℕ) → Fixed rule c N → slice_get widths c ≡ Some N
 fixed_at rule widths n counted same may c N fixed =
     let less : c < n = (counted c).0 (fixed_class rule c N fixed) in
@@ -143,6 +143,6 @@ may_have rule widths typing c N at =
       term_literals = λ t z among class is. typing.term_literals t z N among is (subst (λ k. slice_get widths k ≡ Some N) (sym class) at);
     }
 
--- where there are as many widths as classes: each class may have its own, and casts keep them in order
+-- the tests of the code: each class may have its width, and all casts are met
 pub both_tests : (rule : Rule) (widths : List ℕ) (n : ℕ) → IsClassified rule → HasClasses rule n → length widths ≡ n → (((c N : ℕ) → slice_get widths c ≡ Some N → MayHaveWidth rule c N) × MeetsSmaller rule widths) ↔ IsTyping rule widths
 both_tests rule widths n classified counted same = (λ h. typed rule widths n classified counted same h.0 h.1, λ typing. (may_have rule widths typing, typing.smaller))

@@ -1,5 +1,5 @@
--- What a walk over elements finds: two classes that a line of one of them splits, or a class of another position that
--- has a name.
+-- What a loop over elements finds: two different classes that one of them asks to have one width, or another class of a
+-- position with a name.
 use Rattle.std.proofs.Common.{◌≡◌, ◌⊎◌, inl, inr, ℕ, ◌<◌, ◌≤◌, List, ◌++◌, length, get_or, Option, None, Some, sym}
 use Rattle.std.proofs.lemmas.Option.{slice_get-get_or, get_or_from_slice_get}
 use Rattle.std.specs.Prelude.{Contains, flat_map}
@@ -10,16 +10,16 @@ use Rattle.rule_typing.specs.Splits.{IsPairIn, Splits, FindsOther, NamingOf}
 use Rattle.rule_typing.proofs.Images.{from_flat_map}
 use Rattle.rule_typing.proofs.Among.{SoFar, all_of_them, stands_here}
 
--- what stands at a place, whatever would stand there if nothing did
+-- the element at a place doesn't depend on the default
 pub stands_still : {X : Type 0} (xs : List X) (i : ℕ) (d : X) → i < length xs → get_or xs i d ≡ get_or xs i (get_or xs i d)
 stands_still xs i d within = sym (get_or_from_slice_get xs i (get_or xs i d) (get_or xs i d) (slice_get-get_or xs i d within))
 
--- ---- lines
+-- ---- constraints
 
 abbrev pub AreOne : (ℕ → ℕ → Type 0) → Type 0
 AreOne P = (c d : ℕ) → P c d → c ≡ d
 
--- one of the elements does
+-- the constraint is one of some element's
 abbrev pub SomeOf : {X : Type 0} → (X → ℕ → ℕ → Type 0) → List X → ℕ → ℕ → Type 0
 SomeOf {X} P xs c d = (x : X) × Contains xs x × P x c d
 
@@ -29,7 +29,7 @@ split_here P xs i x pair is within (on, apart) = ((x, stands_here xs i x is with
 pub none_splits : {X : Type 0} (P : X → ℕ → ℕ → Type 0) (xs : List X) (i : ℕ) → SoFar (λ x. AreOne (P x)) xs i → length xs ≤ i → Splits (SomeOf P xs) None
 none_splits P xs i before past c d (x, among, on) = all_of_them (λ y. AreOne (P y)) xs i before past x among c d on
 
--- what is found among those of P, or else among those of Q, is found among both
+-- what is found among P's constraints, or else among Q's, is found among both
 pub first_splits : (P Q : ℕ → ℕ → Type 0) (pair : ℕ × ℕ) → Splits P (Some pair) → Splits (λ c d. P c d ⊎ Q c d) (Some pair)
 first_splits P Q pair (on, apart) = (inl on, apart)
 
@@ -37,12 +37,12 @@ pub then_splits : (P Q : ℕ → ℕ → Type 0) (answer : Option (ℕ × ℕ)) 
 then_splits P Q None first second = λ c d on. elim on [ inl p ↦ first c d p | inr q ↦ second c d q ]
 then_splits P Q (Some pair) first (on, apart) = (inr on, apart)
 
--- the same under another description
+-- the same for equivalent constraints
 pub splits_as : (P Q : ℕ → ℕ → Type 0) (answer : Option (ℕ × ℕ)) → ((c d : ℕ) → P c d → Q c d) → ((c d : ℕ) → Q c d → P c d) → Splits P answer → Splits Q answer
 splits_as P Q None to from h = λ c d on. h c d (from c d on)
 splits_as P Q (Some pair) to from (on, apart) = (to pair.0 pair.1 on, apart)
 
--- the same for pairs of lists, one after the other
+-- the same for two lists of pairs, one behind the other
 pub then_list : (xs ys : List (ℕ × ℕ)) (answer : Option (ℕ × ℕ)) → Splits (IsPairIn xs) None → Splits (IsPairIn ys) answer → Splits (IsPairIn (xs ++ ys)) answer
 then_list xs ys answer first second =
     splits_as (λ c d. IsPairIn xs c d ⊎ IsPairIn ys c d) (IsPairIn (xs ++ ys)) answer
@@ -68,7 +68,7 @@ pub finds_as : (P Q : ℕ → Type 0) (c : ℕ) (answer : Option ℕ) → ((d : 
 finds_as P Q c None to from h = λ d on. h d (from d on)
 finds_as P Q c (Some d) to from (on, apart) = (to d on, apart)
 
--- names among what elements are mapped to
+-- names in lists that elements are mapped to
 pub naming_deep : {X Y : Type 0} (f : X → List Y) (naming : Y → Option (Name × ℕ)) (xs : List X) (n : Name) (c : ℕ) → (x : X) × Contains xs x × NamingOf naming (f x) n c → NamingOf naming (flat_map f xs) n c
 naming_deep f naming xs n c (x, stands, (y, here, e)) = (y, Contains-flat_map f xs x y stands here, e)
 

@@ -1,4 +1,4 @@
--- Whether a class may have a width by itself, and whether it has a fixed one, can be decided.
+-- Whether a class may have a width by itself, and whether its width is fixed, is decided.
 use Rattle.std.proofs.Common.{◌≡◌, inl, inr, ℕ, ◌-◌, ◌^◌, ◌++◌, Option, None, Some, Bool, refl, sym, ap, subst}
 use Rattle.std.specs.Prelude.{ℤ, pos, neg_ℤ}
 use Rattle.std.proofs.Math.Decide.{map_dec, dec_le}
@@ -20,7 +20,7 @@ use Rattle.rule_typing.specs.FittingWidths.{FitsIn, TermFits, MayHaveWidth}
 use Rattle.rule_typing.proofs.Deciding.{dec_both, dec_either, dec_not, stable, dec_number, dec_one, dec_each}
 use Rattle.rule_typing.proofs.FixedLines.{of_fixed, fixed_of}
 
--- ---- fixed widths, of which something else holds too
+-- ---- fixed widths of which Q holds, too
 
 module _ (Q : ℕ → Type 0) (each : (M : ℕ) → Dec (Q M)) where
   dec_line : (c : ℕ) (line : Option (ℕ × ℕ)) → Dec ((M : ℕ) × (line ≡ Some (c, M)) × Q M)

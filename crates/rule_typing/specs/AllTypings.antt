@@ -19,21 +19,21 @@ ComesBefore [] (b ∷ bs) = Unit {0}
 ComesBefore (a ∷ as_) [] = ⊥
 ComesBefore (a ∷ as_) (b ∷ bs) = (a < b) ⊎ ((a ≡ b) × ComesBefore as_ bs)
 
--- all of them, in lexicographic order
+-- the list is all of them, in lexicographic order
 pub record AreAllTypings (rule : Rule) (widths : List ℕ) (typings : List (List ℕ)) : Type 0 where
   pub all : (typing : List ℕ) → Contains typings typing ↔ IsListed rule widths typing
   pub in_order : AllPairs ComesBefore typings
 
--- all typings, at most so many, or that there are more
+-- all typings, where there are at most `most`, or that there are more
 abbrev pub IsAnswer : Rule → List ℕ → ℕ → Typings → Type 0
 IsAnswer rule widths most (found.All typings) = AreAllTypings rule widths typings × (length typings ≤ most)
 IsAnswer rule widths most found.TooMany = (typings : List (List ℕ)) × AreAllTypings rule widths typings × (most < length typings)
 
--- class c may have the width N, which is its fixed one or of the list
+-- class c may have the width N: it is fixed or one of the list, and fits the class by itself
 abbrev pub MayChoose : Rule → List ℕ → ℕ → ℕ → Type 0
 MayChoose rule widths c N = (Fixed rule c N ⊎ Contains widths N) × MayHaveWidth rule c N
 
--- the first list of which P holds in lexicographic order, if there is one
+-- the first list in lexicographic order of which P holds, if there is one
 abbrev pub IsFirstOf : (List ℕ → Type 0) → Option (List ℕ) → Type 0
 IsFirstOf P None = (typing : List ℕ) → ¬ P typing
 IsFirstOf P (Some typing) = P typing × ((other : List ℕ) → P other → (typing ≡ other) ⊎ ComesBefore typing other)

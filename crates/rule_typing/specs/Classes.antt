@@ -8,20 +8,20 @@ use Rattle.rule_core.specs.declared.rule.Argument.TheVariants as arguments
 use Rattle.rule_core.specs.Positions.{operands_of, classes_of, Line}
 use Rattle.rule_typing.specs.Relabelled.{numbered}
 
--- Two classes are joined where lines of the table lead from one to the other: the least equivalence that joins what one
--- line joins.
+-- Two classes are joined by a chain of lines that each keep two classes at one width: the least equivalence relation
+-- that holds of the two classes of each line.
 pub data Joined (rule : Rule) : ℕ → ℕ → Type 0 where
   line : {c d : ℕ} → Line rule c d → Joined rule c d
   itself : {c : ℕ} → Joined rule c c
   turned : {c d : ℕ} → Joined rule c d → Joined rule d c
   along : {c d e : ℕ} → Joined rule c d → Joined rule d e → Joined rule c e
 
--- Two positions are of one class where they are joined in the numbered rule, in which each position is a class of its
--- own.
+-- Two positions are of one class where they are joined in the numbered rule, in which each position starts as a class
+-- of its own.
 abbrev pub SameClass : Rule → ℕ → ℕ → Type 0
 SameClass rule p q = Joined (numbered rule) p q
 
--- numbers are given from 0 in the order in which they first stand: all smaller ones stand before a number
+-- numbers are given from 0 in the order of first appearance: before a number first stands, all smaller ones have stood
 abbrev pub IsInOrder : List ℕ → Type 0
 IsInOrder numbers = (p c d : ℕ) → slice_get numbers p ≡ Some c → d < c → (q : ℕ) × (q < p) × (slice_get numbers q ≡ Some d)
 
@@ -44,11 +44,11 @@ IsName (arguments.Truth b) = ⊥
 IsName (arguments.Undef k) = ⊥
 IsName (arguments.Term n) = ⊥
 
--- and has the class c
+-- the operand is a register or a constant, and of class c
 abbrev pub IsNameOf : ℕ → Operand → Type 0
 IsNameOf c o = (o.class ≡ c) × IsName o.value
 
--- one of these operands does
+-- one of these operands is a register or a constant of class c
 abbrev pub ReadsClass : List Operand → ℕ → Type 0
 ReadsClass operands c = (o : Operand) × Contains operands o × IsNameOf c o
 

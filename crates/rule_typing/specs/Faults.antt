@@ -1,4 +1,4 @@
--- Why a rule has no classes that a typing could be given for.
+-- Why the classes of a rule admit no typing that is worth a trial.
 use Rattle.std.specs.Prelude.{ℕ, ◌≤◌, List, Contains}
 use Rattle.rule_core.specs.declared.rule.Rule.{Rule}
 use Rattle.rule_core.specs.Positions.{classes_of, Fixed}
@@ -15,20 +15,20 @@ HasTooManyClasses rule = (c : ℕ) × Contains (classes_of rule) c × (8 ≤ c)
 abbrev pub HasNoTyping : Rule → Type 0
 HasNoTyping rule = (typing : List ℕ) → IsTyping rule typing → ⊥
 
--- a class has neither a name in the source nor a fixed width
+-- a class has neither a name in the source, whose width a match would tell, nor a fixed width
 abbrev pub IsOpen : Rule → ℕ → Type 0
 IsOpen rule c = (¬ IsNamedInSource rule c) × ((N : ℕ) → ¬ Fixed rule c N)
 
 abbrev pub HasOpenClass : Rule → Type 0
 HasOpenClass rule = (c : ℕ) × Contains (classes_of rule) c × IsOpen rule c
 
--- the first of these, in this order
+-- the first of these faults, in this order
 abbrev pub IsFault : Rule → ClassFault → Type 0
 IsFault rule faults.TooMany = HasTooManyClasses rule
 IsFault rule faults.NoType = ¬ HasTooManyClasses rule × HasNoTyping rule
 IsFault rule faults.OpenType = ¬ HasTooManyClasses rule × ¬ HasNoTyping rule × HasOpenClass rule
 
--- none of them
+-- the rule has none of these faults
 pub record HasNoFault (rule : Rule) : Type 0 where
   pub few : ¬ HasTooManyClasses rule
   pub typed : ¬ HasNoTyping rule

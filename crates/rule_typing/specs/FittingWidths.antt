@@ -20,7 +20,7 @@ pub record MayHaveWidth (rule : Rule) (c N : ℕ) : Type 0 where
 abbrev pub FitsIn : ℕ → ℕ → Operand → Type 0
 FitsIn c N o = (z : ℤ) → o.class ≡ c → o.value ≡ arguments.Literal z → FitsLiteral N z
 
--- each of these operands does
+-- each of these operands fits
 abbrev pub LiteralsFit : List Operand → ℕ → ℕ → Type 0
 LiteralsFit operands c N = (o : Operand) → Contains operands o → FitsIn c N o
 
@@ -28,11 +28,11 @@ LiteralsFit operands c N = (o : Operand) → Contains operands o → FitsIn c N 
 abbrev pub TermFits : ℕ → ℕ → Term → Type 0
 TermFits c N t = (z : ℤ) → t.class ≡ c → t.node ≡ nodes.Literal z → FitsLiteral N z
 
--- each of these nodes does
+-- each of these nodes fits
 abbrev pub TermsFit : List Term → ℕ → ℕ → Type 0
 TermsFit terms c N = (t : Term) → Contains terms t → TermFits c N t
 
--- n is the least number past these
+-- n is one more than the greatest of these numbers, or 0 where there are none
 pub record IsPast (numbers : List ℕ) (n : ℕ) : Type 0 where
   pub past : (c : ℕ) → Contains numbers c → c < n
   pub least : (c : ℕ) → c < n → (d : ℕ) × Contains numbers d × (c ≤ d)

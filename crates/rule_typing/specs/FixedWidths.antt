@@ -1,4 +1,5 @@
--- Parts of the lines that fix widths or keep one below another, as the code goes over them.
+-- The constraints of single operations and operands that fix a width, or keep one below another, as the code goes over
+-- them.
 use Rattle.std.specs.Prelude.{◌≡◌, ◌⊎◌, ◌<◌, ◌≤◌, ℕ, Bool, List, length, Option, None, Some, Contains, slice_get, slice_index}
 use Rattle.ops.specs.declared.conversion.Cast.TheVariants.{Trunc, ZExt, SExt}
 use Rattle.rule_core.specs.declared.rule.Statement.{Statement}
@@ -8,7 +9,7 @@ use Rattle.rule_core.specs.declared.rule.Operand.{Operand}
 use Rattle.rule_core.specs.declared.rule.Argument.TheVariants as arguments
 use Rattle.rule_core.specs.Positions.{operands_of}
 
--- the class for which the line of an operation fixes a width, and that width, where the result has the class r
+-- the class whose width an operation fixes, and that width, where the result has the class r
 abbrev pub fixed_line : ℕ → Op → Option (ℕ × ℕ)
 fixed_line r (Binary op flags a b) = None
 fixed_line r (Compare pred samesign a b) = Some (r, 1)
@@ -19,20 +20,19 @@ fixed_line r (Convert cast flags a (Some N)) = Some (r, N)
 fixed_line r (Freeze a k) = None
 fixed_line r (Copy a) = None
 
--- the operand fixes the width N for its class, which is c: by its type, or as `true` or `false`
+-- the operand fixes the width N for its class, which is c: by the type before it, or as `true` or `false`
 abbrev pub FixesWidth : ℕ → ℕ → Operand → Type 0
 FixesWidth c N o = (o.class ≡ c) × ((o.written ≡ Some N) ⊎ (((b : Bool) × (o.value ≡ arguments.Truth b)) × (N ≡ 1)))
 
--- one of these operands does
+-- one of these operands fixes it
 abbrev pub OperandFixes : List Operand → ℕ → ℕ → Type 0
 OperandFixes operands c N = (o : Operand) × Contains operands o × FixesWidth c N o
 
--- the statement fixes the width N for the class c, by its line or by an operand
+-- the statement fixes the width N for the class c, by its operation or by an operand
 abbrev pub StatementFixes : ℕ → ℕ → Statement → Type 0
 StatementFixes c N s = (fixed_line s.class s.op ≡ Some (c, N)) ⊎ OperandFixes (operands_of s.op) c N
 
--- the class whose width the line of an operation keeps below that of another, and the other, where the result has the
--- class r
+-- for a cast, the class that has to be the narrower one, and the class that has to be wider; the result has the class r
 abbrev pub smaller_line : ℕ → Op → Option (ℕ × ℕ)
 smaller_line r (Binary op flags a b) = None
 smaller_line r (Compare pred samesign a b) = None
@@ -44,14 +44,14 @@ smaller_line r (Convert SExt flags a to) = Some (a.class, r)
 smaller_line r (Freeze a k) = None
 smaller_line r (Copy a) = None
 
--- these widths keep that of class c below that of class d, if there are both
+-- the width of class c is below that of class d, if both have one
 abbrev pub IsBelow : List ℕ → ℕ → ℕ → Type 0
 IsBelow widths c d = (N M : ℕ) → slice_get widths c ≡ Some N → slice_get widths d ≡ Some M → N < M
 
--- there are both, and that of class c is not below that of class d
+-- both have a width, and that of class c is not below that of class d
 abbrev pub IsBroken : List ℕ → ℕ → ℕ → Type 0
 IsBroken widths c d = (c < length widths) × (d < length widths) × (slice_index widths d ≤ slice_index widths c)
 
--- these widths meet the line of the statement
+-- the widths meet the constraint of the statement, if it is a cast
 abbrev pub MeetsCastLine : List ℕ → Statement → Type 0
 MeetsCastLine widths s = (c d : ℕ) → smaller_line s.class s.op ≡ Some (c, d) → IsBelow widths c d

@@ -6,7 +6,8 @@ use Rattle.rule_typing.specs.Classes.{IsClassified}
 use Rattle.rule_typing.specs.Faults.{IsFault, HasNoFault}
 use Rattle.rule_typing.specs.Relabelled.{numbered}
 
--- a rule that differs in its classes alone keeps them, and they have no fault or one
+-- for each rule there is one that differs in nothing but the numbers of its classes, and is classified; it has no fault
+-- or one
 abbrev pub RulesHaveClasses : Type 0
 RulesHaveClasses =
     (rule : Rule) → (classified : Rule) × (numbered classified ≡ numbered rule) × IsClassified classified

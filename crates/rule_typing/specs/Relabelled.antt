@@ -11,7 +11,7 @@ use Rattle.rule_typing.specs.declared.relabelling.Renaming.{Renaming}
 use Rattle.rule_typing.specs.declared.relabelling.Renaming.TheVariants.{Merge, Swap}
 use Rattle.rule_core.specs.Positions.{classes_of_statement, classes_of_term}
 
--- each class c is f c
+-- the operation with class f c in place of each class c
 abbrev pub mapped_op : (ℕ → ℕ) → Op → Op
 mapped_op f (Binary op flags a b) = Binary op flags (record a { class = f a.class }) (record b { class = f b.class })
 mapped_op f (Compare pred samesign a b) = Compare pred samesign (record a { class = f a.class }) (record b { class = f b.class })
@@ -45,7 +45,7 @@ mapped f rule =
       witness_terms = map (mapped_term f) rule.witness_terms;
     }
 
--- the class at each position is the position, from n on
+-- the operation with the classes of its operands numbered in order, from n on
 abbrev pub numbered_op : ℕ → Op → Op
 numbered_op n (Binary op flags a b) = Binary op flags (record a { class = n }) (record b { class = n + 1 })
 numbered_op n (Compare pred samesign a b) = Compare pred samesign (record a { class = n }) (record b { class = n + 1 })
@@ -70,7 +70,8 @@ numbered_node n (nodes.Binary op a b) = nodes.Binary op a b
 abbrev pub numbered_term : ℕ → Term → Term
 numbered_term n t = record t { class = n; node = numbered_node (n + 1) t.node }
 
--- each of some elements numbered from the position that is the first behind those of the elements before it
+-- elements numbered one after the other: each from the first number behind those of the positions of the elements
+-- before it
 abbrev pub numbered_from : {X : Type 0} → (X → List ℕ) → (ℕ → X → X) → ℕ → List X → List X
 numbered_from classes number n [] = []
 numbered_from classes number n (x ∷ xs) = number n x ∷ numbered_from classes number (n + length (classes x)) xs
@@ -81,7 +82,7 @@ numbered_statements n statements = numbered_from classes_of_statement numbered_s
 abbrev pub numbered_terms : ℕ → List Term → List Term
 numbered_terms n terms = numbered_from classes_of_term numbered_term n terms
 
--- how many positions statements have, and terms
+-- how many positions statements have, and how many terms have
 abbrev pub positions_of : List Statement → ℕ
 positions_of statements = length (flat_map classes_of_statement statements)
 
@@ -98,14 +99,13 @@ numbered rule =
       witness_terms = numbered_terms (positions_of rule.source + positions_of rule.target + positions_among rule.terms) rule.witness_terms;
     }
 
--- the new rule has other numbers for the same classes
+-- the new rule has other numbers for the same classes: no two get one number
 pub record IsRenumbered (old new : Rule) : Type 0 where
   pub to : ℕ → ℕ
   pub is : new ≡ mapped to old
   pub apart : (c d : ℕ) → to c ≡ to d → c ≡ d
 
--- what becomes of a class: of two that are merged the first becomes the second, and two that are swapped become each
--- other
+-- the new number of a class: `Merge` gives the first class the second's number, and `Swap` exchanges the numbers of two
 abbrev pub renamed : Renaming → ℕ → ℕ
 renamed (Merge from to) c = if c == from then to else c
 renamed (Swap a b) c = if c == a then b else (if c == b then a else c)

@@ -1,4 +1,4 @@
-//! The lines of casts, which keep the width of one class below that of another.
+//! Casts: the width of one class has to be below that of another.
 
 ghost use Rattle.std.specs.Prelude.{◌≡◌, ◌↔◌, Some, IsTrue, IfSome, IfNone, Contains};
 ghost use Rattle.rule_core.specs.declared.rule.Statement.{Statement};
@@ -9,15 +9,15 @@ ghost use Rattle.rule_typing.specs.Solutions.{MeetsSmaller};
 use ops::{Cast, Width};
 use rule_core::{Op, Rule, Statement};
 
-/// Whether the widths, of which each class has the one at its number, meet the line of each cast.
+/// Whether these widths, the one at place c being that of class c, meet the constraint of each cast.
 pub(crate) fn casts_fit(rule: &Rule, widths: &[Width]) -> bool
     ensures { IsTrue result ↔ MeetsSmaller rule.now widths.now }
 {
     broken_line(rule, widths).is_none()
 }
 
-/// Two classes of which the width of the first has to be below that of the second, and is not; or `None` where each
-/// line is met.
+/// The classes of a cast that these widths break, the one that has to be narrower first; or `None` where they break
+/// none.
 pub(crate) fn broken_line(rule: &Rule, widths: &[Width]) -> Option<(u32, u32)>
     ensures some { IfSome result (λ line. Smaller rule.now line.0 line.1 × IsBroken widths.now line.0 line.1) }
     ensures none { IfNone result (MeetsSmaller rule.now widths.now) }
@@ -28,7 +28,7 @@ pub(crate) fn broken_line(rule: &Rule, widths: &[Width]) -> Option<(u32, u32)>
     }
 }
 
-/// The same for the lines of statements.
+/// The same for casts among these statements.
 fn broken_by_statements(statements: &[Statement], widths: &[Width]) -> Option<(u32, u32)>
     ensures some { IfSome result (λ line. ((s : Statement) × Contains statements.now s × (smaller_line s.class s.op ≡ Some line)) × IsBroken widths.now line.0 line.1) }
     ensures none { IfNone result ((s : Statement) → Contains statements.now s → MeetsCastLine widths.now s) }
@@ -41,7 +41,7 @@ fn broken_by_statements(statements: &[Statement], widths: &[Width]) -> Option<(u
     None
 }
 
-/// The same for the line of one statement, if it is a cast.
+/// The same for one statement.
 fn broken_by_statement(statement: &Statement, widths: &[Width]) -> Option<(u32, u32)>
     ensures some { IfSome result (λ line. (smaller_line statement.now.class statement.now.op ≡ Some line) × IsBroken widths.now line.0 line.1) }
     ensures none { IfNone result (MeetsCastLine widths.now statement.now) }
@@ -57,8 +57,7 @@ fn broken_by_statement(statement: &Statement, widths: &[Width]) -> Option<(u32, 
     }
 }
 
-/// The class that the line of an operation keeps below another, and the other, if it is a cast. The result has the
-/// class given.
+/// The classes of a cast, the one that has to be narrower first; the result has the class given.
 fn smaller_line(result_class: u32, op: Op) -> Option<(u32, u32)>
     ensures { result ≡ smaller_line result_class op }
 {
@@ -76,7 +75,7 @@ fn smaller_line(result_class: u32, op: Op) -> Option<(u32, u32)>
     }
 }
 
-/// Whether the width of the one class is below that of the other, if there are both.
+/// Whether the one width is below the other, if both classes have one.
 fn is_below(widths: &[Width], smaller: u32, greater: u32) -> bool
     ensures { IsTrue result ↔ IsBelow widths.now smaller greater }
 {

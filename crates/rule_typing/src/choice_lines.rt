@@ -1,5 +1,5 @@
-//! The lines of choices: in the source each is of one class with the expression that is chosen for it, and in the
-//! target with all that has its name.
+//! Choices: one of the source has the width of the expression that gives its number, and one of the target that of each
+//! position with its name.
 
 ghost use Rattle.std.specs.Prelude.{◌≡◌};
 ghost use Rattle.rule_typing.specs.Splits.{chosen_class, choice_pairs, choice_naming, IsPairIn, LineOf, ChoicesLine, Splits};
@@ -10,7 +10,7 @@ use crate::names::{choice_naming, split_by_name};
 use crate::term_lines::node_class;
 use rule_core::{Choice, Rule};
 
-/// Two classes that a line of one of these choices of a half keeps at one width, or `None` where each line's are one.
+/// Two different classes that one of these choices of a half asks to be of one width, or `None`.
 pub(crate) fn split_by_choices(rule: &Rule, half: Half, choices: &[Choice]) -> Option<(u32, u32)>
     ensures { Splits (ChoicesLine rule.now half choices.now) result }
 {
@@ -22,7 +22,7 @@ pub(crate) fn split_by_choices(rule: &Rule, half: Half, choices: &[Choice]) -> O
     None
 }
 
-/// The same for the lines of one choice.
+/// The same for one choice.
 fn split_by_choice(rule: &Rule, half: Half, choice: Choice) -> Option<(u32, u32)>
     ensures { Splits (LineOf rule.now (choice_pairs rule.now half) (choice_naming half) choice) result }
 {
@@ -32,7 +32,7 @@ fn split_by_choice(rule: &Rule, half: Half, choice: Choice) -> Option<(u32, u32)
     }
 }
 
-/// The class of a choice of the source and that of the expression for it, if they differ.
+/// The class of a choice of the source and that of the expression that gives its number, if they differ.
 fn split_by_expression(rule: &Rule, half: Half, choice: Choice) -> Option<(u32, u32)>
     ensures { Splits (IsPairIn (choice_pairs rule.now half choice)) result }
 {

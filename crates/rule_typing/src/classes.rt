@@ -17,7 +17,7 @@ use rule_core::{Rule, class_at, positions};
 /// The most type classes that a rule may have.
 pub const MOST_CLASSES: u32 = 8;
 
-/// Why a rule has no classes that it could be decided for. They are tested in this order.
+/// Why the classes of a rule admit no typing that is worth a trial. They are tested in this order.
 #[derive(Clone, Copy, PartialEq, Eq)]
 pub enum ClassFault {
     /// There are more than 8 type classes.
@@ -28,9 +28,9 @@ pub enum ClassFault {
     OpenType,
 }
 
-/// Writes the classes of the rule's positions, and says whether typings are worth a trial. It takes no memory. Its
-/// steps are at most the square of the number of positions for each class that two positions come to share, which is
-/// little: a rule has at most 256 operands and nodes.
+/// Writes the classes of the rule's positions, and says whether typings are worth a trial. It takes no memory. Classes
+/// are merged one pair at a time, each found by going over the rule, so the steps are at most the square of the number
+/// of positions for each merge; that is little: a rule has at most 256 operands and nodes.
 pub fn classify(rule: &mut Rule) -> Result<(), ClassFault>
     requires { IsRule rule.old }
     ensures rule { IsRule rule.new }
@@ -56,7 +56,7 @@ fn write_classes(rule: &mut Rule) -> u32
     number_classes(rule)
 }
 
-/// Looks for the first fault of the classes, of which there are so many.
+/// The first fault of the classes, which are `count` many.
 fn test_classes(rule: &Rule, count: u32) -> Result<(), ClassFault>
     requires classes { IsClassified rule.now }
     requires count { HasClasses rule.now count }
@@ -75,7 +75,7 @@ fn test_classes(rule: &Rule, count: u32) -> Result<(), ClassFault>
     Ok(())
 }
 
-/// Merges classes until each line's are one.
+/// Merges classes until no constraint asks two different ones to have one width.
 fn join_lines(rule: &mut Rule)
     requires { IsRule rule.old }
     ensures merged { IsMerged rule.old rule.new }

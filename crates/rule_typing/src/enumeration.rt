@@ -56,8 +56,8 @@ fn choices(alloc: Global, rule: &Rule, widths: &[Width]) -> Result<Vec<Widths>, 
     Ok(sets)
 }
 
-/// The first typing behind this one in lexicographic order: with as many of its widths as can be at the beginning, then
-/// a larger one.
+/// The next typing in lexicographic order: it shares as long a beginning with this one as can be, and has a larger
+/// width behind that.
 fn next_typing(
     alloc: Global,
     rule: &Rule,
@@ -77,7 +77,7 @@ fn next_typing(
     Ok(None)
 }
 
-/// The least typing that begins with these widths and goes on with one above the bound.
+/// The least typing that begins with these widths and has one above the bound next.
 fn least_typing(
     alloc: Global,
     rule: &Rule,
@@ -103,7 +103,7 @@ fn least_typing(
     }
 }
 
-/// The least width of a set that may stand there.
+/// The least width of a set that may stand at the place of the class in such a typing.
 fn least_width(set: &Widths, beginning: &[Width], bound: u32, class: usize) -> Option<Width>
     requires { class < length beginning.now → Has set.now (slice_index beginning.now class) }
     ensures { IsLeast (λ N. Has set.now N × GoesOn beginning.now bound class N) result }

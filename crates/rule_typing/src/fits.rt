@@ -13,8 +13,8 @@ use lists::List;
 use ops::Width;
 use rule_core::{Argument, Node, Op, Operand, Rule, Statement, Term};
 
-/// Whether the widths are a typing of the rule, whose classes are written. It takes no memory. Its steps are the number
-/// of operands and nodes for each class.
+/// Whether the widths are a typing of the rule, whose classes are written. It takes no memory, and goes over all
+/// operands and nodes once for each class.
 pub fn is_typing(rule: &Rule, widths: &List<Width>) -> bool
     requires { IsClassified rule.now }
     ensures { IsTrue result ↔ IsTyping rule.now widths.now }
@@ -38,7 +38,7 @@ fn classes_fit(rule: &Rule, widths: &[Width]) -> bool
     true
 }
 
-/// Whether a class may have the width by itself.
+/// Whether a class may have the width, whatever the others have.
 pub(crate) fn class_fits(rule: &Rule, class: usize, width: Width) -> bool
     ensures { IsTrue result ↔ MayHaveWidth rule.now class width }
 {
@@ -48,7 +48,7 @@ pub(crate) fn class_fits(rule: &Rule, class: usize, width: Width) -> bool
     }
 }
 
-/// Whether the literals of the class fit a width of so many bits.
+/// Whether the literals of the class fit a width of `bits` bits.
 fn literals_fit(rule: &Rule, class: usize, bits: u32) -> bool
     requires { (1 ≤ bits) × (bits ≤ 64) }
     ensures { IsTrue result ↔ (LiteralsFit (operands_in rule.now) class bits × TermsFit (terms_in rule.now) class bits) }
@@ -56,7 +56,7 @@ fn literals_fit(rule: &Rule, class: usize, bits: u32) -> bool
     all_operands_fit(rule, class, bits) && all_terms_fit(rule, class, bits)
 }
 
-/// The same among all operands.
+/// The same for all operands.
 fn all_operands_fit(rule: &Rule, class: usize, bits: u32) -> bool
     requires { (1 ≤ bits) × (bits ≤ 64) }
     ensures { IsTrue result ↔ LiteralsFit (operands_in rule.now) class bits }
@@ -65,7 +65,7 @@ fn all_operands_fit(rule: &Rule, class: usize, bits: u32) -> bool
         && statements_fit(rule.target.as_slice(), class, bits)
 }
 
-/// The same among all nodes.
+/// The same for all nodes.
 fn all_terms_fit(rule: &Rule, class: usize, bits: u32) -> bool
     requires { (1 ≤ bits) × (bits ≤ 64) }
     ensures { IsTrue result ↔ TermsFit (terms_in rule.now) class bits }
@@ -74,7 +74,7 @@ fn all_terms_fit(rule: &Rule, class: usize, bits: u32) -> bool
         && terms_fit(rule.witness_terms.as_slice(), class, bits)
 }
 
-/// The same among nodes.
+/// The same for these nodes.
 fn terms_fit(terms: &[Term], class: usize, bits: u32) -> bool
     requires { (1 ≤ bits) × (bits ≤ 64) }
     ensures { IsTrue result ↔ TermsFit terms.now class bits }
@@ -98,7 +98,7 @@ fn term_fits(term: Term, class: usize, bits: u32) -> bool
     term.class as usize != class || fits_literal(bits, literal)
 }
 
-/// The same among the operands of statements.
+/// The same for the operands of these statements.
 fn statements_fit(statements: &[Statement], class: usize, bits: u32) -> bool
     requires { (1 ≤ bits) × (bits ≤ 64) }
     ensures { IsTrue result ↔ LiteralsFit (flat_map (λ s. operands_of s.op) statements.now) class bits }
@@ -112,7 +112,7 @@ fn statements_fit(statements: &[Statement], class: usize, bits: u32) -> bool
     true
 }
 
-/// The same among operands.
+/// The same for these operands.
 fn operands_fit(operands: &[Operand], class: usize, bits: u32) -> bool
     requires { (1 ≤ bits) × (bits ≤ 64) }
     ensures { IsTrue result ↔ LiteralsFit operands.now class bits }
@@ -136,7 +136,7 @@ fn fits(operand: Operand, class: usize, bits: u32) -> bool
     operand.class as usize != class || fits_literal(bits, literal)
 }
 
-/// Whether the literal is a number of `iN`, without a sign or with one.
+/// Whether the literal can be written at `iN`: as an unsigned number of N bits or in two's complement.
 fn fits_literal(bits: u32, literal: i128) -> bool
     requires { (1 ≤ bits) × (bits ≤ 64) }
     ensures { IsTrue result ↔ FitsLiteral bits literal }
@@ -146,8 +146,7 @@ fn fits_literal(bits: u32, literal: i128) -> bool
     -half <= literal && literal < modulus
 }
 
-/// How many classes there are. Their numbers are those below. It takes as many steps as the rule has operands and
-/// nodes.
+/// How many classes there are; they are numbered from 0. It takes as many steps as the rule has operands and nodes.
 pub fn class_count(rule: &Rule) -> usize
     requires { IsClassified rule.now }
     ensures { HasClasses rule.now result }
@@ -159,7 +158,7 @@ pub fn class_count(rule: &Rule) -> usize
     source.max(target).max(terms.max(witness_terms))
 }
 
-/// The least number past the classes of nodes.
+/// One more than the greatest class of the nodes.
 fn past_terms(terms: &[Term]) -> usize
     ensures { IsPast (flat_map classes_of_term terms.now) result }
 {
@@ -170,7 +169,7 @@ fn past_terms(terms: &[Term]) -> usize
     past
 }
 
-/// The least number past the classes of a node.
+/// One more than the greatest class of a node.
 fn past_term(term: Term) -> usize
     ensures { IsPast (classes_of_term term) result }
 {
@@ -180,7 +179,7 @@ fn past_term(term: Term) -> usize
     term.class.max(register_class) as usize + 1
 }
 
-/// The least number past the classes of statements.
+/// One more than the greatest class of the statements.
 fn past_statements(statements: &[Statement]) -> usize
     ensures { IsPast (flat_map classes_of_statement statements.now) result }
 {
@@ -191,7 +190,7 @@ fn past_statements(statements: &[Statement]) -> usize
     past
 }
 
-/// The least number past the classes of a statement.
+/// One more than the greatest class of a statement.
 fn past_statement(statement: &Statement) -> usize
     ensures { IsPast (classes_of_statement statement.now) result }
 {

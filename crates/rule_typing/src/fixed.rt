@@ -19,7 +19,7 @@ pub fn fixed_width(rule: &Rule, class: usize) -> Option<Width>
     other_fixed_width(rule, class, &None)
 }
 
-/// The first such width but a certain one, if one is given.
+/// The first such width other than `but`.
 pub(crate) fn other_fixed_width(rule: &Rule, class: usize, but: &Option<Width>) -> Option<Width>
     ensures some { IfSome result (λ N. Fixed rule.now class N × (but.now ≢ Some N)) }
     ensures none { IfNone result ((N : ℕ) → Fixed rule.now class N → but.now ≡ Some N) }
@@ -30,7 +30,7 @@ pub(crate) fn other_fixed_width(rule: &Rule, class: usize, but: &Option<Width>) 
     }
 }
 
-/// The same among the lines and the operands of statements.
+/// The same for these statements.
 fn fixed_by_statements(statements: &[Statement], class: usize, but: &Option<Width>) -> Option<Width>
     ensures some { IfSome result (λ N. ((s : Statement) × Contains statements.now s × StatementFixes class N s) × (but.now ≢ Some N)) }
     ensures none { IfNone result ((s : Statement) (N : ℕ) → Contains statements.now s → StatementFixes class N s → but.now ≡ Some N) }
@@ -57,7 +57,7 @@ fn fixed_by_statement(statement: &Statement, class: usize, but: &Option<Width>) 
     }
 }
 
-/// The width that the line of a statement fixes for the class, if it fixes one.
+/// The width that the operation of a statement fixes for the class, if it fixes one.
 fn fixed_by_line(statement: &Statement, class: usize) -> Option<Width>
     ensures { (N : ℕ) → (result ≡ Some N) ↔ (fixed_line statement.now.class statement.now.op ≡ Some (class, N)) }
 {
@@ -67,8 +67,7 @@ fn fixed_by_line(statement: &Statement, class: usize) -> Option<Width>
     }
 }
 
-/// The class for which the line of an operation fixes a width, and that width, if it fixes one. The result has the
-/// class given.
+/// The class whose width an operation fixes, and that width, if it fixes one. The result has the class given.
 fn fixed_line(result_class: u32, op: Op) -> Option<(u32, Width)>
     ensures { result ≡ fixed_line result_class op }
 {
@@ -83,7 +82,7 @@ fn fixed_line(result_class: u32, op: Op) -> Option<(u32, Width)>
     }
 }
 
-/// The same among operands.
+/// The same for these operands.
 fn fixed_by_operands(operands: &[Operand], class: usize, but: &Option<Width>) -> Option<Width>
     ensures some { IfSome result (λ N. OperandFixes operands.now class N × (but.now ≢ Some N)) }
     ensures none { IfNone result ((N : ℕ) → OperandFixes operands.now class N → but.now ≡ Some N) }
@@ -96,7 +95,7 @@ fn fixed_by_operands(operands: &[Operand], class: usize, but: &Option<Width>) ->
     None
 }
 
-/// The same for one operand: by its type, or as `true` or `false`.
+/// The same for one operand: by the type before it, or as `true` or `false`.
 fn fixed_by(operand: Operand, class: usize, but: &Option<Width>) -> Option<Width>
     ensures some { IfSome result (λ N. FixesWidth class N operand × (but.now ≢ Some N)) }
     ensures none { IfNone result ((N : ℕ) → FixesWidth class N operand → but.now ≡ Some N) }
@@ -110,7 +109,7 @@ fn fixed_by(operand: Operand, class: usize, but: &Option<Width>) -> Option<Width
     }
 }
 
-/// The width of `true` and `false`.
+/// The width of `true` and `false`: 1.
 fn fixed_by_value(value: Argument) -> Option<Width>
     ensures { (N : ℕ) → (result ≡ Some N) ↔ (((b : Bool) × (value ≡ arguments.Truth b)) × (N ≡ 1)) }
 {
@@ -121,7 +120,7 @@ fn fixed_by_value(value: Argument) -> Option<Width>
     }
 }
 
-/// The width, unless it is that certain one.
+/// The width, unless it is `but`.
 fn unless(width: Option<Width>, but: &Option<Width>) -> Option<Width>
     ensures some { IfSome result (λ N. (width ≡ Some N) × (but.now ≢ Some N)) }
     ensures none { IfNone result ((N : ℕ) → width ≡ Some N → but.now ≡ Some N) }

@@ -1,7 +1,10 @@
 //! The type classes of rules, and their typings.
 //!
-//! The definitions stand in `specs/`: `Classes` says which positions are of one class and how the classes are numbered,
-//! `Faults` why a rule has no typing worth a trial, and `AllTypings` which typings there are over a list of widths.
+//! A line of the table of types is a constraint on the classes of a rule: two have one width, or the width of one is
+//! fixed, or below that of another. Lines of the first kind merge classes, until none has two different ones (is
+//! split). The definitions stand in `specs/`: `Classes` says which positions are of one class and how the classes are
+//! numbered, `Faults` why a rule has no typing worth a trial, and `AllTypings` which typings there are over a list of
+//! widths.
 #![tactic(auto)]
 
 mod answer;

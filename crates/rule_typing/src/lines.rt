@@ -1,4 +1,4 @@
-//! Lines of the table of types that a rule's classes do not meet yet.
+//! Constraints that ask two different classes of a rule to have one width.
 
 ghost use Rattle.std.specs.Prelude.{◌≡◌, ◌≢◌, ◌⊎◌, ℕ, [], ◌∷◌, IfSome, IfNone};
 ghost use Rattle.rule_core.specs.Checks.{IsRule};
@@ -13,7 +13,7 @@ use crate::operands::Operands;
 use crate::term_lines::{split_by_formulas, split_by_terms};
 use rule_core::{Choices, Name, Op, Register, Rule, Statement};
 
-/// Two classes that one line keeps at one width, or `None` where each line's are one.
+/// Two different classes that one constraint asks to have one width, or `None` where there are none.
 pub(crate) fn split_line(rule: &Rule) -> Option<(u32, u32)>
     requires { IsRule rule.now }
     ensures split { IfSome result (λ pair. Line rule.now pair.0 pair.1 × (pair.0 ≢ pair.1)) }
@@ -37,7 +37,7 @@ pub(crate) fn split_line(rule: &Rule) -> Option<(u32, u32)>
     split_by_root(rule)
 }
 
-/// The same for the lines of the statements of a half.
+/// The same for the statements of a half.
 fn split_by_half(rule: &Rule, half: Half, statements: &[Statement]) -> Option<(u32, u32)>
     ensures { Splits (StatementsLine rule.now half statements.now) result }
 {
@@ -49,7 +49,7 @@ fn split_by_half(rule: &Rule, half: Half, statements: &[Statement]) -> Option<(u
     None
 }
 
-/// The same for those of one statement: of its operation, of its operands and of its choices.
+/// The same for one statement: for its operation, its operands and its choices.
 fn split_by_statement(rule: &Rule, half: Half, statement: &Statement) -> Option<(u32, u32)>
     ensures { Splits (StatementLine rule.now half statement.now) result }
 {
@@ -59,7 +59,7 @@ fn split_by_statement(rule: &Rule, half: Half, statement: &Statement) -> Option<
     }
 }
 
-/// The same for those of its operands and of its choices.
+/// The same for its operands and its choices.
 fn split_behind_op(rule: &Rule, half: Half, statement: &Statement) -> Option<(u32, u32)>
     ensures { Splits (λ c d. OperandsLine rule.now (operands_of statement.now.op) c d ⊎ ChoicesLine rule.now half (choices_of statement.now) c d) result }
 {
@@ -73,7 +73,7 @@ fn split_behind_op(rule: &Rule, half: Half, statement: &Statement) -> Option<(u3
     }
 }
 
-/// The same for the line of one operation, whose result has the class.
+/// The same for one operation, whose result has the class.
 fn split_by_op(class: u32, op: Op) -> Option<(u32, u32)>
     ensures { Splits (IsPairIn (op_pairs class op)) result }
 {
@@ -88,7 +88,7 @@ fn split_by_op(class: u32, op: Op) -> Option<(u32, u32)>
     }
 }
 
-/// The first class and one of the two others, if it differs from one.
+/// The class and one of the two others, if they are not all one.
 fn split_by_two(class: u32, left: u32, right: u32) -> Option<(u32, u32)>
     ensures { Splits (IsPairIn ((class, left) ∷ (class, right) ∷ [])) result }
 {

@@ -11,7 +11,7 @@ use crate::operands::Operands;
 use lists::List;
 use rule_core::{Argument, Choice, Choices, Name, Node, Operand, Register, Rule, Statement, Term};
 
-/// The class that comes with the name and that of another position that has the name, if the two differ.
+/// The class with which the name stands here, and that of another position with the name, if the two differ.
 pub(crate) fn split_by_name(rule: &Rule, naming: Option<(Name, u32)>) -> Option<(u32, u32)>
     ensures { Splits (λ c d. (n : Name) × (naming ≡ Some (n, c)) × Names rule.now n d) result }
 {
@@ -39,7 +39,7 @@ fn other_class(rule: &Rule, name: Name, class: u32) -> Option<u32>
     }
 }
 
-/// The same among the positions that read it.
+/// The same for the positions that read it.
 fn other_read(rule: &Rule, name: Name, class: u32) -> Option<u32>
     ensures { FindsOther (IsRead rule.now name) class result }
 {
@@ -52,7 +52,7 @@ fn other_read(rule: &Rule, name: Name, class: u32) -> Option<u32>
     }
 }
 
-/// The same among the choices of the target and the nodes of the rule's terms.
+/// The same for the choices of the target and the nodes of the rule's terms.
 fn other_behind_operands(rule: &Rule, name: Name, class: u32) -> Option<u32>
     ensures { FindsOther (λ d. NamingOf (choice_naming halves.Target) (choices_among rule.now.target) name d ⊎ NamingOf term_naming (terms_in rule.now) name d) class result }
 {
@@ -62,7 +62,7 @@ fn other_behind_operands(rule: &Rule, name: Name, class: u32) -> Option<u32>
     }
 }
 
-/// The same among the nodes of the rule's terms.
+/// The same for the nodes of the rule's terms.
 fn other_in_terms(rule: &Rule, name: Name, class: u32) -> Option<u32>
     ensures { FindsOther (NamingOf term_naming (terms_in rule.now) name) class result }
 {
@@ -72,7 +72,7 @@ fn other_in_terms(rule: &Rule, name: Name, class: u32) -> Option<u32>
     }
 }
 
-/// The same among the operands of statements.
+/// The same for the operands of these statements.
 fn other_by_statements(statements: &[Statement], name: Name, class: u32) -> Option<u32>
     ensures { FindsOther (NamingOf operand_naming (operands_among statements.now) name) class result }
 {
@@ -85,7 +85,7 @@ fn other_by_statements(statements: &[Statement], name: Name, class: u32) -> Opti
     None
 }
 
-/// The same among operands.
+/// The same for these operands.
 fn other_by_operands(operands: &[Operand], name: Name, class: u32) -> Option<u32>
     ensures { FindsOther (NamingOf operand_naming operands.now name) class result }
 {
@@ -97,7 +97,7 @@ fn other_by_operands(operands: &[Operand], name: Name, class: u32) -> Option<u32
     None
 }
 
-/// The same among the choices of statements of the target.
+/// The same for the choices of these statements of the target.
 fn other_left_open(statements: &[Statement], name: Name, class: u32) -> Option<u32>
     ensures { FindsOther (NamingOf (choice_naming halves.Target) (choices_among statements.now) name) class result }
 {
@@ -110,7 +110,7 @@ fn other_left_open(statements: &[Statement], name: Name, class: u32) -> Option<u
     None
 }
 
-/// The same among choices of the target.
+/// The same for these choices of the target.
 fn other_by_choices(choices: &[Choice], name: Name, class: u32) -> Option<u32>
     ensures { FindsOther (NamingOf (choice_naming halves.Target) choices.now name) class result }
 {
@@ -122,7 +122,7 @@ fn other_by_choices(choices: &[Choice], name: Name, class: u32) -> Option<u32>
     None
 }
 
-/// The same among nodes.
+/// The same for these nodes.
 fn other_by_terms(terms: &[Term], name: Name, class: u32) -> Option<u32>
     ensures { FindsOther (NamingOf term_naming terms.now name) class result }
 {
@@ -134,7 +134,7 @@ fn other_by_terms(terms: &[Term], name: Name, class: u32) -> Option<u32>
     None
 }
 
-/// The class with which the name stands here, if that is the name, other than the class given.
+/// The class of this position, where it has the name and that class is another than the one given.
 fn other_by(naming: Option<(Name, u32)>, name: Name, class: u32) -> Option<u32>
     ensures { FindsOther (λ d. naming ≡ Some (name, d)) class result }
 {
@@ -148,7 +148,7 @@ fn other_by(naming: Option<(Name, u32)>, name: Name, class: u32) -> Option<u32>
     unless(Some(other), class)
 }
 
-/// The class, unless it is that one.
+/// The class, where it is another than the one given.
 fn unless(other: Option<u32>, class: u32) -> Option<u32>
     ensures { FindsOther (λ d. other ≡ Some d) class result }
 {
@@ -200,7 +200,7 @@ pub(crate) fn term_naming(term: Term) -> Option<(Name, u32)>
     }
 }
 
-/// The class of the result that assigns a register in the half in which it is numbered.
+/// The class of the result of the statement that assigns the register.
 pub(crate) fn assigned_class(rule: &Rule, name: Name) -> Option<u32>
     ensures { result ≡ assigned_class rule.now name }
 {
@@ -211,7 +211,7 @@ pub(crate) fn assigned_class(rule: &Rule, name: Name) -> Option<u32>
     }
 }
 
-/// The class of the result that assigns the root in the target, if that is the name.
+/// The class of the target's last result, if the name is the root's.
 pub(crate) fn root_class(rule: &Rule, name: Name) -> Option<u32>
     ensures { result ≡ root_class rule.now name }
 {

@@ -9,7 +9,7 @@ use crate::fixed::fixed_width;
 use crate::operands::Operands;
 use rule_core::{Argument, Operand, Rule, Statement};
 
-/// Whether some class is open, of so many.
+/// Whether one of the classes, which are `count` many, is open.
 pub(crate) fn has_open_class(rule: &Rule, count: usize) -> bool
     requires { HasClasses rule.now count }
     ensures { IsTrue result ↔ HasOpenClass rule.now }

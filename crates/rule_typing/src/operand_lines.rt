@@ -1,4 +1,4 @@
-//! The lines of operands: each is of one class with the term that it is, and with all that has its name.
+//! Operands: each has the width of the term that it is, and of each position with its name.
 
 ghost use Rattle.std.specs.Prelude.{◌≡◌, Some};
 ghost use Rattle.rule_typing.specs.Splits.{term_class, operand_pairs, operand_naming, LineOf, OperandsLine, Splits};
@@ -8,7 +8,7 @@ use crate::names::{operand_naming, split_by_name};
 use crate::term_lines::node_class;
 use rule_core::{Argument, Operand, Rule};
 
-/// Two classes that a line of one of these operands keeps at one width, or `None` where each line's are one.
+/// Two different classes that one of these operands asks to have one width, or `None`.
 pub(crate) fn split_by_operands(rule: &Rule, operands: &[Operand]) -> Option<(u32, u32)>
     ensures { Splits (OperandsLine rule.now operands.now) result }
 {
@@ -20,7 +20,7 @@ pub(crate) fn split_by_operands(rule: &Rule, operands: &[Operand]) -> Option<(u3
     None
 }
 
-/// The same for the lines of one operand.
+/// The same for one operand.
 fn split_by_operand(rule: &Rule, operand: Operand) -> Option<(u32, u32)>
     ensures { Splits (LineOf rule.now (operand_pairs rule.now) operand_naming operand) result }
 {
@@ -31,7 +31,7 @@ fn split_by_operand(rule: &Rule, operand: Operand) -> Option<(u32, u32)>
     }
 }
 
-/// The class of the term that an operand is.
+/// The class of the term that an operand is, if it is one.
 fn term_class(rule: &Rule, value: Argument) -> Option<u32>
     ensures { result ≡ term_class rule.now value }
 {

@@ -1,10 +1,10 @@
-//! The operands of operations of all kinds, as one list.
+//! The operands of an operation of any kind, as one list.
 
 ghost use Rattle.std.specs.Prelude.{◌≡◌, ◌≤◌};
 
 use rule_core::{Argument, Op, Operand};
 
-/// Stands where there is no operand.
+/// Fills the array behind the last operand.
 const NO_OPERAND: Operand = Operand {
     value: Argument::Truth(false),
     written: None,

@@ -7,12 +7,12 @@ ghost use Rattle.rule_typing.specs.Relabelled.{mapped_op, mapped_statement, mapp
 use lists::List;
 use rule_core::{Node, Op, Operand, Rule, Statement, Term};
 
-/// What becomes of the classes' numbers.
+/// A change of the numbers of classes.
 #[derive(Clone, Copy)]
 pub(crate) enum Renaming {
-    /// The first class becomes the second.
+    /// The first class gets the second's number.
     Merge(u32, u32),
-    /// The two classes change their numbers.
+    /// The two classes exchange their numbers.
     Swap(u32, u32),
 }
 
@@ -132,7 +132,7 @@ pub(crate) fn number_positions(rule: &mut Rule)
     number_terms(&mut rule.witness_terms, behind_terms);
 }
 
-/// The same for some statements, whose first position is given; the answer is the position behind them.
+/// The same for some statements, from the position `first` on; the answer is the position behind them.
 fn number_statements(statements: &mut List<Statement>, first: u32) -> u32
     requires { first + length (flat_map classes_of_statement statements.old) < 2 ^ 32 }
     ensures numbered { statements.new ≡ numbered_statements first statements.old }
@@ -187,7 +187,7 @@ fn number_statement(statement: &mut Statement, first: u32) -> u32
     behind
 }
 
-/// The operation with numbers for the classes of its operands, and the number behind them.
+/// The operation with numbers for the classes of its operands, from `first` on, and the number behind the last.
 fn numbered_op(op: Op, first: u32) -> (Op, u32)
     requires { first + length (operands_of op) < 2 ^ 32 }
     ensures numbered { result.0 ≡ numbered_op first op }

@@ -1,4 +1,4 @@
-//! Widths for classes that depend on one another, since a cast keeps the width of one class below that of another.
+//! Widths for all classes together: casts keep the width of one class below that of another.
 
 ghost use Rattle.std.specs.Prelude.{◌≤◌, ◌<◌, ◌↔◌, ℕ, List as Seq, length, IsTrue, Contains};
 ghost use Rattle.std.specs.Bool.{OnTrue, OnFalse};
@@ -12,7 +12,7 @@ use crate::widths::{Widths, widths_of_class};
 use ops::Width;
 use rule_core::Rule;
 
-/// Whether some widths are a typing of the rule, whose classes are written and so many. It takes no memory.
+/// Whether some widths are a typing of the rule, whose classes are written and `count` many. It takes no memory.
 pub(crate) fn has_typing(rule: &Rule, count: usize) -> bool
     requires classes { IsClassified rule.now }
     requires count { HasClasses rule.now count }
@@ -32,11 +32,11 @@ pub(crate) fn has_typing(rule: &Rule, count: usize) -> bool
     settle(rule, &sets[..count], 0, &mut widths[..count])
 }
 
-/// Raises widths of the sets, one for each class, to the least ones from there on that meet all lines of casts; the
-/// first so many stay. The answer is whether there are such.
+/// Raises widths, each to a later one of its class's set, until they meet the constraints of all casts, and no further
+/// than that takes; the first `kept` widths stay. The answer is whether that can be done.
 ///
-/// Each step raises one width to the next one of its set, so there are at most 64 for each class, and each looks once
-/// over the statements.
+/// It is a search for the least fixed point: each step raises one width to the next one of its set that a broken cast
+/// allows. So there are at most 64 steps for each class, and each goes over the statements once.
 pub(crate) fn settle(rule: &Rule, sets: &[Widths], kept: usize, widths: &mut [Width]) -> bool
     requires classes { (c : ℕ) → Contains (classes_of rule.now) c → c < length sets.now }
     requires chosen { AreOf sets.now widths.old }

@@ -1,5 +1,5 @@
-//! The lines of terms: an operator or a function is of one class with its operands, both sides of a comparison are of
-//! one class, and a node is of one class with all that has its name.
+//! Terms: an operator or a function has the width of its operands, both sides of a comparison have one width, and a
+//! node has that of each position with its name.
 
 ghost use Rattle.std.specs.Prelude.{◌≡◌, Some};
 ghost use Rattle.rule_typing.specs.Splits.{node_class, node_pairs, term_pairs, term_naming, formula_pairs, IsPairIn, PairOf, LineOf, TermsLine, Splits};
@@ -8,7 +8,7 @@ use crate::lines::split_classes;
 use crate::names::{split_by_name, term_naming};
 use rule_core::{Formula, Node, Rule, Term};
 
-/// Two classes that a line of one of these nodes keeps at one width, or `None` where each line's are one.
+/// Two different classes that one of these nodes asks to have one width, or `None`.
 pub(crate) fn split_by_terms(rule: &Rule, terms: &[Term]) -> Option<(u32, u32)>
     ensures { Splits (TermsLine rule.now terms.now) result }
 {
@@ -20,7 +20,7 @@ pub(crate) fn split_by_terms(rule: &Rule, terms: &[Term]) -> Option<(u32, u32)>
     None
 }
 
-/// The same for the lines of one of them.
+/// The same for one of them.
 fn split_by_term(rule: &Rule, terms: &[Term], term: Term) -> Option<(u32, u32)>
     ensures { Splits (LineOf rule.now (term_pairs terms.now) term_naming term) result }
 {
@@ -30,7 +30,7 @@ fn split_by_term(rule: &Rule, terms: &[Term], term: Term) -> Option<(u32, u32)>
     }
 }
 
-/// The same for the line of an operator or a function of that class.
+/// The same for an operator or a function of that class and its operands.
 fn split_by_node(terms: &[Term], class: u32, node: Node) -> Option<(u32, u32)>
     ensures { Splits (IsPairIn (node_pairs terms.now class node)) result }
 {
@@ -47,7 +47,7 @@ fn split_by_node(terms: &[Term], class: u32, node: Node) -> Option<(u32, u32)>
     }
 }
 
-/// The same for the comparisons of formulas of these terms.
+/// The same for the comparisons of formulas over these terms.
 pub(crate) fn split_by_formulas(terms: &[Term], formulas: &[Formula]) -> Option<(u32, u32)>
     ensures { Splits (PairOf (formula_pairs terms.now) formulas.now) result }
 {

@@ -14,7 +14,7 @@ use rule_core::Rule;
 /// A set of widths. It takes no memory.
 #[derive(Clone, Copy)]
 pub(crate) struct Widths {
-    /// Whether the width of so many bits as the place says is in the set.
+    /// At place N: whether the width N is in the set.
     has: [bool; 65],
 }
 
@@ -46,7 +46,7 @@ impl Widths {
     }
 }
 
-/// The widths that a class may have by itself.
+/// The widths that a class may have, whatever the others have.
 pub(crate) fn widths_of_class(rule: &Rule, class: usize) -> Widths
     ensures { HasExactly result (MayHaveWidth rule.now class) }
 {

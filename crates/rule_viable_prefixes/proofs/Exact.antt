@@ -46,7 +46,7 @@ abbrev is_too_many : RuleFaultKind → Bool
 is_too_many TooMany = true
 is_too_many kind = false
 
--- too many is told, or another kind
+-- the kind is `TooMany` or another
 told_or_other : (kind : RuleFaultKind) → (kind ≡ TooMany) ⊎ (kind ≢ TooMany)
 told_or_other kind = by (is_too_many kind) refl
   where
@@ -68,7 +68,7 @@ left_one front token left more (word is noun other new) (version line also there
 left_one front token left more (version line is there) (word also noun other new) = let both = sym is ∙ also in absurd cc
 left_one front token left more (version line is there) (version number also place) = let both = sym is ∙ also in cc
 
--- a token has one kind
+-- a token has at most one kind
 one_kind : (front : List Token) (token : Token) (k j : RuleFaultKind) → IsKindOf front token k → IsKindOf front token j → k ≡ j
 one_kind front token BadByte BadByte is also = refl
 one_kind front token BadByte (LeftOut more) is also = absurd (left_bad front token more also is)
@@ -94,7 +94,7 @@ front_fits tokens front token behind is (rules, more, (limits, spelled)) =
     let whole = fits_before limits tokens front token behind is (rules, more, spelled) in
     (whole.0, whole.1, (limits, whole.2))
 
--- the token fits, and with it no limit is passed
+-- the token fits and passes no limit
 abbrev GoesOn : Limits → List Token → Token → Type 0
 GoesOn limits front token = FitsBehind front token × StaysWithin limits front token
 
@@ -140,7 +140,7 @@ module _ (limits : Limits) (tokens : List Token) (last : ℕ) where
 
 -- ---- tokens up to the limit of nodes
 
--- a token of the text that is kept stands in the text
+-- a token of the text that comes before `Excess` is at the same place of the text
 stands_in : (tokens front : List Token) (token : Token) (behind : List Token) → limited tokens ≡ front ++ token ∷ behind → token ≢ Excess → (others : List Token) × (tokens ≡ front ++ token ∷ others)
 stands_in tokens front token behind stands other = elim (kept_up_to_the_limit tokens) [
   | inl (within, same) ↦ (behind, sym same ∙ stands)
@@ -159,7 +159,7 @@ stands_in tokens front token behind stands other = elim (kept_up_to_the_limit to
           c.whole ∙ sym (append_assoc c.front (c.token ∷ []) c.rest) ∙ ap (λ (ts : List Token). ts ++ c.rest) p ∙ append_assoc front (t ∷ g) c.rest ∙ ap (λ (u : Token). front ++ u ∷ (g ++ c.rest)) same,
         )
 
--- where these fit, none is cut off
+-- where the tokens with the limit are a viable prefix, they are all tokens of the text
 whole_fits : (limits : Limits) (tokens : List Token) → FitsWithin limits (limited tokens) → limited tokens ≡ tokens
 whole_fits limits tokens fits = elim (kept_up_to_the_limit tokens) [
   | inl (within, same) ↦ same
@@ -190,10 +190,10 @@ module _ (one : OneTokenAtAPlace) (limits : Limits) (text : List ℕ) (tokens : 
   of : AreOfText tokens
   of = of_text text are
 
-  -- ---- what is told by another kind
+  -- ---- faults of other kinds than `TooMany`
 
   module _ (found : RuleFault) (other : found.kind ≢ TooMany) (err : all_rules limits last kept ≡ Err found) where
-    -- limits with room for the tokens, and as wide as others
+    -- limits wide enough for all tokens of the text, and for the others
     abbrev bytes : Limits → ℕ
     bytes e = limits.name_bytes + bytes_in kept + e.name_bytes
 
@@ -234,14 +234,14 @@ module _ (one : OneTokenAtAPlace) (limits : Limits) (text : List ℕ) (tokens : 
     no_rules : (rules : List RawRule) → SpellsWithoutLimits rules kept → ⊥
     no_rules rules (e, is) = let both = sym (told e) ∙ all_rules-of (wide e) last rules kept (spelled_wider e (wide e) (as_wide e) rules kept is) in absurd cc
 
-    -- what does not fit within limits with room for the tokens does not fit
+    -- a token that does not fit within limits that are wide enough for the tokens fits within none
     never : (front : List Token) (token : Token) (behind : List Token) → EndsLine (front ++ token ∷ behind) → NamesEndLines (front ++ token ∷ behind) → AreOfText (front ++ token ∷ [])
         → KeptAlong (wide none) start (front ++ token ∷ []) → length front ≤ length kept → FitsWithin (wide none) front → ¬ FitsBehindWithin (wide none) front token → ¬ FitsBehind front token
     never front token behind ended_ names_ of_ along_ small fits misfit (rules, more, (e, is)) =
         stays_unfit (bytes none) (levels none) (halves none) (bytes e) (levels e) (halves e) (omega arith) (wider_still e) last front token behind ended_ names_ of_ along_ (omega (arith, small)) fits misfit
         (rules, more, spelled_wider e (wide e) (as_wide e) rules ((front ++ token ∷ []) ++ more) is)
 
-    -- what is spelled is not refused so
+    -- tokens that spell rules have no such fault
     unspelled : (rules : List RawRule) → SpellsWithoutLimits rules tokens → ⊥
     unspelled rules (e, is) = by (refused e)
       where
@@ -275,7 +275,7 @@ module _ (one : OneTokenAtAPlace) (limits : Limits) (text : List ℕ) (tokens : 
       not_deep : (e : Limits) → levels e ≤ openings_on_line at.front → ⊥
       not_deep e far = let few = few_opened 0 at.front in omega (arith, far, few, short)
 
-      -- the same token within limits as wide as others
+      -- the fault within such limits is at the same token
       again : (e : Limits) → (a : AtTokenOf e) × (a.front ≡ at.front) × (a.token ≡ at.token)
       again e = by (refused e)
         where
@@ -324,7 +324,7 @@ module _ (one : OneTokenAtAPlace) (limits : Limits) (text : List ℕ) (tokens : 
           by TooMany same apart new (inl (itself is)) = absurd (apart refl)
           by k same apart new (inl (itself is)) = absurd is
 
-  -- ---- at which token and by which kind
+  -- ---- the token and the kind of any fault
 
   module _ (some : 1 ≤ limits.nested) where
     passed : (line : ℕ) → IsPassedOn limits tokens line → IsAtToken limits tokens (fault line TooMany)
@@ -348,7 +348,7 @@ module _ (one : OneTokenAtAPlace) (limits : Limits) (text : List ℕ) (tokens : 
       abbrev base : Limits
       base = wide found other err none
 
-      -- with tokens that fit no limit is passed
+      -- with tokens that are a viable prefix within the limits no limit is passed
       within : (front back : List Token) → tokens ≡ front ++ back → FitsWithin base front → AllStayWithin limits front
       within front back stands fits = by (first_passed limits tokens of)
         where

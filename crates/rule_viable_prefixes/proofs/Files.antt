@@ -41,7 +41,7 @@ module _ (spare_bytes deepest spare_statements : ℕ) (version : Version) where
   abbrev AreRules : Part
   AreRules own = (rules : List RawRule) × SpellsRules limits version rules own
 
-  -- the parts of a rule from its target on, and so on forward
+  -- the last parts of a rule, from its `=>`, its source, its witness or its precondition on
   abbrev FromArrow : Part
   FromArrow = (IsArrow spare_bytes deepest spare_statements version) ⨾ (IsHalf spare_bytes deepest spare_statements version) Target
 
@@ -129,7 +129,7 @@ module _ (spare_bytes deepest spare_statements : ℕ) (version : Version) where
       let o = follows_left (IsNameLine spare_bytes deepest spare_statements version) FromPrecondition AreRules (Head (codes "Name:")) (name_follows spare_bytes deepest spare_statements version (FromPrecondition ⨾ AreRules) (precondition_and AreRules ([], ([], refl)))) number in
       (o.0, rules_made (Line number ∷ Head (codes "Name:") ∷ o.0) (o.1.0, o.1.1, rule_made o.1.0 o.1.2, o.1.3, o.1.4)))
 
-  -- tokens of rules are read as a rule and rules
+  -- tokens that spell rules, one or more, are read as a rule and the rest
   rules_first : (last : ℕ) (token : Token) (tokens : List Token) → AreRules (token ∷ tokens) → (x : RawRule × List Token) × (rule_at limits version last (token ∷ tokens) ≡ Ok x) × AreRules x.1
   unfolding rules_at
   rules_first last token tokens (rules, is) =
@@ -137,18 +137,18 @@ module _ (spare_bytes deepest spare_statements : ℕ) (version : Version) where
       bound (rule_at limits version last (token ∷ tokens)) _ _ e (λ x p e1.
       bound (rules_at limits version (length tokens) last x.1) _ _ e1 (λ others q e2. (x, p, (others, rules_at-is limits version (length tokens) last x.1 others q))))
 
-  -- the tokens that go on with rules
+  -- the tokens that fit behind a prefix of rules
   abbrev RulesGoOn : ℕ → List Token → Fitting
   RulesGoOn number front token = (more : List Token) × AreRules (Line number ∷ (front ++ token ∷ []) ++ more)
 
-  -- and that no noun does
+  -- no noun fits behind a prefix of rules
   abbrev NoneGoesOn : ℕ → List Token → Type 0
   NoneGoesOn number front = (noun : List ℕ) → IsNoun noun → (more : List Token) → AreRules (Line number ∷ front ++ Word noun ∷ more) → ⊥
 
   abbrev RulesLack : ℕ → List Token → List ℕ → Type 0
   RulesLack number front word = RepeatsFlag front word ⊎ NoneGoesOn number front
 
-  -- refused behind a front that begins with a line
+  -- the fault is at a token behind a prefix that begins with a line's number
   record RefusedWithin (tokens : List Token) (found : RuleFault) : Type 0 where
     number : ℕ
     front : List Token
@@ -160,7 +160,7 @@ module _ (spare_bytes deepest spare_statements : ℕ) (version : Version) where
     says : SaysFirst limits (openings_on_line front) (RulesGoOn number front) (RulesLack number front) behind found.kind
     new : IsNew front found.kind
 
-  -- missed at the end
+  -- the fault is at the end, where another line has to come
   record MissedAtEnd (last : ℕ) (tokens : List Token) (found : RuleFault) : Type 0 where
     begins : (number : ℕ) → (more : List Token) × AreRules ((tokens ++ Line number ∷ []) ++ more)
     here : found.line ≡ last
@@ -191,7 +191,7 @@ module _ (spare_bytes deepest spare_statements : ℕ) (version : Version) where
   })
   rule_refused last tokens found (inr m) = inr (record { begins = λ number. let c = m.begins number in (c.0, rules_made ((tokens ++ Line number ∷ []) ++ c.0) c.1); here = m.here; says = m.says })
 
-  -- what is refused behind a rule
+  -- the fault is behind a rule that was read
   refused_behind : (last : ℕ) (tokens : List Token) (x : RawRule × List Token) (found : RuleFault) → EndsLine tokens → (o : Whole limits (pair limits) (rule_at limits version last) IsRule tokens x) → Refused last o.rest found → Refused last tokens found
   refused_behind last tokens x found ends o (inr m) = inr (record {
     begins = λ number.
@@ -207,7 +207,7 @@ module _ (spare_bytes deepest spare_statements : ℕ) (version : Version) where
       rules_of : (own ts : List Token) → o.own ≡ own → AreRules ts → AreRules (own ++ ts)
       rules_of own ts is rules = rules_made (own ++ ts) (own, ts, subst IsRule is o.is_own, rules, refl)
 
-      -- the rule is read, whatever stands behind, and the rest spells no rules
+      -- the rule is read whatever is behind it, so tokens behind it that spell no rules are no rules with it
       no_rules : (token : Token) (own more : List Token) → o.own ≡ token ∷ own → Akin (w.front ++ w.behind) (w.front ++ more) → (AreRules (Line w.number ∷ (w.front ++ more)) → ⊥) → AreRules (token ∷ own ++ Line w.number ∷ (w.front ++ more)) → ⊥
       no_rules token own more is alike misfit rules =
           let f = rules_first last token (own ++ Line w.number ∷ (w.front ++ more)) rules in
@@ -269,7 +269,7 @@ module _ (spare_bytes deepest spare_statements : ℕ) (version : Version) where
 
   -- ---- where the fault stands
 
-  -- tokens that begin rules, and one that fits behind them
+  -- the tokens begin rules, and a token fits behind them
   abbrev pub Fit : List Token → Type 0
   Fit front = (rules : List RawRule) × (more : List Token) × SpellsRules limits version rules (front ++ more)
 
@@ -279,7 +279,7 @@ module _ (spare_bytes deepest spare_statements : ℕ) (version : Version) where
   abbrev pub LineFit : List Token → Type 0
   LineFit front = (number : ℕ) × FitBehind front (Line number)
 
-  -- at a token, of which the fault says why it does not fit; behind tokens that begin with a line
+  -- the fault is at a token, and says why it does not fit; the tokens before it begin with a line's number
   pub record AtRuleToken (tokens : List Token) (found : RuleFault) : Type 0 where
     pub number : ℕ
     pub inner : List Token
@@ -294,7 +294,7 @@ module _ (spare_bytes deepest spare_statements : ℕ) (version : Version) where
     pub no_noun : found.kind ≡ Syntax → (word : List ℕ) → token ≡ Word word → NounFits (FitBehind (Line number ∷ inner)) → IsExcused limits (FitBehind (Line number ∷ inner)) (Line number ∷ inner) word
     pub new : IsNew inner found.kind
 
-  -- at the end
+  -- the fault is at the end of the tokens
   pub record AtRulesEnd (tokens : List Token) (last : ℕ) (found : RuleFault) : Type 0 where
     pub fits : Fit tokens
     pub no_rules : (rules : List RawRule) → ¬ SpellsRules limits version rules tokens

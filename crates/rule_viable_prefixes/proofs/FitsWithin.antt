@@ -1,4 +1,4 @@
--- Which tokens begin rule files within limits of names, nesting and statements.
+-- Viable prefixes within limits of names, nesting and statements.
 use Rattle.std.proofs.Common.{◌≡◌, ℕ, List, [], ◌∷◌, ◌++◌, sym, subst, ◌∙◌, append_assoc}
 use Rattle.rule_tokens.specs.Limits.{Limits}
 use Rattle.rule_tokens.specs.Tokens.{Token, Line}
@@ -17,6 +17,6 @@ LineFitsWithin limits front = (number : ℕ) × FitsBehindWithin limits front (L
 pub fits_front : (limits : Limits) (front back : List Token) → FitsWithin limits (front ++ back) → FitsWithin limits front
 fits_front limits front back (rules, more, is) = (rules, back ++ more, subst (SpellsFile limits rules) (append_assoc front back more) is)
 
--- with a token that stands among them
+-- a prefix of a viable one fits with its next token
 pub fits_before : (limits : Limits) (whole front : List Token) (token : Token) (others : List Token) → whole ≡ front ++ token ∷ others → FitsWithin limits whole → FitsBehindWithin limits front token
 fits_before limits whole front token others is fits = fits_front limits (front ++ token ∷ []) others (subst (FitsWithin limits) (is ∙ sym (append_assoc front (token ∷ []) others)) fits)

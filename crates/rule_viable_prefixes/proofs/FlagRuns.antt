@@ -1,4 +1,4 @@
--- Where flags stand one behind the other, and tokens behind which none does.
+-- Flags one behind the other at the end of tokens, and tokens that end otherwise.
 use Rattle.std.proofs.Common.{◌≡◌, ℕ, List, [], ◌∷◌, ◌++◌, map, refl, sym, subst, append_assoc, ◌⊎◌, inl, inr}
 use Rattle.std.proofs.lemmas.List.{append-nil}
 use Rattle.rule_tokens.specs.declared.fault.RuleFaultKind.{RuleFaultKind}
@@ -9,18 +9,18 @@ use Rattle.rule_viable_prefixes.specs.Misfits.{IsFlagWord, AreFlagWords, Repeats
 abbrev pub NoFlag : Token → Type 0
 NoFlag token = (word : List ℕ) → IsFlagWord word → token ≡ Word word → ⊥
 
--- the last one is no flag
+-- the last token, if there is one, is no flag
 abbrev pub NoFlagLast : List Token → Type 0
 NoFlagLast [] = Unit {0}
 NoFlagLast (t ∷ []) = NoFlag t
 NoFlagLast (t ∷ u ∷ tokens) = NoFlagLast (u ∷ tokens)
 
--- there is a first one, which is no flag
+-- there is a first token, and it is no flag
 abbrev pub OtherFirst : List Token → Type 0
 OtherFirst [] = ⊥
 OtherFirst (t ∷ tokens) = NoFlag t
 
--- what is left out repeats no flag
+-- a word that is left out repeats no flag
 abbrev pub IsNew : List Token → RuleFaultKind → Type 0
 IsNew front kind = (left : List ℕ) → kind ≡ LeftOut left → ¬ RepeatsFlag front left
 
@@ -50,7 +50,8 @@ last_tail : (u : Token) (first front : List Token) → NoFlagLast (u ∷ first) 
 last_tail u [] front parted = inl tt
 last_tail u (v ∷ first) front parted = parted
 
--- flags that stand last stand all behind tokens of which the last one is none, or in front of another
+-- where the first tokens end with no flag, or the others begin with none, a word that repeats no flag behind the others
+-- repeats none behind both
 pub new_behind : (first front : List Token) (kind : RuleFaultKind) → NoFlagLast first ⊎ OtherFirst front → IsNew front kind → IsNew (first ++ front) kind
 new_behind [] front kind parted new left is again = new left is again
 new_behind (u ∷ first) front kind parted new left is ([], words, flags, whole) = by parted
@@ -76,7 +77,7 @@ pub last_of_both : (first front : List Token) → NoFlagLast first → NoFlagLas
 last_of_both first [] one two = subst NoFlagLast (sym (append-nil first)) one
 last_of_both first (u ∷ front) one two = last_both first u front two
 
--- the number of a line is no flag
+-- what is new on a line is new behind others, since a line's number is no flag
 pub new_on_line : (own : List Token) (number : ℕ) (front : List Token) (kind : RuleFaultKind) → IsNew front kind → IsNew (own ++ Line number ∷ front) kind
 new_on_line own number front kind new =
     subst (λ (ts : List Token). IsNew ts kind) (append_assoc own (Line number ∷ []) front)

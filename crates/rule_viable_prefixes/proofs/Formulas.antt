@@ -1,4 +1,4 @@
--- What the readers of formulas do on a line.
+-- What the parsers of formulas do on a line.
 use Rattle.std.proofs.Common.{◌≡◌, ℕ, zero, suc, ◌+◌, ◌≤◌, Bool, true, false, List, [], ◌∷◌, ◌++◌, length, Option, Some, None, Result, Ok, Err, refl, sym, ap, subst, ◌∙◌, append_assoc, inl, inr, arith}
 use Rattle.std.specs.Prelude.{codes}
 use Rattle.std.specs.List.{list_any}
@@ -55,11 +55,11 @@ module _ (spare_bytes deepest spare_statements : ℕ) where
   abbrev limits : Limits
   limits = roomy spare_bytes deepest spare_statements
 
-  -- the limits where so many levels of nesting are left
+  -- the limits with this much nesting left
   abbrev levels : ℕ → Limits
   levels nesting = roomy spare_bytes nesting spare_statements
 
-  -- ---- spellings without values
+  -- ---- what spells a formula, of any nodes
 
   abbrev pub IsFormula : Standing → Level → ℕ → Part
   IsFormula standing level nesting own = (start : ℕ) → (nodes : List RawFormula) × SpellsFormula limits standing level nesting start nodes own
@@ -117,7 +117,7 @@ module _ (spare_bytes deepest spare_statements : ℕ) where
       (entered spare_bytes deepest spare_statements nesting line _ (Spelled limits (IsTerm spare_bytes deepest spare_statements Constant nesting loosest ⨾ Is (Mark (codes ")"))))
       (then_seq (levels nesting) {s = (pair limits)} {t = (pair limits)} _ (term_good spare_bytes deepest spare_statements Constant nesting line) (λ term. close_done (before ++ predicate_node predicate term ∷ []) nesting line)))
 
-  -- what is told of a predicate where nothing more may be nested
+  -- the fault of a predicate where no level of nesting is left
   abbrev IsShallow : {X : Type 0} → ℕ → List Token → Result X RuleFault → Type 0
   IsShallow line tokens r = (e : RuleFault) × (r ≡ Err e) × (e.line ≡ line) × IsTold limits tokens e.kind
 
@@ -154,12 +154,12 @@ module _ (spare_bytes deepest spare_statements : ℕ) where
       then_seq limits {s = (bare limits)} {t = (pair limits)} _ (mark_good limits (codes "(") line) (λ u.
       then_seq limits {s = (pair limits)} {t = (pair limits)} _ (register_good line) (λ name. close_done (before ++ HasOneUse name ∷ []) deepest line))
 
-  -- ---- members behind each other
+  -- ---- chains of members
 
   joins_good : (operator : ℕ → ℕ → RawFormula) (part : Behind (List RawFormula)) (P : Part) (nesting line : ℕ) → ((before : List RawFormula) → Good (levels nesting) (pair limits) (part before) (Spelled limits P) line) → (before : List RawFormula) → Good (levels nesting) (pair limits) (joins operator part before) (Spelled limits P) line
   joins_good operator part P nesting line good before = then_done (levels nesting) {s = (pair limits)} {L = Spelled limits P} (λ x. x ++ operator (last_place (length before)) (last_place (length x)) ∷ []) _ (λ x rest. refl) (λ x own is. is) (good before)
 
-  -- tokens that go on with a formula of the level, whatever its start
+  -- the tokens that fit behind a prefix of such a formula, whatever place its first node has
   abbrev GoesOn : Standing → Level → ℕ → Part
   GoesOn standing level nesting own = (start : ℕ) (front : List Token) (nodes : List RawFormula) → SpellsFormula limits standing level nesting start nodes front → (all : List RawFormula) × SpellsFormula limits standing level nesting start all (front ++ own)
 
@@ -219,7 +219,7 @@ module _ (spare_bytes deepest spare_statements : ℕ) where
   turns_good : (nesting line : ℕ) (read : Behind (List RawFormula)) → MembersGood Within nesting line read → (before : List RawFormula) → Good (levels nesting) (pair limits) (turns_at read before) (Spelled limits (IsFormula Within Member nesting)) line
   turns_good nesting line read good before = then_done (levels nesting) {s = (pair limits)} {L = Spelled limits (IsFormula Within Member nesting)} (λ x. x ++ Not (last_place (length x)) ∷ []) _ (λ x rest. refl) (λ x own is. is) (good before)
 
-  -- ---- parentheses, of a formula or of a term
+  -- ---- parentheses, around a formula or a term
 
   opening_open : (tokens : List Token) → opens_formula 0 tokens ≡ true → Encloses ≡ opening_at (Mark (codes "(") ∷ tokens)
   unfolding opening_at
@@ -229,7 +229,7 @@ module _ (spare_bytes deepest spare_statements : ℕ) where
   unfolding opening_at
   opening_closed tokens h = rw h refl
 
-  -- how it is read where a formula is seen, and where none is
+  -- what a `(` begins is read as a formula where the search finds one, and else as a term
   as_formula : (nesting line : ℕ) (before : List RawFormula) (tokens : List Token) → opens_formula 0 tokens ≡ true → member_at limits (suc nesting) line before (Mark (codes "(") ∷ tokens) ≡ encloses_at line (member_at limits nesting line) before tokens
   as_formula nesting line before tokens h = member-encloses limits (suc nesting) line nesting before (Mark (codes "(") ∷ tokens) (opening_open tokens h) refl
 
@@ -239,11 +239,11 @@ module _ (spare_bytes deepest spare_statements : ℕ) where
   zero_term : (nesting : ℕ) → SpellsWholeTerm limits Constant nesting (raw_nodes.Literal (literal_value []) ∷ []) (Number [] ∷ [])
   zero_term nesting = loosened spare_bytes deepest spare_statements nesting 0 (raw_nodes.Literal (literal_value []) ∷ []) (Number [] ∷ []) (leaf (raw_nodes.Literal (literal_value [])) (Number [] ∷ []) ([], refl, refl))
 
-  -- what makes a comparison of a term in parentheses, and of one that is open
+  -- ` == 0`, which completes a comparison of a term
   abbrev equals_zero : List Token
   equals_zero = Mark (comparison_mark Eq) ∷ Number [] ∷ []
 
-  -- a term in parentheses compared with 0 is read as such
+  -- a term in parentheses that is compared with 0 is read as a comparison
   term_is_read : (nesting line : ℕ) (before : List RawFormula) (front more : List Token) (nodes : List RawNode) → SpellsWholeTerm limits Constant nesting nodes (front ++ more)
       → (x : List RawFormula × List Token) × (compares_at limits (suc nesting) line before (Mark (codes "(") ∷ front ++ (more ++ Mark (codes ")") ∷ equals_zero)) ≡ Ok x)
   term_is_read nesting line before front more nodes is =
@@ -257,7 +257,7 @@ module _ (spare_bytes deepest spare_statements : ℕ) where
       let compared_ : Compares ≡ opening_at (all ++ []) = sym (ap opening_at (append_assoc (Mark (codes "(") ∷ own ++ Mark (codes ")") ∷ []) equals_zero []) ∙ term_compares limits first (equals_zero ++ [])) in
       (_, subst (λ (ts : List Token). compares_at limits (suc nesting) line before ts ≡ Ok (before ++ Compare Eq nodes (raw_nodes.Literal (literal_value []) ∷ []) ∷ [], [])) whole (sym (member-compares limits (suc nesting) line before (all ++ []) compared_) ∙ read))
 
-  -- a term compared with 0 is read in parentheses as a formula
+  -- a formula in parentheses that compares a term with 0 is read as a formula
   formula_is_read : (nesting line : ℕ) (before : List RawFormula) (own : List Token) (nodes : List RawNode) → SpellsWholeTerm limits Constant nesting nodes own
       → (x : List RawFormula × List Token) × (encloses_at line (member_at limits nesting line) before (own ++ (equals_zero ++ Mark (codes ")") ∷ [])) ≡ Ok x)
   formula_is_read nesting line before own nodes is =
@@ -269,7 +269,7 @@ module _ (spare_bytes deepest spare_statements : ℕ) where
       let seen : opens_formula 0 (all ++ []) ≡ true = rw (append-nil all) (formula_says limits inside 0 (Mark (codes ")") ∷ [])) in
       (_, subst (λ (ts : List Token). encloses_at line (member_at limits nesting line) before ts ≡ Ok (before ++ node ∷ [], [])) whole (sym (as_formula nesting line before (all ++ []) seen) ∙ read))
 
-  -- an answer is a fault where it is nothing that is read
+  -- a result that is nothing read is a fault
   not_read : {X : Type 0} (r : Result X RuleFault) → ((x : X) → r ≡ Ok x → ⊥) → IsErr limits r
   not_read (Ok x) no_ok = absurd (no_ok x refl)
   not_read (Err e) no_ok = (e, refl)
@@ -277,7 +277,8 @@ module _ (spare_bytes deepest spare_statements : ℕ) where
   ok_no_err : {X : Type 0} (r : Result X RuleFault) (x : X) → r ≡ Ok x → IsErr limits r → ⊥
   ok_no_err r x p (e, q) = let both_ = sym p ∙ q in absurd cc
 
-  -- Where a formula was seen, and is refused behind a front, no term is read of tokens that begin alike.
+  -- Where the search finds a formula, and that is refused behind a prefix, no other tokens behind the prefix are read
+  -- as a term.
   no_term_instead : (nesting line : ℕ) (before : List RawFormula) (front behind more : List Token) → opens_formula 0 (front ++ behind) ≡ true → Alike behind more
       → ((others : List Token) → Alike behind others → IsErr limits (encloses_at line (member_at limits nesting line) before (front ++ others)))
       → opens_formula 0 (front ++ more) ≡ false → (x : List RawFormula × List Token) → compares_at limits (suc nesting) line before (Mark (codes "(") ∷ front ++ more) ≡ Ok x → ⊥
@@ -332,8 +333,8 @@ module _ (spare_bytes deepest spare_statements : ℕ) where
             whole = tail ∙ ap (λ (ts : List Token). ts ++ rest) e.whole ∙ append_assoc e.inside (Mark (codes ")") ∷ e.after) rest;
           })
 
-  -- Where no formula was seen, and a comparison is refused behind a front, no formula is read of tokens that begin
-  -- alike.
+  -- Where the search finds no formula, and the comparison is refused behind a prefix, no other tokens behind the prefix
+  -- are read as a formula.
   no_formula_instead : (nesting line : ℕ) (before : List RawFormula) (front behind more : List Token) → opens_formula 0 (front ++ behind) ≡ false → Alike behind more
       → ((others : List Token) → Alike behind others → IsErr limits (compares_at limits (suc nesting) line before (Mark (codes "(") ∷ front ++ others)))
       → opens_formula 0 (front ++ more) ≡ true → (x : List RawFormula × List Token) → encloses_at line (member_at limits nesting line) before (front ++ more) ≡ Ok x → ⊥
@@ -384,7 +385,7 @@ module _ (spare_bytes deepest spare_statements : ℕ) where
   refused_word Q noun h others (same t a b) = h b
   refused_word Q noun h others (ended a b p q) = absurd p
 
-  -- behind a parenthesis where a formula is seen
+  -- behind a `(` where the search finds a formula
   formula_outcome : (standing : Standing) (nesting line : ℕ) (before : List RawFormula) → ((b : List RawFormula) → Good (levels nesting) (pair limits) (member_at limits nesting line b) (Spelled limits (IsFormula Within Member nesting)) line)
       → (rest : List Token) → opens_formula 0 rest ≡ true → MemberIs standing (suc nesting) line before (Mark (codes "(") ∷ rest)
   formula_outcome standing nesting line before good rest seen =
@@ -433,7 +434,7 @@ module _ (spare_bytes deepest spare_statements : ℕ) where
               not_read (member_at limits (suc nesting) line before (Mark (codes "(") ∷ o.front ++ more))
               (λ x ok. no_term_instead nesting line before o.front o.behind more (ap (opens_formula 0) (sym o.there) ∙ seen) alike o.refused h x (sym (as_term (suc nesting) line before (o.front ++ more) h) ∙ ok))
 
-  -- behind one where none is
+  -- behind a `(` where it finds none
   term_outcome : (standing : Standing) (nesting line : ℕ) (before : List RawFormula) (rest : List Token) → opens_formula 0 rest ≡ false → MemberIs standing (suc nesting) line before (Mark (codes "(") ∷ rest)
   term_outcome standing nesting line before rest unseen =
       subst (Outcome (levels (suc nesting)) (pair limits) (member_at limits (suc nesting) line before) (Spelled limits (IsFormula standing Member (suc nesting))) line (Mark (codes "(") ∷ rest)) (sym (as_term (suc nesting) line before rest unseen))
@@ -504,11 +505,11 @@ module _ (spare_bytes deepest spare_statements : ℕ) where
                 new = subst (λ (ts : List Token). IsNew ts e.kind) whole o.new;
               }
 
-  -- what fits where a member may stand
+  -- the tokens that fit where a member begins
   abbrev FitsAt : Standing → ℕ → Fitting
   FitsAt standing nesting = Takes limits (Spelled limits (IsFormula standing Member nesting) {A = List RawFormula}) []
 
-  -- a member that a term of one token begins
+  -- a member may begin with any term of one token
   member_takes : (standing : Standing) (nesting : ℕ) (token : Token) → IsTerm spare_bytes deepest spare_statements Constant nesting loosest (token ∷ []) → FitsAt standing nesting token
   member_takes standing nesting token left =
       let right : IsTerm spare_bytes deepest spare_statements Constant nesting loosest (Number [] ∷ []) = λ start. (_, loosened spare_bytes deepest spare_statements nesting start _ (Number [] ∷ []) (leaf (raw_nodes.Literal (literal_value [])) (Number [] ∷ []) ([], refl, refl))) in
@@ -569,7 +570,7 @@ module _ (spare_bytes deepest spare_statements : ℕ) where
   formula_some (both {front = front} {back = back} l r) e = no_append front (Mark (codes "&&")) back e
   formula_some (either {front = front} {back = back} l r) e = no_append front (Mark (codes "||")) back e
 
-  -- a member that begins with no parenthesis, no `!` and no predicate
+  -- a member that begins with another token than `(`, `!` and a predicate
   comparison_outcome : (standing : Standing) (nesting line : ℕ) (before : List RawFormula) (tokens : List Token) → ((more : List Token) → Alike tokens more → Compares ≡ opening_at more) → MemberIs standing nesting line before tokens
   comparison_outcome standing nesting line before tokens h =
       widen (levels nesting) (pair limits) (member_at limits nesting line before) (Spelled limits (IsCompared nesting)) (Spelled limits (IsFormula standing Member nesting)) line tokens (λ x own is. compared standing nesting own is) (member_at limits nesting line before tokens)
@@ -589,7 +590,7 @@ module _ (spare_bytes deepest spare_statements : ℕ) where
   compares_at_end (Line number ∷ more) ends = refl
   compares_at_end more ends = absurd ends
 
-  -- what the readers one level further in do, if there are any
+  -- the parsers one level of nesting further in, where a level is left
   abbrev Inner : ℕ → ℕ → Type 0
   Inner zero line = Unit {0}
   Inner (suc nesting) line = (before : List RawFormula) → Good (levels nesting) (pair limits) (member_at limits nesting line before) (Spelled limits (IsFormula Within Member nesting)) line
@@ -695,7 +696,7 @@ module _ (spare_bytes deepest spare_statements : ℕ) where
   outer_good : (line : ℕ) (before : List RawFormula) → Good limits (pair limits) (outer_member_at limits line before) (Spelled limits (IsFormula Outermost Member limits.nested)) line
   outer_good line before = record { sample = member_sample Outermost limits.nested line before; outcome = outer_outcome line before }
 
-  -- the members of the outermost `&&`, and that they may stand within another formula where none asks for one use
+  -- the members of the outermost `&&`: a formula without `hasOneUse` may also stand inside another
   abbrev First : Spelling limits (List RawFormula)
   First x own = IsFormula Outermost Members limits.nested own × (list_any asks_one_use x ≡ false → (nodes : List RawFormula) × SpellsFormula limits Within Members limits.nested 0 nodes own)
 
@@ -731,7 +732,7 @@ module _ (spare_bytes deepest spare_statements : ℕ) where
       }
       by tokens (Err f) e o = record { front = o.front; behind = o.behind; there = o.there; begins = (HasOneUse [] ∷ [], o.begins.1, any_first (o.front ++ o.begins.1) o.begins.2); inline = o.inline; refused = o.refused; here = o.here; says = says_wider limits (opened o.front) (opened o.front) (omega arith) (Takes limits (Spelled limits (IsFormula Outermost Members limits.nested) {A = List RawFormula}) o.front) (Takes limits First o.front) (λ token b. (HasOneUse [] ∷ [], b.1, any_first ((o.front ++ token ∷ []) ++ b.1) b.2)) o.behind (λ word r is_word n. n) f.kind o.says; new = o.new }
 
-  -- what onward on with members, of which one may ask for one use
+  -- what the tokens spell behind members of which one may be `hasOneUse`
   abbrev After : Bool → Part
   After true own = own ≡ []
   After false own = GoesOn Within Alternatives limits.nested own

@@ -1,4 +1,4 @@
--- What is read within wider limits.
+-- The parser within narrower and wider limits.
 use Rattle.std.proofs.Common.{◌≡◌, ℕ, List, ◌++◌, Result, Ok, Err, sym, ◌∙◌, ◌⊎◌, inl, inr}
 use Rattle.rule_tokens.specs.declared.fault.RuleFaultKind.TheVariants.{TooMany}
 use Rattle.rule_tokens.specs.Limits.{Limits, AreWithin}
@@ -24,7 +24,7 @@ wider_change limits wider within last tokens = by (all_rules_below limits wider 
 pub fault_is : (d e : RuleFault) → ◌≡◌ {A = Result (List RawRule) RuleFault} (Err d) (Err e) → d ≡ e
 fault_is d e is = let equal = is in cc
 
--- what is spelled within some limits is within wider ones
+-- what is spelled within some limits is so within wider ones
 pub spelled_wider : (limits wider : Limits) → AreWithin wider limits → (rules : List RawRule) (tokens : List Token) → SpellsFile limits rules tokens → SpellsFile wider rules tokens
 spelled_wider limits wider within rules tokens is = by (all_rules_below limits wider within 0 tokens)
   where

@@ -1,4 +1,4 @@
--- What the readers of the parts of a rule do.
+-- What the parsers of the parts of a rule do, line by line.
 use Rattle.std.proofs.Common.{◌≡◌, ℕ, zero, suc, ◌≤◌, Bool, true, false, List, [], ◌∷◌, ◌++◌, length, Option, Some, None, Result, Ok, Err, refl, sym, ap, subst, ◌∙◌, inl, inr, arith}
 use Rattle.std.specs.Prelude.{drop, codes}
 use Rattle.std.specs.Str.{bytes_eq}
@@ -43,7 +43,7 @@ use Rattle.rule_tokens.specs.declared.version.Version.{Version}
 use Rattle.rule_tokens.specs.Limits.{Limits}
 use Rattle.rule_viable_prefixes.proofs.Roomy.{roomy}
 
--- a line goes on behind no name
+-- behind a rule's name its line ends
 abbrev pub NamesEndLines : List Token → Type 0
 NamesEndLines [] = Unit {0}
 NamesEndLines (Name name ∷ tokens) = EndsLine tokens × NamesEndLines tokens
@@ -58,14 +58,14 @@ module _ (spare_bytes deepest spare_statements : ℕ) (version : Version) where
   abbrev limits : Limits
   limits = roomy spare_bytes deepest spare_statements
 
-  -- ---- readers that end their line
+  -- ---- parsers that end at the end of a line
 
   line_end_ends : (line : ℕ) (tokens rest : List Token) → line_end line tokens ≡ Ok rest → EndsLine rest
   line_end_ends line [] rest e = subst EndsLine (Rattle.rule_tokens.proofs.Steps.ok_is _ _ e) tt
   line_end_ends line (Line number ∷ tokens) rest e = subst EndsLine (Rattle.rule_tokens.proofs.Steps.ok_is _ _ e) tt
   line_end_ends line tokens rest e = absurd cc
 
-  -- what the value is made of does not matter
+  -- whatever value is read
   abbrev Ends : {A : Type 0} → Result (A × List Token) RuleFault → Type 0
   Ends {A} r = (x : A) (rest : List Token) → r ≡ Ok (x, rest) → EndsLine rest
 
@@ -126,7 +126,7 @@ module _ (spare_bytes deepest spare_statements : ℕ) (version : Version) where
   statement_ends half line name tokens =
       ends_behind (name_within limits line name) _ (λ held. ends_behind (mark_at (codes "=") line tokens) _ (λ behind. λ x rest e. bound (op_at limits version half line behind) _ (x, rest) e (λ y p e1. read_as (λ z. EndsLine z.1) _ (x, rest) e1 (op_ends half line behind y.0 y.1 p))))
 
-  -- ---- verdicts of the same reader by other words, and with a value made of the one that is read
+  -- ---- what a parser does is what an equal one does, and one that makes another value of what is read
 
   pub verdict_as : {A X : Type 0} (shape : Shape limits A X) (R S : Reader limits X) (L F : Part) (last number : ℕ) (a : List Token) → ((b : List Token) → Akin a b → R (Line number ∷ b) ≡ S (Line number ∷ b))
       → Verdict limits shape S L F last (Line number ∷ a) (S (Line number ∷ a)) → Verdict limits shape R L F last (Line number ∷ a) (R (Line number ∷ a))
@@ -177,9 +177,9 @@ module _ (spare_bytes deepest spare_statements : ℕ) (version : Version) where
       by (Err e) (inl w) = inl (record { number = w.number; front = w.front; behind = w.behind; there = w.there; begins = w.begins; refused = λ more alike. let g = w.refused more alike in (g.0, rw g.1 refl); here = w.here; says = says_wider limits (openings_on_line w.front) (openings_on_line w.front) (omega arith) (GoesOn limits L F w.number w.front) (GoesOn limits L F w.number w.front) (λ t fits. fits) w.behind (λ word r is_word. lack_wider limits [] w.front w.front word refl (λ n noun is_noun more. let g = n noun is_noun more in (g.0, rw g.1 refl))) e.kind w.says; new = w.new })
       by (Err e) (inr m) = inr (record { begins = m.begins; here = m.here; says = m.says })
 
-  -- ---- a part that may be absent
+  -- ---- an optional part
 
-  -- nothing is read, whatever stands behind the next token
+  -- the part is absent, whatever comes behind the next token
   absent : {A : Type 0} (R : Reader limits (A × List Token)) (x : A) (L F : Part) (last : ℕ) (tokens : List Token) → L [] → EndsLine tokens → ((number : ℕ) (a b : List Token) → tokens ≡ Line number ∷ a → Akin a b → R (Line number ∷ b) ≡ Ok (x, Line number ∷ b)) → R tokens ≡ Ok (x, tokens)
       → Verdict limits (pair limits) R L F last tokens (R tokens)
   absent {A} R x L F last tokens none ends h e = subst (Verdict limits (pair limits) R L F last tokens) (sym e) (record { value = x; own = []; rest = tokens; is_own = none; there = refl; ends = ends; is = refl; kept = h })
@@ -193,14 +193,14 @@ module _ (spare_bytes deepest spare_statements : ℕ) (version : Version) where
       subst (λ (k : ℕ). R (Line k ∷ b) ≡ Ok (x, Line k ∷ b)) first (h b (subst (λ (ts : List Token). Akin ts b) (sym rest) alike)))
       (h tokens (akin (alike_itself tokens)))
 
-  -- where the first token decides
+  -- the first token decides, or the end of the line
   pub decided : (Q : List Token → Type 0) (token : Token) (rest : List Token) → ((more : List Token) → Q (token ∷ more)) → Q [] → ((number : ℕ) (more : List Token) → Q (Line number ∷ more)) → (b : List Token) → Alike (token ∷ rest) b → Q b
   decided Q token rest h none new b (same t c d) = h d
   decided Q token rest h none new b (ended c [] p q) = none
   decided Q token rest h none new b (ended c (Line number ∷ d) p q) = new number d
   decided Q token rest h none new b (ended c d p q) = absurd q
 
-  -- and a noun in place of a word
+  -- the same where a noun may be in the place of a word
   decided_next : (Q : List Token → Type 0) (token : Token) (rest : List Token) → ((more : List Token) → Q (token ∷ more)) → Q [] → ((number : ℕ) (more : List Token) → Q (Line number ∷ more)) → ((word : List ℕ) (more : List Token) → Q (Word word ∷ more)) → (b : List Token) → Akin (token ∷ rest) b → Q b
   decided_next Q token rest h none new word b (same_next t c d) = h d
   decided_next Q token rest h none new word b (noun_next w noun c d is) = word noun d
@@ -363,7 +363,7 @@ module _ (spare_bytes deepest spare_statements : ℕ) (version : Version) where
   abbrev IsStatement : Half → Part
   IsStatement half own = (s : RawStatement) × SpellsStatement limits version half s own
 
-  -- at most so many statements, and at least one
+  -- from one statement up to `room` many
   abbrev UpTo : ℕ → Half → Part
   UpTo room half own = (all : List RawStatement) × SpellsStatements limits version half all own × (length all ≤ room)
 
@@ -373,7 +373,7 @@ module _ (spare_bytes deepest spare_statements : ℕ) (version : Version) where
   none_up_to : (room : ℕ) (half : Half) → UpTo room half []
   none_up_to room half = ([], refl, omega arith)
 
-  -- the reader of the statement that begins here, if one does
+  -- the parser of the statement that begins here, if one does
   abbrev first_at : Half → Reader limits (RawStatement × List Token)
   first_at half (Line line ∷ Register name ∷ rest) = statement_at limits version half line name rest
   first_at half tokens = Err (fault 0 Syntax)
@@ -393,7 +393,7 @@ module _ (spare_bytes deepest spare_statements : ℕ) (version : Version) where
       let s = (statement_good spare_bytes deepest spare_statements version half line (codes "a") (name_within-of limits line (codes "a") (omega arith))).sample in
       (s.1, assigned_statement half line (codes "a") s.1 (omega arith) s.2)
 
-  -- a register begins a statement
+  -- behind a line's number a register fits, since it begins a statement
   some_goes : (room : ℕ) (half : Half) (F : Part) → (more : List Token) × F more → (line : ℕ) → GoesOn limits (SomeUpTo (suc room) half) F line [] (Register (codes "a"))
   some_goes room half F (more, f) line =
       let s = statement_sample half line in
@@ -403,7 +403,7 @@ module _ (spare_bytes deepest spare_statements : ℕ) (version : Version) where
   some_opens : (room : ℕ) (half : Half) (F : Part) → (more : List Token) × F more → (line : ℕ) → Completes limits (SomeUpTo (suc room) half) F (Line line ∷ [])
   some_opens room half F sample line = let g = some_goes room half F sample line in (Register (codes "a") ∷ g.0, g.1)
 
-  -- one that is refused behind the number of its line
+  -- the fault of a statement is behind its line's number
   refused_behind_line : {A X : Type 0} (shape : Shape limits A X) (R : Reader limits X) (L F : Part) (last line : ℕ) (behind : List Token) → Completes limits L F (Line line ∷ [])
       → ((more : List Token) → Alike behind more → IsErrOn limits (GoesOn limits L F line []) (Lack limits (λ ts. R (Line line ∷ ts)) []) line more (R (Line line ∷ more))) → Verdict limits shape R L F last (Line line ∷ behind) (R (Line line ∷ behind))
   refused_behind_line {A} {X} shape R L F last line behind begins h =
@@ -422,7 +422,7 @@ module _ (spare_bytes deepest spare_statements : ℕ) (version : Version) where
   pub some_of_opens : (F : Part) → Opens limits F → (more : List Token) × F more
   some_of_opens F opens = let o = opens 0 in (Line 0 ∷ o.0, o.1)
 
-  -- what may follow begins a line with the arrow, or with another rule
+  -- what comes behind a half begins a line, with `=>` or `Name:`
   pub data Follows (F : Part) : Type 0 where
     by_arrow : ((number : ℕ) → (more : List Token) × F (Line number ∷ Arrow ∷ more)) → Follows F
     by_rule : ((number : ℕ) → (more : List Token) × F (Line number ∷ Head (codes "Name:") ∷ more)) → Follows F
@@ -431,7 +431,7 @@ module _ (spare_bytes deepest spare_statements : ℕ) (version : Version) where
   follows_open F (by_arrow f) number = let o = f number in (Arrow ∷ o.0, o.1)
   follows_open F (by_rule f) number = let o = f number in (Head (codes "Name:") ∷ o.0, o.1)
 
-  -- and it does so behind no statements
+  -- so where that fits, the half may end
   half_ends : (room : ℕ) (half : Half) (F : Part) (line : ℕ) → Follows F → HalfEnds (GoesOn limits (UpTo room half) F line [])
   half_ends room half F line (by_arrow f) = let o = f line in inl (o.0, ([], Line line ∷ Arrow ∷ o.0, none_up_to room half, o.1, refl))
   half_ends room half F line (by_rule f) = let o = f line in inr (o.0, ([], Line line ∷ Head (codes "Name:") ∷ o.0, none_up_to room half, o.1, refl))

@@ -1,4 +1,4 @@
--- What formulas are read of marked tokens.
+-- What the parsers of formulas read of tokens with the sentinel.
 use Rattle.std.proofs.Common.{◌≡◌, ℕ, zero, suc, ◌+◌, ◌<◌, ◌≤◌, Bool, true, false, cond, List, [], ◌∷◌, ◌++◌, length, Option, Some, None, Result, Ok, Err, refl, sym, ap, subst, ◌∙◌, arith}
 use Rattle.std.specs.Prelude.{codes, drop}
 use Rattle.std.specs.List.{list_any}
@@ -39,7 +39,7 @@ use Rattle.rule_viable_prefixes.specs.Passed.{Role, Opens, Negates, Joins, Other
 use Rattle.rule_viable_prefixes.proofs.Marks.{IsMark, bad, excess, Marking, State, step, bytes, levels, half, Marked, none, cut, over, over_name, later, Next, passes, passes_name, goes_on, First, ends, stops, token, first, Same, read, failed, told, stands, Meets, refused, left, same_bind, meets_bind, mark_told, cut_told, mark_refused, unexpected_both, syntax_both}
 use Rattle.rule_viable_prefixes.proofs.MarkedTerms.{at, NoStand, on, mark_met, Opened, inside, too_deep, open_same, opened, NameRead, too_long, fine, register_read, word_other, term_same, term_refuses, close_same, mark_same}
 
--- ---- what is seen of a formula in parentheses
+-- ---- the search for a formula in parentheses
 
 behind_same : (sign : Seen) (depth : ℕ) (r q : ℕ → Bool) → ((d : ℕ) → r d ≡ q d) → opens_behind sign depth r ≡ opens_behind sign depth q
 behind_same signs.Opens depth r q h = h (suc depth)
@@ -49,7 +49,7 @@ behind_same signs.LineEnds depth r q h = refl
 behind_same signs.InFormula depth r q h = refl
 behind_same signs.Plain depth r q h = h depth
 
--- a mark is not seen
+-- the search passes the sentinel
 mark_unseen : (m : Token) (kind : RuleFaultKind) → IsMark m kind → (depth : ℕ) (rest : List Token) → opens_formula depth (m ∷ rest) ≡ opens_formula depth rest
 unfolding opens_formula
 mark_unseen m kind bad depth rest = refl
@@ -129,7 +129,7 @@ one_use_role : ends_primary kinds.Word (codes "hasOneUse") ≡ false
 unfolding ends_primary is_constant is_choice
 one_use_role = refl
 
--- behind `)` what was open before its `(` is open
+-- behind a `)` the stack is that before its `(`
 closed_to : (pending base : List Role) → without_negations pending ≡ Opens ∷ base → closed pending ≡ base
 closed_to (Negates ∷ pending) base is = closed_to pending base is
 closed_to (Opens ∷ pending) base is = cc
@@ -139,7 +139,7 @@ closed_to (role ∷ pending) base is = absurd cc
 -- ---- chains
 
 module _ (c : Marking) (statements line : ℕ) (few : statements ≤ c.limits.statements) where
-  -- the same is read, and behind it is open what such a condition holds of
+  -- the same is read in both, with a stack behind it of which this holds
   abbrev pub Leaves : {A : Type 0} → (List Role → Type 0) → A × List Token → A × List Token → Type 0
   Leaves Inv x y = (x.0 ≡ y.0) × ((pending : List Role) × Inv pending × Marked c (at c statements line few pending true) x.1 y.1)
 
@@ -198,18 +198,19 @@ module _ (c : Marking) (statements line : ℕ) (few : statements ≤ c.limits.st
   abbrev here : List Role → Bool → State
   here pending operand = at c statements line few pending operand
 
-  -- but for `!`, what is open is what was
+  -- the stack is as before, but for pending `!`s
   abbrev Inv : List Role → List Role → Type 0
   Inv base pending = (without_negations pending ≡ without_negations base) × (length pending ≤ c.limits.nested)
 
   abbrev FormulaSame : List Role → Result (List RawFormula × List Token) RuleFault → Result (List RawFormula × List Token) RuleFault → Type 0
   FormulaSame base r q = Same c line (Leaves (Inv base)) Stops r q
 
-  -- no sign is pending, and no `!`
+  -- no unary operator and no `!` is on top of the stack
   abbrev IsBase : List Role → Type 0
   IsBase base = (without_signs base ≡ base) × (without_negations base ≡ base)
 
-  -- readers of formulas that read the same of marked tokens, and have the mark's fault where it is first
+  -- two parsers of formulas that read the same of the tokens with and without the sentinel, and have its fault where it
+  -- comes first
   pub record Members (base : List Role) (narrow wide : Reader (List RawFormula)) : Type 0 where
     pub fewer : Shortens narrow
     pub shorter : Shortens wide
@@ -235,7 +236,7 @@ module _ (c : Marking) (statements line : ℕ) (few : statements ≤ c.limits.st
           by (Ok y) f g = let less = short before tokens y f in let same_rest : x.1 ≡ y.1 = let h = g in cc in omega (arith, less, ap length same_rest)
           by (Err d) f g = absurd cc
 
-  -- `&&` and `||` go on where these are open
+  -- `&&` and `||` are read with this stack before them
   joins_on : (base : List Role) → IsBase base → length base ≤ c.limits.nested → (wanted : List ℕ) → mark_role true wanted ≡ Joins → (pending : List Role) → Inv base pending → (a b : List Token) → Next c (here pending true) (Mark wanted) a b → Marked c (here base false) a b
   joins_on base is deep wanted role pending inv a b next =
       let opened_with : open_with (mark_role true wanted) pending ≡ base = ap (λ (r : Role). open_with r pending) role ∙ inv.0 ∙ is.1 in
@@ -253,7 +254,7 @@ module _ (c : Marking) (statements line : ℕ) (few : statements ≤ c.limits.st
   chain_stops : (wanted : List ℕ) (wide : Reader (List RawFormula)) (y : List RawFormula × List Token) → Stops y → Meets c line (Stops {A = List RawFormula}) (chain_at wanted wide y.0 y.1)
   chain_stops wanted wide y (rest, is) = rw (is, chain_left wanted wide y.0 rest) (left (y.0, c.mark ∷ rest) (rest, refl))
 
-  -- one chain behind one part
+  -- a chain with one part more, within the bound
   chain_fewer : (wanted : List ℕ) (part : Reader (List RawFormula)) → Shortens part → (fuel : ℕ) (before : List RawFormula) (tokens : List Token) → length tokens < fuel → (x : List RawFormula × List Token) → chain_at wanted part before tokens ≡ Ok x → length x.1 ≤ length tokens
   chain_fewer wanted part short zero before tokens small x e = absurd (omega (arith, small))
   chain_fewer wanted part short (suc fuel) before tokens small x e = by (next_is wanted tokens) refl (λ y few_ read_. chain_fewer wanted part short fuel y.0 y.1 few_ x read_)
@@ -324,7 +325,7 @@ module _ (c : Marking) (statements line : ℕ) (few : statements ≤ c.limits.st
       by u v (token (Mark m) x y text next) = comparison_found pending m x y deep next (comparison_in m) refl
       by u v (token t x y text next) = unexpected_both t x y text
 
-  -- where so many levels are left
+  -- with this much nesting left
   abbrev Deep : List Role → ℕ → Type 0
   Deep base nesting = (without_signs base ≡ base) × (length base + nesting ≡ c.limits.nested)
 
@@ -346,14 +347,14 @@ module _ (c : Marking) (statements line : ℕ) (few : statements ≤ c.limits.st
 
   -- ---- predicates
 
-  -- a node of what is read, behind which `)` stands
+  -- `)` is read behind a part, and its node is made
   closes_same : {A : Type 0} (base : List Role) (f : A → List RawFormula) (x y : A × List Token) → suc (length base) ≤ c.limits.nested → without_signs base ≡ base → (x.0 ≡ y.0) × Marked c (here (Opens ∷ base) true) x.1 y.1
       → FormulaSame base (mark_at (codes ")") line x.1 >>= λ rest. Ok (f x.0, rest)) (mark_at (codes ")") line y.1 >>= λ rest. Ok (f y.0, rest))
   closes_same base f x y less is (same_value, marked) =
       same_bind (close_same c statements line few base x.1 y.1 (omega (arith, less)) marked)
       (λ u v more. read (f x.0, u) (f y.0, v) (ap f same_value, (base, (refl, omega (arith, less)), subst (λ (o : List Role). Marked c (here o true) u v) is more))) (λ u never. absurd never)
 
-  -- and where the mark stands in its place
+  -- and where the sentinel is in the place of the `)`
   close_stops : {A : Type 0} (value : List RawFormula) (y : A × List Token) → Stops y → Meets c line (Stops {A = List RawFormula}) (mark_at (codes ")") line y.1 >>= λ rest. Ok (value, rest))
   close_stops value y (rest, is) = rw is (meets_bind (mark_met c statements line few (codes ")") rest) (λ u never. absurd never))
 
@@ -374,7 +375,7 @@ module _ (c : Marking) (statements line : ℕ) (few : statements ≤ c.limits.st
           (λ s t is. closes_same base (λ term. before ++ predicate_node predicate term ∷ []) s t (omega (arith, d.1)) d.0 is)
           (λ t s. close_stops (before ++ predicate_node predicate t.0 ∷ []) t s)
 
-  -- ---- members of one level further in
+  -- ---- members one level of nesting further in
 
   -- behind `!`
   turns_same : (base : List Role) (narrow wide : Reader (List RawFormula)) → Members (Negates ∷ base) narrow wide → (before : List RawFormula) (a b : List Token) → Marked c (here (Negates ∷ base) false) a b → FormulaSame base (turns_at narrow before a) (turns_at wide before b)
@@ -399,7 +400,7 @@ module _ (c : Marking) (statements line : ℕ) (few : statements ≤ c.limits.st
 
   -- ---- members
 
-  -- how they begin
+  -- what they begin with
   opening_same : (t : Token) (a b : List Token) → ((depth : ℕ) → opens_formula depth a ≡ opens_formula depth b) → opening_at (t ∷ a) ≡ opening_at (t ∷ b)
   unfolding opening_at
   opening_same (Mark m) a b h = rw (h 0) refl
@@ -416,13 +417,13 @@ module _ (c : Marking) (statements line : ℕ) (few : statements ≤ c.limits.st
   member_refuses zero before rest = rw (mark_compares c.mark c.kind c.is_mark rest) (compares_refuses zero before rest)
   member_refuses (suc m) before rest = rw (mark_compares c.mark c.kind c.is_mark rest) (compares_refuses (suc m) before rest)
 
-  -- those that are read one level further in, if any is left
+  -- the parsers of these, if a level of nesting is left
   data Inner (n : ℕ) (narrow wide : Reader (List RawFormula)) : Type 0 where
     shut : n ≡ 0 → ((before : List RawFormula) (tokens : List Token) → narrow before tokens ≡ Err (fault line TooMany)) → Inner n narrow wide
     further_in : (k : ℕ) → n ≡ suc k → ((base : List Role) → Deep base k → Members base narrow wide) → Inner n narrow wide
 
   module _ (base : List Role) (n : ℕ) (deep : Deep base n) (narrow wide : Reader (List RawFormula)) (inner : Inner n narrow wide) (none_ : (before : List RawFormula) (rest : List Token) → wide before (c.mark ∷ rest) ≡ Err (fault line c.kind)) (before : List RawFormula) where
-    -- a `!`
+    -- a member that begins with `!`
     turned : (a b : List Token) → Next c (here base false) (Mark (codes "!")) a b → FormulaSame base (turns_at narrow before a) (turns_at wide before b)
     turned a b next = by a b inner next
       where
@@ -435,7 +436,7 @@ module _ (c : Marking) (statements line : ℕ) (few : statements ≤ c.limits.st
         by x y (shut zero_ h) (goes_on u v kept more) = let most = kept.levels in absurd (omega (arith, most, zero_, deep.1))
         by x y (further_in k is both) (goes_on u v kept more) = turns_same base narrow wide (both (Negates ∷ base) (refl, omega (arith, is, deep.1))) before u v more
 
-    -- a `(`
+    -- a member that begins with `(`
     enclosed : (a b : List Token) → Next c (here base false) (Mark (codes "(")) a b → FormulaSame base (encloses_at line narrow before a) (encloses_at line wide before b)
     enclosed a b next = by a b inner (opened c statements line few base n false a b deep.1 next)
       where
@@ -445,7 +446,7 @@ module _ (c : Marking) (statements line : ℕ) (few : statements ≤ c.limits.st
         by x y (further_in k is both) (too_deep u zero_too) = absurd (omega (arith, zero_too, is))
         by x y (further_in k is both) (inside u v more_ more) = encloses_same base deep.0 (omega (arith, is, deep.1)) narrow wide (both (Opens ∷ base) (refl, omega (arith, is, deep.1))) before u v more
 
-    -- behind a first token
+    -- a member, behind its first token
     begun_same : (m : ℕ) → n < m → (t : Token) (a b : List Token) → Marked c (here base false) (t ∷ a) (t ∷ b) → Next c (here base false) t a b → (o : Opening) → StartsSo c.limits o (t ∷ a) → FormulaSame base (begun_at c.limits o n line narrow before (t ∷ a)) (begun_at c.wider o m line wide before (t ∷ b))
     begun_same m less t a b whole next Turns is = let first_is : t ≡ Mark (codes "!") = cc in turned a b (subst (λ (u : Token). Next c (here base false) u a b) first_is next)
     begun_same m less t a b whole next Encloses is = let first_is : t ≡ Mark (codes "(") = cc in enclosed a b (subst (λ (u : Token). Next c (here base false) u a b) first_is next)
@@ -544,7 +545,7 @@ module _ (c : Marking) (statements line : ℕ) (few : statements ≤ c.limits.st
 
   -- ---- the end of the line
 
-  -- behind a line that is read
+  -- behind a line that was read to its end
   abbrev pub Ended : List Token → List Token → Type 0
   Ended x y = (pending : List Role) × (operand : Bool) × Marked c (here pending operand) x y × EndsLine x
 

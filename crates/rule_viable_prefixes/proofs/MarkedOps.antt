@@ -1,4 +1,4 @@
--- What statements are read of marked tokens.
+-- What the parsers of statements read of tokens with the sentinel.
 use Rattle.std.proofs.Common.{◌≡◌, ℕ, zero, suc, ◌<◌, ◌≤◌, Bool, true, false, cond, List, [], ◌∷◌, length, Option, Some, None, Result, Ok, Err, refl, sym, ap, subst, ◌∙◌, ◌⊎◌, inl, inr, arith}
 use Rattle.std.specs.Prelude.{codes}
 use Rattle.std.specs.Str.{bytes_eq}
@@ -148,7 +148,7 @@ undef_plain : ends_primary kinds.Word (codes "undef") ≡ false
 unfolding ends_primary is_constant is_choice is_digit
 undef_plain = refl
 
--- a word that the source knows as an operand, but for constants
+-- a word that is an operand of a source and no constant
 known_plain : (word : List ℕ) (value : RawArgument) → source_word_in word ≡ Some value → ends_primary kinds.Word word ≡ false
 unfolding source_word_in
 known_plain word value e = by (bytes_eq word (codes "true")) refl
@@ -168,7 +168,7 @@ known_plain word value e = by (bytes_eq word (codes "true")) refl
     by true f = plain (codes "true") true_plain f
     by false f = never (bytes_eq word (codes "false")) f refl
 
--- ---- where the mark is next
+-- ---- the sentinel is next
 
 mark_argument : (m : Token) (kind : RuleFaultKind) → IsMark m kind → (limits : Limits) (half : Half) (line : ℕ) (rest : List Token) → (argument_at limits half line (m ∷ rest) ≡ Err (unexpected line (m ∷ rest))) ⊎ (argument_at limits half line (m ∷ rest) ≡ term_argument_at limits line (m ∷ rest))
 unfolding argument_at
@@ -226,7 +226,7 @@ module _ (c : Marking) (statements line : ℕ) (few : statements ≤ c.limits.st
   abbrev here : Bool → State
   here operand = at c statements line few [] operand
 
-  -- the same is read, and nothing is open behind it
+  -- the same is read in both, and nothing is open behind it
   abbrev pub Plainly : {A : Type 0} → A × List Token → A × List Token → Type 0
   Plainly x y = (x.0 ≡ y.0) × ((p : Bool) × Marked c (here p) x.1 y.1)
 
@@ -236,7 +236,7 @@ module _ (c : Marking) (statements line : ℕ) (few : statements ≤ c.limits.st
   abbrev ArgumentSame : {A : Type 0} → Result (A × List Token) RuleFault → Result (A × List Token) RuleFault → Type 0
   ArgumentSame {A} r q = Same c line {X = A × List Token} Plainly Stops r q
 
-  -- a line that is read to its end
+  -- the line is read to its end in both
   abbrev WholeSame : {A : Type 0} → Result (A × List Token) RuleFault → Result (A × List Token) RuleFault → Type 0
   WholeSame {A} r q = Same c line {X = A × List Token} (λ x y. (x.0 ≡ y.0) × Ended c statements line few x.1 y.1) (NoStand c statements line few) r q
 
@@ -318,7 +318,7 @@ module _ (c : Marking) (statements line : ℕ) (few : statements ≤ c.limits.st
       (λ x y is. read (operand_of written x.0, x.1) (operand_of written y.0, y.1) (ap (operand_of written) is.0, is.1))
       (λ y s. left (operand_of written y.0, y.1) s)
 
-  -- a type that may be missing
+  -- an optional type
   maybe_same : (a b : List Token) → Marked c (here false) a b → ((maybe_type a).0 ≡ (maybe_type b).0) × Marked c (here false) (maybe_type a).1 (maybe_type b).1
   unfolding maybe_type
   maybe_same a b marked = by a b marked (first c (here false) a b marked)
@@ -347,14 +347,14 @@ module _ (c : Marking) (statements line : ℕ) (few : statements ≤ c.limits.st
   comma_met : (rest : List Token) → Meets c line (NoStand c statements line few) (mark_at (codes ",") line (c.mark ∷ rest))
   comma_met rest = mark_met c statements line few (codes ",") rest
 
-  -- the line ends behind what is read
+  -- the end of the line behind an operand
   ends_same : {A B : Type 0} (f : A → B) (x y : A × List Token) → Plainly x y → WholeSame {A = B} (line_end line x.1 >>= λ rest. Ok (f x.0, rest)) (line_end line y.1 >>= λ rest. Ok (f y.0, rest))
   ends_same f x y (is, (p, marked)) = same_bind (line_end_same c statements line few [] p x.1 y.1 marked) (λ u v e. read (f x.0, u) (f y.0, v) (ap f is, e)) (λ v never. absurd never)
 
   ends_met : {A B : Type 0} (value : B) (y : A × List Token) → Stops y → NoMeet {A = B} (line_end line y.1 >>= λ rest. Ok (value, rest))
   ends_met value y (rest, is) = rw is (meets_bind (line_end_met c statements line few rest) (λ v never. absurd never))
 
-  -- a comma behind what is read, and more
+  -- a comma behind an operand, and what follows
   comma_then : {A B : Type 0} {f g : List Token → Result (B × List Token) RuleFault} (x y : A × List Token) → Plainly x y → ((a b : List Token) → Marked c (here false) a b → WholeSame {A = B} (f a) (g b)) → WholeSame {A = B} (mark_at (codes ",") line x.1 >>= f) (mark_at (codes ",") line y.1 >>= g)
   comma_then x y (is, (p, marked)) more = same_bind (comma_same p x.1 y.1 marked) (λ u v m. more u v m) (λ v never. absurd never)
 
@@ -374,7 +374,7 @@ module _ (c : Marking) (statements line : ℕ) (few : statements ≤ c.limits.st
 
   -- ---- flags
 
-  -- words are read, and others are next
+  -- words are read, with the same behind them in both
   abbrev WordsSame : {A : Type 0} → Result (A × List Token) RuleFault → Result (A × List Token) RuleFault → Type 0
   WordsSame {A} r q = Same c line {X = A × List Token} (λ x y. (x.0 ≡ y.0) × Marked c (here false) x.1 y.1) (NoStand c statements line few) r q
 
@@ -402,7 +402,7 @@ module _ (c : Marking) (statements line : ℕ) (few : statements ≤ c.limits.st
       by u v small_ whole (token (Word w) x y text next) others = word w x y (omega (arith, small_)) whole next others (flag_in taken w) refl
       by u v small_ whole (token t x y text next) others = read (before, t ∷ x) (before, t ∷ y) (refl, whole)
 
-  -- flags, and what stands behind them
+  -- flags, and what is read behind them
   flagged : {B : Type 0} (taken : Flags) (f g : Flags × List Token → Result (B × List Token) RuleFault) (a b : List Token) → Marked c (here false) a b → ((fs : Flags) (x y : List Token) → Marked c (here false) x y → WholeSame {A = B} (f (fs, x)) (g (fs, y)))
       → WholeSame {A = B} (flags_at taken line no_flags a >>= f) (flags_at taken line no_flags b >>= g)
   flagged {B} taken f g a b marked more =
@@ -438,7 +438,7 @@ module _ (c : Marking) (statements line : ℕ) (few : statements ≤ c.limits.st
       (λ r s eq. read (Compare p.0 fs.samesign r.0.0 r.0.1, r.1) (Compare q.0 fs.samesign s.0.0 s.0.1, s.1) (ap (λ (pred : Pred). Compare pred fs.samesign r.0.0 r.0.1) is.0 ∙ ap (λ (o : RawOperand × RawOperand). Compare q.0 fs.samesign o.0 o.1) eq.0, eq.1))
       (λ s never. absurd never)) (λ q never. absurd never))
 
-  -- the flag of an intrinsic is next in both
+  -- the flag of an intrinsic is next in both or in neither
   truth_next_same : (op : Intrinsic) (a b : List Token) → Marked c (here false) a b → is_truth_next op a ≡ is_truth_next op b
   truth_next_same op a b marked = by a b (first c (here false) a b marked)
     where

@@ -1,4 +1,4 @@
--- What rule files are read of marked tokens.
+-- What the parser of rule files reads of tokens with the sentinel.
 use Rattle.std.proofs.Common.{◌≡◌, ◌≢◌, ℕ, zero, suc, ◌+◌, ◌<◌, ◌≤◌, Bool, true, false, cond, List, [], ◌∷◌, ◌++◌, length, Option, Some, None, Result, Ok, Err, refl, ap, subst, ◌∙◌, ◌⊎◌, inl, inr, arith}
 use Rattle.std.specs.Prelude.{codes}
 use Rattle.std.specs.Str.{bytes_eq}
@@ -34,9 +34,10 @@ use Rattle.rule_viable_prefixes.proofs.MarkedTerms.{NoStand, IsOperand, long, sh
 use Rattle.rule_viable_prefixes.proofs.MarkedFormulas.{Leaves, Stops, chain_same, chain_left, Ended, line_end_same, line_end_met, formula_same}
 use Rattle.rule_viable_prefixes.proofs.MarkedOps.{op_same}
 
--- ---- what is read of several lines
+-- ---- parts of several lines
 
--- the same, the same fault, or `TooMany` and the mark's fault, on that line or on the one that the mark begins
+-- the same is read, or the same fault is found, or `TooMany` without the sentinel and its fault with it, on the same
+-- line or on the one that it begins
 pub data Agrees (c : Marking) {X : Type 0} (R : X → X → Type 0) : Result X RuleFault → Result X RuleFault → Type 0 where
   agreed : (x y : X) → R x y → Agrees c R (Ok x) (Ok y)
   both_failed : (e : RuleFault) → e.kind ≢ TooMany → Agrees c R (Err e) (Err e)
@@ -54,7 +55,7 @@ agree_bind (agreed x y is) h = h x y is
 agree_bind (both_failed e other) h = both_failed e other
 agree_bind (marked line other at_line) h = marked line other at_line
 
--- behind the part of a line
+-- one part behind another, of one line
 line_bind : {c : Marking} {line : ℕ} {X Y : Type 0} {R : X → X → Type 0} {S : X → Type 0} {P : Y → Y → Type 0} {r q : Result X RuleFault} {f g : X → Result Y RuleFault}
     → Same c line R S r q → ((x y : X) → R x y → Agrees c P (f x) (g y)) → ((y : X) → S y → g y ≡ Err (fault (c.anew line) c.kind)) → Agrees c P (r >>= f) (q >>= g)
 line_bind (read x y is) h k = h x y is
@@ -62,7 +63,7 @@ line_bind (failed e other) h k = both_failed e other
 line_bind {line = line} told h k = marked line line (inl refl)
 line_bind {c} {line} (stands y is) h k = rw (k y is) (marked line (c.anew line) (inr refl))
 
--- ---- where the mark is next
+-- ---- the sentinel is next
 
 mark_precondition : (m : Token) (kind : RuleFaultKind) → IsMark m kind → (limits : Limits) (n : ℕ) (rest : List Token) → precondition_at limits (Line n ∷ m ∷ rest) ≡ Ok (None, Line n ∷ m ∷ rest)
 unfolding precondition_at
@@ -115,7 +116,7 @@ mark_no_statement m kind bad limits version (suc room) half_ n rest = refl
 mark_no_statement m kind excess limits version zero half_ n rest = refl
 mark_no_statement m kind excess limits version (suc room) half_ n rest = refl
 
--- ---- what is made of parts
+-- ---- values from parts
 
 abbrev precondition_of : ℕ → List RawFormula → Option RawPrecondition
 precondition_of line formula = Some (record { line = line; formula = formula })
@@ -132,11 +133,11 @@ rule_of name precondition witness source target = record { line = name.0; name =
 module _ (c : Marking) (some : 1 ≤ c.limits.nested) where
   -- ---- lines
 
-  -- behind a line, and behind so many statements of a half
+  -- the tokens of both behind a whole line, and behind so many statements of a half
   abbrev Lines : ℕ → List Token → List Token → Type 0
   Lines k a b = (line : ℕ) × ((pending : List Role) × (operand : Bool) × Marked c (inline k line pending operand) a b × EndsLine a)
 
-  -- at the beginning of one
+  -- the state at the beginning of a line
   abbrev new_line : ℕ → ℕ → State
   new_line k n = record { pending = []; operand = false; begins = true; statements = k; line = n }
 
@@ -153,7 +154,7 @@ module _ (c : Marking) (some : 1 ≤ c.limits.nested) where
       by u v e (token (Line n) x y text next) = a_line n x y (on c k line room (Line n) x y next tt refl (omega arith) room)
       by u v e (token t x y text next) = absurd e
 
-  -- another line should begin here
+  -- a line has to begin, and another one does
   unexpected_lines : {X : Type 0} {R : X → X → Type 0} (k last : ℕ) (a b : List Token) → LineFirst k a b → Agrees c {X = X} R (Err (unexpected_line last a)) (Err (unexpected_line last b))
   unexpected_lines {X} {R} k last a b no_line = both_failed (fault last Syntax) (λ e. absurd cc)
   unexpected_lines {X} {R} k last a b (a_line n x y more) = by x y (first c (new_line k n) x y more)
@@ -169,7 +170,7 @@ module _ (c : Marking) (some : 1 ≤ c.limits.nested) where
   none_used : 0 ≤ c.limits.statements
   none_used = omega arith
 
-  -- behind a head, and behind `=>`
+  -- behind a head, or behind `=>`
   head_on : (k n : ℕ) (text : List ℕ) (x y : List Token) → Next c (new_line k n) (Head text) x y → Marked c (inline 0 n [] false) x y
   head_on k n text x y next = on c 0 n none_used (Head text) x y next tt refl (omega arith) none_used
 
@@ -244,7 +245,7 @@ module _ (c : Marking) (some : 1 ≤ c.limits.nested) where
 
   -- ---- statements
 
-  -- behind the register, within both limits
+  -- a statement, behind a register within both limits
   statement_same : (version : Version) (half_ : Half) (k n : ℕ) → k ≤ c.limits.statements → (register : List ℕ) (a b : List Token) → length register ≤ c.limits.name_bytes → Marked c (inline k n [] true) a b
       → Agrees c (Parted {A = RawStatement} k) (statement_at c.limits version half_ n register a) (statement_at c.wider version half_ n register b)
   unfolding statement_at
@@ -255,7 +256,7 @@ module _ (c : Marking) (some : 1 ≤ c.limits.nested) where
       (λ x y more. agree_bind (agree (op_same c k n room version half_ x y more))
       (λ u v is. agreed (statement_of n register u.0, u.1) (statement_of n register v.0, v.1) (ap (statement_of n register) is.0, (n, is.1)))))
 
-  -- the mark stands behind the register, which is within the wider limits
+  -- the register is within the wider limits alone, and the sentinel is behind it
   statement_marked : (version : Version) (half_ : Half) (n : ℕ) (register : List ℕ) (rest : List Token) → length register ≤ c.wider.name_bytes → statement_at c.wider version half_ n register (c.mark ∷ rest) ≡ Err (fault n c.kind)
   unfolding statement_at
   statement_marked version half_ n register rest le = by (mark_at (codes "=") n (c.mark ∷ rest)) refl (mark_met c 0 n none_used (codes "=") rest)
@@ -309,7 +310,7 @@ module _ (c : Marking) (some : 1 ≤ c.limits.nested) where
       used : k ≤ c.limits.statements
       used = omega (arith, sum)
 
-      -- one more, where room is left and where not
+      -- one statement more, with room for it or without
       one : (r : ℕ) → r ≡ room → (n : ℕ) (name : List ℕ) (x y : List Token) → Next c (new_line k n) (Register name) x y → ((r : ℕ) → r < wide → k + 1 + r ≡ c.limits.statements → (u v : List Token) → Lines (k + 1) u v → Agrees c HalfSame (statements_at c.limits version r half_ u) (statements_at c.wider version wide half_ v)) → Agrees c HalfSame (statements_at c.limits version r half_ (Line n ∷ Register name ∷ x)) (statements_at c.wider version (suc wide) half_ (Line n ∷ Register name ∷ y))
       one zero is n name x y (passes rest no_name how le) again = rw (no_room version half_ c.limits n name rest, one_more version half_ wide c.wider n name (c.mark ∷ rest), statement_marked version half_ n name rest le) (marked n n (inl refl))
       one zero is n name x y (passes_name text rest same_ ended long_ le) again = absurd cc
@@ -397,7 +398,7 @@ module _ (c : Marking) (some : 1 ≤ c.limits.nested) where
 
   -- ---- the name
 
-  -- the mark begins a line
+  -- the sentinel begins a line of its own
   abbrev Anew : ℕ → {A : Type 0} → A × List Token → Type 0
   Anew n y = (rest : List Token) × (y.1 ≡ Line (c.anew n) ∷ c.mark ∷ rest)
 
@@ -441,7 +442,7 @@ module _ (c : Marking) (some : 1 ≤ c.limits.nested) where
 
   -- ---- rules
 
-  -- behind its name
+  -- a rule, behind its name
   abbrev behind_name : Limits → Version → ℕ → (ℕ × List ℕ) × List Token → Result (RawRule × List Token) RuleFault
   behind_name limits version last name =
       precondition_at limits name.1 >>= λ precondition. witness_at limits precondition.1 >>= λ witness. source_at limits version last witness.1 >>= λ source. arrow_at last source.1 >>= λ behind. target_at limits version last behind
@@ -473,7 +474,7 @@ module _ (c : Marking) (some : 1 ≤ c.limits.nested) where
   rule_same version last k used n x y more =
       line_bind (name_same k last n x y (first c (new_line k n) x y more)) (λ u v is. behind_name_same version last u v is) (λ v s. behind_name_marked version last n v s)
 
-  -- rules one behind the other, where so many steps are enough
+  -- rules one behind the other, with enough steps for both
   rules_same : (version : Version) (last n m k : ℕ) → k ≤ c.limits.statements → (a b : List Token) → length a ≤ n → length b ≤ m → LineFirst k a b → Agrees c {X = List RawRule} (λ x y. x ≡ y) (rules_at c.limits version n last a) (rules_at c.wider version m last b)
   unfolding rules_at
   rules_same version last n m k used a b p q no_line = agreed [] [] refl

@@ -1,4 +1,4 @@
--- What terms are read of marked tokens.
+-- What the parsers of terms read of tokens with the sentinel.
 use Rattle.std.proofs.Common.{◌≡◌, ℕ, zero, suc, ◌+◌, ◌<◌, ◌≤◌, Bool, true, false, cond, eqb, List, [], ◌∷◌, ◌++◌, length, Option, Some, None, Result, Ok, Err, refl, sym, ap, subst, ◌∙◌, arith}
 use Rattle.std.specs.Prelude.{◌||◌, codes}
 use Rattle.std.specs.Str.{bytes_eq}
@@ -36,7 +36,7 @@ use Rattle.rule_viable_prefixes.proofs.Marks.{IsMark, bad, excess, Marking, Stat
 
 -- ---- roles
 
--- a mark is no operator, and begins no operand
+-- the sentinel is no operator, and begins no operand
 mark_operator : (m : Token) (kind : RuleFaultKind) → IsMark m kind → (level : ℕ) (rest : List Token) → operator_at level (m ∷ rest) ≡ None
 unfolding operator_at
 mark_operator m kind bad level rest = refl
@@ -61,7 +61,7 @@ unfolding mark_at
 mark_no_mark m kind bad wanted line rest = refl
 mark_no_mark m kind excess wanted line rest = refl
 
--- behind an operand an operator of two opens nothing
+-- a binary operator leaves the stack as it is
 operator_role : (op : Opcode) → mark_role true (operator_mark op) ≡ Other
 operator_role opcodes.Mul = refl
 operator_role opcodes.SDiv = refl
@@ -81,7 +81,7 @@ operator_role opcodes.UMax = refl
 operator_role opcodes.SMin = refl
 operator_role opcodes.SMax = refl
 
--- a constant is an operand, and an `undef` of the target
+-- constants and choices of the target are operands
 pub constant_operand : (word : List ℕ) → is_constant word ≡ true → ends_primary kinds.Word word ≡ true
 unfolding ends_primary
 constant_operand word is = rw is refl
@@ -94,7 +94,7 @@ choice_operand word place (digits, is, run, first_digit, held) = rw is (by (is_c
     by true e = refl
     by false e = e
 
--- the words of functions are none
+-- words of functions are not
 width_other : ends_primary kinds.Word (codes "width") ≡ false
 unfolding ends_primary is_constant is_choice
 width_other = refl
@@ -107,24 +107,24 @@ called_other Negate word is = absurd is
 called_other Not word is = absurd is
 
 module _ (c : Marking) (statements line : ℕ) (few : statements ≤ c.limits.statements) where
-  -- behind tokens of a line that leave this open
+  -- the state in a line, with this stack
   abbrev pub at : List Role → Bool → State
   at pending operand = inline statements line pending operand
 
-  -- the mark is next
+  -- the sentinel is next
   abbrev pub Stand : {A : Type 0} → A × List Token → Type 0
   Stand x = (rest : List Token) × (x.1 ≡ c.mark ∷ rest)
 
   abbrev pub NoStand : {A : Type 0} → A → Type 0
   NoStand x = ⊥
 
-  -- the same is read, and this is open behind it
+  -- the same is read in both, with this stack behind it
   abbrev pub Behind : {A : Type 0} → List Role → Bool → A × List Token → A × List Token → Type 0
   Behind pending operand x y = (x.0 ≡ y.0) × Marked c (at pending operand) x.1 y.1
 
-  -- ---- a token that uses no more than was used
+  -- ---- a token with which no limit is passed
 
-  -- what stands behind it
+  -- what is behind the token in both
   pub on : {s : State} (t : Token) (a b : List Token) → Next c s t a b → NoName t → name_bytes t ≡ 0 → length (step s t).pending ≤ c.limits.nested → (step s t).statements ≤ c.limits.statements → Marked c (step s t) a b
   on t a b (passes rest no_name (bytes more) le) named none_ less room = absurd (omega (arith, more, none_))
   on t a b (passes rest no_name (levels more) le) named none_ less room = absurd (omega (arith, more, less))
@@ -132,7 +132,7 @@ module _ (c : Marking) (statements line : ℕ) (few : statements ≤ c.limits.st
   on t a b (passes_name text rest is ended long_ le) named none_ less room = absurd (subst NoName is named)
   on t a b (goes_on x y kept more) named none_ less room = more
 
-  -- an operand: it is too long a name, or stays within
+  -- an operand of one token: its name is too long within the narrower limits, or within both limits
   pub data IsOperand (t : Token) (pending : List Role) : List Token → List Token → Type 0 where
     long : (rest : List Token) → c.limits.name_bytes < name_bytes t → name_bytes t ≤ c.wider.name_bytes → IsOperand t pending rest (c.mark ∷ rest)
     short : (a b : List Token) → name_bytes t ≤ c.limits.name_bytes → Marked c (at (without_signs pending) true) a b → IsOperand t pending a b
@@ -151,7 +151,7 @@ module _ (c : Marking) (statements line : ℕ) (few : statements ≤ c.limits.st
 
   -- ---- marks
 
-  -- where such a mark is read, and the tokens behind it are so
+  -- a wanted mark is next in both, and what is behind it in both
   pub mark_same : {R : List Token → List Token → Type 0} (wanted : List ℕ) (s : State) (a b : List Token) → Marked c s a b
       → ((x y : List Token) → Next c s (Mark wanted) x y → R x y) → Same c line R NoStand (mark_at wanted line a) (mark_at wanted line b)
   unfolding mark_at
@@ -174,7 +174,7 @@ module _ (c : Marking) (statements line : ℕ) (few : statements ≤ c.limits.st
   pub close_same : (pending : List Role) (a b : List Token) → length pending ≤ c.limits.nested → Marked c (at (Opens ∷ pending) true) a b → Same c line (Marked c (at (without_signs pending) true)) NoStand (mark_at (codes ")") line a) (mark_at (codes ")") line b)
   close_same pending a b deep marked = mark_same (codes ")") (at (Opens ∷ pending) true) a b marked (λ x y next. let less = fewer_signs pending in on (Mark (codes ")")) x y next tt refl (omega (arith, less, deep)) few)
 
-  -- `(` goes one level further in, or is one level too much
+  -- `(` goes one level of nesting further in, or passes the limit within the narrower limits
   pub data Opened (pending : List Role) (nesting : ℕ) : List Token → List Token → Type 0 where
     inside : (a b : List Token) → 1 ≤ nesting → Marked c (at (Opens ∷ pending) false) a b → Opened pending nesting a b
     too_deep : (a : List Token) → nesting ≡ 0 → Opened pending nesting a (c.mark ∷ a)
@@ -191,7 +191,7 @@ module _ (c : Marking) (statements line : ℕ) (few : statements ≤ c.limits.st
 
   -- ---- what an operand begins with
 
-  -- a function or a parenthesis
+  -- a function or a parenthesis, behind which more is nested
   abbrev pub IsEntered : Start → Type 0
   IsEntered Parenthesis = Unit {0}
   IsEntered (Call function) = Unit {0}
@@ -215,7 +215,7 @@ module _ (c : Marking) (statements line : ℕ) (few : statements ≤ c.limits.st
   entered_same pending nesting start a b is nests (inside x y more marked) = entered start x y is more marked
   entered_same pending nesting start a b is nests (too_deep x none_) = over_deep start x x nests none_
 
-  -- a name, which is too long or within both limits
+  -- a name: too long within the narrower limits, or within both limits
   pub data NameRead (name : List ℕ) (pending : List Role) : List Token → List Token → Type 0 where
     too_long : (rest : List Token) → name_within c.limits line name ≡ Err (fault line TooMany) → name_within c.wider line name ≡ Ok name → NameRead name pending rest (c.mark ∷ rest)
     fine : (a b : List Token) → name_within c.limits line name ≡ Ok name → name_within c.wider line name ≡ Ok name → Marked c (at (without_signs pending) true) a b → NameRead name pending a b
@@ -330,7 +330,7 @@ module _ (c : Marking) (statements line : ℕ) (few : statements ≤ c.limits.st
 
   -- ---- operators of two operands
 
-  -- an operand, and what goes on with it
+  -- an operand with the binary operators behind it
   abbrev pub OperandSame : List Role → Result (List RawNode × List Token) RuleFault → Result (List RawNode × List Token) RuleFault → Type 0
   OperandSame pending r q = Same c line (Behind pending true) Stand r q
 
@@ -365,7 +365,7 @@ module _ (c : Marking) (statements line : ℕ) (few : statements ≤ c.limits.st
         let same_levels : length (open_with (mark_role true (operator_mark op)) pending) ≡ length pending = ap (λ (r : Role). length (open_with r pending)) is in
         subst (λ (r : Role). Marked c (at (open_with r pending) (ends_operand r)) a b) is (on (Mark (operator_mark op)) a b next tt refl (omega (arith, same_levels, deep)) few)
 
-    -- one operator and its operand
+    -- one operator with its right operand
     chain_step : (op : Opcode) (before : List RawNode) (a b : List Token) → level_of op ≡ suc level → Marked c (at pending false) a b
         → ((after : List RawNode) (x y : List Token) → length x < length a → Marked c (at pending true) x y → ChainSame after x y)
         → ChainSame before (Mark (operator_mark op) ∷ a) (Mark (operator_mark op) ∷ b)
@@ -411,9 +411,10 @@ module _ (c : Marking) (statements line : ℕ) (few : statements ≤ c.limits.st
         by u v small whole stops again = chain_ends before (Excess ∷ []) (c.mark ∷ []) (mark_operator Excess TooMany excess (suc level) []) (mark_operator c.mark c.kind c.is_mark (suc level) []) whole
         by u v small whole (token t x y text next) again = found t x y small whole next again (operator_at (suc level) (t ∷ x)) refl
 
-  -- ---- what goes on with an operand
+  -- ---- binary operators behind an operand
 
-  -- readers of operands, within the limits and the wider ones, that read the same of marked tokens
+  -- two parsers of operands, within the narrower and the wider limits, that read the same of the tokens with and
+  -- without the sentinel
   pub record Primaries (pending : List Role) (narrow wide : Reader) : Type 0 where
     pub fewer : (level : ℕ) → Shortens c.limits (operand_at narrow level)
     pub shorter : (level : ℕ) → Shortens c.wider (operand_at wide level)
@@ -443,9 +444,9 @@ module _ (c : Marking) (statements line : ℕ) (few : statements ≤ c.limits.st
       (λ u v same_. subst (λ (ms : List RawNode). OperandSame pending (behind_at narrow level u.0 u.1) (behind_at wide level ms v.1)) same_.0 (behind_same pending narrow wide both deep level u.0 u.1 v.1 same_.1))
       (λ v s_. rw (s_.1, behind_left wide level v.0 s_.0) (left (v.0, c.mark ∷ s_.0) (s_.0, refl)))
 
-  -- ---- operands of one level further in
+  -- ---- operands one level of nesting further in
 
-  -- where the mark stands first
+  -- the parser has the sentinel's fault where that comes first
   abbrev pub Refuses : Reader → Type 0
   Refuses wide = (before : List RawNode) (rest : List Token) → wide before (c.mark ∷ rest) ≡ Err (fault line c.kind)
 
@@ -492,14 +493,14 @@ module _ (c : Marking) (statements line : ℕ) (few : statements ≤ c.limits.st
       by u v (token (Register name) x y text next) = register name x y (register_read (Opens ∷ pending) false name x y (omega (arith, deep)) next)
       by u v (token t x y text next) = unexpected_both t x y text
 
-  -- readers where so many levels are left
+  -- the parsers of operands with this much nesting left
   pub record Reads (nesting : ℕ) (narrow wide : Reader) : Type 0 where
     pub fewer : (level : ℕ) → Shortens c.limits (operand_at narrow level)
     pub shorter : (level : ℕ) → Shortens c.wider (operand_at wide level)
     pub refuses : Refuses wide
     pub each : (pending : List Role) → length pending + nesting ≡ c.limits.nested → (before : List RawNode) (a b : List Token) → Marked c (at pending false) a b → OperandSame (without_signs pending) (narrow before a) (wide before b)
 
-  -- where no sign is pending
+  -- where no unary operator is on top of the stack
   unsigned : (nesting : ℕ) (narrow wide : Reader) → Reads nesting narrow wide → (pending : List Role) → without_signs pending ≡ pending → length pending + nesting ≡ c.limits.nested → Primaries pending narrow wide
   unsigned nesting narrow wide both pending is deep = record {
     fewer = both.fewer;
@@ -534,7 +535,7 @@ module _ (c : Marking) (statements line : ℕ) (few : statements ≤ c.limits.st
   start_meets : (wide : Reader) → Refuses wide → (before : List RawNode) (y : Start × List Token) → Stand y → Meets c line (Stand {A = List RawNode}) (begun_at c.wider line wide before y.0 y.1)
   start_meets wide none_ before y (rest, is) = subst (λ (ts : List Token). Meets c line (Stand {A = List RawNode}) (begun_at c.wider line wide before y.0 ts)) (sym is) (begun_meets wide none_ before y.0 rest)
 
-  -- where no level is left
+  -- where no level of nesting is left
   shallow_same : (pending : List Role) (wide : Reader) → Refuses wide → (before : List RawNode) (s t : Start × List Token) → Begun pending 0 s t
       → OperandSame (without_signs pending) (shallow_in line before s.0 >>= λ nodes. Ok (nodes, s.1)) (begun_at c.wider line wide before t.0 t.1)
   shallow_same pending wide none_ before s t (leaf node a b marked) = read (before ++ node ∷ [], a) (before ++ node ∷ [], b) (refl, marked)
@@ -574,7 +575,7 @@ module _ (c : Marking) (statements line : ℕ) (few : statements ≤ c.limits.st
   term_same place n m less pending is deep a b marked =
       operand_same pending (primary_at c.limits place line n) (primary_at c.wider place line m) (unsigned n (primary_at c.limits place line n) (primary_at c.wider place line m) (primary_same place n m less) pending is deep) (omega (arith, deep)) loosest [] a b marked
 
-  -- and where the mark stands first
+  -- the sentinel comes first
   pub term_refuses : (place : TermPlace) (m : ℕ) (rest : List Token) → term_at c.wider place m line (c.mark ∷ rest) ≡ Err (fault line c.kind)
   unfolding term_at
   term_refuses place m rest = operand_refuses (primary_at c.wider place line m) (primary_refuses place m) loosest [] rest

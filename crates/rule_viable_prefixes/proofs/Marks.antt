@@ -1,5 +1,6 @@
--- Tokens with a mark behind the first one with which a limit is passed, and what is read of them within wider limits:
--- the same as of the tokens without the mark within the limits, but that the mark is told where `TooMany` is.
+-- To find where a limit is passed, a sentinel token is put behind the first token that passes one, and the text is read
+-- within wider limits. What is read is the same as without the sentinel within the limits, but that the sentinel's
+-- fault comes in place of `TooMany`.
 use Rattle.std.proofs.Common.{◌≡◌, ◌≢◌, ℕ, ◌+◌, ◌<◌, ◌≤◌, Bool, true, false, cond, List, [], ◌∷◌, length, Result, Ok, Err, refl, sym, subst, arith}
 use Rattle.std.specs.Prelude.{if◌then◌else◌, nat_le, codes}
 use Rattle.std.specs.Str.{bytes_eq}
@@ -15,14 +16,14 @@ use Rattle.rule_tokens.proofs.Ends.{EndsLine}
 use Rattle.rule_parse.proofs.Cuts.{IsOfText}
 use Rattle.rule_viable_prefixes.specs.Passed.{name_bytes, Role, Sign, role_of, ends_operand, without_signs, open_with}
 
--- ---- marks
+-- ---- the sentinel
 
--- it is a byte that may not stand, or one too many
+-- the sentinel and the kind of its fault: `Bad`, or `Excess`
 pub data IsMark : Token → RuleFaultKind → Type 0 where
   bad : IsMark Bad BadByte
   excess : IsMark Excess TooMany
 
--- a mark, and limits that are wider than others
+-- a sentinel, and limits with wider ones
 pub record Marking : Type 0 where
   pub limits : Limits
   pub wider : Limits
@@ -32,10 +33,10 @@ pub record Marking : Type 0 where
   pub name_bytes : limits.name_bytes ≤ wider.name_bytes
   pub nested : limits.nested < wider.nested
   pub statements : limits.statements < wider.statements
-  -- the number of the line that the mark begins behind the name of a rule on such a line
+  -- behind a rule's name the sentinel begins a line of its own: that line's number
   pub anew : ℕ → ℕ
 
--- ---- what stands behind tokens
+-- ---- what the tokens before a place tell of the limits
 
 pub record State : Type 0 where
   pub pending : List Role
@@ -44,15 +45,15 @@ pub record State : Type 0 where
   pub statements : ℕ
   pub line : ℕ
 
--- in a line
+-- the state inside a line
 abbrev pub inline : ℕ → ℕ → List Role → Bool → State
 inline statements line pending operand = record { pending = pending; operand = operand; begins = false; statements = statements; line = line }
 
--- behind a head or `=>`
+-- the state behind a head or `=>`
 abbrev pub headed : State → State
 headed s = inline 0 s.line s.pending false
 
--- behind one token more
+-- the state behind one token more
 abbrev pub step : State → Token → State
 step s (Line number) = record { pending = []; operand = false; begins = true; statements = s.statements; line = number }
 step s (Head text) = headed s
@@ -60,26 +61,26 @@ step s Arrow = headed s
 step s (Register name) = inline (if s.begins then s.statements + 1 else s.statements) s.line (without_signs s.pending) true
 step s token = inline s.statements s.line (open_with (role_of s.operand token) s.pending) (ends_operand (role_of s.operand token))
 
--- a limit is passed with it
+-- with the token a limit is passed
 pub data Passed (limits : Limits) (s : State) (token : Token) : Type 0 where
   bytes : limits.name_bytes < name_bytes token → Passed limits s token
   levels : limits.nested < length (step s token).pending → Passed limits s token
   half : limits.statements < (step s token).statements → Passed limits s token
 
--- none is
+-- with the token no limit is passed
 pub record Kept (limits : Limits) (s : State) (token : Token) : Type 0 where
   pub bytes : name_bytes token ≤ limits.name_bytes
   pub levels : length (step s token).pending ≤ limits.nested
   pub half : (step s token).statements ≤ limits.statements
 
--- ---- marked tokens
+-- ---- tokens with the sentinel
 
--- no name of a rule
+-- the token is no rule's name
 abbrev pub NoName : Token → Type 0
 NoName (Name text) = ⊥
 NoName token = Unit {0}
 
--- behind the name of a rule its line ends
+-- a rule's name is followed by the end of its line
 abbrev pub NameEnds : Token → List Token → Type 0
 NameEnds (Name text) tokens = EndsLine tokens
 NameEnds token tokens = Unit {0}
@@ -88,7 +89,7 @@ no_name_ends : (token : Token) (tokens : List Token) → NoName token → NameEn
 no_name_ends (Name text) tokens never = absurd never
 no_name_ends token tokens never = tt
 
--- the tokens behind such a state, and with the mark; behind the name of a rule it begins a line
+-- the tokens that are left in such a state, and the same with the sentinel; behind a rule's name it begins a line
 pub data Marked (c : Marking) : State → List Token → List Token → Type 0 where
   none : {s : State} → Marked c s [] []
   cut : {s : State} → Marked c s (Excess ∷ []) (c.mark ∷ [])
@@ -96,7 +97,7 @@ pub data Marked (c : Marking) : State → List Token → List Token → Type 0 w
   over_name : {s : State} (text : List ℕ) (rest : List Token) → EndsLine rest → c.limits.name_bytes < length text → length text ≤ c.wider.name_bytes → Marked c s (Name text ∷ rest) (Name text ∷ Line (c.anew s.line) ∷ c.mark ∷ rest)
   later : {s : State} (token : Token) (a b : List Token) → IsOfText token × NameEnds token a → Kept c.limits s token → Marked c (step s token) a b → Marked c s (token ∷ a) (token ∷ b)
 
--- what stands behind the first token
+-- the same of what is behind the first token
 pub data Next (c : Marking) (s : State) (token : Token) : List Token → List Token → Type 0 where
   passes : (rest : List Token) → NoName token → Passed c.limits s token → name_bytes token ≤ c.wider.name_bytes → Next c s token rest (c.mark ∷ rest)
   passes_name : (text : List ℕ) (rest : List Token) → token ≡ Name text → EndsLine rest → c.limits.name_bytes < length text → length text ≤ c.wider.name_bytes → Next c s token rest (Line (c.anew s.line) ∷ c.mark ∷ rest)
@@ -116,15 +117,15 @@ first c s a b (later t x y text kept more) = token t x y text (goes_on x y kept 
 
 -- ---- what is read
 
--- Within the limits, and within the wider ones of the marked tokens: the same, or the same fault, or `TooMany` and that
--- of the mark, where the mark may stand next.
+-- What is read within the limits, and within the wider ones with the sentinel: the same value, or the same fault, or
+-- `TooMany` and the sentinel's fault, or `TooMany` and a value behind which the sentinel may be next.
 pub data Same (c : Marking) (line : ℕ) {X : Type 0} (R : X → X → Type 0) (S : X → Type 0) : Result X RuleFault → Result X RuleFault → Type 0 where
   read : (x y : X) → R x y → Same c line R S (Ok x) (Ok y)
   failed : (e : RuleFault) → e.kind ≢ TooMany → Same c line R S (Err e) (Err e)
   told : Same c line R S (Err (fault line TooMany)) (Err (fault line c.kind))
   stands : (y : X) → S y → Same c line R S (Err (fault line TooMany)) (Ok y)
 
--- what is read where the mark is next
+-- what is read where the sentinel is next: its fault, or a value that leaves it
 pub data Meets (c : Marking) (line : ℕ) {X : Type 0} (S : X → Type 0) : Result X RuleFault → Type 0 where
   refused : Meets c line S (Err (fault line c.kind))
   left : (y : X) → S y → Meets c line S (Ok y)
@@ -151,7 +152,7 @@ unexpected_mark : (mark : Token) (kind : RuleFaultKind) → IsMark mark kind →
 unexpected_mark m kind bad line rest = refl
 unexpected_mark m kind excess line rest = refl
 
--- one that is not of a text, and is told by its kind
+-- the sentinel is told by its kind wherever it isn't expected
 pub mark_told : (c : Marking) (line : ℕ) (rest : List Token) → unexpected line (c.mark ∷ rest) ≡ fault line c.kind
 mark_told c line rest = unexpected_mark c.mark c.kind c.is_mark line rest
 
@@ -161,7 +162,7 @@ cut_told {c} {line} {X} {R} {S} rest = subst (λ (e : RuleFault). Same c line {X
 pub mark_refused : {c : Marking} {line : ℕ} {X : Type 0} {S : X → Type 0} (rest : List Token) → Meets c line {X = X} S (Err (unexpected line (c.mark ∷ rest)))
 mark_refused {c} {line} {X} {S} rest = subst (λ (e : RuleFault). Meets c line {X = X} S (Err e)) (sym (mark_told c line rest)) refused
 
--- the same token that is not expected
+-- the first tokens are equal and not expected
 pub unexpected_both : {c : Marking} {line : ℕ} {X : Type 0} {R : X → X → Type 0} {S : X → Type 0} (token : Token) (a b : List Token) → IsOfText token × NameEnds token a → Same c line {X = X} R S (Err (unexpected line (token ∷ a))) (Err (unexpected line (token ∷ b)))
 unexpected_both {line = line} Bad a b text = failed (fault line BadByte) (λ e. absurd cc)
 unexpected_both Excess a b text = absurd text.0
@@ -191,7 +192,7 @@ long_name limits line name long = by (nat_le (length name) limits.name_bytes) re
     by true h = let le = leb-true (length name) limits.name_bytes h in absurd (omega (arith, le, long))
     by false h = refl
 
--- ---- what is open
+-- ---- the stack of what is open
 
 pub fewer_signs : (pending : List Role) → length (without_signs pending) ≤ length pending
 fewer_signs (Sign ∷ pending) = let less = fewer_signs pending in omega (arith, less)

@@ -1,4 +1,4 @@
--- In a rule file another line stands behind the name of a rule.
+-- In a rule file another line begins behind a rule's name.
 use Rattle.std.proofs.Common.{◌≡◌, ℕ, Bool, true, false, List, [], ◌∷◌, ◌++◌, map, Option, Some, None, refl, sym, ap, subst, ◌∙◌, append_assoc, ◌⊎◌, inl, inr}
 use Rattle.std.specs.Prelude.{codes}
 use Rattle.ops.specs.declared.opcode.Unary.{Unary as Intrinsic}
@@ -31,7 +31,7 @@ use Rattle.rule_parse.specs.declared.word.Operation.TheVariants as operations
 use Rattle.rule_parse.specs.Grammar.{SpellsArgument, SpellsOperand, SpellsPair, SpellsTruth, SpellsOpcode, SpellsTo, SpellsOp, SpellsStatements, SpellsPrecondition, SpellsMoreExpressions, SpellsExpressions, SpellsWitness, SpellsRule, SpellsRules, SpellsVersion, SpellsFile}
 use Rattle.rule_parse.specs.Keywords.{opcode_token, operation_word, is_apart, token_with}
 
--- no name of a rule is among them
+-- none of the tokens is a rule's name
 abbrev Nameless : List Token → Type 0
 Nameless [] = Unit {0}
 Nameless (Name text ∷ tokens) = ⊥
@@ -177,7 +177,7 @@ module _ (limits : Limits) where
   followed_behind (Name text ∷ own) rest plain more = absurd plain
   followed_behind (token ∷ own) rest plain more = followed_behind own rest plain more
 
-  -- nothing, or what begins a line
+  -- nothing, or tokens that begin a line
   begins_both : (own rest : List Token) → (own ≡ []) ⊎ BeginsLine own → BeginsLine rest → BeginsLine (own ++ rest)
   begins_both own rest (inl none_) more = subst (λ (ts : List Token). BeginsLine (ts ++ rest)) (sym none_) more
   begins_both own rest (inr (number, (tokens, is))) more = (number, (tokens ++ rest, ap (λ (ts : List Token). ts ++ rest) is))
@@ -234,6 +234,6 @@ module _ (limits : Limits) where
   followed_line (Name other ∷ front) text rest is = followed_line front text rest is.1
   followed_line (token ∷ front) text rest is = followed_line front text rest is
 
-  -- behind a name in a rule file another line begins
+  -- behind a rule's name in a rule file another line begins
   pub line_behind_name : (rules : List RawRule) (front : List Token) (text : List ℕ) (rest : List Token) → SpellsFile limits rules (front ++ Name text ∷ rest) → BeginsLine rest
   line_behind_name rules front text rest is = followed_line front text rest (file_followed rules (front ++ Name text ∷ rest) is)

@@ -1,4 +1,4 @@
--- Words that are no nouns.
+-- Words that are no nouns fit nowhere.
 use Rattle.std.proofs.Common.{◌≡◌, ◌⊎◌, inl, inr, ℕ, Bool, true, false, List, Option, Some, None, refl, sym, ap, subst, ◌∙◌}
 use Rattle.std.specs.Prelude.{codes, if◌then◌else◌}
 use Rattle.std.specs.Str.{bytes_eq}
@@ -34,7 +34,7 @@ use Rattle.rule_tokens.specs.Limits.{rule_limits}
 abbrev IsNone : {A : Type 0} → Option A → Type 0
 IsNone {A} o = (x : A) → o ≡ Some x → ⊥
 
--- a word that no reader knows
+-- a word that no parser knows
 record IsUnknown (word : List ℕ) : Type 0 where
   no_opcode : (apart : Bool) → IsNone (operation_in Two apart word)
   no_predicate : IsNone (pred_in word)
@@ -42,7 +42,7 @@ record IsUnknown (word : List ℕ) : Type 0 where
   no_operand : IsNone (source_word_in word)
   no_term : IsNone (meaning_in Witness word)
 
--- the last version knows all operations
+-- version 2 knows all operations
 all_known : (operation : Operation) → is_known operation Two ≡ true
 all_known operation = either (is_of_second operation)
   where
@@ -79,7 +79,7 @@ no_instruction_flag NNeg is = not_noun (codes "nneg") (record { no_opcode = λ a
 no_instruction_flag Disjoint is = not_noun (codes "disjoint") (record { no_opcode = λ apart x e. absurd cc; no_predicate = λ x e. absurd cc; no_type = λ x e. absurd cc; no_operand = λ x e. absurd cc; no_term = λ x e. absurd cc }) is
 no_instruction_flag SameSign is = not_noun (codes "samesign") (record { no_opcode = λ apart x e. absurd cc; no_predicate = λ x e. absurd cc; no_type = λ x e. absurd cc; no_operand = λ x e. absurd cc; no_term = λ x e. absurd cc }) is
 
--- the flag of an intrinsic is one of two
+-- the flag of an intrinsic is `minpoison` or `zeropoison`
 truth_word : (op : Intrinsic) (word : List ℕ) → truth_flag op ≡ Some word → (word ≡ codes "minpoison") ⊎ (word ≡ codes "zeropoison")
 truth_word intrinsics.Abs word e = inl cc
 truth_word intrinsics.CtPop word e = absurd cc
@@ -132,7 +132,7 @@ constant_noun = kinds.constant refl
 other_word : (a b : List ℕ) → bytes_eq a b ≡ false → a ≡ b → ⊥
 other_word a b differ same = let both : false ≡ true = sym differ ∙ ap (λ (w : List ℕ). bytes_eq w b) same ∙ word_is b in absurd cc
 
--- a word that is none of all flags
+-- the word is none of the flags
 abbrev NoneOfThem : List ℕ → Type 0
 NoneOfThem word = ((flag : Flag) → word ≡ flag_keyword flag → ⊥) × (word ≡ codes "minpoison" → ⊥) × (word ≡ codes "zeropoison" → ⊥)
 

@@ -1,5 +1,5 @@
--- What a reader does on a line, said so that it composes: it reads tokens in front, whatever stands behind the next
--- one, or it refuses what stands behind a front that some other tokens complete.
+-- What a parser does with the tokens of a line, in a form that composes: it reads the first tokens, whatever is behind
+-- the next one, or it refuses what is behind a viable prefix.
 use Rattle.std.proofs.Common.{◌≡◌, ℕ, suc, ◌+◌, ◌≤◌, List, [], ◌∷◌, ◌++◌, map, Result, Ok, Err, refl, sym, ap, subst, ◌∙◌, append_assoc, ◌⊎◌, inl, inr, arith}
 use Rattle.std.proofs.lemmas.List.{append-nil}
 use Rattle.rule_tokens.specs.RuleFaults.{RuleFault}
@@ -13,9 +13,9 @@ use Rattle.rule_viable_prefixes.proofs.FlagRuns.{NoFlag, NoFlagLast, IsNew, new_
 use Rattle.rule_tokens.specs.Limits.{Limits}
 use Rattle.rule_viable_prefixes.proofs.Tolds.{SaysFirst, says_wider, says_carried}
 
--- ---- what stands next
+-- ---- tokens that a parser with one token of lookahead can't tell apart
 
--- the same token is next, or the line ends in both
+-- the first token is the same, or the line ends in both
 pub data Alike : List Token → List Token → Type 0 where
   same : (token : Token) (a b : List Token) → Alike (token ∷ a) (token ∷ b)
   ended : (a b : List Token) → EndsLine a → EndsLine b → Alike a b
@@ -28,7 +28,7 @@ pub alike_behind : (own a b : List Token) → Alike a b → Alike (own ++ a) (ow
 alike_behind [] a b alike = alike
 alike_behind (token ∷ own) a b alike = same token (own ++ a) (own ++ b)
 
--- the same token is next, or a noun in place of a word, or the line ends in both
+-- the first token is the same, or a noun is in the place of a word, or the line ends in both
 pub data Akin : List Token → List Token → Type 0 where
   same_next : (token : Token) (a b : List Token) → Akin (token ∷ a) (token ∷ b)
   noun_next : (word noun : List ℕ) (a b : List Token) → IsNoun noun → Akin (Word word ∷ a) (Word noun ∷ b)
@@ -45,16 +45,16 @@ akin_behind (token ∷ own) a b h = same_next token (own ++ a) (own ++ b)
 pub akin_noun : (front behind : List Token) (word : List ℕ) (rest : List Token) → behind ≡ Word word ∷ rest → (noun : List ℕ) → IsNoun noun → (more : List Token) → Akin (front ++ behind) (front ++ Word noun ∷ more)
 akin_noun front behind word rest is noun is_noun more = akin_behind front behind (Word noun ∷ more) (subst (λ (ts : List Token). Akin ts (Word noun ∷ more)) (sym is) (noun_next word noun rest more is_noun))
 
--- how many marks that open levels stand among tokens of one line
+-- how many of the tokens, which are on one line, open a level of nesting
 abbrev pub opened : List Token → ℕ
 opened [] = 0
 opened (token ∷ tokens) = openings token + opened tokens
 
--- one of them opens a level
+-- a token that opens one counts
 pub opens_one : (mark : List ℕ) (nesting : ℕ) → openings (Mark mark) ≡ 1 → (front : List Token) → nesting ≤ opened front → suc nesting ≤ openings (Mark mark) + opened front
 opens_one mark nesting is front far = rw is (omega (arith, far))
 
--- with others before them they are no fewer
+-- more tokens in front open as many or more
 pub more_opened : (before front : List Token) → opened front ≤ opened (before ++ front)
 more_opened [] front = omega arith
 more_opened (token ∷ before) front = let le = more_opened before front in omega (arith, le)
@@ -69,7 +69,7 @@ module _ (limits : Limits) where
   NoLine (Line number) = ⊥
   NoLine token = Unit {0}
 
-  -- a token that one reads by itself is no flag either
+  -- a token that is neither a line's number nor a flag
   abbrev pub IsOwn : Token → Type 0
   IsOwn (Line number) = ⊥
   IsOwn (Word word) = IsFlagWord word → ⊥
@@ -102,24 +102,24 @@ module _ (limits : Limits) where
   pub inline_both : (front back : List Token) → Inline front → Inline back → Inline (front ++ back)
   inline_both front back one two = λ line more. ap (line_behind line) (append_assoc front back more) ∙ one line (back ++ more) ∙ two line more
 
-  -- ---- what a reader does
+  -- ---- what parsers do
 
-  -- what spells a value
+  -- which tokens spell which value
   abbrev pub Spelling : Type 0 → Type 1
   Spelling A = A → List Token → Type 0
 
-  -- tokens that some others complete
+  -- the tokens are a viable prefix of what is spelled
   abbrev pub Begins : {A : Type 0} → Spelling A → List Token → Type 0
   Begins {A} L front = (x : A) × (more : List Token) × L x (front ++ more)
 
-  -- the tokens with which these go on
+  -- the tokens that fit behind a prefix
   abbrev pub Takes : {A : Type 0} → Spelling A → List Token → Fitting
   Takes L front token = Begins L (front ++ token ∷ [])
 
   abbrev pub Sample : {A : Type 0} → Spelling A → Type 0
   Sample {A} L = (x : A) × (own : List Token) × L x own
 
-  -- what is read of the value and the tokens that are left
+  -- what the parser gives, of the value and the tokens that are left
   abbrev pub Shape : Type 0 → Type 0 → Type 0
   Shape A X = A → List Token → X
 
@@ -135,11 +135,11 @@ module _ (limits : Limits) where
   abbrev pub IsErr : {X : Type 0} → Result X RuleFault → Type 0
   IsErr r = (e : RuleFault) × (r ≡ Err e)
 
-  -- no noun goes on with these tokens
+  -- the parser reads no noun behind the prefix
   abbrev pub NoNoun : {X : Type 0} → Reader X → List Token → Type 0
   NoNoun R front = (noun : List ℕ) → IsNoun noun → (more : List Token) → IsErr (R (front ++ Word noun ∷ more))
 
-  -- and because of what stands before it
+  -- a word isn't read behind the prefix as it would repeat a flag, or as no noun would be
   abbrev pub Lack : {X : Type 0} → Reader X → List Token → List ℕ → Type 0
   Lack R front word = RepeatsFlag front word ⊎ NoNoun R front
 
@@ -153,7 +153,7 @@ module _ (limits : Limits) where
   abbrev pub IsErrOn : {X : Type 0} → Fitting → (List ℕ → Type 0) → ℕ → List Token → Result X RuleFault → Type 0
   IsErrOn fits none line tokens r = (e : RuleFault) × (r ≡ Err e) × (e.line ≡ line) × SaysFirst limits 0 fits none tokens e.kind
 
-  -- ---- how it ends
+  -- ---- the two outcomes
 
   pub record IsRead {A X : Type 0} (C : List Token → List Token → Type 0) (shape : Shape A X) (R : Reader X) (L : Spelling A) (tokens : List Token) (found : X) : Type 0 where
     pub value : A
@@ -177,7 +177,7 @@ module _ (limits : Limits) where
     pub says : SaysFirst limits (opened front) (Takes L front) (Lack R front) behind found.kind
     pub new : IsNew front found.kind
 
-  -- this holds of the tokens that are read and those that are left
+  -- either outcome, where C holds of the tokens that are read and of those that are left
   abbrev pub OutcomeBy : {A X : Type 0} → (List Token → List Token → Type 0) → Shape A X → Reader X → Spelling A → ℕ → List Token → Result X RuleFault → Type 0
   OutcomeBy C shape R L line tokens (Ok x) = IsRead C shape R L tokens x
   OutcomeBy C shape R L line tokens (Err e) = IsRefused R L line tokens e
@@ -193,7 +193,7 @@ module _ (limits : Limits) where
     pub sample : Sample L
     pub outcome : (tokens : List Token) → Outcome shape R L line tokens (R tokens)
 
-  -- ---- one reader behind another
+  -- ---- one parser behind another
 
   abbrev pub Joins : {A B : Type 0} → Spelling A → (A → Spelling B) → Spelling B → Type 0
   Joins {A} {B} L M N = (x : A) (y : B) (front back : List Token) → L x front → M x y back → N y (front ++ back)
@@ -201,7 +201,7 @@ module _ (limits : Limits) where
   abbrev pub Samples : {A B : Type 0} → Spelling A → (A → Spelling B) → Type 0
   Samples {A} {B} L M = (x : A) (own : List Token) → L x own → Sample (M x)
 
-  -- behind what is read so, what is left out is new, and the last token no flag
+  -- where C holds of what the first one reads, the second one's fault repeats no flag, and its last token is none
   pub record Parts {A B X Y : Type 0} (C : List Token → List Token → Type 0) (s : Shape A X) (S : X → Result Y RuleFault) (M : A → Spelling B) (line : ℕ) : Type 0 where
     pub new : (own rest : List Token) → C own rest → (x : A) (found : RuleFault) (p : IsRefused (λ ts. S (s x ts)) (M x) line rest found) → IsNew (own ++ p.front) found.kind
     pub last : (own rest : List Token) → C own rest → (x : A) (y : B) (more : List Token) → M x y more → NoFlagLast more → NoFlagLast (own ++ more)
@@ -288,7 +288,7 @@ module _ (limits : Limits) where
 
   -- ---- the first token
 
-  -- the first token is refused, or the end of the line
+  -- nothing is read, and the first token is refused, or the end of the line
   pub refused_here : {A X : Type 0} (shape : Shape A X) (R : Reader X) (L : Spelling A) (line : ℕ) (tokens : List Token) → Sample L → ((more : List Token) → Alike tokens more → IsErrOn (Takes L []) (Lack R []) line more (R more)) → Outcome shape R L line tokens (R tokens)
   refused_here {A} {X} shape R L line tokens sample h =
       let f = h tokens (alike_itself tokens) in
@@ -305,19 +305,19 @@ module _ (limits : Limits) where
         new = none_new f.0.kind;
       })
 
-  -- nothing is read
+  -- nothing is read and no token is taken
   pub passed : {A X : Type 0} (shape : Shape A X) (R : Reader X) (L : Spelling A) (line : ℕ) (tokens : List Token) (x : A) → L x [] → ((more : List Token) → Akin tokens more → R more ≡ Ok (shape x more)) → Outcome shape R L line tokens (R tokens)
   passed shape R L line tokens x is h =
       subst (Outcome shape R L line tokens) (sym (h tokens (akin (alike_itself tokens))))
       (record { value = x; own = []; rest = tokens; is_own = is; inline = inline_none; there = refl; is = refl; kept = h; apart = tt })
 
-  -- the first token is read
+  -- the first token is read alone
   pub took : {A X : Type 0} (shape : Shape A X) (R : Reader X) (L : Spelling A) (line : ℕ) (token : Token) (rest : List Token) (x : A) → IsOwn token → L x (token ∷ []) → ((more : List Token) → R (token ∷ more) ≡ Ok (shape x more)) → Outcome shape R L line (token ∷ rest) (R (token ∷ rest))
   took shape R L line token rest x stays is h =
       subst (Outcome shape R L line (token ∷ rest)) (sym (h rest))
       (record { value = x; own = token ∷ []; rest = rest; is_own = is; inline = inline_token token [] (own_line token stays) inline_none; there = refl; is = refl; kept = λ more alike. h more; apart = own_flag token stays })
 
--- behind the first token another reader goes on, maybe one level further in
+-- behind the first token another parser goes on, maybe one level of nesting further in
 module _ (inner limits : Limits) (bytes : inner.name_bytes ≡ limits.name_bytes) (token : Token) (deep : (front : List Token) → inner.nested ≤ opened front → limits.nested ≤ openings token + opened front) where
   pub led_in : {A X : Type 0} (shape : Shape limits A X) (R S : Reader limits X) (L : Spelling limits A) (line : ℕ) (rest : List Token) → IsOwn limits token → ((more : List Token) → R (token ∷ more) ≡ S more)
       → Outcome inner shape S (λ x own. L x (token ∷ own)) line rest (S rest) → Outcome limits shape R L line (token ∷ rest) (R (token ∷ rest))
@@ -352,7 +352,7 @@ module _ (limits : Limits) where
       → Outcome limits shape S (λ x own. L x (token ∷ own)) line rest (S rest) → Outcome limits shape R L line (token ∷ rest) (R (token ∷ rest))
   led shape R S L line token rest stays h o = led_in limits limits refl token (λ front far. omega (arith, far)) shape R S L line rest stays h o
 
-  -- ---- the same reader, by other words
+  -- ---- the outcome of a parser is that of an equal one
 
   pub same_as : {A X : Type 0} (shape : Shape limits A X) (R S : Reader limits X) (L : Spelling limits A) (line : ℕ) (tokens : List Token) → ((more : List Token) → R more ≡ S more) → Outcome limits shape S L line tokens (S tokens) → Outcome limits shape R L line tokens (R tokens)
   same_as {A} {X} shape R S L line tokens h o = subst (Outcome limits shape R L line tokens) (sym (h tokens)) (by (S tokens) o)
@@ -371,7 +371,7 @@ module _ (limits : Limits) where
         new = o.new;
       }
 
-  -- the same where the first token is the same: the other reader reads something, and some noun
+  -- the same where the first token is equal: the other parser reads something there, and some noun
   pub alike_as : {A X : Type 0} (shape : Shape limits A X) (R S : Reader limits X) (L : Spelling limits A) (line : ℕ) (tokens : List Token) → ((x : A) → L x [] → ⊥) → (NoNoun limits S [] → ⊥) → ((more : List Token) → Alike tokens more → R more ≡ S more)
       → Outcome limits shape S L line tokens (S tokens) → Outcome limits shape R L line tokens (R tokens)
   alike_as {A} {X} shape R S L line tokens some reads h o = subst (Outcome limits shape R L line tokens) (sym (h tokens (alike_itself tokens))) (by (S tokens) o)
@@ -411,26 +411,26 @@ module _ (limits : Limits) where
         new = o.new;
       }
 
-  -- a wider spelling
+  -- what spells more
   pub widen : {A X : Type 0} (shape : Shape limits A X) (R : Reader limits X) (L N : Spelling limits A) (line : ℕ) (tokens : List Token) → ((x : A) (own : List Token) → L x own → N x own) → (r : Result X RuleFault) → Outcome limits shape R L line tokens r → Outcome limits shape R N line tokens r
   widen shape R L N line tokens f (Ok x) o = record { value = o.value; own = o.own; rest = o.rest; is_own = f o.value o.own o.is_own; inline = o.inline; there = o.there; is = o.is; kept = o.kept; apart = o.apart }
   widen shape R L N line tokens f (Err e) o = record { front = o.front; behind = o.behind; there = o.there; begins = (o.begins.0, o.begins.1, f o.begins.0 (o.front ++ o.begins.1) o.begins.2); inline = o.inline; refused = o.refused; here = o.here; says = says_wider limits (opened o.front) (opened o.front) (omega arith) (Takes limits L o.front) (Takes limits N o.front) (λ token b. (b.0, b.1, f b.0 ((o.front ++ token ∷ []) ++ b.1) b.2)) o.behind (λ word r is_word n. n) e.kind o.says; new = o.new }
 
-  -- ---- readers that the first token decides
+  -- ---- parsers that decide by the first token
 
-  -- what the reader does with a first token: it takes it, refuses it, or goes on behind it
+  -- the parser takes the first token, refuses it, or goes on behind it
   pub data Branch {A X : Type 0} (shape : Shape limits A X) (R : Reader limits X) (L : Spelling limits A) (line : ℕ) (token : Token) : Type 0 where
     takes : (x : A) → IsOwn limits token → L x (token ∷ []) → ((more : List Token) → R (token ∷ more) ≡ Ok (shape x more)) → Branch shape R L line token
     refuses : ((more : List Token) → IsErrOn limits (Takes limits L []) (Lack limits R []) line (token ∷ more) (R (token ∷ more))) → Branch shape R L line token
     knows : IsOwn limits token → ((rest : List Token) → Outcome limits shape R L line (token ∷ rest) (R (token ∷ rest))) → Branch shape R L line token
     goes : (S : Reader limits X) → IsOwn limits token → ((more : List Token) → R (token ∷ more) ≡ S more) → Good limits shape S (λ x own. L x (token ∷ own)) line → Branch shape R L line token
 
-  -- it goes on one level further in
+  -- it goes on one level of nesting further in
   pub goes_in : {A X : Type 0} {shape : Shape limits A X} {R : Reader limits X} {L : Spelling limits A} {line : ℕ} {token : Token} (inner : Limits) → inner.name_bytes ≡ limits.name_bytes → ((front : List Token) → inner.nested ≤ opened front → limits.nested ≤ openings token + opened front) → (S : Reader limits X) → IsOwn limits token
       → ((more : List Token) → R (token ∷ more) ≡ S more) → Good inner shape S (λ x own. L x (token ∷ own)) line → Branch shape R L line token
   goes_in {A} {X} {shape} {R} {L} {line} {token} inner bytes deep S stays h good = knows stays (λ rest. led_in inner limits bytes token deep shape R S L line rest stays h (good.outcome rest))
 
-  -- where it refuses the end of the line
+  -- it refuses the end of the line
   pub refused_at_end : {A X : Type 0} (shape : Shape limits A X) (R : Reader limits X) (L : Spelling limits A) (line : ℕ) → ((token : Token) → Branch shape R L line token) → IsErrOn limits (Takes limits L []) (Lack limits R []) line [] (R []) → (more : List Token) → EndsLine more → IsErrOn limits (Takes limits L []) (Lack limits R []) line more (R more)
   refused_at_end {A} {X} shape R L line branch none [] ends = none
   refused_at_end {A} {X} shape R L line branch none (Line number ∷ more) ends = by (branch (Line number))
@@ -467,7 +467,7 @@ module _ (limits : Limits) where
       outcome [] = refused_here limits shape R L line [] sample at_end
       outcome (token ∷ rest) = by token rest (branch token)
 
-  -- ---- nothing more
+  -- ---- a parser behind which nothing more is read
 
   -- ---- small steps
 
@@ -480,14 +480,14 @@ module _ (limits : Limits) where
     outcome = λ tokens. widen shape R L N line tokens f (R tokens) (good.outcome tokens);
   }
 
-  -- the faults of a reader are on its line
+  -- a parser's faults are on its line
   pub on_line : {A X : Type 0} {shape : Shape limits A X} {R : Reader limits X} {L : Spelling limits A} {line : ℕ} → Good limits shape R L line → (tokens : List Token) (e : RuleFault) → R tokens ≡ Err e → e.line ≡ line
   on_line {A} {X} {shape} {R} {L} {line} good tokens e is = by (subst (Outcome limits shape R L line tokens) is (good.outcome tokens))
     where
       by : Outcome limits shape R L line tokens (Err e) → e.line ≡ line
       by o = o.here
 
-  -- a value made of the one that is read
+  -- another value is made of the one that is read
   pub then_done : {A B X : Type 0} {s : Shape limits A X} {R : Reader limits X} {L : Spelling limits A} {N : Spelling limits B} {line : ℕ} (f : A → B) (S : X → Result (B × List Token) RuleFault)
       → ((x : A) (rest : List Token) → S (s x rest) ≡ Ok (f x, rest)) → ((x : A) (own : List Token) → L x own → N (f x) own) → Good limits s R L line → Good limits (pair limits) (λ ts. R ts >>= S) N line
   then_done {A} {B} {X} {s} {R} {L} {N} {line} f S is join good =

@@ -1,5 +1,5 @@
--- What stands in parentheses that are open at a front of tokens: a term or a formula may, as long as no token of
--- formulas alone does.
+-- A parenthesis that is open at the end of a prefix may enclose a term or a formula, as long as no token in it stands
+-- in formulas alone.
 use Rattle.std.proofs.Common.{◌≡◌, ℕ, zero, suc, ◌≤◌, Bool, true, false, List, [], ◌∷◌, ◌++◌, length, refl, sym, ap, subst, ◌∙◌, append_assoc, arith}
 use Rattle.std.specs.Prelude.{codes}
 use Rattle.std.specs.Str.{bytes_eq}
@@ -47,7 +47,7 @@ module _ (spare_bytes deepest spare_statements : ℕ) where
       by (shorter g p q) = shorter g (ap (λ (ts : List Token). u ∷ ts) p ∙ ap (λ (v : Token). v ∷ a ++ g) (sym first)) q
       by (longer v g p q) = longer v g (ap (λ (ts : List Token). t ∷ ts) p ∙ ap (λ (w : Token). w ∷ c ++ v ∷ g) first) q
 
-  -- ---- looking ahead
+  -- ---- the search for a formula
 
   says : (token : Token) (depth : ℕ) (tokens : List Token) → sign_of token ≡ signs.InFormula → opens_formula depth (token ∷ tokens) ≡ true
   unfolding opens_formula
@@ -83,7 +83,7 @@ module _ (spare_bytes deepest spare_statements : ℕ) where
   pub opens_at_end : (front a b : List Token) → EndsLine a → EndsLine b → opens_formula 0 (front ++ a) ≡ opens_formula 0 (front ++ b)
   opens_at_end front a b p q = opens_same front a b (λ depth. ends_closed depth a p ∙ sym (ends_closed depth b q)) 0
 
-  -- what is seen behind a front is seen with any word and `==` behind it
+  -- what the search answers with these tokens behind the prefix, it answers with a word and `==` there
   behind_again : (b : Bool) (sign : Sign) (depth : ℕ) (r q : ℕ → Bool) → ((d : ℕ) → r d ≡ b → q d ≡ b) → opens_behind sign depth r ≡ b → opens_behind sign depth q ≡ b
   behind_again b signs.Opens depth r q h e = h (suc depth) e
   behind_again b signs.Closes zero r q h e = e
@@ -104,19 +104,19 @@ module _ (spare_bytes deepest spare_statements : ℕ) where
       by false h = rw h refl
   seen_again word (token ∷ front) a depth e = behind_again true (sign_of token) depth (λ d. opens_formula d (front ++ a)) (λ d. opens_formula d (front ++ word_and_equals word)) (λ d. seen_again word front a d) e
 
-  -- what is not seen behind a front is not seen with a word behind it that stands elsewhere too
+  -- a word behind the prefix that isn't of formulas alone doesn't let the search find a formula
   pub unseen_again : (word : List ℕ) → is_among formula_words word ≡ false → (front a : List Token) (depth : ℕ) → opens_formula depth (front ++ a) ≡ false → opens_formula depth (front ++ Word word ∷ []) ≡ false
   unfolding opens_formula
   unseen_again word plain [] a depth e = rw plain refl
   unseen_again word plain (token ∷ front) a depth e = behind_again false (sign_of token) depth (λ d. opens_formula d (front ++ a)) (λ d. opens_formula d (front ++ Word word ∷ [])) (λ d. unseen_again word plain front a d) e
 
-  -- in front of these tokens a formula was seen, or a term that is closed
+  -- the search finds a formula in these tokens, or they are a term
   pub formula_seen : {standing : Standing} {level : Level} {nesting start : ℕ} {nodes : List RawFormula} {own : List Token} → SpellsFormula limits standing level nesting start nodes own → (front g b : List Token) (depth : ℕ) → front ≡ own ++ g → opens_formula depth (front ++ b) ≡ true
   formula_seen {own = own} is front g b depth same = rw (same, append_assoc own g b) (formula_says limits is depth (g ++ b))
 
   -- ---- a term in place of a formula
 
-  -- the tokens begin a term
+  -- the tokens are a viable prefix of a term
   abbrev pub BeginsTerm : ℕ → List Token → Type 0
   BeginsTerm nesting front = (more : List Token) × (nodes : List RawNode) × SpellsWholeTerm limits Constant nesting nodes (front ++ more)
 
@@ -142,7 +142,7 @@ module _ (spare_bytes deepest spare_statements : ℕ) where
   pub not_both : (a : Bool) {G : Type 0} → a ≡ true → a ≡ false → G
   not_both a p q = absurd cc
 
-  -- a front of a formula in which no token of formulas alone stands begins a term
+  -- a viable prefix of a formula, without a token of formulas alone, is one of a term
   pub term_instead : {standing : Standing} {level : Level} {nesting start : ℕ} {nodes : List RawFormula} {own : List Token} → SpellsFormula limits standing level nesting start nodes own
       → (front more b : List Token) (depth : ℕ) → own ≡ front ++ more → opens_formula depth (front ++ b) ≡ false → BeginsTerm nesting front
   term_instead (compares {nesting = nesting} {left = left} {front = own} {back = back} pred l r) front more b depth same unseen = by (cut own (Mark (comparison_mark pred) ∷ back) front more same)
@@ -192,7 +192,7 @@ module _ (spare_bytes deepest spare_statements : ℕ) where
 
   -- ---- a term that a parenthesis begins
 
-  -- behind the parenthesis a term stands, one level further in, and another parenthesis
+  -- behind the `(` come a term, one level of nesting further in, and `)`
   pub record Enclosed (nesting : ℕ) (tokens : List Token) : Type 0 where
     pub depth : ℕ
     pub nodes : List RawNode

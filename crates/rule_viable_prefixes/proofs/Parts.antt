@@ -1,4 +1,4 @@
--- Readers of parts of a line: types, the end of the line, and parts that a mark joins.
+-- What the parsers of small parts do: of types, of the end of a line, and of chains by a mark.
 use Rattle.std.proofs.Common.{◌≡◌, ℕ, zero, suc, ◌<◌, ◌≤◌, Bool, true, false, List, [], ◌∷◌, ◌++◌, length, Option, Some, None, Result, Ok, Err, refl, sym, ap, subst, arith, inr}
 use Rattle.std.specs.Prelude.{codes, drop}
 use Rattle.std.specs.Str.{bytes_eq}
@@ -24,7 +24,7 @@ use Rattle.rule_viable_prefixes.proofs.Tolds.{says_misplaced, says_unexpected}
 use Rattle.rule_tokens.specs.Limits.{Limits}
 
 module _ (limits : Limits) where
-  -- ---- spellings without values
+  -- ---- parts, whatever value they spell
 
   abbrev pub Spelled : Part → {A : Type 0} → Spelling limits A
   Spelled P x own = P own
@@ -45,13 +45,13 @@ module _ (limits : Limits) where
   ends_akin tokens more (noun_next word noun a b is) ends = absurd ends
   ends_akin tokens more (ended_next a b p q) ends = q
 
-  -- a token that does not end the line is next in what is alike
+  -- where a token that isn't the end of the line is next, it is next in all tokens with the same lookahead
   only_same : {X : Type 0} (R : Reader limits X) (fits : Fitting) (none : List ℕ → Type 0) (line : ℕ) (token : Token) (rest : List Token) → (EndsLine (token ∷ rest) → ⊥) → ((more : List Token) → IsErrOn limits fits none line (token ∷ more) (R (token ∷ more)))
       → (more : List Token) → Alike (token ∷ rest) more → IsErrOn limits fits none line more (R more)
   only_same R fits none line token rest going h more (same t a b) = h b
   only_same R fits none line token rest going h more (ended a b p q) = absurd (going p)
 
-  -- it is refused, whatever stands behind it
+  -- the first token is refused, whatever is behind it
   pub refused_token : {A X : Type 0} (shape : Shape limits A X) (R : Reader limits X) (L : Spelling limits A) (line : ℕ) (token : Token) (rest : List Token) → Sample limits L → (EndsLine (token ∷ rest) → ⊥)
       → ((more : List Token) → IsErrOn limits (Takes limits L []) (Lack limits R []) line (token ∷ more) (R (token ∷ more))) → Outcome limits shape R L line (token ∷ rest) (R (token ∷ rest))
   refused_token shape R L line token rest sample going h = refused_here limits shape R L line (token ∷ rest) sample (only_same R (Takes limits L []) (Lack limits R []) line token rest going h)
@@ -67,7 +67,7 @@ module _ (limits : Limits) where
       outcome (Line number ∷ rest) = ending (Line number ∷ rest) tt
       outcome (token ∷ rest) = refused_token (bare limits) (line_end line) (Spelled Nothing) line token rest (tt, [], refl) (λ p. p) (λ more. (unexpected line (token ∷ more), refl, refl, says_unexpected limits line token more (λ word is. inr (inr (λ noun is_noun others. (unexpected line (Word noun ∷ others), refl))))))
 
-  -- a part, and the end of the line behind it
+  -- a part, and behind it the end of the line
   pub then_end : {A B : Type 0} {R : Reader limits (A × List Token)} (S : A × List Token → Result (B × List Token) RuleFault) {P : Part} {line : ℕ} (f : A → B)
       → ((x : A) (rest : List Token) → S (x, rest) ≡ (line_end line rest >>= λ behind. Ok (f x, behind))) → Good limits (pair limits) R (Spelled P) line → Good limits (pair limits) (λ ts. R ts >>= S) (Spelled P) line
   then_end {A} {B} {R} S {P} {line} f is good =
@@ -106,9 +106,9 @@ module _ (limits : Limits) where
   unfolding type_at type_in is_digit
   type_good line = by_token limits (8, Word (codes "i8") ∷ [], (8, (codes "i8", type_in-is (codes "i8") 8 refl, refl))) (type_branch line) (fault line Syntax, refl, refl, refl)
 
-  -- ---- parts that a mark joins
+  -- ---- chains of parts by a mark
 
-  -- parts behind others, each behind the mark
+  -- how the parts behind the mark spell the chain
   pub record Joined (mark : List ℕ) (P G : Part) : Type 0 where
     pub none : G []
     pub more : (front back : List Token) → P front → G back → G (Mark mark ∷ front ++ back)

@@ -1,4 +1,4 @@
--- Where the first token stands with which a limit is passed, and the tokens with a mark behind it.
+-- The first token with which a limit is passed, and the tokens with a sentinel behind it.
 use Rattle.std.proofs.Common.{◌≡◌, ℕ, ◌+◌, ◌<◌, ◌≤◌, Bool, true, false, List, [], ◌∷◌, ◌++◌, length, refl, sym, ap, subst, ◌∙◌, ◌⊎◌, inl, inr, arith}
 use Rattle.std.specs.Prelude.{if◌then◌else◌, nat_le}
 use Rattle.std.proofs.lemmas.Bool.{leb-true, leb-false}
@@ -11,7 +11,7 @@ use Rattle.rule_viable_prefixes.specs.Passed.{name_bytes, statements_behind, ope
 use Rattle.rule_viable_prefixes.proofs.Lines.{NamesEndLines}
 use Rattle.rule_viable_prefixes.proofs.Marks.{Marking, State, inline, step, Passed, bytes, levels, half, Kept, Marked, none, cut, over, over_name, later}
 
--- ---- behind tokens
+-- ---- the state behind tokens
 
 abbrev pub run : State → List Token → State
 run s [] = s
@@ -21,7 +21,7 @@ pub run_both : (s : State) (front back : List Token) → run s (front ++ back) �
 run_both s [] back = refl
 run_both s (token ∷ front) back = run_both (step s token) front back
 
--- at the beginning of a text
+-- the state at the beginning of a text
 abbrev pub start : State
 start = inline 0 0 [] false
 
@@ -33,11 +33,11 @@ open_is s (Arrow ∷ tokens) = open_is (step s Arrow) tokens
 open_is s (Register name ∷ tokens) = open_is (step s (Register name)) tokens
 open_is s (token ∷ tokens) = open_is (step s token) tokens
 
--- the statements, where a register that is next begins a line or does not
+-- the count of statements, where a line's number came last or not
 abbrev statements_from : Bool → ℕ → List Token → ℕ
 statements_from begins n tokens = if begins then statements_behind n (Line 0 ∷ tokens) else statements_behind n tokens
 
--- a line's number is followed by no more where another begins
+-- of two lines' numbers one behind the other the first changes nothing
 line_again : (n number : ℕ) (tokens : List Token) → statements_behind n (Line 0 ∷ Line number ∷ tokens) ≡ statements_behind n (Line 0 ∷ tokens)
 line_again n number [] = refl
 line_again n number (Register name ∷ tokens) = refl
@@ -71,7 +71,7 @@ line_is s [] = refl
 line_is s (Line number ∷ tokens) = line_is (step s (Line number)) tokens
 line_is s (token ∷ tokens) = line_is (step s token) tokens
 
--- what is used with a token, as the states say it
+-- the states say how much of the limits is used
 pub open_used : (front : List Token) (token : Token) → (used front token).nested ≡ length (step (run start front) token).pending
 open_used front token = ap length (open_is start (front ++ token ∷ []) ∙ ap (λ (s : State). s.pending) (run_both start front (token ∷ [])))
 
@@ -92,20 +92,20 @@ kept_within limits front token is =
     let h = is.half in
     record { name_bytes = b; nested = omega (arith, l, open_used front token); statements = omega (arith, h, statements_used front token) }
 
--- ---- tokens up to the limit of nodes
+-- ---- tokens with the limit of nodes
 
--- those of a text, and behind the last one maybe the mark of the end of what is read
+-- tokens of a text, maybe with `Excess` behind the last one
 abbrev pub AreLimited : List Token → Type 0
 AreLimited [] = Unit {0}
 AreLimited (token ∷ []) = IsOfText token
 AreLimited (token ∷ next ∷ tokens) = IsOfText token × (((next ≡ Excess) × (tokens ≡ [])) ⊎ AreLimited (next ∷ tokens))
 
--- no limit of names, nesting and statements is passed
+-- with none of the tokens a limit of names, nesting or statements is passed
 abbrev pub KeptAlong : Limits → State → List Token → Type 0
 KeptAlong limits s [] = Unit {0}
 KeptAlong limits s (token ∷ tokens) = Kept limits s token × KeptAlong limits (step s token) tokens
 
--- the first token with which one is, or that of nodes
+-- the first token with which one of these is passed, or the one before `Excess`
 pub record Placed (limits : Limits) (s : State) (tokens : List Token) : Type 0 where
   pub front : List Token
   pub token : Token
@@ -158,19 +158,19 @@ place limits s (token ∷ next ∷ tokens) (of, more) = by (decide limits s toke
     by (inl kept) (inl (is, none_)) again = inr (placed_here limits s token (next ∷ tokens) of (inr (kept, ap (λ (t : Token). t ∷ tokens) is ∙ ap (λ (ts : List Token). Excess ∷ ts) none_)))
     by (inl kept) (inr are) again = further kept (again are)
 
--- ---- marked tokens
+-- ---- tokens with the sentinel
 
--- how many bytes the names have
+-- how many bytes all names have
 abbrev pub bytes_in : List Token → ℕ
 bytes_in [] = 0
 bytes_in (token ∷ tokens) = name_bytes token + bytes_in tokens
 
--- behind the name of a rule the mark begins a line
+-- behind a rule's name a line's number comes before the sentinel
 abbrev pub gap : ℕ → Token → List Token
 gap number (Name text) = Line number ∷ []
 gap number token = []
 
--- what stands behind the mark
+-- what comes behind the sentinel: the rest, or nothing where the sentinel is in the place of `Excess`
 abbrev pub behind_mark : {A B : Type 0} → A ⊎ B → List Token → List Token
 behind_mark (inl passed) rest = rest
 behind_mark (inr full) rest = []
@@ -178,19 +178,19 @@ behind_mark (inr full) rest = []
 abbrev pub marks : (c : Marking) (s : State) (tokens : List Token) → Placed c.limits s tokens → List Token
 marks c s tokens p = p.front ++ p.token ∷ (gap (c.anew (run s p.front).line) p.token ++ c.mark ∷ behind_mark p.passes p.rest)
 
--- where nothing is passed the tokens are marked so
+-- where no limit is passed, there is no sentinel
 pub unmarked : (c : Marking) (s : State) (tokens : List Token) → KeptAlong c.limits s tokens → AreOfText tokens → NamesEndLines tokens → Marked c s tokens tokens
 unmarked c s [] kept of names = none
 unmarked c s (Name text ∷ tokens) kept of names = later (Name text) tokens tokens (tt, names.0) kept.0 (unmarked c (step s (Name text)) tokens kept.1 of.1 names.1)
 unmarked c s (token ∷ tokens) kept of names = later token tokens tokens (of.0, tt) kept.0 (unmarked c (step s token) tokens kept.1 of.1 names)
 
--- behind tokens with which nothing is passed
+-- the sentinel comes behind tokens with which none is passed
 pub marked_behind : (c : Marking) (s : State) (front a b : List Token) → KeptAlong c.limits s front → AreOfText front → NamesEndLines (front ++ a) → Marked c (run s front) a b → Marked c s (front ++ a) (front ++ b)
 marked_behind c s [] a b kept of names more = more
 marked_behind c s (Name text ∷ front) a b kept of names more = later (Name text) (front ++ a) (front ++ b) (tt, names.0) kept.0 (marked_behind c (step s (Name text)) front a b kept.1 of.1 names.1 more)
 marked_behind c s (token ∷ front) a b kept of names more = later token (front ++ a) (front ++ b) (of.0, tt) kept.0 (marked_behind c (step s token) front a b kept.1 of.1 names more)
 
--- a name passes the limit of names alone
+-- a rule's name passes the limit of names or none
 name_long : (limits : Limits) (s : State) (text : List ℕ) → length s.pending ≤ limits.nested → s.statements ≤ limits.statements → Passed limits s (Name text) → limits.name_bytes < length text
 name_long limits s text deep room (bytes more) = more
 name_long limits s text deep room (levels more) = absurd (omega (arith, more, deep))
@@ -201,7 +201,7 @@ names_rest [] rest names = names
 names_rest (Name text ∷ front) rest names = names_rest front rest names.1
 names_rest (token ∷ front) rest names = names_rest front rest names
 
--- what is open behind tokens with which nothing is passed is within the limits
+-- behind tokens with which none is passed the state is within the limits
 pub kept_run : (limits : Limits) (s : State) (front : List Token) → length s.pending ≤ limits.nested → s.statements ≤ limits.statements → KeptAlong limits s front → (length (run s front).pending ≤ limits.nested) × ((run s front).statements ≤ limits.statements)
 kept_run limits s [] deep room kept = (deep, room)
 kept_run limits s (token ∷ front) deep room kept = kept_run limits (step s token) front kept.0.levels kept.0.half kept.1

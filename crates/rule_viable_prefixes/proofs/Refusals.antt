@@ -1,4 +1,4 @@
--- What is read of the tokens of a text up to and with one too many, and lists of tokens that are split.
+-- The fault of a text as that of its tokens with the limit of nodes; and lists of tokens that are cut in two.
 use Rattle.std.proofs.Common.{◌≡◌, ℕ, List, [], ◌∷◌, ◌++◌, Err, refl, sym, ap, ◌∙◌, append_assoc, ◌⊎◌, inl, inr, arith}
 use Rattle.std.proofs.lemmas.List.{append-nil}
 use Rattle.scan.specs.Laws.{OneTokenAtAPlace}
@@ -16,24 +16,24 @@ use Rattle.rule_parse.proofs.Counts.{kept_up_to_the_limit}
 use Rattle.rule_parse.proofs.Cuts.{of_back}
 use Rattle.rule_parse.proofs.Weight.{file_of_text}
 
--- the fault is that of the reading of these tokens
+-- the fault of a text is that of these tokens
 pub fault_of : (limits : Limits) → OneTokenAtAPlace → (text : List ℕ) (tokens : List Token) (last : ℕ) (found : RuleFault) → AreTokens text tokens last → IsFaultWithin limits text found → all_rules limits last (limited tokens) ≡ Err found
 fault_of limits one text tokens last found are fault =
     let same = one_reading one text are (omega arith) fault.tokens fault.last fault.are_tokens in
     ap (λ (ts : List Token). all_rules limits last (limited ts)) same.0 ∙ ap (λ (l : ℕ). all_rules limits l (limited fault.tokens)) same.1 ∙ fault.found
 
--- tokens within the limit are kept whole
+-- where no rule passes the limit of nodes, all tokens are kept
 pub kept_whole : (tokens : List Token) → IsWithinLimit tokens → limited tokens ≡ tokens
 kept_whole tokens within = elim (kept_up_to_the_limit tokens) [
   | inl (also, same) ↦ same
   | inr c ↦ let few = within (c.front ++ c.token ∷ []) c.rest (c.whole ∙ sym (append_assoc c.front (c.token ∷ []) c.rest)) in absurd (omega (arith, few, c.passed))
 ]
 
--- rules have no mark of the end of what is read
+-- tokens that spell rules have no `Excess`
 pub no_mark : (limits : Limits) (front more : List Token) (rules : List RawRule) → SpellsFile limits rules (front ++ Excess ∷ more) → ⊥
 no_mark limits front more rules is = (of_back front (Excess ∷ more) (file_of_text limits rules (front ++ Excess ∷ more) is)).0
 
--- where two lists of tokens are split, the one front is the other and more
+-- of two cuts of one list, the first part of one is a prefix of that of the other
 pub split : (xs ys vs ws : List Token) → xs ++ ys ≡ vs ++ ws
     → ((g : List Token) × (vs ≡ xs ++ g) × (ys ≡ g ++ ws)) ⊎ ((t : Token) × (g : List Token) × (xs ≡ vs ++ t ∷ g) × (ws ≡ t ∷ g ++ ys))
 split [] ys vs ws e = inl (vs, refl, e)
@@ -46,7 +46,7 @@ split (x ∷ xs) ys (v ∷ vs) ws e =
       | inr (t, g, p, q) ↦ inr (t, g, ap (λ (u : Token). u ∷ xs) first ∙ ap (λ (ts : List Token). v ∷ ts) p, q)
     ]
 
--- Of two tokens of which this does not hold, and before which it does of each, both are one.
+-- the first token of which P does not hold is one
 pub one_place : (P : List Token → Token → Type 0) (tokens f g : List Token) (t u : Token) (x y : List Token) → tokens ≡ f ++ t ∷ x → tokens ≡ g ++ u ∷ y
     → ((before : List Token) (earlier : Token) (more : List Token) → f ≡ before ++ earlier ∷ more → P before earlier) → ¬ P f t
     → ((before : List Token) (earlier : Token) (more : List Token) → g ≡ before ++ earlier ∷ more → P before earlier) → ¬ P g u → (f ≡ g) × (t ≡ u)

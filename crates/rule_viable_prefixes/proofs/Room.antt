@@ -1,4 +1,4 @@
--- What fits within limits that have room for tokens, and what does not however wide the limits are.
+-- What fits within limits that are wide enough for the tokens; and what then fits within none.
 use Rattle.std.proofs.Common.{◌≡◌, ℕ, suc, ◌+◌, ◌<◌, ◌≤◌, List, [], ◌∷◌, ◌++◌, length, Result, Ok, Err, refl, sym, ap, subst, ◌∙◌, append_assoc, length-append, ◌⊎◌, inl, inr, arith}
 use Rattle.rule_tokens.specs.declared.fault.RuleFaultKind.{RuleFaultKind}
 use Rattle.rule_tokens.specs.declared.fault.RuleFaultKind.TheVariants.{BadByte, TooMany}
@@ -25,9 +25,9 @@ use Rattle.rule_viable_prefixes.proofs.WherePassed.{only_bad, few_opened, length
 use Rattle.rule_viable_prefixes.proofs.Wider.{Below, same_answer, too_many}
 use Rattle.rule_viable_prefixes.proofs.WiderRules.{all_rules_below}
 
--- ---- room
+-- ---- limits that are wide enough
 
--- the levels and statements behind each of the tokens
+-- the most nesting and statements behind any of the tokens
 abbrev pub levels_in : State → List Token → ℕ
 levels_in s [] = 0
 levels_in s (token ∷ tokens) = length (step s token).pending + levels_in (step s token) tokens
@@ -62,7 +62,7 @@ pub kept_before : (limits : Limits) (s : State) (front back : List Token) → Ke
 kept_before limits s [] back kept = tt
 kept_before limits s (token ∷ front) back kept = (kept.0, kept_before limits (step s token) front back kept.1)
 
--- neither the number of a line nor a mark passes anything
+-- no limit is passed with a line's number, nor with the sentinel
 module _ (limits : Limits) (front : List Token) (kept : KeptAlong limits start front) where
   room : (length (run start front).pending ≤ limits.nested) × ((run start front).statements ≤ limits.statements)
   room = kept_run limits start front (omega arith) (omega arith) kept
@@ -73,7 +73,7 @@ module _ (limits : Limits) (front : List Token) (kept : KeptAlong limits start f
   kept_bad : KeptAlong limits start (front ++ Bad ∷ [])
   kept_bad = let r = room in kept_both limits start front (Bad ∷ []) kept (record { bytes = omega arith; levels = omega (arith, r.0); half = omega (arith, r.1) }, tt)
 
--- ---- other tokens behind the same ones
+-- ---- other tokens behind the same prefix
 
 pub ends_swapped : (front a b : List Token) → (EndsLine a → EndsLine b) → EndsLine (front ++ a) → EndsLine (front ++ b)
 ends_swapped [] a b h ended = h ended
@@ -93,7 +93,7 @@ gap_names : (n : ℕ) (token m : Token) (kind : RuleFaultKind) → IsMark m kind
 gap_names n (Name text) m kind is = (tt, mark_names m kind is [] tt)
 gap_names n token m kind is = mark_names m kind is [] tt
 
--- ---- a byte that may not stand behind tokens that fit
+-- ---- a byte that may not stand, behind a viable prefix
 
 module _ (b n s : ℕ) (some : 1 ≤ n) (last : ℕ) where
   abbrev wide : Limits
@@ -108,7 +108,7 @@ module _ (b n s : ℕ) (some : 1 ≤ n) (last : ℕ) where
   within : AreWithin wider wide
   within = record { name_bytes = omega arith; nested = omega arith; statements = omega arith }
 
-  -- is told
+  -- it is told as `BadByte`
   bad_told : (front : List Token) → EndsLine (front ++ Excess ∷ []) → NamesEndLines (front ++ Excess ∷ []) → AreOfText front → KeptAlong wide start front → FitsWithin wide front
       → (line : ℕ) × (all_rules wider last (front ++ Bad ∷ []) ≡ Err (fault line BadByte))
   bad_told front ended names of kept fits = by (all_rules wide last (front ++ Excess ∷ [])) refl
@@ -128,7 +128,7 @@ module _ (b n s : ℕ) (some : 1 ≤ n) (last : ℕ) where
           let marked = told_marked marking found.line (all_rules wide last (front ++ Excess ∷ [])) (all_rules wider last (front ++ Bad ∷ [])) (file_same marking some last (front ++ Excess ∷ []) (front ++ Bad ∷ []) ended (marked_behind marking start front (Excess ∷ []) (Bad ∷ []) kept of names cut)) told in
           (marked.0, marked.1)
 
-  -- and does not fit
+  -- and it does not fit
   pub bad_unfit : (front : List Token) → EndsLine (front ++ Bad ∷ []) → NamesEndLines (front ++ Bad ∷ []) → AreOfText front → KeptAlong wide start front → FitsBehindWithin wide front Bad → ⊥
   bad_unfit front ended names of kept fits =
       let told = bad_told front (ends_swapped front (Bad ∷ []) (Excess ∷ []) (λ e. absurd e) ended) (names_swapped front (Bad ∷ []) (Excess ∷ []) (λ e. absurd e) tt names) of kept (fits_front wide front (Bad ∷ []) fits) in
@@ -138,7 +138,7 @@ module _ (b n s : ℕ) (some : 1 ≤ n) (last : ℕ) where
       by line (inr end) = let kind = end.kind in absurd cc
       by line (inl at) = at.misfit (fits_before wider (front ++ Bad ∷ []) at.front at.token at.behind at.stands (fits_wider wide wider within (front ++ Bad ∷ []) fits))
 
--- ---- what does not fit within limits with room for it
+-- ---- a token that does not fit within limits that are wide enough for it
 
 module _ (b n s x y z : ℕ) (some : 1 ≤ n) (wider_is : AreWithin (roomy x y z) (roomy b n s)) (last : ℕ) where
   abbrev narrow : Limits
@@ -156,7 +156,8 @@ module _ (b n s x y z : ℕ) (some : 1 ≤ n) (wider_is : AreWithin (roomy x y z
   some_broad : 1 ≤ y
   some_broad = let v = wider_is.nested in omega (arith, some, v)
 
-  -- the first token that does not fit within the narrow ones is such a byte, where all fit within the broad ones
+  -- where all tokens fit within the wider limits, the first one that does not fit within the narrower ones is such a
+  -- byte
   module _ (all front : List Token) (token : Token) (others : List Token) (stands : all ≡ front ++ token ∷ others) (of : AreOfText all) (kept : KeptAlong narrow start all) (small : length all + 1 < n)
       (fits : FitsWithin narrow front) (misfit : ¬ FitsBehindWithin narrow front token) (ended : EndsLine (all ++ Bad ∷ [])) (names : NamesEndLines (all ++ Bad ∷ [])) where
     at_bad : (line : ℕ) → AtToken b n s (all ++ Bad ∷ []) (fault line BadByte) ⊎ AtEnd b n s (all ++ Bad ∷ []) last (fault line BadByte) → token ≡ Bad
@@ -176,7 +177,7 @@ module _ (b n s x y z : ℕ) (some : 1 ≤ n) (wider_is : AreWithin (roomy x y z
         by line told (too_many k is) = absurd (none_told narrow some last (all ++ Bad ∷ []) ended names (of_both all (Bad ∷ []) of (tt, tt)) (kept_bad narrow all kept) k is)
         by line told (same_answer same) = at_bad line (where_refused b n s last (all ++ Bad ∷ []) (fault line BadByte) ended names (same ∙ told))
 
-  -- behind a name on a line of its own
+  -- behind a rule's name, on a line of its own
   gap_short : (line : ℕ) (token : Token) → length (gap line token) ≤ 1
   gap_short line (Name text) = omega arith
   gap_short line token = omega arith
@@ -206,7 +207,7 @@ module _ (b n s x y z : ℕ) (some : 1 ≤ n) (wider_is : AreWithin (roomy x y z
           fits misfit (ended_with front token behind ended names line Bad) (names_with front token behind ended names line Bad BadByte bad)
           (ended_with front token behind ended names line Excess) (names_with front token behind ended names line Excess TooMany excess) all_fit
 
-      -- such a byte does not fit
+      -- a byte that may not stand does not fit
       not_bad : token ≡ Bad → ⊥
       not_bad is =
           let no_line : EndsLine (token ∷ behind) → EndsLine (Bad ∷ []) = λ e. subst (λ (t : Token). EndsLine (t ∷ behind)) is e in

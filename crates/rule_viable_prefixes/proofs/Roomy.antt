@@ -1,4 +1,4 @@
--- Limits within which a name of two bytes and a statement are.
+-- Limits that leave room for a name of two bytes and for a statement.
 use Rattle.std.specs.Prelude.{ℕ, suc}
 use Rattle.rule_tokens.specs.Limits.{Limits}
 

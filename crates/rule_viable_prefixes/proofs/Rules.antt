@@ -1,4 +1,4 @@
--- What the readers of lines do: each is read whole, or refused within a line, or missed at the end of the text.
+-- What the parsers of lines do: each reads its part, or refuses a token in it, or misses a line at the end of the text.
 use Rattle.std.proofs.Common.{◌≡◌, ℕ, ◌+◌, List, [], ◌∷◌, ◌++◌, Result, Ok, Err, refl, sym, ap, subst, ◌∙◌, append_assoc, ◌⊎◌, inl, inr, arith}
 use Rattle.std.proofs.lemmas.List.{append-nil}
 use Rattle.rule_tokens.specs.declared.fault.RuleFaultKind.TheVariants.{Syntax}
@@ -17,17 +17,17 @@ use Rattle.rule_viable_prefixes.proofs.Parts.{Spelled}
 use Rattle.rule_tokens.specs.Limits.{Limits}
 
 module _ (limits : Limits) where
-  -- ---- what readers of lines do
+  -- ---- what parsers of lines do
 
-  -- some tokens of the part, and of what may follow it, begin with these
+  -- the tokens are a viable prefix of the part with what may follow it
   abbrev pub Completes : Part → Part → List Token → Type 0
   Completes L F front = (more : List Token) × (L ⨾ F) (front ++ more)
 
-  -- what may follow begins a line, of any number
+  -- what may follow begins a line, with any number
   abbrev pub Opens : Part → Type 0
   Opens F = (number : ℕ) → (more : List Token) × F (Line number ∷ more)
 
-  -- the tokens that go on with a line
+  -- the tokens that fit on this line behind the prefix
   abbrev pub GoesOn : Part → Part → ℕ → List Token → Fitting
   GoesOn L F number front token = Completes L F (Line number ∷ front ++ token ∷ [])
 
@@ -41,7 +41,7 @@ module _ (limits : Limits) where
     pub is : found ≡ shape value rest
     pub kept : (number : ℕ) (a b : List Token) → rest ≡ Line number ∷ a → Akin a b → R (own ++ Line number ∷ b) ≡ Ok (shape value (Line number ∷ b))
 
-  -- refused behind a front that begins with a line
+  -- refused: the fault is behind a viable prefix that begins with a line's number
   pub record Within {X : Type 0} (R : Reader limits X) (L F : Part) (tokens : List Token) (found : RuleFault) : Type 0 where
     pub number : ℕ
     pub front : List Token
@@ -53,7 +53,7 @@ module _ (limits : Limits) where
     pub says : SaysFirst limits (openings_on_line front) (GoesOn L F number front) (Lack limits (λ ts. R (Line number ∷ ts)) front) behind found.kind
     pub new : IsNew front found.kind
 
-  -- missed at the end of the text, where another line may begin
+  -- missed: the fault is at the end of the text, where another line may begin
   pub record Missed (L F : Part) (last : ℕ) (tokens : List Token) (found : RuleFault) : Type 0 where
     pub begins : (number : ℕ) → Completes L F (tokens ++ Line number ∷ [])
     pub here : found.line ≡ last
@@ -75,20 +75,20 @@ module _ (limits : Limits) where
   unfolding line_behind
   begins_line number line tokens = refl
 
-  -- marks that open levels on a line of its own
+  -- marks that may open a level count from the beginning of their line
   pub on_new_line : (own front : List Token) (before number : ℕ) → openings_behind before (own ++ Line number ∷ front) ≡ openings_on_line front
   on_new_line [] front before number = refl
   on_new_line (Line other ∷ own) front before number = on_new_line own front 0 number
   on_new_line (token ∷ own) front before number = on_new_line own front (before + openings token) number
 
-  -- and on the same line as those before
+  -- and on one line they add up
   on_one_line : (front : List Token) (before : ℕ) → Inline limits front → openings_behind before front ≡ before + opened front
   unfolding line_behind
   on_one_line [] before inline = omega arith
   on_one_line (Line number ∷ front) before inline = let zero_line = inline 0 [] in let one_line = inline 1 [] in let both = sym zero_line ∙ one_line in absurd (omega (arith, both))
   on_one_line (token ∷ front) before inline = let rest = on_one_line front (before + openings token) inline in omega (arith, rest)
 
-  -- the line of tokens behind others that begin a line
+  -- the line that tokens end on does not depend on the lines before theirs
   pub line_of_both : (own front : List Token) (line number : ℕ) → line_behind line (own ++ Line number ∷ front) ≡ line_behind number front
   line_of_both own front line number = lines_of own (Line number ∷ front) line ∙ begins_line number (line_behind line own) front
 
@@ -99,7 +99,7 @@ module _ (limits : Limits) where
   starts_line (Line number) own rest ends = (number, refl)
   starts_line token own rest ends = absurd ends
 
-  -- ---- one reader behind another
+  -- ---- one parser behind another
 
   completes_first : (L M F : Part) (front : List Token) → Completes L (M ⨾ F) front → Completes (L ⨾ M) F front
   completes_first L M F front (more, (a, rest, l, (b, c, m, f, second), first)) =
@@ -131,7 +131,7 @@ module _ (limits : Limits) where
       by (Err e) is (inr m) = inr (record { begins = λ number. completes_first L M F (tokens ++ Line number ∷ []) (m.begins number); here = m.here; says = m.says })
       by (Ok x) is o = behind (S x) (subst (λ (y : X). Verdict t (λ ts. S (s o.value ts)) M F last o.rest (S y)) (sym o.is) (two o.value o.rest (is ∙ ap Ok o.is) o.ends))
         where
-          -- what the first one reads stands, where the second one goes on alike
+          -- what the first parser reads is the same with other tokens behind, where the second one's first token is
           kept : (number : ℕ) (a b : List Token) → o.rest ≡ Line number ∷ a → Akin a b → (R (o.own ++ Line number ∷ b) >>= S) ≡ S (s o.value (Line number ∷ b))
           kept number a b there alike = rw (o.kept number a b there alike) refl
 
@@ -218,9 +218,9 @@ module _ (limits : Limits) where
             says = m.says;
           })
 
-  -- ---- a reader of one line
+  -- ---- a parser of one line
 
-  -- behind the number of its line a reader of the line goes on, and ends it
+  -- behind a line's number the parser of that line reads, to its end
   pub on_a_line : {A X : Type 0} (shape : Shape limits A X) (R : Reader limits X) (L F : Part) (last number : ℕ) (tokens : List Token) → (more : List Token) × F more
       → ((x : A) (rest : List Token) → R (Line number ∷ tokens) ≡ Ok (shape x rest) → EndsLine rest)
       → Outcome limits shape (λ ts. R (Line number ∷ ts)) (Spelled limits (λ own. L (Line number ∷ own)) {A = A}) number tokens (R (Line number ∷ tokens)) → Verdict shape R L F last (Line number ∷ tokens) (R (Line number ∷ tokens))
@@ -255,7 +255,7 @@ module _ (limits : Limits) where
           nothing_behind : (n : ℕ) → line_behind n [] ≡ n
           nothing_behind n = Rattle.rule_viable_prefixes.proofs.Outcomes.none_behind limits n
 
-  -- a wider part
+  -- what spells more
   pub verdict_wider : {A X : Type 0} (shape : Shape limits A X) (R : Reader limits X) (L N F : Part) (last : ℕ) (tokens : List Token) → ((own : List Token) → L own → N own) → (r : Result X RuleFault) → Verdict shape R L F last tokens r → Verdict shape R N F last tokens r
   verdict_wider shape R L N F last tokens f (Ok x) o = record { value = o.value; own = o.own; rest = o.rest; is_own = f o.own o.is_own; there = o.there; ends = o.ends; is = o.is; kept = o.kept }
   verdict_wider shape R L N F last tokens f (Err e) (inl w) = inl (record {

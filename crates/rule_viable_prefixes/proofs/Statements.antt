@@ -1,4 +1,4 @@
--- What the readers of operands, operations and statements do on a line.
+-- What the parsers of operands, operations and statements do on a line.
 use Rattle.std.proofs.Common.{◌≡◌, ℕ, ◌<◌, Bool, true, false, List, [], ◌∷◌, ◌++◌, length, map, Option, Some, None, Ok, refl, sym, ap, subst, ◌∙◌, append_assoc, ◌≤◌, Result, Err, inl, inr, arith}
 use Rattle.std.specs.Prelude.{IsTrue, codes}
 use Rattle.std.specs.Str.{bytes_eq}
@@ -73,7 +73,7 @@ module _ (spare_bytes deepest spare_statements : ℕ) (version : Version) where
   abbrev limits : Limits
   limits = roomy spare_bytes deepest spare_statements
 
-  -- ---- spellings without values
+  -- ---- what spells an operand, whatever its value
 
   abbrev pub IsArgument : Half → Part
   IsArgument half own = (a : RawArgument) × SpellsArgument limits half a own
@@ -101,7 +101,7 @@ module _ (spare_bytes deepest spare_statements : ℕ) (version : Version) where
   undef_sample : (half : Half) → IsArgument half (Word (codes "undef") ∷ [])
   undef_sample half = (arguments.Undef, refl)
 
-  -- a register whose name is too long
+  -- a register with a name that is too long
   long_register : (half : Half) (name : List ℕ) → limits.name_bytes < length name → IsTooMany limits 0 (Takes limits (Spelled limits (IsArgument half) {A = RawArgument}) []) (Register name)
   long_register half name long = reasons.register name (codes "a", long, omega arith, tt, tt, (arguments.Register (codes "a"), [], (arguments.Register (codes "a"), (omega arith, refl))))
 
@@ -133,7 +133,7 @@ module _ (spare_bytes deepest spare_statements : ℕ) (version : Version) where
   source_branch line (Word word) = source_word_branch line word
   source_branch line token = refuses (λ more. (unexpected line (token ∷ more), refl, refl, says_unexpected limits line token more (λ word is. absurd cc)))
 
-  -- tokens that another reader reads the same way
+  -- tokens that another parser reads in the same way
   same_reading : {X : Type 0} (R S : Reader limits X) (token : Token) (rest : List Token) → (EndsLine (token ∷ rest) → ⊥) → ((more : List Token) → R (token ∷ more) ≡ S (token ∷ more)) → (more : List Token) → Alike (token ∷ rest) more → R more ≡ S more
   same_reading R S token rest going h more (same t a b) = h b
   same_reading R S token rest going h more (ended a b p q) = absurd (going p)
@@ -303,12 +303,12 @@ module _ (spare_bytes deepest spare_statements : ℕ) (version : Version) where
   none_added : (set : Flags) (before : Flags) → Adds set before []
   none_added set before = ([], before, refl, refl)
 
-  -- ---- a flag again
+  -- ---- a repeated flag
 
   abbrev flag_tokens : List Flag → List Token
   flag_tokens flags = map (λ flag. Word (flag_keyword flag)) flags
 
-  -- the flags of an instruction are read
+  -- the flags of an instruction are read one by one
   flags_read : (set : Flags) (line : ℕ) (written : List Flag) (before after : Flags) (more : List Token) → AddsFlags set before written after → flags_at set line before (flag_tokens written ++ more) ≡ flags_at set line after more
   flags_read set line [] before after more adds = ap (λ (flags : Flags). flags_at set line flags more) adds
   flags_read set line (flag ∷ written) before after more (takes_, new, adds) =
@@ -320,7 +320,7 @@ module _ (spare_bytes deepest spare_statements : ℕ) (version : Version) where
       (own, first, ap (λ (flags : Flags). with_flag flags flag) adds)
   one_more set (f ∷ written) before middle flag (takes_, new_, adds) own new = (takes_, new_, one_more set written (with_flag before f) middle flag adds own new)
 
-  -- as words
+  -- the words of flags
   flag_words : List Flag → List (List ℕ)
   flag_words flags = map flag_keyword flags
 
@@ -338,7 +338,7 @@ module _ (spare_bytes deepest spare_statements : ℕ) (version : Version) where
   flags_inline [] = inline_none limits
   flags_inline (flag ∷ written) = inline_token limits (Word (flag_keyword flag)) (flag_tokens written) tt (flags_inline written)
 
-  -- a flag that is new is the one that is added
+  -- of two flags, a new one that is there afterwards is the one that was added
   added_is : (before : Flags) (f flag : Flag) → has_flag before flag ≡ false → has_flag (with_flag before f) flag ≡ true → flag ≡ f
   added_is before Nuw Nuw new has = refl
   added_is before Nsw Nsw new has = refl
@@ -366,14 +366,14 @@ module _ (spare_bytes deepest spare_statements : ℕ) (version : Version) where
   has_none Disjoint = refl
   has_none SameSign = refl
 
-  -- flags of the operation are read, and none is next
+  -- flags that the instruction takes are read, and none of them is next
   abbrev OwnFlags : Flags → List Token → List Token → Type 0
   OwnFlags set own rest = Adds set no_flags own × (next_flag set rest ≡ None)
 
   abbrev FlagsAre : Flags → ℕ → List Token → Type 0
   FlagsAre set line tokens = OutcomeBy limits (OwnFlags set) (pair limits) (flags_at set line no_flags) (Spelled limits (Adds set no_flags)) line tokens (flags_at set line no_flags tokens)
 
-  -- behind these flags no other stands
+  -- no other flag of the instruction fits behind these flags
   no_more_flags : (set : Flags) (line : ℕ) (written : List Flag) (before : Flags) (tokens : List Token) → AddsFlags set no_flags written before → next_flag set tokens ≡ None → FlagsAre set line (flag_tokens written ++ tokens)
   no_more_flags set line written before tokens adds none =
       subst (OutcomeBy limits (OwnFlags set) (pair limits) (flags_at set line no_flags) (Spelled limits (Adds set no_flags)) line (flag_tokens written ++ tokens)) (sym (kept tokens (akin (alike_itself tokens))))
@@ -382,7 +382,7 @@ module _ (spare_bytes deepest spare_statements : ℕ) (version : Version) where
       kept : (more : List Token) → Akin tokens more → flags_at set line no_flags (flag_tokens written ++ more) ≡ Ok (before, more)
       kept more alike = flags_read set line written no_flags before more adds ∙ flags_done limits set line before more (no_flag set tokens more alike none)
 
-  -- or one of them again
+  -- nor does one of them once more
   flag_again : (set : Flags) (line : ℕ) (written : List Flag) (before : Flags) (flag : Flag) (word : List ℕ) (rest : List Token) → AddsFlags set no_flags written before → flag_in set word ≡ Some flag → has_flag before flag ≡ true → FlagsAre set line (flag_tokens written ++ Word word ∷ rest)
   flag_again set line written before flag word rest adds found has =
       subst (OutcomeBy limits (OwnFlags set) (pair limits) (flags_at set line no_flags) (Spelled limits (Adds set no_flags)) line (flag_tokens written ++ Word word ∷ rest)) (sym (again rest))
@@ -425,7 +425,7 @@ module _ (spare_bytes deepest spare_statements : ℕ) (version : Version) where
 
   -- ---- what stands behind flags
 
-  -- a flag that stands there is one of the operation
+  -- a flag that is there already is one of the instruction
   repeated_own : (set : Flags) (written : List Flag) (before after : Flags) (left : List ℕ) → AddsFlags set before written after → RepeatsFlag (flag_tokens written) left → flag_in set left ≡ None → ⊥
   repeated_own set [] before after left adds ([], words, flags, whole) none = cc
   repeated_own set [] before after left adds (t ∷ first, words, flags, whole) none = cc
@@ -434,7 +434,7 @@ module _ (spare_bytes deepest spare_statements : ℕ) (version : Version) where
       let both = sym (flag_in-of set f takes_) ∙ ap (flag_in set) same_flag ∙ none in absurd cc
   repeated_own set (f ∷ written) before after left (takes_, new, adds) (t ∷ first, words, flags, whole) none = repeated_own set written (with_flag before f) after left adds (first, words, flags, cc) none
 
-  -- what is left out is the next word
+  -- the word that is left out is the next token
   word_left : (before : ℕ) (fits : Fitting) (none : List ℕ → Type 0) (tokens : List Token) (kind : RuleFaultKind) (left : List ℕ) → SaysFirst limits before fits none tokens kind → kind ≡ LeftOut left → (more : List Token) × (tokens ≡ Word left ∷ more)
   word_left before fits none [] kind left says is = let both = sym says ∙ is in absurd cc
   word_left before fits none (Excess ∷ tokens) kind left told is = let both = sym (told.excess refl) ∙ is in absurd cc
@@ -477,7 +477,7 @@ module _ (spare_bytes deepest spare_statements : ℕ) (version : Version) where
       by None is = rw is (begins_no_truth op back rest (argument_begins limits half a.value back argument))
       by (Some width) (word, type_, is) = rw is (type_is_no_truth_flag limits op word width type_)
 
-  -- an operand stands there, and no flag begins it
+  -- an operand is behind the flags, and it begins with no flag
   some_behind : (half : Half) (a : RawOperand) (front back : List Token) → SpellsOperand limits half a front → [] ≡ front ++ back → ⊥
   some_behind half a [] back is none = some_operand half (a, is)
   some_behind half a (t ∷ front) back is none = absurd cc
@@ -505,7 +505,7 @@ module _ (spare_bytes deepest spare_statements : ℕ) (version : Version) where
   pair_other : (half : Half) (token : Token) (tokens : List Token) → IsPair half (token ∷ tokens) → NoFlag token
   pair_other half token tokens (a, b, (front, back, operand, others, whole)) = operand_other half a front back token tokens operand whole
 
-  -- What stands behind flags takes a token that is none.
+  -- what is read behind flags begins with a token that is no flag
   flags_parts : {B Y : Type 0} (set : Flags) (M : Part) → (M [] → ⊥) → ((token : Token) (tokens : List Token) → M (token ∷ tokens) → NoFlag token)
       → (S : Flags × List Token → Result Y RuleFault) (line : ℕ) → Parts limits {A = Flags} {B = B} (OwnFlags set) (pair limits) S (λ x. Spelled limits M) line
   flags_parts {B} {Y} set M some other S line = record {
@@ -525,7 +525,7 @@ module _ (spare_bytes deepest spare_statements : ℕ) (version : Version) where
       last own [] is last_ = absurd (some is)
       last own (u ∷ more) is last_ = last_both own u more last_
 
-  -- flags, and a reader behind them
+  -- flags, and another parser behind them
   flags_good : (set : Flags) (M : Part) → (M [] → ⊥) → ((token : Token) (tokens : List Token) → M (token ∷ tokens) → NoFlag token) → (line : ℕ) (S : Flags × List Token → Result (RawOp × List Token) RuleFault)
       → ((flags : Flags) → Good limits {A = RawOp} (pair limits) (λ ts. S (flags, ts)) (Spelled limits M) line) → Good limits {A = RawOp} (pair limits) (λ ts. flags_at set line no_flags ts >>= S) (Spelled limits (Adds set no_flags ⨾ M)) line
   flags_good set M some other line S behind = record {
@@ -537,7 +537,7 @@ module _ (spare_bytes deepest spare_statements : ℕ) (version : Version) where
 
   -- ---- what a statement computes
 
-  -- behind the opcode of an operation that the version has
+  -- behind the opcode of an operation of the version
   abbrev IsOpBehind : Half → Operation → Part
   IsOpBehind half operation own = IsOp half (opcode_token operation ∷ own)
 
@@ -701,7 +701,7 @@ module _ (spare_bytes deepest spare_statements : ℕ) (version : Version) where
   no_truth op tokens more (ended_next a (Line number ∷ b) p q) none = refl
   no_truth op tokens more (ended_next a b p q) none = absurd q
 
-  -- the flag is read or not, and none is next
+  -- the flag of the truth value is read or absent, and isn't next
   abbrev OwnTruth : Intrinsic → List Token → List Token → Type 0
   OwnTruth op own rest = IsTruth op own × (is_truth_next op rest ≡ false)
 
@@ -753,7 +753,7 @@ module _ (spare_bytes deepest spare_statements : ℕ) (version : Version) where
         apart = (one_truth op word flag, none);
       })
 
-  -- or the flag again
+  -- the flag of the truth value is next once more
   truth_again : (op : Intrinsic) (line : ℕ) (word again : List ℕ) (rest : List Token) → is_truth_flag op word ≡ true → is_truth_flag op again ≡ true → TruthIs op line (Word word ∷ Word again ∷ rest)
   truth_again op line word again rest flag twice =
       let same_flag : again ≡ word = some_same (sym (truth_flag-is limits op again twice) ∙ truth_flag-is limits op word flag) in
@@ -795,7 +795,7 @@ module _ (spare_bytes deepest spare_statements : ℕ) (version : Version) where
   truth_outcome op line [] = no_truth_there op line [] refl
   truth_outcome op line (token ∷ rest) = no_truth_there op line (token ∷ rest) refl
 
-  -- the flag that stands there is no other one
+  -- no other flag than that one can be repeated there
   repeated_truth : (op : Intrinsic) (own : List Token) (left : List ℕ) → IsTruth op own → RepeatsFlag own left → is_truth_flag op left ≡ false → ⊥
   repeated_truth op own left (false, is) repeats none = nothing (subst (λ (ts : List Token). RepeatsFlag ts left) is repeats)
     where
@@ -811,7 +811,7 @@ module _ (spare_bytes deepest spare_statements : ℕ) (version : Version) where
       one_flag (t ∷ [], words, flags, whole) = cc
       one_flag (t ∷ u ∷ first, words, flags, whole) = cc
 
-  -- what stands behind the flag takes a token that is none
+  -- what is read behind it begins with a token that is no flag
   truth_parts : {B Y : Type 0} (op : Intrinsic) (half : Half) (S : Bool × List Token → Result Y RuleFault) (line : ℕ) → Parts limits {A = Bool} {B = B} (OwnTruth op) (pair limits) S (λ x. Spelled limits (IsOperand half)) line
   truth_parts {B} {Y} op half S line = record {
     new = λ own rest c x found p. new _ _ _ own rest c found.kind p.front p.behind p.there p.begins.1 p.begins.2 p.says p.new;
@@ -867,7 +867,7 @@ module _ (spare_bytes deepest spare_statements : ℕ) (version : Version) where
       let s = (select_good half 0 refl).sample in
       (codes "select", kinds.opcode operations.Select refl, (s.0, s.1, s.2))
 
-  -- behind an opcode, which is no flag
+  -- behind an opcode, which itself is no flag
   op_token_outcome : (half : Half) (line : ℕ) (token : Token) (rest : List Token) (operation : Operation) → IsOpcode limits version operation token → IsOwn limits token → ((more : List Token) → op_at limits version half line (token ∷ more) ≡ operation_at limits half line operation more)
       → Outcome limits (pair limits) (op_at limits version half line) (Spelled limits (IsOp half)) line (token ∷ rest) (op_at limits version half line (token ∷ rest))
   op_token_outcome half line token rest operation opcode own reads =
@@ -963,14 +963,14 @@ module _ (spare_bytes deepest spare_statements : ℕ) (version : Version) where
 
   -- ---- statements
 
-  -- what stands behind the register of a statement
+  -- behind the register of a statement
   abbrev pub IsAssigned : Half → Part
   IsAssigned half own = (op : List Token) × IsOp half op × (own ≡ Mark (codes "=") ∷ op)
 
   assigned_join : (half : Half) (front back : List Token) → Is (Mark (codes "=")) front → IsOp half back → IsAssigned half (front ++ back)
   assigned_join half front back mark op = (back, op, ap (λ (ts : List Token). ts ++ back) mark)
 
-  -- the reader of a statement whose name is short
+  -- the parser of a statement whose register isn't too long
   pub statement_good : (half : Half) (line : ℕ) (name : List ℕ) → name_within limits line name ≡ Ok name → Good limits (pair limits) (statement_at limits version half line name) (Spelled limits (IsAssigned half)) line
   unfolding statement_at
   statement_good half line name short = record { sample = behind.sample; outcome = λ tokens. same_as limits (pair limits) (statement_at limits version half line name) R (Spelled limits (IsAssigned half)) line tokens (λ more. rw short refl) (behind.outcome tokens) }

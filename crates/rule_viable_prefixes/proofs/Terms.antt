@@ -1,4 +1,4 @@
--- What the readers of terms do on a line.
+-- What the parsers of terms do on a line.
 use Rattle.std.proofs.Common.{◌≡◌, ℕ, zero, suc, ◌+◌, ◌<◌, ◌≤◌, Bool, true, false, cond, eqb, List, [], ◌∷◌, ◌++◌, length, Option, Some, None, Result, Ok, Err, refl, sym, ap, subst, ◌∙◌, append_assoc, inl, inr, arith}
 use Rattle.std.specs.Prelude.{IsTrue, codes}
 use Rattle.std.specs.Str.{bytes_eq}
@@ -71,7 +71,7 @@ module _ (limits : Limits) where
   unfolding mark_at
   mark_good wanted line = by_token limits (tt, Mark wanted ∷ [], refl) (mark_takes wanted line) (fault line Syntax, refl, refl, refl)
 
-  -- where a parenthesis is missed another token stands
+  -- where a `(` is missing, another token is there
   pub parenthesis_missed : (line : ℕ) (tokens : List Token) (e : RuleFault) → mark_at (codes "(") line tokens ≡ Err e → IsTold limits tokens e.kind
   unfolding mark_at
   parenthesis_missed line (Mark mark ∷ tokens) e is = by (bytes_eq mark (codes "(")) refl
@@ -91,7 +91,7 @@ module _ (spare_bytes deepest spare_statements : ℕ) where
   abbrev limits : Limits
   limits = roomy spare_bytes deepest spare_statements
 
-  -- the limits where so many levels of nesting are left
+  -- the limits with this much nesting left
   abbrev levels : ℕ → Limits
   levels nesting = roomy spare_bytes nesting spare_statements
 
@@ -100,7 +100,7 @@ module _ (spare_bytes deepest spare_statements : ℕ) where
   abbrev pub IsTerm : TermPlace → ℕ → ℕ → List Token → Type 0
   IsTerm place nesting level own = (start : ℕ) → (nodes : List RawNode) × SpellsTerm limits place nesting start level nodes own
 
-  -- tokens that go on with a term of a level
+  -- the tokens that fit behind a prefix of a term of a level
   abbrev pub GoesOn : TermPlace → ℕ → ℕ → ℕ → List Token → Type 0
   GoesOn place nesting from to own = (front : List Token) → IsTerm place nesting from front → IsTerm place nesting to (front ++ own)
 
@@ -158,7 +158,7 @@ module _ (spare_bytes deepest spare_statements : ℕ) where
       by (Ok both) e = chain-more limits operand (suc level) left (Mark (operator_mark op) ∷ more) (op, more) both shortens found e
       by (Err f) e = chain-fault limits operand (suc level) left (Mark (operator_mark op) ∷ more) (op, more) _ (Refused f) found e refl
 
-  -- the chain, where what goes on with it is known
+  -- a chain of operators, from what is known of the parser of its operands
   chain_by : (place : TermPlace) (nesting line level : ℕ) (operand : TermReader) → Shortens limits operand → ((left : List RawNode) → Good (levels nesting) (pair limits) (operand left) (Term place nesting level) line)
       → (left : List RawNode) (tokens : List Token)
       → ((ls : List RawNode) (ts : List Token) → length ts < length tokens → Outcome (levels nesting) (pair limits) (whole_chain_at operand (suc level) ls) (More place nesting (suc level) (suc level)) line ts (whole_chain_at operand (suc level) ls ts))
@@ -195,7 +195,7 @@ module _ (spare_bytes deepest spare_statements : ℕ) where
 
   -- ---- operands of a level
 
-  -- the readers of primaries are those of terms
+  -- the parsers of operands of level 0 are those of terms
   abbrev Primaries : TermPlace → ℕ → ℕ → Type 0
   Primaries place nesting line = (before : List RawNode) → Good (levels nesting) (pair limits) (primary_at limits place line nesting before) (Term place nesting 0) line
 
@@ -216,9 +216,10 @@ module _ (spare_bytes deepest spare_statements : ℕ) where
   operand_good place nesting line level primaries before =
       then (levels nesting) _ {L = Term place nesting 0} {M = λ x. More place nesting 0 level} (λ x y front back one two. two front one) (primaries before) (λ x. behind_good place nesting line primaries level x)
 
-  -- ---- what a primary begins with
+  -- ---- what an operand of level 0 begins with
 
-  -- what the reader of starts does with the token, whatever stands behind it, where these fit
+  -- what an operand begins with is read from the first token alone: it is taken, opens a level of nesting, or is
+  -- refused
   data Opens (nesting : ℕ) (fits : Fitting) (none : List ℕ → Type 0) (place : TermPlace) (line : ℕ) : Token → Type 0 where
     misfit : (token : Token) → ((more : List Token) → IsErrOn (levels nesting) fits none line (token ∷ more) (start_at limits place line (token ∷ more))) → Opens nesting fits none place line token
     of_leaf : (token : Token) (node : RawNode) → SpellsLeaf limits place node (token ∷ []) → IsOwn limits token → ((more : List Token) → start_at limits place line (token ∷ more) ≡ Ok (Leaf node, more)) → Opens nesting fits none place line token
@@ -228,7 +229,7 @@ module _ (spare_bytes deepest spare_statements : ℕ) where
         → ((more : List Token) → start_at limits place line (Word word ∷ more) ≡ (mark_at (codes "(") line more >>= λ behind. Ok (Call function, behind))) → Opens nesting fits none place line (Word word)
     of_width : ((more : List Token) → start_at limits place line (Word (codes "width") ∷ more) ≡ (mark_at (codes "(") line more >>= λ behind. Ok (Width, behind))) → Opens nesting fits none place line (Word (codes "width"))
 
-  -- nodes of one token fit
+  -- the nodes of one token fit here
   abbrev Leaves : TermPlace → Fitting → Type 0
   Leaves place fits = (token : Token) (node : RawNode) → SpellsLeaf limits place node (token ∷ []) → fits token
 
@@ -315,11 +316,11 @@ module _ (spare_bytes deepest spare_statements : ℕ) where
 
   -- ---- parentheses
 
-  -- the tokens and a parenthesis behind them
+  -- a part, and `)` behind it
   abbrev pub Closed : (List Token → Type 0) → List Token → Type 0
   Closed P own = (inside : List Token) × P inside × (own ≡ inside ++ Mark (codes ")") ∷ [])
 
-  -- a value that was read, and a parenthesis behind it
+  -- `)` behind a value that was read
   pub closing : {A : Type 0} (x : A) (nesting line : ℕ) → Good (levels nesting) (pair limits) (λ ts. mark_at (codes ")") line ts >>= λ behind. Ok (x, behind)) (λ y own. (y ≡ x) × (own ≡ Mark (codes ")") ∷ [])) line
   closing x nesting line = then_done (levels nesting) {s = (bare limits)} {L = λ u own. own ≡ Mark (codes ")") ∷ []} (λ u. x) (λ behind. Ok (x, behind)) (λ u rest. refl) (λ u own is. (refl, is)) (mark_good (levels nesting) (codes ")") line)
 
@@ -328,11 +329,11 @@ module _ (spare_bytes deepest spare_statements : ℕ) where
       then (levels nesting) _ {L = Term place nesting loosest} {M = λ x y own. (y ≡ x) × (own ≡ Mark (codes ")") ∷ [])} (λ x y front back one two. (front, one, ap (λ (ts : List Token). front ++ ts) two.1))
       (operand_good place nesting line loosest primaries before) (λ x. closing x nesting line)
 
-  -- a parenthesis, and behind it a value
+  -- `(`, and a part behind it
   abbrev pub Entered : {A : Type 0} → Spelling limits A → Spelling limits A
   Entered L x own = (inside : List Token) × L x inside × (own ≡ Mark (codes "(") ∷ inside)
 
-  -- and a reader of it one level further in
+  -- `(`, and the parser of a part one level of nesting further in
   pub entered : {A : Type 0} (nesting line : ℕ) (R : Reader limits (A × List Token)) (L : Spelling limits A) → Good (levels nesting) (pair limits) R L line
       → Good (levels (suc nesting)) (pair limits) (λ ts. mark_at (codes "(") line ts >>= R) (Entered L) line
   unfolding mark_at
@@ -371,7 +372,7 @@ module _ (spare_bytes deepest spare_statements : ℕ) where
   unfolding measured_at
   measured_good nesting line = by_token (levels nesting) ([], Register [] ∷ Mark (codes ")") ∷ [], (omega arith, refl)) (measured_branch nesting line) (fault line Syntax, refl, refl, refl)
 
-  -- ---- primaries
+  -- ---- operands of level 0
 
   enclosed_term : (place : TermPlace) (nesting : ℕ) (own : List Token) → Closed (IsTerm place nesting loosest) own → IsTerm place (suc nesting) 0 (Mark (codes "(") ∷ own)
   enclosed_term place nesting own (inside, is, whole) = λ start.
@@ -391,7 +392,7 @@ module _ (spare_bytes deepest spare_statements : ℕ) where
   width_term place nesting name own (le, whole) = λ start.
       (raw_nodes.Width name ∷ [], subst (λ (ts : List Token). SpellsTerm limits place (suc nesting) start 0 (raw_nodes.Width name ∷ []) (Word (codes "width") ∷ Mark (codes "(") ∷ ts)) (sym whole) (width name le))
 
-  -- what fits where a primary may stand
+  -- the tokens that fit where an operand begins
   abbrev FitsAt : TermPlace → ℕ → Fitting
   FitsAt place nesting = Takes limits (Term place nesting 0) []
 

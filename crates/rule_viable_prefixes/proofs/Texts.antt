@@ -1,4 +1,4 @@
--- The tokens of a text begin with the number of a line, and so do those behind the name of a rule, which is the rest of
+-- The tokens of a text begin with a line's number, and so do those behind a rule's name, which reaches to the end of
 -- its line.
 use Rattle.std.proofs.Common.{◌≡◌, ◌≢◌, ℕ, zero, suc, ◌+◌, ◌-◌, ◌<◌, ◌≤◌, Bool, true, false, not, ◌||◌, cond, eqb, List, [], ◌∷◌, length, take, drop, Option, Some, None, refl, sym, ap, subst, ◌∙◌, ⊎_elim, ◌⊎◌, inl, inr, arith, length-drop}
 use Rattle.std.specs.Prelude.{codes}
@@ -29,7 +29,7 @@ use Rattle.rule_viable_prefixes.proofs.Lines.{NamesEndLines}
 
 -- ---- what ends the rest of a line
 
--- a byte that ends the rest of a line is a line feed or begins a comment
+-- the byte behind the rest of a line is a line feed or begins a comment
 breaks : (b : ℕ) → is_in_rest b ≡ false → (b ≡ 10) ⊎ (b ≡ 59)
 unfolding is_in_rest
 breaks b e = by (eqb b 10) (eqb b 59) refl refl e
@@ -88,7 +88,7 @@ bad_in_rest (b ∷ text) bad e = contrary (is_bad b) bad (not_bad b (breaks b e)
 
 -- ---- a gap behind the rest of a line
 
--- a gap that such a byte begins has a line feed
+-- a gap that begins with such a byte has a line feed
 gap_feeds : (gap : List ℕ) → IsGap gap → begins_with is_in_rest gap ≡ false → (gap ≡ []) ⊎ (1 ≤ feeds gap)
 unfolding is_space is_blank
 gap_feeds gap nothing e = inl refl
@@ -116,7 +116,7 @@ take_none zero text e = inl refl
 take_none (suc k) [] e = inr refl
 take_none (suc k) (b ∷ text) e = absurd cc
 
--- a place behind such a gap is on another line, where no such byte stands at it
+-- a token behind such a gap is on a later line
 later : (text : List ℕ) (place start : ℕ) → place ≤ start → 0 < length (drop start text) → IsGap (between text place start) → begins_with is_in_rest (drop place text) ≡ false → (begins_with is_in_rest (drop start text) ≡ false → ⊥)
     → line_of text place < line_of text start
 later text place start order some gap e stands = by (gap_feeds (between text place start) gap (take_begins is_in_rest (start - place) (drop place text) e))
@@ -169,7 +169,7 @@ gap_is kinds.Number gap ne g = g
 gap_is kinds.Arrow gap ne g = g
 gap_is kinds.Mark gap ne g = g
 
--- a token behind the rest of a line is on a later one
+-- a token behind the rest of a line is on a later line
 token_later : (operator : Bool) (text : List ℕ) (place : ℕ) (t : RuleToken) → IsNextRuleToken operator text (place + length (rest_of_line text place)) t → t.kind ≢ kinds.End → line_of text place < t.line
 token_later operator text place t next ne =
     let after : ℕ = place + length (rest_of_line text place) in
@@ -233,7 +233,7 @@ names_on before line t tokens n = by (eqb line before)
     by true = n
     by false = n
 
--- a name is read behind its head, on the head's line
+-- a rule's name is read behind `Name:`, on the same line
 abbrev pub IsAtName : Place → Type 0
 IsAtName (AtName c) = Unit {0}
 IsAtName (AtToken c) = ⊥
@@ -296,7 +296,7 @@ of_text text (bad_name bad) = (tt, tt)
 
 -- ---- numbers of texts
 
--- it is not this number
+-- a number isn't written `hasOneUse`, and no number of a text is
 abbrev pub IsProper : Token → Type 0
 IsProper (Number text) = text ≡ codes "hasOneUse" → ⊥
 IsProper t = Unit {0}

@@ -1,4 +1,4 @@
--- What the kind of a fault says of the token that is refused, behind so many marks that open levels.
+-- What the kind of a fault says of the token that it is at, on a line with this many marks that may open a level.
 use Rattle.std.proofs.Common.{◌≡◌, ◌≢◌, ℕ, ◌≤◌, Bool, true, false, cond, List, [], ◌∷◌, refl, sym, ap, subst, ◌∙◌, ◌⊎◌, inl, inr, arith}
 use Rattle.std.specs.Prelude.{codes}
 use Rattle.std.specs.Str.{bytes_eq}
@@ -12,25 +12,25 @@ use Rattle.rule_viable_prefixes.specs.Misfits.{Fitting, NounFits}
 use Rattle.rule_viable_prefixes.proofs.Reasons.{IsTooDeep, IsTooMany, name, register, constant, choice, statement, nesting, Says, kind_at, IsMisfit, itself, read_on}
 
 module _ (limits : Limits) where
-  -- why a word is told as `Syntax`, whatever stands opened it
+  -- why a word is told as `Syntax`, whatever the marks before it
   abbrev pub Excuse : ℕ → Fitting → List ℕ → Type 0
   Excuse opened fits word = (word ≡ codes "hasOneUse") ⊎ IsTooDeep limits opened fits (Word word)
 
-  -- what the kind says of the token, where these fit, and of a word that is told as `Syntax`
+  -- what the kind says of a token, where these others fit; `none` says why a word is told as `Syntax`
   pub record Told (opened : ℕ) (fits : Fitting) (none : List ℕ → Type 0) (token : Token) (behind : List Token) (kind : RuleFaultKind) : Type 0 where
     pub misfit : token ≢ Excess → IsMisfit limits opened fits token behind kind
-    -- the mark of the end of what is read is told as a limit that is passed
+    -- `Excess` is told as `TooMany`
     pub excess : token ≡ Excess → kind ≡ TooMany
     pub lacks : kind ≡ Syntax → (word : List ℕ) → token ≡ Word word → Excuse opened fits word ⊎ none word
 
-  -- and of the first of the tokens
+  -- the same of the first of these tokens
   abbrev pub SaysFirst : ℕ → Fitting → (List ℕ → Type 0) → List Token → RuleFaultKind → Type 0
   SaysFirst opened fits none [] kind = kind ≡ Syntax
   SaysFirst opened fits none (token ∷ tokens) kind = Told opened fits none token tokens kind
 
   -- ---- what kinds say
 
-  -- it is no word, and ends nothing that is read
+  -- the token is no word, no byte that may not stand, and not `Excess`
   abbrev pub IsPlain : Token → Type 0
   IsPlain Bad = ⊥
   IsPlain Excess = ⊥
@@ -55,7 +55,7 @@ module _ (limits : Limits) where
   pub says_too_many : {opened : ℕ} {fits : Fitting} {none : List ℕ → Type 0} (token : Token) (more : List Token) → IsTooMany limits opened fits token → Told opened fits none token more TooMany
   says_too_many token more is = record { misfit = λ read. itself is; excess = λ e. refl; lacks = λ kind word same_token. absurd cc }
 
-  -- a word has the reason that is given
+  -- a word that isn't expected is told as `Syntax` for the reason that is given
   pub says_unexpected : {opened : ℕ} {fits : Fitting} {none : List ℕ → Type 0} (line : ℕ) (token : Token) (more : List Token) → ((word : List ℕ) → token ≡ Word word → Excuse opened fits word ⊎ none word) → Told opened fits none token more (unexpected line (token ∷ more)).kind
   says_unexpected line Bad more why = record { misfit = λ read. itself refl; excess = λ is. absurd cc; lacks = λ kind word is. absurd cc }
   says_unexpected line Excess more why = record { misfit = λ read. absurd (read refl); excess = λ is. refl; lacks = λ kind word is. absurd cc }
@@ -93,12 +93,12 @@ module _ (limits : Limits) where
   says_left_out noun line (Mark text) more = says_syntax (Mark text) more tt
   says_left_out noun line Other more = says_syntax Other more tt
 
-  -- the kind of the first token, where the mark of the end of what is read stands too
+  -- the kind of the first token, `Excess` included
   abbrev pub kind_first : List Token → RuleFaultKind
   kind_first (Excess ∷ tokens) = TooMany
   kind_first tokens = kind_at tokens
 
-  -- a word that is nested too deep is told as such, or as what stands in place of the `(` behind it
+  -- a word that is nested too deep is told so, or by the token in the place of its `(`
   abbrev pub IsTold : List Token → RuleFaultKind → Type 0
   IsTold tokens kind = (kind ≡ TooMany) ⊎ (((more : List Token) → tokens ≡ Mark (codes "(") ∷ more → ⊥) × (kind ≡ kind_first tokens))
 
@@ -111,7 +111,7 @@ module _ (limits : Limits) where
     lacks = λ kind_ other is_other. inl (subst (Excuse opened fits) (let equal = is_other in cc) (inr deep));
   }
 
--- ---- the same where more fits, within other limits and behind more of these marks
+-- ---- the same where more tokens fit, and behind more such marks
 
 module _ (inner limits : Limits) (a b : ℕ) (bytes : inner.name_bytes ≡ limits.name_bytes) (deep : inner.nested ≤ a → limits.nested ≤ b) (P Q : Fitting) (f : (token : Token) → P token → Q token) where
   many_carried : (token : Token) → IsTooMany inner a P token → IsTooMany limits b Q token

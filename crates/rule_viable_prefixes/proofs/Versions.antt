@@ -1,4 +1,5 @@
--- Rule files: where the line of the version or the rules behind it are refused, the tokens of the file do not fit.
+-- Rule files: the fault of the version's line, or of the rules behind it, is where the tokens stop being a viable
+-- prefix.
 use Rattle.std.proofs.Common.{◌≡◌, ◌≢◌, ℕ, Bool, true, false, cond, List, [], ◌∷◌, ◌++◌, Option, Some, None, Result, Ok, Err, refl, sym, ap, subst, ◌∙◌, append_assoc, ◌⊎◌, inl, inr, arith}
 use Rattle.std.proofs.lemmas.List.{append-nil}
 use Rattle.std.specs.Prelude.{codes}
@@ -39,7 +40,7 @@ module _ (spare_bytes deepest spare_statements : ℕ) where
 
   -- ---- where the fault stands
 
-  -- at a token, of which the fault says why it does not fit
+  -- the fault is at a token, and says why it does not fit
   pub record AtToken (tokens : List Token) (found : RuleFault) : Type 0 where
     pub front : List Token
     pub token : Token
@@ -53,7 +54,7 @@ module _ (spare_bytes deepest spare_statements : ℕ) where
     pub no_noun : found.kind ≡ Syntax → (word : List ℕ) → token ≡ Word word → NounFits (FitsBehindWithin limits front) → IsExcused limits (FitsBehindWithin limits front) front word
     pub new : IsNew front found.kind
 
-  -- at the end
+  -- the fault is at the end of the tokens
   pub record AtEnd (tokens : List Token) (last : ℕ) (found : RuleFault) : Type 0 where
     pub fits : FitsWithin limits tokens
     pub no_rules : (rules : List RawRule) → ¬ SpellsFile limits rules tokens
@@ -65,24 +66,24 @@ module _ (spare_bytes deepest spare_statements : ℕ) where
 
   -- ---- behind the version
 
-  -- no head
+  -- the token is no head
   abbrev IsOther : Token → Type 0
   IsOther (Head head) = ⊥
   IsOther token = Unit {0}
 
-  -- a token that stands first, or another in its place that is no head
+  -- the first token behind the version, or another one in its place that is no head
   data IsNext (behind : List Token) (token : Token) : Type 0 where
     first : (rest : List Token) → behind ≡ token ∷ rest → IsNext behind token
     other : IsOther token → IsNext behind token
 
-  -- The line of the version is read, and whatever stands behind a front of the other tokens.
+  -- The version is read from the first tokens, whatever comes behind.
   record IsRead (own : List Token) (version : Version) (tokens : List Token) : Type 0 where
     spells : SpellsVersion version own
     kept : (number : ℕ) (inner behind : List Token) → tokens ≡ Line number ∷ inner ++ behind → (token : Token) → IsNext behind token → (more : List Token)
         → version_at (own ++ Line number ∷ (inner ++ token ∷ more)) ≡ Ok (version, Line number ∷ (inner ++ token ∷ more))
     whole : version_at (own ++ tokens) ≡ Ok (version, tokens)
 
-  -- what is spelled is what is read
+  -- rules that the tokens spell are spelled by what is behind the version
   rules_behind : (version : Version) (rules : List RawRule) (tokens behind : List Token) → version_at tokens ≡ Ok (version, behind) → SpellsFile limits rules tokens → SpellsRules limits version rules behind
   rules_behind version rules tokens behind e is =
       let read = version_read limits rules tokens is in
@@ -99,7 +100,7 @@ module _ (spare_bytes deepest spare_statements : ℕ) where
     abbrev FitNext : List Token → Token → Type 0
     FitNext front token = FitBehind spare_bytes deepest spare_statements version front token
 
-    -- what goes on with rules goes on with the file
+    -- a viable prefix of rules is one of the file, behind the version
     up : (front : List Token) → IsFit front → FitsWithin limits (own ++ front)
     up front (rules, more, is) = (rules, more, (version, (own, front ++ more, o.spells, is, append_assoc own front more)))
 
@@ -174,7 +175,7 @@ module _ (spare_bytes deepest spare_statements : ℕ) where
 
   -- ---- where the version is read
 
-  -- a line of a version
+  -- the beginning of a version's line
   abbrev begun : ℕ → List Token → List Token
   begun line rest = Line line ∷ Head (codes "Version:") ∷ rest
 
@@ -193,7 +194,7 @@ module _ (spare_bytes deepest spare_statements : ℕ) where
         whole = said_reads line text version rest is ends;
       }
 
-  -- no line says a version
+  -- the first line says no version
   abbrev SaysNone : List Token → Type 0
   SaysNone (Line line ∷ Head head ∷ rest) = bytes_eq head (codes "Version:") ≡ false
   SaysNone tokens = Unit {0}
@@ -223,7 +224,7 @@ module _ (spare_bytes deepest spare_statements : ℕ) where
     whole = none_reads tokens none;
   }
 
-  -- ---- where it is not
+  -- ---- where the version is refused
 
   one_line : (line : ℕ) → SpellsFile limits [] (begun line (Number (codes "1") ∷ []))
   unfolding is_digit
@@ -232,15 +233,15 @@ module _ (spare_bytes deepest spare_statements : ℕ) where
   head_fits : (line : ℕ) → FitsWithin limits (begun line [])
   head_fits line = ([], Number (codes "1") ∷ [], one_line line)
 
-  -- a head repeats no flag
+  -- a head is no flag
   head_new : (line : ℕ) (kind : RuleFaultKind) → IsNew (begun line []) kind
   head_new line kind = new_behind (begun line []) [] kind (inl (λ word flag is. cc)) (none_new kind)
 
-  -- what is refused as one of these is none that fits
+  -- tokens whose version is refused spell no rules
   none_spelled : (rules : List RawRule) (tokens : List Token) (found : RuleFault) → version_at tokens ≡ Err found → SpellsFile limits rules tokens → ⊥
   none_spelled rules tokens found e is = let read = version_read limits rules tokens is in let both = sym e ∙ read.1 in absurd cc
 
-  -- the version is missed
+  -- the number is missing at the end of the text
   number_missed : (line last : ℕ) → IsRefused last (begun line []) (unexpected line [])
   unfolding version_at version_number_at line_behind
   number_missed line last = inr (record {
@@ -250,7 +251,7 @@ module _ (spare_bytes deepest spare_statements : ℕ) where
     line = inr ((λ fits. none_spelled fits.1.0 (begun line (Line fits.0 ∷ fits.1.1)) (unexpected line (Line fits.0 ∷ fits.1.1)) refl fits.1.2), refl);
   })
 
-  -- a token that is not expected, which no noun may replace
+  -- a token that doesn't fit, and no noun in its place
   unexpected_token : (line : ℕ) (front : List Token) (token : Token) (behind : List Token) → FitsWithin limits front → line ≡ line_of front → ¬ FitsBehindWithin limits front token
       → ((noun : List ℕ) → ¬ FitsBehindWithin limits front (Word noun)) → ((kind : RuleFaultKind) → IsNew front kind) → AtToken (front ++ token ∷ behind) (unexpected line (token ∷ behind))
   unexpected_token line front token behind fits here misfit none new = record {
@@ -275,14 +276,14 @@ module _ (spare_bytes deepest spare_statements : ℕ) where
       told : Told limits (openings_on_line front) (FitsBehindWithin limits front) (λ word. NounFits (FitsBehindWithin limits front) → ⊥) token behind (unexpected line (token ∷ behind)).kind
       told = says_unexpected limits line token behind (λ word is. inr (λ noun. none noun.0 noun.2))
 
-  -- no number of a version behind the head
+  -- behind `Version:` a token that is no number
   number_expected : (line last : ℕ) (token : Token) (rest : List Token) → ((more : List Token) → version_at (begun line (token ∷ more)) ≡ Err (unexpected line (token ∷ more))) → IsRefused last (begun line (token ∷ rest)) (unexpected line (token ∷ rest))
   unfolding version_at version_number_at line_behind
   number_expected line last token rest h = inl (unexpected_token line (begun line []) token rest (head_fits line) refl
       (λ fits. none_spelled fits.0 (begun line (token ∷ fits.1)) (unexpected line (token ∷ fits.1)) (h fits.1) fits.2)
       (λ noun fits. none_spelled fits.0 (begun line (Word noun ∷ fits.1)) (unexpected line (Word noun ∷ fits.1)) refl fits.2) (head_new line))
 
-  -- the number of another version
+  -- the number of an unknown version
   left_out_number : (line last : ℕ) (text : List ℕ) (rest : List Token) → version_in text ≡ None → IsRefused last (begun line (Number text ∷ rest)) (misplaced_word line text)
   unfolding version_at version_number_at line_behind
   left_out_number line last text rest none = by (bytes_eq text (codes "hasOneUse"))
@@ -360,7 +361,7 @@ module _ (spare_bytes deepest spare_statements : ℕ) where
           (headed last line rest found names (subst (λ (word : List ℕ). all_rules limits last (Line line ∷ Head word ∷ rest) ≡ Err found) is e))
   where_refused last tokens found ends names e = without last tokens found ends names e tt
 
-  -- the number of another version is told as it is, but for one that is no number of a text
+  -- the number of an unknown version is told so
   pub version_told : (last line : ℕ) (text : List ℕ) (rest : List Token) (found : RuleFault) → all_rules limits last (begun line (Number text ∷ rest)) ≡ Err found → found.kind ≡ Syntax → ¬ FitsBehindWithin limits (begun line []) (Number text) → text ≡ codes "hasOneUse"
   unfolding version_at version_number_at
   version_told last line text rest found e syntax_ misfit = by (version_in text) refl

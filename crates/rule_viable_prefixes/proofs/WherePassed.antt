@@ -1,4 +1,4 @@
--- `TooMany` is told where the first token stands with which a limit is passed.
+-- `TooMany` is told exactly at the first token with which a limit is passed.
 use Rattle.std.proofs.Common.{◌≡◌, ◌≢◌, ℕ, ◌+◌, ◌<◌, ◌≤◌, Bool, true, false, List, [], ◌∷◌, ◌++◌, length, Result, Err, refl, sym, ap, subst, ◌∙◌, append_assoc, length-append, ◌⊎◌, inl, inr, arith}
 use Rattle.std.specs.Prelude.{if◌then◌else◌}
 use Rattle.std.proofs.lemmas.List.{append-nil}
@@ -38,7 +38,7 @@ use Rattle.rule_viable_prefixes.proofs.Roomy.{roomy}
 use Rattle.rule_viable_prefixes.proofs.Texts.{names_in, of_text, text_begins, limited_begins, limited_names}
 use Rattle.rule_viable_prefixes.proofs.Versions.{AtToken, AtEnd, where_refused}
 
--- ---- marked tokens end lines as the others do
+-- ---- tokens with the sentinel end lines as those without do
 
 pub ends_marked : (c : Marking) (s : State) (a b : List Token) → Marked c s a b → EndsLine a → EndsLine b
 ends_marked c s a b none ended = tt
@@ -62,7 +62,7 @@ names_marked c s a b (over_name text rest ended long le) names = (tt, mark_names
 names_marked c s a b (later (Name text) x y of kept more) names = (ends_marked c (step s (Name text)) x y more names.0, names_marked c (step s (Name text)) x y more names.1)
 names_marked c s a b (later token x y of kept more) names = names_marked c (step s token) x y more names
 
--- ---- few levels are opened
+-- ---- a token opens at most one level of nesting
 
 one_opened : (token : Token) → openings token ≤ 1
 one_opened (Mark mark) = by (is_among opening_marks mark)
@@ -82,9 +82,9 @@ length_front tokens [] back is = omega arith
 length_front [] (t ∷ front) back is = absurd cc
 length_front (u ∷ tokens) (t ∷ front) back is = let rest : tokens ≡ front ++ back = cc in let less = length_front tokens front back rest in omega (arith, less)
 
--- ---- what is told where no level is too deep
+-- ---- the sentinel's fault, where no level is too deep
 
--- `BadByte` of a byte that may not stand alone
+-- a byte that may not stand is told as `BadByte`, and nothing else is
 pub only_bad : (limits : Limits) (n : ℕ) (front : List Token) (fits : Fitting) (token : Token) (behind : List Token) (kind : RuleFaultKind) → n < limits.nested → IsMisfit limits n fits token behind kind ⊎ IsOtherVersion front token kind → kind ≡ BadByte → token ≡ Bad
 only_bad limits n front fits token behind kind less (inl (read_on (word, is, (far, nests, more), missed, told))) e = absurd (omega (arith, far, less))
 only_bad limits n front fits token behind kind less (inr (line, left, there, is, told)) e = let both = sym told ∙ e in absurd cc
@@ -94,7 +94,7 @@ only_bad limits n front fits token behind (LeftOut left) less (inl (itself is)) 
 only_bad limits n front fits token behind Syntax less (inl (itself is)) e = absurd cc
 only_bad limits n front fits token behind kind less (inl (itself is)) e = absurd is
 
--- and `TooMany` not of such a byte
+-- and never as `TooMany`
 no_bad_too_many : (limits : Limits) (n : ℕ) (fits : Fitting) (token : Token) → n < limits.nested → IsTooMany limits n fits token → token ≡ Bad → ⊥
 no_bad_too_many limits n fits token less (kinds.name name is) e = absurd cc
 no_bad_too_many limits n fits token less (kinds.register name is) e = absurd cc
@@ -112,7 +112,7 @@ no_bad limits n front fits token behind (LeftOut left) less (inl (itself is)) e 
 no_bad limits n front fits token behind Syntax less (inl (itself is)) e b = absurd cc
 no_bad limits n front fits token behind kind less (inl (itself is)) e b = absurd is
 
--- ---- two marks behind the same tokens
+-- ---- the two sentinels behind the same tokens
 
 module _ (sb sn ss : ℕ) where
   abbrev wide : Limits
@@ -121,7 +121,7 @@ module _ (sb sn ss : ℕ) where
   pub not_marked : (front more : List Token) → FitsWithin wide (front ++ Excess ∷ more) → ⊥
   not_marked front more (rules, rest, is) = no_mark wide front (more ++ rest) rules (subst (SpellsFile wide rules) (append_assoc front (Excess ∷ more) rest) is)
 
-  -- all tokens fit up to the mark of the end of what is read, or one before it does not
+  -- all tokens before `Excess` fit, or one of them does not
   pub at_excess : (pre rest all : List Token) (found : RuleFault) → all ≡ pre ++ Excess ∷ rest → (at : AtToken sb sn ss all found) → (FitsWithin wide pre × (found.line ≡ line_of pre) × (found.kind ≡ TooMany)) ⊎ ((others : List Token) × (pre ≡ at.front ++ at.token ∷ others))
   at_excess pre rest all found is at = by (split pre (Excess ∷ rest) at.front (at.token ∷ at.behind) (sym is ∙ at.stands))
     where
@@ -139,12 +139,13 @@ module _ (sb sn ss : ℕ) where
       by (inl (g, p, q)) = inl (behind g p q)
       by (inr (t, g, p, q)) = let same : t ≡ at.token = cc in inr (g, p ∙ ap (λ (u : Token). at.front ++ u ∷ g) same)
 
-  -- of two tokens that do not fit behind those before them, which do, both are one
+  -- the first token that doesn't fit is one
   pub one_misfit : (pre f g : List Token) (t u : Token) (x y : List Token) → pre ≡ f ++ t ∷ x → pre ≡ g ++ u ∷ y → FitsWithin wide f → ¬ FitsBehindWithin wide f t → FitsWithin wide g → ¬ FitsBehindWithin wide g u → (f ≡ g) × (t ≡ u)
   one_misfit pre f g t u x y p q fits_f misfit_f fits_g misfit_g =
       one_place (FitsBehindWithin wide) pre f g t u x y p q (λ before earlier more is. fits_before wide f before earlier more is fits_f) misfit_f (λ before earlier more is. fits_before wide g before earlier more is fits_g) misfit_g
 
-  -- where the one mark is told as a byte that may not stand, and the other as too many, all tokens before them fit
+  -- with `Bad` the fault is `BadByte`, and with `Excess` `TooMany`, so it is at the sentinel, and all tokens before it
+  -- fit
   fits_marked : (pre rest others b e : List Token) (found_b found_e : RuleFault) → length e < sn → length b < sn → AreOfText pre → e ≡ pre ++ Excess ∷ rest → b ≡ pre ++ Bad ∷ others → AtToken sb sn ss e found_e → AtToken sb sn ss b found_b → found_e.kind ≡ TooMany → found_b.kind ≡ BadByte
       → FitsWithin wide pre × (found_e.line ≡ line_of pre)
   fits_marked pre rest others b e found_b found_e small less of is_e is_b at_e at_b many bad_byte = by (at_excess pre rest e found_e is_e at_e)
@@ -174,7 +175,7 @@ module _ (sb sn ss : ℕ) where
           behind (inl (g, a, h)) = at_e.misfit (fits_before wide pre at_e.front at_e.token x p (fits_front wide pre g (subst (FitsWithin wide) a at_b.fits)))
           behind (inr (t, g, a, h)) = let same : t ≡ at_b.token = cc in both_before x p g (a ∙ ap (λ (u : Token). at_b.front ++ u ∷ g) same)
 
--- behind the name of a rule another line fits
+-- behind a rule's name another line fits
 pub fits_lined : (limits : Limits) (front : List Token) (token : Token) → FitsBehindWithin limits front token → (line : ℕ) × FitsWithin limits (front ++ token ∷ gap line token)
 fits_lined limits front token (rules, more, is) = by token (subst (SpellsFile limits rules) (append_assoc front (token ∷ []) more) is)
   where
@@ -184,9 +185,9 @@ fits_lined limits front token (rules, more, is) = by token (subst (SpellsFile li
         (line.0, (rules, line.1.0, subst (SpellsFile limits rules) (ap (λ (us : List Token). front ++ Name text ∷ us) line.1.1 ∙ sym (append_assoc front (Name text ∷ Line line.0 ∷ []) line.1.0)) spelled))
     by t spelled = (0, (rules, more, subst (SpellsFile limits rules) (sym (append_assoc front (t ∷ []) more)) spelled))
 
--- ---- what is told of marked tokens
+-- ---- what is told with the sentinel
 
--- where `TooMany` is told within the limits, the fault of the mark is told within the wider ones
+-- where `TooMany` is told within the limits, the sentinel's fault is told within the wider ones
 pub told_marked : (c : Marking) (line : ℕ) (r q : Result (List RawRule) RuleFault) → Agrees c {X = List RawRule} (λ x y. x ≡ y) r q → r ≡ Err (fault line TooMany) → (other : ℕ) × (q ≡ Err (fault other c.kind)) × ((other ≡ line) ⊎ (other ≡ c.anew line))
 told_marked c line r q (agreed x y is) e = absurd cc
 told_marked c line r q (both_failed g other) e = absurd (other (ap (λ (f : RuleFault). f.kind) (fault_is g (fault line TooMany) e)))
@@ -198,7 +199,7 @@ one_wider limits = record { name_bytes = limits.name_bytes; nested = limits.nest
 abbrev one_marking : Limits → (m : Token) (kind : RuleFaultKind) → IsMark m kind → Marking
 one_marking limits m kind is_mark = record { limits = limits; wider = one_wider limits; mark = m; kind = kind; is_mark = is_mark; name_bytes = omega arith; nested = omega arith; statements = omega arith; anew = λ n. n }
 
--- where nothing is passed, no limit is told
+-- where no limit is passed, `TooMany` is not told
 pub none_told : (limits : Limits) → 1 ≤ limits.nested → (last : ℕ) (tokens : List Token) → EndsLine tokens → NamesEndLines tokens → AreOfText tokens → KeptAlong limits start tokens
     → (line : ℕ) → all_rules limits last tokens ≡ Err (fault line TooMany) → ⊥
 none_told limits some last tokens ended names all along line err =
@@ -218,14 +219,14 @@ pub kept_at : (limits : Limits) (s : State) (before : List Token) (token : Token
 kept_at limits s [] token more kept = kept.0
 kept_at limits s (t ∷ before) token more kept = kept_at limits (step s t) before token more kept.1
 
--- it stands among the tokens so
+-- the first token with which a limit is passed is at this place
 pub record FirstPassed (limits : Limits) (tokens front : List Token) (token : Token) : Type 0 where
   pub behind : List Token
   pub stands : tokens ≡ front ++ token ∷ behind
   pub within : AllStayWithin limits front
   pub passed : ¬ StaysWithin limits front token
 
--- there is one at most
+-- there is one such place at most
 no_two : (limits : Limits) (tokens f g : List Token) (t u : Token) → FirstPassed limits tokens f t → FirstPassed limits tokens g u → (f ≡ g) × (t ≡ u)
 no_two limits tokens f g t u p q = one_place (StaysWithin limits) tokens f g t u p.behind q.behind p.stands q.stands p.within p.passed q.within q.passed
 
@@ -234,7 +235,7 @@ of_front [] back all = tt
 of_front (t ∷ front) back all = (all.0, of_front front back all.1)
 
 module _ (limits : Limits) (tokens : List Token) (of : AreOfText tokens) where
-  -- the tokens up to the limit of nodes
+  -- the tokens with the limit of nodes
   abbrev kept : List Token
   kept = limited tokens
 
@@ -259,7 +260,7 @@ module _ (limits : Limits) (tokens : List Token) (of : AreOfText tokens) where
     | inr c ↦ subst AreLimited (sym c.cut) (let o = cut_of c in limited_so c.front c.token o.0 o.1)
   ]
 
-  -- what is kept stays within the limits
+  -- tokens before `Excess` stay within the limit of nodes
   nodes_within : (all front : List Token) (token : Token) (rest before : List Token) (earlier : Token) (more : List Token) → all ≡ front ++ token ∷ rest → IsWithinLimit all → front ≡ before ++ earlier ∷ more → counted_at_end (before ++ earlier ∷ []) ≤ most_nodes
   nodes_within all front token rest before earlier more stands within is =
       within (before ++ earlier ∷ []) (more ++ token ∷ rest)
@@ -279,7 +280,7 @@ module _ (limits : Limits) (tokens : List Token) (of : AreOfText tokens) where
       by k (levels more) = let l = k.levels in omega (arith, l, more)
       by k (half more) = let h = k.half in omega (arith, h, more)
 
-  -- the number of a line passes none of them
+  -- with a line's number no limit is passed
   no_line_passes : (p : Placed limits start kept) → Passed limits (run start p.front) p.token → (n : ℕ) → p.token ≡ Line n → ⊥
   no_line_passes p passed n is = by (subst (Passed limits (run start p.front)) is passed)
     where
@@ -328,7 +329,7 @@ module _ (limits : Limits) (tokens : List Token) (of : AreOfText tokens) where
             no_line = λ n is. passed_by_no_line tokens kept c n (sym t ∙ is);
           }
 
-      -- before it
+      -- a limit is passed before `Excess`
       earlier_one : (g : List Token) → c.front ≡ p.front ++ p.token ∷ g → p.rest ≡ g ++ c.token ∷ Excess ∷ [] → PlacedSo p
       earlier_one g f r = how p.passes
         where
@@ -363,7 +364,7 @@ module _ (limits : Limits) (tokens : List Token) (of : AreOfText tokens) where
     | inr c ↦ placed_cut p c
   ]
 
-  -- where none is passed, the tokens are kept whole
+  -- where no limit is passed, all tokens are kept
   kept_so : KeptAlong limits start kept → AreOfText kept → AllStayWithin limits tokens
   kept_so along all front token behind stands = elim (kept_up_to_the_limit tokens) [
     | inl (within, same) ↦ record {
@@ -373,7 +374,7 @@ module _ (limits : Limits) (tokens : List Token) (of : AreOfText tokens) where
     | inr c ↦ let back : AreOfText (c.token ∷ Excess ∷ []) = of_back c.front (c.token ∷ Excess ∷ []) (subst AreOfText c.cut all) in absurd back.1.0
   ]
 
-  -- one is passed, or none
+  -- a limit is passed at some first token, or at none
   pub first_passed : AllStayWithin limits tokens ⊎ ((front : List Token) × (token : Token) × FirstPassed limits tokens front token)
   first_passed = elim (place limits start kept kept_limited) [
     | inl (along, all) ↦ inl (kept_so along all)
@@ -382,8 +383,8 @@ module _ (limits : Limits) (tokens : List Token) (of : AreOfText tokens) where
 
 -- ---- the law
 
--- With the token a limit is passed, and with none before it. It fits where no limit is too narrow, and the tokens
--- before it end on the line.
+-- With the token a limit is passed, and with none before it. Within some limits the token fits, and the tokens before
+-- it end on this line.
 pub record IsPassedOn (limits : Limits) (tokens : List Token) (line : ℕ) : Type 0 where
   pub front : List Token
   pub token : Token
@@ -407,7 +408,7 @@ module _ (one : OneTokenAtAPlace) (limits : Limits) (some : 1 ≤ limits.nested)
   ended : EndsLine ts
   ended = limited_begins most_nodes false tokens (text_begins text tokens last are)
 
-  -- limits that are wide enough for these tokens and as wide as others
+  -- limits that are wide enough for these tokens and for the others
   abbrev sb : Limits → ℕ
   sb e = limits.name_bytes + bytes_in ts + e.name_bytes
 
@@ -423,7 +424,7 @@ module _ (one : OneTokenAtAPlace) (limits : Limits) (some : 1 ≤ limits.nested)
   abbrev marking : Limits → (m : Token) (kind : RuleFaultKind) → IsMark m kind → (ℕ → ℕ) → Marking
   marking e m kind is_mark anew = record { limits = limits; wider = wider e; mark = m; kind = kind; is_mark = is_mark; name_bytes = omega arith; nested = omega arith; statements = omega arith; anew = anew }
 
-  -- what is read of the marked tokens, and where that is refused
+  -- what is read with the sentinel, and where that is refused
   module _ (e : Limits) (m : Token) (kind : RuleFaultKind) (is_mark : IsMark m kind) (anew : ℕ → ℕ) (p : Placed limits start ts) where
     abbrev marked_tokens : List Token
     marked_tokens = marks (marking e m kind is_mark anew) start ts p
@@ -438,7 +439,7 @@ module _ (one : OneTokenAtAPlace) (limits : Limits) (some : 1 ≤ limits.nested)
     refused_where found is =
         where_refused (sb e) (sn e) (ss e) last marked_tokens found (ends_marked (marking e m kind is_mark anew) start ts marked_tokens are_marked ended) (names_marked (marking e m kind is_mark anew) start ts marked_tokens are_marked names) is
 
-  -- the tokens before the mark
+  -- the tokens before the sentinel
   abbrev pre : (ℕ → ℕ) → Placed limits start ts → List Token
   pre anew p = p.front ++ p.token ∷ gap (anew (run start p.front).line) p.token
 
@@ -466,7 +467,7 @@ module _ (one : OneTokenAtAPlace) (limits : Limits) (some : 1 ≤ limits.nested)
       let b : List Token = behind_mark p.passes p.rest in
       omega (arith, length-append p.front (p.token ∷ (g ++ m ∷ b)), length-append g (m ∷ b), gap_short (anew (run start p.front).line) p.token, behind_short p.passes p.rest, ap length p.stands, length-append p.front (p.token ∷ p.rest))
 
-  -- ---- where it is told
+  -- ---- `TooMany` is told where a limit is passed
 
   line_step : (s : State) (token : Token) → ((n : ℕ) → token ≡ Line n → ⊥) → (run s (token ∷ gap s.line token)).line ≡ s.line
   line_step s (Line n) never = absurd (never n refl)
@@ -520,12 +521,12 @@ module _ (one : OneTokenAtAPlace) (limits : Limits) (some : 1 ≤ limits.nested)
         | inr p ↦ placed_told line err p
       ]
 
-  -- ---- and where one is passed
+  -- ---- and a limit is passed where it is told
 
   first_of : (line : ℕ) (q : IsPassedOn limits tokens line) → FirstPassed limits tokens q.front q.token
   first_of line q = record { behind = q.behind; stands = q.stands; within = q.within; passed = q.passed }
 
-  -- the tokens before the mark fit, where the token does
+  -- the tokens before the sentinel are a viable prefix, where the token fits
   pre_fits : (e : Limits) (p : Placed limits start ts) → FitsBehindWithin e p.front p.token → (anew : ℕ → ℕ) × FitsWithin e (pre anew p)
   pre_fits e p fits = let line = fits_lined e p.front p.token fits in ((λ n. line.0), line.1)
 

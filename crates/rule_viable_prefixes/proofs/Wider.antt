@@ -1,4 +1,4 @@
--- What is read within wider limits: the same, but where too many is told.
+-- What the parsers of terms read within wider limits: the same, but where `TooMany` is told.
 use Rattle.std.proofs.Common.{◌≡◌, ℕ, zero, suc, ◌≤◌, Bool, true, false, List, [], ◌∷◌, length, Option, Some, None, Result, Ok, Err, refl, subst, arith}
 use Rattle.std.specs.Prelude.{if◌then◌else◌, drop, nat_le}
 use Rattle.std.proofs.lemmas.Bool.{leb-true, le-leb}
@@ -20,9 +20,9 @@ use Rattle.rule_terms.specs.Chains.{Reader, next_is, chain_of}
 use Rattle.rule_terms.specs.Keywords.{loosest, meaning_in}
 use Rattle.rule_terms.specs.TermReaders.{register_in, word_at, start_at, operator_at, join, joined_or_end, chain_at, behind_at, operand_at, inside_at, measured_at, begun_at, shallow_in, primary_at, term_at}
 
--- ---- answers
+-- ---- results
 
--- the answer within narrower limits is the one within wider ones, or too many is told
+-- the result within narrower limits is the one within wider ones, or it is `TooMany`
 pub data Below {X : Type 0} (narrow wide : Result X RuleFault) : Type 0 where
   same_answer : narrow ≡ wide → Below narrow wide
   too_many : (line : ℕ) → narrow ≡ Err (fault line TooMany) → Below narrow wide
@@ -39,7 +39,7 @@ pub below_if : {X : Type 0} {a b c d : Result X RuleFault} (test : Bool) → Bel
 below_if true one other = one
 below_if false one other = other
 
--- what is read behind what was read before
+-- the same of parsers
 abbrev pub BelowReader : {A : Type 0} → Reader A → Reader A → Type 0
 BelowReader {A} p q = (before : A) (tokens : List Token) → Below (p before tokens) (q before tokens)
 
@@ -48,7 +48,7 @@ unfolding chain_of
 chain_of_below zero mark p q below before tokens = same_answer refl
 chain_of_below (suc n) mark p q below before tokens = below_if (next_is mark tokens) (below_bind (below before (drop 1 tokens)) (λ x. chain_of_below n mark p q below x.0 x.1)) (same_answer refl)
 
--- ---- operators of two operands
+-- ---- binary operators
 
 joined_below : (p q o u : Reader (List RawNode)) → BelowReader p q → BelowReader o u → (left : List RawNode) (tokens : List Token) (found : Option (Opcode × List Token)) → Below (joined_or_end p o left tokens found) (joined_or_end q u left tokens found)
 joined_below p q o u below others left tokens None = same_answer refl

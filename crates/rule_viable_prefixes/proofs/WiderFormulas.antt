@@ -1,4 +1,4 @@
--- What formulas are read within wider limits.
+-- What the parsers of formulas read within wider limits.
 use Rattle.std.proofs.Common.{ℕ, zero, suc, ◌≤◌, Bool, true, false, List, [], ◌∷◌, length, refl, arith}
 use Rattle.std.specs.Prelude.{codes, drop}
 use Rattle.std.specs.List.{list_any}

@@ -1,4 +1,4 @@
--- What rules are read within wider limits.
+-- What the parsers of rules read within wider limits.
 use Rattle.std.proofs.Common.{ℕ, zero, suc, ◌≤◌, List, [], ◌∷◌, length, Option, Some, None, refl, arith}
 use Rattle.std.specs.Prelude.{drop, codes}
 use Rattle.std.specs.Str.{bytes_eq}

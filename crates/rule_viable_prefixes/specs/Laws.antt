@@ -13,19 +13,19 @@ use Rattle.rule_viable_prefixes.specs.Fits.{SpellsWithoutLimits, Fits, FitsBehin
 use Rattle.rule_viable_prefixes.specs.Misfits.{IsKindOf}
 use Rattle.rule_viable_prefixes.specs.Passed.{StaysWithin, AllStayWithin}
 
--- the token fits, and with it a limit is passed
+-- the token fits behind the prefix, but with it a limit is passed; that is told as `TooMany`
 pub record IsOneTooMany (limits : Limits) (front : List Token) (token : Token) (kind : RuleFaultKind) : Type 0 where
   pub fits : FitsBehind front token
   pub passed : ¬ StaysWithin limits front token
   pub told : kind ≡ TooMany
 
--- the token does not fit, and the kind is its own
+-- the token does not fit behind the prefix, and is told by its own kind
 pub record DoesNotFit (front : List Token) (token : Token) (kind : RuleFaultKind) : Type 0 where
   pub misfit : ¬ FitsBehind front token
   pub told : IsKindOf front token kind
 
 -- The fault is that of the first token that does not fit or with which a limit is passed, and is on the line that the
--- tokens before it end on. So it is on the line that is not whole where that token is the number of another line.
+-- tokens before it end on. Where that token is the number of another line, this is the line that ended too soon.
 pub record IsAtToken (limits : Limits) (tokens : List Token) (found : RuleFault) : Type 0 where
   pub front : List Token
   pub token : Token
@@ -36,8 +36,8 @@ pub record IsAtToken (limits : Limits) (tokens : List Token) (found : RuleFault)
   pub line : found.line ≡ line_of front
   pub kind : IsOneTooMany limits front token found.kind ⊎ DoesNotFit front token found.kind
 
--- The tokens fit up to their end, but spell no rules. The fault is on the text's last line where another line fits, and
--- otherwise on the last line with tokens, which is not whole.
+-- The tokens are a viable prefix, but spell no rules. The fault is on the text's last line where another line may
+-- begin, and otherwise on the last line that has tokens, which ended too soon.
 pub record IsAtEnd (limits : Limits) (tokens : List Token) (last : ℕ) (found : RuleFault) : Type 0 where
   pub fits : Fits tokens
   pub within : AllStayWithin limits tokens

@@ -1,4 +1,4 @@
--- By which kind a token is refused that does not fit, said by which other tokens fit in its place.
+-- The kind of the fault at a token that does not fit, by which other tokens fit in its place.
 use Rattle.std.specs.Prelude.{◌≡◌, ◌≢◌, ℕ, Bool, IsTrue, List, [], ◌∷◌, ◌++◌, map, Some, codes}
 use Rattle.ops.specs.declared.comparison.Pred.{Pred}
 use Rattle.ops.specs.declared.keywords.flag.Flag.{Flag}
@@ -16,14 +16,15 @@ use Rattle.rule_parse.specs.declared.word.Operation.{Operation}
 use Rattle.rule_parse.specs.Keywords.{operation_word, truth_flag, truth_word}
 use Rattle.rule_viable_prefixes.specs.Fits.{FitsBehind}
 
--- which tokens fit in the place of the one that does not
+-- a set of tokens: those that fit in a place
 abbrev pub Fitting : Type 1
 Fitting = Token → Type 0
 
 -- ---- words
 
--- An opcode, a predicate of `icmp`, a type, an operand or a function. The predicates of `Pre:` are none, since a
--- constant may stand where they do, and neither are flags and `to`.
+-- A noun: an opcode, a predicate of `icmp`, a type, an operand or a function. Where one fits, another word is left out
+-- of the language. The predicates of `Pre:` are no nouns, since a constant may stand where they do, and neither are
+-- flags and `to`.
 pub data IsNoun (word : List ℕ) : Type 0 where
   opcode : (operation : Operation) → word ≡ operation_word operation → IsNoun word
   predicate : (pred : Pred) → word ≡ predicate_keyword pred → IsNoun word
@@ -40,7 +41,7 @@ NounFits fits = (word : List ℕ) × IsNoun word × fits (Word word)
 
 -- ---- flags
 
--- a flag of instructions, or the one that says the truth value of an intrinsic
+-- a flag of instructions, or the one by which the truth value of an intrinsic is true
 pub data IsFlagWord (word : List ℕ) : Type 0 where
   of_instruction : (flag : Flag) → word ≡ flag_keyword flag → IsFlagWord word
   of_intrinsic : (op : Intrinsic) → truth_flag op ≡ Some word → IsFlagWord word
@@ -49,20 +50,21 @@ abbrev pub AreFlagWords : List (List ℕ) → Type 0
 AreFlagWords [] = Unit {0}
 AreFlagWords (word ∷ words) = IsFlagWord word × AreFlagWords words
 
--- flags stand last, of which the first is this word
+-- the prefix ends in flags, the first of which is this word
 abbrev pub RepeatsFlag : List Token → List ℕ → Type 0
 RepeatsFlag front word =
     (before : List Token) × (words : List (List ℕ)) × AreFlagWords (word ∷ words) × (front ≡ before ++ map (λ w. Word w) (word ∷ words))
 
 -- ---- kinds
 
--- A word where a noun may stand, which is not `hasOneUse` and no flag that stands there already, is left out; and so is
--- a number where that of a version may stand.
+-- A word in a place where a noun fits, which is neither `hasOneUse` nor a repeated flag, is left out of the language;
+-- and so is a number in the place of a version's.
 pub data IsLeftOut (front : List Token) (token : Token) (left : List ℕ) : Type 0 where
   word : token ≡ Word left → NounFits (FitsBehind front) → left ≢ codes "hasOneUse" → ¬ RepeatsFlag front left → IsLeftOut front token left
   version : (line : ℕ) → token ≡ Number left → front ≡ Line line ∷ Head (codes "Version:") ∷ [] → IsLeftOut front token left
 
--- A byte that may not stand is told as such, what is left out as that, and every other token as `Syntax`.
+-- `BadByte` of a byte that may not stand, `LeftOut` of what is left out of the language, and `Syntax` of every other
+-- token.
 abbrev pub IsKindOf : List Token → Token → RuleFaultKind → Type 0
 IsKindOf front token BadByte = token ≡ Bad
 IsKindOf front token (LeftOut left) = IsLeftOut front token left

@@ -1,4 +1,4 @@
--- What is used of each limit with a token, counted over the tokens alone.
+-- How much of each limit is used once a token is read, counted over the tokens alone.
 use Rattle.std.specs.Prelude.{◌≡◌, ℕ, ◌+◌, ◌≤◌, Bool, true, false, not, ◌&&◌, if◌then◌else◌, List, [], ◌∷◌, ◌++◌, length, codes}
 use Rattle.std.specs.Str.{bytes_eq}
 use Rattle.scan.specs.declared.rule_token.RuleKind.TheVariants as kinds
@@ -10,7 +10,8 @@ use Rattle.rule_parse.specs.NodeCounts.{counted_at_end}
 
 -- ---- bytes of a name
 
--- of the name that the token is: that of a rule, a register, a constant or an `undef` of the target
+-- the bytes of the name that the token is: a rule's, a register's, a constant's or that of a choice of the target; 0
+-- for other tokens
 abbrev pub name_bytes : Token → ℕ
 name_bytes (Name text) = length text
 name_bytes (Register name) = length name
@@ -19,7 +20,7 @@ name_bytes token = 0
 
 -- ---- statements of a half
 
--- the registers that begin lines behind the last head or `=>`, where so many do before the tokens
+-- how many lines begin with a register since the last head or `=>`; `before` is how many did before these tokens
 abbrev pub statements_behind : ℕ → List Token → ℕ
 statements_behind before [] = before
 statements_behind before (Head text ∷ tokens) = statements_behind 0 tokens
@@ -29,7 +30,7 @@ statements_behind before (token ∷ tokens) = statements_behind before tokens
 
 -- ---- levels of nesting
 
--- what a token of a line is for them
+-- what a token does to the stack of what is open
 pub data Role : Type 0 where
   -- `(`, and `)`
   Opens : Role
@@ -51,7 +52,7 @@ mark_role behind_operand mark =
     else (if is_among (codes "&&" ∷ codes "||" ∷ []) mark then Joins
     else (if not behind_operand && is_among (codes "-" ∷ codes "~" ∷ []) mark then Sign else Other))))
 
--- of a token that stands directly behind an operand, or does not
+-- a `-` or `~` is unary where it isn't behind an operand
 abbrev pub role_of : Bool → Token → Role
 role_of behind_operand (Register name) = Operand
 role_of behind_operand (Number text) = Operand
@@ -59,29 +60,29 @@ role_of behind_operand (Word word) = if ends_primary kinds.Word word then Operan
 role_of behind_operand (Mark mark) = mark_role behind_operand mark
 role_of behind_operand token = Other
 
--- an operand ends with it
+-- a token with this role ends an operand
 abbrev pub ends_operand : Role → Bool
 ends_operand Operand = true
 ends_operand Closes = true
 ends_operand role = false
 
--- signs are pending up to the end of their operand
+-- the stack without the unary operators on top: these are pending up to the end of their operand
 abbrev pub without_signs : List Role → List Role
 without_signs (Sign ∷ pending) = without_signs pending
 without_signs pending = pending
 
--- a `!` is pending up to the next `&&`, `||` or `)`
+-- the stack without the `!`s on top: a `!` is pending up to the next `&&`, `||` or `)`
 abbrev pub without_negations : List Role → List Role
 without_negations (Negates ∷ pending) = without_negations pending
 without_negations pending = pending
 
--- a `(` is open up to the `)` that closes it
+-- the stack without all that is above the innermost `(`, and without that: a `)` closes it
 abbrev pub closed : List Role → List Role
 closed [] = []
 closed (Opens ∷ pending) = pending
 closed (role ∷ pending) = closed pending
 
--- what is open or pending behind a token, the innermost first, where this is before it
+-- the stack behind a token with this role; the innermost is on top
 abbrev pub open_with : Role → List Role → List Role
 open_with Opens pending = Opens ∷ pending
 open_with Closes pending = without_signs (closed pending)
@@ -91,7 +92,7 @@ open_with Joins pending = without_negations pending
 open_with Operand pending = without_signs pending
 open_with Other pending = pending
 
--- behind tokens, where this is before them; nothing is at the beginning of a line
+-- the stack behind tokens, with this one before them; a line begins with an empty one
 abbrev pub open_behind : Bool → List Role → List Token → List Role
 open_behind behind_operand pending [] = pending
 open_behind behind_operand pending (Line number ∷ tokens) = open_behind false [] tokens
@@ -99,15 +100,16 @@ open_behind behind_operand pending (token ∷ tokens) = open_behind (ends_operan
 
 -- ---- what is used
 
--- of the limits of names, nesting and statements, with the token behind these
+-- how much is used of the limits of names, nesting and statements, with the token behind the prefix
 abbrev pub used : List Token → Token → Limits
 used front token = record { name_bytes = name_bytes token; nested = length (open_behind false [] (front ++ token ∷ [])); statements = statements_behind 0 (front ++ token ∷ []) }
 
--- and with it at most 256 operands, literals, names, operators and functions stand in the rule
+-- with the token behind the prefix no limit is passed, nor that of 256 operands, literals, names, operators and
+-- functions
 pub record StaysWithin (limits : Limits) (front : List Token) (token : Token) : Type 0 where
   pub room : AreWithin limits (used front token)
   pub nodes : counted_at_end (front ++ token ∷ []) ≤ most_nodes
 
--- it does so with each of the tokens
+-- no limit is passed with any of the tokens
 abbrev pub AllStayWithin : Limits → List Token → Type 0
 AllStayWithin limits tokens = (front : List Token) (token : Token) (behind : List Token) → tokens ≡ front ++ token ∷ behind → StaysWithin limits front token

@@ -1,4 +1,4 @@
-//! Faults of rule files, and the fronts of tokens that some rule file of the grammar begins with.
+//! Viable prefixes of rule files, and the fault at the first token with which a prefix isn't viable.
 //!
 //! The definitions stand in `specs/`: `Fits` says which tokens begin a rule file of the grammar, `Misfits` by which
 //! kind another one is told, `Passed` what is used of the limits, `Laws` what holds, and `WiderLimits` what the limits

@@ -1,4 +1,4 @@
--- What words say for parameters.
+-- What words spell for parameters.
 use Rattle.std.proofs.Math.Pow.{pow_mono}
 use Rattle.std.proofs.lemmas.Bool.{eqb-true, eqb-false, ltb-true, ltb-false, leb-true, lt-ltb, le-leb, eq-eqb, and_parts, and_from, or_parts, false_from_ne_true}
 use Rattle.std.proofs.Common.{◌≡◌, ◌≢◌, ℕ, zero, suc, ◌+◌, ◌<◌, ◌≤◌, ◌^◌, Bool, true, false, ◌&&◌, ◌||◌, List, [], ◌∷◌, ◌++◌, Option, Some, None, Result, Ok, length, map, take, get_or, refl, sym, ap, subst, ◌∙◌, arith, Contains}
@@ -20,7 +20,7 @@ use Rattle.ir_core.specs.Refines.{AreArguments}
 use Rattle.run_text.specs.Arguments.{number, is_decimal, decimal_said, value_said, values_said, is_true, is_false, AreSaid}
 use Rattle.run_text.specs.Arguments.{begins_as_none}
 
--- ---- what words say, place by place
+-- ---- word by word
 
 pub said_at : (parameters : List Parameter) (words : List (List ℕ)) (k : ℕ) (p : Parameter) (word : List ℕ)
     → slice_get parameters k ≡ Some p → slice_get words k ≡ Some word
@@ -38,9 +38,9 @@ length-values_said [] words same = refl
 length-values_said (p ∷ ps) [] same = absurd (omega arith)
 length-values_said (p ∷ ps) (w ∷ ws) same = ap suc (length-values_said ps ws (omega arith))
 
--- ---- a value that a word says is one of the width
+-- ---- a value that a word spells is of the width
 
--- a number of iN is what is said, or nothing is
+-- where the number is tested to be below 2^N, what is made of it is a value of iN, or nothing
 in_width : (width n : ℕ) (d : Bool) (v : Value) → (d ≡ true → n < 2 ^ width) → (if d then Some (bits width n) else None) ≡ Some v → IsValueOf width v
 in_width width n true v fits is = subst (IsValueOf width) (same_Some (bits width n) v is) (refl, fits refl)
 in_width width n false v fits is = absurd cc
@@ -101,7 +101,7 @@ module _ {E : Type 0} (width : ℕ) (text : List ℕ) (r : Result ℕ E) (parsed
       let zero = alone (slice_index text 0 == 48) (nat_lt 1 (length text)) (length text == 1) parts.1 (λ e. let h = ltb-false 1 (length text) e in eq-eqb (length text) 1 (omega arith)) in
       (and_from _ _ (and_from _ _ read.0.0 (le-leb 1 (length text) (omega arith))) zero, read.1)
 
-  -- a decimal that fits the width, and one that does not
+  -- a number that fits the width is the value
   pub number_said : (n : ℕ) → r ≡ Ok n → n < 2 ^ width → Some (bits width n) ≡ decimal_said width text
   number_said n is lt =
       let read = decimal_read n is in
@@ -114,7 +114,7 @@ module _ {E : Type 0} (width : ℕ) (text : List ℕ) (r : Result ℕ E) (parsed
       let past : nat_lt (number text) (2 ^ width) ≡ false = false_from_ne_true _ (λ e. large (subst (λ (m : ℕ). m < 2 ^ width) (sym read.1) (ltb-true (number text) (2 ^ width) e))) in
       rw (read.0, past) refl
 
-  -- no number of 64 bits
+  -- what `parse` refuses spells no value
   pub none_said : width ≤ 64 → ((n : ℕ) → r ≡ Ok n → ⊥) → None ≡ decimal_said width text
   none_said most never = nothing (is_decimal text && nat_lt (number text) (2 ^ width)) (λ e.
       let p = and_parts (is_decimal text) (nat_lt (number text) (2 ^ width)) e in

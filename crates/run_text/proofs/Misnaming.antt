@@ -15,7 +15,7 @@ use Rattle.run_text.specs.Arguments.{AreSaid, DoNotFit}
 use Rattle.run_text.specs.Runs.{IsNamed, HasNoRun, unnamed, unfit}
 use Rattle.run_text.specs.OutcomeLaws.{RunsAreNotMisnamed}
 
--- where a function stands
+-- the place of the function among the entries
 place_of : (m : Module) (name : List ℕ) (f : Function) → (named : IsNamed m name f) → slice_get m.entries named.entry.0 ≡ Some (entries.Function f)
 place_of m name f named = slice_get-get_or m.entries named.entry.0 (entries.Function f) named.entry.1 ∙ ap (λ (e : Entry). Some e) named.entry.2
 
@@ -25,7 +25,7 @@ one_function m name f g meets is_f is_g =
     let e : Some (entries.Function f) ≡ Some (entries.Function g) = sym (place_of m name f is_f) ∙ (ap (slice_get m.entries) same ∙ place_of m name g is_g) in
     cc
 
--- where each word says a value, none says none
+-- where each word spells a value, none spells none
 none_among : (values : List Value) (k : ℕ) → slice_get (map (λ v. Some v) values) k ≡ Some None → ⊥
 none_among [] k e = cc
 none_among (v ∷ vs) zero e = cc

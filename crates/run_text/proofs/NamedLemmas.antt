@@ -1,4 +1,4 @@
--- The entries of a module up to the function of a name.
+-- The linear search for the function of a name.
 use Rattle.std.proofs.Common.{◌≡◌, ℕ, ◌+◌, ◌<◌, ◌≤◌, Bool, false, List, Some, length, get_or, ap, sym, ◌∙◌, arith, below_more}
 use Rattle.std.specs.Prelude.{slice_get}
 use Rattle.std.specs.Str.{bytes_eq}
@@ -11,7 +11,7 @@ use Rattle.ir_core.specs.declared.module.Entry.TheVariants as entries
 use Rattle.ir_core.specs.declared.function.Function.{Function}
 use Rattle.run_text.specs.Runs.{IsNamed}
 
--- no function among the first entries, so many, has the name
+-- none of the first n entries is a function of the name
 abbrev pub NoneBefore : List Entry → List ℕ → ℕ → Type 0
 NoneBefore es name n = (k : ℕ) → k < n → (f : Function) → slice_get es k ≡ Some (entries.Function f) → f.name ≡ name → ⊥
 

@@ -10,16 +10,16 @@ use Rattle.ir_core.specs.Run.{HasOutcome, HasZeroOutcome}
 use Rattle.ir_reader.specs.Faults.{IsModuleText}
 use Rattle.run_text.specs.Runs.{IsRun, IsMisnamed}
 
--- each function of the module has an outcome at all arguments and every bound of blocks entered
+-- each function of the module has an outcome at all arguments, for every bound on the blocks entered
 abbrev pub ModuleHasOutcomes : Module → Type 0
 ModuleHasOutcomes m = (f : Function) → Contains m.entries (entries.Function f)
     → (args : List Value) → AreArguments f.parameters args
     → (n : ℕ) → (o : Outcome) × HasZeroOutcome f args n o × HasOutcome f args n o
 
--- so it is for a module that was read
+-- each module that is read from a text has outcomes
 abbrev pub ModulesReadHaveOutcomes : Type 0
 ModulesReadHaveOutcomes = (bytes : List ℕ) (m : Module) → IsModuleText bytes m → ModuleHasOutcomes m
 
--- what is run has its function, and arguments that fit it
+-- where a run writes something, the module has the function, and the arguments fit it
 abbrev pub RunsAreNotMisnamed : Type 0
 RunsAreNotMisnamed = (bytes name : List ℕ) (words : List (List ℕ)) (blocks : ℕ) (text : List ℕ) → IsRun bytes name words blocks text → IsMisnamed bytes name words → ⊥

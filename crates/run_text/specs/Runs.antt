@@ -11,18 +11,18 @@ use Rattle.ir_reader.specs.Faults.{IsModuleText}
 use Rattle.run_text.specs.Arguments.{AreSaid, DoNotFit}
 use Rattle.run_text.specs.OutcomeText.{outcome_text}
 
--- the text, which is not too long, is that of the module
+-- the text is that of the module, and not too long
 pub record IsReadAs (bytes : List ℕ) (m : Module) : Type 0 where
   pub source : IsModuleText bytes m
   pub limit : length bytes ≤ most_bytes
 
--- the module has the function, whose name this is
+-- the module has this function, under this name
 pub record IsNamed (m : Module) (name : List ℕ) (f : Function) : Type 0 where
   pub entry : Contains m.entries (entries.Function f)
   pub name_is : f.name ≡ name
 
--- what is written of the named function of a module at the values that the words say, after at most so many blocks
--- entered
+-- what is written of a function of the text's module, known by its name, at the values that the words spell, after at
+-- most `blocks` blocks entered
 pub record IsRun (bytes name : List ℕ) (words : List (List ℕ)) (blocks : ℕ) (text : List ℕ) : Type 0 where
   pub read : Module
   pub source : IsReadAs bytes read
@@ -34,12 +34,12 @@ pub record IsRun (bytes name : List ℕ) (words : List (List ℕ)) (blocks : ℕ
   pub outcome : HasZeroOutcome f values blocks o
   pub text_is : text ≡ outcome_text o
 
--- a module has no function of this name, or the words don't fit its parameters
+-- the module has no function of this name, or the words don't fit its parameters
 pub data HasNoRun (m : Module) (name : List ℕ) (words : List (List ℕ)) : Type 0 where
   unnamed : ((f : Function) → IsNamed m name f → ⊥) → HasNoRun m name words
   unfit : (f : Function) → IsNamed m name f → DoNotFit f.parameters words → HasNoRun m name words
 
--- the text is that of a module where the words name nothing to run
+-- the text is a module's, where the name and the words give nothing to run
 pub record IsMisnamed (bytes name : List ℕ) (words : List (List ℕ)) : Type 0 where
   pub read : Module
   pub source : IsReadAs bytes read

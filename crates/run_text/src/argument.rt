@@ -1,4 +1,4 @@
-//! The values that the arguments of a run say.
+//! The values that the arguments of a run spell.
 
 ghost use Rattle.std.specs.Prelude.{◌≡◌, ◌≤◌, map, IfOk, IfSome, None};
 ghost use Rattle.run_text.specs.Arguments.{begins_as_none};
@@ -9,8 +9,8 @@ use lists::List;
 use ops::{Value, Width, Word};
 use std::alloc::{AllocError, Global};
 
-/// Whether a text begins as no decimal does, though `parse` may read it: with a plus sign, or with a zero before other
-/// bytes.
+/// Whether the text begins with a plus sign, or with a zero before other bytes: `parse` may take it, but it is no
+/// decimal here.
 fn begins_as_none(text: &str) -> bool
     ensures { result ≡ begins_as_none text.now }
 {
@@ -22,7 +22,7 @@ fn begins_as_none(text: &str) -> bool
     }
 }
 
-/// The number of the width that a decimal writes, without a leading zero but for 0 itself.
+/// The number of this width that a decimal spells, without a leading zero but for 0 itself.
 fn decimal_said(width: Width, text: &str) -> Option<Value>
     requires { width ≤ 64 }
     ensures { result ≡ decimal_said width text.now }
@@ -36,7 +36,7 @@ fn decimal_said(width: Width, text: &str) -> Option<Value>
     }
 }
 
-/// The value of the width that a word says: `poison`, at i1 `true` and `false`, and a decimal.
+/// The value of this width that a word spells: `poison`, at i1 `true` or `false`, or a decimal.
 fn value_said(width: Width, text: &str) -> Option<Value>
     ensures { result ≡ value_said width text.now }
 {
@@ -53,7 +53,7 @@ fn value_said(width: Width, text: &str) -> Option<Value>
     decimal_said(width, text)
 }
 
-/// The values that words say for parameters, or `None` where they don't fit.
+/// The values that words spell for parameters, or `None` where they don't fit.
 pub(crate) fn values_said(
     alloc: Global,
     parameters: &[Parameter],

@@ -18,7 +18,7 @@ pub enum RunFault {
 /// Why a function was not run.
 pub type RunError = Refusal<RunFault>;
 
-/// The refusal of a text as that of a run.
+/// The refusal of a module's text as that of a run.
 pub(crate) fn of_text(error: IrError) -> RunError
     ensures { result ≡ of_text error }
 {

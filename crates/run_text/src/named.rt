@@ -6,7 +6,7 @@ ghost use Rattle.run_text.specs.Runs.{IsNamed};
 
 use ir_core::{Entry, Function, Module};
 
-/// The function of this name, without its `@`, if the module has one. It goes through the entries up to that function.
+/// The function of this name, without its `@`, if the module has one. The search is linear in the entries.
 pub(crate) fn function_named<'m>(m: &'m Module, name: &[u8]) -> Option<&'m Function>
     ensures found { IfSome result (λ f. IsNamed m.now name.now f.now) }
     ensures none { IfNone result ((f : function) → IsNamed m.now name.now f → ⊥) }

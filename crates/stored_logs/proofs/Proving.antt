@@ -1,4 +1,4 @@
--- What is proved, with one more row or one more rule.
+-- What is proved, with one more row or with one more rule.
 use Rattle.std.proofs.Common.{◌≡◌, ◌≢◌, ℕ, zero, suc, ◌+◌, ◌<◌, false, IsTrue, List, [], ◌∷◌, ◌++◌, length, take, get_or, flat_map, All, Contains, Option, Some, refl, sym, ap, ap₂, subst, ◌∙◌, append_assoc, add-zero, arith}
 use Rattle.std.specs.Prelude.{slice_get}
 use Rattle.std.specs.List.{AllZip, enumerate_from, zip}
@@ -54,7 +54,7 @@ left_out place typing (Refuted example) is_not = refl
 left_out place typing (WitnessFails example) is_not = refl
 left_out place typing (Budget tried) is_not = refl
 
--- what `prove` says of its log where the verdict is `Admitted`
+-- where the verdict is `Admitted`, the log of `prove` refutes the clauses
 pub refutation_of : (verdict : Verdict) (set : Cnf) (log : List Step) → verdict ≡ Admitted → IsLogOf verdict set log
     → IsRefutation set log
 refutation_of verdict set log is log_is = subst (λ (v : Verdict). IsLogOf v set log) is log_is
@@ -76,7 +76,7 @@ no_rows conflicts place rule proved =
       };
     }
 
--- a row that is admitted, behind its proof
+-- a row that is admitted is appended, behind its proof
 pub admitted_row : (conflicts place : ℕ) (rule : Rule) (typing : List ℕ) (verdict : Verdict) (old mid new : Proved)
     → verdict ≡ Admitted → IsHonest rule typing conflicts verdict → AddsProof rule typing old mid
     → new.table ≡ mid.table ++ row_at place typing verdict ∷ [] → new.refutations ≡ mid.refutations
@@ -105,7 +105,7 @@ admitted_row conflicts place rule typing verdict old mid new admitted honest pro
       };
     }
 
--- a row that is not
+-- a row that is not admitted is appended
 pub other_row : (conflicts place : ℕ) (rule : Rule) (typing : List ℕ) (verdict : Verdict) (old new : Proved)
     → verdict ≢ Admitted → IsHonest rule typing conflicts verdict
     → new.table ≡ old.table ++ row_at place typing verdict ∷ [] → new.refutations ≡ old.refutations
@@ -128,7 +128,7 @@ other_row conflicts place rule typing verdict old new other honest table refutat
       };
     }
 
--- rows behind rows
+-- rows are appended behind rows
 pub more_rows : (conflicts place : ℕ) (rule : Rule) (ts us : List (List ℕ)) (old mid new : Proved)
     → AddsProved conflicts place rule ts old mid → AddsProved conflicts place rule us mid new
     → AddsProved conflicts place rule (ts ++ us) old new
@@ -160,12 +160,12 @@ more_rows conflicts place rule ts us old mid new a b =
       };
     }
 
--- what are all typings are typings
+-- the typings that are found are typings of the rule
 pub typed : (rule : Rule) (widths : List ℕ) (most : ℕ) (ts : List (List ℕ)) → IsAnswer rule widths most (answers.All ts)
     → All (IsTyping rule) ts
 typed rule widths most ts answer = All-weaker (Contains ts) (IsTyping rule) (λ t here. ((answer.0.all t).0 here).typed) ts (All-contains_itself ts)
 
--- the rule's rows are added
+-- the rule's rows are appended
 pub decided : (widths : List ℕ) (conflicts place : ℕ) (rule : Rule) (ts : List (List ℕ)) (old new : Proved)
     → IsAnswer rule widths most_typings (answers.All ts) → AddsProved conflicts place rule ts old new
     → AddsProvedRule widths conflicts place rule old new
@@ -209,7 +209,7 @@ stands_last : (rules : List Rule) (rule : Rule) → slice_get (rules ++ rule ∷
 stands_last [] rule = refl
 stands_last (r ∷ rules) rule = stands_last rules rule
 
--- the rule of a row of the last rule
+-- a row on the last rule is on this one
 is_last : (conflicts : ℕ) (rules : List Rule) (rule : Rule) (row : Row) → IsRowOf conflicts (length rules) rule row
     → slice_get (rules ++ rule ∷ []) row.rule ≡ Some rule
 is_last conflicts rules rule row row_is = subst (λ (k : ℕ). slice_get (rules ++ rule ∷ []) k ≡ Some rule) (sym row_is.of_rule) (stands_last rules rule)
@@ -222,7 +222,7 @@ still_refuted : (rules : List Rule) (rule : Rule) (row : Row) (refutation : Refu
     → IsRefutationOf rules row refutation → IsRefutationOf (rules ++ rule ∷ []) row refutation
 still_refuted rules rule row refutation h = (h.0, stays_at rules rule row.rule h.0 h.1, h.2)
 
--- the text of a proof where the row's rule is known
+-- the text of a proof, where the row's rule is known
 text_at : (rules : List Rule) (rule : Rule) (row : Row) (refutation : Refutation) → slice_get rules row.rule ≡ Some rule
     → row_proof_text rules row refutation ≡ proof_text (proof_of rule row.typing refutation)
 text_at rules rule row refutation at = ap (λ (found : Option Rule). option_map_or (λ (r : Rule). proof_text (proof_of r row.typing refutation)) found []) at
@@ -232,7 +232,7 @@ same_text : (rules : List Rule) (rule : Rule) (row : Row) (refutation : Refutati
     → row_proof_text (rules ++ rule ∷ []) row refutation ≡ row_proof_text rules row refutation
 same_text rules rule row refutation h = text_at (rules ++ rule ∷ []) h.0 row refutation (stays_at rules rule row.rule h.0 h.1) ∙ sym (text_at rules h.0 row refutation h.1)
 
--- the rows of a right finding on the last rule
+-- the rows of a right finding are on the last rule
 rows_right : (widths : List ℕ) (conflicts : ℕ) (rules : List Rule) (rule : Rule) (finding : Finding)
     → IsFinding widths conflicts (length rules) rule finding
     → All (IsRowOf conflicts (length rules) rule) (rows_of finding)
@@ -258,7 +258,7 @@ module _ (widths : List ℕ) (conflicts : ℕ) (rules : List Rule) (rule : Rule)
   admitted_is : admitted_in new.table ≡ front ++ back
   admitted_is = ap (λ (l : List Row). admitted_in l) more.added.table ∙ filter-append (λ (row : Row). is_admitted row.verdict) old.table rows
 
-  -- a refutation of a row of the last rule
+  -- the refutation is for a row on the last rule
   abbrev IsOfLast : Row → Refutation → Type 0
   IsOfLast row refutation = IsRowOf conflicts (length rules) rule row × Refutes rule row.typing refutation
 
@@ -307,7 +307,7 @@ module _ (widths : List ℕ) (conflicts : ℕ) (rules : List Rule) (rule : Rule)
         );
       }
 
--- the next rule
+-- the loop's next rule
 pub next_rule : (widths : List ℕ) (conflicts : ℕ) (rules : List Rule) (i : ℕ) (rule : Rule) (old new : Proved)
     → i < length rules → rule ≡ get_or rules i rule → IsProved (take i rules) widths conflicts old
     → AddsProvedRule widths conflicts i rule old new → IsProved (take (i + 1) rules) widths conflicts new

@@ -1,4 +1,4 @@
--- What is found of the proofs so far, with one more.
+-- The verdicts on the proofs so far, with one more.
 use Rattle.std.proofs.Common.{◌≡◌, ◌↔◌, ℕ, Bool, true, false, IsTrue, ◌&&◌, List, [], ◌∷◌, ◌++◌, All, Option, Some, get_or, refl, sym, ap, subst, ◌∙◌}
 use Rattle.std.specs.Prelude.{slice_get}
 use Rattle.std.specs.List.{AllZip}
@@ -35,7 +35,7 @@ next_typed rules text front read rest is =
     let at : (proof : Proof) × IsProofOf rules proof read = pairs_at (IsProofOf rules) is.proofs front read rest is.each in
     typed rules at.0 read at.1
 
--- what is read at the place of a rule is that rule
+-- the rule that is read at its place is that rule
 pub read_at : (rules : List Rule) (place : ℕ) (rule read : Rule) → slice_get rules place ≡ Some rule
     → read ≡ get_or rules place read → (rule ≡ read) × (slice_get rules place ≡ Some read)
 read_at rules place rule read at is =
@@ -46,7 +46,7 @@ both : (a b : Bool) → IsTrue (a && b) ↔ (IsTrue a × IsTrue b)
 both true b = (λ h. (refl, h), λ h. h.1)
 both false b = (λ h. cc, λ h. cc)
 
--- the verdict on a proof of a rule
+-- the verdict on the pair of a proof is appended
 pub one_verdict : (rules : List Rule) (conflicts : ℕ) (proof : RuleProof) (rule : Rule) (verdict : Verdict) (admitted : Bool) (old new : Rechecked)
     → slice_get rules proof.rule ≡ Some rule → IsHonest rule proof.typing conflicts verdict
     → IsUnrefutedBy proof.log verdict
@@ -70,7 +70,7 @@ one_verdict rules conflicts proof rule verdict admitted old new is honest unrefu
       );
     }
 
--- the row is the verdict on what the proof is of
+-- the row has the verdict on the pair of the proof
 pub record IsRowFor (rules : List Rule) (conflicts : ℕ) (proof : RuleProof) (row : Row) : Type 0 where
   pub rule : Rule
   pub is : slice_get rules proof.rule ≡ Some rule
@@ -118,7 +118,7 @@ one_more rules conflicts proofs proof old new so_far more =
       );
     }
 
--- a verdict on what was read of a proof is one on the proof
+-- a verdict for what was read of a proof is one for the proof
 on_proof : (rules : List Rule) (conflicts : ℕ) (proof : Proof) (read : RuleProof) (row : Row)
     → IsProofOf rules proof read → IsRowFor rules conflicts read row → IsVerdictOn rules conflicts proof row
 on_proof rules conflicts proof read row is row_is =

@@ -1,5 +1,4 @@
--- Proofs are of one pair each, their logs are stored one after the other, and what is stored refutes no set that is
--- kept.
+-- Each pair has at most one proof, the logs are stored one by one, and none of them refutes the clauses of a `Budget`.
 use Rattle.std.proofs.Common.{◌≡◌, inl, inr, ℕ, zero, suc, ◌<◌, List, [], ◌∷◌, ◌++◌, length, take, get_or, map, All, Option, Some, refl, sym, ap, subst, ◌∙◌, arith}
 use Rattle.std.specs.Prelude.{◌≢◌, slice_get, Contains, IfSome}
 use Rattle.std.specs.List.{AllZip}
@@ -40,7 +39,7 @@ seam : {X : Type 0} (xs : List X) (x : X) (ys : List X) → slice_get (xs ++ x �
 seam [] x ys = refl
 seam (z ∷ xs) x ys = seam xs x ys
 
--- what is read at a place is of the proof there
+-- what is read at a place has the proof at that place
 beside : {A B : Type 0} (R : A → B → Type 0) (xs : List A) (ys : List B) (k : ℕ) (y : B) → AllZip R xs ys → slice_get ys k ≡ Some y → (x : A) × (slice_get xs k ≡ Some x) × R x y
 beside R [] [] k y h at = absurd (let none : k < 0 = slice_get_within [] k y at in omega arith)
 beside R [] (z ∷ ys) k y h at = absurd h
@@ -48,7 +47,7 @@ beside R (x ∷ xs) [] k y h at = absurd h
 beside R (x ∷ xs) (z ∷ ys) zero y h at = (x, refl, subst (R x) (same_Some z y at) h.0)
 beside R (x ∷ xs) (z ∷ ys) (suc k) y h at = beside R xs ys k y h.1 at
 
--- and the other way round
+-- and the proof at a place has what is read at that place
 across : {A B : Type 0} (R : A → B → Type 0) (xs : List A) (ys : List B) (k : ℕ) (x : A) → AllZip R xs ys → slice_get xs k ≡ Some x → (y : B) × (slice_get ys k ≡ Some y) × R x y
 across R [] [] k x h at = absurd (let none : k < 0 = slice_get_within [] k x at in omega arith)
 across R [] (y ∷ ys) k x h at = absurd h
@@ -59,7 +58,7 @@ across R (z ∷ xs) (y ∷ ys) (suc k) x h at = across R xs ys k x h.1 at
 -- ---- each pair has one proof
 
 module _ (rules : List Rule) (text : List ℕ) (read : List RuleProof) (is : IsReadOf rules text read) where
-  -- two that are read of one pair are of proofs of one name and the same widths
+  -- two proofs of the same pair have the same name and the same widths
   alike : (p q : Proof) (a b : RuleProof) → IsProofOf rules p a → IsProofOf rules q b → pair_of a ≡ pair_of b → (p.name ≡ q.name) × (p.widths ≡ q.widths)
   alike p q a b of_p of_q same =
       let rule : a.rule ≡ b.rule = ap (λ (x : Pair). x.0) same in
@@ -84,7 +83,7 @@ module _ (rules : List Rule) (text : List ℕ) (read : List RuleProof) (is : IsR
     ]
   ]
 
-  -- what is stored of each that is read is stored of each proof
+  -- the log of each proof that was read is stored, so that of each proof of the text is
   pub all_stored : (stored : StoredLogs) → AreDistinct (map (λ (r : Rule). r.name) rules) → All (IsLogStored stored) read → AreStored rules text stored
   all_stored stored distinct logs = record {
     proofs = is.proofs;
@@ -113,7 +112,7 @@ one_more_stored front proof rest old new once so_far stored others =
     others (pair_of q) (λ same. let end : k ≡ length front = once k (length front) q proof at (seam front proof rest) same in absurd (omega arith)) ∙ so_far k d within)
     (one (IsLogStored new) proof stored)
 
--- ---- what is kept
+-- ---- what follows for a table
 
 pub kept_to : (rules : List Rule) (text : List ℕ) (stored : StoredLogs) (table : List Row) → AreStored rules text stored → All (IsUnrefutedIn stored) table → AreKeptTo rules text table
 kept_to rules text stored table are unrefuted = record {

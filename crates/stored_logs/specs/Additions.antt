@@ -1,4 +1,4 @@
--- What is added as one rule is proved, and as one proof is checked again.
+-- What proving one rule adds, and what checking one proof again adds.
 use Rattle.std.specs.Prelude.{◌≡◌, ◌↔◌, ℕ, List, [], ◌∷◌, ◌++◌, map, IsTrue, All, Some, slice_get, flat_map}
 use Rattle.std.specs.List.{AllZip, zip}
 use Rattle.rule_core.specs.declared.rule.Rule.{Rule}
@@ -15,7 +15,7 @@ use Rattle.stored_logs.specs.declared.rechecked.Rechecked.{Rechecked}
 use Rattle.stored_logs.specs.declared.refutation.Refutation.{Refutation}
 use Rattle.stored_logs.specs.Refutations.{Refutes, proof_of, admitted_in}
 
--- a refutation for the rule at the typing, and the text of the proof, are added, and nothing else
+-- a refutation for the rule at the typing, and the text of the proof that it is, are appended, and nothing else
 pub record AddsProof (rule : Rule) (typing : List ℕ) (old new : Proved) : Type 0 where
   pub refutation : Refutation
   pub right : Refutes rule typing refutation
@@ -24,8 +24,8 @@ pub record AddsProof (rule : Rule) (typing : List ℕ) (old new : Proved) : Type
   pub table : new.table ≡ old.table
   pub all_admitted : new.all_admitted ≡ old.all_admitted
 
--- The rows of a finding about the rule are added, with a refutation for each that is admitted and the text of the
--- proofs; and all stays admitted only where the finding is.
+-- The rows of a finding are appended, with a refutation for each that is admitted, and the text of these proofs; all is
+-- still admitted only where this finding is.
 pub record AddsProofs (rule : Rule) (finding : Finding) (old new : Proved) : Type 0 where
   pub more : List Refutation
   pub right : AllZip (λ row refutation. Refutes rule row.typing refutation) (admitted_in (rows_of finding)) more
@@ -34,21 +34,21 @@ pub record AddsProofs (rule : Rule) (finding : Finding) (old new : Proved) : Typ
   pub table : new.table ≡ old.table ++ rows_of finding
   pub all_admitted : IsTrue new.all_admitted ↔ (IsTrue old.all_admitted × IsAdmitted finding)
 
--- a row for each of these typings of the rule, in order
+-- a row is appended for each of these typings of the rule, in order
 pub record AddsProved (conflicts place : ℕ) (rule : Rule) (typings : List (List ℕ)) (old new : Proved) : Type 0 where
   pub rows : List Row
   pub typings_of : map (λ row. row.typing) rows ≡ typings
   pub right : All (IsRowOf conflicts place rule) rows
   pub added : AddsProofs rule (Decided rows) old new
 
--- a right finding about the rule
+-- a right finding about the rule is appended
 pub record AddsProvedRule (widths : List ℕ) (conflicts place : ℕ) (rule : Rule) (old new : Proved) : Type 0 where
   pub finding : Finding
   pub right : IsFinding widths conflicts place rule finding
   pub added : AddsProofs rule finding old new
 
--- the verdict on what the proof is of, and its text, are added, and all stays admitted only where the verdict is
--- `Admitted`
+-- the verdict on the pair that the proof is of, and its text, are appended; all is still admitted only where the
+-- verdict is `Admitted`
 pub record AddsVerdict (rules : List Rule) (conflicts : ℕ) (proof : RuleProof) (old new : Rechecked) : Type 0 where
   pub rule : Rule
   pub is : slice_get rules proof.rule ≡ Some rule

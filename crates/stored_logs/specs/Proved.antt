@@ -7,11 +7,12 @@ use Rattle.verdict.specs.Table.{IsHonestTable}
 use Rattle.stored_logs.specs.declared.proved.Proved.{Proved}
 use Rattle.stored_logs.specs.Refutations.{AreRefutationsOf, proofs_text}
 
--- What is handed back is the findings: the table has their rows and is honest; a refutation stands beside each row that
--- is admitted, and the text is that of the proofs which these are; and all is admitted exactly where each finding is.
+-- What is given for a list of rules is made of its findings: the table has their rows and is honest; there is a
+-- refutation for each row that is admitted, and the text is that of these proofs; all is admitted exactly where each
+-- finding is.
 pub record IsProved (rules : List Rule) (widths : List ℕ) (conflicts : ℕ) (proved : Proved) : Type 0 where
   pub findings : List Finding
-  -- a right one for each rule, in order
+  -- there is a right finding for each rule, in order
   pub found : AllZip (λ placed finding. IsFinding widths conflicts placed.0 placed.1 finding) (enumerate_from 0 rules) findings
   pub table : proved.table ≡ flat_map rows_of findings
   pub honest : IsHonestTable rules conflicts proved.table

@@ -11,8 +11,8 @@ use Rattle.verdict.specs.Proved.{IsUnrefutedBy}
 use Rattle.verdict.specs.Table.{IsHonestTable, table_text}
 use Rattle.stored_logs.specs.declared.rechecked.Rechecked.{Rechecked}
 
--- The row is of the rule that the proof names, at the proof's widths, and its verdict is honest; a set that a `Budget`
--- keeps is not refuted by the proof's log.
+-- The row is on the rule that the proof names, at the proof's widths, and its verdict is honest; the proof's log does
+-- not refute the clauses of a `Budget`.
 pub record IsVerdictOn (rules : List Rule) (conflicts : ℕ) (proof : Proof) (row : Row) : Type 0 where
   pub rule : Rule
   pub is : slice_get rules row.rule ≡ Some rule
@@ -21,7 +21,7 @@ pub record IsVerdictOn (rules : List Rule) (conflicts : ℕ) (proof : Proof) (ro
   pub honest : IsHonest rule row.typing conflicts row.verdict
   pub unrefuted : IsUnrefutedBy proof.log row.verdict
 
--- What is handed back is a verdict on each proof of the text, in order, and their texts.
+-- What is given for a text is a verdict on the pair of each of its proofs, in order, and their texts.
 pub record IsRechecked (rules : List Rule) (text : List ℕ) (conflicts : ℕ) (rechecked : Rechecked) : Type 0 where
   pub proofs : List Proof
   pub read : IsTextOfGood rules text proofs

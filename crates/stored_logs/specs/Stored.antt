@@ -1,4 +1,4 @@
--- Proofs whose logs are stored, and what they have to say of a table of verdicts.
+-- Logs of proofs that are stored for their pairs, and what that says of a table of verdicts.
 use Rattle.std.specs.Prelude.{◌≡◌, ℕ, List, Some, slice_get, All, Contains}
 use Rattle.rule_core.specs.declared.rule.Rule.{Rule}
 use Rattle.proof_text.specs.declared.proof.Proof.{Proof}
@@ -15,7 +15,7 @@ use Rattle.verdict_core.specs.declared.verdicts.Row.{Row}
 abbrev pub pair_of : RuleProof → Pair
 pair_of proof = (proof.rule, proof.typing)
 
--- no two of the proofs are of one pair
+-- no two of the proofs are of the same pair
 abbrev pub AreOfPairsOnce : List RuleProof → Type 0
 AreOfPairsOnce proofs = (i j : ℕ) (a b : RuleProof) → slice_get proofs i ≡ Some a → slice_get proofs j ≡ Some b → pair_of a ≡ pair_of b → i ≡ j
 
@@ -23,18 +23,17 @@ AreOfPairsOnce proofs = (i j : ℕ) (a b : RuleProof) → slice_get proofs i ≡
 abbrev pub IsLogStored : StoredLogs → RuleProof → Type 0
 IsLogStored stored proof = log_of stored (pair_of proof) ≡ Some proof.log
 
--- the proofs of a text, which are good ones of these rules: the log of each is stored for the rule of its name at its
--- widths
+-- the text is of good proofs of these rules, and the log of each is stored for the rule with its name, at its widths
 pub record AreStored (rules : List Rule) (text : List ℕ) (stored : StoredLogs) : Type 0 where
   pub proofs : List Proof
   pub text_is : IsTextOfGood rules text proofs
   pub each : (proof : Proof) (place : ℕ) → Contains proofs proof → HasNameAt rules place proof.name → log_of stored (place, proof.widths) ≡ Some proof.log
 
--- the row is of the rule that the proof names, at its widths
+-- the row is on the rule that the proof names, at the proof's widths
 abbrev pub IsOf : List Rule → Proof → Row → Type 0
 IsOf rules proof row = HasNameAt rules row.rule proof.name × (row.typing ≡ proof.widths)
 
--- The text is of good proofs of these rules, and each refutes no set that a `Budget` keeps in the row which it is of.
+-- The text is of good proofs of these rules, and none has a log that refutes the clauses of a `Budget` on its pair.
 pub record AreKeptTo (rules : List Rule) (text : List ℕ) (table : List Row) : Type 0 where
   pub proofs : List Proof
   pub text_is : IsTextOfGood rules text proofs

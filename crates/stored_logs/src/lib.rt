@@ -1,6 +1,6 @@
 //! Stored logs: what `verify --logs` writes of a list of rules, and what `recheck` writes of the proofs in a text.
 //!
-//! `specs/Proved` and `specs/Rechecked` say what is written, and which verdicts, clause sets and logs stand beside it.
+//! `specs/Proved` and `specs/Rechecked` say what is written, and which verdicts, clause sets and logs come with it.
 #![tactic(auto)]
 
 mod proved;

@@ -23,7 +23,7 @@ use trimmed_logs::trimmed;
 use verdict::{MOST_TYPINGS, prove};
 use verdict_core::{Row, Table};
 
-/// What is found about a list of rules, and why those are valid that are admitted.
+/// What is found about a list of rules, with the refutations of those that are admitted.
 #[derive(Drop)]
 pub struct Proved {
     /// A row for each rule in order and each of its typings in order. A rule that has more than `MOST_TYPINGS` has
@@ -62,7 +62,7 @@ pub fn prove_rules(
     Ok(proved)
 }
 
-/// Adds what is found about the rule at a place.
+/// Appends what is found about the rule at this place.
 fn push_rule(
     alloc: Global,
     proved: &mut Proved,
@@ -84,7 +84,7 @@ fn push_rule(
     }
 }
 
-/// Adds a row for each of some typings of the rule.
+/// Appends a row for each of some typings of the rule.
 fn push_rows(
     alloc: Global,
     proved: &mut Proved,
@@ -104,7 +104,7 @@ fn push_rows(
     Ok(())
 }
 
-/// Adds a row for a typing of the rule.
+/// Appends a row for a typing of the rule.
 fn push_row(
     alloc: Global,
     proved: &mut Proved,
@@ -132,7 +132,8 @@ fn push_row(
     Ok(())
 }
 
-/// Adds a refutation for the rule at a typing, without what it doesn't need, and the text of the proof.
+/// Appends a refutation for the rule at a typing, trimmed to the steps and hints that it needs, and the text of the
+/// proof.
 fn push_refutation(
     alloc: Global,
     proved: &mut Proved,

@@ -29,8 +29,8 @@ pub struct Rechecked {
     pub all_admitted: bool,
 }
 
-/// Decides what the proofs in a text are of: a rule that a log proves is admitted by it, and else a search decides,
-/// which gives up once it has learned so many clauses.
+/// Decides the rules that the proofs in a text are of, at their widths: a log that proves its rule admits it, and else
+/// a search decides, which may learn `conflicts` clauses.
 pub fn recheck(
     alloc: Global,
     rules: &[Rule],
@@ -56,7 +56,7 @@ pub fn recheck(
     Ok(rechecked)
 }
 
-/// Adds the verdict on what a proof is of.
+/// Appends the verdict on the pair that a proof is of.
 fn push_verdict_on(
     alloc: Global,
     rechecked: &mut Rechecked,

@@ -3,7 +3,7 @@
 use clauses::{Cnf, Log};
 use lists::List;
 
-/// Why a rule is valid at a typing.
+/// Why a rule is valid at a typing: no setting is a counterexample.
 #[derive(Drop)]
 pub struct Refutation {
     /// The clauses that stand for the counterexamples of the rule.

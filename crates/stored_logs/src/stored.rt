@@ -1,4 +1,4 @@
-//! Proofs whose logs are stored, each for the rule and the typing that it is of.
+//! Logs of proofs, each stored for its rule and typing.
 
 ghost use Rattle.std.specs.Prelude.{◌<◌, ◌^◌, map, All, length, IfOk, IfErr};
 ghost use Rattle.refusal.specs.Refusals.{IfRefused};
@@ -25,7 +25,7 @@ pub fn read_stored(alloc: Global, rules: &[Rule], bytes: &[u8]) -> Result<Stored
     Ok(stored)
 }
 
-/// The logs of proofs, no two of which are of one rule at one typing.
+/// The logs of proofs, no two of which are of one rule at one typing, each stored for its pair.
 fn stored_of(alloc: Global, proofs: Vec<RuleProof>) -> Result<StoredLogs, AllocError>
     requires { AreOfPairsOnce proofs.items }
     ensures { IfOk result (λ stored. All (IsLogStored stored) proofs.items) }

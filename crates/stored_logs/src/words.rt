@@ -1,4 +1,4 @@
-//! What the text of a proof has of a rule and a typing.
+//! The name and the widths as the text of a proof has them.
 
 ghost use Rattle.std.specs.Prelude.{◌≡◌, IfOk, ◌↔◌, IsTrue};
 

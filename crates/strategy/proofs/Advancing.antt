@@ -1,4 +1,4 @@
--- A search goes on past places at which all matches were turned down before.
+-- A search skips places where all matches are known to be turned down.
 use Rattle.std.proofs.Common.{◌≡◌, ◌⊎◌, inl, inr, ℕ, zero, suc, ◌+◌, ◌-◌, ◌<◌, ◌≤◌, false, List, length, refl, subst, arith}
 use Rattle.std.proofs.lemmas.Bool.{cases_lt}
 use Rattle.ir_core.specs.Reads.{end_of}
@@ -15,7 +15,7 @@ abbrev pub IsPlaceBefore : ℕ → ℕ → ℕ → ℕ → Type 0
 IsPlaceBefore c j b k = (c < b) ⊎ ((c ≡ b) × (j < k))
 
 module _ (rules : List Rule) (conflicts : ℕ) (f : Function) (ready : AreReady rules) (u v : Verdicts) where
-  -- the matches at a place were turned down before, and all before a place are asked
+  -- all matches at the place are known to be turned down; below, the verdicts of all before a place are asked
   abbrev pub WereTurnedDown : ℕ → ℕ → Type 0
   WereTurnedDown c j = AsksAll rules conflicts f (IsAt c j) v v false
 
@@ -47,7 +47,7 @@ module _ (rules : List Rule) (conflicts : ℕ) (f : Function) (ready : AreReady 
       let same : b + 1 + suc n ≡ b + suc (suc n) = omega arith in
       subst (λ (c : ℕ). AskedTo c 0) same (along_blocks n (b + 1) 0 (λ c j less within. down c j (omega (arith, less)) within) next)
 
-  -- up to a place that isn't behind the end of its block
+  -- the search goes on to a place that isn't behind the end of its block
   pub come_to : (b k c j : ℕ) → (b < c) ⊎ ((b ≡ c) × (k ≤ j)) → j ≤ end_of f c
       → ((d i : ℕ) → IsPlaceBefore d i c j → i < end_of f d → WereTurnedDown d i) → AskedTo b k → AskedTo c j
   come_to b k c j later within down asked = elim later [
@@ -64,7 +64,7 @@ module _ (rules : List Rule) (conflicts : ℕ) (f : Function) (ready : AreReady 
         subst (AskedTo c) there (along_block n c k (λ i less. down c i (inr (refl, omega (arith, less, there))) (omega (arith, less, there, within))) begun)
   ]
 
-  -- and through the whole function
+  -- the search goes on to the end of the function
   pub come_through : (b k : ℕ) → ((c j : ℕ) → j < end_of f c → WereTurnedDown c j) → AskedTo b k → AsksAll rules conflicts f IsAnywhere u v false
   come_through b k down asked = elim (cases_lt b (length f.blocks)) [
     | inr late ↦ past_all rules conflicts f b k u v ready late asked

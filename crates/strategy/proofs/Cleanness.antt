@@ -1,4 +1,4 @@
--- All of a cleaned function is needed.
+-- In a cleaned function every result is live: none is left to remove.
 use Rattle.std.proofs.Common.{◌≡◌, ℕ, ◌+◌, true, List, [], ◌∷◌, map, Some, refl, sym, ap, subst, ◌∙◌, arith}
 use Rattle.std.specs.Prelude.{Contains, slice_get}
 use Rattle.ir_core.specs.Blocks.{HasInst, IsBlock}
@@ -51,7 +51,7 @@ module _ (f : Function) (checks : MeetsChecks f) (kept : KeptMarks) (needed : Ke
   abbrev new : Function
   new = kept_function kept f
 
-  -- what read a register reads it where it stands now
+  -- what read a register reads it at its new place
   read_moved : (b k c : ℕ) (was is : List Operand) (r : Register) → written f b k ≡ was → written new b c ≡ is → is ≡ map (moved_operand kept) was
       → ReadsRegister f b k r → ReadsRegister new b c (moved_register kept r)
   read_moved b k c was is r written_was written_is moved reads =

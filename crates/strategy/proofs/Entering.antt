@@ -33,7 +33,7 @@ use Rattle.strategy.specs.Searches.{OptimisesFunction}
 use Rattle.strategy.proofs.Growing.{entries_stay}
 use Rattle.verdict.proofs.Sequence.{asks_nothing, asks_both, row_stays}
 
--- before anything is asked
+-- before the first verdict is asked for
 pub nothing_asked : AreFirstAsked [] []
 nothing_asked = record {
   same = λ p. (λ h. h, λ h. h);
@@ -41,13 +41,13 @@ nothing_asked = record {
   in_order = λ i j d less within. absurd (omega arith);
 }
 
--- what is required of the module is known of each entry
+-- each entry of a module that the strategy takes is ready
 pub each_ready : (steps : ℕ) (m : Module) → ModuleMeetsChecks m → ModuleNumbersFit m → ModuleIsCountable steps m
     → EntriesAreReady steps m.entries
 each_ready steps m meets fit countable place (entries.Kept line) at = tt
 each_ready steps m meets fit countable place (entries.Function f) at = (meets.functions place f at, fit place f at, countable place f at)
 
--- and so of each rule
+-- each of the rules is ready
 pub all_ready : (rules : List Rule) → All IsRule rules → All IsClassified rules → All HasNoFault rules → AreReady rules
 all_ready rules checks classes typed r rule at =
     let among : Contains rules rule = contains_at rules r rule at in
@@ -72,7 +72,7 @@ module _ (rules : List Rule) where
       (sym (append_assoc asked rest asked'))
       (function f last count is_limited asked (old ++ old') (new ++ new') (counts ++ counts') (limited ++ limited') (rest ++ asked') one (optimised_append others later))
 
-  -- a kept line stays
+  -- a kept line is copied
   pub entry_kept : (conflicts steps : ℕ) (line : List ℕ) (now : Verdicts) (all : Counts) → OptimisesEntry rules conflicts steps (entries.Kept line) (entries.Kept line) now now all all
   entry_kept conflicts steps line now all = record {
     pairs = [];
@@ -84,7 +84,7 @@ module _ (rules : List Rule) where
     limited_added = sym (append-nil all.limited);
   }
 
-  -- and a function is optimised
+  -- a function is replaced by what the strategy gives for it
   pub entry_optimised : (conflicts steps : ℕ) (f new : Function) (before after : Verdicts) (all all' : Counts) (count : ℕ) (is_limited : Bool)
       → OptimisesFunction rules conflicts steps f new before after count is_limited
       → all'.counts ≡ all.counts ++ count ∷ [] → all'.limited ≡ all.limited ++ is_limited ∷ []
@@ -99,7 +99,7 @@ module _ (rules : List Rule) where
     limited_added = limited_are;
   }
 
-  -- no verdicts yet
+  -- no verdicts are kept yet
   pub no_verdicts : (conflicts : ℕ) (v : Verdicts) → v.table ≡ [] → v.pairs.keys ≡ [] → AreVerdictsOn rules conflicts [] v
   no_verdicts conflicts v table pairs = record {
     rows = subst (λ (l : List Row). AreFirstAsked [] (map pair_in l)) (sym table) nothing_asked;
@@ -108,7 +108,7 @@ module _ (rules : List Rule) where
     pairs = rw (pairs, table) refl;
   }
 
-  -- the first entries have been taken in turn
+  -- the loop: the strategy's results for the first entries
   pub none_entered : (conflicts steps : ℕ) (before : Verdicts) (all : Counts) → OptimisesEntries rules conflicts steps [] [] before before all all
   none_entered conflicts steps before all = record {
     pairs = [];
@@ -138,7 +138,7 @@ module _ (rules : List Rule) where
         limited_added = one.limited_added ∙ (ap (λ (l : List Bool). l ++ one.limited) so_far.limited_added ∙ append_assoc first.limited so_far.limited one.limited);
       }
 
-  -- all have: this is what the strategy gives, by its own table
+  -- all entries are done: this is what the strategy gives, and the table is its own
   pub given : (conflicts steps : ℕ) (old new : Module) (before now : Verdicts) (first all : Counts) → first.counts ≡ [] → first.limited ≡ []
       → AreVerdictsOn rules conflicts [] before → OptimisesEntries rules conflicts steps old.entries new.entries before now first all
       → IsPlainStrategy rules steps now.table old new all.counts all.limited

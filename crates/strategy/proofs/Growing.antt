@@ -1,4 +1,4 @@
--- What the strategy gives by a table of verdicts it gives by a larger one.
+-- What the strategy gives by a table of verdicts it gives by any larger one.
 use Rattle.std.proofs.Common.{◌≡◌, ℕ, ◌-◌, Bool, true, false, List}
 use Rattle.std.specs.Prelude.{All, Any, Contains, MatchBool}
 use Rattle.ir_core.specs.declared.module.Entry.{Entry}

@@ -1,4 +1,4 @@
--- Blocks are reached in what a draft becomes as in what it was.
+-- A step doesn't change which blocks are reached.
 use Rattle.std.proofs.Common.{◌≡◌, ◌↔◌, ℕ, List, refl, sym, subst}
 use Rattle.std.specs.Prelude.{Contains}
 use Rattle.ir_core.specs.Blocks.{IsBlock, Names, targets_of}
@@ -52,7 +52,7 @@ module _ (f g : Function) (is : IsCleaned f g) where
   cleaned_back : (b : ℕ) → IsReached g b → IsReached f b
   cleaned_back b = reached_along g f (λ c d h. kept_back f is.0 c d (subst (λ (x : Function). Names x c d) is.2 h)) b
 
--- so they are in the arenas
+-- the blocks of the arenas are reached as before
 pub reached_as_before : (old new : Draft) (f : Function) (rule : Rule) (binding : Binding) → IsSettled old → IsSettled new
     → IsRewritten (function_of old) binding rule f → IsCleaned f (function_of new) → (b : ℕ) → IsReached (arena_of old) b ↔ IsReached (arena_of new) b
 reached_as_before old new f rule binding settled_old settled_new is_rewritten is_cleaned b = (

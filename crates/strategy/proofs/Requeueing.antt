@@ -1,4 +1,4 @@
--- After a step what doesn't wait was turned down before.
+-- After a step all matches are turned down at every place that is not on the worklist.
 use Rattle.std.proofs.Common.{◌≡◌, ◌↔◌, ◌+◌, ◌*◌, ◌-◌, ◌<◌, ◌≤◌, ℕ, List, length, get_or, sym, ap, subst, ◌∙◌, arith}
 use Rattle.std.specs.Prelude.{All, Contains}
 use Rattle.std.proofs.lemmas.List.Elements.{All-contains, Contains-get_or}
@@ -41,11 +41,11 @@ module _ (of_the_untouched : MatchesOfTheUntouched) (rules : List Rule) (ready :
         turned_down = λ i d lt. All-contains (IsTurnedDown table) down.matches (get_or kept i d) down.turned_down (were (get_or kept i d) (Contains-get_or kept i d lt));
       }
 
--- what has one arena, of which the same stands, is one function
+-- a draft's function depends on its arena and on which numbers stand
 pub same_function : (new last : Draft) → arena_of last ≡ arena_of new → numbers_of last ≡ numbers_of new → function_of last ≡ function_of new
 same_function new last arena numbers = ap (λ (a : Function). arranged a (numbers_of last)) arena ∙ ap (arranged (arena_of new)) numbers
 
--- ---- numbers that are left
+-- ---- numbers for instructions that are still free
 
 pub room_for_fewer : (more steps : ℕ) (d : Draft) → steps ≤ more → HasRoomFor more d → HasRoomFor steps d
 room_for_fewer more steps d fewer room k x lt = (let few = room k x lt in omega (arith, few, fewer))

@@ -1,4 +1,4 @@
--- A search through the function of a draft, by the places that wait.
+-- A search through the function of a draft that looks at the places on the worklist only.
 use Rattle.std.proofs.Common.{◌≡◌, ◌⊎◌, inl, inr, ℕ, ◌+◌, ◌<◌, ◌≤◌, false, List, ◌∷◌, [], ◌++◌, get_or, map, take, Option, None, Some, sym, ap, subst, ◌∙◌, arith}
 use Rattle.std.specs.Prelude.{All, Contains, slice_get, option_and_then}
 use Rattle.std.proofs.lemmas.Bool.{cases_eq, cases_lt}
@@ -39,7 +39,7 @@ use Rattle.verdict.proofs.Sequence.{row_stays}
 use Rattle.strategy.specs.Frontiers.{AreTurnedDownAt, AreTurnedDownBut, AsksAt, LooksAt, Nowhere, PlaceOf, SearchesTo}
 use Rattle.strategy.proofs.Advancing.{IsPlaceBefore, come_through, come_to}
 
--- what is turned down stays so as the table grows
+-- what is turned down stays so as rows are appended to the table
 pub still_turned_down : (rules : List Rule) (table larger : List Row) → ((row : Row) → Contains table row → Contains larger row) → (arena : Function) (b n : ℕ) → AreTurnedDownAt rules table arena b n → AreTurnedDownAt rules larger arena b n
 still_turned_down rules table larger grows arena b n at =
     record { matches = at.matches; are = at.are; turned_down = all_turned_down_stay rules table larger grows at.matches at.turned_down }
@@ -48,19 +48,20 @@ still_turned_down rules table larger grows arena b n at =
 abbrev pub IsBehind : ℕ → ℕ → ℕ → ℕ → Type 0
 IsBehind b k c j = (b < c) ⊎ ((b ≡ c) × (k ≤ j))
 
--- the place waits, and nothing that stands before it does
+-- the place is on the worklist, and no standing place before it is
 pub record IsNext (d : Draft) (waiting : Rows) (p : Place) : Type 0 where
   pub there : Has waiting p.block p.number
   pub none_before : (b n : ℕ) → Has waiting b n → Stands d b n → ¬ StandsBefore d b n p.block p.number
 
--- how far a search is: all before some place were asked, and turned down, and nothing waits before it
+-- how far a search has come: the verdicts of all matches before some place are asked, and all turned down, and no
+-- standing place before it is on the worklist
 pub record Gone (rules : List Rule) (conflicts : ℕ) (d : Draft) (u v : Verdicts) (waiting : Rows) : Type 0 where
   pub b : ℕ
   pub k : ℕ
   pub asked : AsksAll rules conflicts (function_of d) (IsPast b k) u v false
   pub behind : (c n : ℕ) → Has waiting c n → Stands d c n → IsBehind b k c (place_in (numbers_in d c) n)
 
--- no match stands in a block that isn't reached
+-- in a block that isn't reached nothing matches
 pub unreached_down : (rules : List Rule) (table : List Row) (arena : Function) (b n : ℕ) → ¬ IsReached arena b → AreTurnedDownAt rules table arena b n
 unreached_down rules table arena b n unreached =
     let never : (m : Match) → IsMatchInAnyOrder rules arena m → ¬ IsAt b n m = λ m is of. unreached (subst (IsReached arena) of.0 is.matches.reached) in
@@ -105,7 +106,7 @@ module _ (of_the_arena : MatchesOfTheArena) (rules : List Rule) (conflicts : ℕ
         up,
       )
 
-  -- at a place at which they were turned down before
+  -- where all matches were turned down before, they are so again
   down_again : (v : Verdicts) (waiting : Rows) (c j : ℕ) → AreTurnedDownBut rules v.table Nowhere d waiting → j < end_of F c
       → ((n : ℕ) → slice_get (numbers_in d c) j ≡ Some n → ¬ Has waiting c n) → AsksAll rules conflicts F (IsAt c j) v v false
   down_again v waiting c j others less away =
@@ -127,10 +128,10 @@ module _ (of_the_arena : MatchesOfTheArena) (rules : List Rule) (conflicts : ℕ
       behind = λ c n has stands. elim (cases_eq 0 c) [ inl same ↦ inr (same, omega arith) | inr other ↦ inl (omega (arith, other)) ];
     }
 
-    -- the next place
+    -- the first place is taken from the worklist
     module _ (v : Verdicts) (waiting left : Rows) (p : Place) (gone : Gone rules conflicts d u v waiting) (others : AreTurnedDownBut rules v.table Nowhere d waiting)
         (removed : IsRemoved waiting left p) where
-      -- what is left waits
+      -- what is left on the worklist was on it
       still_waits : (b n : ℕ) → Has left b n → Has waiting b n
       still_waits b n has = ((removed b n).0 has).1
 
@@ -143,7 +144,7 @@ module _ (of_the_arena : MatchesOfTheArena) (rules : List Rule) (conflicts : ℕ
         | inl block ↦ elim (cases_eq p.number n) [ inl number ↦ inl (block, number) | inr other ↦ inr (λ is. other is.1) ]
       ]
 
-      -- it stands no more
+      -- its instruction was removed
       pub skipped : ¬ Stands d p.block p.number → Gone rules conflicts d u v left × AreTurnedDownBut rules v.table Nowhere d left
       skipped fell = (
         record { b = gone.b; k = gone.k; asked = gone.asked; behind = λ c n has stands. gone.behind c n (still_waits c n has) stands },
@@ -165,7 +166,7 @@ module _ (of_the_arena : MatchesOfTheArena) (rules : List Rule) (conflicts : ℕ
             let below : here < end_of F p.block = before_end F p.block here _ is in
             omega (arith, below)
 
-        -- what stands at an earlier place doesn't wait
+        -- no place before it in the function is on the worklist
         earlier : (c j n : ℕ) → slice_get (numbers_in d c) j ≡ Some n → IsPlaceBefore c j p.block here → StandsBefore d c n p.block p.number
         earlier c j n at before = elim before [
           | inl block ↦ inl block
@@ -179,11 +180,11 @@ module _ (of_the_arena : MatchesOfTheArena) (rules : List Rule) (conflicts : ℕ
         down : (c j : ℕ) → IsPlaceBefore c j p.block here → j < end_of F c → AsksAll rules conflicts F (IsAt c j) v v false
         down c j before less = down_again v waiting c j others less (λ n at has. first.none_before c n has (contains_at (numbers_in d c) j n at) (earlier c j n at before))
 
-        -- all before it are turned down
+        -- so all matches before it are turned down
         come : AsksAll rules conflicts F (IsPast p.block here) u v false
         come = come_to rules conflicts F ready u v gone.b gone.k p.block here (gone.behind p.block p.number first.there stands) within down gone.asked
 
-        -- and what is left stands behind it
+        -- and the standing places that are left on the worklist are behind it
         behind_here : (c n : ℕ) → c ≡ p.block → Has left c n → Stands d c n → here + 1 ≤ place c n
         behind_here c n same has stands_n =
             let place_p : place c p.number ≡ here = ap (λ (b : ℕ). place b p.number) same in
@@ -208,12 +209,12 @@ module _ (of_the_arena : MatchesOfTheArena) (rules : List Rule) (conflicts : ℕ
           ]
         ]
 
-        -- the matches at it
+        -- the matches at this place
         module _ (w : Verdicts) (ms : List Match) (found : AreMatchesInAnyOrder rules (arena_of d) (IsAt p.block p.number) ms) where
           there : AreMatchesWhere rules F (IsAt p.block here) (map put ms)
           there = of_the_arena rules d p.block p.number ms ready settled checks stands found
 
-          -- none is admitted
+          -- none of them is admitted
           module _ (asks : AsksToPlace rules conflicts ms v w None) where
             at_place : AsksAll rules conflicts F (IsAt p.block here) v w false
             at_place =
@@ -234,7 +235,7 @@ module _ (of_the_arena : MatchesOfTheArena) (rules : List Rule) (conflicts : ℕ
           passed_by None asks none = (gone_on asks, all_down asks)
           passed_by (Some i) asks none = absurd (none-some asks.0 (none ∙ asks.1))
 
-          -- one is
+          -- one of them is
           module _ (i : ℕ) (asks : AsksToPlace rules conflicts ms v w (Some i)) where
             is_first : IsMatchInAnyOrder rules (arena_of d) asks.0 × IsAt p.block p.number asks.0
             is_first = All-contains (λ m. IsMatchInAnyOrder rules (arena_of d) m × IsAt p.block p.number m) ms asks.0 found.each (contains_at ms i asks.0 asks.1)
@@ -266,7 +267,7 @@ module _ (of_the_arena : MatchesOfTheArena) (rules : List Rule) (conflicts : ℕ
         pub stopped : (w : Verdicts) (chosen : Match) → AsksAt rules conflicts (arena_of d) p.block p.number v w (Some chosen) → SearchesTo rules conflicts d left u w (Some chosen)
         stopped w chosen asked = stopped_by w asked.0 asked.2 chosen asked.1 asked.3 asked.4
 
-      -- what is looked at
+      -- the place is looked at
       module _ (first : Stands d p.block p.number → IsNext d waiting p) where
         pub looked_past : (w : Verdicts) → LooksAt rules conflicts d p v w None → Gone rules conflicts d u w left × AreTurnedDownBut rules w.table Nowhere d left
         looked_past w looked = elim looked [
@@ -280,7 +281,7 @@ module _ (of_the_arena : MatchesOfTheArena) (rules : List Rule) (conflicts : ℕ
           | inr (fell, none, same) ↦ absurd (none-some chosen (sym none))
         ]
 
-    -- nothing waits
+    -- the worklist is empty
     pub searched : (v : Verdicts) (waiting left : Rows) → Gone rules conflicts d u v waiting → AreTurnedDownBut rules v.table Nowhere d waiting → ((b n : ℕ) → ¬ Has waiting b n)
         → SearchesTo rules conflicts d left u v None
     searched v waiting left gone others empty = (

@@ -33,14 +33,14 @@ few_at P f b block all at = All-contains P f.blocks block all (contains_at f.blo
 few_from : (P : Block → Type 0) (f : Function) → ((b : ℕ) (block : Block) → IsBlock f b block → P block) → All P f.blocks
 few_from P f each k d lt = each k (get_or f.blocks k d) (slice_get-get_or f.blocks k d lt)
 
--- what is counted for more steps is for fewer
+-- sizes that leave room for some steps leave room for fewer
 pub countable_less : (more steps : ℕ) (f : Function) → steps ≤ more → IsCountable more f → IsCountable steps f
 countable_less more steps f within c = record { blocks = c.blocks; insts = λ k d lt. let few = c.insts k d lt in omega (arith, few) }
 
 pub few_insts : (steps : ℕ) (f : Function) → IsCountable steps f → All (λ b. length b.insts < 2 ^ 32) f.blocks
 few_insts steps f c k d lt = let few = c.insts k d lt in omega (arith, few)
 
--- ---- cleaning
+-- ---- dead code elimination
 
 fewer_kept : (kept : KeptMarks) (b k : ℕ) (insts : List Inst) → length (kept_insts kept b k insts) ≤ length insts
 fewer_kept kept b k [] = omega arith

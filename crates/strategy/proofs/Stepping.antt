@@ -1,4 +1,4 @@
--- One search after the other, up to what becomes of a function.
+-- From one search to the next, up to what becomes of a function.
 use Rattle.std.proofs.Common.{◌≡◌, ℕ, suc, ◌+◌, ◌-◌, ◌<◌, ◌≤◌, Bool, true, false, List, [], ◌∷◌, ◌++◌, map, refl, sym, subst, ◌∙◌, arith}
 use Rattle.std.specs.Prelude.{All, Any, MatchBool}
 use Rattle.ir_core.specs.declared.function.Function.{Function}
@@ -24,7 +24,7 @@ use Rattle.bindings.specs.Ready.{AreReady}
 use Rattle.strategy.proofs.Sizes.{cleaned_countable, rewritten_countable}
 use Rattle.verdict.proofs.Sequence.{asks_nothing, asks_both, row_stays, still_verdicts}
 
--- more may be asked for once some were
+-- more verdicts may be asked for after some were
 pub still_may_ask : (rules : Rules) (limit : ℕ) (pairs : List Pair) (before after : Verdicts) → MayAsk rules limit before
     → Asks rules.all.now limit pairs before after → MayAsk rules limit after
 still_may_ask rules limit pairs before after may asks = record {
@@ -56,11 +56,11 @@ module _ (rules : List Rule) (conflicts : ℕ) where
     },
   )
 
-  -- all matches of the function were asked
+  -- the verdicts of all matches of the function were asked for
   all_asked : (f : Function) (before after : Verdicts) (any : Bool) (all : AsksAll rules conflicts f IsAnywhere before after any) → AreMatches rules f all.matches
   all_asked f before after any all = everywhere rules f IsAnywhere all.matches all.are_matches (λ m is. tt)
 
-  -- none is admitted
+  -- none of them is admitted
   pub search_ended : (f : Function) (before after : Verdicts) → AsksAll rules conflicts f IsAnywhere before after false → StepsOrEnds rules conflicts f f before after false
   search_ended f before after all =
       (map pair_of all.matches, all.asks, refl, λ left. record { matches = all.matches; are_matches = all_asked f before after false all; asks = refl; ends = all.answer })
@@ -72,7 +72,7 @@ module _ (rules : List Rule) (conflicts : ℕ) where
       let good = ready s.chosen.rule rule s.is_match.is_rule in
       cleaned_countable steps s.rewritten new (rewritten_countable steps f s.rewritten rule s.chosen.binding good.checks.few_in_target c s.is_rewritten) s.is_cleaned
 
-  -- after some steps
+  -- the loop: `count` steps were made so far
   pub record Along (steps count : ℕ) (cleaned f : Function) (before now : Verdicts) : Type 0 where
     pub pairs : List Pair
     pub asks : Asks rules conflicts pairs before now
@@ -101,7 +101,7 @@ module _ (rules : List Rule) (conflicts : ℕ) where
         countable = step_countable (steps - (count + 1)) f new after.table step.0 ready step.2 (subst (λ (n : ℕ). IsCountable n f) left along.countable);
       }
 
-  -- the last search has been made
+  -- the last search was made
   pub all_searched : (steps count : ℕ) (old cleaned f : Function) (before now after : Verdicts) (limited : Bool) (pairs : List Pair)
       → IsCleaned old cleaned → count ≤ steps → Along steps count cleaned f before now
       → Asks rules conflicts pairs now after → IsLastSearch rules after.table (steps - count) f limited pairs
@@ -121,7 +121,7 @@ module _ (rules : List Rule) (conflicts : ℕ) where
     },
   )
 
-  -- when no step is left
+  -- no step is left
   pub at_the_limit : (f : Function) (before after : Verdicts) (limited : Bool) (left : ℕ) → left ≡ 0 → (all : AsksAll rules conflicts f IsAnywhere before after limited)
       → IsLastSearch rules after.table left f limited (map pair_of all.matches)
   at_the_limit f before after limited left none all = record { matches = all.matches; are_matches = all_asked f before after limited all; asks = refl; ends = by limited all.answer }
@@ -131,7 +131,7 @@ module _ (rules : List Rule) (conflicts : ℕ) where
       by true any = (none, any)
       by false all = all
 
-  -- what comes of a function that was cleaned, where the steps are spent
+  -- what is given for the function where its steps are spent
   pub spent : (steps count : ℕ) (cleaned f last : Function) (before now after : Verdicts) (limited : Bool) → Along steps steps cleaned f before now → last ≡ f → count ≡ steps
       → AsksAll rules conflicts f IsAnywhere now after limited → OptimisesCleaned rules conflicts steps cleaned last before after count limited
   spent steps count cleaned f last before now after limited along same all_made asks old is_cleaned =
@@ -141,7 +141,7 @@ module _ (rules : List Rule) (conflicts : ℕ) where
       subst (λ (g : Function). OptimisesFunction rules conflicts steps old g before after count limited) (sym same)
       (subst (λ (n : ℕ). OptimisesFunction rules conflicts steps old f before after n limited) (sym all_made) made)
 
-  -- and where a search finds no admitted match
+  -- what is given where a search finds no admitted match
   pub ended : (steps count : ℕ) (cleaned f g last : Function) (before now after : Verdicts) → count ≤ steps → Along steps count cleaned f before now → last ≡ g
       → StepsOrEnds rules conflicts f g now after false → OptimisesCleaned rules conflicts steps cleaned last before after count false
   ended steps count cleaned f g last before now after within along same end old is_cleaned =

@@ -7,7 +7,8 @@ use Rattle.verdict.specs.declared.verdicts.Verdicts.{Verdicts}
 use Rattle.verdict.specs.Asks.{AreVerdicts}
 use Rattle.verdict.specs.Found.{most_conflicts}
 
--- the verdicts of these rules' matches may be asked for, by searches within this limit, where these are kept so far
+-- the verdicts of matches of these rules may be asked for, within this limit on learned clauses: the rules are read
+-- ones, and the verdicts so far are kept as they should be
 pub record MayAsk (rules : Rules) (limit : ℕ) (kept : Verdicts) : Type 0 where
   pub ready : AreReady rules.all.now
   pub by_root : AreByRoot rules.all.now rules.by_root.now

@@ -12,17 +12,17 @@ use Rattle.strategy_core.specs.Countable.{IsCountable}
 use Rattle.strategy_core.specs.PlainStrategy.{AreOptimised}
 use Rattle.verdict.specs.Asks.{Asks}
 
--- if the entry is a function, it meets its checks, its numbers are of their widths, and what stands in it is counted
+-- a function among the entries passes its checks, its literals are numbers of their widths, and its sizes fit 32 bits
 abbrev pub EntryIsReady : ℕ → Entry → Type 0
 EntryIsReady steps (entries.Kept line) = Unit {0}
 EntryIsReady steps (entries.Function f) = MeetsChecks f × NumbersFit f × IsCountable steps f
 
--- so it is of each of these entries
+-- the same of each of these entries
 abbrev pub EntriesAreReady : ℕ → List Entry → Type 0
 EntriesAreReady steps entries = (place : ℕ) (e : Entry) → slice_get entries place ≡ Some e → EntryIsReady steps e
 
--- The new entries stand in the place of the old ones. Of each that is a function its count is added, and whether it is
--- limited.
+-- The strategy gives the new entries for the old ones. For each that is a function its count of rewrites is appended,
+-- and whether it is limited.
 pub record OptimisesEntries (rules : List Rule) (conflicts steps : ℕ) (old new : List Entry) (before after : Verdicts) (all all' : Counts) : Type 0 where
   pub pairs : List Pair
   pub counts : List ℕ
@@ -32,7 +32,7 @@ pub record OptimisesEntries (rules : List Rule) (conflicts steps : ℕ) (old new
   pub counts_added : all'.counts ≡ all.counts ++ counts
   pub limited_added : all'.limited ≡ all.limited ++ limited
 
--- the same of one entry
+-- the same for one entry
 abbrev pub OptimisesEntry : List Rule → ℕ → ℕ → Entry → Entry → Verdicts → Verdicts → Counts → Counts → Type 0
 OptimisesEntry rules conflicts steps old new before after all all' =
     OptimisesEntries rules conflicts steps (old ∷ []) (new ∷ []) before after all all'

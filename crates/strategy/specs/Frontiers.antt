@@ -1,4 +1,6 @@
--- What is known of the matches of a draft while it is rewritten, and what a search asks in it.
+-- What is known of the matches of a draft while it is rewritten, and what a search asks. The frontier is a draft with
+-- its worklist, which holds every place where a match may be that is not turned down. A place waits while it is on the
+-- worklist.
 use Rattle.std.specs.Prelude.{◌≡◌, ◌⊎◌, ℕ, false, List, All, Option, None, Some, slice_get, option_and_then}
 use Rattle.ir_core.specs.declared.function.Function.{Function}
 use Rattle.rule_core.specs.declared.rule.Rule.{Rule}
@@ -21,24 +23,25 @@ use Rattle.verdict.specs.Asks.{AsksAll, AsksUpTo, IsAnywhere}
 use Rattle.verdict.specs.Parts.{AsksToPlace}
 use Rattle.strategy.specs.declared.frontier.Frontier.{Frontier}
 
--- the matches at an instruction of an arena are turned down
+-- all matches at an instruction of the arena are turned down: the table has their verdicts, and none is `Admitted`
 pub record AreTurnedDownAt (rules : List Rule) (table : List Row) (arena : Function) (b n : ℕ) : Type 0 where
   pub matches : List Match
   pub are : AreMatchesInAnyOrder rules arena (IsAt b n) matches
   pub turned_down : All (IsTurnedDown table) matches
 
--- so are those at each instruction that stands and doesn't wait, but for some
+-- all matches are turned down at each instruction that still stands in the function, except at places on the worklist
+-- and those of `Out`
 abbrev pub AreTurnedDownBut : List Rule → List Row → (ℕ → ℕ → Type 0) → Draft → Rows → Type 0
 AreTurnedDownBut rules table Out d waiting = (b n : ℕ) → Stands d b n → ¬ Has waiting b n → ¬ Out b n → AreTurnedDownAt rules table (arena_of d) b n
 
 abbrev pub Nowhere : ℕ → ℕ → Type 0
 Nowhere b n = ⊥
 
--- the place of a match that names numbers
+-- the match is at this place, by the number of its root's instruction
 abbrev pub PlaceOf : Match → ℕ → ℕ → Type 0
 PlaceOf m b n = (m.binding.block ≡ b) × (m.binding.place ≡ n)
 
--- between steps: a match that isn't turned down stands at a place that waits
+-- between steps: at every place that is not on the worklist all matches are turned down
 pub record IsFrontier (rules : List Rule) (table : List Row) (frontier : Frontier) : Type 0 where
   pub draft : IsSettled frontier.draft
   pub clean : IsClean frontier.draft
@@ -46,25 +49,26 @@ pub record IsFrontier (rules : List Rule) (table : List Row) (frontier : Frontie
   pub depth : AreSourcesWithin frontier.depth rules
   pub turned_down : AreTurnedDownBut rules table Nowhere frontier.draft (waiting_in frontier.queue)
 
--- of the matches at an instruction of an arena those up to the first that is admitted are asked, or all if none is
+-- of the matches at an instruction of the arena the verdicts up to the first that is admitted are asked, or all, if
+-- none is
 abbrev pub AsksAt : List Rule → ℕ → Function → ℕ → ℕ → Verdicts → Verdicts → Option Match → Type 0
 AsksAt rules conflicts arena b n old new found = (matches : List Match) × (place : Option ℕ) × AreMatchesInAnyOrder rules arena (IsAt b n) matches
     × AsksToPlace rules conflicts matches old new place × (found ≡ option_and_then (slice_get matches) place)
 
--- so it is where the instruction stands, and nothing is asked where it was taken out
+-- the same where the instruction still stands; where it was removed, nothing is asked
 abbrev pub LooksAt : List Rule → ℕ → Draft → Place → Verdicts → Verdicts → Option Match → Type 0
 LooksAt rules conflicts d p old new found = (Stands d p.block p.number × AsksAt rules conflicts (arena_of d) p.block p.number old new found)
     ⊎ (¬ Stands d p.block p.number × (found ≡ None) × (new ≡ old))
 
--- A search through the draft's function asks up to the first match that is admitted, which names numbers of the draft,
--- or all if none is. After it all is turned down but for what waits, and that match.
+-- A search through the draft's function asks for verdicts up to the first match that is admitted, in order, or for all,
+-- if none is. Afterwards all matches are turned down, except at places on the worklist and at the match itself.
 abbrev pub SearchesTo : List Rule → ℕ → Draft → Rows → Verdicts → Verdicts → Option Match → Type 0
 SearchesTo rules conflicts d waiting old new None = AsksAll rules conflicts (function_of d) IsAnywhere old new false
     × AreTurnedDownBut rules new.table Nowhere d waiting
 SearchesTo rules conflicts d waiting old new (Some chosen) = AsksUpTo rules conflicts (function_of d) IsAnywhere old new (placed_match d chosen)
     × AreTurnedDownBut rules new.table (PlaceOf chosen) d waiting
 
--- the draft's function is rewritten at a match, which names its numbers, and cleaned
+-- the draft's function is rewritten at the match, and then cleaned
 abbrev pub IsSteppedAt : List Rule → Draft → Draft → Match → Type 0
 IsSteppedAt rules old new chosen = (rewritten : Function) × IsCleaned rewritten (function_of new)
     × ((rule : Rule) → slice_get rules chosen.rule ≡ Some rule → IsRewritten (function_of old) (placed_match old chosen).binding rule rewritten)

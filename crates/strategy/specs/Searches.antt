@@ -1,4 +1,4 @@
--- What a search makes of a function, and what becomes of it in all.
+-- What one search leads to, and what all searches make of a function.
 use Rattle.std.specs.Prelude.{◌≡◌, ℕ, Bool, true, false, List}
 use Rattle.ir_core.specs.declared.function.Function.{Function}
 use Rattle.rule_core.specs.declared.rule.Rule.{Rule}
@@ -8,19 +8,19 @@ use Rattle.strategy_core.specs.Asked.{Pair}
 use Rattle.verdict.specs.Asks.{Asks}
 use Rattle.strategy_core.specs.PlainStrategy.{IsStep, IsLastSearch, IsOptimised}
 
--- A step is made; or the function stays, and the search was its last, of which none is admitted, however many steps are
--- left.
+-- Either a step is made; or no match is admitted, the function stays, and this was its last search, whatever number of
+-- steps is left.
 abbrev pub StepsOrEnds : List Rule → ℕ → Function → Function → Verdicts → Verdicts → Bool → Type 0
 StepsOrEnds rules conflicts f new old verdicts true = (pairs : List Pair) × Asks rules conflicts pairs old verdicts × IsStep rules verdicts.table f new pairs
 StepsOrEnds rules conflicts f new old verdicts false = (pairs : List Pair) × Asks rules conflicts pairs old verdicts × (new ≡ f)
     × ((left : ℕ) → IsLastSearch rules verdicts.table left f false pairs)
 
--- what becomes of a function within so many steps, and which pairs are asked for it
+-- what becomes of a function within `steps` steps, and which pairs are asked for it
 abbrev pub OptimisesFunction : List Rule → ℕ → ℕ → Function → Function → Verdicts → Verdicts → ℕ → Bool → Type 0
 OptimisesFunction rules conflicts steps old new before after count limited =
     (pairs : List Pair) × Asks rules conflicts pairs before after × IsOptimised rules after.table steps old new count limited pairs
 
--- and of a function that was cleaned
+-- the same for a function that has no dead code
 abbrev pub OptimisesCleaned : List Rule → ℕ → ℕ → Function → Function → Verdicts → Verdicts → ℕ → Bool → Type 0
 OptimisesCleaned rules conflicts steps cleaned new before after count limited =
     (old : Function) → IsCleaned old cleaned → OptimisesFunction rules conflicts steps old new before after count limited

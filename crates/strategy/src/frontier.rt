@@ -1,4 +1,4 @@
-//! What the strategy makes of one function, by a queue of the places at which a match may have come.
+//! What the strategy makes of one function, with a worklist of the places where an admitted match may be.
 
 ghost use Rattle.std.specs.Prelude.{◌≡◌, ◌<◌, ◌≤◌, ◌^◌, ℕ, suc, List as Seq, length, All, Contains, IfOk, OnOk};
 ghost use Rattle.ir_core.specs.Blocks.{HasInst};
@@ -34,19 +34,20 @@ use rule_matches::{Rules, matches_in_any_order};
 use std::alloc::{AllocError, Global};
 use verdict::{Verdicts, any_admitted, first_admitted};
 
-/// A function that is rewritten, and where it may be.
+/// A function while it is rewritten, and the worklist.
 #[derive(Drop)]
 pub(crate) struct Frontier {
     draft: Draft,
-    /// The places at which a match may stand that isn't turned down.
+    /// The worklist: at every other place all matches are known to be turned down.
     queue: Queue,
-    /// How far a root may reach through its operands.
+    /// The most steps from a root to an operand of a match, over all rules.
     depth: usize,
 }
 
-/// Cleans a function and rewrites it, at most as often as the steps say.
+/// Eliminates a function's dead code, and rewrites and cleans it, at most as often as the steps say.
 ///
-/// Each search begins where a match may have come: a step takes as long as what it changes, and what reads that.
+/// A search looks at the places on the worklist only. So a step takes as long as what it changes and the users of that,
+/// as far as a match may reach.
 pub(crate) fn optimise_function(
     alloc: Global,
     f: Function,
@@ -66,7 +67,7 @@ pub(crate) fn optimise_function(
     Ok(made)
 }
 
-/// The same of a function that was cleaned.
+/// The same for a function that has no dead code.
 fn optimise_cleaned(
     alloc: Global,
     f: Function,
@@ -89,7 +90,7 @@ fn optimise_cleaned(
     Ok(made)
 }
 
-/// The same where a step is left.
+/// The same where at least one step is allowed.
 fn rewrite_cleaned(
     alloc: Global,
     f: Function,
@@ -125,7 +126,7 @@ fn rewrite_cleaned(
     Ok(made)
 }
 
-/// The last search where no step is left: it goes through all matches of the function.
+/// The last search, where no step is left: it asks for the verdicts of all matches of the function.
 fn search_last(
     alloc: Global,
     f: Function,
@@ -151,7 +152,7 @@ fn search_last(
 }
 
 impl Frontier {
-    /// The frontier of a function in which any match may be admitted.
+    /// At first every place is on the worklist.
     fn of(alloc: Global, f: Function, rules: &[Rule]) -> Result<Frontier, AllocError>
         requires checks { MeetsChecks f }
         requires needed { AllNeeded f }
@@ -170,7 +171,7 @@ impl Frontier {
     }
 }
 
-/// How far a root may reach through its operands.
+/// The most steps from a root to an operand of a match: one less than the statements of the longest source.
 fn depth_of(rules: &[Rule]) -> usize
     ensures { AreSourcesWithin result rules.now }
 {
@@ -183,8 +184,8 @@ fn depth_of(rules: &[Rule]) -> usize
     depth
 }
 
-/// Rewrites the function at its first admitted match, and cleans it. It is false if there is none; then the verdicts of
-/// all its matches were asked for.
+/// Rewrites the function at its first admitted match, and cleans it. The answer is false where there is none; then the
+/// verdicts of all its matches were asked for.
 fn step(
     alloc: Global,
     frontier: Frontier,
@@ -219,10 +220,10 @@ fn step(
     Ok((true, rewritten))
 }
 
-/// The first match of a draft that is admitted. The verdicts of all matches up to it are asked for, and of all matches
-/// if there is none.
+/// The first admitted match of a draft, in order. The verdicts of all matches up to it are asked for, or of all
+/// matches, if there is none.
 ///
-/// What doesn't wait was turned down before.
+/// Only places on the worklist are looked at: at every other place all matches were turned down before.
 fn next_admitted(
     alloc: Global,
     draft: &Draft,
@@ -249,7 +250,7 @@ fn next_admitted(
     Ok(None)
 }
 
-/// The first match at an instruction of a draft that is admitted, where it was not taken out.
+/// The first admitted match at an instruction of a draft; none where the instruction was removed.
 fn look_at(
     alloc: Global,
     draft: &Draft,
@@ -270,8 +271,8 @@ fn look_at(
     Ok(found)
 }
 
-/// The first match at an instruction of a draft that is admitted. The verdicts of all matches there up to it are asked
-/// for, and of all if there is none.
+/// The first admitted match at an instruction of a draft. The verdicts of all matches there up to it are asked for, or
+/// of all there, if none is admitted.
 fn admitted_at(
     alloc: Global,
     draft: &Draft,
@@ -301,7 +302,8 @@ fn admitted_at(
     Ok(None)
 }
 
-/// Rewrites the function at a match, and puts the places into the queue at which a match may have come, or may be left.
+/// Rewrites the function at a match. The places that it touched, and the users from which a match may reach them, are
+/// put on the worklist.
 fn rewrite_at(
     alloc: Global,
     frontier: Frontier,
@@ -319,7 +321,7 @@ fn rewrite_at(
     requires room { HasRoomFor 1 frontier.draft }
     ensures stepped { IfOk result (λ made. IsSteppedAt rules.now frontier.draft made.draft chosen.now) }
 
-    // What was turned down stays so, whatever the table is.
+    // At places that are not on the new worklist matches stay turned down, whatever the table is.
     ensures frontier { IfOk result (λ made. (table : Seq VerdictRow) → AreTurnedDownBut rules.now table (PlaceOf chosen.now) frontier.draft (waiting_in frontier.queue)
         → IsFrontier rules.now table made) }
     ensures checks { IfOk result (λ made. MeetsChecks (function_of made.draft)) }
@@ -342,7 +344,7 @@ fn rewrite_at(
     })
 }
 
-/// Rewrites a draft at a match, and gives the places that were touched, that of the match among them.
+/// Rewrites a draft at a match, and gives the places that were touched, the match's own among them.
 fn rewrite_draft(
     alloc: Global,
     draft: Draft,

@@ -28,14 +28,14 @@ use std::alloc::{AllocError, Global};
 use strategy_core::{Done, every_match_left_is_decided, every_optimised_module_refines_the_old};
 use verdict::{StoredLogs, Verdicts};
 
-/// What the plain strategy gives for a module: each function is cleaned, and then rewritten at its first admitted match
-/// and cleaned, again and again, until none is left or its steps are spent. A verdict is decided once, when it is first
-/// asked for: by the log that is stored for its pair, or else by a search that may learn `conflicts` clauses. The
-/// module that it gives may stand in the place of the old one, whatever the logs are.
+/// What the plain strategy gives for a module. Each function's dead code is eliminated; then it is rewritten at its
+/// first admitted match and cleaned, again and again, until no such match is left or its steps are spent. A verdict is
+/// decided once, when it is first asked for: by the log that is stored for its pair, if that proves the rule, and else
+/// by a search that may learn `conflicts` clauses. The module that it gives refines the old one, whatever the logs are.
 ///
-/// Each search goes through the matches in order of place, and looks where one may have come since the search before.
-/// At each instruction the rules are tried whose root is of its kind, in the order of the file. The only error is want
-/// of memory.
+/// Each search goes through the matches in order of place, and looks only where a match may have come since the search
+/// before. At each instruction the rules are tried whose root is of its kind, in the order of the file. The only error
+/// is want of memory.
 pub fn optimise(
     alloc: Global,
     module: &Module,
@@ -46,19 +46,19 @@ pub fn optimise(
 ) -> Result<Done, AllocError>
     requires checks { ModuleMeetsChecks module.now }
     requires numbers { ModuleNumbersFit module.now }
-    // The rules are some that are read.
+    // The rules are as the reader gives them.
     requires rules { All IsRule rules.now }
     requires classes { All IsClassified rules.now }
     requires typed { All HasNoFault rules.now }
     requires few { length rules.now < 2 ^ 32 }
     requires conflicts { conflicts ≤ most_conflicts }
 
-    // Blocks, and the instructions of each, are counted in 32 bits; each step may add up to 31 instructions.
+    // Blocks, and the instructions of each, are numbered in 32 bits; each step may add up to 31 instructions.
     requires countable { ModuleIsCountable steps module.now }
     ensures strategy { IfOk result (λ done. IsPlainStrategy rules.now steps done.table module.now done.module done.counts done.limited) }
     ensures honest { IfOk result (λ done. IsHonestTable rules.now conflicts done.table) }
 
-    // No set that a `Budget` keeps is refuted by the log that is stored for its pair.
+    // Where a search ended as a `Budget`, the log that is stored for its pair does not refute its clauses.
     ensures unrefuted { IfOk result (λ done. All (IsUnrefutedIn logs) done.table) }
     ensures refines { IfOk result (λ done. ModuleRefines module.now done.module) }
     ensures checks { IfOk result (λ done. ModuleMeetsChecks done.module) }
@@ -105,7 +105,7 @@ fn plain_strategy(
     })
 }
 
-/// For each function in order, how often it was rewritten, and whether it is limited.
+/// For each function in order, how often it was rewritten, and whether it ran out of steps with an admitted match left.
 #[derive(Drop)]
 pub(crate) struct Counts {
     pub(crate) counts: List<u32>,
@@ -113,7 +113,7 @@ pub(crate) struct Counts {
 }
 
 impl Counts {
-    /// Those of no functions.
+    /// The counts of no functions.
     fn new(alloc: Global) -> Self
         ensures counts { result.counts ≡ [] }
         ensures limited { result.limited ≡ [] }
@@ -124,7 +124,7 @@ impl Counts {
         }
     }
 
-    /// Adds those of one more function.
+    /// Appends the counts of one more function.
     fn push(&mut self, turns: Turns) -> Result<(), AllocError>
         ensures counts { OnOk result (self.new.counts ≡ self.old.counts ++ turns.count ∷ []) }
         ensures limited { OnOk result (self.new.limited ≡ self.old.limited ++ turns.limited ∷ []) }

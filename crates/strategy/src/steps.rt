@@ -1,4 +1,4 @@
-//! How far functions are brought, and cleaning of those that meet their checks.
+//! Limits on what is done for a function, and dead code elimination.
 
 ghost use Rattle.std.specs.Prelude.{OnOk};
 ghost use Rattle.ir_core.specs.Checks.{MeetsChecks};
@@ -10,7 +10,7 @@ use ir_core::Function;
 use needed::{clean, every_cleaned_function_refines_the_old, every_cleaned_number_was_there};
 use std::alloc::{AllocError, Global};
 
-/// How far a function and its verdicts may be brought.
+/// The limits on what is done for a function.
 #[derive(Clone, Copy)]
 pub(crate) struct Bounds {
     /// How many clauses the search for a verdict may learn.
@@ -19,14 +19,14 @@ pub(crate) struct Bounds {
     pub(crate) steps: u32,
 }
 
-/// How often a function was rewritten, and whether an admitted match was left when its steps were spent.
+/// How often a function was rewritten, and whether it ran out of steps with an admitted match left.
 #[derive(Clone, Copy)]
 pub(crate) struct Turns {
     pub(crate) count: u32,
     pub(crate) limited: bool,
 }
 
-/// Cleans a function that meets its checks, as the cleaned one does.
+/// Eliminates the dead code of a function that passes its checks; the result passes them, too.
 pub(crate) fn clean_checked(alloc: Global, f: &mut Function) -> Result<(), AllocError>
     requires checks { MeetsChecks f.old }
     requires numbers { NumbersFit f.old }

@@ -1,4 +1,4 @@
--- Every match that is left has a verdict, and none is admitted in a function that is not limited.
+-- Every match that is left has a verdict, and none is admitted, unless its function ran out of steps.
 use Rattle.std.proofs.Common.{◌≡◌, ℕ, Bool, true, false, List, map, Some, refl, sym, ap, subst, ◌∙◌}
 use Rattle.std.specs.Prelude.{All, Contains, MatchBool, IsTrue, slice_get}
 use Rattle.std.proofs.lemmas.Option.{same_Some}
@@ -21,7 +21,7 @@ if_not_limited P Q true holds other = absurd (other refl)
 if_not_limited P Q false holds other = holds
 
 module _ (rules : List Rule) (table : List Row) (once : (i j : ℕ) (p : Pair) → slice_get (map pair_in table) i ≡ Some p → slice_get (map pair_in table) j ≡ Some p → i ≡ j) where
-  -- two rows on one pair are one
+  -- a table has at most one row on a pair
   same_row : (r s : Row) → Contains table r → Contains table s → pair_in r ≡ pair_in s → r ≡ s
   same_row r s has_r has_s same =
       let i = place_in table r has_r in

@@ -1,4 +1,4 @@
--- The numbers of a cleaned function are of their widths.
+-- Dead code elimination leaves literals that are numbers of their widths.
 use Rattle.needed.specs.Laws.{CleanedNumbersWereThere}
 use Rattle.strategy_core.specs.Laws.{CleanedNumbersFit}
 

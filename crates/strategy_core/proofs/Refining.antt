@@ -1,4 +1,4 @@
--- What the strategy gives meets the checks, has numbers of their widths, and may stand in the place of the old module.
+-- What the strategy gives passes the checks, has literals of their widths, and refines the old module.
 use Rattle.std.proofs.Common.{◌≡◌, ℕ, zero, suc, Bool, List, ◌∷◌, Some, refl, sym, ap, subst, ◌∙◌}
 use Rattle.std.specs.Prelude.{slice_get}
 use Rattle.ir_core.specs.declared.module.Module.{Module}
@@ -24,7 +24,7 @@ use Rattle.strategy_core.specs.Laws.{AdmittedAreValid, ModuleNumbersFit, Cleaned
 use Rattle.bindings.specs.Ready.{AreReady}
 use Rattle.strategy_core.proofs.Numbers.{cleaned_numbers_fit}
 
--- what is known of cleaning and of rewriting, each alone
+-- the laws of cleaning and of rewriting, each by itself
 pub record PartLaws : Type 0 where
   pub cleaned_refine : CleanedFunctionsRefine
   pub cleaned_meet : CleanedFunctionsMeetChecks
@@ -49,14 +49,14 @@ parts cleaned_refine cleaned_meet cleaned_numbers rewritten_refine rewritten_mee
   transitive = transitive;
 }
 
--- cleaning, and rewriting by these rules, keep what is said of a function
+-- cleaning, and rewriting by these rules, keep P
 pub record IsKept (rules : List Rule) (P : Function → Type 0) : Type 0 where
   pub cleaned : (f g : Function) → MeetsChecks f → NumbersFit f → P f → IsCleaned f g → P g
   pub rewritten : (f g : Function) (m : Match) (is : IsMatchAmong rules f m) → MeetsChecks f → NumbersFit f → P f → IsRewritten f m.binding is.rule g → P g
 
 module _ (laws : PartLaws) (rules : List Rule) (table : List Row) (ready : AreReady rules) (P : Function → Type 0) where
-  -- The new function may be worked on further, and refines the old one if only valid rules are admitted. What cleaning
-  -- and rewriting keep is said of it too.
+  -- The new function passes the checks, and refines the old one if only valid rules are admitted. What cleaning and
+  -- rewriting keep holds of it.
   record Follows (old new : Function) : Type 0 where
     pub checks : MeetsChecks new
     pub numbers : NumbersFit new
@@ -121,7 +121,7 @@ module _ (laws : PartLaws) (rules : List Rule) (table : List Row) (ready : AreRe
   abbrev AllGood : List Entry → Type 0
   AllGood es = (k : ℕ) (f : Function) → slice_get es k ≡ Some (entries.Function f) → MeetsChecks f × NumbersFit f
 
-  -- the new function stands in the place of one of the old entries
+  -- the new function comes (`Follows`) of the one in an old entry
   record IsOfOld (old : List Entry) (k : ℕ) (new : Function) : Type 0 where
     pub was : Function
     pub at : slice_get old k ≡ Some (entries.Function was)
@@ -153,7 +153,7 @@ module _ (laws : PartLaws) (rules : List Rule) (table : List Row) (ready : AreRe
 good_in : (m : Module) → ModuleMeetsChecks m → ModuleNumbersFit m → (k : ℕ) (f : Function) → slice_get m.entries k ≡ Some (entries.Function f) → MeetsChecks f × NumbersFit f
 good_in m meets fit k f at = (meets.functions k f at, fit k f at)
 
--- where nothing more is said
+-- nothing more is to be kept
 abbrev Nothing : Function → Type 0
 Nothing f = Unit {0}
 
@@ -176,7 +176,7 @@ pub strategy_refines : PartLaws → StrategyRefines
 strategy_refines laws rules steps table old new counts limited ready valid meets fit given =
     refined laws rules table ready Nothing given.entries (good_in old meets fit) valid
 
--- What cleaning and rewriting keep, the strategy keeps: so are the forms that a printed text needs.
+-- What cleaning and rewriting keep, the strategy keeps: so it is with the forms that a printed text needs.
 pub strategy_keeps : PartLaws → (rules : List Rule) (steps : ℕ) (table : List Row) (old new : Module) (counts : List ℕ) (limited : List Bool)
     → AreReady rules → ModuleMeetsChecks old → ModuleNumbersFit old → IsPlainStrategy rules steps table old new counts limited
     → (P : Function → Type 0) → IsKept rules P

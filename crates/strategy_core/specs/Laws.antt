@@ -19,33 +19,33 @@ use Rattle.strategy_core.specs.Decided.{MatchesAreDecided}
 abbrev pub AdmittedAreValid : List Rule → List Row → Type 0
 AdmittedAreValid rules table = (row : Row) (rule : Rule) → Contains table row → row.verdict ≡ Admitted → slice_get rules row.rule ≡ Some rule → IsValid rule row.typing
 
--- the numbers of each function are of their widths
+-- the literals of each function are numbers of their widths
 abbrev pub ModuleNumbersFit : Module → Type 0
 ModuleNumbersFit m = (k : ℕ) (f : Function) → slice_get m.entries k ≡ Some (entries.Function f) → NumbersFit f
 
--- the numbers of a cleaned function are of their widths too
+-- dead code elimination (`IsCleaned`) leaves literals that are numbers of their widths
 abbrev pub CleanedNumbersFit : Type 0
 CleanedNumbersFit = (f g : Function) → MeetsChecks f → NumbersFit f → IsCleaned f g → NumbersFit g
 
--- what the strategy gives meets the checks of a module
+-- what the strategy gives passes the checks of a module
 abbrev pub StrategyMeetsChecks : Type 0
 StrategyMeetsChecks = (rules : List Rule) (steps : ℕ) (table : List Row) (old new : Module) (counts : List ℕ) (limited : List Bool)
     → AreReady rules → ModuleMeetsChecks old → ModuleNumbersFit old
     → IsPlainStrategy rules steps table old new counts limited → ModuleMeetsChecks new
 
--- its numbers are of their widths
+-- its literals are numbers of their widths
 abbrev pub StrategyNumbersFit : Type 0
 StrategyNumbersFit = (rules : List Rule) (steps : ℕ) (table : List Row) (old new : Module) (counts : List ℕ) (limited : List Bool)
     → AreReady rules → ModuleMeetsChecks old → ModuleNumbersFit old
     → IsPlainStrategy rules steps table old new counts limited → ModuleNumbersFit new
 
--- and where only valid rules are admitted it may stand in the place of the old module, however many the steps are
+-- where only valid rules are admitted, what the strategy gives refines the old module, for any number of steps
 abbrev pub StrategyRefines : Type 0
 StrategyRefines = (rules : List Rule) (steps : ℕ) (table : List Row) (old new : Module) (counts : List ℕ) (limited : List Bool)
     → AreReady rules → AdmittedAreValid rules table → ModuleMeetsChecks old → ModuleNumbersFit old
     → IsPlainStrategy rules steps table old new counts limited → ModuleRefines old new
 
--- every match that is left has a verdict in the table, and none is admitted in a function that is not limited
+-- every match that is left has a verdict in the table, and none is admitted, unless its function ran out of steps
 abbrev pub StrategyDecides : Type 0
 StrategyDecides = (rules : List Rule) (steps : ℕ) (table : List Row) (old new : Module) (counts : List ℕ) (limited : List Bool)
     → IsPlainStrategy rules steps table old new counts limited → MatchesAreDecided rules table new limited

@@ -1,8 +1,9 @@
 -- The plain strategy: what rules make of a module by a table of verdicts, function by function in text order.
 --
--- A function is cleaned. Then a search goes through its matches in order, asks for the verdict of each, and ends at the
--- first that is admitted: there the function is rewritten and cleaned, which is a step, and the search begins again.
--- The last search of a function finds none, or has no step left; it goes through all matches.
+-- First a function's dead code is eliminated (it is cleaned). Then a search goes through its matches in order, asks for
+-- the verdict of each, and ends at the first that is admitted. There the function is rewritten and cleaned, which is a
+-- step, and the search begins again. The last search finds no admitted match, or has no step left; it goes through all
+-- matches.
 use Rattle.std.specs.Prelude.{◌≡◌, ℕ, suc, ◌-◌, ◌≤◌, Bool, List, [], ◌∷◌, ◌++◌, map, All, Any, MatchBool}
 use Rattle.ir_core.specs.declared.module.Module.{Module}
 use Rattle.ir_core.specs.declared.module.Entry.{Entry}
@@ -17,8 +18,8 @@ use Rattle.bindings.specs.Matches.{IsMatchAmong, AreMatches, AreMatchesBefore}
 use Rattle.strategy_core.specs.Asked.{Pair, pair_of, pair_in, IsAdmitted, IsTurnedDown, AreFirstAsked}
 
 module _ (rules : List Rule) (table : List Row) where
-  -- A step: the search asks for the verdicts of a match and of all that come before it, in order. Those before it are
-  -- turned down, and at this one, which is admitted, the function is rewritten and then cleaned.
+  -- One step: the search asks for the verdicts of the matches before some match, which are all turned down, and then of
+  -- that match, which is admitted. There the function is rewritten, and then cleaned.
   pub record IsStep (f new : Function) (asked : List Pair) : Type 0 where
     pub chosen : Match
     pub is_match : IsMatchAmong rules f chosen
@@ -31,21 +32,21 @@ module _ (rules : List Rule) (table : List Row) where
     pub is_rewritten : IsRewritten f chosen.binding is_match.rule rewritten
     pub is_cleaned : IsCleaned rewritten new
 
-  -- one function comes of another by so many steps, and these pairs are asked on the way
+  -- one function comes of another by this many steps, in which these pairs are asked
   pub data ComesOf : ℕ → Function → Function → List Pair → Type 0 where
     itself : (f : Function) → ComesOf 0 f f []
     by_step : (count : ℕ) (f g h : Function) (asked more : List Pair) → ComesOf count f g asked → IsStep g h more
         → ComesOf (suc count) f h (asked ++ more)
 
-  -- The last search, with so many steps left, goes through all matches of the function. Where the function is limited
-  -- no step is left and a match is admitted, and else all are turned down.
+  -- The last search of a function, with `left` steps left, asks for the verdicts of all matches. Either all are turned
+  -- down, or no step is left and one is admitted: then the function is limited.
   pub record IsLastSearch (left : ℕ) (f : Function) (limited : Bool) (asked : List Pair) : Type 0 where
     pub matches : List Match
     pub are_matches : AreMatches rules f matches
     pub asks : asked ≡ map pair_of matches
     pub ends : MatchBool limited ((left ≡ 0) × Any (IsAdmitted table) matches) (All (IsTurnedDown table) matches)
 
-  -- what becomes of a function within so many steps: how often it is rewritten, whether it is limited, and which pairs
+  -- what becomes of a function within `steps` steps: it is rewritten `count` times, is limited or not, and these pairs
   -- are asked
   pub record IsOptimised (steps : ℕ) (old new : Function) (count : ℕ) (limited : Bool) (asked : List Pair) : Type 0 where
     pub cleaned : Function
@@ -57,7 +58,7 @@ module _ (rules : List Rule) (table : List Row) where
     pub last : IsLastSearch (steps - count) new limited at_last
     pub asks : asked ≡ in_steps ++ at_last
 
-  -- the same of entries in order: kept lines stay, and each function has its count, and whether it is limited
+  -- the same for the entries of a module: kept lines stay, and each function has its count, and whether it is limited
   pub data AreOptimised (steps : ℕ) : List Entry → List Entry → List ℕ → List Bool → List Pair → Type 0 where
     none : AreOptimised steps [] [] [] [] []
     kept : (line : List ℕ) (old new : List Entry) (counts : List ℕ) (limited : List Bool) (asked : List Pair)
@@ -68,8 +69,8 @@ module _ (rules : List Rule) (table : List Row) where
         → IsOptimised steps f last count is_limited asked → AreOptimised steps old new counts limited others
         → AreOptimised steps (entries.Function f ∷ old) (entries.Function last ∷ new) (count ∷ counts) (is_limited ∷ limited) (asked ++ others)
 
--- What the strategy gives for a module by this table, with a number of steps for each function. It is the strategy's
--- own table: it has a row for each pair that is asked, in the order in which they are first asked.
+-- What the strategy gives for a module by this table, with at most `steps` steps for each function. The table is the
+-- strategy's own: it has a row for each pair that is asked, in the order in which they are first asked.
 pub record IsPlainStrategy (rules : List Rule) (steps : ℕ) (table : List Row) (old new : Module) (counts : List ℕ) (limited : List Bool) : Type 0 where
   pub asked : List Pair
   pub entries : AreOptimised rules table steps old.entries new.entries counts limited asked

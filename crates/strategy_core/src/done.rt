@@ -12,6 +12,6 @@ pub struct Done {
     pub table: Table,
     /// For each function in order, how often it was rewritten.
     pub counts: List<u32>,
-    /// For each function in order, whether an admitted match was left when its steps were spent.
+    /// For each function in order, whether it ran out of steps with an admitted match left.
     pub limited: List<bool>,
 }

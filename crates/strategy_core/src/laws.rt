@@ -6,8 +6,8 @@ use ir_meaning::refinement_is_an_order;
 use needed::{every_cleaned_function_refines_the_old, every_cleaned_number_was_there};
 use rewriter::{rewritten_functions_meet_checks, rewritten_functions_refine};
 
-/// What the strategy gives for a module may stand in its place, where only valid rules are admitted, however many the
-/// steps are. Valid or not, it meets the checks of a module, and its numbers are of their widths.
+/// What the strategy gives for a module refines it, where only valid rules are admitted, for any number of steps.
+/// Whether they are valid or not, it passes the checks of a module, and its literals are numbers of their widths.
 pub fn every_optimised_module_refines_the_old()
     ensures refines { StrategyRefines }
     ensures checks { StrategyMeetsChecks }
@@ -20,8 +20,8 @@ pub fn every_optimised_module_refines_the_old()
     refinement_is_an_order();
 }
 
-/// Every match that the strategy leaves has a verdict in its table, and none is admitted in a function that is not
-/// limited.
+/// Every match that the strategy leaves has a verdict in its table, and none is admitted, unless its function ran out
+/// of steps.
 pub fn every_match_left_is_decided()
     ensures { StrategyDecides }
 {}

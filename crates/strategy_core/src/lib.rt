@@ -2,8 +2,8 @@
 //!
 //! The definitions stand in `specs/`: `Asked` says which verdicts matches ask for, in which order pairs are first
 //! asked, and what a table of verdicts says; `PlainStrategy` what the strategy gives for a module by its table;
-//! `Decided` that no match is left that it should have taken, `Countable` which modules are small enough, and `Laws`
-//! that what it gives may stand in the place of what was there. It has no code but the type of what is given.
+//! `Decided` that no match is left that should have been rewritten, `Countable` which modules are small enough, and
+//! `Laws` that what it gives refines the module. It has no code but the type of what is given.
 #![tactic(auto)]
 
 mod done;

@@ -1,5 +1,5 @@
-//! Tests of the whole program: how commands end over files and sinks in memory, and what they write; and a caller over
-//! files and sinks that never fail.
+//! Tests of the whole program: how commands end with files and sinks in memory, and what they write; and with files and
+//! sinks that never fail.
 #![tactic(auto)]
 
 mod sure;

@@ -1,4 +1,4 @@
-//! A caller whose files and sinks never fail.
+//! A call with files and sinks that never fail.
 
 ghost use Rattle.std.specs.Prelude.{◌≡◌};
 
@@ -6,7 +6,7 @@ use alive_top::{Status, alive};
 use outside::{SureFiles, SureSink};
 use std::alloc::Global;
 
-/// How a command ends over files and sinks that never fail: never with a fault of reading or of writing.
+/// How a command ends with files and sinks that never fail: never with a fault of reading or of writing.
 pub fn sure_status(alloc: Global, words: &Vec<String>, files: &mut SureFiles) -> Status
     ensures read { ¬ result ≡ Status.ReadFault }
     ensures written { ¬ result ≡ Status.WriteFault }

@@ -1,4 +1,4 @@
-//! The whole program, over files and sinks in memory.
+//! The whole program, with files and sinks in memory.
 
 mod faults;
 mod freezes;
@@ -39,7 +39,7 @@ const NOT_ADD_WRITTEN: &str = "define i4 @f(i4 %a) {\n  %1 = sub i4 4, %a\n  ret
 
 const IDENTITY: &str = "define i8 @f(i8 %a) {\n  ret i8 %a\n}\n";
 
-/// A command over a rule file `r` and a module `m`, its status, and what it leaves.
+/// A command, a rule file `r` and a module `m`, and the status and what is written.
 struct Row {
     words: &'static str,
     rules: &'static str,
@@ -49,7 +49,7 @@ struct Row {
     err: &'static str,
 }
 
-/// Runs a row's command, and says whether it leaves what the row says.
+/// Runs a row's command, and says whether its status and what it wrote are the row's.
 fn leaves(alloc: Global, row: &Row) -> Result<bool, AllocError> {
     let mut world = world_of(alloc, row.rules.as_bytes(), row.source.as_bytes())?;
     leaves_in(alloc, row, &mut world)
@@ -61,14 +61,14 @@ fn leaves_in(alloc: Global, row: &Row, world: &mut World) -> Result<bool, AllocE
     Ok(is_left(status, world, row))
 }
 
-/// Whether that is what the row says.
+/// Whether status and texts are the row's.
 fn is_left(status: u8, world: &World, row: &Row) -> bool {
     status == row.status
         && world.sinks.out.contents() == row.out.as_bytes()
         && world.sinks.err.contents() == row.err.as_bytes()
 }
 
-/// Runs the command of each row, and looks at what it leaves.
+/// Runs the command of each row, and compares.
 fn all_leave(rt: &impl Abort, alloc: Global, rows: &[Row]) -> Result<(), Fail> {
     for row in rows {
         assert!(rt;

@@ -1,10 +1,10 @@
-//! Runs whole commands: on the files of the library of rules, and over files and sinks in memory.
+//! Runs whole commands: on the files of the library of rules, and with files and sinks in memory.
 //!
 //! Without words it decides each file of the library, so that a rule that goes wrong changes a line, and then runs the
-//! loop in memory. Its words are those of a command, which runs over files and sinks in memory, so that each of its
-//! allocations can be refused in turn. What it leaves is written to the standard streams, and its status is the exit
-//! status. Where there is no memory for the words, the files and the sinks the status is 11, and where the streams
-//! can't be written it is 10: no command ends so.
+//! loop in memory. Its words are those of a command, which runs with files and sinks in memory, so that each of its
+//! allocations can be refused in turn. What the command writes goes to the standard streams, and its status is the exit
+//! status. Where there is no memory for the words, the files and the sinks, the status is 11, and where the streams
+//! can't be written, it is 10: no command ends with these.
 #![tactic(auto)]
 
 mod library;
@@ -19,16 +19,16 @@ use std::alloc::AllocError;
 use std::io::Write;
 use std::process::ExitCode;
 
-/// The command that runs where there are no words.
+/// The command for a call without words.
 const LOOP: &str = "alive run --blocks 10 s swap 2";
 
 /// The status where there is no memory for what a command needs before it runs.
 const NOT_BEGUN: u8 = 11;
 
-/// The status where what a command leaves could not be written.
+/// The status where what a command wrote could not be passed on.
 const NOT_TOLD: u8 = 10;
 
-/// Writes what a command left to the standard streams.
+/// Passes on what a command wrote to the standard streams.
 fn tell(rt: &HostRuntime, world: &World) -> Result<(), std::io::Error> {
     rt.stdout().write_all(world.out.contents())?;
     rt.stderr().write_all(world.err.contents())

@@ -1,5 +1,6 @@
-//! Tables that were worked out by hand, each call that takes memory once, operations on words that the search decides,
-//! the sizes of clause sets, logs and their texts, clauses in which a literal stands twice, and colourings of numbers.
+//! Tests against tables that were worked out by hand, of each call that takes memory, of operations on words that the
+//! search decides, of the sizes of clause sets, of logs and their texts, of clauses that repeat a literal, and of
+//! colourings of numbers.
 
 mod circuit_intrinsics;
 mod command_lines;

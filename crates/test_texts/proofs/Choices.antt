@@ -1,4 +1,4 @@
--- Where the source of a rule leaves nothing open, there is nothing to choose for it.
+-- Where the source of a rule has no choices, the empty list of numbers fits them.
 use Rattle.std.proofs.Common.{◌≡◌, ℕ, zero, suc, ◌<◌, List, [], length, refl, arith}
 use Rattle.rule_core.specs.declared.rule.Rule.{Rule}
 use Rattle.rule_core.specs.Positions.{choices_among}

@@ -1,5 +1,6 @@
-//! Tests of texts of modules and of rules: which are refused and why, how modules are cleaned and written, how
-//! functions run, which module a number stands for, how rules are decided, where they match and what comes of that.
+//! Tests on texts of modules and of rules: which are refused and why, what dead code elimination leaves and how it is
+//! printed, how functions run, which module a number generates, how rules are decided, where they match and what they
+//! rewrite.
 #![tactic(auto)]
 
 #[cfg(test)]

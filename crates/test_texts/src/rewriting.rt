@@ -1,5 +1,5 @@
-//! Rules and functions that are read: where the rules match, which functions come of it and what changed, and how often
-//! registers are used.
+//! Rules and functions that are read: where the rules match, what they rewrite and what is reported to change, and how
+//! often registers are used.
 
 mod applied;
 mod matches;

@@ -1,8 +1,8 @@
-//! Why there is nothing to compare.
+//! Why a row of a table could not be tried.
 
 use std::alloc::{AllocError, AllocFailed};
 
-/// Memory is refused, or what a row of a table has is not what the row is for.
+/// Memory is refused, or the row isn't of the form that its table needs.
 #[derive(Clone, Copy, Debug, PartialEq, Eq)]
 pub(crate) enum Unfit {
     NoMemory,
@@ -16,7 +16,7 @@ pub(crate) enum Unfit {
     NoRules,
     /// A rule file has no rule, or has several where one is to be there.
     NoRule,
-    /// No instruction stands there.
+    /// There is no instruction at the place.
     NoPlace,
     /// The rule does not match there.
     NoMatch,

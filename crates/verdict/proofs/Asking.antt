@@ -1,4 +1,4 @@
--- The pairs that are asked, as one more is.
+-- The pairs in the order in which they are first asked, as one more is asked.
 use Rattle.std.proofs.Common.{◌≡◌, inl, inr, ℕ, zero, suc, ◌<◌, ◌≤◌, List, [], ◌∷◌, ◌++◌, length, length-append, take, Some, refl, sym, ap, subst, ◌∙◌, arith, get_or}
 use Rattle.std.specs.Prelude.{slice_get, Contains}
 use Rattle.std.proofs.lemmas.Option.{same_Some, slice_get_within, get_or_from_slice_get, slice_get-get_or}
@@ -16,7 +16,7 @@ take_whole : (asked : List Pair) → take (length asked) asked ≡ asked
 take_whole [] = refl
 take_whole (a ∷ asked) = ap (λ (l : List Pair). a ∷ l) (take_whole asked)
 
--- what was asked before another and was asked at all is so when one more is asked
+-- what was asked before q is still so when one more is asked
 still_before : (asked : List Pair) (x p q : Pair) → Contains asked p → IsAskedBefore asked p q → IsAskedBefore (asked ++ x ∷ []) p q
 still_before asked x p q has before k at = elim (get-append_cases asked (x ∷ []) k q at) [
   | inl here ↦
@@ -29,7 +29,7 @@ still_before asked x p q has before k at = elim (get-append_cases asked (x ∷ [
       (subst (λ (l : List Pair). Contains l p) (sym (take_front asked x (length asked) (omega arith) ∙ take_whole asked)) has)
 ]
 
--- a pair that was asked before adds nothing
+-- a pair that was asked before changes nothing
 pub asked_again : (asked pairs : List Pair) (x : Pair) → AreFirstAsked asked pairs → Contains asked x → AreFirstAsked (asked ++ x ∷ []) pairs
 asked_again asked pairs x first has = record {
   same = λ p. (
@@ -50,7 +50,7 @@ only_one : (x p : Pair) (j : ℕ) → slice_get (x ∷ []) j ≡ Some p → x �
 only_one x p zero at = same_Some x p at
 only_one x p (suc j) at = absurd cc
 
--- a pair that was not is added at the end
+-- a pair that was not is appended
 module _ (asked pairs : List Pair) (x : Pair) (first : AreFirstAsked asked pairs) (not_yet : ¬ Contains asked x) where
   asked_of : (i : ℕ) (p : Pair) → slice_get pairs i ≡ Some p → Contains asked p
   asked_of i p at = (first.same p).0 (contains_at pairs i p at)

@@ -1,5 +1,4 @@
--- From a clause set that stands for the counterexamples of a rule to what its models and its refutations say of the
--- rule.
+-- From clauses that stand for the counterexamples of a rule to what their models and their refutations say of the rule.
 use Rattle.std.proofs.Common.{◌≡◌, ◌↔◌, ℕ, ◌+◌, ◌-◌, ◌≤◌, ◌<◌, Bool, List, length, take, sym, ◌∙◌, subst, arith, inl, inr}
 use Rattle.std.specs.Prelude.{Result, Ok, Err, IfOk}
 use Rattle.std.proofs.Math.Seq.{take-length}
@@ -24,11 +23,11 @@ use Rattle.blast_rule.specs.Laws.{RulesWithoutCounterexampleReadAreValid}
 use Rattle.verdict.specs.Honest.{StandsForRule, IsHonestBudget}
 
 module _ (rule : Rule) (typing : List ℕ) (set : Cnf) (stands : StandsForRule rule typing set) where
-  -- the list is read as a counterexample
+  -- the values of the inputs read as a counterexample
   abbrev test : List Bool → Type 0
   test values = Refutes rule typing (setting_of rule typing values)
 
-  -- there are as many variables as inputs, or more
+  -- the clauses have the inputs among their variables
   inputs_within : length set.inputs ≤ set.count
   inputs_within =
       elim (cases_lt 0 (length set.inputs)) [
@@ -69,7 +68,7 @@ module _ (rule : Rule) (typing : List ℕ) (set : Cnf) (stands : StandsForRule r
         reached = reached;
       }
 
--- the clauses of a graph whose root is true exactly at the counterexamples stand for the rule
+-- clauses that encode a circuit which is true exactly at the counterexamples stand for the rule
 pub stand_for_rule : {E : Type 0} (rule : Rule) (typing : List ℕ) (is_true : List Bool → Type 0) (inputs gates : ℕ) →
     ((values : List Bool) → (is_true values ↔ Refutes rule typing (setting_of rule typing values))) →
     inputs ≡ input_bits rule typing → gates ≤ most_gates rule typing →

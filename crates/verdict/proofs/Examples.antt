@@ -1,4 +1,4 @@
--- An example with what the circuit of a rule gives at a setting that is refuted.
+-- The example at a setting that the circuit of a rule is true at.
 use Rattle.std.proofs.Common.{◌≡◌, ℕ, List, sym, ◌∙◌, subst}
 use Rattle.ops.specs.Number.{Number}
 use Rattle.ops.specs.Value.{AllowsEffect}
@@ -26,7 +26,7 @@ counterexample_with law rule typing setting checked typed (others, s, t, bad) ch
       refused = subst (λ e. ¬ (AllowsEffect source e)) same_target (subst (λ d. ¬ (AllowsEffect d t)) same_source bad.refused);
     }
 
--- so an example of a setting that is refuted, with the choices and the effects there, refutes the rule
+-- so the example at such a setting, with the choices and the effects there, refutes the rule
 pub refuted_by : RulesHaveOneOutcome → (rule : Rule) (typing : List ℕ) → IsRule rule → IsTyping rule typing → (setting : Setting) → Refutes rule typing setting → (choices : List Number) (source target : Effect) → HaveEffects rule typing setting choices source target → (example : Example) → example.inputs ≡ setting.inputs → example.constants ≡ setting.constants → example.target_undefs ≡ setting.target_choices → example.source_undefs ≡ choices → example.source ≡ source → example.target ≡ target → IsRefutedBy rule typing example
 refuted_by law rule typing checked typed setting refutes choices source target have example inputs constants target_choices source_choices of_source of_target =
     rw (inputs, constants, target_choices, source_choices, of_source, of_target) (counterexample_with law rule typing setting checked typed refutes choices source target have)

@@ -1,4 +1,4 @@
--- What was found, with one more row or one more rule.
+-- What is found, with one more row or with one more rule.
 use Rattle.std.proofs.Common.{◌≡◌, ◌↔◌, ℕ, ◌+◌, ◌<◌, Bool, true, false, IsTrue, ◌&&◌, List, [], ◌∷◌, ◌++◌, length, take, get_or, flat_map, All, Contains, refl, sym, ap, subst, ◌∙◌, append_assoc, add-zero, zero, suc, arith, Some}
 use Rattle.std.specs.Prelude.{slice_get}
 use Rattle.std.proofs.lemmas.Option.{slice_get_within}
@@ -24,7 +24,7 @@ use Rattle.verdict.specs.Limits.{most_typings}
 use Rattle.verdict.specs.Table.{IsHonestRow, IsHonestTable, row_text}
 use Rattle.verdict.specs.Verified.{IsVerified}
 
--- what holds of all of two lists in a row holds of all of each
+-- what holds of each element of two lists, one behind the other, holds of each of either
 parts : {X : Type 0} (P : X → Type 0) (xs ys : List X) → All P (xs ++ ys) → All P xs × All P ys
 parts P [] ys all = (All-nil P, all)
 parts P (x ∷ xs) ys all =
@@ -51,7 +51,7 @@ no_rows conflicts place rule verified =
       };
     }
 
--- a row that is decided
+-- a row that is decided is appended
 pub one_row : (conflicts place : ℕ) (rule : Rule) (typing : List ℕ) (verdict : Verdict) (admitted : Bool) (old new : Verified) → IsHonest rule typing conflicts verdict → IsTrue admitted ↔ (verdict ≡ Admitted) → new.table ≡ old.table ++ (record { rule = place; typing = typing; verdict = verdict }) ∷ [] → new.text.items ≡ old.text.items ++ verdict_text rule typing verdict → new.all_admitted ≡ (old.all_admitted && admitted) → AddsRows conflicts place rule (typing ∷ []) old new
 one_row conflicts place rule typing verdict admitted old new honest is_admitted table text all =
     let row : Row = record { rule = place; typing = typing; verdict = verdict } in
@@ -71,7 +71,7 @@ one_row conflicts place rule typing verdict admitted old new honest is_admitted 
       };
     }
 
--- rows behind rows
+-- rows are appended behind rows
 pub more_rows : (conflicts place : ℕ) (rule : Rule) (ts us : List (List ℕ)) (old mid new : Verified) → AddsRows conflicts place rule ts old mid → AddsRows conflicts place rule us mid new → AddsRows conflicts place rule (ts ++ us) old new
 more_rows conflicts place rule ts us old mid new a b =
     let P : Row → Type 0 = λ r. r.verdict ≡ Admitted in
@@ -126,7 +126,7 @@ rows_honest widths conflicts rules rule (Decided rows) right =
     All-weaker (IsRowOf conflicts (length rules) rule) (IsHonestRow (rules ++ rule ∷ []) conflicts) (λ row h. honest_last rules rule conflicts row h) rows right.1
 rows_honest widths conflicts rules rule TooMany right = All-nil _
 
--- one more rule
+-- one more rule is decided
 pub one_rule : (widths : List ℕ) (conflicts : ℕ) (rules : List Rule) (rule : Rule) (old new : Verified) → IsVerified rules widths conflicts old → AddsRule widths conflicts (length rules) rule old new → IsVerified (rules ++ rule ∷ []) widths conflicts new
 one_rule widths conflicts rules rule old new so_far more =
     let fs = so_far.findings in
@@ -151,14 +151,14 @@ one_rule widths conflicts rules rule old new so_far more =
       );
     }
 
--- the next rule
+-- the loop's next rule
 pub next_rule : (widths : List ℕ) (conflicts : ℕ) (rules : List Rule) (i : ℕ) (rule : Rule) (old new : Verified) → i < length rules → rule ≡ get_or rules i rule → IsVerified (take i rules) widths conflicts old → AddsRule widths conflicts i rule old new → IsVerified (take (i + 1) rules) widths conflicts new
 next_rule widths conflicts rules i rule old new within is so_far more =
     let next : take (i + 1) rules ≡ take i rules ++ rule ∷ [] = take_more rules i rule within ∙ ap (λ (r : Rule). take i rules ++ r ∷ []) (sym is) in
     let count : length (take i rules) ≡ i = length-take-le i rules (omega arith) in
     rw next (one_rule widths conflicts (take i rules) rule old new so_far (rw count more))
 
--- what are all typings are typings
+-- the typings that are found are typings of the rule
 pub typed : (rule : Rule) (widths : List ℕ) (most : ℕ) (ts : List (List ℕ)) → IsAnswer rule widths most (answers.All ts) → All (IsTyping rule) ts
 typed rule widths most ts answer = All-weaker (Contains ts) (IsTyping rule) (λ t here. ((answer.0.all t).0 here).typed) ts (All-contains_itself ts)
 

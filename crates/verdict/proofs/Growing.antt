@@ -1,4 +1,4 @@
--- What a table of verdicts says stays true as it grows.
+-- What a table of verdicts says stays true as rows are appended.
 use Rattle.std.proofs.Common.{List}
 use Rattle.std.specs.Prelude.{All, Any, Contains}
 use Rattle.rule_core.specs.declared.rule.Rule.{Rule}

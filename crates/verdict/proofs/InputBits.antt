@@ -1,4 +1,5 @@
--- The circuit of a rule has few inputs, since the rule has few inputs, constants and choices of the target.
+-- The circuit of a rule has few inputs, since the rule has few inputs, constants and choices of the target, of at most
+-- 64 bits each.
 use Rattle.std.proofs.Common.{ℕ, ◌*◌, ◌≤◌, List, length, get_or, inl, inr, arith}
 use Rattle.std.specs.Prelude.{slice_index, sum_by, map, All, Option, None, Some}
 use Rattle.std.specs.List.{range_with_len}
@@ -30,7 +31,7 @@ width_among : (rule : Rule) (typing : List ℕ) → IsTyping rule typing → (fo
 width_among rule typing typed None = omega arith
 width_among rule typing typed (Some o) = class_width rule typing typed o.class
 
--- the widths of so many things, each told by an operand, sum to few bits
+-- `count` things, each of the width of an operand, have few bits together
 sum_few : (rule : Rule) (typing : List ℕ) → IsTyping rule typing → (teller : ℕ → Option Operand) (count : ℕ) (bits : ℕ → ℕ) → ((N : ℕ) → N ≤ 64 → bits N ≤ 65)
     → sum_by bits (map (λ k. option_map_or (λ o. slice_index typing o.class) (teller k) 0) (range_with_len 0 count)) ≤ count * 65
 sum_few rule typing typed teller count bits few =
@@ -40,7 +41,7 @@ sum_few rule typing typed teller count bits few =
     All-map (λ N. bits N ≤ 65) width places (λ k d within. few (width (get_or places k d)) (width_among rule typing typed (teller (get_or places k d)))) in
     omega (arith, sum_by-le bits 65 (map width places) each, length-map-range_with_len width 0 count)
 
--- and those of choices
+-- choices have few bits together
 choices_few : (rule : Rule) (typing : List ℕ) → IsTyping rule typing → (choices : List Choice) → sum_by number_bits (widths_chosen typing choices) ≤ length choices * 65
 choices_few rule typing typed choices =
     let width : Choice → ℕ = λ choice. slice_index typing choice.class in

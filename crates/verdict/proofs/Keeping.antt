@@ -1,4 +1,4 @@
--- The verdicts that are kept, as one more pair is asked.
+-- The kept verdicts, as one more pair is asked.
 use Rattle.std.proofs.Common.{◌≡◌, ℕ, zero, suc, Bool, true, false, not, List, [], ◌∷◌, ◌++◌, if◌then◌else◌, length, append-nil, map, take, Some, refl, sym, ap, subst, ◌∙◌, arith, Result, Ok, Err}
 use Rattle.std.specs.Prelude.{◌||◌, ◌≢◌, slice_get, All, Contains, MatchBool, OnErr}
 use Rattle.std.specs.List.{list_any}
@@ -29,7 +29,7 @@ not_later : (a b : Bool) → (a || b) ≡ false → b ≡ false
 not_later true b none = absurd cc
 not_later false b none = none
 
--- a key that the set lacks is of a pair that no key is of
+-- a key that the set does not hold is of a pair that has no row
 absent_at : (x : Key) (keys : List Key) (i : ℕ) → list_any (key_eq x) keys ≡ false → slice_get (map pair_of_key keys) i ≡ Some (pair_of_key x) → ⊥
 absent_at x [] i none at = absurd cc
 absent_at x (key ∷ keys) zero none at = not_first (key_eq x key) (list_any (key_eq x) keys) ((decided (pair_of_key x) key).1 (sym (same_Some (pair_of_key key) (pair_of_key x) at))) none
@@ -38,20 +38,20 @@ absent_at x (key ∷ keys) (suc i) none at = absent_at x keys i (not_later (key_
 absent : (x : Key) (keys : List Key) → list_any (key_eq x) keys ≡ false → ¬ Contains (map pair_of_key keys) (pair_of_key x)
 absent x keys none has = (let at = place_in (map pair_of_key keys) (pair_of_key x) has in absent_at x keys at.0 none at.1)
 
--- one that it has is of a pair that a key is of
+-- a key that it holds is of a pair that has one
 present : (x : Key) (keys : List Key) → list_any (key_eq x) keys ≡ true → Contains (map pair_of_key keys) (pair_of_key x)
 present x keys found =
     let (k, key, within, at, is) = Any-from_list_any (key_eq x) keys found in
     contains_at (map pair_of_key keys) k (pair_of_key x)
     (slice_get-map pair_of_key keys k ∙ ap (option_map pair_of_key) (slice_get_read keys (length keys) k key refl within (sym at)) ∙ ap Some (sym ((decided (pair_of_key x) key).0 is)))
 
--- what is stored at a place is of the pair
+-- the row at the place of a key is on its pair
 pub stored : (x : Key) (keys : List Key) (table : List Row) (place : ℕ) → map pair_of_key keys ≡ map pair_in table
     → ((key : Key) × (slice_get keys place ≡ Some key) × (key_eq x key ≡ true)) → slice_get (map pair_in table) place ≡ Some (pair_of_key x)
 stored x keys table place same (key, at, is) =
     subst (λ l. slice_get l place ≡ Some (pair_of_key x)) same (slice_get-map pair_of_key keys place ∙ ap (option_map pair_of_key) at ∙ ap Some (sym ((decided (pair_of_key x) key).0 is)))
 
--- whether a key is new says whether the set lacked it
+-- whether `insert` said that the key was new says whether the set did not hold it
 pub lacked : (found new : Bool) → new ≡ not found → new ≡ true → found ≡ false
 lacked true new is h = absurd cc
 lacked false new is h = refl
@@ -60,12 +60,12 @@ pub had : (found new : Bool) → new ≡ not found → new ≡ false → found �
 had true new is h = refl
 had false new is h = absurd cc
 
--- what stands where memory was refused
+-- what holds where memory is refused
 pub on_err : {T E : Type 0} (r : Result T E) (P : Type 0) → P → OnErr r P
 on_err (Ok x) P p = tt
 on_err (Err e) P p = p
 
--- a key that was put last, behind as many as there are rows, is taken out again
+-- the key that was inserted last, for a row that there is not, is removed again
 pub taken_out : (table : List Row) (old : List Key) (key : Key) (new : List Key) → map pair_of_key old ≡ map pair_in table → list_any (key_eq key) old ≡ false
     → new ≡ insert_key key_eq old key → take (length table) new ≡ old
 taken_out table old key new same none is =
@@ -74,7 +74,7 @@ taken_out table old key new same none is =
     ap (λ (n : ℕ). take n new) (sym counts) ∙ ap (take (length old)) added ∙ take-append-le (length old) old (key ∷ []) (omega arith) ∙ take_all (length old) old (omega arith)
 
 module _ (rules : List Rule) (conflicts : ℕ) (old new : Verdicts) (key : Key) where
-  -- a pair that is found adds no row
+  -- a pair that has a row: nothing changes
   pub asked_found : new.table ≡ old.table → new.logs ≡ old.logs → new.pairs.keys ≡ insert_key key_eq old.pairs.keys key → list_any (key_eq key) old.pairs.keys ≡ true
       → Asks rules conflicts (pair_of_key key ∷ []) old new
   asked_found table logs keys found =
@@ -93,7 +93,7 @@ module _ (rules : List Rule) (conflicts : ℕ) (old new : Verdicts) (key : Key) 
         };
       }
 
-  -- one that is not adds its row
+  -- a pair that has none: its row is appended
   pub asked_new : (row : Row) → new.table ≡ old.table ++ row ∷ [] → new.logs ≡ old.logs → new.pairs.keys ≡ insert_key key_eq old.pairs.keys key
       → list_any (key_eq key) old.pairs.keys ≡ false → pair_in row ≡ pair_of_key key → IsHonestRow rules conflicts row → IsUnrefutedIn old.logs row → Asks rules conflicts (pair_of_key key ∷ []) old new
   asked_new row table logs keys none is honest unrefuted =
@@ -118,7 +118,7 @@ module _ (rules : List Rule) (conflicts : ℕ) (old new : Verdicts) (key : Key) 
 pair_at : (table : List Row) (place : ℕ) (row : Row) (pair : Pair) → slice_get (map pair_in table) place ≡ Some pair → slice_get table place ≡ Some row → pair_in row ≡ pair
 pair_at table place row pair is at = same_Some (pair_in row) pair (sym (slice_get-map pair_in table place ∙ ap (option_map pair_in) at) ∙ is)
 
--- the row at the place of a pair gives its verdict
+-- the row at the place of a pair answers for it
 pub answered : (table : List Row) (place : ℕ) (row : Row) (pair : Pair) (admitted : Bool) → slice_get (map pair_in table) place ≡ Some pair → slice_get table place ≡ Some row
     → MatchBool admitted (row.verdict ≡ Admitted) (row.verdict ≢ Admitted) → MatchBool admitted (HasVerdict table (λ v. v ≡ Admitted) pair) (HasVerdict table (λ v. v ≢ Admitted) pair)
 answered table place row pair true is at says = (row, contains_at table place row at, pair_at table place row pair is at, says)

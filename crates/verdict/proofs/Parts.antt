@@ -1,4 +1,4 @@
--- A search goes on from one part of a function to the next.
+-- From the search in one part of a function to that in the next.
 use Rattle.std.proofs.Common.{◌≡◌, ◌⊎◌, inl, inr, ℕ, ◌+◌, ◌<◌, ◌≤◌, Bool, true, false, List, [], ◌∷◌, ◌++◌, length, get_or, take, map, Some, sym, subst, ◌∙◌, append_assoc, arith}
 use Rattle.std.specs.Prelude.{◌||◌, All, Any, Contains, MatchBool}
 use Rattle.std.proofs.lemmas.Bool.{cases_lt}
@@ -25,7 +25,7 @@ use Rattle.verdict.proofs.Growing.{all_turned_down_stay, any_admitted_stays}
 use Rattle.verdict.proofs.Passing.{any_left}
 use Rattle.verdict.proofs.Sequence.{asks_nothing, asks_both, row_stays}
 
--- the match stands in the block before a place, or in a block before this one
+-- the match is in an earlier block, or in this one before this place
 abbrev pub IsEarlier : ℕ → ℕ → Match → Type 0
 IsEarlier b k m = IsInBlock b m × (m.binding.place < k)
 
@@ -39,7 +39,7 @@ any_right : {X : Type 0} (P : X → Type 0) (xs ys : List X) → Any P ys → An
 any_right P xs ys (k, x, within, at, h) = (let has = Contains-append_right xs ys x (k, within, at) in (has.0, x, has.1, has.2, h))
 
 module _ (rules : List Rule) (conflicts : ℕ) (f : Function) where
-  -- nothing is asked where no match stands
+  -- where there is no match, nothing is asked
   pub asks_none : (P : Match → Type 0) (v : Verdicts) → ((m : Match) → IsMatchAmong rules f m → ¬ P m) → AsksAll rules conflicts f P v v false
   asks_none P v never = record {
     matches = [];
@@ -68,7 +68,7 @@ module _ (rules : List Rule) (conflicts : ℕ) (f : Function) where
         admitted = up;
       }
 
-  -- ---- one part, and the next
+  -- ---- two parts, one behind the other
 
   answers_both : (xs ys : List Match) (b c : Verdicts) (pairs : List Pair) (x y : Bool) → Asks rules conflicts pairs b c
       → MatchBool x (Any (IsAdmitted b.table) xs) (All (IsTurnedDown b.table) xs) → MatchBool y (Any (IsAdmitted c.table) ys) (All (IsTurnedDown c.table) ys)
@@ -111,7 +111,7 @@ module _ (rules : List Rule) (conflicts : ℕ) (f : Function) where
       → AsksAll rules conflicts f P a c any → AsksAll rules conflicts f Q a c any
   told_by P Q a c any back on h = record { matches = h.matches; are_matches = same_where rules f P Q h.matches h.are_matches back on; asks = h.asks; answer = h.answer }
 
-  -- ---- the places of a block
+  -- ---- the instructions of a block
 
   no_place_yet : (b : ℕ) (m : Match) → IsMatchAmong rules f m → ¬ IsEarlier b 0 m
   no_place_yet b m is earlier = omega (arith, earlier.1)
@@ -162,7 +162,7 @@ module _ (rules : List Rule) (conflicts : ℕ) (f : Function) where
           let less : m.binding.block < length f.blocks = slice_get_within f.blocks m.binding.block root.is_inst.block root.is_inst.is_block in
           omega (arith, less, past)
 
-  -- ---- places that were gone by, in whatever block
+  -- ---- all instructions before a place, in any block
 
   pub nothing_past : (v : Verdicts) → AsksAll rules conflicts f (IsPast 0 0) v v false
   nothing_past v = asks_none (IsPast 0 0) v (λ m is past. elim past [ inl block ↦ omega (arith, block) | inr place ↦ omega (arith, place.1) ])
@@ -230,7 +230,7 @@ module _ (rules : List Rule) (conflicts : ℕ) (f : Function) where
         ]
       ]
 
-  -- ---- matches that were turned down before
+  -- ---- matches that are known to be turned down
 
   rows_there : (v : Verdicts) (ms : List Match) → All (IsTurnedDown v.table) ms → All (Contains (map pair_in v.table)) (map pair_of ms)
   rows_there v ms down i d lt =

@@ -1,4 +1,4 @@
--- One match more of a search.
+-- A search asks for the verdict of one match more.
 use Rattle.std.proofs.Common.{◌≡◌, ℕ, ◌+◌, ◌<◌, Bool, true, false, List, [], ◌∷◌, ◌++◌, length, get_or, take, map, Some, sym, ap, subst, ◌∙◌}
 use Rattle.std.specs.Prelude.{◌||◌, All, Any, MatchBool, slice_get}
 use Rattle.std.proofs.lemmas.List.{take_more, map-append}
@@ -27,7 +27,7 @@ any_left P xs ys (k, x, within, at, h) = (let has = Contains-append_left xs ys x
 all_more : {X : Type 0} (P : X → Type 0) (xs : List X) (x : X) → All P xs → P x → All P (xs ++ x ∷ [])
 all_more P xs x all one = All-append P xs (x ∷ []) all (All-cons P x [] one (All-nil P))
 
--- a match is of a rule that is read, at a typing of it
+-- a match is of a rule that the reader gave, at a typing of it
 pub match_at : {Before : ℕ → ℕ → Type 0} (rules : List Rule) (f : Function) (ms : List Match) (k : ℕ) (m : Match) → All (MatchesAmong Before rules f) ms → k < length ms → m ≡ get_or ms k m → MatchesAmong Before rules f m
 match_at {Before} rules f ms k m all within is = subst (MatchesAmong Before rules f) (sym is) (all k m within)
 
@@ -37,7 +37,7 @@ rule_within rules f m is = slice_get_within rules m.rule is.rule is.is_rule
 pub rule_of : {Before : ℕ → ℕ → Type 0} (rules : List Rule) (f : Function) (m : Match) → AreReady rules → MatchesAmong Before rules f m → (rule : Rule) → slice_get rules m.rule ≡ Some rule → IsRule rule × IsTyping rule m.binding.typing
 rule_of rules f m ready is rule at = ((ready m.rule rule at).checks, subst (λ (r : Rule). IsTyping r m.binding.typing) (same_Some is.rule rule (sym is.is_rule ∙ at)) is.matches.typing)
 
--- after some matches one more is asked
+-- one more match is asked behind others
 module _ (rules : List Rule) (conflicts : ℕ) (first : List Match) (m : Match) (a b c : Verdicts) (one : Asks rules conflicts (pair_of m ∷ []) b c) where
   pub asks_more : Asks rules conflicts (map pair_of first) a b → Asks rules conflicts (map pair_of (first ++ m ∷ [])) a c
   asks_more before = subst (λ (l : List Pair). Asks rules conflicts l a c) (sym (map-append pair_of first (m ∷ []))) (asks_both rules conflicts (map pair_of first) (pair_of m ∷ []) a b c before one)

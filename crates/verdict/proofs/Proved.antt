@@ -1,4 +1,4 @@
--- What a log that doesn't refute a set says of the verdict that keeps the set.
+-- Where a log doesn't refute the clauses of a `Budget`.
 use Rattle.std.proofs.Common.{◌≡◌, ◌↔◌, Bool, true, false, IsTrue, List, Result, Ok, Err, IfOk, subst}
 use Rattle.clauses.specs.declared.cnf.Cnf.{Cnf}
 use Rattle.clauses.specs.declared.step.Step.{Step}

@@ -1,4 +1,4 @@
--- Searches one after the other: which pairs they ask together.
+-- Two searches one behind the other, and what they ask together.
 use Rattle.std.proofs.Common.{ℕ, List, [], ◌++◌, refl, sym, ap, subst, ◌∙◌, append-nil, append_assoc}
 use Rattle.std.specs.Prelude.{Contains}
 use Rattle.std.proofs.lemmas.List.Elements.{Contains-append_left}

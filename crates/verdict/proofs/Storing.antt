@@ -1,4 +1,4 @@
--- The logs that are stored, as one more is.
+-- The stored logs, as one more is stored.
 use Rattle.std.proofs.Common.{◌≡◌, ℕ, Bool, true, false, List, refl, sym, ap, ◌∙◌, nat_eq}
 use Rattle.std.specs.Prelude.{◌&&◌, ◌≢◌}
 use Rattle.std.specs.Bool.{Decides}
@@ -9,7 +9,7 @@ use Rattle.std.proofs.lemmas.Slice.Eq.{bytes_eq-Decides}
 use Rattle.strategy_core.specs.Asked.{Pair}
 use Rattle.verdict.specs.Stored.{Key, pair_of_key, is_key_of}
 
--- how a table compares keys
+-- equality of keys, as the table tests it
 abbrev pub key_eq : Key → Key → Bool
 key_eq x y = nat_eq x.0 y.0 && bytes_eq x.1.items y.1.items
 
@@ -18,7 +18,7 @@ decided p y =
     Decides-like (is_key_of p y) (λ h. ap (λ (n : ℕ). (n, p.1)) h.0 ∙ ap (λ (l : List ℕ). (y.0, l)) h.1) (λ e. (ap (λ (q : Pair). q.0) e, ap (λ (q : Pair). q.1) e))
     (Decides-and (nat_eq p.0 y.0) (bytes_eq p.1 y.1.items) (Decides-eqb p.0 y.0) (bytes_eq-Decides p.1 y.1.items))
 
--- what is no key of a pair is found out so
+-- a key of another pair is found to be one
 not_key : (p : Pair) (y : Key) → ¬ (p ≡ pair_of_key y) → is_key_of p y ≡ false
 not_key p y other = by (is_key_of p y) refl
   where
@@ -26,7 +26,7 @@ not_key p y other = by (is_key_of p y) refl
     by true is = absurd (other ((decided p y).0 is))
     by false is = refl
 
--- what is stored for another pair than the key's stays
+-- what is stored for other pairs than the key's stays
 pub others_stay : {X : Type 0} (key : Key) (old new : List (Key × X)) (p : Pair) → KeepsOthers key_eq (key_eq key) old new → p ≢ pair_of_key key
     → lookup (is_key_of p) new ≡ lookup (is_key_of p) old
 unfolding KeepsOthers

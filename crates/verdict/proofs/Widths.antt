@@ -19,11 +19,11 @@ use Rattle.blast_rule.specs.Gates.{root_width}
 use Rattle.blast_rule.specs.Parts.{number_held}
 use Rattle.verdict.specs.WideWords.{IsWide}
 
--- it is the width of an integer type
+-- the number is the width of an integer type
 abbrev IsWidth : ℕ → Type 0
 IsWidth N = (1 ≤ N) × (N ≤ 64)
 
--- what stands at a place
+-- a place within a list has an element
 at : {X : Type 0} (xs : List X) (k : ℕ) → k < length xs → (x : X) × (slice_get xs k ≡ Some x)
 at [] k lt = absurd (omega arith)
 at (x ∷ xs) zero lt = (x, refl)
@@ -45,7 +45,7 @@ module _ (rule : Rule) (typing : List ℕ) (checked : IsRule rule) (typed : IsTy
       rw found.1 (class_width found.0.class (term_class_stands rule found.0 (witness_term rule n found.0 found.1)))
 
   module _ {L : Type 0} (value : L → Bool) (words : List (List L)) (setting : Setting) where
-    -- the words are numbers that `Wit:` chooses
+    -- words that hold the numbers that `Wit:` chooses have those widths
     chosen_wide : (held : Held) → map (number_held value) words ≡ map (witness_number rule typing setting held) rule.witnesses → All IsWide words
     chosen_wide held same = λ k d lt.
         let number = witness_number rule typing setting held in
@@ -58,7 +58,7 @@ module _ (rule : Rule) (typing : List ℕ) (checked : IsRule rule) (typed : IsTy
         let width : length (get_or words k d) ≡ witness_width rule typing found.0 = ap (λ (n : Number). n.width) is in
         rw width (witness_width_fits found.0 (checked.witnesses_there k found.0 found.1))
 
-    -- so at a counterexample, where no temporary is undefined behaviour
+    -- so it is at a counterexample, where no temporary is undefined behaviour
     pub choices_wide : (source target : Effect) → IsCounterexample rule typing setting (map (number_held value) words) source target → All IsWide words
     choices_wide source target bad =
         elim bad.effects.of_target.0 as (λ end. TemporariesEnd typing setting.constants rule setting.inputs end → All IsWide words) [

@@ -1,4 +1,4 @@
--- When a verdict on a rule at a typing is honest under a limit on learned clauses.
+-- When a verdict on a rule at a typing is honest, for a search that may learn `limit` clauses.
 use Rattle.std.specs.Prelude.{◌≡◌, ℕ, ◌+◌, ◌<◌, ◌≤◌, List, length}
 use Rattle.clauses.specs.declared.cnf.Cnf.{Cnf}
 use Rattle.clauses.specs.Settings.{StandsFor}
@@ -15,29 +15,29 @@ use Rattle.verdict_core.specs.declared.verdicts.Verdict.{Verdict}
 use Rattle.verdict_core.specs.declared.verdicts.Verdict.TheVariants.{Admitted, Refuted, WitnessFails, Budget}
 use Rattle.verdict_core.specs.declared.verdicts.Tried.{Tried}
 
--- what an example runs the halves on
+-- the setting of an example
 abbrev pub setting_in : Example → Setting
 setting_in example = record { inputs = example.inputs; constants = example.constants; target_choices = example.target_undefs }
 
--- The example is a counterexample: with what `Wit:` gives for the source's choices there, and the effects of both
--- halves.
+-- The example is a counterexample, with the numbers that `Wit:` gives there for the source's choices and the effects of
+-- both halves.
 abbrev pub IsRefutedBy : Rule → List ℕ → Example → Type 0
 IsRefutedBy rule typing example = IsCounterexample rule typing (setting_in example) example.source_undefs example.source example.target
 
--- the source of the rule leaves something open: it has an `undef`, or a freeze
+-- the source of the rule has a choice: an `undef` or a freeze
 abbrev pub HasSourceChoice : Rule → Type 0
 HasSourceChoice rule = 0 < length (choices_among rule.source)
 
--- The set stands for the counterexamples of the rule at the typing: its inputs are the bits of a setting, it stands for
--- the test that these are read as a counterexample, and beside them it has at most a variable for each gate and one
--- more.
+-- The clauses stand for the counterexamples of the rule at the typing: their inputs are the bits of a setting, they
+-- stand for the test that these read as a counterexample, and there are at most as many further variables as the
+-- circuit has gates, and one.
 pub record StandsForRule (rule : Rule) (typing : List ℕ) (set : Cnf) : Type 0 where
   pub inputs : length set.inputs ≡ input_bits rule typing
   pub test : StandsFor set (λ values. Refutes rule typing (setting_of rule typing values))
   pub variables : set.count ≤ input_bits rule typing + most_gates rule typing + 1
 
--- A setting has too many bits to try all; what was tried stands for the rule, and the search for a model of it learned
--- so many clauses, each new, and came to no end.
+-- The rule has more than 12 input bits, too many to try all settings; the clauses that were tried stand for its
+-- counterexamples, and the search for a model learned `limit` clauses, each new, without coming to an end.
 pub record IsHonestBudget (rule : Rule) (typing : List ℕ) (limit : ℕ) (tried : Tried) : Type 0 where
   pub many_bits : 12 < input_bits rule typing
   pub stands : StandsForRule rule typing tried.set

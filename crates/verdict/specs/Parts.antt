@@ -1,4 +1,4 @@
--- What a search asks in a part of a function.
+-- What the search in a part of a function asks.
 use Rattle.std.specs.Prelude.{◌≡◌, ℕ, List, [], ◌∷◌, ◌++◌, map, take, All, Option, None, Some, slice_get}
 use Rattle.rule_core.specs.declared.rule.Rule.{Rule}
 use Rattle.bindings.specs.declared.rule_match.Match.{Match}
@@ -6,7 +6,7 @@ use Rattle.verdict.specs.declared.verdicts.Verdicts.{Verdicts}
 use Rattle.strategy_core.specs.Asked.{pair_of, IsAdmitted, IsTurnedDown}
 use Rattle.verdict.specs.Asks.{Asks}
 
--- of these matches those up to the first that is admitted are asked, or all, if none is
+-- of these matches the verdicts up to the first that is admitted are asked, or all, if none is
 abbrev pub AsksToPlace : List Rule → ℕ → List Match → Verdicts → Verdicts → Option ℕ → Type 0
 AsksToPlace rules conflicts matches old new None = Asks rules conflicts (map pair_of matches) old new × All (IsTurnedDown new.table) matches
 AsksToPlace rules conflicts matches old new (Some place) = (chosen : Match) × (slice_get matches place ≡ Some chosen)

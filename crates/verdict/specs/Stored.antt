@@ -1,4 +1,4 @@
--- The logs that are stored.
+-- The logs that are stored for pairs of a rule and a typing.
 use Rattle.std.specs.Prelude.{◌&&◌, ℕ, Bool, List, Option, Vec, nat_eq, IfSome}
 use Rattle.std.specs.Global.{Global}
 use Rattle.std.specs.Str.{bytes_eq}
@@ -9,7 +9,7 @@ use Rattle.verdict.specs.declared.stored.StoredLogs.{StoredLogs}
 use Rattle.verdict.specs.Proved.{IsUnrefutedBy}
 use Rattle.strategy_core.specs.Asked.{Pair, pair_in}
 
--- a pair as tables have it
+-- a pair as a key of the tables of the code
 abbrev pub Key : Type 0
 Key = ℕ × Vec ℕ Global
 
@@ -24,6 +24,6 @@ is_key_of pair key = nat_eq pair.0 key.0 && bytes_eq pair.1 key.1.items
 abbrev pub log_of : StoredLogs → Pair → Option (List Step)
 log_of stored pair = get_by (is_key_of pair) stored.logs
 
--- the log that is stored for the row's pair, if one is, doesn't refute the set that a `Budget` keeps
+-- a log that is stored for the row's pair doesn't refute the clauses of a `Budget` in the row
 abbrev pub IsUnrefutedIn : StoredLogs → Row → Type 0
 IsUnrefutedIn stored row = IfSome (log_of stored (pair_in row)) (λ log. IsUnrefutedBy log row.verdict)

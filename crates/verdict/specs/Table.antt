@@ -12,7 +12,7 @@ pub record IsHonestRow (rules : List Rule) (conflicts : ℕ) (row : Row) : Type 
   pub is : slice_get rules row.rule ≡ Some rule
   pub honest : IsHonest rule row.typing conflicts row.verdict
 
--- each row is
+-- each row of the table is honest
 abbrev pub IsHonestTable : List Rule → ℕ → List Row → Type 0
 IsHonestTable rules conflicts table = All (IsHonestRow rules conflicts) table
 

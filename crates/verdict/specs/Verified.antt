@@ -6,11 +6,11 @@ use Rattle.verdict.specs.declared.verification.Verified.{Verified}
 use Rattle.verdict.specs.Table.{IsHonestTable}
 use Rattle.verdict.specs.Findings.{Finding, IsFinding, rows_of, finding_text, IsAdmitted}
 
--- What is handed back is the findings: the table has their rows and is honest, and the text is theirs, each rule's in
--- order; and all is admitted exactly where each of them is.
+-- What is given for a list of rules is made of its findings: the table has their rows and is honest, the text is
+-- theirs, each rule's in order, and all is admitted exactly where each of them is.
 pub record IsVerified (rules : List Rule) (widths : List ℕ) (conflicts : ℕ) (verified : Verified) : Type 0 where
   pub findings : List Finding
-  -- a right one for each rule, in order
+  -- there is a right finding for each rule, in order
   pub found : AllZip (λ placed finding. IsFinding widths conflicts placed.0 placed.1 finding) (enumerate_from 0 rules) findings
   pub table : verified.table ≡ flat_map rows_of findings
   pub honest : IsHonestTable rules conflicts verified.table

@@ -1,6 +1,6 @@
--- Words that are numbers of integer types.
+-- Words (lists of literals) of the widths of integer types.
 use Rattle.std.specs.Prelude.{◌≤◌, List, length}
 
--- it has from 1 to 64 bits
+-- the word has from 1 to 64 bits
 abbrev pub IsWide : {L : Type 0} → List L → Type 0
 IsWide word = (1 ≤ length word) × (length word ≤ 64)

@@ -1,9 +1,9 @@
-//! The law of what is asked, as the contract of a function that does nothing.
+//! The law that asking again changes nothing, as the contract of a function that does nothing.
 
 ghost use Rattle.verdict.specs.AskedAgain.{PairsWithRowsChangeNothing};
 
-/// Where pairs have rows they may be asked without a change: so a search that passes over matches that were asked
-/// before asks what one asks that comes by them.
+/// Pairs that have rows may be asked once more without a change. So a search that skips matches whose verdicts it knows
+/// asks what one asks that doesn't skip them.
 pub fn pairs_with_rows_change_nothing()
     ensures { PairsWithRowsChangeNothing }
 {}

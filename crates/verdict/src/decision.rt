@@ -1,4 +1,5 @@
-//! The decision on a rule at a typing: a search for a setting at which the source's effect does not allow the target's.
+//! The decision on a rule at a typing: a search, over clauses, for a setting at which the source's effect does not
+//! allow the target's.
 ghost use Rattle.std.specs.Prelude.{◌≤◌, ℕ, List as Seq, [], IfOk, OnOk};
 ghost use Rattle.clauses.specs.declared.cnf.Cnf.{Cnf as CnfOf};
 ghost use Rattle.clauses.specs.ClauseSet.{IsRefutation};
@@ -32,7 +33,7 @@ enum Attempt {
     Valid(Log),
     /// A counterexample.
     Refuted(Example),
-    /// The clauses that were learned, as many as may be.
+    /// The search gave up: it learned as many clauses as it may, which are these.
     Limit(PackedLog),
 }
 
@@ -56,8 +57,8 @@ pub fn decide(
     verdict_by(alloc, rule, typing, set, limit)
 }
 
-/// Decides as `decide` does, and gives beside the verdict a set of clauses that stands for the counterexamples of the
-/// rule and, where the rule is admitted, a log that refutes the set. Else the log is empty.
+/// Decides as `decide` does, and gives with the verdict the clauses that stand for the counterexamples of the rule and,
+/// where the rule is admitted, a log that refutes them; else the log is empty.
 pub fn prove(
     alloc: Global,
     rule: &Rule,
@@ -106,7 +107,7 @@ pub fn readmit(
     verdict_by(alloc, rule, typing, set, limit)
 }
 
-/// The verdict by a search over the clauses, which it keeps where the search comes to no end.
+/// The verdict by a search over the clauses; a `Budget` keeps them.
 fn verdict_by(
     alloc: Global,
     rule: &Rule,
@@ -165,8 +166,8 @@ fn counterexample_clauses(alloc: Global, rule: &Rule, typing: &Typing) -> Result
     clauses_of(alloc, &graph, made.bad)
 }
 
-/// What is said of a rule that the example refutes. Where the source has an `undef` or a freeze, another number for it
-/// might do.
+/// The verdict on a rule that the example refutes. Where the source has an `undef` or a freeze, another number for it
+/// might still do.
 fn refusal(rule: &Rule, example: Example) -> Verdict
     requires { IsRule rule.now }
     ensures honest { (typing : Seq ℕ) (limit : ℕ) → IsRefutedBy rule.now typing example → IsHonest rule.now typing limit result }
@@ -180,8 +181,8 @@ fn refusal(rule: &Rule, example: Example) -> Verdict
     }
 }
 
-/// The counterexample that a model of the rule's clauses shows. The rule's circuit is built once more on the inputs'
-/// values, where each literal is its own value: so it gives what `Wit:` chooses, and both effects.
+/// The counterexample that a model of the rule's clauses shows. The rule's circuit is evaluated on the inputs' values,
+/// by building it over truth values in place of literals: that gives what `Wit:` chooses, and both effects.
 fn example_of(
     alloc: Global,
     rule: &Rule,
@@ -210,7 +211,8 @@ fn example_of(
     })
 }
 
-/// Checks once more, by code apart from the search, that the log refutes the clauses of the rule, which is valid then.
+/// Checks, by the proof checker and not by the search, that the log refutes the clauses of the rule; then the rule is
+/// valid.
 fn check_again(
     alloc: Global,
     rule: &Rule,

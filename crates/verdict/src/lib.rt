@@ -1,10 +1,10 @@
-//! A verdict on a rewrite rule at a typing, by a search over the clauses of its counterexamples; and verdicts that are
-//! asked for by matches: each pair of a rule and a typing is decided once, when it is first asked for. A log that is
-//! stored for it is asked before there is a search.
+//! A verdict on a rewrite rule at a typing, by a search over the clauses of its counterexamples; and the verdicts that
+//! matches ask for: each pair of a rule and a typing is decided once, when it is first asked for, by a stored log, if
+//! that proves the rule, and else by a search.
 //!
 //! `specs/Honest` says when a verdict is honest, `Asks` what one search through matches asks, and what is kept;
-//! `Stored` which log is stored for a pair; `AskedAgain` what is asked again. Which verdicts matches ask for stands in
-//! `Asked` of `strategy_core`.
+//! `Stored` which log is stored for a pair; `AskedAgain` that asking again changes nothing. Which verdicts matches ask
+//! for stands in `Asked` of `strategy_core`.
 #![tactic(auto)]
 
 mod asked_again;

@@ -1,4 +1,4 @@
-//! Reads what words and effects stand for, where their literals are truth values.
+//! Values of words and effects of circuits over truth values.
 
 ghost use Rattle.std.specs.Prelude.{◌≡◌, ◌≤◌, ◌<◌, ◌^◌, length, map, All, IfOk};
 ghost use Rattle.circuits.specs.Word.{bit, number};
@@ -24,7 +24,7 @@ pub(crate) fn words_read(alloc: Global, words: &[Bits<bool>]) -> Result<List<Wor
     Ok(numbers)
 }
 
-/// What an effect stands for.
+/// The effect that a circuit gives.
 pub(crate) fn effect_read(made: &Blasted<bool>) -> Effect
     requires { IsWide made.now.bits }
     ensures { result ≡ effect_of (λ b. b) made.now }
@@ -38,7 +38,7 @@ pub(crate) fn effect_read(made: &Blasted<bool>) -> Effect
     }
 }
 
-/// The number of a word.
+/// The number of a word, whose lowest bit is first.
 fn word_read(bits: &[bool]) -> Word
     requires { IsWide bits.now }
     ensures { result ≡ number_held (λ b. b) bits.now }

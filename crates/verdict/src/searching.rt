@@ -1,5 +1,5 @@
-//! Searches through some matches, and through those of a function, place by place: no matches are held but those at one
-//! instruction.
+//! Searches for an admitted match, among some matches and in a function, instruction by instruction: no more matches
+//! are held in memory than those at one instruction.
 
 ghost use Rattle.std.specs.Prelude.{◌<◌, ◌≤◌, ◌^◌, map, length, All, Any, MatchBool, IfOk, OnOk};
 ghost use Rattle.ir_core.specs.Checks.{MeetsChecks};
@@ -20,8 +20,7 @@ use rule_core::Rule;
 use rule_matches::{Rules, matches_at};
 use std::alloc::{AllocError, Global};
 
-/// The place of the first of some matches that is admitted. The verdicts of all up to it are asked for, and of all if
-/// there is none.
+/// The place of the first of these matches that is admitted. The verdicts up to it are asked for, or all, if none is.
 pub fn first_admitted(
     alloc: Global,
     rules: &[Rule],
@@ -69,7 +68,7 @@ pub fn any_admitted(
     Ok(any)
 }
 
-/// Whether a match in a block is admitted.
+/// Whether a match in a block is admitted; asks for the verdicts of all in it.
 fn any_in_block(
     alloc: Global,
     f: &Function,
@@ -98,7 +97,7 @@ fn any_in_block(
     Ok(any)
 }
 
-/// Whether one of some matches is admitted. The verdicts of all are asked for.
+/// Whether one of these matches is admitted. The verdicts of all are asked for.
 fn any_of(
     alloc: Global,
     rules: &[Rule],

@@ -14,7 +14,7 @@ use std::alloc::{AllocError, Global};
 /// Logs, each for a pair of a rule and a typing. Any may be stored: one that doesn't prove its rule admits nothing.
 #[derive(Drop)]
 pub struct StoredLogs {
-    /// The logs by their pairs: so a pair's log is found in as long a time however many there are.
+    /// The logs by their pairs, hashed: finding one takes as long however many there are.
     pub logs: IndexMap<(u32, Vec<u32>), Log>,
 }
 

@@ -1,4 +1,4 @@
-//! The widths of typings, as tables have them.
+//! The widths of typings, as tables keep them.
 
 ghost use Rattle.std.specs.Prelude.{◌≡◌, IfOk};
 

@@ -28,14 +28,14 @@ use verdict_core::{Row, Table, Verdict};
 #[derive(Drop)]
 pub struct Verdicts {
     pub table: Table,
-    /// The pairs of the rows, in their order: so a pair's row is found in as long a time however many there are.
+    /// The pairs of the rows, in their order, hashed: finding a pair's row takes as long however many there are.
     pub pairs: IndexSet<(u32, Vec<u32>)>,
-    /// The logs that are asked before there is a search.
+    /// The logs that are tried before a search.
     pub logs: StoredLogs,
 }
 
 impl Verdicts {
-    /// No verdicts yet, and the logs by which they are to be decided. It takes no memory.
+    /// No verdicts yet, and logs to try before searches. It takes no memory.
     pub fn new(alloc: Global, logs: StoredLogs) -> Self
         ensures table { result.table ≡ [] }
         ensures pairs { result.pairs.keys ≡ [] }
@@ -48,7 +48,7 @@ impl Verdicts {
         }
     }
 
-    /// Whether the verdict that a match asks for is `Admitted`. It is decided now if it was not asked for before. Where
+    /// Whether the verdict that a match asks for is `Admitted`. It is decided now if it has not been asked for. Where
     /// memory is refused the verdicts are as they were.
     pub fn admits(
         &mut self,
@@ -74,7 +74,8 @@ impl Verdicts {
         Ok(is_admitted_at(self.table.as_slice(), place))
     }
 
-    /// Decides the pair that was put last, which a match asks for. Where memory is refused it is taken out again.
+    /// Decides the pair that was inserted last, which the match asks for. Where memory is refused the pair is removed
+    /// again.
     fn decide_last(
         &mut self,
         alloc: Global,
@@ -102,7 +103,7 @@ impl Verdicts {
     }
 }
 
-/// Puts a row of the verdict that a match asks for, which is decided now.
+/// Appends a row with the verdict that a match asks for, which is decided now.
 fn push_decided(
     alloc: Global,
     rules: &[Rule],
@@ -122,8 +123,8 @@ fn push_decided(
     table.push(row)
 }
 
-/// A row of the verdict that a match asks for, which is decided now. The log of its pair, if one is stored, is asked
-/// before there is a search.
+/// A row with the verdict that a match asks for, which is decided now: by the log that is stored for its pair, if that
+/// proves the rule, and else by a search.
 fn decided_row(
     alloc: Global,
     rules: &[Rule],
@@ -168,7 +169,7 @@ fn verdict_on(
     }
 }
 
-/// Whether the verdict of the row at a place is `Admitted`.
+/// Whether the verdict of this row is `Admitted`.
 fn is_admitted_at(table: &[Row], place: usize) -> bool
     requires { place < length table.now }
     ensures { (row : Row) → slice_get table.now place ≡ Some row → MatchBool result (row.verdict ≡ Verdict.Admitted) (row.verdict ≢ Verdict.Admitted) }

@@ -16,7 +16,7 @@ use rule_typing::{Typings, typings};
 use std::alloc::{AllocError, Global};
 use verdict_core::{Row, Table, Verdict, push_too_many, push_verdict};
 
-/// How many typings of a rule are tried. Of a rule that has more, none is.
+/// The most typings of a rule that are decided. Of a rule that has more, none is.
 pub const MOST_TYPINGS: u32 = 4096;
 
 /// What is found about a list of rules.
@@ -32,7 +32,7 @@ pub struct Verified {
 }
 
 /// Decides each rule, in order, at each of its typings over a list of widths, in lexicographic order, and prints the
-/// verdicts. A search gives up once it has learned so many clauses. The only error is want of memory.
+/// verdicts. A search may learn `conflicts` clauses. The only error is want of memory.
 pub fn verify(
     alloc: Global,
     rules: &[Rule],
@@ -55,7 +55,7 @@ pub fn verify(
     Ok(verified)
 }
 
-/// Adds what is found about the rule at a place.
+/// Appends what is found about the rule at this place.
 fn push_rule(
     alloc: Global,
     verified: &mut Verified,
@@ -77,7 +77,7 @@ fn push_rule(
     }
 }
 
-/// Adds a row for each of some typings of the rule.
+/// Appends a row for each of some typings of the rule.
 fn push_rows(
     alloc: Global,
     verified: &mut Verified,
@@ -97,7 +97,7 @@ fn push_rows(
     Ok(())
 }
 
-/// Adds a row for a typing of the rule.
+/// Appends a row for a typing of the rule.
 fn push_row(
     alloc: Global,
     verified: &mut Verified,

@@ -6,7 +6,7 @@ ghost use Rattle.cdcl_log.specs.Found.{most_conflicts};
 /// The most clauses that a search may learn.
 const MOST_CONFLICTS: u32 = 1_000_000;
 
-/// What is printed of a rule.
+/// What is printed for a rule.
 #[derive(Clone, Copy, Debug)]
 pub(super) enum Line {
     /// Its verdict alone.

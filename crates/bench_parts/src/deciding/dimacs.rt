@@ -47,7 +47,7 @@ pub(super) struct SetFile<'a> {
     pub(super) place: usize,
 }
 
-/// Opens the file, which is made or made anew.
+/// Opens the file; it is created, or emptied.
 fn opened(rt: &HostRuntime, set_file: SetFile<'_>) -> Result<File, Failure> {
     let name = format!(in rt.alloc(); "{}/{}.cnf", set_file.folder, set_file.place)?;
     fs::create(rt, name.as_str()).map_err(|_| Failure::Output)

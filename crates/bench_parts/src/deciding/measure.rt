@@ -1,4 +1,4 @@
-//! The measured calls and the line that is printed of them.
+//! The measured calls, and the line that is printed for them.
 
 ghost use Rattle.std.specs.Prelude.{◌≤◌};
 ghost use Rattle.aig.specs.Graph.{IsOwn};
@@ -17,7 +17,7 @@ use rule_core::{Rule, Typing};
 use std::fmt;
 use std::time::Duration;
 
-/// Fewer inputs, and fewer gates, than this have clauses.
+/// Clauses are made for fewer inputs and fewer gates than this.
 const MOST: usize = 1 << 27;
 
 /// The clause set of a rule, and how many gates its graph has.
@@ -88,7 +88,7 @@ impl fmt::Display for Measurement {
     }
 }
 
-/// The clauses of a graph that is no larger than they may stand for.
+/// The clauses of a graph, if it isn't too large.
 fn clauses_within(rt: &HostRuntime, graph: &Aig, root: Literal) -> Result<Cnf, Failure>
     requires { IsOwn graph.now root }
 {

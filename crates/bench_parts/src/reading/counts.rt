@@ -1,9 +1,9 @@
-//! How much a module has.
+//! The sizes of a module.
 
 use ir_core::{Entry, Function, Module, Terminator};
 use std::fmt;
 
-/// How much a module has. Its `Display` is the line that is printed.
+/// The sizes of a module. Its `Display` is the line that is printed.
 #[derive(Clone, Copy, Debug)]
 pub(super) struct Counts {
     entries: usize,

@@ -1,9 +1,9 @@
-//! Texts of modules that are made.
+//! Texts of modules that are generated.
 
 use std::alloc::{AllocError, Global};
 use std::fmt::Write;
 
-/// A function of a chain of blocks, so many behind the first.
+/// A function with a chain of this many blocks behind the first.
 pub(super) fn chain(alloc: Global, blocks: u32) -> Result<String, AllocError> {
     let mut text = String::new(alloc);
     text.push_str("define i32 @chain(i32 %a) {\n")?;
@@ -14,7 +14,7 @@ pub(super) fn chain(alloc: Global, blocks: u32) -> Result<String, AllocError> {
     Ok(text)
 }
 
-/// A function that returns at once, with so many blocks that go round in a ring.
+/// A function that returns at once, with a cycle of this many blocks.
 pub(super) fn ring(alloc: Global, blocks: u32) -> Result<String, AllocError> {
     let mut text = String::new(alloc);
     text.push_str("define i32 @ring(i32 %a) {\n  ret i32 %a\n")?;
@@ -26,7 +26,7 @@ pub(super) fn ring(alloc: Global, blocks: u32) -> Result<String, AllocError> {
     Ok(text)
 }
 
-/// A function of one switch of so many cases, which all go to one block.
+/// A function with one switch of this many cases, which all go to one block.
 pub(super) fn cases(alloc: Global, cases: u32) -> Result<String, AllocError> {
     let mut text = String::new(alloc);
     text.push_str("define i32 @cases(i32 %a) {\n  switch i32 %a, label %b [\n")?;

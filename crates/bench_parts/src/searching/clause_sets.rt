@@ -12,16 +12,16 @@ const LITERALS_A_CLAUSE: u32 = 3;
 /// A set of clauses to search.
 #[derive(Clone, Copy, Debug)]
 pub(super) enum Family {
-    /// So many random clauses of three literals each.
+    /// This many random clauses of three literals each.
     Random { inputs: u8, clauses: u16, seed: u64 },
-    /// So many pigeons, and one hole less: no two may share one.
+    /// This many pigeons, and one hole less: no two may share one.
     Pigeonhole { pigeons: u8 },
-    /// The sum modulo 2 of the inputs is 1 where it is taken in one order, and 0 where it is taken in another.
+    /// The sum of the inputs modulo 2 is 1, taken in one order, and 0, taken in another.
     Parity { inputs: u8, seed: u64 },
 }
 
 impl Family {
-    /// The set of clauses, all of whose variables are inputs.
+    /// The set of clauses, whose variables are all inputs.
     pub(super) fn clauses(self, alloc: Global) -> Result<Option<Cnf>, AllocError> {
         let (roots, count) = match self {
             Family::Random {
@@ -61,7 +61,7 @@ fn literal(variable: u16, negated: bool) -> Lit {
     Lit::new(u32::from(variable), negated)
 }
 
-/// So many random clauses over the variables from 1 to the count.
+/// `many` random clauses over the variables from 1 to `count`.
 fn random_clauses(
     alloc: Global,
     count: u8,
@@ -103,7 +103,7 @@ fn pigeonhole_clauses(alloc: Global, pigeons: u8, holes: u8) -> Result<List<Clau
     Ok(clauses)
 }
 
-/// Pushes the clauses that say that each pigeon sits in a hole.
+/// Appends the clauses that say that each pigeon sits in a hole.
 fn push_somewhere(
     alloc: Global,
     pigeons: u8,
@@ -120,7 +120,7 @@ fn push_somewhere(
     Ok(())
 }
 
-/// Pushes the clauses that say that no two pigeons sit in the same hole.
+/// Appends the clauses that say that no two pigeons sit in the same hole.
 fn push_apart(
     alloc: Global,
     pigeons: u8,
@@ -141,7 +141,7 @@ fn push_apart(
     Ok(())
 }
 
-/// The literal that says that the pigeon sits in the hole, each numbered from 0.
+/// The literal that says that the pigeon sits in the hole; both are numbered from 0.
 fn sits(pigeon: u8, hole: u8, holes: u8) -> Lit {
     let variable = u32::from(pigeon) * u32::from(holes) + u32::from(hole) + 1;
     Lit::new(variable, false)
@@ -174,8 +174,8 @@ fn shuffled(alloc: Global, count: u8, generator: &mut Generator) -> Result<Vec<u
     Ok(order)
 }
 
-/// Pushes the clauses that say that the variables from `first` on are the sums modulo 2 of the first inputs, one
-/// more each time, and that the last one is odd or even.
+/// Appends the clauses that say that the variables from `first` on are the sums modulo 2 of the first input, the first
+/// two, and so on, and that the last of them is odd or even.
 fn push_sums(
     alloc: Global,
     inputs: &[u8],
@@ -195,7 +195,7 @@ fn push_sums(
     clauses.push(Clause::from_slice(alloc, &[last])?)
 }
 
-/// Pushes the clauses that say that an even number of the three variables are true.
+/// Appends the clauses that say that an even number of the three variables are true.
 fn push_sum(
     alloc: Global,
     variables: [u16; 3],

@@ -1,9 +1,9 @@
-//! Commands whose reads and puts fail, and what they leave.
+//! Commands whose reads and puts fail, and what they write.
 
 use super::*;
 use outside::FailingPut;
 
-/// The read and the puts that fail, a command, and what it leaves.
+/// Which read and which puts fail, a command, and what it writes.
 struct FaultyRow {
     read: Option<u64>,
     out: Option<FailingPut>,
@@ -77,7 +77,7 @@ static ROWS: [FaultyRow; 20] = [
             err: "not-",
         },
     },
-    // where a rule rewrites the module: each read fails in turn, and then each put, at other bytes
+    // a rule rewrites the module: each read fails in turn, and then each put, after various numbers of bytes
     FaultyRow {
         read: Some(0),
         out: None,
@@ -156,7 +156,7 @@ static ROWS: [FaultyRow; 20] = [
             err: "",
         },
     },
-    // each sink is put to once
+    // there is one put to each sink
     FaultyRow {
         read: None,
         out: Some(FailingPut { number: 1, most: 0 }),
@@ -196,7 +196,7 @@ static ROWS: [FaultyRow; 20] = [
             err: "",
         },
     },
-    // a text and a report are put where they are empty too, and where the command has no report nothing is
+    // empty texts and reports are put, too; a command without a report puts none
     FaultyRow {
         read: None,
         out: None,
@@ -236,7 +236,7 @@ static ROWS: [FaultyRow; 20] = [
             err: "",
         },
     },
-    // the third read is that of proofs
+    // the third read is that of the proofs
     FaultyRow {
         read: Some(2),
         out: None,
@@ -279,7 +279,7 @@ static ROWS: [FaultyRow; 20] = [
     },
 ];
 
-/// Lists the read and the puts that fail.
+/// Sets the read and the puts that fail.
 fn fail_there(world: &mut World, faults: &FaultyRow) -> Result<(), AllocError> {
     if let Some(read) = faults.read {
         world.files.fail_at(read)?;
@@ -293,7 +293,7 @@ fn fail_there(world: &mut World, faults: &FaultyRow) -> Result<(), AllocError> {
     Ok(())
 }
 
-/// Runs a row's command where these faults come, and says whether it leaves what the row says.
+/// Runs a row's command with these faults, and says whether status and texts are the row's.
 fn faults_leave(alloc: Global, faults: &FaultyRow) -> Result<bool, AllocError> {
     let row = &faults.row;
     let mut world = world_of(alloc, row.rules.as_bytes(), row.source.as_bytes())?;

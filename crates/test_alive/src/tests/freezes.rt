@@ -48,7 +48,7 @@ const ROWS: [Row; 14] = [
         out: "define i5 @z(i5 %a) {\n  %1 = freeze i5 %a\n  ret i5 %1\n}\n",
         err: "refreeze [5]: admitted\n@z: 3 rewrites, limit\n",
     },
-    // A file of version 1, and one of a version that there isn't.
+    // A file of version 1, and one of an unknown version.
     Row {
         words: VERIFY,
         rules: "Name: sel-freeze\n%r = select %c, %y, false\n=>\n%f = freeze %y\n%r = and %c, %f\n",
@@ -65,7 +65,7 @@ const ROWS: [Row; 14] = [
         out: "",
         err: "rules: line 1: LeftOut 3\n",
     },
-    // A freeze before the root, one of `undef`, and one for which nothing is chosen.
+    // A freeze before the root, one of `undef`, and one without an expression in `Wit:`.
     Row {
         words: VERIFY,
         rules: "Version: 2\nName: a\nWit: 0\n%a = freeze %x\n%r = add %a, 1\n=>\n%r = %x\n",
@@ -90,7 +90,7 @@ const ROWS: [Row; 14] = [
         out: "",
         err: "rules: line 2: WitnessCount\n",
     },
-    // Without the freeze, what isn't chosen may be poison.
+    // Without the freeze, the arm that isn't chosen may be poison.
     Row {
         words: VERIFY,
         rules: "Version: 2\nName: sel-and\n%r = select %c, %y, false\n=>\n%r = and %c, %y\n",
@@ -99,7 +99,7 @@ const ROWS: [Row; 14] = [
         out: "sel-and [1]: refuted\n  %c = 0\n  %y = poison\n  source 0\n  target poison\n",
         err: "",
     },
-    // A number is frozen to itself, and what comes of numbers may be poison.
+    // A frozen number is itself, but operations on it may make poison.
     Row {
         words: "alive verify r --widths 1-2",
         rules: "Version: 2\nName: of-constant\n%r = or %x, C\n=>\n%f = freeze C\n%r = or %x, %f\n",
@@ -116,7 +116,7 @@ const ROWS: [Row; 14] = [
         out: "thawed [1]: witness fails\n  C = 1\n  u1 = 0\n  source 0\n  target poison\n",
         err: "",
     },
-    // More may be poison where the source is.
+    // Where the source is poison, the target may be, too.
     Row {
         words: "alive verify r --widths 1-2",
         rules: "Version: 2\nName: add-freeze\n%r = add %x, 0\n=>\n%r = freeze %x\n",

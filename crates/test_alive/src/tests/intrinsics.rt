@@ -68,7 +68,7 @@ const ROWS: [Row; 13] = [
         out: "define i5 @f(i5 %a, i5 %b) {\n  %1 = call i5 @llvm.umin.i5(i5 %a, i5 %b)\n  ret i5 %1\n}\n",
         err: "to-umin [1 5]: admitted\n@f: 1 rewrites\n",
     },
-    // Items of the call, and a truth value that the statement doesn't ask for, are no hindrance.
+    // Items of the call don't hinder a match, nor does a truth value that the statement doesn't have.
     Row {
         words: OPTIMISE,
         rules: LZ_SIGN,
@@ -85,7 +85,7 @@ const ROWS: [Row; 13] = [
         out: "define i2 @f(i2 %a) {\n  %1 = icmp sgt i2 %a, -1\n  %2 = select i1 %1, i2 %a, i2 -1\n  %3 = call i2 @llvm.umax.i2(i2 %2, i2 1)\n  ret i2 %3\n}\n",
         err: "back [2 1]: admitted\n@f: 1 rewrites\n",
     },
-    // A file of version 1, a flag that stands twice, and one of another intrinsic.
+    // A file of version 1, a repeated flag, and a flag of another intrinsic.
     Row {
         words: VERIFY,
         rules: "Name: to-umin\n%c = icmp ult %x, %y\n%r = select %c, %x, %y\n=>\n%r = umin %x, %y\n",

@@ -1,4 +1,4 @@
-//! `load`, and what is left. The numbers are those of a model that was written apart from the program.
+//! `load`, and what it writes. The numbers are those of a separately written model.
 
 use super::*;
 use alive_top::BUILT_IN;

@@ -35,7 +35,7 @@ const ROWS: [Row; 23] = [
         out: "",
         err: "logs: line 1: Syntax\n",
     },
-    // the rules and the module come before the proofs
+    // faults of the rules and of the module come before those of the proofs
     Row {
         words: OPTIMISE_BY_MODULE,
         rules: NOT_ADD,
@@ -140,7 +140,7 @@ const ROWS: [Row; 23] = [
         out: "",
         err: "logs: line 1: BadTyping\n",
     },
-    // what is wrong with the text comes before what is wrong with a proof
+    // faults of the text come before those of a proof
     Row {
         words: RECHECK,
         rules: OR_ZERO,
@@ -157,7 +157,7 @@ const ROWS: [Row; 23] = [
         out: "",
         err: "logs: line 3: BadTyping\n",
     },
-    // the rules come before the proofs
+    // faults of the rules come before those of the proofs
     Row {
         words: RECHECK,
         rules: "Name: none\n",
@@ -166,7 +166,7 @@ const ROWS: [Row; 23] = [
         out: "",
         err: "rules: line 1: Syntax\n",
     },
-    // literals of no variable of the set, and hints of no clause
+    // literals of unknown variables, and hints that name no clause
     Row {
         words: RECHECK,
         rules: NOT_ADD,
@@ -184,7 +184,7 @@ const ROWS: [Row; 23] = [
         out: ADD_SELF_LINES,
         err: "",
     },
-    // more than 12 input bits, and a log that refutes nothing
+    // a rule of more than 12 input bits, and a log that refutes nothing
     Row {
         words: "alive recheck r m --conflicts 1",
         rules: MUL_ADD,
@@ -193,7 +193,7 @@ const ROWS: [Row; 23] = [
         out: "mul-add [16]: budget\n",
         err: "",
     },
-    // no proof of what is refuted, and none of a rule that has no typing
+    // there is no proof of what is refuted, nor of a rule that has no typing
     Row {
         words: "alive verify r --widths 1 --logs",
         rules: ADD_SELF,
@@ -217,7 +217,7 @@ fn proofs_have_their_lines(rt: HostRuntime) -> Result<(), Fail> {
     all_leave(&rt, rt.alloc(), &ROWS)
 }
 
-/// What the words leave on the output.
+/// What a command writes to the output.
 fn written(alloc: Global, words: &str, rules: &str, proofs: &[u8]) -> Result<Vec<u8>, AllocError> {
     let mut world = world_of(alloc, rules.as_bytes(), proofs)?;
     written_in(alloc, words, &mut world)
@@ -229,7 +229,7 @@ fn written_in(alloc: Global, words: &str, world: &mut World) -> Result<Vec<u8>, 
     world.sinks.out.contents().to_vec(alloc)
 }
 
-/// Whether `recheck` leaves these lines of the proofs that `verify` writes.
+/// Whether `recheck` writes these lines for the proofs that `verify` writes.
 fn is_rechecked(
     alloc: Global,
     verify: &str,
@@ -304,7 +304,7 @@ const REFUSED: Row = Row {
     err: "logs: line 1: Syntax\n",
 };
 
-/// Whether the row's command leaves what the row says, where the file `l` has these proofs.
+/// Whether the status and texts of the row's command are the row's, where the file `l` has these proofs.
 fn leaves_by(alloc: Global, row: &Row, proofs: &[u8]) -> Result<bool, AllocError> {
     let mut world = world_of(alloc, row.rules.as_bytes(), row.source.as_bytes())?;
     world.files.add(alloc, "l", proofs)?;
@@ -319,7 +319,7 @@ fn modules_are_rewritten_by_stored_proofs(rt: HostRuntime) -> Result<(), Fail> {
     Ok(())
 }
 
-/// No proof of what is asked for, and a log that proves nothing, cost a search.
+/// Without a proof of the pair, or with a log that proves nothing, a search is needed.
 #[test]
 fn other_proofs_cost_a_search(rt: HostRuntime) -> Result<(), Fail> {
     let alloc = rt.alloc();
@@ -342,7 +342,7 @@ fn proofs_are_read_where_they_are_named(rt: HostRuntime) -> Result<(), Fail> {
     Ok(())
 }
 
-/// What is done to the first step of a log.
+/// A corruption of the first step of a log.
 #[derive(Clone, Copy)]
 enum Lie {
     LeftOut,
@@ -376,7 +376,7 @@ fn parts_of(proof: &str) -> Option<Parts<'_>> {
     Some(Parts { head, step, rest })
 }
 
-/// The text of a proof, with a lie in its log.
+/// The text of a proof with a corrupted log.
 fn lying(alloc: Global, proof: &Parts<'_>, lie: Lie) -> Result<String, AllocError> {
     let Parts { head, step, rest } = proof;
     let none = rest.lines().count();
@@ -391,7 +391,7 @@ fn lying(alloc: Global, proof: &Parts<'_>, lie: Lie) -> Result<String, AllocErro
     }
 }
 
-/// Whether `recheck` admits the rule by a search, or refuses the text, where there is a lie in a proof.
+/// Whether `recheck` admits the rule by a search, or refuses the text, where a proof is corrupted.
 fn costs_a_search(alloc: Global, proof: &Parts<'_>, lie: Lie) -> Result<bool, AllocError> {
     let text = lying(alloc, proof, lie)?;
     let out = written(alloc, RECHECK, NOT_ADD, text.as_bytes())?;
@@ -409,7 +409,7 @@ fn a_log_that_lies_costs_a_search(rt: HostRuntime) -> Result<(), Fail> {
     Ok(())
 }
 
-/// As many proofs of a rule of three operands, each at other widths, and then the first of them again.
+/// So many proofs of a rule of three operands, each at other widths, and then the first one again.
 fn many_proofs(alloc: Global, count: u32) -> Result<String, AllocError> {
     let mut text = String::new(alloc);
     for n in 0..count {

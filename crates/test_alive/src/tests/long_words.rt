@@ -1,4 +1,4 @@
-//! A word that no command line of the system can hold: a list of 64 widths, again and again.
+//! A word longer than the system allows on a command line: a list of 64 widths, repeated.
 
 use super::running::{status_of, words_of};
 use super::*;
@@ -9,7 +9,7 @@ const ADD_ZERO: &str = "Name: add-zero\n%r = add %x, 0\n=>\n%r = %x\n";
 /// How often the widths stand in the list.
 const TIMES: usize = 20_000;
 
-/// How many lines `verify` writes of the rule.
+/// How many lines `verify` writes for the rule.
 const LINES: usize = 64;
 
 /// The widths from 1 to 64.

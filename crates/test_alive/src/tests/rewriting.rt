@@ -185,7 +185,7 @@ const ROWS: [Row; 17] = [
         out: OUT_OF_REACH,
         err: "@u: 0 rewrites\n",
     },
-    // a verdict that isn't admitted stands in the report, and its matches stay
+    // a verdict that isn't admitted is in the report, and nothing is rewritten at its matches
     Row {
         words: "alive optimise r m --conflicts 1",
         rules: MUL_ADD,
@@ -227,7 +227,7 @@ const ROWS: [Row; 17] = [
         out: "define i5 @o(i4 %a, i4 %b) {\n  %1 = icmp samesign ult i4 %a, %b\n  %r = zext nneg i1 %1 to i5\n  ret i5 %r\n}\n",
         err: "widen [1 4 5 1]: admitted\n@o: 1 rewrites\n",
     },
-    // a verdict is asked once for the whole module
+    // a verdict is asked for once in the whole module
     Row {
         words: "alive optimise r m --steps 1",
         rules: SWAP_SUM,

@@ -1,4 +1,4 @@
-//! Commands and what they leave.
+//! Commands, and what they write.
 
 use super::*;
 

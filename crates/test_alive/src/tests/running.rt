@@ -1,4 +1,4 @@
-//! Files and sinks in memory, and commands over them.
+//! Files and sinks in memory, and commands that run with them.
 
 use alive_top::alive;
 use outside::{MemoryFiles, MemorySink};
@@ -18,10 +18,10 @@ pub(super) struct World {
     pub(super) sinks: Sinks,
 }
 
-/// How many bytes each sink has room for: more than any command of a test writes.
+/// How many bytes each sink has room for: more than any test writes.
 const ROOM: usize = 1 << 20;
 
-/// Adds a rule file `r` and a module `m`.
+/// Puts a rule file `r` and a module `m` into memory.
 fn add_files(
     alloc: Global,
     files: &mut MemoryFiles,
@@ -49,7 +49,7 @@ pub(super) fn world_of(alloc: Global, rules: &[u8], source: &[u8]) -> Result<Wor
     Ok(world)
 }
 
-/// Adds a word.
+/// Appends a word.
 fn push_word(alloc: Global, words: &mut Vec<String>, word: &str) -> Result<(), AllocError> {
     let word = String::from_str(alloc, word)?;
     words.push(word)?;

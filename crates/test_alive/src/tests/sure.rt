@@ -1,4 +1,4 @@
-//! Each status that comes over files and sinks that never fail.
+//! Each status that is possible with files and sinks that never fail.
 
 use super::running::words_of;
 use super::{NOT_ADD, NOT_ADD_SOURCE};
@@ -7,7 +7,7 @@ use outside::SureFiles;
 use std::alloc::{AllocError, Global};
 use std::test::Fail;
 
-/// A command, and its status. What is under a name that nothing is held under is empty.
+/// A command, and its status. A file of any other name than those held is empty.
 struct Row {
     line: &'static str,
     status: u8,
@@ -56,7 +56,7 @@ fn files_of(alloc: Global) -> Result<SureFiles, AllocError> {
     Ok(files)
 }
 
-/// The status of the words of a command over these files.
+/// The status of words with these files.
 fn status_of(alloc: Global, words: &Vec<String>) -> Result<u8, AllocError> {
     let mut files = files_of(alloc)?;
     Ok(sure_status(alloc, words, &mut files).code())

@@ -3,7 +3,7 @@
 use super::*;
 use std::fmt::Write;
 
-/// The status of `optimise` over a rule file and a module.
+/// The status of `optimise` with a rule file and a module.
 fn status_over(alloc: Global, rules: &[u8], source: &[u8]) -> Result<u8, AllocError> {
     let mut world = world_of(alloc, rules, source)?;
     run(alloc, OPTIMISE, &mut world)
@@ -17,7 +17,7 @@ const LIMITS: [(usize, u8, u8); 4] = [
     (16_777_217, 3, 4),
 ];
 
-/// The statuses over so many line feeds as the rule file, and as the module.
+/// The statuses with so many line feeds as the rule file, and as the module.
 fn statuses_over(alloc: Global, bytes: usize) -> Result<(u8, u8), AllocError> {
     let blanks = vec![in alloc; b'\n'; bytes]?;
     let as_rules = status_over(alloc, blanks.as_slice(), b"")?;
@@ -37,7 +37,7 @@ fn limits_are_exact(rt: HostRuntime) -> Result<(), Fail> {
     Ok(())
 }
 
-/// How many rules stand in a file: more than a byte counts.
+/// How many rules the file has: more than a byte counts.
 const MANY: u32 = 300;
 
 /// A file of that many rules.

@@ -20,7 +20,7 @@ static INTRINSICS: [Intrinsic; 8] = [
     Intrinsic::TrailingZeros,
 ];
 
-/// The number of so many bits in two's complement, from the highest bits of a machine's word.
+/// The lowest `width` bits of the number, in two's complement.
 fn signed(width: usize, number: u64) -> i64
     requires { width ≤ 64 }
 {
@@ -28,8 +28,7 @@ fn signed(width: usize, number: u64) -> i64
     number.wrapping_shl(above).cast_signed().wrapping_shr(above)
 }
 
-/// How many bits are set, and how many are clear above the highest that is set and below the lowest, counted one by
-/// one.
+/// The population count, and the counts of leading and of trailing zeros, bit by bit.
 fn counts(width: usize, number: u64) -> [u64; 3]
     requires { width ≤ 64 }
 {
@@ -50,7 +49,7 @@ fn counts(width: usize, number: u64) -> [u64; 3]
     [ones, above, below]
 }
 
-/// What whole-number arithmetic says.
+/// The result by arithmetic over whole numbers.
 fn expected(intrinsic: Intrinsic, width: usize, a: u64, b: u64) -> u64
     requires { width ≤ 64 }
 {
@@ -68,8 +67,7 @@ fn expected(intrinsic: Intrinsic, width: usize, a: u64, b: u64) -> u64
     }
 }
 
-/// Fails unless each intrinsic at two numbers gives what is expected, by evaluation and, where that is asked, in a
-/// graph.
+/// Fails unless each intrinsic gives the expected result at two numbers: by evaluation and, where asked, in a graph.
 fn agree(
     rt: &impl Abort,
     alloc: Global,
@@ -92,7 +90,7 @@ fn agree(
     Ok(())
 }
 
-/// Fails unless the search says of each intrinsic at two numbers that the answer is what is expected, and no other.
+/// Fails unless the search proves for each intrinsic at two numbers that the result is the expected one and no other.
 fn clauses_agree(
     rt: &impl Abort,
     alloc: Global,

@@ -1,4 +1,4 @@
-//! Command lines, and what they say.
+//! Command lines, and the commands that they are.
 
 use command_line::{Command, CommandError, VerifyOptions, read_command};
 use ops::Width;
@@ -6,7 +6,7 @@ use std::alloc::{AllocError, Global};
 use std::fmt::Write;
 use std::test::Fail;
 
-/// Adds widths.
+/// Appends widths.
 fn push_widths(text: &mut String, widths: &[Width]) -> Result<(), AllocError> {
     for width in widths {
         write!(text, " {}", width.bits())?;
@@ -14,7 +14,7 @@ fn push_widths(text: &mut String, widths: &[Width]) -> Result<(), AllocError> {
     Ok(())
 }
 
-/// Adds words.
+/// Appends words.
 fn push_words(text: &mut String, words: &[&str]) -> Result<(), AllocError> {
     for word in words {
         write!(text, " {word}")?;
@@ -74,14 +74,14 @@ fn shown(alloc: Global, command: &Command<'_>) -> Result<String, AllocError> {
     }
 }
 
-/// Adds a word.
+/// Appends a word.
 fn push_word(alloc: Global, words: &mut Vec<String>, word: &str) -> Result<(), AllocError> {
     let word = String::from_str(alloc, word)?;
     words.push(word)?;
     Ok(())
 }
 
-/// Adds the program's name, and the words behind it.
+/// Appends the program's name and the words behind it.
 fn push_line(alloc: Global, line: &mut Vec<String>, words: &[&str]) -> Result<(), AllocError> {
     push_word(alloc, line, "alive")?;
     for word in words {
@@ -90,7 +90,7 @@ fn push_line(alloc: Global, line: &mut Vec<String>, words: &[&str]) -> Result<()
     Ok(())
 }
 
-/// What is left of a text of usage: `clap`'s texts are `usage` alone.
+/// Of a usage text only the part that is compared: `clap`'s own texts are shortened to `usage`.
 fn usage(text: &[u8]) -> &str {
     if text.starts_with(b"error: widths ") {
         std::str::from_utf8(text).unwrap_or("no text")
@@ -99,7 +99,7 @@ fn usage(text: &[u8]) -> &str {
     }
 }
 
-/// What a line says, as a text.
+/// The command that a line is, as a text.
 fn line_said(alloc: Global, line: &[String]) -> Result<String, AllocError> {
     match read_command(alloc, line) {
         Ok(command) => shown(alloc, &command),
@@ -108,7 +108,7 @@ fn line_said(alloc: Global, line: &[String]) -> Result<String, AllocError> {
     }
 }
 
-/// What the words behind the program's name say, as a text.
+/// The command that the words behind the program's name are, as a text.
 fn said(alloc: Global, words: &[&str]) -> Result<String, AllocError> {
     let mut line = Vec::new(alloc);
     push_line(alloc, &mut line, words)?;

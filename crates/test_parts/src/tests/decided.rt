@@ -14,17 +14,17 @@ use std::alloc::{AllocError, Global};
 use std::process::Abort;
 use std::test::Fail;
 
-/// The number of three bits in two's complement.
+/// The word of three bits in two's complement.
 fn signed(word: i64) -> i64 {
     if word < 4 { word } else { word.wrapping_sub(8) }
 }
 
-/// Whether a whole number is from `least` to `most`.
+/// 1 where a whole number is outside the range from `least` to `most`, else 0.
 fn overflows(number: i64, least: i64, most: i64) -> i64 {
     i64::from(number < least || most < number)
 }
 
-/// What whole-number arithmetic says, if it says something.
+/// The result by arithmetic over whole numbers, if there is one.
 fn whole_number(operation: Operation, a: i64, b: i64) -> Option<i64> {
     let x = signed(a);
     let y = signed(b);
@@ -45,7 +45,7 @@ fn whole_number(operation: Operation, a: i64, b: i64) -> Option<i64> {
     }
 }
 
-/// Whether a word has this number.
+/// A literal that is true where the word has this number.
 fn is_number<C: Circuit>(
     alloc: Global,
     circuit: &mut C,
@@ -61,7 +61,7 @@ fn is_number<C: Circuit>(
     equal(alloc, circuit, word, &constant)
 }
 
-/// Whether the answer to two words is this number.
+/// A literal that is true where the result on two words is this number.
 fn is_answer<C: Circuit>(
     alloc: Global,
     circuit: &mut C,
@@ -82,7 +82,7 @@ fn is_answer<C: Circuit>(
     is_number(alloc, circuit, &answer, number)
 }
 
-/// Whether two words are the numbers that are asked of.
+/// A literal that is true where two words are the question's numbers.
 fn are_asked_of<C: Circuit>(
     alloc: Global,
     circuit: &mut C,
@@ -102,7 +102,8 @@ fn are_asked_of<C: Circuit>(
     circuit.and(alloc, a_is, b_is)
 }
 
-/// Whether two words are those of a question, and the answer is this number; or, unless `holds`, is another.
+/// A literal that is true where two words are the question's numbers, and the result is this number or, unless `holds`,
+/// another.
 fn claim_of_words<C: Circuit>(
     alloc: Global,
     circuit: &mut C,
@@ -125,7 +126,7 @@ fn claim_of_words<C: Circuit>(
     circuit.and(alloc, asked, claimed)
 }
 
-/// The same of two words of inputs.
+/// The same for two words of inputs.
 fn claim<C: Circuit>(
     alloc: Global,
     circuit: &mut C,
@@ -142,7 +143,7 @@ fn claim<C: Circuit>(
     claim_of_words(alloc, circuit, question, number, holds, &a, &b)
 }
 
-/// Whether a set has a model, where the search decides that.
+/// Whether a set has a model, if the search decides that.
 fn has_model(alloc: Global, set: &Cnf) -> Result<Option<bool>, AllocError> {
     Ok(match search(alloc, set, 1000)? {
         Found::Sat(_) => Some(true),
@@ -151,7 +152,7 @@ fn has_model(alloc: Global, set: &Cnf) -> Result<Option<bool>, AllocError> {
     })
 }
 
-/// Whether a claim can be true, where the graph has the inputs of two words and at most 300 gates.
+/// Whether the claim is satisfiable, if the graph has the inputs of two words and at most 300 gates.
 fn decided_in(
     alloc: Global,
     graph: &mut Aig,
@@ -170,7 +171,7 @@ fn decided_in(
     has_model(alloc, &set)
 }
 
-/// Whether a claim can be true, by the clauses of a graph.
+/// Whether the claim is satisfiable, by the clauses of a graph.
 fn decided(
     alloc: Global,
     question: Question,
@@ -184,8 +185,7 @@ fn decided(
     decided_in(alloc, &mut graph, question, number, holds)
 }
 
-/// Fails unless the search says that the answer can be no other number and, where that is asked, that it can be this
-/// one.
+/// Fails unless the search proves that the result can be no other number and, where asked, that it can be this one.
 pub(super) fn expect_decided(
     rt: &impl Abort,
     alloc: Global,

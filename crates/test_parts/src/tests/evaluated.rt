@@ -1,4 +1,4 @@
-//! Operations on words at a table that whole-number arithmetic gives, by evaluation and in a graph.
+//! Operations on words against a table from arithmetic over whole numbers, by evaluation and in a graph.
 ghost use Rattle.std.specs.Prelude.{◌<◌, ◌≤◌};
 
 use super::gate_graphs::{gate_values, value};
@@ -12,7 +12,7 @@ use std::alloc::{AllocError, Global};
 use std::process::Abort;
 use std::test::Fail;
 
-/// The answer to two words of inputs.
+/// The result on two words of inputs.
 fn answer_of_inputs<C: Circuit>(
     alloc: Global,
     c: &mut C,
@@ -26,7 +26,7 @@ fn answer_of_inputs<C: Circuit>(
     answer(alloc, c, operation, &a, &b)
 }
 
-/// The answer's number, by evaluation.
+/// The result's number, by evaluation.
 fn evaluated(alloc: Global, question: Question) -> Result<u64, AllocError>
     requires some { 0 < question.width }
     requires few { question.width ≤ 64 }
@@ -36,7 +36,7 @@ fn evaluated(alloc: Global, question: Question) -> Result<u64, AllocError>
     number_by(alloc, &mut circuit, question)
 }
 
-/// The answer's number by a circuit that evaluates.
+/// The result's number, by a circuit whose literals are truth values.
 fn number_by(
     alloc: Global,
     circuit: &mut EvalCircuit,
@@ -48,7 +48,7 @@ fn number_by(
     Ok(number(word.as_slice()))
 }
 
-/// The answer's number, by the gates of a graph.
+/// The result's number, by evaluating the gates of a graph.
 fn by_graph(alloc: Global, question: Question) -> Result<u64, AllocError>
     requires some { 0 < question.width }
     requires few { question.width ≤ 64 }
@@ -57,7 +57,7 @@ fn by_graph(alloc: Global, question: Question) -> Result<u64, AllocError>
     number_in(alloc, &mut graph, question)
 }
 
-/// The answer's number, by the gates that this graph makes.
+/// The result's number, by evaluating the gates that are added to this graph.
 fn number_in(alloc: Global, graph: &mut Aig, question: Question) -> Result<u64, AllocError>
     requires some { 0 < question.width }
     requires few { question.width ≤ 64 }
@@ -66,7 +66,7 @@ fn number_in(alloc: Global, graph: &mut Aig, question: Question) -> Result<u64, 
     number_of(alloc, graph, word.as_slice(), question)
 }
 
-/// The number of these literals, where the inputs are the words that are asked of.
+/// The number of these literals, where the inputs are the question's words.
 fn number_of(
     alloc: Global,
     graph: &Aig,
@@ -85,7 +85,7 @@ fn number_of(
     Ok(number)
 }
 
-/// Fails unless the answer is this number by evaluation and, where that is asked, in a graph.
+/// Fails unless the result is this number: by evaluation and, where asked, in a graph.
 pub(super) fn expect_number(
     rt: &impl Abort,
     alloc: Global,

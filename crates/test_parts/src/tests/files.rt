@@ -1,4 +1,4 @@
-//! Each kind of files and sinks once, by the bounds of the traits alone, and what the adapters do at faults.
+//! Each implementation of files and sinks, used through the traits' contracts, and what the adapters do at faults.
 
 use outside::{
     DiskFiles, Failed, FailingPut, Files, MemoryFiles, MemorySink, ReadError, Sink, StreamSink,
@@ -30,7 +30,7 @@ enum Faulty {
     TakesNothing,
     FailsAtWrite,
     FailsAtFlush,
-    /// What it takes is lost, and it says nothing.
+    /// It loses all that it takes, and reports success.
     LosesAll,
 }
 
@@ -51,7 +51,7 @@ impl Write for Faulty {
     }
 }
 
-/// Holds five `x`, of which the first read gives four; the second read would fail.
+/// The file holds five `x`; the first read gives at most four, and the second one is set to fail.
 fn count_in_memory(alloc: Global, files: &mut MemoryFiles) -> Result<usize, ReadError> {
     files.add(alloc, "a", b"xxxxx")?;
     files.fail_at(1)?;
@@ -111,7 +111,7 @@ fn files_are_read_up_to_the_most(rt: HostRuntime) -> Result<(), Fail> {
     Ok(())
 }
 
-/// Lists the second put to fail.
+/// A sink in memory whose second put is set to fail.
 fn held_sink(alloc: Global) -> Result<MemorySink, AllocError> {
     let mut held = MemorySink::with_room(alloc, 8)?;
     held.fail_at(FailingPut { number: 1, most: 1 })?;

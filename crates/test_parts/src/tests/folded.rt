@@ -1,4 +1,4 @@
-//! How many gates a graph makes of formulas that come to less.
+//! How many gates a graph makes for formulas that it simplifies.
 
 use aig::Aig;
 use circuits::Circuit;
@@ -8,33 +8,33 @@ use std::test::Fail;
 /// A formula over the inputs a, b and c.
 #[derive(Clone, Copy, Debug)]
 enum Formula {
-    /// Both of a and b, twice.
+    /// a ∧ b, built twice.
     AndTwice,
-    /// One of a and b, and one of their negations.
+    /// a ⊕ b, and ¬a ⊕ ¬b.
     XorOfNegations,
-    /// A choice by a, and by its negation with the arms exchanged.
+    /// mux(a, b, c), and mux(¬a, c, b).
     MuxTurned,
-    /// A choice between b and c, and between their negations.
+    /// mux(a, b, c), and mux(a, ¬b, ¬c).
     MuxOfNegations,
-    /// A choice by a of which one arm is the constant that is true.
+    /// ¬a ∧ b, and mux(a, 1, ¬b).
     MuxOfConstant,
-    /// A choice by a of which one arm is a.
+    /// a ∧ b, and mux(a, b, a).
     MuxOfCondition,
-    /// A choice between b and its negation, and whether a and b differ.
+    /// a ⊕ b, and mux(a, b, ¬b).
     MuxOfOpposites,
-    /// Both of a and b, and the negation of a.
+    /// (a ∧ b) ∧ ¬a.
     Contradiction,
-    /// Both of a and b, and a.
+    /// (a ∧ b) ∧ a.
     Subsumption,
-    /// Not both of a and b, and the negation of a.
+    /// ¬(a ∧ b) ∧ ¬a.
     Negated,
-    /// Not both of a and b, and a; where both of a and the negation of b are there.
+    /// ¬(a ∧ b) ∧ a, where a ∧ ¬b is there.
     Substitution,
-    /// Both of a and b, and both of c and the negation of a.
+    /// (a ∧ b) ∧ (c ∧ ¬a).
     TwoContradict,
-    /// Both of a and b, and not both of c and the negation of a.
+    /// (a ∧ b) ∧ ¬(c ∧ ¬a).
     TwoSubsume,
-    /// Not both of a and b, and not both of a and the negation of b.
+    /// ¬(a ∧ b) ∧ ¬(a ∧ ¬b).
     Resolution,
 }
 
@@ -131,7 +131,7 @@ fn pairs<C: Circuit>(
     }
 }
 
-/// A formula, and how many gates its graph has.
+/// Each formula, and how many gates it takes.
 static GATES: [(Formula, usize); 14] = [
     (Formula::AndTwice, 1),
     (Formula::XorOfNegations, 1),
@@ -149,13 +149,13 @@ static GATES: [(Formula, usize); 14] = [
     (Formula::Resolution, 2),
 ];
 
-/// How many gates this graph has once it has made those of a formula.
+/// How many gates this graph has once the formula is built in it.
 fn gate_count_in(alloc: Global, graph: &mut Aig, formula: Formula) -> Result<usize, AllocError> {
     build(alloc, graph, formula)?;
     Ok(graph.gates().len())
 }
 
-/// How many gates a graph makes of a formula.
+/// How many gates a graph has once the formula is built in it.
 fn gate_count(alloc: Global, formula: Formula) -> Result<usize, AllocError> {
     let mut graph = Aig::new(alloc);
     gate_count_in(alloc, &mut graph, formula)

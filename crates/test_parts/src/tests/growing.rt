@@ -6,7 +6,7 @@ use lists::{List, ShortList};
 use std::alloc::AllocError;
 use std::test::Fail;
 
-/// Adds 7 and 8, and makes 9 of the 8.
+/// Appends 7 and 8, and makes the 8 a 9.
 fn push_two(list: &mut List<u8>) -> Result<(), AllocError>
     requires { list.old ≡ [] }
 {
@@ -29,7 +29,7 @@ fn lists_keep_their_values(rt: HostRuntime) -> Result<(), Fail> {
     Ok(())
 }
 
-/// Adds 0, 1 and 2.
+/// Appends 0, 1 and 2.
 fn push_three(list: &mut ShortList<u32, 2>) -> Result<(), AllocError> {
     for n in 0..3 {
         list.push(n)?;

@@ -32,21 +32,21 @@ const NSW: Flags = Flags {
     ..Flags::NONE
 };
 
-// An operand or an effect at a width of N bits. A number is taken modulo 2^N.
+// An operand or an effect at a width of N bits; a number is taken modulo 2^N.
 #[derive(Clone, Copy)]
 pub(super) enum Cell {
     Undefined,
     Poison,
     Is(i64),
-    // 2^(N-1) and as much more.
+    // 2^(N-1) plus the number.
     Half(i64),
-    // 2^(N-2) and as much more.
+    // 2^(N-2) plus the number.
     Quarter(i64),
-    // N and as much more.
+    // N plus the number.
     Width(i64),
 }
 
-// An instruction, its flags, its operands and its effect.
+// An instruction, its flags, its two operands and its effect.
 type Row = (Opcode, Flags, Cell, Cell, Cell);
 
 static ONE_BIT: [Row; 39] = [
@@ -144,7 +144,7 @@ static TWO_BITS: [Row; 50] = [
     (Xor, NONE, Is(-2), Is(-1), Is(1)),
 ];
 
-// At each width of seven bits or more.
+// At each width from seven bits up.
 static EDGES: [Row; 105] = [
     (Add, NUW, Is(-2), Is(1), Is(-1)),
     (Add, NUW, Is(-1), Is(1), Poison),
@@ -253,7 +253,7 @@ static EDGES: [Row; 105] = [
     (Xor, NONE, Poison, Poison, Poison),
 ];
 
-// A cast, the widths from and to, a number and what it becomes.
+// A cast, the old and the new width, a number, and the result.
 static CASTS: [(Cast, u32, u32, i64, i64); 28] = [
     (Trunc, 2, 1, 1, -1),
     (Trunc, 2, 1, -1, -1),
@@ -285,7 +285,7 @@ static CASTS: [(Cast, u32, u32, i64, i64); 28] = [
     (SExt, 63, 64, -4611686018427387904, -4611686018427387904),
 ];
 
-// A cast, its flags, the widths from and to, a number, and whether it breaks a flag.
+// A cast, its flags, the old and the new width, a number, and whether the result is poison by a flag.
 static BROKEN: [(Cast, Flags, u32, u32, Cell, bool); 37] = [
     (Trunc, NUW, 2, 1, Is(1), false),
     (Trunc, NUW, 2, 1, Is(2), true),
@@ -328,8 +328,7 @@ static BROKEN: [(Cast, Flags, u32, u32, Cell, bool); 37] = [
 
 static PREDICATES: [Pred; 10] = [Eq, Ne, Ugt, Uge, Ult, Ule, Sgt, Sge, Slt, Sle];
 
-// The least width at which the row holds, two operands, whether they have one sign, and the predicates that hold of
-// them.
+// The least width for the row, two operands, whether both have the same sign, and the predicates that hold.
 static COMPARISONS: [(u32, Cell, Cell, bool, &[Pred]); 5] = [
     (1, Is(0), Is(-1), false, &[Ne, Ult, Ule, Sgt, Sge]),
     (1, Half(0), Half(-1), false, &[Ne, Ugt, Uge, Slt, Sle]),
@@ -447,7 +446,7 @@ fn comparisons_keep_poison(rt: &impl Abort) {
     assert_eq!(rt; found, Value::Poison);
 }
 
-// A condition of one bit, two operands of eight, and the one that is chosen.
+// A condition of one bit, two arms of eight, and the arm that is chosen.
 static CHOICES: [(Cell, Cell, Cell, Cell); 6] = [
     (Is(1), Is(1), Is(2), Is(1)),
     (Is(0), Is(1), Is(2), Is(2)),

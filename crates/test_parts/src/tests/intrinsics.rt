@@ -8,7 +8,7 @@ use Unary::{Abs, CtLz, CtPop, CtTz};
 use ops::{Effect, Flags, Opcode, Unary, Value, evaluate, unary};
 use std::process::Abort;
 
-// An intrinsic with two operands, and what it gives, at each width.
+// An intrinsic with two operands, and its result, at each width.
 static PAIRS: [(Opcode, Cell, Cell, Cell); 25] = [
     (UMin, Is(0), Is(-1), Is(0)),
     (UMin, Is(-1), Half(0), Half(0)),
@@ -37,7 +37,7 @@ static PAIRS: [(Opcode, Cell, Cell, Cell); 25] = [
     (SMax, Half(-1), Poison, Poison),
 ];
 
-// An intrinsic with one operand, what it gives with a false truth value, and with a true one, at each width.
+// An intrinsic with one operand, and its results with the truth value false and with true, at each width.
 static SINGLES: [(Unary, Cell, Cell, Cell); 16] = [
     (Abs, Is(0), Is(0), Is(0)),
     (Abs, Half(0), Half(0), Poison),
@@ -57,7 +57,7 @@ static SINGLES: [(Unary, Cell, Cell, Cell); 16] = [
     (CtTz, Is(-1), Is(0), Is(0)),
 ];
 
-// The same at each width of seven bits or more.
+// The same at each width from seven bits up.
 static WIDE: [(Unary, Cell, Cell, Cell); 10] = [
     (Abs, Is(-1), Is(1), Is(1)),
     (Abs, Is(-7), Is(7), Is(7)),
@@ -110,7 +110,7 @@ fn intrinsics_give_the_worked_values(rt: HostRuntime) {
     }
 }
 
-// The number of so many bits in two's complement.
+// The lowest `bits` bits of the number, in two's complement.
 fn signed(bits: u32, number: i64) -> i64 {
     let half = 1i64.wrapping_shl(bits.wrapping_sub(1));
     if number < half {
@@ -120,7 +120,7 @@ fn signed(bits: u32, number: i64) -> i64 {
     }
 }
 
-// How many bits are set, and how many are clear above the highest that is set and below the lowest.
+// The population count, and the counts of leading and of trailing zeros, bit by bit.
 fn counts(bits: u32, number: i64) -> [i64; 3] {
     let mut ones = 0i64;
     let mut above = 0i64;

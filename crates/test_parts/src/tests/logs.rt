@@ -1,4 +1,5 @@
-//! Small logs, of which it is seen by hand whether their steps follow; and logs that are packed.
+//! Small logs, of which it is seen by hand whether each step follows by unit propagation along its hints (RUP); and
+//! logs that are packed.
 
 use super::repeated::{Clauses, clause, literal, set};
 use clauses::{Clause, Cnf, Log, Step};
@@ -9,10 +10,10 @@ use std::alloc::{AllocError, Global};
 use std::test::Fail;
 use trimmed_logs::trimmed;
 
-/// The steps of a log, each with its literals and its hints.
+/// The steps of a log: the literals of each step's clause, and its hints.
 type Steps = &'static [(&'static [i16], &'static [u32])];
 
-/// A step of these literals and hints.
+/// A step with these literals and hints.
 fn step(alloc: Global, literals: &[i16], hints: &[u32]) -> Result<Step, AllocError> {
     let clause = clause(alloc, literals)?;
     let hints = List::from_vec(hints.to_vec(alloc)?);
@@ -63,23 +64,23 @@ const FULL: Clauses = &[&[1, 2], &[1, -2], &[-1, 2], &[-1, -2]];
 /// Clauses, a log over them, whether each of its steps follows, and whether it refutes them.
 static CHECKED: [(Clauses, Steps, bool, bool); 14] = [
     (&[&[]], &[(&[], &[0])], true, true),
-    // the empty clause doesn't end this log
+    // the empty clause isn't the log's last
     (&[&[]], &[(&[], &[0]), (&[1], &[1])], true, false),
-    // no hints, and a step that names itself
+    // no hints; and a step that is its own hint
     (OPPOSED, &[(&[], &[])], false, false),
     (OPPOSED, &[(&[], &[2])], false, false),
     (OPPOSED, &[(&[], &[0, 1])], true, true),
-    // both literals of variable 1 are held
+    // the clause is a tautology: negating it assigns variable 1 both ways
     (OPPOSED, &[(&[1, -1], &[1])], true, false),
-    // the last hint has an open literal
+    // the clause of the last hint is not false
     (OPPOSED, &[(&[-1], &[0])], false, false),
-    // variable 3 isn't the set's
+    // the set has no variable 3
     (OPPOSED, &[(&[3], &[0, 1])], false, false),
     (FULL, &[(&[1], &[0, 1]), (&[], &[4, 2, 3])], true, true),
-    // what the first step held is let go; and a step names a later one
+    // the assignments of the first step are undone before the second; and a step has a later one as a hint
     (FULL, &[(&[1], &[0, 1]), (&[], &[1])], false, false),
     (FULL, &[(&[], &[5, 2, 3]), (&[1], &[0, 1])], false, false),
-    // a clause that is named again still has its unit literal, and so is false at no end
+    // a unit clause that is hinted again is satisfied, so it is never the conflict
     (
         FULL,
         &[(&[1], &[0, 1]), (&[], &[4, 4, 2, 4, 2, 3])],
@@ -87,7 +88,7 @@ static CHECKED: [(Clauses, Steps, bool, bool); 14] = [
         true,
     ),
     (FULL, &[(&[1], &[0, 1]), (&[], &[4, 2, 2])], false, false),
-    // what one step has named is new to the next
+    // what one step has propagated is undone before the next
     (FULL, &[(&[2], &[0, 2]), (&[], &[0, 2, 3])], false, false),
 ];
 
@@ -98,13 +99,13 @@ fn checked(alloc: Global, set: &Cnf, log: &Log) -> Result<(bool, bool), AllocErr
     Ok((follows, refutes))
 }
 
-/// The same of the log of some steps.
+/// The same for a log with these steps.
 fn checked_steps(alloc: Global, set: &Cnf, steps: Steps) -> Result<(bool, bool), AllocError> {
     let log = log(alloc, steps)?;
     checked(alloc, set, &log)
 }
 
-/// Whether that is found of a set and the log of some steps.
+/// Whether the checker's two answers for a set and these steps are the expected ones.
 fn is_checked_so(
     alloc: Global,
     set: &Cnf,
@@ -116,7 +117,7 @@ fn is_checked_so(
     Ok(found.0 == follows && found.1 == refutes)
 }
 
-/// Whether that is found of some clauses, of which none has a variable above the second.
+/// The same for clauses over two variables.
 fn are_checked_so(
     alloc: Global,
     clauses: Clauses,
@@ -139,9 +140,9 @@ fn logs_follow_or_are_refused(rt: HostRuntime) -> Result<(), Fail> {
     Ok(())
 }
 
-/// Clauses, the steps of a log, and those that stay once it is trimmed.
+/// Clauses, the steps of a log, and those that are left once it is trimmed.
 static TRIMMED: [(Clauses, Steps, Steps); 10] = [
-    // nothing refutes these, and the logs stay as they are
+    // these logs refute nothing, and are left as they are
     (OPPOSED, &[], &[]),
     (OPPOSED, &[(&[], &[0])], &[(&[], &[0])]),
     (
@@ -149,13 +150,13 @@ static TRIMMED: [(Clauses, Steps, Steps); 10] = [
         &[(&[2], &[0, 2]), (&[1], &[0, 1])],
         &[(&[2], &[0, 2]), (&[1], &[0, 1])],
     ),
-    // the last step doesn't follow, though the first, which it doesn't name, does
+    // the last step doesn't follow, although the first, which is none of its hints, does
     (
         FULL,
         &[(&[1], &[0, 1]), (&[], &[2, 3])],
         &[(&[1], &[0, 1]), (&[], &[2, 3])],
     ),
-    // a step that nothing names, and two of which only the second names the first
+    // a step that is no hint; and two, of which the second alone has the first as a hint
     (
         FULL,
         &[(&[2], &[0, 2]), (&[1], &[0, 1]), (&[], &[5, 2, 3])],
@@ -171,25 +172,25 @@ static TRIMMED: [(Clauses, Steps, Steps); 10] = [
         ],
         &[(&[1], &[0, 1]), (&[], &[4, 2, 3])],
     ),
-    // variable 2 is set, but what is false doesn't rest on it
+    // variable 2 is assigned, but the conflict doesn't depend on it
     (
         &[&[1], &[-1], &[2]],
         &[(&[], &[2, 0, 1])],
         &[(&[], &[0, 1])],
     ),
-    // nor on what follows from variable 1
+    // nor on what propagates from variable 1
     (
         &[&[1], &[-1, 2], &[3], &[-3]],
         &[(&[], &[0, 1, 2, 3])],
         &[(&[], &[2, 3])],
     ),
-    // a step is named, but only to set again what is set
+    // a hint that only assigns again what is assigned
     (
         FULL,
         &[(&[2], &[0, 2]), (&[1], &[0, 1]), (&[], &[5, 2, 4, 3])],
         &[(&[1], &[0, 1]), (&[], &[4, 2, 3])],
     ),
-    // each is needed
+    // every step and hint is needed
     (
         FULL,
         &[(&[2], &[0, 2]), (&[1], &[0, 1]), (&[], &[5, 4, 3])],
@@ -197,13 +198,13 @@ static TRIMMED: [(Clauses, Steps, Steps); 10] = [
     ),
 ];
 
-/// Whether these steps stay of a log.
+/// Whether the log of these steps is trimmed to those.
 fn is_trimmed_to(alloc: Global, set: &Cnf, steps: Steps, kept: Steps) -> Result<bool, AllocError> {
     let found = trimmed(alloc, set, log(alloc, steps)?)?;
     Ok(has_steps(&found, kept))
 }
 
-/// The same over some clauses, of which none has a variable above the third.
+/// The same for clauses over three variables.
 fn are_trimmed_to(
     alloc: Global,
     clauses: Clauses,
@@ -225,7 +226,8 @@ fn logs_are_trimmed(rt: HostRuntime) -> Result<(), Fail> {
     Ok(())
 }
 
-/// Logs with no steps, with no hints, and with hints that rise and fall by as much as fits one byte and more.
+/// Logs without steps, without hints, and with differences between hints that fit one byte or take more, rising and
+/// falling.
 static PACKED: [Steps; 4] = [
     &[],
     &[(&[], &[])],
@@ -240,7 +242,7 @@ static PACKED: [Steps; 4] = [
     ],
 ];
 
-/// Whether the log of these steps is read back once it is packed.
+/// Whether a log with these steps is the same after packing and unpacking.
 fn is_read_back(alloc: Global, steps: Steps) -> Result<bool, AllocError> {
     let log = log(alloc, steps)?;
     let packed = pack(alloc, &log)?;

@@ -11,10 +11,11 @@ use std::rt::HostRuntime;
 /// A token: its kind, its line and its bytes.
 type Seen<'a> = (TokenKind, usize, &'a [u8]);
 
-/// Texts and their tokens, and the line on which the text ends, or on which a byte or a token stands that may not.
+/// Texts with their tokens, and the line on which the text ends (`Ok`) or on which a byte or a token may not stand
+/// (`Err`).
 const TEXTS: [(&[u8], &[Seen], Result<usize, usize>); 26] = [
     (b"", &[], Ok(1)),
-    // a comment holds every byte; a `;` in quotes begins none
+    // a comment may hold any byte; a `;` in quotes begins no comment
     (
         b"\r\n;\x01\xe9\" ; \na\t\";\"\n",
         &[(Word, 3, b"a"), (Quoted, 3, b"\";\"")],
@@ -66,7 +67,7 @@ const TEXTS: [(&[u8], &[Seen], Result<usize, usize>); 26] = [
         ],
         Ok(2),
     ),
-    // runs that begin with `-` or a digit and are no numbers
+    // runs of name bytes that begin with `-` or a digit and are no numbers
     (
         b"- --1 -a 1.5 5-",
         &[
@@ -154,7 +155,7 @@ const TEXTS: [(&[u8], &[Seen], Result<usize, usize>); 26] = [
         ],
         Ok(1),
     ),
-    // quoted texts that are closed on no line of theirs
+    // quoted texts that aren't closed on their line
     (
         b"%\"a\n@\"b c\"x\"",
         &[
@@ -184,7 +185,7 @@ const TEXTS: [(&[u8], &[Seen], Result<usize, usize>); 26] = [
         Ok(1),
     ),
     (b"\n\n", &[], Ok(2)),
-    // no quoted text, though what follows may not stand
+    // no quoted text, though the byte behind may not stand
     (b"\"\x00\n\"", &[(Other, 1, b"\"")], Err(1)),
 
     // bytes and tokens that may not stand
@@ -199,7 +200,7 @@ const TEXTS: [(&[u8], &[Seen], Result<usize, usize>); 26] = [
     (b"\x7f", &[], Err(1)),
 ];
 
-/// What follows a word, and the rest of its line as it is kept. Then the kind and the line of the next token.
+/// What is behind a word, the rest of its line as it is kept, and the kind and the line of the next token.
 const LINES: [(&[u8], &[u8], TokenKind, usize); 5] = [
     (
         b"x = \"\x00;\" ; \xff \t\r\ny",
@@ -213,8 +214,8 @@ const LINES: [(&[u8], &[u8], TokenKind, usize); 5] = [
     (b"x y", b" y", End, 1),
 ];
 
-/// What follows a `(`, and the bytes up to the `)` that closes it; none where there is none. Then the next token's
-/// kind.
+/// What is behind a `(`, the bytes up to the `)` that closes it, or none where it isn't closed, and the kind of the
+/// next token.
 const GROUPS: [(&[u8], Option<&[u8]>, TokenKind); 9] = [
     (b"()", Some(b")"), End),
     (b"(a(b)(c))%d)", Some(b"a(b)(c))"), Register),
@@ -227,7 +228,7 @@ const GROUPS: [(&[u8], Option<&[u8]>, TokenKind); 9] = [
     (b"(", None, End),
 ];
 
-/// Fails unless the text has these tokens, and then ends or has what may not stand, however often that is asked for.
+/// Fails unless the text has these tokens and then this ending, however often that is asked for.
 fn expect_tokens(rt: &impl Abort, text: &[u8], tokens: &[Seen], ending: Result<usize, usize>) {
     let mut cursor = Cursor::new(text);
     for (kind, line, spelled) in tokens {

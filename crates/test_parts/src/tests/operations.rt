@@ -1,4 +1,4 @@
-//! Operations on words, and the circuits that answer them.
+//! Operations on words, and the circuits that compute them.
 ghost use Rattle.std.specs.Prelude.{◌≡◌, ◌<◌, ◌≤◌, [], ◌∷◌, length, IfOk};
 ghost use Rattle.std.specs.List.{All};
 ghost use Rattle.circuits.specs.Circuit.{Keeps};
@@ -11,11 +11,11 @@ use circuits::{Bits, Circuit, maximum, minimum};
 use lists::List;
 use std::alloc::{AllocError, Global};
 
-/// What is asked of two words of one width, a and b.
+/// An operation on two words of one width, a and b.
 #[derive(Clone, Copy, Debug)]
 pub(crate) enum Operation {
     Product,
-    /// Whether the exact sum of unsigned numbers does not fit the width; and so on.
+    /// Whether the exact unsigned sum overflows the width; and so on.
     SumOverflows,
     SignedSumOverflows,
     DifferenceOverflows,
@@ -29,7 +29,7 @@ pub(crate) enum Operation {
     Intrinsic(Intrinsic),
 }
 
-/// What is asked of two words, or of the first alone.
+/// An intrinsic on two words, or on the first alone.
 #[derive(Clone, Copy, Debug)]
 pub(crate) enum Intrinsic {
     Minimum,
@@ -42,7 +42,7 @@ pub(crate) enum Intrinsic {
     TrailingZeros,
 }
 
-/// An operation on two numbers of so many bits.
+/// An operation on two numbers of `width` bits.
 #[derive(Clone, Copy, Debug)]
 pub(crate) struct Question {
     pub(crate) operation: Operation,
@@ -51,7 +51,7 @@ pub(crate) struct Question {
     pub(crate) b: u64,
 }
 
-/// All operations but the intrinsics.
+/// All operations but intrinsics.
 pub(crate) static OPERATIONS: [Operation; 11] = [
     Operation::Product,
     Operation::SumOverflows,
@@ -75,7 +75,7 @@ fn single<L: Copy>(alloc: Global, literal: L) -> Result<Bits<L>, AllocError>
     Ok(word)
 }
 
-/// The answer of the circuits: a word of the width, or a single bit.
+/// The result of the circuit: a word of the width, or a single bit.
 pub(crate) fn answer<C: Circuit>(
     alloc: Global,
     c: &mut C,
@@ -105,7 +105,7 @@ pub(crate) fn answer<C: Circuit>(
     }
 }
 
-/// Whether an operation overflows, where the question is that.
+/// The overflow bit of an operation, if the question is that.
 fn overflow<C: Circuit>(
     alloc: Global,
     c: &mut C,
@@ -130,7 +130,7 @@ fn overflow<C: Circuit>(
     }
 }
 
-/// The answer of the circuits of an intrinsic.
+/// The result of the circuit of an intrinsic.
 fn intrinsic_answer<C: Circuit>(
     alloc: Global,
     c: &mut C,

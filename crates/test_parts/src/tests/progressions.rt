@@ -1,4 +1,4 @@
-//! Numbers in two colours without arithmetic progressions of one colour, above twelve inputs.
+//! Colourings of numbers in two colours without one-coloured arithmetic progressions, with more than twelve inputs.
 
 use super::repeated::{is_refuted, literal, set_of};
 use cdcl_log::{Found, search};
@@ -7,7 +7,7 @@ use lists::List;
 use std::alloc::{AllocError, Global};
 use std::test::Fail;
 
-/// The first numbers, in red and blue with no red progression of so many terms and no blue one of so many.
+/// The numbers from 1 on, in red and blue, with no red progression of `red` terms and no blue one of `blue` terms.
 #[derive(Clone, Copy)]
 struct Colouring {
     numbers: i16,
@@ -15,7 +15,7 @@ struct Colouring {
     blue: i16,
 }
 
-/// The terms of the progression, each a literal of this sign.
+/// The terms of the progression as literals of this sign.
 fn progression(
     alloc: Global,
     first: i16,
@@ -31,7 +31,7 @@ fn progression(
     Ok(clause)
 }
 
-/// Adds for each progression of so many terms that not all of them have the colour.
+/// Appends for each progression of so many terms the clause that not all its terms have the colour.
 fn add_progressions(
     alloc: Global,
     numbers: i16,
@@ -80,7 +80,7 @@ fn is_met(set: &Cnf, values: &[bool]) -> bool {
     true
 }
 
-/// Whether the search finds a model of the set.
+/// Whether the search finds a model, which meets the set.
 fn is_modelled(alloc: Global, set: &Cnf) -> Result<bool, AllocError> {
     match search(alloc, set, 20000)? {
         Found::Sat(values) => Ok(is_met(set, values.as_slice())),
@@ -96,7 +96,7 @@ fn is_coloured(alloc: Global, colouring: Colouring) -> Result<bool, AllocError> 
     }
 }
 
-/// Whether the search finds that there is no such colouring, and its log is checked.
+/// Whether the search finds that there is no such colouring, by a log that the checker takes.
 fn is_excluded(alloc: Global, colouring: Colouring) -> Result<bool, AllocError> {
     match colouring_set(alloc, colouring)? {
         Some(set) => is_refuted(alloc, &set, 20000),
@@ -104,8 +104,8 @@ fn is_excluded(alloc: Global, colouring: Colouring) -> Result<bool, AllocError> 
     }
 }
 
-/// The lengths of red and blue progressions, and the fewest numbers that have no such colouring: the numbers of
-/// van der Waerden.
+/// The lengths of red and blue progressions, and the fewest numbers that have no such colouring (van der Waerden
+/// numbers).
 static FEWEST: [(i16, i16, i16); 4] = [(3, 4, 18), (3, 5, 22), (3, 6, 32), (4, 4, 35)];
 
 #[test]

@@ -4,7 +4,7 @@ use proof_text::{LogFaultKind, Proof, read_proofs, write_proofs};
 use refusal::Refusal;
 use std::alloc::{AllocError, Global};
 
-/// Each text, and its fault: its line, and 2 for `BadByte` or 3 for `Syntax`; 0 and 0 where it has none.
+/// Texts with their faults: the line, and 2 for `BadByte` or 3 for `Syntax`; 0 and 0 where there is none.
 const TEXTS: [(&[u8], usize, u8); 36] = [
     (b"", 0, 0),
     (b"proof a [1]\nlog 0\n", 0, 0),
@@ -48,7 +48,7 @@ const TEXTS: [(&[u8], usize, u8); 36] = [
     (b"proof a [1]\nlog 0\n\n", 3, 3),
 ];
 
-/// 0 where these are the proofs of the text, which is written again as it was, and else 1.
+/// 0 where these proofs are written as the text again, else 1.
 fn rewriting_code(alloc: Global, proofs: &[Proof], text: &[u8]) -> Result<u8, AllocError> {
     let again = write_proofs(alloc, proofs)?;
     Ok(u8::from(again.as_slice() != text))
@@ -64,7 +64,7 @@ fn kind_code(kind: &LogFaultKind) -> u8 {
     }
 }
 
-/// The fault of a text: its line and the number of its kind.
+/// The fault of a text: its line, and the number of its kind.
 fn found(alloc: Global, text: &[u8]) -> Result<(usize, u8), AllocError> {
     match read_proofs(alloc, text) {
         Ok(proofs) => Ok((0, rewriting_code(alloc, proofs.as_slice(), text)?)),

@@ -1,4 +1,4 @@
-//! Clauses in which a literal stands twice, where it is one literal.
+//! Clauses that repeat a literal, which counts once.
 
 ghost use Rattle.std.specs.Prelude.{◌≤◌};
 ghost use Rattle.cdcl_log.specs.Found.{most_conflicts};
@@ -10,7 +10,7 @@ use rup_checker::check_refutation;
 use std::alloc::{AllocError, Global};
 use std::test::Fail;
 
-/// Clauses, a literal by the number of its variable, which is negative for the negation.
+/// Clauses, each literal by the number of its variable, negative where it is negated.
 pub(super) type Clauses = &'static [&'static [i16]];
 
 /// The literal of a number.
@@ -65,7 +65,7 @@ fn log(alloc: Global, hints: &[u32]) -> Result<Log, AllocError> {
     Ok(log)
 }
 
-/// Clauses, hints of the empty clause, and whether these refute.
+/// Clauses, hints for the empty clause, and whether it follows by them.
 static CHECKED: [(Clauses, &[u32], bool); 7] = [
     (&[&[1, 1], &[-1, -1]], &[0, 1], true),
     (&[&[1, 1], &[-1, -1]], &[1, 0], true),
@@ -82,7 +82,7 @@ fn hints_refute(alloc: Global, set: &Cnf, hints: &[u32]) -> Result<bool, AllocEr
     check_refutation(alloc, set, &log)
 }
 
-/// Whether that is said of the hints.
+/// Whether the checker's answer is the expected one.
 fn is_checked_so(
     alloc: Global,
     set: &Cnf,
@@ -93,7 +93,7 @@ fn is_checked_so(
     Ok(found == refutes)
 }
 
-/// The same over some clauses, of which none has a variable above the third.
+/// The same for clauses over three variables.
 fn are_checked_so(
     alloc: Global,
     clauses: Clauses,
@@ -115,14 +115,14 @@ fn the_checker_counts_a_literal_once(rt: HostRuntime) -> Result<(), Fail> {
     Ok(())
 }
 
-/// Sets that units alone refute, whatever the order of their clauses.
+/// Sets that unit propagation alone refutes, in any order of their clauses.
 static SEARCHED: [Clauses; 3] = [
     &[&[1, 1], &[-1, -1]],
     &[&[1], &[-1, 2, 2], &[-2, -1, -2]],
     &[&[-2, -1, -2], &[-1, 2, 2], &[1]],
 ];
 
-/// Whether the search refutes a set, and its log is checked.
+/// Whether the search refutes a set by a log that the checker takes.
 pub(super) fn is_refuted(alloc: Global, set: &Cnf, conflicts: u32) -> Result<bool, AllocError>
     requires { conflicts ≤ most_conflicts }
 {
@@ -149,10 +149,10 @@ fn the_search_counts_a_literal_once(rt: HostRuntime) -> Result<(), Fail> {
     Ok(())
 }
 
-/// The second variable is the first, and one of them is true; the first decision is wrong.
+/// Both variables are equal, and one is true, so the first decision, which is false, leads to a conflict.
 const EQUAL: Clauses = &[&[-2, 1], &[2, -1], &[1, 2]];
 
-/// The set of these clauses, whose first variable is named as an input 13 times.
+/// The set of these clauses, which names its first variable as an input 13 times.
 fn equal_set(alloc: Global) -> Result<Option<Cnf>, AllocError> {
     let clauses = clauses(alloc, EQUAL)?;
     let inputs = [1u32; 13].to_vec(alloc)?;

@@ -9,8 +9,8 @@ use std::rt::HostRuntime;
 /// A token: its kind, its line and its bytes.
 type Seen<'a> = (RuleKind, usize, &'a str);
 
-/// Texts and their tokens, each taken as in an operator's place where the one before it ends a primary; and the line on
-/// which the text ends, or on which a byte stands that may not.
+/// Texts with their tokens, each read in an operator's place where the token before ends a primary expression; and the
+/// line on which the text ends (`Ok`) or on which a byte may not stand (`Err`).
 const TEXTS: [(&[u8], &[Seen], Result<usize, usize>); 36] = [
     (b"", &[], Ok(1)),
     (b"\n\n", &[], Ok(2)),
@@ -22,7 +22,7 @@ const TEXTS: [(&[u8], &[Seen], Result<usize, usize>); 36] = [
         Ok(2),
     ),
     (b"; a\n;\n b", &[(Word, 3, "b")], Ok(3)),
-    // the longest that begins where it does
+    // the longest match
     (
         b"5u<C",
         &[(Number, 1, "5"), (Mark, 1, "u<"), (Word, 1, "C")],
@@ -118,7 +118,7 @@ const TEXTS: [(&[u8], &[Seen], Result<usize, usize>); 36] = [
         ],
         Ok(1),
     ),
-    // the operators that begin as other tokens do
+    // operators that begin as other tokens do
     (
         b"C %u 2 /u(t1 % (3",
         &[
@@ -177,7 +177,7 @@ const TEXTS: [(&[u8], &[Seen], Result<usize, usize>); 36] = [
         ],
         Ok(2),
     ),
-    // a line begins in unary place
+    // a line begins where an operand may
     (
         b"%x\n%u = C\n-1",
         &[
@@ -199,7 +199,7 @@ const TEXTS: [(&[u8], &[Seen], Result<usize, usize>); 36] = [
     (b"a \r\x1f b", &[(Word, 1, "a")], Err(1)),
 ];
 
-/// What follows `Name:`, and the name; none where a byte of it may not stand. Then the next token.
+/// What is behind `Name:`, the name, or none where it has a byte that may not stand, and the next token.
 const NAMES: [(&[u8], Option<&str>, RuleKind); 8] = [
     (b"Name: a: b \r\n%", Some("a: b"), Other),
     (b"Name:x", Some("x"), End),

@@ -7,20 +7,20 @@ use cnf_build::clauses_of;
 use std::alloc::{AllocError, Global};
 use std::test::Fail;
 
-/// A root over the inputs a, b and c.
+/// A root gate over the inputs a, b and c.
 #[derive(Clone, Copy, Debug)]
 enum Root {
     And,
     Xor,
     Mux,
-    /// Not both of a and b.
+    /// ¬(a ∧ b).
     NotBoth,
     One,
     /// The input b alone.
     Input,
-    /// Both of a and the constant that is true.
+    /// a ∧ 1.
     AndOne,
-    /// Whether a, b and c have an odd sum.
+    /// a ⊕ b ⊕ c.
     Odd,
 }
 
@@ -69,8 +69,8 @@ fn sizes(alloc: Global, root: Root) -> Result<Option<(u32, u32)>, AllocError> {
     sizes_in(alloc, &mut graph, root)
 }
 
-/// A root, and how many variables and clauses its set has: variables for the inputs, for the gates that the root
-/// needs, and for the constant where it is used.
+/// Roots, and how many variables and clauses their sets have: there are variables for the inputs, for the gates that
+/// the root depends on, and for the constant where it is used.
 static SIZES: [(Root, u32, u32); 8] = [
     (Root::And, 4, 4),
     (Root::Xor, 4, 5),

@@ -1,6 +1,7 @@
-//! Pairs of words, and what whole-number arithmetic says of them, worked out apart from any circuit.
+//! Pairs of words, and the results by arithmetic over whole numbers, computed without any circuit.
 
-/// Two words of one width, and what each operation answers, in the order of `OPERATIONS`; a quotient is modulo 2^width.
+/// Two words of one width, and the result of each operation, in the order of `OPERATIONS`; a quotient is modulo
+/// 2^width.
 pub(crate) struct Row {
     pub(crate) width: usize,
     pub(crate) a: u64,

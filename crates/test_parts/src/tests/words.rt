@@ -7,7 +7,7 @@ use circuits::{Bits, Circuit};
 use lists::List;
 use std::alloc::{AllocError, Global};
 
-/// Adds the lowest bits of a number, the lowest first.
+/// Appends the lowest bits of a number, the lowest first.
 fn push_bits(bits: &mut Vec<bool>, number: u64, width: usize) -> Result<(), AllocError>
     requires { width ≤ 64 }
 {
@@ -17,7 +17,7 @@ fn push_bits(bits: &mut Vec<bool>, number: u64, width: usize) -> Result<(), Allo
     Ok(())
 }
 
-/// The inputs of which two words of a width have these numbers.
+/// The inputs at which two words of this width are these numbers.
 pub(crate) fn inputs_of(
     alloc: Global,
     width: usize,

@@ -6,7 +6,7 @@ use super::written::is_cleaned_to;
 use std::alloc::{AllocError, Global};
 use std::test::Fail;
 
-// Texts, and what is written of their modules.
+// Texts, and their modules as they are printed.
 const WRITTEN: [(&str, &str); 3] = [
     (
         "define i5 @f(i5 %a, i5 %b) {
@@ -83,7 +83,7 @@ fn calls_are_written_without_items(rt: HostRuntime) {
     }
 }
 
-// A call on %x at i8, an argument, and the line that a run prints.
+// A call on %x of i8, an argument, and the line that a run prints.
 const RUNS: [(&str, &str, &str); 22] = [
     ("ctlz.i8(i8 %x, i1 true)", "5", "return 5\n"),
     ("ctlz.i8(i8 %x, i1 true)", "0", "return poison\n"),
@@ -109,7 +109,7 @@ const RUNS: [(&str, &str, &str); 22] = [
     ("cttz.i8(i8 %x, i1 0)", "poison", "return poison\n"),
 ];
 
-/// What is written of a run of the call.
+/// The line that a run of the call prints.
 fn ran(alloc: Global, call: &str, argument: &str) -> Result<Vec<u8>, AllocError> {
     let text = format!(in alloc;
         "define i8 @f(i8 %x) {{\n  %1 = call i8 @llvm.{call}\n  ret i8 %1\n}}\n"

@@ -1,4 +1,4 @@
-//! The module that a number stands for, worked out by a program of its own from the table of draws.
+//! The module that a number generates, against what a separate program worked out from the table of draws.
 
 use ir_printer::print_module;
 use load_gen::generate;
@@ -68,7 +68,7 @@ exit:
 }
 ";
 
-/// The text of the module that a number stands for.
+/// The text of the module that a number generates.
 fn generated(alloc: Global, number: u32, functions: u32) -> Result<Vec<u8>, AllocError> {
     let module = generate(alloc, number, functions)?;
     print_module(alloc, &module)

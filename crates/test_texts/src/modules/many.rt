@@ -1,5 +1,5 @@
-//! Modules that have more than 2^16 of what is counted: instructions of a block, blocks, parameters, cases, entries of
-//! a phi, functions.
+//! Modules with more than 2^16 of one kind of thing: instructions of a block, blocks, parameters, cases, entries of a
+//! phi, functions.
 
 use super::written::is_cleaned_to;
 use alive_top::run;
@@ -86,7 +86,7 @@ fn push(text: &mut String, many: Many) -> Result<(), AllocError> {
     }
 }
 
-/// Whether `@f` returns at 65,537 what is said.
+/// Whether `@f` returns at 65,537 the expected line.
 fn returns(alloc: Global, text: &str, said: &str) -> bool {
     match run(alloc, text.as_bytes(), b"f", &["65537"], MANY) {
         Ok(line) => line.as_slice() == said.as_bytes(),
@@ -94,7 +94,8 @@ fn returns(alloc: Global, text: &str, said: &str) -> bool {
     }
 }
 
-/// Whether a text is that of its module cleaned, and `@f` returns at 65,537 what is said, if something is.
+/// Whether a text prints as it is once dead code is eliminated, and `@f` returns at 65,537 the expected line, if there
+/// is one.
 fn are_so(alloc: Global, text: &str, said: Option<&str>) -> bool {
     is_cleaned_to(alloc, text, text)
         && match said {
@@ -103,14 +104,14 @@ fn are_so(alloc: Global, text: &str, said: Option<&str>) -> bool {
         }
 }
 
-/// Whether that is so of the text of a module that has many of these.
+/// The same for the text of a module with many of these.
 fn holds(alloc: Global, many: Many, said: Option<&str>) -> Result<bool, AllocError> {
     let mut text = String::new(alloc);
     push(&mut text, many)?;
     Ok(are_so(alloc, text.as_str(), said))
 }
 
-/// What there are many of, and what `@f` returns at 65,537 if it has one parameter.
+/// What the module has many of, and what `@f` returns at 65,537, if it has one parameter.
 static ROWS: [(Many, Option<&str>); 5] = [
     (Many::Instructions, Some("return 135536\n")),
     (Many::Blocks, Some("return 65537\n")),

@@ -1,4 +1,4 @@
-//! Texts that are refused, and what is told of each.
+//! Texts that are refused, and the fault of each.
 
 use ir_reader::{IrError, IrFault, IrFaultKind, read_module};
 use ir_tokens::Identifier;
@@ -6,7 +6,7 @@ use std::alloc::{AllocError, Global};
 use std::process::Abort;
 use std::test::Fail;
 
-/// How a kind is called.
+/// The name of a kind of fault.
 fn name(kind: &IrFaultKind) -> &'static str {
     match kind {
         IrFaultKind::TooLong => "TooLong",
@@ -25,8 +25,8 @@ fn name(kind: &IrFaultKind) -> &'static str {
     }
 }
 
-/// The beginning of texts, and what stands behind it in each, with the line and the kind of its first fault. A word
-/// that is left out is told, and a register that is not assigned, with its block.
+/// A common beginning of texts, and what is behind it in each, with the line and the kind of its first fault; with
+/// `LeftOut` the word, with `Unassigned` the register and the block.
 pub(super) type Refused = (&'static str, &'static [(&'static str, &'static str)]);
 
 const TOKENS: [Refused; 3] = [
@@ -192,7 +192,8 @@ const FUNCTIONS: [Refused; 5] = [
         ],
     ),
 
-    // Phis: behind another instruction; no entry for a predecessor; one for another block; two operands for one.
+    // Phis: behind another instruction; without an entry for a predecessor; with an entry for no predecessor; with two
+    // different entries for one.
     (
         "define i8 @f(i1 %c) {\nbr i1 %c, label %a, label %a a:\n",
         &[
@@ -262,7 +263,7 @@ const FUNCTIONS: [Refused; 5] = [
         ],
     ),
 
-    // Two faults, either first in the text, of one function or of two.
+    // Two faults, and either is first in the text; in one function or in two.
     (
         "define i16 @f(i8",
         &[
@@ -318,7 +319,7 @@ fn shown(name: &[u8]) -> &str {
     std::str::from_utf8(name).unwrap_or("no text")
 }
 
-/// What is told of a fault.
+/// The fault as a text.
 fn fault_told(alloc: Global, fault: &IrFault) -> Result<String, AllocError> {
     let (line, kind) = (fault.line, name(&fault.kind));
     match &fault.kind {
@@ -338,7 +339,7 @@ fn fault_told(alloc: Global, fault: &IrFault) -> Result<String, AllocError> {
     }
 }
 
-/// What is told of the first fault of a text.
+/// The first fault of a text, as a text.
 fn told(alloc: Global, text: &str) -> Result<String, AllocError> {
     match read_module(alloc, text.as_bytes()) {
         Ok(_) => String::from_str(alloc, "read"),
@@ -353,7 +354,7 @@ fn told_of_parts(alloc: Global, begin: &str, rest: &str) -> Result<String, Alloc
     told(alloc, text.as_str())
 }
 
-/// Fails unless of each text this is told.
+/// Fails unless each text has this fault.
 pub(super) fn expect_told(
     rt: &impl Abort,
     alloc: Global,

@@ -83,7 +83,7 @@ const ONE_SIGN: &str = "define i1 @f(i8 %x) {
 }
 ";
 
-/// A text, the arguments of `@f`, the most blocks entered, and the line that is written, or `argument`.
+/// A text, the arguments of `@f`, the most blocks that the run may enter, and the line that is printed, or `argument`.
 static ROWS: [(&str, &[&str], u32, &str); 29] = [
     (SWAP, &["2"], 10, "return 1\n"),
     (SWAP, &["3"], 10, "return 2\n"),
@@ -116,7 +116,7 @@ static ROWS: [(&str, &[&str], u32, &str); 29] = [
     (ONE_SIGN, &["127"], 1, "return poison\n"),
 ];
 
-/// What is written of a run of `@f`.
+/// The line that a run of `@f` prints.
 pub(super) fn line(
     alloc: Global,
     text: &str,

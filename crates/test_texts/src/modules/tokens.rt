@@ -1,4 +1,4 @@
-//! Tokens, names and numbers at tables that were worked out by hand.
+//! Tokens, names and numbers against tables that were worked out by hand.
 
 use Token::{
     Bad, End, Function, Group, Kept, KeptGroup, Label, Mark, Metadata, Number, Other, Register,
@@ -30,7 +30,7 @@ const TEXTS: [(&[u8], &[(usize, Token)]); 7] = [
             (9, End),
         ],
     ),
-    // tokens that are not the first on their line, labels and longer words begin none
+    // tokens that are not the first on their line, labels, and longer words begin no kept line
     (
         b"a target\ndeclare: x\ntargets !\n} !0 = !{}\n",
         &[
@@ -80,7 +80,7 @@ const TEXTS: [(&[u8], &[(usize, Token)]); 7] = [
             (8, End),
         ],
     ),
-    // a group that a line break parts
+    // a kept group with a line feed in it
     (
         b"define x(\n) y",
         &[(1, Word(b"define")), (1, Word(b"x")), (1, Other)],
@@ -93,7 +93,7 @@ const TEXTS: [(&[u8], &[(usize, Token)]); 7] = [
     (b"\"x\":\n%\"\\00\" y", &[(1, Label(b"\"x\"")), (2, Bad)]),
 ];
 
-/// Names and numbers of registers that are written, and the bytes or the number that they are.
+/// Registers as written, and the name or the number that they are.
 const CALLED: [(&[u8], Result<&[u8], u64>); 11] = [
     (b"a.b", Ok(b"a.b")),
     (b"-5", Ok(b"-5")),
@@ -108,7 +108,7 @@ const CALLED: [(&[u8], Result<&[u8], u64>); 11] = [
     (b"18446744073709551616", Err(18446744073709551615)),
 ];
 
-/// Numbers that are written, widths, and what the numbers are there.
+/// Numbers as written, widths, and the values at these widths.
 const CONSTANTS: [(&[u8], u32, Option<u64>); 16] = [
     (b"0", 1, Some(0)),
     (b"-0", 1, Some(0)),
@@ -149,7 +149,7 @@ fn texts_have_their_tokens(rt: HostRuntime) -> Result<(), Fail> {
 /// A kept line, a function and the end, each an entry.
 const ENTRIES: &[u8] = b"declare x ; c\n\ndefine y\n{ z }\n";
 
-/// The tokens of the first entry, and those of the first two.
+/// The tokens of the first entry, and of the first two.
 const FIRST: [(usize, Token); 1] = [(1, Kept(b"declare x ; c"))];
 
 const FIRST_TWO: [(usize, Token); 6] = [
@@ -161,7 +161,7 @@ const FIRST_TWO: [(usize, Token); 6] = [
     (4, Mark(b'}')),
 ];
 
-/// Fails unless the entries are taken in turn, behind those that are there.
+/// Fails unless the entries are read one by one, behind those that are there.
 fn expect_entries(rt: &impl Abort, tokens: &mut Vec<Placed<'static>>) -> Result<(), AllocError> {
     let (reader, are_last) = TokenReader::new(ENTRIES).take_entry(tokens)?;
     assert!(rt; !are_last);

@@ -1,10 +1,10 @@
-//! Modules that are read, cleaned and written.
+//! Modules that are read, cleaned of dead code, and printed.
 
 use alive_top::{OptimiseOptions, Optimised, optimise};
 use ir_parse::parse;
 use std::alloc::Global;
 
-/// A module all of whose instructions are needed, as it is written.
+/// A module without dead code, as it is printed.
 const CANONICAL: &str = r#"source_filename = "a.c"
 target triple = "x"
 
@@ -49,7 +49,7 @@ define i64 @""(i64 %-a.$_9) {
 
 const REPORT: &str = "@f: 0 rewrites\n@\"5\\22\": 0 rewrites\n@\"\": 0 rewrites\n";
 
-/// Texts, and what is written of their modules.
+/// Texts, and their modules as they are printed.
 const ROWS: [(&str, &str); 9] = [
     ("; none\n\n", ""),
     (CANONICAL, CANONICAL),
@@ -136,7 +136,7 @@ attributes #0 = { a }
 ",
     ),
 
-    // Operands that are equal as read, and one entry for two edges.
+    // Operands that are the same though written differently, and one phi entry for two edges.
     (
         "define i8 @f(i1 %c) { br i1 %c, label %a, label %a a: %w = phi i8 [ 255, %0 ], [ -1, %0 ], [ 255, %0 ]
 %x = phi i8 [ undef, %0 ], [ undef, %0 ] %y = phi i1 [ true, %0 ], [ 1, %0 ], [ -1, %0 ]
@@ -156,7 +156,7 @@ a:
 ",
     ),
 
-    // A block that nothing reaches is a predecessor, and reads what is never assigned.
+    // An unreachable block is a predecessor, and reads what is never assigned.
     (
         "define i8 @f() { br label %a a: %y = phi i8 [ 0, %0 ], [ %1, %b ] ret i8 %y
 b: %1 = freeze i8 %2 %2 = freeze i8 %1 br label %a }",
@@ -175,7 +175,7 @@ b:
 ",
     ),
 
-    // Two phis that name each other alone go, and numbers move up.
+    // Two phis that are used by one another alone are dead, and numbers move up.
     (
         "define i8 @f(i8 %0, i1 %1) { br label %3 3: %4 = phi i8 [ %0, %2 ], [ %5, %3 ]
 %5 = phi i8 [ %0, %2 ], [ %4, %3 ] %6 = phi i8 [ %0, %2 ], [ %7, %3 ] %7 = freeze i8 %6
@@ -194,7 +194,7 @@ br i1 %1, label %3, label %8 8: ret i8 %6 }",
 ",
     ),
 
-    // What a switch alone reads stays, and what a phi of another block alone reads.
+    // What only a switch uses is live, and what only a phi of another block uses, too.
     (
         "define i8 @f(i8 %a) { %unread = freeze i8 %a %read = freeze i8 %a %taken = freeze i8 %a
 switch i8 %read, label %b [ i8 1, label %b ] b: %phi = phi i8 [ %taken, %0 ], [ %taken, %0 ] ret i8 %phi }",
@@ -213,7 +213,7 @@ b:
     ),
 ];
 
-/// What `optimise` leaves of a module without rules, if a text is one.
+/// The text that `optimise` prints for a module without rules, if the text is one.
 fn cleaned(alloc: Global, text: &str) -> Option<Optimised> {
     let options = OptimiseOptions {
         conflicts: 0,

@@ -1,4 +1,4 @@
-//! Rules applied to functions that are read: which function comes of it.
+//! Rules applied to functions: the function afterwards.
 
 ghost use Rattle.test_texts.specs.Ready.{FunctionIsReady, RuleIsReady};
 
@@ -27,7 +27,7 @@ const ROWS: [Row; 33] = [
         root: (0, 1),
         applied: Some("define i4 @f(i4 %a) { %1 = xor i4 %a, -1 %2 = sub i4 4, %a ret i4 %2 }"),
     },
-    // In a loop, where the input is a phi that reads the root. The name stays.
+    // In a loop, where the input is a phi that uses the root. The root keeps its name.
     Row {
         rule: MUL_TWO,
         function: "define i8 @f(i8 %n) { entry: br label %l l: %i = phi i8 [ 0, %entry ], [ %k, %l ] %k = mul i8 %i, 2
@@ -38,7 +38,7 @@ const ROWS: [Row; 33] = [
 %c = icmp ult i8 %k, %n br i1 %c, label %l, label %out out: ret i8 %k }",
         ),
     },
-    // One instruction more, unnamed, before the root.
+    // One more, unnamed instruction before the root.
     Row {
         rule: SEL_INC,
         function: "define i4 @f(i1 %c, i4 %a) { %t = add i4 %a, 1 %r = select i1 %c, i4 %a, i4 %t ret i4 %r }",
@@ -47,14 +47,14 @@ const ROWS: [Row; 33] = [
             "define i4 @f(i1 %c, i4 %a) { %t = add i4 %a, 1 %1 = sub i4 %t, 1 %r = select i1 %c, i4 %1, i4 %t ret i4 %r }",
         ),
     },
-    // A flag too many under a temporary that the target names.
+    // One flag too many on a temporary that the target names.
     Row {
         rule: SEL_INC,
         function: "define i4 @f(i1 %c, i4 %a) { %t = add nsw i4 %a, 1 %r = select i1 %c, i4 %a, i4 %t ret i4 %r }",
         root: (0, 1),
         applied: None,
     },
-    // One use.
+    // `hasOneUse`.
     Row {
         rule: NOT_ADD_ONCE,
         function: "define i4 @g(i4 %a) { %1 = xor i4 %a, -1 %2 = add i4 %1, 5 %3 = and i4 %1, %2 ret i4 %3 }",
@@ -69,8 +69,8 @@ const ROWS: [Row; 33] = [
             "define i4 @g(i4 %a) { %1 = xor i4 %a, -1 %2 = sub i4 4, %a %3 = and i4 %1, %2 ret i4 %3 }",
         ),
     },
-    // The root is read in its own block and behind it, by a phi of its own block, and in a block that isn't reached. It
-    // goes.
+    // The root is used in its own block and behind it, by a phi of its own block, and in a block that isn't reached. It
+    // is removed.
     Row {
         rule: ADD_ZERO,
         function: "define i8 @f(i8 %n) { entry: br label %l l: %a = phi i8 [ 1, %entry ], [ %r, %l ] %i = phi i8 [ 0, %entry ], [ %j, %l ]
@@ -90,7 +90,7 @@ b: %x = add i8 %i, %i switch i8 %i, label %b [ i8 1, label %d ] d: %y = phi i8 [
         root: (1, 0),
         applied: None,
     },
-    // The root is `poison`, and a number that a constant term gives.
+    // The root becomes `poison`, and a number that a constant term gives.
     Row {
         rule: ADD_ZERO,
         function: "define i8 @f(i1 %c) { %r = add i8 poison, 0 %s = freeze i8 %r ret i8 %s }",
@@ -105,7 +105,7 @@ b: %x = add i8 %i, %i switch i8 %i, label %b [ i8 1, label %d ] d: %y = phi i8 [
             "define i8 @f(i8 %a) { e: %t = or i8 %a, 12 br label %l l: %p = phi i8 [ 8, %e ] ret i8 %p }",
         ),
     },
-    // Copies in the target, of an input and of what is put, and the places behind the root in all blocks.
+    // Copies in the target, of an input and of an inserted instruction, and the places behind the root in all blocks.
     Row {
         rule: "Name: copies\n%r = add %x, %y\n=>\n%u = %x\n%v = sub 0, %y\n%w = %v\n%s = xor %w, -1\n%r = sub %u, %w\n",
         function: "define i8 @f(i8 %a, i8 %b) { e: %p = mul i8 %a, %a %r = add i8 %p, %b %q = mul i8 %r, %p %z = mul i8 %q, %r br label %l
@@ -116,14 +116,14 @@ l: %x = phi i8 [ %z, %e ], [ %q, %l ] %c = icmp eq i8 %q, %x br i1 %c, label %l,
 %z = mul i8 %q, %r br label %l l: %x = phi i8 [ %z, %e ], [ %q, %l ] %c = icmp eq i8 %q, %x br i1 %c, label %l, label %o o: ret i8 %z }",
         ),
     },
-    // The root is a copy of what is put, which stays without a name.
+    // The root is a copy of an inserted instruction, which stays unnamed.
     Row {
         rule: "Name: copied\n%r = add %x, C\n=>\n%u = sub %x, -C\n%r = %u\n",
         function: "define i8 @f(i8 %a) { %r = add nsw i8 %a, 3 %s = mul i8 %r, %r ret i8 %s }",
         root: (0, 0),
         applied: Some("define i8 @f(i8 %a) { %1 = sub i8 %a, -3 %s = mul i8 %1, %1 ret i8 %s }"),
     },
-    // And of a temporary of the source.
+    // The root is a copy of a temporary of the source.
     Row {
         rule: "Name: twice\n%t = xor %x, -1\n%u = xor %t, -1\n%r = xor %u, -1\n=>\n%r = %t\n",
         function: "define i8 @f(i8 %a) { %x = xor i8 %a, -1 %y = xor i8 %x, -1 %z = xor i8 %y, -1 %1 = add i8 %z, %y ret i8 %1 }",
@@ -132,7 +132,7 @@ l: %x = phi i8 [ %z, %e ], [ %q, %l ] %c = icmp eq i8 %q, %x br i1 %c, label %l,
             "define i8 @f(i8 %a) { %x = xor i8 %a, -1 %y = xor i8 %x, -1 %1 = add i8 %x, %y ret i8 %1 }",
         ),
     },
-    // An `undef`, at which nothing is bound, and `true`.
+    // An `undef`, to which nothing is bound, and `true`.
     Row {
         rule: "Name: undef\nWit: 0\n%r = and %x, undef\n=>\n%r = and undef, undef\n",
         function: "define i8 @f(i8 %a) { %r = and i8 %a, undef ret i8 %r }",
@@ -145,7 +145,7 @@ l: %x = phi i8 [ %z, %e ], [ %q, %l ] %c = icmp eq i8 %q, %x br i1 %c, label %l,
         root: (0, 0),
         applied: Some("define i1 @f(i1 %a) { %r = xor i1 false, true ret i1 %r }"),
     },
-    // Casts and comparisons, at the widths that are met.
+    // Casts and comparisons, at the widths of the match.
     Row {
         rule: ZEXT_TWICE,
         function: "define i32 @f(i8 %a) { %x = zext i8 %a to i16 %y = zext i16 %x to i32 ret i32 %y }",
@@ -162,7 +162,7 @@ l: %x = phi i8 [ %z, %e ], [ %q, %l ] %c = icmp eq i8 %q, %x br i1 %c, label %l,
             "define i4 @f(i4 %a, i4 %b) { %c = icmp eq i4 %a, 9 %1 = icmp ne i4 %a, 9 %r = select i1 %1, i4 %a, i4 %b ret i4 %r }",
         ),
     },
-    // A freeze that is put, one that is matched, of `poison` too, and one that goes with its root.
+    // A freeze that is inserted, one that is matched, also of `poison`, and one that is removed with its root.
     Row {
         rule: SEL_FREEZE,
         function: "define i1 @f(i1 %c, i1 %y) { %r = select i1 %c, i1 %y, i1 false ret i1 %r }",
@@ -191,7 +191,7 @@ l: %x = phi i8 [ %z, %e ], [ %q, %l ] %c = icmp eq i8 %q, %x br i1 %c, label %l,
         root: (0, 0),
         applied: Some("define i8 @f() { ret i8 5 }"),
     },
-    // Nothing is bound to `undef`, and a freeze matches no other instruction.
+    // No input or constant is bound to `undef`, and a freeze matches no other instruction.
     Row {
         rule: REFREEZE,
         function: "define i8 @f() { %r = freeze i8 undef ret i8 %r }",
@@ -204,7 +204,7 @@ l: %x = phi i8 [ %z, %e ], [ %q, %l ] %c = icmp eq i8 %q, %x br i1 %c, label %l,
         root: (0, 0),
         applied: None,
     },
-    // Intrinsics that are matched and put: of two operands, and of one with its truth value.
+    // Intrinsics that are matched and inserted: of two operands, and of one with its truth value.
     Row {
         rule: "Version: 2\nName: to-umin\n%c = icmp ult %x, %y\n%r = select %c, %x, %y\n=>\n%r = umin %x, %y\n",
         function: "define i8 @f(i8 %a, i8 %b) { %c = icmp ult i8 %a, %b %r = select i1 %c, i8 %a, i8 %b ret i8 %r }",
@@ -235,7 +235,7 @@ l: %x = phi i8 [ %z, %e ], [ %q, %l ] %c = icmp eq i8 %q, %x br i1 %c, label %l,
             "define i8 @f(i8 %a) { %n = sub i8 0, %a %r = call i8 @llvm.abs.i8(i8 %a, i1 false)\nret i8 %r }",
         ),
     },
-    // The root has at least the statement's truth value, and no other intrinsic is it.
+    // The root has the statement's truth value or one more; and it is no other intrinsic.
     Row {
         rule: "Version: 2\nName: abs-abs\n%r = abs minpoison %x\n=>\n%r = abs %x\n",
         function: "define i8 @f(i8 %a) { %r = call i8 @llvm.abs.i8(i8 %a, i1 false)\nret i8 %r }",
@@ -248,7 +248,7 @@ l: %x = phi i8 [ %z, %e ], [ %q, %l ] %c = icmp eq i8 %q, %x br i1 %c, label %l,
         root: (0, 0),
         applied: None,
     },
-    // A temporary has exactly the statement's where the target names one, and else at least that.
+    // A temporary has exactly the statement's truth value where the target names one, and else it or one more.
     Row {
         rule: TZ_READ,
         function: "define i8 @f(i8 %a) { %t = call i8 @llvm.cttz.i8(i8 %a, i1 true)\n%r = add i8 %t, 1 ret i8 %r }",
@@ -279,7 +279,7 @@ l: %x = phi i8 [ %z, %e ], [ %q, %l ] %c = icmp eq i8 %q, %x br i1 %c, label %l,
     },
 ];
 
-/// Applies a rule at a place of a block, if it matches there.
+/// Applies a rule at an instruction, if it matches there.
 fn apply_there(
     alloc: Global,
     f: &mut Function,
@@ -297,12 +297,12 @@ fn apply_there(
     Ok(true)
 }
 
-/// All that a function holds.
+/// The whole function as a text.
 fn shown(alloc: Global, f: &Function) -> Result<String, Unfit> {
     Ok(format!(in alloc; "{f:?}")?)
 }
 
-/// All that a function holds where a rule has been applied, or nothing if the rule doesn't match there.
+/// The whole function as a text, after the rule was applied, or nothing where it doesn't match.
 fn applied_in(
     alloc: Global,
     f: &mut Function,
@@ -319,7 +319,7 @@ fn applied_in(
     }
 }
 
-/// The same of the function of a row.
+/// The same for the function of a row.
 fn applied_by(alloc: Global, row: &Row, rule: &Rule) -> Result<String, Unfit>
     requires { RuleIsReady rule.now }
 {
@@ -327,13 +327,13 @@ fn applied_by(alloc: Global, row: &Row, rule: &Rule) -> Result<String, Unfit>
     applied_in(alloc, &mut f, rule, row.root)
 }
 
-/// The same of the function and the rule of a row.
+/// The same for the function and the rule of a row.
 fn applied(alloc: Global, row: &Row) -> Result<String, Unfit> {
     let rule = rule_of(alloc, row.rule)?;
     applied_by(alloc, row, &rule)
 }
 
-/// All that the expected function holds, or nothing if there is none.
+/// The expected function as a text, or nothing if there is none.
 fn expected(alloc: Global, row: &Row) -> Result<String, Unfit> {
     let Some(text) = row.applied else {
         return Ok(String::new(alloc));
@@ -341,7 +341,7 @@ fn expected(alloc: Global, row: &Row) -> Result<String, Unfit> {
     shown(alloc, &function_of(alloc, text)?)
 }
 
-/// Whether the function that comes of it is the expected one.
+/// Whether the function afterwards is the expected one.
 fn is_expected(alloc: Global, row: &Row) -> Result<bool, Unfit> {
     let found = applied(alloc, row)?;
     let expected = expected(alloc, row)?;

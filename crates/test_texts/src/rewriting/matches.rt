@@ -20,8 +20,8 @@ enum Given {
     Poison,
 }
 
-/// A match: its block and place, the places of its statements' instructions, what its inputs and constants are bound
-/// to, and the widths of its classes.
+/// A match: its block and the place of its root, the places of its statements' instructions, what its inputs and
+/// constants are bound to, and the widths of its classes.
 struct Match {
     at: (u32, u32),
     statements: &'static [u32],
@@ -103,13 +103,13 @@ const ROWS: [Row; 31] = [
             widths: &[4, 1],
         }],
     },
-    // A flag too many under a temporary that the target names.
+    // One flag too many on a temporary that the target names.
     Row {
         rule: SEL_INC,
         function: "define i4 @f(i1 %c, i4 %a) { %t = add nsw i4 %a, 1 %r = select i1 %c, i4 %a, i4 %t ret i4 %r }",
         matches: &[],
     },
-    // A flag too many where the target names no temporary.
+    // One flag too many where the target names no temporary.
     Row {
         rule: NOT_ADD,
         function: "define i4 @f(i4 %a) { %1 = xor i4 %a, -1 %2 = add nuw nsw i4 %1, 5 ret i4 %2 }",
@@ -121,7 +121,7 @@ const ROWS: [Row; 31] = [
             widths: &[4],
         }],
     },
-    // A flag too many under a temporary of which the target names the width alone, as an operand's or a copy's.
+    // One flag too many on a temporary of which the target names only the width, in an operand or a copy.
     Row {
         rule: ADD_WIDTHS,
         function: "define i8 @f(i8 %a) { %t = add nsw i8 %a, 1 %r = sub i8 %t, 1 ret i8 %r }",
@@ -143,7 +143,7 @@ const ROWS: [Row; 31] = [
         function: "define i8 @f(i8 %a) { %t = add nsw i8 %a, 1 %r = sub i8 %t, %t ret i8 %r }",
         matches: &[],
     },
-    // In the precondition it may have more flags, and under the width of an input too.
+    // With the width named in the precondition, or that of an input named, more flags are allowed.
     Row {
         rule: "Name: ask-width\nPre: width(%t) u> C\n%t = add %x, C\n%r = sub %t, C\n=>\n%r = add %x, width(%x) - width(%x)\n",
         function: "define i8 @f(i8 %a) { %t = add nsw i8 %a, 1 %r = sub i8 %t, 1 ret i8 %r }",
@@ -155,7 +155,7 @@ const ROWS: [Row; 31] = [
             widths: &[8],
         }],
     },
-    // A flag too few.
+    // One flag too few.
     Row {
         rule: "Name: nsw\n%r = add nsw %x, 1\n=>\n%r = sub nsw %x, -1\n",
         function: "define i8 @f(i8 %a) { %1 = add nuw i8 %a, 1 %2 = add nuw nsw i8 %1, 1 ret i8 %2 }",
@@ -167,7 +167,7 @@ const ROWS: [Row; 31] = [
             widths: &[8],
         }],
     },
-    // One use: named twice, by two instructions.
+    // `hasOneUse`, of a result that two instructions use.
     Row {
         rule: NOT_ADD_ONCE,
         function: "define i4 @g(i4 %a) { %1 = xor i4 %a, -1 %2 = add i4 %1, 5 %3 = and i4 %1, %2 ret i4 %3 }",
@@ -195,7 +195,7 @@ const ROWS: [Row; 31] = [
             widths: &[4],
         }],
     },
-    // Named twice by one instruction, and once more in a block that isn't reached.
+    // A result that one instruction uses twice, and one that is used once more in a block that isn't reached.
     Row {
         rule: "Name: twice\nPre: hasOneUse(%t)\n%t = xor %x, -1\n%r = add %t, %t\n=>\n%r = mul %t, 2\n",
         function: "define i4 @g(i4 %a) { %1 = xor i4 %a, -1 %2 = add i4 %1, %1 ret i4 %2 }",
@@ -223,7 +223,7 @@ const ROWS: [Row; 31] = [
         function: "define i4 @f(i4 %a) { %x = xor i4 %a, -1 %y = add i4 %x, undef ret i4 %y }",
         matches: &[],
     },
-    // `undef` for `undef`.
+    // `undef` where the rule has `undef`.
     Row {
         rule: AND_UNDEF,
         function: "define i4 @f(i4 %a) { %x = and i4 %a, undef %y = and i4 %x, 0 ret i4 %y }",
@@ -235,7 +235,7 @@ const ROWS: [Row; 31] = [
             widths: &[4],
         }],
     },
-    // -1 is 255 at i8, and isn't at i16.
+    // The literal -1 is 255 at i8, but not at i16.
     Row {
         rule: AND_ONES,
         function: "define i8 @f(i8 %a) { %x = and i8 %a, 255 ret i8 %x }",
@@ -252,7 +252,7 @@ const ROWS: [Row; 31] = [
         function: "define i16 @f(i16 %a) { %x = and i16 %a, 255 ret i16 %x }",
         matches: &[],
     },
-    // Two operands `poison` are equal, and so are two equal numbers.
+    // Two operands `poison` are equal operands, and so are two equal numbers.
     Row {
         rule: XOR_SELF,
         function: "define i4 @f(i4 %a) { %x = xor i4 poison, poison %y = xor i4 3, 3 %z = xor i4 %a, %x ret i4 %z }",
@@ -273,13 +273,13 @@ const ROWS: [Row; 31] = [
             },
         ],
     },
-    // A literal in place of a register isn't looked through, and operands aren't commuted.
+    // A literal operand does not match a register of the source, and operands are not commuted.
     Row {
         rule: ADD_ZERO,
         function: "define i4 @f(i4 %a) { %x = add i4 0, %a ret i4 %x }",
         matches: &[],
     },
-    // A constant that is met at two numbers, and at one.
+    // A constant at two different numbers, and at one.
     Row {
         rule: "Name: and-and\n%t = and %x, C\n%r = and %t, C\n=>\n%r = and %x, C\n",
         function: "define i4 @f(i4 %a) { %x = and i4 %a, 3 %y = and i4 %x, 5 %z = and i4 %y, 5 ret i4 %z }",
@@ -291,7 +291,7 @@ const ROWS: [Row; 31] = [
             widths: &[4],
         }],
     },
-    // A constant that is met at one width, and at two.
+    // A constant at one width, and at two.
     Row {
         rule: MET,
         function: "define i8 @f(i8 %a, i8 %b) { %c = icmp eq i8 %a, 7 %x = select i1 %c, i8 %b, i8 7 ret i8 %x }",
@@ -320,7 +320,7 @@ const ROWS: [Row; 31] = [
             widths: &[8],
         }],
     },
-    // Casts, and a width that the target alone has.
+    // Casts, and a width that only the target has.
     Row {
         rule: ZEXT_TWICE,
         function: "define i32 @f(i8 %a) { %x = zext i8 %a to i16 %y = zext i16 %x to i32 %z = sext i16 %x to i32 ret i32 %y }",
@@ -351,7 +351,7 @@ const ROWS: [Row; 31] = [
     },
 ];
 
-/// Adds the bindings with which a rule matches in a block, in order.
+/// Appends the bindings with which a rule matches in a block, in order.
 fn push_in_block(
     alloc: Global,
     f: &Function,
@@ -382,7 +382,7 @@ fn matches_in(alloc: Global, f: &Function, rule: &Rule) -> Result<Vec<Binding>, 
     Ok(found)
 }
 
-/// The same in the function of a text.
+/// The same for the function of a text.
 fn matches_in_text(alloc: Global, rule: &Rule, function: &str) -> Result<Vec<Binding>, Unfit>
     requires { RuleIsReady rule.now }
 {
@@ -390,7 +390,7 @@ fn matches_in_text(alloc: Global, rule: &Rule, function: &str) -> Result<Vec<Bin
     matches_in(alloc, &f, rule)
 }
 
-/// The same of the rule of a text.
+/// The same for the rule of a text.
 fn matches_of(alloc: Global, rule: &str, function: &str) -> Result<Vec<Binding>, Unfit> {
     let rule = rule_of(alloc, rule)?;
     matches_in_text(alloc, &rule, function)

@@ -57,7 +57,7 @@ fn module_of(alloc: Global, text: &str) -> Result<Module, Unfit>
     }
 }
 
-/// Reads a module, whose parts have the forms that a text gives them.
+/// Reads a module; its parts have the forms of a text.
 fn read_formed(alloc: Global, bytes: &[u8]) -> Result<Module, IrError>
     ensures checks { IfOk result ModuleMeetsChecks }
     ensures forms { IfOk result ModuleHasForms }
@@ -126,7 +126,7 @@ fn has_few(f: &Function) -> bool
             .all(|b| b.insts.len() < (1 << 32) - 32)
 }
 
-/// Whether an instruction stands at a place of a block.
+/// Whether there is an instruction at this place of a block.
 fn has_inst(f: &Function, block: u32, place: u32) -> bool
     ensures { IsTrue result → HasInst f.now block place }
 {
@@ -136,7 +136,7 @@ fn has_inst(f: &Function, block: u32, place: u32) -> bool
     }
 }
 
-/// The binding with which a rule matches at a place of a block, if an instruction stands there.
+/// The binding with which a rule matches at a place of a block, if there is an instruction.
 pub(crate) fn match_there(
     alloc: Global,
     f: &Function,

@@ -1,4 +1,4 @@
-//! What is told to have changed where rules are applied to functions that are read, and where one is cleaned.
+//! What is reported to have changed where a rule is applied to a function, or its dead code is eliminated.
 
 ghost use Rattle.test_texts.specs.Ready.{FunctionIsReady, RuleIsReady};
 ghost use Rattle.use_counts.specs.Tables.{AreCounts};
@@ -12,15 +12,16 @@ use std::alloc::Global;
 use std::test::Fail;
 use use_counts::{Uses, count_uses, uses_of};
 
-/// A function, the rule that is applied to it, with the block and the place of its root, and what is told then. Without
-/// a rule the function is cleaned.
+/// A function, the rule that is applied to it with the block and the place of the root, and the report. Without a rule
+/// dead code is eliminated.
 struct Row {
     rule: Option<(&'static str, u32, u32)>,
     function: &'static str,
     told: Told,
 }
 
-/// By block and place what went, came and changed, and how often the first parameter is used then.
+/// By block and place the instructions that went, came and changed, and how often the first parameter is used
+/// afterwards.
 struct Told {
     went: &'static [(u32, u32)],
     came: &'static [(u32, u32)],
@@ -39,7 +40,7 @@ const ROWS: [Row; 5] = [
             uses: 2,
         },
     },
-    // What reads the root reads it at another place.
+    // A user of the root that moves to another place.
     Row {
         rule: Some((SEL_INC, 0, 1)),
         function: "define i4 @f(i1 %c, i4 %a) { %t = add i4 %a, 1 %r = select i1 %c, i4 %a, i4 %t
@@ -51,7 +52,7 @@ const ROWS: [Row; 5] = [
             uses: 1,
         },
     },
-    // It is read in two blocks and by a phi; %u reads what moved.
+    // The root is used in two blocks and by a phi; %u uses an instruction that moves.
     Row {
         rule: Some((ADD_ZERO, 0, 0)),
         function: "define i8 @f(i8 %a, i1 %c) { entry: %r = add i8 %a, 0 %s = mul i8 %r, %a br i1 %c, label %l, label %m
@@ -63,7 +64,7 @@ l: %t = xor i8 %r, %r br label %m m: %p = phi i8 [ %r, %entry ], [ %t, %l ] %u =
             uses: 5,
         },
     },
-    // What is copied is put.
+    // A copy of an inserted instruction.
     Row {
         rule: Some((
             "Name: mul-four\n%r = mul %x, 4\n=>\n%t = shl %x, 1\n%u = shl %t, 1\n%r = %u\n",
@@ -78,7 +79,7 @@ l: %t = xor i8 %r, %r br label %m m: %p = phi i8 [ %r, %entry ], [ %t, %l ] %u =
             uses: 2,
         },
     },
-    // In a loop two instructions that only read each other, and what they alone read.
+    // In a loop two instructions that only use one another, and what only they use.
     Row {
         rule: None,
         function: "define i8 @f(i8 %n) { entry: %d = add i8 %n, 1 br label %l l: %i = phi i8 [ %n, %entry ], [ %k, %l ]
@@ -93,7 +94,7 @@ br i1 %c, label %l, label %out out: ret i8 %k }",
     },
 ];
 
-/// Applies a rule at a place of a block, where it matches there.
+/// Applies a rule at an instruction, where it matches.
 fn apply_there(
     alloc: Global,
     f: &mut Function,
@@ -112,7 +113,7 @@ fn apply_there(
     Ok(apply_at(alloc, f, &binding, rule, uses)?)
 }
 
-/// What is told where a rule is applied to a function, or the function is cleaned.
+/// The report where a rule is applied to a function, or dead code is eliminated.
 fn told_in(
     alloc: Global,
     f: &mut Function,
@@ -129,7 +130,7 @@ fn told_in(
     apply_there(alloc, f, block, place, &rule, uses)
 }
 
-/// What is told in the function of a row, and how often registers are used then.
+/// The report on the function of a row, and the counts of uses afterwards.
 fn told_with(alloc: Global, row: &Row, f: &mut Function) -> Result<(Changes, Uses), Unfit>
     requires { FunctionIsReady f.old }
 {
@@ -138,13 +139,13 @@ fn told_with(alloc: Global, row: &Row, f: &mut Function) -> Result<(Changes, Use
     Ok((changes, uses))
 }
 
-/// What is told at a row, and how often registers are used then.
+/// The report on a row, and the counts of uses afterwards.
 fn told_at(alloc: Global, row: &Row) -> Result<(Changes, Uses), Unfit> {
     let mut f = function_of(alloc, row.function)?;
     told_with(alloc, row, &mut f)
 }
 
-/// Whether that is told.
+/// Whether the report is the expected one.
 fn is_told(changes: &Changes, uses: &Uses, told: &Told) -> bool {
     changes.went.as_slice() == told.went
         && changes.came.as_slice() == told.came

@@ -7,13 +7,13 @@ use std::alloc::Global;
 use std::test::Fail;
 use use_counts::{Uses, count_uses, uses_of};
 
-/// A loop, with a phi that names a parameter and a later result, an instruction that names one result twice, and
-/// terminators that name results.
+/// A loop, with a phi that uses a parameter and a later result, an instruction that uses one result twice, and
+/// terminators that use results.
 const LOOP: &str =
     "define i8 @f(i8 %n, i8 %z) { entry: br label %l l: %i = phi i8 [ %n, %entry ], [ %k, %l ] %k = mul i8 %i, %i
 %d = add i8 %k, %n %c = icmp ult i8 %k, %n br i1 %c, label %l, label %out out: ret i8 %k }";
 
-/// Its registers, three that it hasn't, and how often each is used.
+/// Registers, three of which the function does not have, and how often each is used.
 const COUNTS: [(Register, usize); 9] = [
     (Register::Parameter(0), 3),
     (Register::Parameter(1), 0),

@@ -11,7 +11,7 @@ use std::alloc::Global;
 use std::process::Abort;
 use std::test::Fail;
 
-/// A source, a target, and the classes of the results, operands and nodes in order.
+/// A source, a target, and the classes of results, operands and nodes, in order.
 const ROWS: [(&str, &str, &[u32]); 7] = [
     ("%r = add i4 %x, 1", "%r = %x", &[0, 0, 0, 0, 0]),
     ("%r = zext %x", "%r = sext %x", &[0, 1, 0, 1]),
@@ -21,13 +21,14 @@ const ROWS: [(&str, &str, &[u32]); 7] = [
         &[0, 1, 2, 1, 1, 0, 2],
     ),
     ("%r = select true, %x, 1", "%r = %x", &[0, 1, 0, 0, 0, 0]),
-    // the register that `width` measures has a position of its own
+    // the register in `width( )` is a position of its own
     (
         "%c = icmp eq %x, 0\n%r = and %c, C",
         "%r = and %c, C+width(%x)",
         &[0, 1, 1, 0, 0, 0, 0, 0, 0, 0, 0, 1, 0],
     ),
-    // a freeze has the class of its operand, and `Wit:` that of the choices that it names and makes
+    // a freeze is of its operand's class, and an expression of `Wit:` of the classes of the choices that it reads and
+    // makes
     (
         "%r = icmp eq %x, %y",
         "%f = freeze %x\n%r = icmp eq %f, %y",
@@ -59,7 +60,7 @@ fn rule_with(alloc: Global, source: &str, target: &str) -> Result<Rule, Unfit>
     only_rule(alloc, text.as_str())
 }
 
-/// Looks at the classes of a rule.
+/// Compares the classes of a rule.
 fn are_classes(rt: &impl Abort, rule: &Rule, classes: &[u32])
     requires { IsRule rule.now }
 {

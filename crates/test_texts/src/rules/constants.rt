@@ -1,6 +1,5 @@
-//! Rules with constants, preconditions, constant terms and `undef`. Those with a counterexample were worked out by
-//! hand, and have one alone; the verdicts on the others are those of a program apart from this one, which enumerated
-//! their settings.
+//! Rules with constants, preconditions, constant terms and `undef`. The refuted ones were worked out by hand, and have
+//! one counterexample each; the verdicts on the others are those of a separate program that enumerated all settings.
 
 use super::verdicts::lines;
 use std::test::Fail;
@@ -59,14 +58,14 @@ const ROWS: [(&str, u32, u32, &str); 20] = [
         1,
         "and-not [1]: witness fails\n  %x = 1\n  C = 1\n  t1 = 1\n  u1 = 1\n  source 0\n  target 1\n",
     ),
-    // a quotient by 0 has no value, so that 0 is chosen, which is what `and` gives
+    // a division by 0 has no value, so 0 is chosen, which is what `and` gives
     (
         "Name: no-quotient\nWit: %x /u t1\n%r = xor %x, undef\n=>\n%a = and %x, undef\n%r = xor %x, %a\n",
         1,
         1,
         "no-quotient [1]: admitted\n",
     ),
-    // an input that is poison counts as 0 in `Wit:`, so that 1 is chosen there too
+    // an input that is poison counts as 0 in `Wit:`, so 1 is chosen there, too
     (
         "Name: poison-as-0\nWit: %x | 1\n%r = select %c, undef, %x\n=>\n%r = select %c, 1, %x\n",
         1,

@@ -7,7 +7,7 @@ use std::test::Fail;
 
 /// A rule of version 2, the least and the greatest of the widths, and the lines of the verdicts.
 const ROWS: [(&str, u32, u32, &str); 32] = [
-    // a choice by a comparison is the smaller or the larger number, and back
+    // a `select` by a comparison is the minimum or the maximum, and the other way round
     (
         "Name: to-umin\n%c = icmp ult %x, %y\n%r = select %c, %x, %y\n=>\n%r = umin %x, %y\n",
         1,
@@ -38,7 +38,7 @@ const ROWS: [(&str, u32, u32, &str); 32] = [
         3,
         "to-smax [1 3]: admitted\n",
     ),
-    // of one bit 1 is -1 as a signed number
+    // at one bit, 1 is -1 as a signed number
     (
         "Name: bits\n%r = smin i1 %x, %y\n=>\n%r = or %x, %y\n",
         1,
@@ -57,7 +57,7 @@ const ROWS: [(&str, u32, u32, &str); 32] = [
         1,
         "wrong-sign [1]: refuted\n",
     ),
-    // a poison operand that is not the smaller one is still poison, and an arm that is not chosen is not
+    // a poison operand makes poison even where it isn't the smaller one, but an arm that is not chosen doesn't
     (
         "Name: strict\n%c = icmp ult i1 %x, %y\n%r = select %c, %x, %y\n=>\n%r = umin %y, %x\n",
         1,
@@ -214,7 +214,7 @@ const FAULTS: [(&str, usize, &str); 22] = [
     ("Name: r\n%r = abs(%x)\n=>\n%r = %x\n", 2, "LeftOut"),
     ("Name: r\n%r = or %x, 0\n=>\n%r = abs %x\n", 4, "Syntax"),
     ("Name: r\n%r = or %x, 0\n=>\n%r = ctpop %x\n", 4, "LeftOut"),
-    // flags: another one's, one that is repeated, and one where there is none
+    // flags: of another intrinsic, repeated, and where there is none
     (
         "Version: 2\nName: r\n%r = umin nuw %x, %y\n=>\n%r = %x\n",
         3,
@@ -245,7 +245,7 @@ const FAULTS: [(&str, usize, &str); 22] = [
         3,
         "LeftOut",
     ),
-    // how many operands there are, and types before the second
+    // the number of operands, and types before the second
     (
         "Version: 2\nName: r\n%r = umin %x\n=>\n%r = %x\n",
         3,
@@ -283,13 +283,13 @@ const FAULTS: [(&str, usize, &str); 22] = [
         5,
         "Syntax",
     ),
-    // a byte that may not stand behind `abs` is told behind it
+    // a byte that may not stand behind `abs` is the fault, and not `abs`
     (
         "Version: 2\nName: r\n%r = abs\u{1}(%x)\n=>\n%r = %x\n",
         3,
         "BadByte",
     ),
-    // the operand is of the result's class, and an `undef` stands in the root alone
+    // the operand is of the result's class, and an `undef` may stand in the root's statement alone
     (
         "Version: 2\nName: r\n%r = ctpop i4 %x\n=>\n%r = i8 %x\n",
         2,
@@ -304,7 +304,7 @@ const FAULTS: [(&str, usize, &str); 22] = [
 
 /// Texts that are rule files of one rule.
 const FILES: [&str; 8] = [
-    // version 1 knows the function alone, with a blank before its parenthesis or without
+    // version 1 has only the function, with a blank before its parenthesis or without
     "Name: r\n%r = or %x, C\n=>\n%r = abs (C)\n",
     "Name: r\n%r = or %x, C\n=>\n%r = abs(C)\n",
     // a parenthesis behind a blank begins an operand, and a term goes on behind the function
@@ -343,7 +343,7 @@ fn files_with_intrinsics_are_read(rt: HostRuntime) {
     }
 }
 
-/// A rule of version 2 with so many members in its `Pre:`, and this in its target.
+/// A rule of version 2 with so many members in its `Pre:`, and this operation in its target.
 fn with_members(alloc: Global, count: u32, target: &str) -> Result<String, AllocError> {
     let mut text = format!(in alloc; "Version: 2\nName: r\nPre: C == 1")?;
     for _ in 1..count {
@@ -354,7 +354,7 @@ fn with_members(alloc: Global, count: u32, target: &str) -> Result<String, Alloc
     Ok(text)
 }
 
-/// What is told of a rule with 63 members in its `Pre:`, and this in its target.
+/// The verdicts or the fault for a rule with 63 members in its `Pre:`, and this operation in its target.
 fn told_with_members(
     alloc: Global,
     target: &str,

@@ -1,13 +1,13 @@
-//! Rules of one statement over each opcode and flag. Their classes and verdicts were worked out by hand, and a program
-//! apart from this one enumerated their settings: each refuted rule has one counterexample.
+//! Rules of one statement over each opcode and flag. Classes and verdicts were worked out by hand, and a separate
+//! program enumerated all settings: each refuted rule has one counterexample.
 
 use super::verdicts::lines;
 use crate::unfit::Unfit;
 use std::alloc::Global;
 use std::test::Fail;
 
-// The lines of rules that are admitted at each typing of widths from 1 to 4: all of one class; a result of one bit; a
-// condition of one bit; a result narrower than its operand, and one that is wider.
+// The lines of rules that are admitted at all typings over widths 1 to 4: with one class; with a result of one bit;
+// with a condition of one bit; with a result that is narrower than the operand; and with a wider one.
 const ONE: &str = "r [1]: admitted\nr [2]: admitted\nr [3]: admitted\nr [4]: admitted\n";
 
 const COMPARED: &str =
@@ -21,7 +21,7 @@ const NARROWED: &str =
 const WIDENED: &str =
     "r [2 1]: admitted\nr [3 1]: admitted\nr [3 2]: admitted\nr [4 1]: admitted\nr [4 2]: admitted\nr [4 3]: admitted\n";
 
-/// What the source computes, what the target computes, and the lines of the verdicts.
+/// The source's operation, the target's operation, and the lines of the verdicts.
 const ROWS: [(&str, &str, &str); 58] = [
     ("add %x, %y", "add %y, %x", ONE),
     ("add nuw %x, %y", "add %x, %y", ONE),

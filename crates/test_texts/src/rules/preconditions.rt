@@ -1,5 +1,5 @@
-//! Preconditions and constant terms as they are read, at constants of eight bits. What they come to was worked out by
-//! hand.
+//! Preconditions and constant terms as the reader gives them, at constants of eight bits. The results were worked out
+//! by hand.
 ghost use Rattle.std.specs.Prelude.{◌≡◌, ◌<◌, ◌↔◌, [], ◌∷◌, length, IsTrue, IfOk, IfSome, All};
 ghost use Rattle.ops.specs.Value.{IsValueOf};
 ghost use Rattle.verdict.specs.Findings.{IsReadRule};
@@ -13,9 +13,9 @@ use rule_core::{Argument, Op, Rule, Typing};
 use rule_typing::is_typing;
 use std::alloc::{AllocError, Global};
 
-/// A precondition, a term, the constants `C1`, `C2` and `C`, whether the precondition holds, and what the term gives.
+/// A precondition, a term, the constants `C1`, `C2` and `C`, whether the precondition holds, and the term's value.
 const ROWS: [(&str, &str, [u64; 3], bool, Option<u64>); 40] = [
-    // terms, of which each operator binds as it is written in the grammar
+    // terms; each operator binds as the grammar says
     ("C1 == C1", "C1 + C2 * 2", [3, 5, 0], true, Some(13)),
     ("C1 == C1", "(C1 + C2) * 2", [3, 5, 0], true, Some(16)),
     ("C1 == C1", "C1 - C2 - 1", [10, 4, 0], true, Some(5)),
@@ -113,7 +113,7 @@ fn words(alloc: Global, width: Width, numbers: &[u64]) -> Result<List<Word>, All
     Ok(words)
 }
 
-/// Whether the rule has a node of this place in its terms.
+/// Whether the rule has a node at this place among its terms.
 fn is_node(rule: &Rule, node: u32) -> bool
     ensures { IsTrue result ↔ (node < length rule.now.terms) }
 {

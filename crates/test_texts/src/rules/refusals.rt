@@ -1,11 +1,11 @@
-//! Rule files at and past the limits of nodes and nesting, and words that are told as `Syntax`: the kind and the line
+//! Rule files at and beyond the limits of nodes and nesting, and words whose fault is `Syntax`: the kind and the line
 //! of the first fault, worked out by hand.
 
 use rule_reader::{RuleError, RuleFault, RuleFaultKind, read_rules};
 use std::alloc::{AllocError, Global};
 
 /// How many comparisons of two numbers `Pre:` has, the text behind them, and the line and the kind of the first fault.
-/// They are three nodes each, and each `&&` between two is one.
+/// A comparison is three nodes, and each `&&` between two is one.
 const ROWS: [(u32, &str, usize, &str); 23] = [
     // behind 256 nodes
     (64, "\n%t = trunc %x\n%u = true\n", 4, "LeftOut"),
@@ -26,7 +26,7 @@ const ROWS: [(u32, &str, usize, &str); 23] = [
         6,
         "Syntax",
     ),
-    // words that are no others
+    // words whose fault is not `LeftOut`
     (1, "\n%r = add nuw nuw %x, 0\n", 3, "Syntax"),
     (1, "\n%r = or disjoint disjoint %x, 0\n", 3, "Syntax"),
     (1, "\n%r = icmp samesign samesign ult %x, 0\n", 3, "Syntax"),
@@ -38,7 +38,8 @@ const ROWS: [(u32, &str, usize, &str); 23] = [
     (1, "\n%r = hasOneUse\n", 3, "Syntax"),
     (1, "\n%r = or %x, hasOneUse(%x)\n", 3, "Syntax"),
     (1, "\n%r = isPowerOf2\n", 3, "LeftOut"),
-    // behind 32 `(`: a function's parenthesis and a sign nest, its word does not
+    // behind 32 `(`: the parenthesis of a function and a unary operator open one more level, the function's word does
+    // not
     (
         1,
         "\n%r = or %x, C\n=>\n%r = ((((((((((((((((((((((((((((((((log2(C)\n",
@@ -65,7 +66,7 @@ const ROWS: [(u32, &str, usize, &str); 23] = [
     ),
 ];
 
-/// Adds a rule with so many comparisons in `Pre:`, and the text behind them.
+/// Appends a rule with so many comparisons in `Pre:`, and the text behind them.
 fn push_rule(text: &mut String, comparisons: u32, rest: &str) -> Result<(), AllocError> {
     text.push_str("Name: a\nPre: 1 == 1")?;
     for _ in 1..comparisons {
@@ -74,7 +75,7 @@ fn push_rule(text: &mut String, comparisons: u32, rest: &str) -> Result<(), Allo
     text.push_str(rest)
 }
 
-/// The name of a kind that a parser tells.
+/// The name of a kind of fault of the parser.
 fn name_of(kind: &RuleFaultKind) -> &'static str {
     match kind {
         RuleFaultKind::BadByte => "BadByte",

@@ -1,4 +1,4 @@
-//! Rules with one counterexample, at which both halves are run. What they do was worked out by hand.
+//! Rules with one counterexample, at which both halves are run. Their effects were worked out by hand.
 ghost use Rattle.verdict.specs.Findings.{IsReadRule};
 
 use super::classes::only_rule;
@@ -12,7 +12,7 @@ use std::alloc::Global;
 use verdict::decide;
 use verdict_core::Verdict;
 
-/// What a half of a rule does.
+/// The effect of a half.
 #[derive(Clone, Copy, PartialEq, Debug)]
 enum Does {
     Undefined,
@@ -22,7 +22,7 @@ enum Does {
 
 /// A rule of one class, its width, and what the source and the target do.
 const ROWS: [(&str, u32, Does, Does); 3] = [
-    // no amount of 1 is below the width
+    // at i1, 1 is no amount below the width
     (
         "Name: add-self\n%r = add nsw %x, %x\n=>\n%r = shl nsw %x, 1\n",
         1,
@@ -52,7 +52,7 @@ fn seen(effect: &Effect) -> Does {
     }
 }
 
-/// What the source and the target do at the counterexample that refutes the rule.
+/// The effects of source and target at the counterexample that refutes the rule.
 #[tactic(auto, using(crate::proofs::Choices::no_source_choices))]
 fn halves(alloc: Global, rule: &Rule, typing: &Typing) -> Result<(Does, Does), Unfit>
     requires { IsReadRule rule.now }
@@ -71,7 +71,7 @@ fn halves(alloc: Global, rule: &Rule, typing: &Typing) -> Result<(Does, Does), U
     Ok((seen(&source), seen(&target)))
 }
 
-/// The same of the only rule of a text, of so many bits.
+/// The same for the only rule of a text, at this width.
 fn halves_of(alloc: Global, text: &str, bits: u32) -> Result<(Does, Does), Unfit> {
     let typing = widths(alloc, bits, bits)?;
     let rule = only_rule(alloc, text)?;

@@ -1,4 +1,4 @@
-//! Twelve rules, read and decided, whose verdicts another program found by enumerating their settings.
+//! Twelve rules, read and decided; a separate program found their verdicts by enumerating all settings.
 ghost use Rattle.std.specs.Prelude.{IfOk, All};
 ghost use Rattle.verdict.specs.Findings.{IsReadRule};
 

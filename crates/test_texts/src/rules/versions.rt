@@ -1,5 +1,5 @@
-//! Lines that say versions, and what is refused of freezes: the kind and the line of the first fault, worked out by
-//! hand.
+//! Lines of `Version:`, and rules with freezes that are refused: the kind and the line of the first fault, worked out
+//! by hand.
 
 use super::verdicts::rule_count;
 use rule_reader::{RuleError, RuleFault, RuleFaultKind, read_rules};
@@ -67,7 +67,7 @@ const FAULTS: [(&str, usize, &str); 22] = [
         5,
         "UndefInside",
     ),
-    // `Wit:` has an expression for each freeze of the source, and may name those of the target
+    // `Wit:` has an expression for each freeze of the source, and may name the target's
     (
         "Version: 2\nName: r\n%r = freeze %x\n=>\n%r = %x\n",
         2,

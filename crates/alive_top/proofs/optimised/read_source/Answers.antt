@@ -3,7 +3,7 @@ use Rattle.std.specs.Prelude.{All}
 use Rattle.std.proofs.lemmas.List.Elements.{All-from_get_or}
 use Rattle.alive_top.proofs.optimised.read_source.Goals as goal
 
--- the text is made of bytes
+-- the elements of the text are bytes
 bytes_of : (bytes : List ℕ) → ((k : ℕ) → get_or bytes k 0 < 256) → All (λ b. b ≤ 255) bytes
 bytes_of bytes fit = All-from_get_or (λ b. b ≤ 255) bytes 0 (λ k within. let fits = fit k in omega arith)
 

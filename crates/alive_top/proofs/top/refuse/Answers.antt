@@ -8,7 +8,7 @@ use Rattle.alive_top.specs.Puts.{Says, SaysMemory}
 use Rattle.alive_top.specs.Written.{Took}
 use Rattle.alive_top.proofs.top.refuse.Goals as goal
 
--- a line that was made is the wanted one
+-- a line that could be built is the one that is wanted
 made : {A B : Type 0} (r : Result A B) (items : A → List ℕ) (wanted : List ℕ) (err err' : SinkState) (status given : Status)
     → MatchResult r (λ m. Says err err' status (items m) given) (λ _. SaysMemory err err' given) → IfOk r (λ m. items m ≡ wanted) → Says err err' status wanted given ⊎ SaysMemory err err' given
 made (Ok m) items wanted err err' status given h e = inl (h.0, subst (λ (line : List ℕ). Took err err' line) e h.1)

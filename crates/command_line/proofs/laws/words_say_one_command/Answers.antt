@@ -16,7 +16,7 @@ use Rattle.command_line.proofs.laws.words_say_one_command.Goals as goal
 same : {A : Type 0} {o : Option A} {x y : A} → o ≡ Some x → o ≡ Some y → x ≡ y
 same e h = let both : Some _ ≡ Some _ = sym e ∙ h in cc
 
--- the texts begin with bytes that differ
+-- texts that begin with different bytes are different
 names_differ : {A : Type 0} (x y : List ℕ) (m n : ℕ) → slice_index x 0 ≡ m → slice_index y 0 ≡ n → (m == n) ≡ false → x ≡ y → A
 names_differ x y m n first second other e = absurd (differ (sym first ∙ (ap (λ (t : List ℕ). slice_index t 0) e ∙ second)))
   where
@@ -44,7 +44,7 @@ run_load e = names_differ (codes "run") (codes "load") 114 108 refl refl refl e
 recheck_other : {A : Type 0} (x : List ℕ) (m : ℕ) → slice_index x 0 ≡ m → (m == 114) ≡ false → x ≡ codes "recheck" → A
 recheck_other x m first other e = names_differ x (codes "recheck") m 114 first refl other e
 
--- `run` and `recheck` begin with one byte, and differ in the next
+-- `run` and `recheck` differ in their second byte
 run_recheck : {A : Type 0} → codes "run" ≡ codes "recheck" → A
 run_recheck e = absurd (let second : slice_index (codes "run") 1 ≡ slice_index (codes "recheck") 1 = ap (λ (t : List ℕ). slice_index t 1) e in let differ : 117 ≡ 101 = second in omega arith)
 

@@ -3,7 +3,7 @@ use Rattle.std.specs.Prelude.{codes, decimal}
 use Rattle.error_lines.specs.Lines.{register_text}
 use Rattle.error_lines.proofs.module.push_unassigned.Goals as goal
 
--- four pieces, one put behind the other
+-- four pieces, appended one by one
 pieces : (out a b c d x y z all : List ℕ) → x ≡ out ++ a → y ≡ x ++ b → z ≡ y ++ c → all ≡ z ++ d → all ≡ out ++ (((a ++ b) ++ c) ++ d)
 pieces out a b c d x y z all e f g h =
     h ∙ (ap (λ (l : List ℕ). l ++ d) (g ∙ ap (λ (l : List ℕ). l ++ c) (f ∙ ap (λ (l : List ℕ). l ++ b) e)) ∙ simp append_assoc)

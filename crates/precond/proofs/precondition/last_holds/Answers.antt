@@ -10,7 +10,7 @@ use Rattle.rule_core.specs.Terms.{formula_holds, truths_of}
 use Rattle.precond.proofs.Stored.{stored}
 use Rattle.precond.proofs.precondition.last_holds.Goals as goal
 
--- what stands for a node where there is none
+-- the default for a place without a node
 none : Formula
 none = formulas.Compare Eq 0 0
 

@@ -24,7 +24,7 @@ read terms i = get_or terms i (record { class = 0; node = nodes.Literal (pos 0) 
 few : (rule : Rule) (terms : List Term) (i : ℕ) → IsRule rule → terms ≡ rule.terms → i < length terms → i < 256
 few rule terms i checked same within = omega (arith, few_terms rule checked, ap length same)
 
--- the node that is read at a place stands there
+-- the node that the loop reads at i is the rule's node i
 module _ (rule : Rule) (typing lent : List ℕ) (constants given : List Number) (terms : List Term) (values : List Value) (i : ℕ)
     (lends : lent ≡ typing) (gives : given ≡ constants) (same : terms ≡ rule.terms) (within : i < length terms)
     (are : take i values ≡ values_of typing (of_constants constants) (take i rule.terms)) where

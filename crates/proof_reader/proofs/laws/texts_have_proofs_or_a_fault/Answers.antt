@@ -7,7 +7,7 @@ use Rattle.proof_text.specs.Laws.{TextsHaveOneReading}
 use Rattle.proof_reader.specs.Faults.{IsGood, AreGood, IsBad, unknown, badly_typed, repeated, IsAtProof, IsTextOfGood, IsFault, of_text, of_proof}
 use Rattle.proof_reader.proofs.laws.texts_have_proofs_or_a_fault.Goals as goal
 
--- no proof is good and bad
+-- no proof is both good and bad
 torn : (rules : List Rule) (earlier : List Proof) (proof : Proof) (kind : LogFaultKind) → IsGood rules earlier proof → IsBad rules earlier proof kind → ⊥
 torn rules earlier proof kind good (unknown none) = none (good.is.0.0, (good.rule, good.is.0.1, good.is.1))
 torn rules earlier proof kind good (badly_typed named none) = none good.rule good.is good.typing

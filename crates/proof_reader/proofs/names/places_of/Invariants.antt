@@ -1,4 +1,4 @@
--- the table has the places of the rules so far
+-- the map has the places of the rules so far
 use Rattle.std.proofs.Common.{take}
 use Rattle.proof_reader.specs.Names.{ArePlaces}
 use Rattle.proof_reader.proofs.names.places_of.Given as goal

@@ -15,13 +15,13 @@ use Rattle.proof_reader.proofs.Keys.{found, lost, keys_more}
 use Rattle.proof_reader.proofs.Refusing.{IfRefused-weaker}
 use Rattle.proof_reader.proofs.reader.checked.Goals as goal
 
--- what holds of a value, and what holds where there is one
+-- from what holds of a value, and what holds wherever there is one
 both : {T E : Type 0} (r : Result T E) (P : T → Type 0) (Q : Type 0) (R : T → Type 0) → ((x : T) → P x → Q → R x) → IfOk r P → OnOk r Q → IfOk r R
 both (Ok x) P Q R so p q = so x p q
 both (Err e) P Q R so p q = tt
 
 module _ (rules : List Rule) (proof : Proof) (place : ℕ) (typing : List ℕ) (at : IsTypedAt rules proof place typing) where
-  -- the key's rule has the proof's name too
+  -- the rule of the key has the proof's name
   named : (k : ℕ) → k ≡ place → HasNameAt rules k proof.name
   named k is = subst (λ (n : ℕ). HasNameAt rules n proof.name) (sym is) (at.rule, at.is, at.named)
 

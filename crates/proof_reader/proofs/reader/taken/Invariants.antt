@@ -3,7 +3,7 @@ use Rattle.std.specs.Vec.Iter.{into_iter_items}
 use Rattle.proof_reader.specs.Reading.{AreTaken}
 use Rattle.proof_reader.proofs.reader.taken.Given as goal
 
--- the proofs so far are taken, and the others are left
+-- the proofs so far are resolved, the others remain
 abbrev pub invariant-loop-proof : goal.invariant-loop-proof
 invariant-loop-proof l =
     record {

@@ -13,7 +13,7 @@ same_number a b e f =
     let made : ℕ → ℕ → Value = λ N n. Bits (record { width = N; number = n }) in
     ap (λ N. made N b.number) (sym e) ∙ ap (λ n. made a.width n) (sym f)
 
--- a value allows another, or does not
+-- whether a value allows another is decided
 allows_value : (v w : Value) → AllowsValue v w ⊎ (AllowsValue v w → ⊥)
 allows_value Poison w = inl tt
 allows_value (Bits a) Poison = inr (λ h. cc)
@@ -23,7 +23,7 @@ allows_value (Bits a) (Bits b) =
       | inl width ↦ elim (cases_eq a.number b.number) [ inr other ↦ inr (λ h. other cc) | inl number ↦ inl (same_number a b width number) ]
     ]
 
--- and so it is with effects
+-- and whether an effect allows another
 allows_effect : (d e : Effect) → AllowsEffect d e ⊎ (AllowsEffect d e → ⊥)
 allows_effect Undefined e = inl tt
 allows_effect (Gives v) Undefined = inr (λ h. h)

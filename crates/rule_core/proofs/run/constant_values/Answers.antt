@@ -19,7 +19,7 @@ use Rattle.rule_core.proofs.run.constant_values.Goals as goal
 read : List Term → ℕ → Term
 read slice i = get_or slice i (record { class = 0; node = nodes.Literal (pos 0) })
 
--- the node that is read at a place stands there
+-- the node that the loop reads at i is the rule's node i
 module _ (rule : Rule) (typing : List ℕ) (constants : List Number) (slice : List Term) (values before : List Value) (i : ℕ)
     (same : slice ≡ rule.terms) (within : i < length slice) (are : values ≡ values_of typing (of_constants constants) (take i rule.terms)) (lent : before ≡ values) where
   stands : slice_get rule.terms i ≡ Some (read slice i)

@@ -12,7 +12,7 @@ use Rattle.rule_core.specs.Run.{Held, Given}
 use Rattle.rule_core.specs.Readiness.{seen, shown, StatementIsReady}
 use Rattle.rule_core.proofs.run.effect_of.Goals as goal
 
--- arms of the result's width give a value of that width
+-- the value is of the class's width; arms of that width let a `select` give one
 HasWidth : List ℕ → ℕ → Value → Type 0
 HasWidth typing c v = (N : ℕ) → slice_get typing c ≡ Some N → IsValueOf N v
 

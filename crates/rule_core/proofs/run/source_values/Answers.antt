@@ -9,7 +9,7 @@ use Rattle.rule_core.proofs.Ready.{source_next, ValuesFit-push}
 use Rattle.rule_core.proofs.Runs.{Follows-step-take}
 use Rattle.rule_core.proofs.run.source_values.Goals as goal
 
--- a statement that is read at a place stands there
+-- the statement that the loop reads at k is the source's statement k
 stands : (source slice : List Statement) (k : ℕ) (s : Statement) → slice ≡ source → k < length source → s ≡ get_or slice k s → slice_get source k ≡ Some s
 stands source slice k s same within is = slice_get_read source (length source) k s refl within (rw same at is)
 

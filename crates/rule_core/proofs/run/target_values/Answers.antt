@@ -8,7 +8,7 @@ use Rattle.rule_core.proofs.Ready.{target_next, ValuesFit-push}
 use Rattle.rule_core.proofs.Runs.{Follows-step}
 use Rattle.rule_core.proofs.run.target_values.Goals as goal
 
--- a statement that is read at a place stands there
+-- the statement that the loop reads at k is the target's statement k
 stands : (target slice : List Statement) (k : ℕ) (s : Statement) → slice ≡ target → k < length target → s ≡ get_or slice k s → slice_get target k ≡ Some s
 stands target slice k s same within is = slice_get_read target (length target) k s refl within (rw same at is)
 

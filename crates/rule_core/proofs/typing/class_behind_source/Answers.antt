@@ -8,8 +8,8 @@ use Rattle.rule_core.specs.Positions.{classes_of_statement, classes_of_term, ter
 use Rattle.rule_core.proofs.Members.{get-append_left, get_behind}
 use Rattle.rule_core.proofs.typing.class_behind_source.Goals as goal
 
--- what stands among the target's classes, among those of the constant terms behind them, or among those of `Wit:`
--- behind these
+-- the class is one of the target's, of the constant terms' behind them, or of those of `Wit:` behind these, at this
+-- place
 abbrev StandsIn : Rule → ℕ → ℕ → Type 0
 StandsIn rule k class = slice_get (flat_map classes_of_statement rule.target ++ flat_map classes_of_term (terms_in rule)) k ≡ Some class
 

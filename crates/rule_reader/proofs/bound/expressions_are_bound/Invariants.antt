@@ -1,4 +1,4 @@
--- those so far are bound
+-- the names of the expressions so far may be used
 use Rattle.std.proofs.Common.{take}
 use Rattle.rule_reader.specs.declared.place.Place.TheVariants as places
 use Rattle.rule_reader.specs.FaultKinds.{Each, TermIsBound}

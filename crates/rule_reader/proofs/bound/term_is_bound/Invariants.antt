@@ -1,4 +1,4 @@
--- those so far are bound
+-- the names of the nodes so far may be used
 use Rattle.std.proofs.Common.{take}
 use Rattle.rule_reader.specs.FaultKinds.{Each, NodeIsBound}
 use Rattle.rule_reader.proofs.bound.term_is_bound.Given as goal

@@ -1,4 +1,4 @@
--- of the statements so far none names what is not there
+-- all that the statements so far name may be used there
 use Rattle.rule_reader.specs.FaultKinds.{StatementUnbound}
 use Rattle.rule_reader.specs.KnownRules.{half_of, place_in}
 use Rattle.rule_reader.proofs.Firsts.{NoneBefore}

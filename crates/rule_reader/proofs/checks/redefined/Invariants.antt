@@ -1,4 +1,4 @@
--- no statement so far is one
+-- none of the statements so far assigns an input or a temporary
 use Rattle.rule_reader.specs.FaultKinds.{Redefines}
 use Rattle.rule_reader.proofs.Firsts.{NoneBefore}
 use Rattle.rule_reader.proofs.checks.redefined.Given as goal

@@ -1,4 +1,4 @@
--- so many stand in the statements so far
+-- the counts of the statements so far
 use Rattle.std.proofs.Common.{◌≡◌, take}
 use Rattle.rule_reader.specs.Meaning.{past_all, counted_among, no_counts}
 use Rattle.rule_reader.proofs.counts.in_half.Given as goal

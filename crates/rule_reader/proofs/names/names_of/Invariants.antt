@@ -1,4 +1,4 @@
--- the names among what the statements so far read
+-- the inputs and constants among the operands of the statements so far
 use Rattle.std.proofs.Common.{take}
 use Rattle.rule_parse.specs.Contents.{arguments_among}
 use Rattle.rule_reader.specs.Inputs.{AreNamesAmong}

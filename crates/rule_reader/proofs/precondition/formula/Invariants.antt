@@ -1,4 +1,4 @@
--- the nodes so far, and those of their terms
+-- the nodes so far are resolved, and the nodes of their terms appended
 use Rattle.std.proofs.Common.{take}
 use Rattle.rule_parse.specs.Contents.{target_terms}
 use Rattle.rule_reader.specs.Meaning.{nodes_in, TermsMean}

@@ -1,4 +1,4 @@
--- Check by check: what none has failed so far, and the fault of the one that fails.
+-- Check by check: those that have passed, and the fault of the one that fails.
 use Rattle.std.proofs.Common.{subst}
 use Rattle.rule_reader.specs.FaultKinds.{UnusedTempAt}
 use Rattle.rule_reader.specs.Faults.{Unbound, RootMissing, Redefines, UnusedTemp, UndefInside, WitnessCount, IsFirstLine}

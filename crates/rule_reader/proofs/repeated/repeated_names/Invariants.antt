@@ -1,4 +1,4 @@
--- the map has the names of the rules so far, and these are marked
+-- the map has the names of the rules so far, and they have their flags
 use Rattle.std.proofs.Common.{ℕ, List, take, Bor}
 use Rattle.std.specs.Str.{bytes_eq}
 use Rattle.std.specs.HashMap.{get}

@@ -1,4 +1,4 @@
--- the statements so far mean these, and so much stands behind them
+-- the statements so far are resolved, with the counts behind them
 use Rattle.std.proofs.Common.{◌≡◌, take}
 use Rattle.rule_reader.specs.Meaning.{past_all, counted_among, no_counts, HalfMeans}
 use Rattle.rule_reader.specs.KnownRules.{half_of}

@@ -1,4 +1,4 @@
--- the nodes so far are added
+-- the nodes so far are appended
 use Rattle.std.proofs.Common.{take}
 use Rattle.rule_reader.proofs.Nodes.{Added}
 use Rattle.rule_reader.proofs.terms.add_term.Given as goal

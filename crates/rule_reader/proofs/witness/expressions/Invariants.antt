@@ -1,4 +1,4 @@
--- the nodes of the expressions so far, and the last one of each
+-- the expressions so far are resolved, with the last node of each
 use Rattle.std.proofs.Common.{◌≡◌, take}
 use Rattle.rule_reader.specs.Meaning.{TermsMean, last_nodes}
 use Rattle.rule_reader.proofs.witness.expressions.Given as goal

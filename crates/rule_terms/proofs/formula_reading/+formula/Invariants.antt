@@ -4,7 +4,7 @@ use Rattle.rule_terms.specs.FormulaReaders.{member_at, more_members, more_altern
 use Rattle.rule_terms.proofs.formula_reading.+formula.Given as goal
 use Rattle.rule_tokens.specs.Limits.{rule_limits}
 
--- one level of nesting counts more than all levels of operators
+-- the measure of the recursion: one level of nesting weighs more than all levels of operators
 abbrev pub decreases-member : goal.decreases-member
 decreases-member l = 8 * l.nesting
 

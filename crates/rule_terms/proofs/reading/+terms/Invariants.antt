@@ -4,7 +4,7 @@ use Rattle.rule_terms.specs.TermReaders.{behind_at, operand_at, primary_at, whol
 use Rattle.rule_terms.proofs.reading.+terms.Given as goal
 use Rattle.rule_tokens.specs.Limits.{rule_limits}
 
--- one level more counts 2, and one nested more as much as all levels
+-- the measure of the recursion: a level of operators weighs 2, and one of nesting as much as all of these
 abbrev pub decreases-primary : goal.decreases-primary
 decreases-primary l = 17 * l.nesting
 

@@ -5,7 +5,7 @@ use Rattle.rule_typing.specs.Splits.{LineOf, choice_pairs, choice_naming}
 use Rattle.rule_typing.proofs.Among.{one_further}
 use Rattle.rule_typing.proofs.choice_lines.split_by_choices.Goals as goal
 
--- what stands where no choice does
+-- the default for a place without a choice
 abbrev none_choice : Choice
 none_choice = record { place = 0; class = 0 }
 

@@ -6,6 +6,6 @@ use Rattle.rule_typing.proofs.classes.join_lines.Given as goal
 abbrev pub invariant-loop-a : goal.invariant-loop-a
 invariant-loop-a l = IsMerged l.initial.rule l.rule
 
--- each merge gives a smaller number to a position
+-- each merge makes the sum of the positions' numbers smaller
 abbrev pub decreases-loop-a : goal.decreases-loop-a
 decreases-loop-a l = total (classes_of l.rule)

@@ -23,7 +23,7 @@ loop-class-preserved c =
 pub settle-requires-clause-classes : goal.settle-requires-clause-classes
 settle-requires-clause-classes c k among = (c.requires.count k).0 among
 
--- the widths that are settled
+-- the widths that `settle` is given
 count : (c : After-deref_mut) → length c.loop-class.widths.items ≡ length c.args.sets.now
 count c = omega (arith, c.loop-class.invariant.count, c.loop-class-test.false, c.loop-class.auto.class-end)
 

@@ -6,7 +6,7 @@ use Rattle.rule_typing.specs.FittingWidths.{LiteralsFit, TermsFit, MayHaveWidth}
 use Rattle.rule_typing.proofs.Among.{says}
 use Rattle.rule_typing.proofs.fits.class_fits.Goals as goal
 
--- no other width is fixed, and literals fit
+-- the class may have the width, where none but this one is fixed, and literals fit
 by_literals : (rule : Rule) (c N bits : ℕ) → bits ≡ N → 1 ≤ bits → bits ≤ 64 → ((M : ℕ) → Fixed rule c M → Some N ≡ Some M) → (LiteralsFit (operands_in rule) c bits × TermsFit (terms_in rule) c bits) ↔ MayHaveWidth rule c N
 by_literals rule c N bits same low high only =
     rw (sym same) (

@@ -7,7 +7,7 @@ use Rattle.rule_typing.proofs.Past.{past_next, greater}
 use Rattle.rule_typing.proofs.Walks.{stands_still}
 use Rattle.rule_typing.proofs.fits.past_terms.Goals as goal
 
--- what stands where no node does
+-- the default for a place without a node
 abbrev none_term : Term
 none_term = record { class = 0; node = nodes.Literal (pos 0) }
 

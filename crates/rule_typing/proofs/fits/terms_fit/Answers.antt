@@ -7,7 +7,7 @@ use Rattle.rule_typing.proofs.Among.{holds, fails, one_further, each_passes, one
 use Rattle.rule_typing.proofs.Walks.{stands_still}
 use Rattle.rule_typing.proofs.fits.terms_fit.Goals as goal
 
--- what stands where no node does
+-- the default for a place without a node
 abbrev none_term : Term
 none_term = record { class = 0; node = nodes.Literal (pos 0) }
 

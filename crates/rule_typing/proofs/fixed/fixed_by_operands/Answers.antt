@@ -4,7 +4,7 @@ use Rattle.rule_typing.specs.FixedWidths.{FixesWidth}
 use Rattle.rule_typing.proofs.Among.{stands_here, one_further, all_of_them}
 use Rattle.rule_typing.proofs.fixed.fixed_by_operands.Goals as goal
 
--- the operand fixes no other width
+-- any width that the operand fixes for the class is `but`
 FixesNoOther : Option ℕ → ℕ → Operand → Type 0
 FixesNoOther but class o = (N : ℕ) → FixesWidth class N o → but ≡ Some N
 

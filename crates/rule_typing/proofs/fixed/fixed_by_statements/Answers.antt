@@ -4,7 +4,7 @@ use Rattle.rule_typing.specs.FixedWidths.{StatementFixes}
 use Rattle.rule_typing.proofs.Among.{stands_here, one_further, all_of_them}
 use Rattle.rule_typing.proofs.fixed.fixed_by_statements.Goals as goal
 
--- the statement fixes no other width
+-- any width that the statement fixes for the class is `but`
 FixesNoOther : Option ℕ → ℕ → Statement → Type 0
 FixesNoOther but class s = (N : ℕ) → StatementFixes class N s → but ≡ Some N
 

@@ -9,7 +9,7 @@ use Rattle.rule_typing.proofs.LineParts.{from_paired, to_paired}
 use Rattle.rule_typing.proofs.NameLines.{root_is_last}
 use Rattle.rule_typing.proofs.lines.split_by_root.Goals as goal
 
--- the last register of the source is the only root
+-- only the source's last register is assigned in the source and, as the root, in the target
 at_last : (rule : Rule) (last : ℕ) (answer : Option (ℕ × ℕ)) → last + 1 ≡ length rule.source
     → Splits (IsPairIn (paired (assigned_class rule (names.Register (registers.Source last))) (root_class rule (names.Register (registers.Source last))))) answer → Splits (RootLine rule) answer
 at_last rule last answer is found =

@@ -8,7 +8,7 @@ use Rattle.rule_typing.specs.Splits.{term_naming}
 use Rattle.rule_typing.proofs.Among.{one_further}
 use Rattle.rule_typing.proofs.names.other_by_terms.Goals as goal
 
--- what stands where no node does
+-- the default for a place without a node
 abbrev none_term : Term
 none_term = record { class = 0; node = nodes.Literal (pos 0) }
 

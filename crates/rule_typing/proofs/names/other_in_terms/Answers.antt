@@ -6,7 +6,7 @@ use Rattle.rule_typing.specs.Splits.{term_naming, NamingOf, FindsOther}
 use Rattle.rule_typing.proofs.Walks.{first_other, then_other, finds_as}
 use Rattle.rule_typing.proofs.names.other_in_terms.Goals as goal
 
--- among two lists of nodes, one after the other
+-- among two lists of nodes, one behind the other
 among_both : (xs ys : List Term) (n : Name) (c : ℕ) (answer : Option ℕ) → FindsOther (λ d. NamingOf term_naming xs n d ⊎ NamingOf term_naming ys n d) c answer → FindsOther (NamingOf term_naming (xs ++ ys) n) c answer
 among_both xs ys n c answer found = finds_as (λ d. NamingOf term_naming xs n d ⊎ NamingOf term_naming ys n d) (NamingOf term_naming (xs ++ ys) n) c answer
     (λ d one. elim one [ inl (t, among, e) ↦ (t, Contains-append_left xs ys t among, e) | inr (t, among, e) ↦ (t, Contains-append_right xs ys t among, e) ])

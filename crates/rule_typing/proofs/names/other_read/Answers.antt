@@ -7,7 +7,7 @@ use Rattle.rule_typing.specs.Splits.{operand_naming, choice_naming, term_naming,
 use Rattle.rule_typing.proofs.Walks.{first_other, then_other}
 use Rattle.rule_typing.proofs.names.other_read.Goals as goal
 
--- what reads the name in the source, in the target, and behind the operands
+-- who reads the name: operands of the source, operands of the target, and the choices and nodes behind them
 abbrev Source : Rule → Name → ℕ → Type 0
 Source rule n = NamingOf operand_naming (operands_among rule.source) n
 

@@ -7,7 +7,7 @@ use Rattle.rule_typing.proofs.Walks.{AreOne, stands_still, split_here, none_spli
 use Rattle.rule_typing.proofs.Among.{one_further}
 use Rattle.rule_typing.proofs.term_lines.split_by_formulas.Goals as goal
 
--- what stands where no formula does
+-- the default for a place without a formula
 abbrev none_formula : Formula
 none_formula = formulas.Compare preds.Eq 0 0
 

@@ -7,7 +7,7 @@ use Rattle.rule_typing.specs.Splits.{LineOf, term_pairs, term_naming}
 use Rattle.rule_typing.proofs.Among.{one_further}
 use Rattle.rule_typing.proofs.term_lines.split_by_terms.Goals as goal
 
--- what stands where no node does
+-- the default for a place without a node
 abbrev none_term : Term
 none_term = record { class = 0; node = nodes.Literal (pos 0) }
 

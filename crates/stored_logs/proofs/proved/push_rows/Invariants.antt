@@ -3,7 +3,7 @@ use Rattle.std.specs.Vec.Iter.{into_iter_items}
 use Rattle.stored_logs.specs.Additions.{AddsProved}
 use Rattle.stored_logs.proofs.proved.push_rows.Given as goal
 
--- the rows are those of the typings so far, and the others are left
+-- the rows are those of the typings so far; the others remain
 abbrev pub invariant-loop-typing : goal.invariant-loop-typing
 invariant-loop-typing l =
     record {

@@ -4,7 +4,7 @@ use Rattle.proof_reader.specs.Reading.{IsReadOf}
 use Rattle.stored_logs.proofs.Rechecking.{AreRows}
 use Rattle.stored_logs.proofs.rechecked.recheck.Given as goal
 
--- the rows are those of the proofs so far, and the others are left
+-- the rows are those of the proofs so far; the others remain
 abbrev pub invariant-loop-proof : goal.invariant-loop-proof
 invariant-loop-proof l =
     record {

@@ -3,7 +3,7 @@ use Rattle.std.specs.Vec.Iter.{into_iter_items}
 use Rattle.stored_logs.specs.Stored.{IsLogStored}
 use Rattle.stored_logs.proofs.stored.stored_of.Given as goal
 
--- the logs of the proofs so far are stored, and the others are left
+-- the logs of the proofs so far are stored; the others remain
 abbrev pub invariant-loop-proof : goal.invariant-loop-proof
 invariant-loop-proof l =
     record {

@@ -1,4 +1,4 @@
--- no source so far has more statements than one more than the depth
+-- no source so far has more than `depth` + 1 statements
 use Rattle.std.proofs.Common.{◌≡◌, ◌+◌, ◌<◌, ◌≤◌, ℕ, suc, length, Some}
 use Rattle.std.specs.Prelude.{slice_get, ◌^◌}
 use Rattle.rule_core.specs.declared.rule.Rule.{Rule}

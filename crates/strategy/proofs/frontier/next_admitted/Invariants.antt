@@ -1,4 +1,4 @@
--- what doesn't wait is turned down, and all before what waits is asked
+-- matches at places that are not on the worklist are turned down, and the search has come to the first place that is
 use Rattle.draft_steps.specs.Queues.{IsQueueOf, size_of, waiting_in}
 use Rattle.strategy.specs.Frontiers.{AreTurnedDownBut, Nowhere}
 use Rattle.strategy.proofs.Searching.{Gone}

@@ -1,4 +1,4 @@
--- some steps are made, and the numbers of the draft suffice for the others
+-- some steps are made, and there are enough free numbers for the others
 use Rattle.std.proofs.Common.{◌-◌}
 use Rattle.draft.specs.Drafts.{HasRoomFor, function_of}
 use Rattle.strategy.specs.Frontiers.{IsFrontier}

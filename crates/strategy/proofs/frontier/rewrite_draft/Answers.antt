@@ -15,11 +15,11 @@ use Rattle.ir_core.specs.declared.function.Function.{Function}
 use Rattle.strategy_core.proofs.Numbers.{cleaned_numbers_fit}
 use Rattle.strategy.proofs.frontier.rewrite_draft.Goals as goal
 
--- the rule that is read at the match's place is the one that matches
+-- the rule that is read is the one that the match is of
 rule_there : (rules : List Rule) (f : Function) (m : Match) (read : Rule) (is : IsMatchAmong rules f m) → read ≡ get_or rules m.rule read → is.rule ≡ read
 rule_there rules f m read is from = sym (from ∙ get_or_from_slice_get rules m.rule is.rule read is.is_rule)
 
--- and it is ready
+-- that rule is ready
 ready_there : (rules : List Rule) (f : Function) (m : Match) (read : Rule) → AreReady rules → IsMatchAmong rules f m → read ≡ get_or rules m.rule read
     → IsRule read × HasNoFault read × IsMatch f m.binding.block m.binding.place read m.binding
 ready_there rules f m read ready is from =

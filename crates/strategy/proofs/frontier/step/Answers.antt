@@ -8,7 +8,7 @@ use Rattle.strategy.proofs.Stepping.{search_ended, step_made}
 use Rattle.strategy.proofs.frontier.step.Goals as goal
 use Rattle.strategy.proofs.frontier.step.Goals.{In-Some, In_default}
 
--- the match that is found, and none
+-- a match was found; and below, none was
 found : (c : In-Some) → SearchesTo c.args.rules.now.all.now c.args.conflicts c.args.frontier.draft (waiting_in c.next_admitted.new.queue) c.args.verdicts.now c.next_admitted.new.verdicts (Some c.in-Some.chosen)
 found c = subst (SearchesTo c.args.rules.now.all.now c.args.conflicts c.args.frontier.draft (waiting_in c.next_admitted.new.queue) c.args.verdicts.now c.next_admitted.new.verdicts) c.in-Some.is c.in_ok-found.ensures.found
 

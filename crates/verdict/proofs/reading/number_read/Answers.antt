@@ -3,7 +3,7 @@ use Rattle.std.proofs.Math.Nat.{pow-succ'}
 use Rattle.circuits.specs.Word.{bit, number}
 use Rattle.verdict.proofs.reading.number_read.Goals as goal
 
--- one more bit before a number
+-- a bit in front of a number
 one_more : (bits : List Bool) (i : ℕ) → i < length bits → number (drop i bits) ≡ bit (get_or bits i false) + 2 * number (drop (i + 1) bits)
 one_more [] i lt = absurd (omega arith)
 one_more (b ∷ bits) zero lt = refl

@@ -1,4 +1,4 @@
--- the matches at the places so far are asked
+-- the matches at the instructions so far are asked
 use Rattle.verdict.specs.Asks.{AsksAll}
 use Rattle.verdict.proofs.Parts.{IsEarlier}
 use Rattle.verdict.proofs.searching.any_in_block.Given as goal

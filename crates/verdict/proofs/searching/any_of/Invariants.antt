@@ -1,4 +1,4 @@
--- the matches so far are asked, and it is told whether one of them is admitted
+-- the matches so far are asked, and `any` says whether one of them is admitted
 use Rattle.std.proofs.Common.{map, take}
 use Rattle.std.specs.Prelude.{All, Any, MatchBool}
 use Rattle.strategy_core.specs.Asked.{pair_of, IsAdmitted, IsTurnedDown}
