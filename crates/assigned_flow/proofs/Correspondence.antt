@@ -1,4 +1,4 @@
--- Walks through a function are those through the graph of its blocks.
+-- The walks of a function are those of its control-flow graph.
 use Rattle.std.proofs.Common.{◌≡◌, ℕ, Bool, IsTrue, ◌<◌, ◌↔◌, List, [], ◌∷◌, Option, None, Some, length, refl, sym, ap, ◌∙◌, subst, arith}
 use Rattle.std.specs.Prelude.{Contains, slice_get, option_map, unwrap_or}
 use Rattle.std.proofs.lemmas.List.{length-map}

@@ -1,4 +1,4 @@
--- What walks pass, by dominance and by the places within a block.
+-- Which places every walk has passed, by dominance between blocks and by index within one.
 use Rattle.std.proofs.Common.{◌≡◌, ◌≢◌, ℕ, ◌<◌, ◌⊎◌, ◌↔◌, List, [], ◌∷◌, length, sym, ◌∙◌, subst, inl, inr, arith}
 use Rattle.std.specs.Prelude.{Contains}
 use Rattle.std.proofs.lemmas.Bool.{cases_lt}
@@ -30,7 +30,7 @@ walk_within graph closed (d ∷ b ∷ before) c is_walk has =
       | inr earlier ↦ walk_within graph closed (b ∷ before) c is_walk.1 earlier
     ]
 
--- a block that is reached has a first visit: not each walk to it has been there before
+-- a block that is reached has a first visit: not every walk to it has been in it before
 first_visit : (graph : List (List ℕ)) (b : ℕ) → ((before : List ℕ) → IsWalk graph (b ∷ before) → Contains before b) → (walk : List ℕ) → IsWalk graph walk → Contains walk b → ⊥
 first_visit graph b again [] is_walk has = is_walk
 first_visit graph b again (c ∷ []) is_walk has =
@@ -46,7 +46,7 @@ first_visit graph b again (d ∷ c ∷ before) is_walk has =
       | inr earlier ↦ first_visit graph b again (c ∷ before) is_walk.1 earlier
     ]
 
--- within one block that is reached, the places tell
+-- in a block that is reached, every walk to place k has passed place j of the same block exactly where j is below k
 pub passed_here : (graph : List (List ℕ)) (d j b k : ℕ) → d ≡ b → IsReached graph b → (j < k) ↔ IsPassed graph d j b k
 passed_here graph d j b k same reached = (
   λ below before is_walk. inr (same, below),
@@ -59,7 +59,7 @@ passed_here graph d j b k same reached = (
   ],
 )
 
--- from another block, dominance does
+-- every walk has passed a place of another block exactly where that block dominates this one
 pub passed_elsewhere : (graph : List (List ℕ)) (d j b k : ℕ) → d ≢ b → Dominates graph d b ↔ IsPassed graph d j b k
 passed_elsewhere graph d j b k apart = (
   λ dominates before is_walk. elim (Contains-cons_cases b before d (dominates before is_walk)) [
@@ -77,7 +77,7 @@ pub reached_within : (graph : List (List ℕ)) (b : ℕ) → IsClosed graph → 
 reached_within graph b closed reached =
     walk_within graph closed (b ∷ reached.0) b reached.1 (Contains-append_left (b ∷ []) reached.0 b (Contains-push [] b))
 
--- all that every walk to a block that is reached passes is in the graph
+-- a block that every walk to a reached block has passed is one of the graph
 pub passed_within : (graph : List (List ℕ)) (d j b k : ℕ) → IsClosed graph → IsReached graph b → d ≢ b → IsPassed graph d j b k → d < length graph
 passed_within graph d j b k closed reached apart passed =
     elim (passed reached.0 reached.1) [

@@ -1,4 +1,4 @@
--- What is counted in 32 bits.
+-- Limits of what is counted in 32 bits.
 use Rattle.std.specs.Prelude.{◌<◌, ◌^◌, length}
 use Rattle.ir_core.specs.declared.instruction.Op.{Op}
 use Rattle.ir_core.specs.declared.instruction.Op.TheVariants.{Binary, Compare, Unary, Select, Convert, Freeze, Phi}

@@ -4,7 +4,7 @@ use Rattle.ir_core.specs.declared.operand.Operand.{Operand}
 use Rattle.ir_core.specs.Reads as reads
 use Rattle.assigned_flow.specs.declared.read.Read.{Read}
 
--- the operand, and where it is read
+-- the read's operand, and where it is read
 abbrev pub located : reads.Read → Read
 located r = record { operand = r.operand; block = r.block; place = r.place }
 

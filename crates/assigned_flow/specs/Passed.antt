@@ -1,4 +1,4 @@
--- What walks through a graph of blocks pass, told without the function.
+-- Assignment in terms of a graph alone: what every walk to a place has passed.
 use Rattle.std.specs.Prelude.{◌≡◌, ℕ, ◌<◌, ◌⊎◌, List, ◌∷◌, length, Contains}
 use Rattle.dominator_tree.specs.Walks.{IsEdge, IsWalk}
 
@@ -7,7 +7,7 @@ use Rattle.dominator_tree.specs.Walks.{IsEdge, IsWalk}
 abbrev pub IsPassed : List (List ℕ) → ℕ → ℕ → ℕ → ℕ → Type 0
 IsPassed graph d j b k = (before : List ℕ) → IsWalk graph (b ∷ before) → Contains before d ⊎ ((d ≡ b) × (j < k))
 
--- there is a first block, and each edge ends in a block
+-- there is a first block, and each edge leads to a block of the graph
 pub record IsClosed (graph : List (List ℕ)) : Type 0 where
   pub some_block : 0 < length graph
   pub targets : (b c : ℕ) → IsEdge graph b c → c < length graph

@@ -15,8 +15,8 @@ use ir_core::{Function, Register};
 use std::alloc::{AllocError, Global};
 use std::marker::Model;
 
-/// Which blocks of a function are reached, and where its registers are assigned. Contracts see the successors of each
-/// block.
+/// Which blocks of a function are reached, and where its registers are assigned. Contracts see it as the lists of
+/// successors of all blocks.
 #[derive(Drop)]
 pub struct Assigned {
     dominators: DominatorTree,
@@ -36,8 +36,8 @@ impl Model for Assigned {
 }
 
 impl Assigned {
-    /// Where the registers of a function are assigned, and which blocks are reached: reads aren't checked. The only
-    /// error is want of memory.
+    /// Finds where the registers of a function are assigned, and which blocks are reached, without checking its reads.
+    /// The only error is want of memory.
     pub fn new(alloc: Global, f: &Function) -> Result<Self, AllocError>
         requires some_block { 0 < length f.now.blocks }
         requires blocks { length f.now.blocks < 2 ^ 32 }

@@ -36,7 +36,7 @@ fn is_assigned(
     }
 }
 
-/// The register that is read, unless it is assigned there.
+/// The register of a read, where it isn't assigned there.
 fn unassigned(f: &Function, assigned: &Assigned, read: Read) -> Option<Register>
     requires insts { All (λ b. length b.insts < 2 ^ 32) f.now.blocks }
     requires graph { assigned.now ≡ successors_of f.now }
@@ -52,7 +52,7 @@ fn unassigned(f: &Function, assigned: &Assigned, read: Read) -> Option<Register>
     }
 }
 
-/// Checks what is written at one place to be read, where all that is written before is assigned.
+/// Checks the operands of the instruction or the terminator at a place, where all operands before that place passed.
 fn check_place(f: &Function, assigned: &Assigned, block: u32, place: u32) -> Result<(), FlowError>
     requires insts { All (λ b. length b.insts < 2 ^ 32) f.now.blocks }
     requires operands { length (reads_at f.now block place) < 2 ^ 32 }
@@ -76,7 +76,7 @@ fn check_place(f: &Function, assigned: &Assigned, block: u32, place: u32) -> Res
     Ok(())
 }
 
-/// Checks what is written in one block to be read, where all that is written before is assigned.
+/// Checks the operands of a block, where all operands of the blocks before it passed.
 fn check_block(f: &Function, assigned: &Assigned, block: u32) -> Result<(), FlowError>
     requires insts { All (λ b. length b.insts < 2 ^ 32) f.now.blocks }
     requires operands { (k : ℕ) → length (reads_at f.now block k) < 2 ^ 32 }
@@ -92,11 +92,11 @@ fn check_block(f: &Function, assigned: &Assigned, block: u32) -> Result<(), Flow
     check_place(f, assigned, block, end)
 }
 
-/// Checks that each register is assigned wherever it is read, on every way there. A register that the function hasn't
-/// is assigned nowhere. In a block that isn't reached, each one that the function has is assigned.
+/// Checks that each register is assigned wherever it is read, that is, on every path there. A register that the
+/// function hasn't is assigned nowhere. In a block that isn't reached, each one that the function has is assigned.
 ///
-/// What is read is looked at once, in constant time each. So the time is linear in the function, beside that of
-/// [`dominator_tree::dominators`], whose worst case is told there.
+/// Each read is checked once, in constant time. So the time is linear in the function, beside that of
+/// [`dominator_tree::dominators`], which states its worst case.
 pub fn check_assigned(alloc: Global, f: &Function) -> Result<Assigned, FlowError>
     // There is a first block, and each block that a terminator names is one of the function.
     requires some_block { 0 < length f.now.blocks }

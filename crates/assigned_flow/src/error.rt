@@ -6,12 +6,12 @@ use std::alloc::AllocError;
 /// Why the registers of a function are not known to be assigned wherever they are read.
 #[derive(Drop)]
 pub enum FlowError {
-    /// A register is read where it isn't assigned. All that is written before it to be read is assigned.
+    /// A register is read where it isn't assigned. This is the first such read: all operands before it are assigned.
     Unassigned {
         register: Register,
-        /// The block in which the read is written.
+        /// The block of the instruction or the terminator whose operand it is.
         block: u32,
-        /// The place there of the instruction that reads it; that of the terminator is the number of instructions.
+        /// The place of that instruction; the terminator's is the number of instructions.
         place: u32,
         /// Which operand it is, counted from 0; of a `phi`, which entry.
         operand: u32,

@@ -1,4 +1,4 @@
-//! The graph of a function's blocks.
+//! The control-flow graph of a function.
 
 ghost use Rattle.std.specs.Prelude.{◌≡◌, IfOk};
 ghost use Rattle.ir_core.specs.Blocks.{targets_of};
@@ -9,7 +9,7 @@ use ir_core::{Function, Terminator};
 use lists::{List, ShortList};
 use std::alloc::{AllocError, Global};
 
-/// The graph of the blocks: an edge for each block that a terminator names.
+/// The control-flow graph: from each block an edge to each block that its terminator names.
 pub(crate) fn flow_graph(alloc: Global, f: &Function) -> Result<Graph, AllocError>
     ensures { IfOk result (λ graph. graph.successors ≡ successors_of f.now) }
 {

@@ -1,8 +1,8 @@
 //! Whether each register of a function is assigned wherever it is read (LangRef, "Well-Formedness").
 //!
-//! What that asks is told by walks through the blocks, in `specs/Assigned` of `ir_core`. It is answered by dominance:
-//! the result of an instruction is assigned at a place of a block where no walk leads to the block, where the
-//! instruction stands before that place in the same block, or where its block is another one that dominates this one.
+//! `specs/Assigned` of `ir_core` defines this by walks through the blocks, and it is decided by dominance: the result
+//! of an instruction is assigned at a place of a block where no walk leads to the block, where the instruction stands
+//! before that place in the same block, or where its block is another one that dominates this one.
 #![tactic(auto)]
 
 mod assigned;

@@ -1,4 +1,4 @@
-//! What is written in a function to be read.
+//! The reads of a function, without their widths.
 
 ghost use Rattle.std.specs.Prelude.{◌≡◌, ◌<◌, ◌^◌, length, ℕ, All, option_map, slice_get};
 ghost use Rattle.ir_core.specs.Reads.{end_of, reads_at, reads_at_end, reads_of};
@@ -25,8 +25,8 @@ pub(crate) fn end_of(f: &Function, block: u32) -> u32
     }
 }
 
-/// What is read as one operand of what stands at a place of a block; the terminator's place is the number of
-/// instructions.
+/// The read of one operand of the instruction or the terminator at a place of a block; the terminator's place is the
+/// number of instructions.
 pub(crate) fn read_at(f: &Function, block: u32, place: u32, operand: u32) -> Option<Read>
     requires { All (λ b. length b.insts < 2 ^ 32) f.now.blocks }
     ensures { result ≡ option_map located (slice_get (reads_at f.now block place) operand) }
@@ -41,7 +41,7 @@ pub(crate) fn read_at(f: &Function, block: u32, place: u32, operand: u32) -> Opt
     }
 }
 
-/// What an instruction at a place of a block reads as this operand.
+/// The read of this operand of an instruction at a place of a block.
 fn read_by(f: &Function, block: u32, place: u32, op: &Op, operand: u32) -> Option<Read>
     requires { All (λ b. length b.insts < 2 ^ 32) f.now.blocks }
     ensures { (width : ℕ) → result ≡ option_map located (slice_get (reads_of f.now block place width op.now) operand) }
@@ -68,7 +68,7 @@ fn read_by(f: &Function, block: u32, place: u32, op: &Op, operand: u32) -> Optio
     }
 }
 
-/// What the terminator at a place of a block reads as this operand.
+/// The read of this operand of the terminator at a place of a block.
 fn read_by_end(block: u32, place: u32, end: &Terminator, operand: u32) -> Option<Read>
     ensures { (f : Function) → result ≡ option_map located (slice_get (reads_at_end f block place end.now) operand) }
 {
@@ -80,7 +80,7 @@ fn read_by_end(block: u32, place: u32, end: &Terminator, operand: u32) -> Option
     }
 }
 
-/// One of these operands, read where it is written.
+/// The operand at this index, as a read at the place where it stands.
 fn read_here(block: u32, place: u32, operands: &[Operand], index: u32) -> Option<Read>
     ensures { result ≡ option_map (here block place) (slice_get operands.now index) }
 {

@@ -1,4 +1,4 @@
--- Where a register has a value on every way there (LangRef, "Well-Formedness", which says it by dominance).
+-- Where a register has a value on every path from the entry (LangRef, "Well-Formedness", which says it by dominance).
 use Rattle.std.specs.Prelude.{◌≡◌, ℕ, ◌<◌, ◌⊎◌, List, ◌∷◌, length, Contains}
 use Rattle.ir_core.specs.declared.function.Function.{Function}
 use Rattle.ir_core.specs.declared.operand.Operand.TheVariants as operands
@@ -14,7 +14,7 @@ abbrev pub IsAssigned : Function → Register → ℕ → ℕ → Type 0
 IsAssigned f (registers.Parameter p) b k = p < length f.parameters
 IsAssigned f (registers.Result d j) b k = HasInst f d j × ((before : List ℕ) → IsWalk f (b ∷ before) → Contains before d ⊎ ((d ≡ b) × (j < k)))
 
--- what is read is assigned where it is read, if it is a register
+-- if the operand of a read is a register, that is assigned where it is read
 abbrev pub ReadIsAssigned : Function → Read → Type 0
 ReadIsAssigned f r = (register : Register) → r.operand ≡ operands.Register register → IsAssigned f register r.block r.place
 
@@ -22,11 +22,13 @@ ReadIsAssigned f r = (register : Register) → r.operand ≡ operands.Register r
 abbrev pub ReadsAreAssigned : Function → Type 0
 ReadsAreAssigned f = (b k i : ℕ) (r : Read) → IsRead f b k i r → ReadIsAssigned f r
 
--- what is written at one place stands before what is written at another: block, place and operand in this order
+-- operand i at place k of block b comes before operand j at place l of block c: by block, then by place, then by
+-- operand
 abbrev pub IsBefore : ℕ → ℕ → ℕ → ℕ → ℕ → ℕ → Type 0
 IsBefore b k i c l j = (b < c) ⊎ ((b ≡ c) × ((k < l) ⊎ ((k ≡ l) × (i < j))))
 
--- operand i that is written at place k of block b reads the register, is not assigned, and is the first that is not
+-- operand i at place k of block b reads the register where it is not assigned, and is the first operand of which this
+-- is so
 pub record IsFirstUnassigned (f : Function) (register : Register) (b k i : ℕ) : Type 0 where
   pub read : Read
   pub is_read : IsRead f b k i read

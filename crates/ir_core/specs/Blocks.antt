@@ -6,7 +6,7 @@ use Rattle.ir_core.specs.declared.function.Block.{Block}
 use Rattle.ir_core.specs.declared.terminator.Terminator.{Terminator}
 use Rattle.ir_core.specs.declared.terminator.Terminator.TheVariants.{Return, Jump, Branch, Switch, Unreachable}
 
--- the blocks that a terminator names
+-- the blocks that a terminator names: its successors
 abbrev pub targets_of : Terminator → List ℕ
 targets_of (Return a) = []
 targets_of (Jump b) = b ∷ []

@@ -49,7 +49,7 @@ OperandHasWidth f width (operands.Number n) = n.width ≡ width
 OperandHasWidth f width operands.Undef = Unit {0}
 OperandHasWidth f width operands.Poison = Unit {0}
 
--- the types that an instruction asks for beside those of its operands, and its flags and its truth value
+-- the types that an instruction asks for beyond those of its operands, and which flags and truth value it may have
 abbrev pub IsTyped : ℕ → Op → Type 0
 IsTyped width (Binary op flags x y) = FlagsFit op flags
 IsTyped width (Compare pred samesign compared x y) = width ≡ 1
@@ -83,7 +83,7 @@ pub record EntriesFit (f : Function) (b : ℕ) (entries : List (Operand × ℕ))
   pub from : (c : ℕ) → ((a : Operand) × Contains entries (a, c)) ↔ Names f c b
   pub one : (x y : Operand) (c : ℕ) → Contains entries (x, c) → Contains entries (y, c) → x ≡ y
 
--- The checks of a function but the last. Each is named for what it finds.
+-- The checks of a function but the last. Above each stands the kind of fault that it refuses.
 pub record IsFormed (f : Function) : Type 0 where
   pub some_block : 0 < length f.blocks
   -- Duplicate

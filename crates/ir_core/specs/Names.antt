@@ -19,7 +19,7 @@ block_names block = block.name ∷ map (λ i. i.name) block.insts
 abbrev pub names_of : Function → List Name
 names_of f = map (λ p. p.name) f.parameters ++ flat_map block_names f.blocks
 
--- where block b stands in text order, and where a register does
+-- the index in that list of the name of block b, and of the name of a register
 abbrev pub block_place : Function → ℕ → ℕ
 block_place f b = length f.parameters + length (flat_map block_names (take b f.blocks))
 

@@ -1,5 +1,5 @@
 -- What a run of a function may do: operands, instructions, blocks, outcomes. Each is a relation, since a number may be
--- left open. Registers are known by place.
+-- left open. Registers are identified by where they are defined.
 use Rattle.std.specs.Prelude.{◌≡◌, ℕ, zero, suc, ◌^◌, ◌<◌, ◌==◌, Bool, false, true, ◌&&◌, ◌||◌, if◌then◌else◌, List, [], ◌∷◌, Contains, Option, None, Some, slice_get, codes}
 use Rattle.std.specs.List.{list_any}
 use Rattle.std.specs.Str.{bytes_eq}
@@ -44,7 +44,7 @@ abbrev pub holding : Registers → ℕ → ℕ → Value → Registers
 holding held b k v (registers.Parameter p) = held (registers.Parameter p)
 holding held b k v (registers.Result c j) = if (c == b) && (j == k) then Some v else held (registers.Result c j)
 
--- ---- where undefined behaviour comes of what is no number
+-- ---- undefined behaviour that comes of poison and `undef`
 
 -- the item `noundef` is among these (LangRef, "Parameter Attributes")
 abbrev pub has_noundef : List (List ℕ) → Bool
@@ -59,7 +59,7 @@ abbrev pub breaks_noundef : List Parameter → List Value → Bool
 breaks_noundef (p ∷ ps) (v ∷ vs) = (has_noundef p.items && is_poison v) || breaks_noundef ps vs
 breaks_noundef ps vs = false
 
--- what the operand gives stands for no number of the program: it is poison, or the literal `undef` gave it
+-- the operand gave no definite number: it is the literal `undef`, or gave poison
 abbrev pub is_indefinite : Operand → Value → Bool
 is_indefinite operands.Undef v = true
 is_indefinite a v = is_poison v
@@ -72,11 +72,11 @@ pub data Ending : Type 0 where
   Returns : (v : Value) → Ending
   Goes : (to : ℕ) (held : Registers) → Ending
 
--- a return of what the operand gave: undefined behaviour where that is indefinite and the function returns `noundef`
+-- a return of what the operand gave: undefined behaviour where that is indefinite and the return value is `noundef`
 abbrev pub returning : Bool → Operand → Value → Ending
 returning noundef a v = if noundef && is_indefinite a v then Undefines else Returns v
 
--- the block where the run goes on for the number that the operand gave; undefined behaviour where that is indefinite
+-- a jump to the block for the number that the operand gave: undefined behaviour where that is indefinite
 abbrev pub going_by : (ℕ → ℕ) → Registers → Operand → Value → Ending
 going_by to held operands.Undef v = Undefines
 going_by to held a values.Poison = Undefines
@@ -86,7 +86,7 @@ going_by to held a (values.Bits n) = Goes (to n.number) held
 abbrev pub branch_target : ℕ → ℕ → ℕ → ℕ
 branch_target to other n = if n == 1 then to else other
 
--- the block of the case with the number, and else the other
+-- the block of the case with the number, and else the default block
 abbrev pub switch_target : List (Number × ℕ) → ℕ → ℕ → ℕ
 switch_target [] other n = other
 switch_target (c ∷ cases) other n = if c.0.number == n then c.1 else switch_target cases other n
@@ -102,7 +102,7 @@ Leads next Undefines o = o ≡ outcomes.Undefined
 Leads next (Returns v) o = o ≡ outcomes.Return v
 Leads next (Goes b held) o = next b held o
 
--- one thing of the entries of a phi, and another of all else
+-- P of the entries of a phi, and Q where the instruction is no phi
 abbrev pub IfPhi : (List (Operand × ℕ) → Type 0) → Type 0 → Op → Type 0
 IfPhi P Q (Phi entries) = P entries
 IfPhi P Q op = Q
@@ -140,7 +140,7 @@ module _ (MayChoose : ℕ → ℕ → Type 0) where
   OpGives held width (Freeze a) e = (x : Value) × (v : Value) × OperandGives held width a x × Freezes width x v × (e ≡ effects.Gives v)
   OpGives held width (Phi entries) e = ⊥
 
-  -- a phi takes what its entry for the block gives that control comes from ("phi")
+  -- a phi takes what its entry for the block from which control comes gives ("phi")
   abbrev pub PhiGives : Registers → Option ℕ → ℕ → List (Operand × ℕ) → Value → Type 0
   PhiGives held from width entries v = (b : ℕ) × (a : Operand) × (from ≡ Some b) × Contains entries (a, b) × OperandGives held width a v
 
@@ -157,8 +157,8 @@ module _ (MayChoose : ℕ → ℕ → Type 0) where
   Follows f b k [] t held end = EndGives held f t end
   Follows f b k (i ∷ insts) t held end = (e : Effect) × OpGives held i.width i.op e × GoesOn (λ v. Follows f b (suc k) insts t (holding held b k v) end) e end
 
-  -- Block b is entered, at its instruction k: the phis there take their values all at once, from the registers as they
-  -- were (`old`), and behind them the instructions follow.
+  -- Block b is entered, and its phis up to the k-th have taken their values: the phis from there on take theirs, all
+  -- from the registers as they were at the entry (`old`), and behind them the instructions follow.
   abbrev pub Enters : Function → Option ℕ → Registers → ℕ → ℕ → List Inst → Terminator → Registers → Ending → Type 0
   Enters f from old b k [] t held end = Follows f b k [] t held end
   Enters f from old b k (i ∷ insts) t held end =

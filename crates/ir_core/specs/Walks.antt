@@ -1,4 +1,4 @@
--- The ways through the blocks of a function.
+-- Walks through the control-flow graph of a function.
 use Rattle.std.specs.Prelude.{◌≡◌, ℕ, List, [], ◌∷◌}
 use Rattle.ir_core.specs.declared.function.Function.{Function}
 use Rattle.ir_core.specs.Blocks.{Names}

@@ -8,7 +8,7 @@ use crate::terminator::Terminator;
 use lists::{List, Text};
 use std::alloc::{AllocError, Global};
 
-/// A function equal to this one. The only error is want of memory. It takes as many steps as the function is long.
+/// A function equal to this one, in time linear in its length. The only error is want of memory.
 pub fn copy_function(alloc: Global, f: &Function) -> Result<Function, AllocError>
     ensures { IfOk result (λ copy. copy ≡ f.now) }
 {

@@ -1,4 +1,5 @@
-//! A function and its blocks. A register is known by its place, so that its printed number is no part of a value.
+//! A function and its blocks. Registers and blocks are identified by index, so that the numbers with which they are
+//! printed are no part of the value.
 
 use crate::instruction::Inst;
 use crate::terminator::Terminator;
@@ -10,8 +11,8 @@ use ops::Width;
 pub struct Function {
     /// The name, without the `@`.
     pub name: Text,
-    /// The items before the type of what it returns, each as it is printed: linkage, attributes. Of them `noundef`
-    /// alone has a meaning.
+    /// The items before the return type, each as it is printed: linkage, attributes. Of them `noundef` alone has a
+    /// meaning.
     pub before: List<Text>,
     /// The width of what it returns.
     pub width: Width,

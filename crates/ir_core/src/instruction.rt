@@ -14,7 +14,8 @@ pub struct Inst {
     pub op: Op,
 }
 
-/// What an instruction computes (LangRef, "Instruction Reference"). A block is known by its place in the function.
+/// What an instruction computes (LangRef, "Instruction Reference"). Blocks are identified by their index in the
+/// function.
 #[derive(Debug, Drop)]
 pub enum Op {
     /// A binary operation, or an intrinsic such as `umin`, on two operands of the result's width.
@@ -23,12 +24,12 @@ pub enum Op {
     Compare(Pred, bool, Width, Operand, Operand),
     /// An intrinsic on one operand of the result's width, with its truth value, which is false where it has none.
     Unary(Unary, bool, Operand),
-    /// `select`: an i1, what it gives where that is 1, and what it gives where that is 0.
+    /// `select`: the condition, an i1, the operand that it chooses where that is 1, and the one where it is 0.
     Select(Operand, Operand, Operand),
     /// `trunc`, `zext` or `sext` of an operand of the width.
     Convert(Cast, Flags, Width, Operand),
-    /// `freeze`: the operand, or some number where that is poison.
+    /// `freeze`: the operand's value, or any number where that is poison.
     Freeze(Operand),
-    /// `phi`: for each block from which this one may be entered, what it gives then.
+    /// `phi`: for each predecessor of the block, the operand whose value it takes when control comes from there.
     Phi(List<(Operand, u32)>),
 }

@@ -1,9 +1,9 @@
-//! Modules of LLVM IR over integer registers, as plain values, and what a module has to meet.
+//! Modules of LLVM IR over integer registers, as plain values, and the checks that every module meets.
 //!
 //! The definitions stand in `specs/`: `Reads` says what an instruction reads and where, `Blocks` which blocks a
-//! terminator names, `Walks` which blocks a run may go through, `Assigned` where a register has a value on every way
-//! there, `Names` which name stands where, `Checks` what every function and module that is read meets, `Run` what a run
-//! may do, and `Refines` what may stand in whose place.
+//! terminator names, `Walks` which walks there are through the control-flow graph, `Assigned` where a register has a
+//! value on every path, `Names` the names in text order, `Checks` what every function and module that is read meets,
+//! `Run` what a run may do, and `Refines` when one function or module refines another.
 #![tactic(auto)]
 
 mod copy;

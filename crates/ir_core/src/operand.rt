@@ -1,25 +1,25 @@
-//! What instructions and terminators read.
+//! Operands of instructions and terminators.
 
 use ops::Word;
 
-/// What an instruction or a terminator reads.
+/// An operand of an instruction or a terminator.
 #[derive(Clone, Copy, Debug, PartialEq, Eq)]
 pub enum Operand {
-    /// What the register holds.
+    /// The value that the register holds.
     Register(Register),
     /// A literal number.
     Number(Word),
-    /// Some number of the operand's width, chosen each time the instruction runs.
+    /// The literal `undef`: any number of the operand's width, chosen each time the instruction runs.
     Undef,
     /// The literal `poison`.
     Poison,
 }
 
-/// A register, by its place. Places count from 0.
+/// A register, identified by where it is defined. Indices count from 0.
 #[derive(Clone, Copy, Debug, PartialEq, Eq)]
 pub enum Register {
-    /// A parameter.
+    /// The parameter at this index.
     Parameter(u32),
-    /// The result of an instruction: its block, and its place there.
+    /// The result of an instruction: the index of its block, and its own index there.
     Result(u32, u32),
 }

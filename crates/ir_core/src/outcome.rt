@@ -1,8 +1,8 @@
-//! How far a run came.
+//! The outcomes of runs.
 
 use ops::Value;
 
-/// What a run of a function has come to, after at most so many blocks entered.
+/// What a run of a function that may enter at most so many blocks has come to.
 #[derive(Clone, Copy, PartialEq, Eq)]
 pub enum Outcome {
     /// It returned a value.

@@ -1,4 +1,5 @@
-//! What is written in a function to be read: each operand with its width, and with the place where it is read.
+//! The reads of a function: each operand with its width, and with the place where it is read. A place in a block is the
+//! index of an instruction, or, for the terminator, the number of instructions.
 
 ghost use Rattle.std.specs.Prelude.{◌≡◌, ℕ, ◌<◌, ◌^◌, length, All, slice_get};
 ghost use Rattle.ir_core.specs.Reads.{read, end_of, reads_at, reads_at_end, reads_of};
@@ -10,8 +11,8 @@ use crate::operand::Operand;
 use crate::terminator::Terminator;
 use ops::Width;
 
-/// An operand that is read, at which width, and where: at a place of a block the instructions before that place have
-/// run, and where the place is their number all have.
+/// A read of an operand: at which width, and where. At place k of a block the instructions before the k-th have run; at
+/// the terminator's place, which is their number, all have.
 #[derive(Clone, Copy)]
 pub struct Read {
     pub operand: Operand,
@@ -31,8 +32,8 @@ pub fn end_of(f: &Function, block: u32) -> u32
     }
 }
 
-/// How many operands are read by what stands at a place of a block. The terminator's place is the number of
-/// instructions.
+/// How many operands the instruction or the terminator at a place of a block has. The terminator's place is the number
+/// of instructions.
 pub fn read_count(f: &Function, block: u32, place: u32) -> usize
     ensures { result ≡ length (reads_at f.now block place) }
 {
@@ -46,7 +47,7 @@ pub fn read_count(f: &Function, block: u32, place: u32) -> usize
     }
 }
 
-/// How many operands an instruction reads.
+/// How many operands an instruction has.
 fn count_by(op: &Op) -> usize
     ensures { (f : Function) (b k width : ℕ) → result ≡ length (reads_of f b k width op.now) }
 {
@@ -58,7 +59,7 @@ fn count_by(op: &Op) -> usize
     }
 }
 
-/// How many operands a terminator reads.
+/// How many operands a terminator has.
 fn count_by_end(end: &Terminator) -> usize
     ensures { (f : Function) (b k : ℕ) → result ≡ length (reads_at_end f b k end.now) }
 {
@@ -68,8 +69,9 @@ fn count_by_end(end: &Terminator) -> usize
     }
 }
 
-/// What is read as one operand of what stands at a place of a block, in constant time. The terminator's place is the
-/// number of instructions, and the operands of a phi are read at the ends of the blocks that they are for.
+/// The read of one operand of the instruction or the terminator at a place of a block, in constant time. The
+/// terminator's place is the number of instructions. An operand of a phi is read at the end of the block that its entry
+/// names.
 pub fn read_at(f: &Function, block: u32, place: u32, operand: usize) -> Option<Read>
     requires { All (λ b. length b.insts < 2 ^ 32) f.now.blocks }
     ensures { result ≡ slice_get (reads_at f.now block place) operand }
@@ -84,7 +86,7 @@ pub fn read_at(f: &Function, block: u32, place: u32, operand: usize) -> Option<R
     }
 }
 
-/// What an instruction of this width at a place of a block reads as this operand.
+/// The read of this operand of an instruction of this width at a place of a block.
 fn read_by(
     f: &Function,
     block: u32,
@@ -127,7 +129,7 @@ fn read_by(
     }
 }
 
-/// What the terminator at a place of a block reads as this operand, in a function that returns this width.
+/// The read of this operand of the terminator at a place of a block, in a function that returns this width.
 fn read_by_end(
     returned: Width,
     block: u32,
@@ -157,7 +159,7 @@ fn here(block: u32, place: u32, width: Width, operand: Operand) -> Read
     }
 }
 
-/// One of these, if there are so many.
+/// The read at this index of the list, if it has one.
 fn one_of(reads: &[Read], index: usize) -> Option<Read>
     ensures { result ≡ slice_get reads.now index }
 {

@@ -1,4 +1,4 @@
--- What is read of calls is spelled so.
+-- Soundness of the parser for calls: what it gives is spelled so.
 use Rattle.std.proofs.Common.{◌≡◌, ℕ, suc, Bool, true, false, cond, eqb, ◌&&◌, List, [], ◌∷◌, ◌++◌, length, Option, Some, None, Ok, refl, ap, sym, subst, ◌∙◌, append_assoc}
 use Rattle.std.specs.Prelude.{codes}
 use Rattle.std.specs.List.{AllByRecursion}
@@ -124,7 +124,7 @@ arguments_at-is (intrinsics.Unary op) = one_argument_at-is op
 
 -- ---- items behind a call
 
--- an item, all of whose tokens stand on the line
+-- an item with all its tokens on the line
 abbrev OneOn : ℕ → List Placed → List Placed → Type 0
 OneOn line tokens rest =
     (item : List ℕ) × (taken : List Placed) × SpellsItem item tokens rest × (tokens ≡ taken ++ rest) × AllByRecursion (λ (t : Placed). t.0 ≡ line) taken
@@ -150,7 +150,7 @@ value-is line ((at, Quoted value) ∷ rest) x e =
     (value, ap (λ (n : ℕ). (n, Quoted value) ∷ rest) (eqb-true at line t.0) ∙ ap (λ (y : Unit {0} × List Placed). (line, Quoted value) ∷ y.1) t.1)
 value-is line tokens x e = absurd cc
 
--- what stands first on the line
+-- the first token, which is on the line
 first_on : (line : ℕ) (tokens : List Placed) → is_on_line line tokens ≡ true → (token : Placed) × (rest : List Placed) × (tokens ≡ token ∷ rest) × (token.0 ≡ line)
 first_on line [] on = absurd cc
 first_on line (t ∷ rest) on = (t, rest, refl, eqb-true t.0 line on)
@@ -238,7 +238,7 @@ unfolding callee_at
 callee_at-is line ((at, Function written) ∷ rest) x e = callee-is line at written (identifier_of written) rest x refl e
 callee_at-is line tokens x e = absurd cc
 
--- the intrinsic is the one that the arguments are read for
+-- the arguments are read for this intrinsic
 same_intrinsic : (what : Intrinsic) (tokens : List Placed) (x : RawArguments × List Placed) → arguments_at what tokens ≡ Ok x → intrinsic_of x.0 ≡ what
 unfolding two_arguments_at one_argument_at
 same_intrinsic (intrinsics.Binary op) tokens x e =
@@ -251,7 +251,7 @@ same_intrinsic (intrinsics.Unary op) tokens x e =
     let b = bind_ok (truth_at op a.0.1) _ _ a.2 in
     read_as (λ (y : RawArguments × List Placed). intrinsic_of y.0 ≡ intrinsics.Unary op) (arguments.Unary op a.0.0 b.0.0, b.0.1) x b.2 refl
 
--- behind the word `call` on the line, and what marks it
+-- a call behind the word `call` on the line, and what stands before that word
 pub call_at-is : (line : ℕ) (marked tokens : List Placed) (x : RawOp × List Placed) → SpellsMarker marked ((line, Word (codes "call")) ∷ tokens) → call_at line tokens ≡ Ok x → SpellsOp x.0 marked x.1
 unfolding call_at
 call_at-is line marked tokens x marker e =
@@ -293,7 +293,7 @@ call_word-is ((line, Word word) ∷ rest) x e =
     ap (λ (w : List ℕ). (line, Word w) ∷ rest) (same_word word (codes "call") t.0) ∙ ap (λ (y : ℕ × List Placed). (y.0, Word (codes "call")) ∷ y.1) t.1
 call_word-is tokens x e = absurd cc
 
--- behind `tail` or `notail`
+-- a call behind `tail` or `notail`
 pub marked_call_at-is : (marked tokens : List Placed) (x : RawOp × List Placed) → ((rest : List Placed) → rest ≡ tokens → SpellsMarker marked rest) → marked_call_at tokens ≡ Ok x → SpellsOp x.0 marked x.1
 unfolding marked_call_at
 marked_call_at-is marked tokens x marker e =

@@ -1,4 +1,4 @@
--- What is spelled of calls is read, where what follows may follow.
+-- Completeness of the parser for calls: it gives what is spelled, if what follows may follow.
 use Rattle.std.proofs.Common.{◌≡◌, ℕ, Bool, true, false, ◌&&◌, not, List, [], ◌∷◌, ◌++◌, Option, Some, None, Ok, refl, ap, ◌∙◌, append_assoc}
 use Rattle.std.proofs.lemmas.List.{append-nil}
 use Rattle.ops.specs.declared.opcode.Unary.{Unary}
@@ -31,7 +31,8 @@ use Rattle.ir_instructions.proofs.Takings.{inner-takes}
 
 -- ---- items of an argument
 
--- a value stands before the end of an argument: no inner item begins with it, it ends none, and it may follow one
+-- the last token of an argument is next, its value: no inner item begins with it, it ends no argument, and it may
+-- follow an item
 record BeginsValue (tokens : List Placed) : Type 0 where
   none : begins_inner_item tokens ≡ false
   goes_on : ends_argument tokens ≡ false
@@ -137,7 +138,7 @@ callee_at-of line named tokens rest (written, name, has_name, intrinsic, (at, is
 type_may_follow : (width : ℕ) (tokens rest : List Placed) → SpellsType width tokens rest → MayFollowItem tokens
 type_may_follow width tokens rest (word, type, (line, is)) = rw is tt
 
--- a call behind its first words
+-- a call behind the word `call`
 abbrev pub SpellsCalled : RawCall → Part
 SpellsCalled w =
     Items ⨾ SpellsType w.width ⨾ SpellsCallee (intrinsic_of w.arguments, w.named) ⨾ Is (Mark marks.open_paren) ⨾ SpellsArguments w.arguments ⨾ SpellsClose

@@ -1,4 +1,4 @@
--- The first `.` of a text, and the names behind `llvm.` by its place.
+-- The first `.` of a text, and how names behind `llvm.` are split there.
 use Rattle.std.proofs.Common.{◌≡◌, ℕ, ◌+◌, ◌-◌, ◌≤◌, ltb, ltb-false, Bool, true, false, cond, eqb, List, [], length, take, drop, Option, Some, None, refl, ap, sym, ◌∙◌, arith}
 use Rattle.std.specs.Prelude.{option_and_then, option_map}
 use Rattle.std.specs.List.{before_first, after_first, position_or_len}
@@ -7,7 +7,7 @@ use Rattle.ir_instructions.specs.declared.intrinsic.Intrinsic.{Intrinsic}
 use Rattle.ir_instructions.specs.Intrinsics.{keyword_in, plain_width_in, named_in}
 use Rattle.ir_instructions.specs.Keywords.{type_in}
 
--- the place of the first `.`, if there is one
+-- the index of the first `.`, if there is one
 abbrev pub IsDot : List ℕ → Option ℕ → Type 0
 IsDot text found = found ≡ cond (ltb (position_or_len (λ b. eqb b 46) text) (length text)) (Some (position_or_len (λ b. eqb b 46) text)) None
 
@@ -20,7 +20,7 @@ none_behind text is = by (ltb (position_or_len (λ b. eqb b 46) text) (length te
         let past : length text ≤ position_or_len (λ b. eqb b 46) text = ltb-false (position_or_len (λ b. eqb b 46) text) (length text) h in
         drop_all (position_or_len (λ b. eqb b 46) text + 1) text (omega arith)
 
--- the intrinsic of a keyword, if there is one, at the width of a type, if it is one
+-- the intrinsic with the width, if there is one
 abbrev at_width : Intrinsic → Option ℕ → Option (Intrinsic × ℕ)
 at_width what width = option_map (λ w. (what, w)) width
 
@@ -53,7 +53,7 @@ no_keyword text dot is none = at_dot text dot is ∙ ap (at_type (drop (dot + 1)
 keyword_and_type : (what : Intrinsic) (text : List ℕ) (dot : ℕ) → IsDot text (Some dot) → keyword_in (take dot text) ≡ Some what → named_in text ≡ at_width what (plain_width_in (drop (dot + 1) text))
 keyword_and_type what text dot is keyword = at_dot text dot is ∙ ap (at_type (drop (dot + 1) text)) keyword
 
--- what stands behind the `.` is all that is left
+-- taking all that is left behind the `.` leaves it as it is
 behind : (text : List ℕ) (n : ℕ) → take (length text - n) (drop n text) ≡ drop n text
 behind text n = take_all (length text - n) (drop n text) (omega (arith, length-drop n text))
 

@@ -1,4 +1,4 @@
--- What is read of items is spelled so.
+-- Soundness of the parser for items: what it gives is spelled so.
 use Rattle.std.proofs.Common.{◌≡◌, ℕ, Bool, true, false, cond, List, [], ◌∷◌, ◌++◌, Ok, refl, subst}
 use Rattle.ir_tokens.specs.Tokens.{Placed, KeptGroup, Word, Number, Group, Quoted}
 use Rattle.ir_instructions.specs.InstructionReaders.{is_mark, mark_at}

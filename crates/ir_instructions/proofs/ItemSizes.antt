@@ -1,4 +1,4 @@
--- An item takes a token at least.
+-- An item takes at least one token.
 use Rattle.std.proofs.Common.{ℕ, List}
 use Rattle.ir_instructions.specs.ItemGrammar.{SpellsItem, of_word, of_word_and_group, of_number, of_group, of_quoted, of_key_and_value}
 use Rattle.ir_instructions.specs.ItemReaders.{begins_item, item_at}

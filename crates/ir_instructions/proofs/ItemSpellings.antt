@@ -1,4 +1,4 @@
--- What is spelled of items is read, where what follows may follow.
+-- Completeness of the parser for items: it gives what is spelled, if what follows may follow.
 use Rattle.std.proofs.Common.{◌≡◌, ℕ, true, false, eqb, List, [], ◌∷◌, Ok, refl}
 use Rattle.ir_tokens.specs.Tokens.{Placed, KeptGroup, Register, Metadata, Mark}
 use Rattle.ir_instructions.specs.InstructionReaders.{is_mark}
@@ -13,7 +13,7 @@ use Rattle.ir_instructions.specs.Items.{is_item_word}
 use Rattle.ir_instructions.proofs.Spellings.{mark_at-of}
 use Rattle.ir_instructions.proofs.WordLemmas.{type_in-of}
 
--- no item begins a type
+-- no type begins like an item
 pub type_begins_no_item : (width : ℕ) (tokens rest : List Placed) → SpellsType width tokens rest → begins_item tokens ≡ false
 unfolding is_item_word
 type_begins_no_item width tokens rest (word, type, (line, is)) = rw (is, type_in-of word width type) refl
@@ -59,7 +59,7 @@ unfolding items_at
 items_at-of items tokens rest each none may =
     each-of begins_item item_at SpellsItem MayFollowItem (record { takes = item-takes; next = item_is_next; follows = item_may_follow; reads = item_at-of }) items [] tokens rest each none may
 
--- what may follow the last items: no item, and no word
+-- what may follow the last items: neither an item nor a word
 abbrev pub MayFollowItems : List Placed → Type 0
 MayFollowItems ((line, Register name) ∷ rest) = Unit {0}
 MayFollowItems ((line, Metadata text) ∷ rest) = Unit {0}

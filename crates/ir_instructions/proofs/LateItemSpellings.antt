@@ -1,4 +1,4 @@
--- What is spelled of the items behind a call is read: all that stand on the line.
+-- Completeness of the parser for the items behind a call: it reads all that stand on the line.
 use Rattle.std.proofs.Common.{◌≡◌, ◌≤◌, ℕ, Bool, true, false, eqb, eq-eqb, ◌&&◌, List, [], ◌∷◌, ◌++◌, length, Ok, refl, sym, ap, subst, ◌∙◌, arith}
 use Rattle.std.specs.List.{AllByRecursion}
 use Rattle.ir_tokens.specs.Tokens.{Placed, KeptGroup, Word, Number, Group, Quoted, Mark}
@@ -15,11 +15,11 @@ use Rattle.ir_instructions.proofs.Shorter.{weaker, each}
 use Rattle.ir_instructions.proofs.Spellings.{mark_at-of}
 use Rattle.ir_instructions.proofs.Takings.{late-takes}
 
--- the tokens before the rest stand on the line
+-- the tokens before the rest are on the line
 abbrev AllOn : ℕ → List Placed → List Placed → Type 0
 AllOn line tokens rest = (taken : List Placed) × (tokens ≡ taken ++ rest) × AllByRecursion (λ (t : Placed). t.0 ≡ line) taken
 
--- so does the first, if it is before the rest, and so do those behind it
+-- so is the first token, if it is before the rest, and so are those behind it up to the rest
 first_on : (line : ℕ) (t : Placed) (tokens rest : List Placed) → AllOn line (t ∷ tokens) rest → length rest ≤ length tokens → (t.0 ≡ line) × AllOn line tokens rest
 first_on line t tokens rest ([], same, on) fewer = absurd (omega (arith, ap length same))
 first_on line t tokens rest (u ∷ taken, same, on) fewer =
@@ -27,7 +27,7 @@ first_on line t tokens rest (u ∷ taken, same, on) fewer =
     let behind : tokens ≡ taken ++ rest = cc in
     (subst (λ (v : Placed). v.0 ≡ line) (sym first) on.0, (taken, behind, on.1))
 
--- an item on the line, with tokens on the line up to the rest
+-- an item on the line is next, with tokens on the line up to the rest
 record LateItem (line : ℕ) (tokens middle rest : List Placed) : Type 0 where
   next : begins_late_item line tokens ≡ true
   reads : late_item_at line tokens ≡ Ok (tt, middle)

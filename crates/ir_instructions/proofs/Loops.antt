@@ -1,4 +1,4 @@
--- What stands any number of times: how a loop reads it.
+-- Repeated productions: how a loop reads them.
 use Rattle.std.proofs.Common.{◌≡◌, ◌<◌, ℕ, zero, suc, Bool, true, false, cond, List, [], ◌∷◌, ◌++◌, length, Ok, Err, refl, sym, ◌∙◌, ap, subst, append_assoc, arith}
 use Rattle.std.proofs.lemmas.List.{append-nil}
 use Rattle.ir_tokens.specs.Tokens.{Placed}
@@ -11,17 +11,17 @@ use Rattle.ir_instructions.specs.Parts.{Part, Each}
 use Rattle.ir_instructions.specs.Readers.{Read, Reader, goes_on, done, TakesSome, steps_at, repeat_at, another_at, each_at}
 use Rattle.ir_instructions.proofs.Steps.{bind_ok, read_as}
 
--- steps that go on the same from what was read are the same
+-- two continuations that agree on what was read give the same
 pub same_behind : {A B : Type 0} (r : Read A) (f g : A → Reader B) → ((x : A × List Placed) → r ≡ Ok x → f x.0 x.1 ≡ g x.0 x.1) → goes_on r f ≡ goes_on r g
 same_behind (Ok x) f g h = h x refl
 same_behind (Err e) f g h = refl
 
--- so are tests that go on the same where they hold
+-- two branches that agree where the test holds give the same
 pub same_if : {A : Type 0} (b : Bool) (x y z : A) → (b ≡ true → x ≡ y) → cond b x z ≡ cond b y z
 same_if true x y z h = h refl
 same_if false x y z h = refl
 
--- more than as many steps as there are tokens are not needed
+-- a bound of more steps than there are tokens changes nothing
 steps_enough : {A : Type 0} (is_next : List Placed → Bool) (step : A → Reader A) → ((before : A) → TakesSome is_next (step before)) → (n m : ℕ) (before : A) (tokens : List Placed) → length tokens < n → length tokens < m → steps_at is_next step n before tokens ≡ steps_at is_next step m before tokens
 unfolding steps_at
 steps_enough is_next step some zero m before tokens p q = absurd (omega arith)
@@ -47,9 +47,9 @@ pub repeat-done : {A : Type 0} (is_next : List Placed → Bool) (step : A → Re
 unfolding steps_at
 repeat-done is_next step before tokens none = rw none refl
 
--- ---- the same for parts
+-- ---- the same for productions
 
--- another part takes what the part takes
+-- appending what a production gives takes the tokens that it takes
 another_takes : {A : Type 0} (is_next : List Placed → Bool) (part : Reader A) → TakesSome is_next part → (front : List A) → TakesSome is_next (another_at part front)
 another_takes is_next part some front tokens x next e = taken (part tokens) refl e
   where
@@ -67,10 +67,10 @@ each-fault is_next part front tokens total (Refused fault) next fails so_far = s
 pub each-done : {A : Type 0} (is_next : List Placed → Bool) (part : Reader A) (front : List A) (tokens : List Placed) → is_next tokens ≡ false → each_at is_next part front tokens ≡ Ok (front, tokens)
 each-done is_next part front tokens none = repeat-done is_next (another_at part) front tokens none
 
--- ---- what is read so
+-- ---- soundness of a loop
 
--- what holds of no step, and of a step before such steps, holds of the steps that are read; and no other is next behind
--- them
+-- a relation that holds of no step, and of a step before steps of which it holds, holds of the steps that were read;
+-- and behind them no other is next
 pub repeat-is : {A : Type 0} (is_next : List Placed → Bool) (step : A → Reader A) (R : A → List Placed → A → List Placed → Type 0)
     → ((a : A) (tokens : List Placed) → R a tokens a tokens)
     → ((a : A) (tokens : List Placed) (x : A × List Placed) (b : A) (rest : List Placed) → is_next tokens ≡ true → step a tokens ≡ Ok x → R x.0 x.1 b rest → R a tokens b rest)
@@ -84,7 +84,7 @@ repeat-is is_next step R none more (suc n) a tokens x e = begun (is_next tokens)
     begun true h e others = let s = bind_ok (step a tokens) _ _ e in let o = others s.0 s.2 in (more a tokens s.0 x.0 x.1 h s.1 o.0, o.1)
     begun false h e others = read_as (λ y. R a tokens y.0 y.1 × (is_next y.1 ≡ false)) (a, tokens) x e (none a tokens, h)
 
--- parts behind those in front
+-- the list is those in front, and behind them what the tokens spell
 abbrev pub Adds : {A : Type 0} → (A → Part) → List A → List Placed → List A → List Placed → Type 0
 Adds {A} P front tokens all rest = (others : List A) × (all ≡ front ++ others) × Each P others tokens rest
 
@@ -99,14 +99,14 @@ each-is is_next part P is front tokens x e =
         read_as (λ z. Adds P z.0 z.1 b rest → Adds P a ts b rest) (a ++ p.0.0 ∷ [], p.0.1) y p.2
         (λ (others, all, each). (p.0.0 ∷ others, all ∙ append_assoc a (p.0.0 ∷ []) others, (p.0.1, is ts p.0 next p.1, each)))
 
--- parts behind none
+-- the same with none in front
 pub all_read : {A : Type 0} (P : A → Part) (tokens : List Placed) (all : List A) (rest : List Placed) → Adds P [] tokens all rest → Each P all tokens rest
 all_read P tokens all rest (others, same, each) = subst (λ xs. Each P xs tokens rest) (sym same) each
 
--- ---- what is spelled is read
+-- ---- completeness of a loop
 
--- Parts for which this holds are read one behind the other: each is next where it begins, takes some tokens, and is
--- read where what follows may follow it; where one begins, one may be followed.
+-- A production for which this holds is read each time that it is repeated: the lookahead finds it where it begins, it
+-- takes some tokens, it is read if what follows may follow it, and it may itself follow one.
 pub record ReadsEach {A : Type 0} (is_next : List Placed → Bool) (part : Reader A) (P : A → Part) (MayFollow : List Placed → Type 0) : Type 0 where
   pub takes : TakesSome is_next part
   pub next : (x : A) (tokens rest : List Placed) → P x tokens rest → is_next tokens ≡ true
@@ -126,7 +126,7 @@ each-of is_next part P MayFollow r (x ∷ xs) front tokens rest (middle, one, mo
     ∙ each-of is_next part P MayFollow r xs (front ++ x ∷ []) middle rest more none may
     ∙ ap (λ ys. Ok (ys, rest)) (append_assoc front (x ∷ []) xs)
 
--- what is dropped is read as often as it stands
+-- a production that is dropped is read as often as it is spelled
 pub repeat-of : (is_next : List Placed → Bool) (part : Reader (Unit {0})) (P : Part) → TakesSome is_next part → ((tokens rest : List Placed) → P tokens rest → is_next tokens ≡ true) → ((tokens rest : List Placed) → P tokens rest → part tokens ≡ Ok (tt, rest))
     → (times : List (Unit {0})) (tokens rest : List Placed) → Each (λ once. P) times tokens rest → is_next rest ≡ false → repeat_at is_next (λ before. part) tt tokens ≡ Ok (tt, rest)
 repeat-of is_next part P takes next reads [] tokens rest same none = rw same (repeat-done is_next (λ before. part) tt rest none)

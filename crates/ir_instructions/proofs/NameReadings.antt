@@ -1,4 +1,4 @@
--- Names of intrinsics: what is read of them is spelled so, and what is spelled is read.
+-- Names of intrinsics: the parser finds an intrinsic exactly where one is spelled.
 use Rattle.std.proofs.Common.{◌≡◌, ℕ, suc, ◌+◌, ◌<◌, Bool, true, false, cond, eqb, List, [], ◌∷◌, ◌++◌, length, take, drop, Option, Some, None, refl, ap, sym, ◌∙◌, append_assoc, arith}
 use Rattle.std.specs.Prelude.{codes, option_and_then, option_map}
 use Rattle.std.specs.List.{before_first, after_first, position_or_len}
@@ -16,7 +16,7 @@ use Rattle.ir_instructions.specs.Intrinsics.{intrinsic_keyword, intrinsics as al
 use Rattle.ir_instructions.specs.Keywords.{type_in}
 use Rattle.ir_instructions.proofs.WordLemmas.{type_in-is, type_in-of, found_among}
 
--- a text with a `.` is what stands before the first one, that one, and what stands behind it
+-- a text with a `.` is what stands before the first one, the `.`, and what stands behind it
 dotted : (text : List ℕ) → 0 < length (after_first (λ b. eqb b 46) text) → text ≡ before_first (λ b. eqb b 46) text ++ 46 ∷ after_first (λ b. eqb b 46) text
 dotted [] some = absurd (omega arith)
 dotted (b ∷ text) some = first (eqb b 46) refl (dotted text)
@@ -48,14 +48,14 @@ plain_width_in-is word width e = asked (bytes_eq (take 2 word) (codes "i0")) ref
     asked true leading e = absurd cc
     asked false plain e = (type_in-is word width (width_of-is (type_in word) width e), plain)
 
--- a keyword and a width that are both found
+-- if a keyword and a width give an intrinsic at a width, both are found
 joined : (found : Option Intrinsic) (sized : Option ℕ) (named : Intrinsic × ℕ) → option_and_then (λ what. option_map (λ width. (what, width)) sized) found ≡ Some named
     → (found ≡ Some named.0) × (sized ≡ Some named.1)
 joined (Some what) (Some width) named e = let same : (what, width) ≡ named = cc in (ap (λ n. Some n.0) same, ap (λ n. Some n.1) same)
 joined (Some what) None named e = absurd cc
 joined None sized named e = absurd cc
 
--- behind `llvm.`
+-- the part of a name behind `llvm.`
 named_in-is : (rest : List ℕ) (named : Intrinsic × ℕ) → named_in rest ≡ Some named
     → (is_called named.0 ≡ true) × (word : List ℕ) × (rest ≡ intrinsic_keyword named.0 ++ 46 ∷ word) × IsPlainType word named.1
 unfolding named_in keyword_in
@@ -84,7 +84,7 @@ intrinsic_in-is name named e = asked (bytes_eq (take 5 name) (codes "llvm.")) re
         (called, word, sym (take-append-drop 5 name) ∙ ap (λ (ts : List ℕ). ts ++ drop 5 name) (same_word (take 5 name) (codes "llvm.") front) ∙ ap (λ (ts : List ℕ). codes "llvm." ++ ts) rest ∙ regrouped (intrinsic_keyword named.0) word, type)
     asked false front e = absurd cc
 
--- ---- what is spelled is read
+-- ---- completeness
 
 plain_width_in-of : (word : List ℕ) (width : ℕ) → IsPlainType word width → plain_width_in word ≡ Some width
 unfolding plain_width_in

@@ -1,4 +1,4 @@
--- What is read of instructions is spelled so.
+-- Soundness of the parser for instructions: what it gives is spelled so.
 use Rattle.std.proofs.Common.{◌≡◌, ℕ, suc, length, Bool, true, false, cond, List, [], ◌∷◌, Option, Some, None, Ok, Err, refl, sym, ap, subst, ◌∙◌}
 use Rattle.std.specs.Prelude.{codes}
 use Rattle.ops.specs.declared.opcode.Opcode.{Opcode}
@@ -33,7 +33,7 @@ use Rattle.ir_instructions.specs.Punctuation as marks
 
 -- ---- flags
 
--- flags before, and flags behind these
+-- flags are read behind those before
 abbrev AddsRead : Flags → Flags → List Placed → Flags → List Placed → Type 0
 AddsRead taken before tokens after rest = (written : List Flag) × AddsFlags taken before written after × Each (λ flag. Is (Word (flag_keyword flag))) written tokens rest
 
@@ -61,7 +61,7 @@ flags_at-is taken tokens x e =
 
 -- ---- instructions
 
--- an instruction that is read behind its opcode
+-- an operation that is read behind its first word is spelled with that word
 abbrev ReadsOp : Operation → ℕ → List Placed → RawOp × List Placed → Type 0
 ReadsOp operation line tokens x = SpellsOp x.0 ((line, Word (operation_word operation)) ∷ tokens) x.1
 
@@ -83,7 +83,7 @@ pred_at-is ((line, Word word) ∷ rest) x e =
     (line, same_front line word (predicate_keyword x.0) rest x.1 (pred_in-is word x.0 named.0) named.1)
 pred_at-is tokens x e = absurd cc
 
--- the flags that are read are those of an `icmp` with `samesign` or without
+-- the flags that are read for an `icmp` are `samesign` or none
 icmp_flags-are : (tokens : List Placed) (x : Flags × List Placed) → flags_at flags_of_icmp tokens ≡ Ok x → SpellsFlags flags_of_icmp (icmp_flags x.0.samesign) tokens x.1
 icmp_flags-are tokens x e =
     let spelled = flags_at-is flags_of_icmp tokens x e in
@@ -146,7 +146,7 @@ further_incoming_at-is width tokens x e =
     let a = bind_ok (mark_at marks.comma tokens) _ _ e in
     (a.0.1, mark_at-is marks.comma tokens a.0 a.1, incoming_at-is width a.0.1 x a.2)
 
--- the first, and others with a `,` before each
+-- the first item, and further ones behind a `,` each
 pub separated : {A : Type 0} (P : A → Part) (first : A) (tokens middle : List Placed) (all : List A) (rest : List Placed) → P first tokens middle → Adds (λ y. Comma ⨾ P y) (first ∷ []) middle all rest → Separated P all tokens rest
 separated P first tokens middle all rest one (others, same, each) = subst (λ xs. Separated P xs tokens rest) (sym same) (middle, one, each)
 

@@ -1,4 +1,4 @@
--- What is spelled of instructions and terminators is read, where what follows may follow.
+-- Completeness of the parser for instructions and terminators: it gives what is spelled, if what follows may follow.
 use Rattle.std.proofs.Common.{◌≡◌, ℕ, Bool, true, false, not, List, [], ◌∷◌, Ok, refl, ◌∙◌}
 use Rattle.std.specs.Prelude.{codes}
 use Rattle.ops.specs.declared.opcode.Flags.{Flags}
@@ -85,7 +85,7 @@ predicate_begins_no_flag taken pred tokens rest (line, is) = rw (is, predicate_i
 not_so : {b : Bool} → b ≡ false → not b ≡ true
 not_so e = rw e refl
 
--- a call behind its marker
+-- a call behind `tail`, `notail` or neither
 marked_call : (w : RawCall) (tokens t1 t2 rest : List Placed) → SpellsMarker tokens t1 → IsOn w.line (Word (codes "call")) t1 t2 → SpellsCalled w t2 rest → MayFollowItem rest → op_at tokens ≡ Ok (Call w, rest)
 unfolding op_at marked_call_at call_word_at
 marked_call w tokens t1 t2 rest (unmarked same) is call may = rw (same, is, operation_in-of operations.Call refl) (call_at-of w t2 rest call may)
@@ -108,7 +108,7 @@ op_at-of (Freeze width a) tokens rest (t1, (line, is), (t2, type, operand)) none
 op_at-of (Phi width incomings) tokens rest (t1, (line, is), (t2, type, separated)) none may =
     rw (is, operation_in-of operations.Phi refl) (phi_at-of width incomings t1 t2 rest type separated none)
 
--- no incoming value begins attachments, or what no `,` begins
+-- without a `,` no further incoming value is next
 no_comma_no_incoming : (tokens : List Placed) → is_mark marks.comma tokens ≡ false → begins_incoming tokens ≡ false
 no_comma_no_incoming ((line, Mark mark) ∷ rest) none = rw none refl
 no_comma_no_incoming tokens none = refl
@@ -121,11 +121,11 @@ tail_may_follow : (tokens rest : List Placed) → Tail tokens rest → MayFollow
 tail_may_follow tokens rest ([], same) may = rw same may
 tail_may_follow tokens rest (once ∷ times, (middle, (t1, (line, is), attachment), more)) may = rw is refl
 
--- no `,` follows
+-- no `,` is next
 abbrev pub HasNoTail : List Placed → Type 0
 HasNoTail tokens = is_mark marks.comma tokens ≡ false
 
--- and nothing that goes on in an item
+-- nor anything that would continue an item
 abbrev pub MayFollowInst : List Placed → Type 0
 MayFollowInst tokens = HasNoTail tokens × MayFollowItem tokens
 
@@ -177,7 +177,7 @@ terminator_at-of line (Branch width a if_true if_false) tokens rest (t1, is, (t2
 terminator_at-of line (Switch width a default cases) tokens rest (t1, is, (t2, type, (t3, operand, (t4, comma, (t5, target, cs))))) =
     rw (is, ending_in-of endings.Switch, typed_at-of (record { width = width; operand = a }) t1 t3 (t2, type, operand), mark_at-of marks.comma t3 t4 comma, target_at-of default t4 t5 target, cases_at-of cases t5 rest cs) refl
 
--- a word begins a terminator
+-- a terminator begins with a word
 pub terminator_begins : (line : ℕ) (t : RawTerminator) (tokens rest : List Placed) → SpellsTerminator line t tokens rest → (word : List ℕ) × (behind : List Placed) × (tokens ≡ (line, Word word) ∷ behind)
 terminator_begins line (Return width a) tokens rest (t1, is, behind) = (codes "ret", t1, is)
 terminator_begins line Unreachable tokens rest is = (codes "unreachable", rest, is)

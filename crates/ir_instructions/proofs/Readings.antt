@@ -1,4 +1,4 @@
--- What is read is spelled so.
+-- Soundness of the parser for single tokens, types, values and attachments: what it gives is spelled so.
 use Rattle.std.proofs.Common.{◌≡◌, ℕ, suc, length, Bool, true, false, cond, eqb, List, [], ◌∷◌, Option, Some, None, Ok, refl, sym, ap, subst, ◌∙◌}
 use Rattle.std.specs.Prelude.{codes}
 use Rattle.std.specs.Str.{bytes_eq}
@@ -69,13 +69,13 @@ number_value-is width line digits (Some number) rest x is e =
     read_as (λ y. SpellsOperand width y.0 ((line, Number digits) ∷ rest) y.1) (record { line = line; value = values.Number number }, rest) x e (Number digits, (digits, is, refl), refl)
 number_value-is width line digits None rest x is e = absurd cc
 
--- a word that stands for the wanted value is that value, or else what the others are
+-- a word is the wanted one, and stands for its value, or is one of the others
 tried : (P : RawValue → List ℕ → Type 0) (word wanted : List ℕ) (value found : RawValue) (others : Option RawValue) (b : Bool) → bytes_eq word wanted ≡ b → P value wanted → (others ≡ Some found → P found word) → cond b (Some value) others ≡ Some found → P found word
 tried P word wanted value found others true h is next e =
     let same : value ≡ found = cc in subst (λ v. P v word) same (subst (P value) (sym (same_word word wanted h)) is)
 tried P word wanted value found others false h is next e = next e
 
--- `true` and `false` are values, and values of cases
+-- `true` and `false` are values, also of cases
 abbrev IsTruth : RawValue → List ℕ → Type 0
 IsTruth value word = IsCaseValue value × ((width : ℕ) → IsValueToken width value (Word word))
 
@@ -152,7 +152,7 @@ tail_attachment_at-is tokens x e =
     let a = bind_ok (mark_at marks.comma tokens) _ _ e in
     (a.0.1, mark_at-is marks.comma tokens a.0 a.1, attachment_at-is a.0.1 x a.2)
 
--- a part once and then more times
+-- a production once, and then repeated
 more_times : (P : Part) (tokens middle rest : List Placed) → P tokens middle → Repeated P middle rest → Repeated P tokens rest
 more_times P tokens middle rest once (times, each) = (tt ∷ times, (middle, once, each))
 

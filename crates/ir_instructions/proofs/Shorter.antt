@@ -1,4 +1,4 @@
--- Behind a part fewer tokens are left, or no more.
+-- Behind each production fewer tokens are left, or at least no more.
 use Rattle.std.proofs.Common.{◌≡◌, ◌<◌, ◌≤◌, ℕ, List, [], ◌∷◌, length, Option, Some, None, ap, arith}
 use Rattle.ops.specs.declared.opcode.Flags.{Flags}
 use Rattle.ops.specs.declared.opcode.Opcode.{Opcode}
@@ -31,7 +31,7 @@ Shorter P = (tokens rest : List Placed) → P tokens rest → length rest < leng
 abbrev pub NoLonger : Part → Type 0
 NoLonger P = (tokens rest : List Placed) → P tokens rest → length rest ≤ length tokens
 
--- ---- one part behind another
+-- ---- one production behind another
 
 pub weaker : (P : Part) → Shorter P → NoLonger P
 weaker P p tokens rest h = let fewer : length rest < length tokens = p tokens rest h in omega arith

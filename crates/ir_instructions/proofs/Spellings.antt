@@ -1,4 +1,5 @@
--- What is spelled is read, where what follows may follow: names, values, attachments and items.
+-- Completeness of the parser for names, values, attachments and items: it gives what is spelled, if what follows may
+-- follow.
 use Rattle.std.proofs.Common.{◌≡◌, ℕ, true, false, eq-eqb, List, ◌∷◌, Ok, refl}
 use Rattle.std.specs.Prelude.{codes}
 use Rattle.ops.specs.declared.opcode.Flags.{Flags}
@@ -40,7 +41,7 @@ pub type_at-of : (width : ℕ) (tokens rest : List Placed) → SpellsType width 
 unfolding type_at
 type_at-of width tokens rest (word, type, (line, is)) = rw (is, type_in-of word width type) refl
 
--- no flag and no `label` begins a type
+-- no type begins like a flag or is `label`
 pub type_begins_no_flag : (taken : Flags) (width : ℕ) (tokens rest : List Placed) → SpellsType width tokens rest → is_flag taken tokens ≡ false
 type_begins_no_flag taken width tokens rest (word, type, (line, is)) = rw (is, type_is_no_flag taken word width type) refl
 

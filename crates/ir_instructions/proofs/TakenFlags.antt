@@ -1,4 +1,4 @@
--- The flags of an instruction that is spelled are ones that it takes.
+-- An instruction is spelled only with flags that it takes.
 use Rattle.std.proofs.Common.{List}
 use Rattle.ops.specs.declared.opcode.Flags.{Flags}
 use Rattle.ops.specs.Flags.{AreWithin}

@@ -1,4 +1,4 @@
--- What is read of terminators is spelled so.
+-- Soundness of the parser for terminators: what it gives is spelled so.
 use Rattle.std.proofs.Common.{sym, subst, ◌≡◌, ℕ, Bool, true, false, cond, List, [], ◌∷◌, Ok, refl}
 use Rattle.std.specs.Prelude.{codes}
 use Rattle.ir_tokens.specs.Tokens.{Placed, Word}
@@ -17,7 +17,7 @@ use Rattle.ir_instructions.proofs.Readings.{mark_at-is, target_at-is, type_at-is
 use Rattle.ir_instructions.proofs.Steps.{Reads, bind_ok, read_as, not_left_out, same_front}
 use Rattle.ir_instructions.proofs.WordLemmas.{ending_in-is}
 
--- a terminator that is read behind its first word
+-- a terminator that is read behind its first word is spelled with that word
 abbrev ReadsEnd : Ending → ℕ → List Placed → RawTerminator × List Placed → Type 0
 ReadsEnd ending line tokens x = SpellsTerminator line x.0 ((line, Word (ending_word ending)) ∷ tokens) x.1
 
@@ -91,7 +91,7 @@ ending_at-is endings.Unreachable line tokens x e = read_as (ReadsEnd endings.Unr
 ending_at-is endings.Branch line tokens x e = branch_at-is line tokens x e
 ending_at-is endings.Switch line tokens x e = switch_at-is line tokens x e
 
--- a terminator with the line of its first word
+-- a terminator, with the line of its first word
 abbrev pub SpellsEnd : ℕ × RawTerminator → Part
 SpellsEnd end = SpellsTerminator end.0 end.1
 

@@ -1,4 +1,4 @@
--- Words: what those that are read spell, and that what is spelled is read.
+-- Words of tables: the entry that is found is spelled by the word, and each word that is spelled is found.
 use Rattle.std.proofs.Common.{◌≡◌, ℕ, ◌≤◌, Bool, true, false, cond, not, eqb, leb, ◌&&◌, List, [], ◌∷◌, Option, Some, None, refl, sym, ap, subst}
 use Rattle.std.specs.Prelude.{codes, find}
 use Rattle.std.specs.List.{list_all}
@@ -61,7 +61,7 @@ pub operation_in-is : (word : List ℕ) (operation : Operation) → operation_in
 unfolding operation_in
 operation_in-is word operation e = same_word word (operation_word operation) (found-passes (λ (o : Operation). bytes_eq word (operation_word o)) operations operation e)
 
--- what is found in a list passes a test that all of the list pass
+-- the first item that passes one test passes another that all items of the list pass
 first_among : {A : Type 0} (q : A → Bool) (x y : A) (rest : Option A) (b : Bool) → q x ≡ true → (rest ≡ Some y → q y ≡ true) → cond b (Some x) rest ≡ Some y → q y ≡ true
 first_among q x y rest true h others e = let same : x ≡ y = cc in subst (λ z. q z ≡ true) same h
 first_among q x y rest false h others e = others e
@@ -72,7 +72,7 @@ found_among p q (x ∷ xs) y all e =
     let here = both (q x) (list_all q xs) all in
     first_among q x y (find p xs) (p x) here.0 (found_among p q xs y here.1) e
 
--- the operation has a first word of its own: no intrinsic has one
+-- the operation has an opcode: it is no intrinsic
 abbrev pub has_opcode : Operation → Bool
 has_opcode (Binary op) = not (is_intrinsic op)
 has_opcode operation = true
@@ -111,7 +111,7 @@ operation_in-of Call own = refl
 operation_in-of Tail own = refl
 operation_in-of NoTail own = refl
 
--- an opcode that is read is no intrinsic
+-- the operation that an opcode spells is no intrinsic
 pub operation_is_no_intrinsic : (word : List ℕ) (op : Opcode) → operation_in word ≡ Some (Binary op) → is_intrinsic op ≡ false
 unfolding operation_in
 operation_is_no_intrinsic word op e =

@@ -1,6 +1,6 @@
--- What calls of integer intrinsics are in a text: each as it is written, and the tokens that spell it (LLVM Language
--- Reference, "'call' Instruction"). The items in them, `tail` and `notail` are dropped: without them there is no more
--- poison and no more undefined behaviour.
+-- The grammar of calls of integer intrinsics: for each production the syntax tree and the tokens that spell it (LLVM
+-- Language Reference, "'call' Instruction"). The items in them, `tail` and `notail` are dropped: without them there is
+-- no more poison and no more undefined behaviour.
 use Rattle.std.specs.Prelude.{◌≡◌, ℕ, false, true, List, [], ◌∷◌, ◌++◌, Option, None, Some, codes}
 use Rattle.std.specs.List.{AllByRecursion}
 use Rattle.ops.specs.declared.opcode.Unary.{Unary}
@@ -25,7 +25,7 @@ use Rattle.ir_instructions.specs.Punctuation as marks
 abbrev pub Items : Part
 Items tokens rest = (items : List (List ℕ)) × Each SpellsItem items tokens rest
 
--- the same, all on this line
+-- the same, with all its tokens on this line
 abbrev pub ItemsOn : ℕ → Part
 ItemsOn line tokens rest =
     (items : List (List ℕ)) × (taken : List Placed) × Each SpellsItem items tokens rest
@@ -39,7 +39,7 @@ SpellsArgument t = SpellsType t.width ⨾ Items ⨾ SpellsOperand t.width t.oper
 abbrev pub SpellsTruth : TypedOperand → Part
 SpellsTruth t tokens rest = IsCaseValue t.operand.value × SpellsArgument t tokens rest
 
--- ',' truth where the intrinsic has a truth value
+-- ',' truth, if the intrinsic takes a truth value
 abbrev pub SpellsTruthOf : Unary → Option TypedOperand → Part
 SpellsTruthOf op None tokens rest = (has_truth op ≡ false) × Nothing tokens rest
 SpellsTruthOf op (Some truth) tokens rest = (has_truth op ≡ true) × (Comma ⨾ SpellsTruth truth) tokens rest
@@ -53,17 +53,17 @@ abbrev pub intrinsic_of : RawArguments → Intrinsic
 intrinsic_of (arguments.Binary op a b) = intrinsics.Binary op
 intrinsic_of (arguments.Unary op a truth) = intrinsics.Unary op
 
--- FUNCTION, which has the name of the intrinsic at the width
+-- FUNCTION, whose name is that of the intrinsic at the width
 abbrev pub SpellsCallee : Intrinsic × ℕ → Part
 SpellsCallee named tokens rest =
     (written : List ℕ) × (name : List ℕ) × (identifier_of written ≡ Named name) × IsIntrinsicName name named × Is (Function written) tokens rest
 
--- a token stands behind, and it is no item on this line
+-- there is a token, and it begins no item on this line
 abbrev pub StopsOn : ℕ → List Placed → Type 0
 StopsOn line [] = ⊥
 StopsOn line (t ∷ rest) = begins_late_item line (t ∷ rest) ≡ false
 
--- the items behind the call are all that stand on the line of its `)`
+-- ')' item*, where the items are all that stand on the line of the ')'
 abbrev pub SpellsClose : Part
 SpellsClose tokens rest = (line : ℕ) × StopsOn line rest × (IsOn line (Mark marks.close_paren) ⨾ ItemsOn line) tokens rest
 

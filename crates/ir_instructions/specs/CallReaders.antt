@@ -1,5 +1,5 @@
--- Reading calls of integer intrinsics from left to right: each reader answers what it reads, or the fault of the first
--- token that does not fit.
+-- The parser of calls of integer intrinsics: each function reads one production from left to right, and gives its
+-- syntax tree, or the fault of the first token that does not fit.
 use Rattle.std.specs.Prelude.{ℕ, ◌==◌, Bool, false, not, ◌&&◌, ◌||◌, if◌then◌else◌, List, [], ◌∷◌, drop, Option, None, Some, Ok, Err, codes}
 use Rattle.std.specs.Str.{bytes_eq}
 use Rattle.ops.specs.declared.opcode.Opcode.{Opcode}
@@ -31,11 +31,11 @@ use Rattle.ir_instructions.specs.Punctuation as marks
 
 -- ---- arguments
 
--- an argument ends here
+-- the end of an argument is next
 abbrev pub ends_argument : List Placed → Bool
 ends_argument tokens = is_mark marks.comma tokens || is_mark marks.close_paren tokens
 
--- an item, and not the value, which is what stands directly before the end of an argument
+-- an item is next that is not the argument's value, since that stands directly before the end
 abbrev pub begins_inner_item : List Placed → Bool
 begins_inner_item tokens = begins_item tokens && not (ends_argument (drop 1 tokens))
 
@@ -49,8 +49,8 @@ argument_at = do
   operand ← operand_at width
   done (record { width = width; operand = operand })
 
--- Why a word is no truth value: what stands directly before the end of an argument has to be its value, and a word that
--- stands elsewhere, and is no item, is left out.
+-- The kind of fault of a word that is no truth value: directly before the end of an argument only its value may stand,
+-- so that it is a syntax error; elsewhere the word is also no item, and is not supported.
 abbrev pub no_truth_kind : List ℕ → List Placed → IrFaultKind
 no_truth_kind word rest = if ends_argument rest then Syntax else LeftOut word
 
@@ -77,7 +77,7 @@ further_truth_at = do
   truth ← truth_argument_at
   done (Some truth)
 
--- the truth value behind an operand, where the intrinsic has one
+-- the truth value behind an operand, if the intrinsic takes one
 unfoldable pub truth_at : Unary → Reader (Option TypedOperand)
 truth_at op tokens = if has_truth op then further_truth_at tokens else Ok (None, tokens)
 
@@ -100,12 +100,12 @@ arguments_at (intrinsics.Unary op) = one_argument_at op
 
 -- ---- the callee
 
--- the intrinsic that is called so, and its width
+-- the intrinsic and the width that the callee's name spells
 abbrev pub callee_named : Identifier → Option (Intrinsic × ℕ)
 callee_named (Named name) = intrinsic_in name
 callee_named (Numbered n) = None
 
--- every other callee is left out, by the word `call` on its line
+-- every other callee is not supported; the fault names the word `call`, on its line
 abbrev pub or_no_callee : ℕ → Option (Intrinsic × ℕ) → Reader (Intrinsic × ℕ)
 or_no_callee line (Some named) rest = Ok (named, rest)
 or_no_callee line None rest = Err (fault line (LeftOut (codes "call")))
@@ -116,7 +116,7 @@ callee_at line tokens = Err (unexpected places.Fixed tokens)
 
 -- ---- items behind the call
 
--- a token on the line
+-- a token on this line is next
 abbrev pub is_on_line : ℕ → List Placed → Bool
 is_on_line line ((at, token) ∷ rest) = at == line
 is_on_line line [] = false
@@ -124,7 +124,7 @@ is_on_line line [] = false
 abbrev pub begins_late_item : ℕ → List Placed → Bool
 begins_late_item line tokens = is_on_line line tokens && begins_item tokens
 
--- the value behind a key and its `=`, on the line
+-- the value behind a key and its `=`, which has to be on the line
 unfoldable pub late_value_at : ℕ → Reader (Unit {0})
 late_value_at line ((at, Quoted value) ∷ rest) = if at == line then Ok (tt, rest) else Err (fault at Syntax)
 late_value_at line tokens = Err (unexpected places.Fixed tokens)
@@ -133,7 +133,7 @@ unfoldable pub late_quoted_at : ℕ → Reader (Unit {0})
 late_quoted_at line tokens =
     if is_on_line line tokens && is_mark marks.equals tokens then (mark_at marks.equals >>= λ _. late_value_at line) tokens else Ok (tt, tokens)
 
--- the group behind a word, on the line
+-- the kept group behind a word, if there is one on the line
 unfoldable pub late_group_at : ℕ → Reader (Unit {0})
 late_group_at line ((at, KeptGroup group) ∷ rest) = if at == line then Ok (tt, rest) else Ok (tt, (at, KeptGroup group) ∷ rest)
 late_group_at line tokens = Ok (tt, tokens)
@@ -148,7 +148,7 @@ late_item_at line tokens = Err (unexpected places.Fixed tokens)
 abbrev pub each_late_item_at : ℕ → Reader (Unit {0})
 each_late_item_at line = repeat_at (begins_late_item line) (λ before. late_item_at line) tt
 
--- some token stands behind
+-- there is another token
 unfoldable pub some_token_at : Reader (Unit {0})
 some_token_at [] = Err (unexpected places.Fixed [])
 some_token_at (t ∷ rest) = Ok (tt, t ∷ rest)
@@ -175,7 +175,7 @@ call_at line = do
   _ ← late_items_at close
   done (Call (record { line = line; width = width; named = callee.1; arguments = arguments }))
 
--- `call`, behind `tail` or `notail`, and its line; another word is left out
+-- `call` behind `tail` or `notail`, for its line; another word is not supported
 unfoldable pub call_word_at : Reader ℕ
 call_word_at ((line, Word word) ∷ rest) = if bytes_eq word (codes "call") then Ok (line, rest) else Err (fault line (LeftOut word))
 call_word_at tokens = Err (unexpected places.Choice tokens)

@@ -1,4 +1,4 @@
--- What instructions and terminators are in a text: each part as it is written, and the tokens that spell it (LLVM
+-- The grammar of instructions and terminators: for each production the syntax tree and the tokens that spell it (LLVM
 -- Language Reference, "Instruction Reference", "Metadata"). Attachments of metadata are dropped.
 use Rattle.std.specs.Prelude.{◌≡◌, ℕ, false, List, IsTrue, codes}
 use Rattle.ops.specs.declared.opcode.Flags.{Flags}

@@ -1,5 +1,5 @@
--- Reading instructions and terminators from left to right: each reader answers what it reads, or the fault of the first
--- token that does not fit.
+-- The parser of instructions and terminators: each function reads one production from left to right, and gives its
+-- syntax tree, or the fault of the first token that does not fit.
 use Rattle.std.specs.Prelude.{ℕ, ◌==◌, Bool, false, not, if◌then◌else◌, List, [], ◌∷◌, Option, None, Some, is_some, Ok, Err, codes}
 use Rattle.ops.specs.declared.opcode.Opcode.{Opcode}
 use Rattle.ops.specs.declared.opcode.Flags.{Flags}
@@ -37,12 +37,12 @@ use Rattle.ir_instructions.specs.CallReaders.{call_at, marked_call_at}
 
 -- ---- instructions
 
--- a flag that the instruction takes
+-- a flag that the instruction takes is next
 abbrev pub is_flag : Flags → List Placed → Bool
 is_flag taken ((line, Word word) ∷ rest) = is_some (flag_in taken word)
 is_flag taken tokens = false
 
--- the flags before, and a flag that is new
+-- the flags before with this one added, which must not be among them
 abbrev pub add_flag : Flags → ℕ → Option Flag → Reader Flags
 add_flag before line (Some flag) rest = if has_flag before flag then Err (fault line Syntax) else Ok (with_flag before flag, rest)
 add_flag before line None rest = Err (fault line Syntax)
@@ -108,7 +108,7 @@ incoming_at width = do
   _ ← mark_at marks.close_bracket
   done (record { value = value; block = block })
 
--- a `,` goes on with incoming values, unless an attachment is behind it
+-- a further incoming value is next: a `,` that no attachment follows
 abbrev pub begins_incoming : List Placed → Bool
 begins_incoming ((line, Mark mark) ∷ rest) = if mark == marks.comma then not (is_metadata rest) else false
 begins_incoming tokens = false
@@ -118,7 +118,7 @@ further_incoming_at width = do
   _ ← mark_at marks.comma
   incoming_at width
 
--- incoming values behind those in front
+-- any number of further incoming values, behind those in front
 abbrev pub incomings_at : ℕ → List RawIncoming → Reader (List RawIncoming)
 incomings_at width front = each_at begins_incoming (further_incoming_at width) front
 
@@ -129,7 +129,7 @@ phi_at = do
   incomings ← incomings_at width (first ∷ [])
   done (Phi width incomings)
 
--- an instruction whose first word, on this line, is this one, behind it
+-- an operation behind its first word, which is on this line
 abbrev pub operation_at : ℕ → Operation → Reader RawOp
 operation_at line (operations.Binary op) = binary_at op
 operation_at line operations.Compare = compare_at
@@ -188,7 +188,7 @@ case_at = do
   target ← target_at
   done (record { width = width; value = value; target = target })
 
--- another case, before the `]`
+-- another case is next: the `]` is not
 abbrev pub begins_case : List Placed → Bool
 begins_case tokens = not (is_mark marks.close_bracket tokens)
 
@@ -207,14 +207,14 @@ switch_at = do
   cases ← cases_at
   done (Switch typed.width typed.operand default cases)
 
--- a terminator that begins with this word, behind it
+-- a terminator behind its first word
 abbrev pub ending_at : Ending → Reader RawTerminator
 ending_at endings.Return = return_at
 ending_at endings.Unreachable = done Unreachable
 ending_at endings.Branch = branch_at
 ending_at endings.Switch = switch_at
 
--- the line of the first word, and the terminator
+-- a terminator, with the line of its first word
 unfoldable pub terminator_at : Reader (ℕ × RawTerminator)
 terminator_at ((line, Word word) ∷ rest) = (or_left_out line word (ending_in word) >>= ending_at >>= λ end. done (line, end)) rest
 terminator_at tokens = Err (unexpected places.Instruction tokens)

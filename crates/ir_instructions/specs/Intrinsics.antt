@@ -20,12 +20,12 @@ intrinsic_keyword (Unary op) = unary_keyword op
 abbrev pub intrinsics : List Intrinsic
 intrinsics = Binary UMin ∷ Binary UMax ∷ Binary SMin ∷ Binary SMax ∷ Unary Abs ∷ Unary CtPop ∷ Unary CtLz ∷ Unary CtTz ∷ []
 
--- modules call it: every operation of one operand, and those of two operands that have no opcode of their own
+-- it is an intrinsic: so is every operation with one operand, and those with two that have no opcode of their own
 abbrev pub is_called : Intrinsic → Bool
 is_called (Binary op) = is_intrinsic op
 is_called (Unary op) = true
 
--- a type that is written without a leading zero
+-- the word is the type of this width, without a leading zero
 abbrev pub IsPlainType : List ℕ → ℕ → Type 0
 IsPlainType word width = IsTypeWord word width × (bytes_eq (take 2 word) (codes "i0") ≡ false)
 
@@ -34,13 +34,13 @@ abbrev pub IsIntrinsicName : List ℕ → Intrinsic × ℕ → Type 0
 IsIntrinsicName name named =
     (is_called named.0 ≡ true) × (word : List ℕ) × (name ≡ codes "llvm." ++ intrinsic_keyword named.0 ++ codes "." ++ word) × IsPlainType word named.1
 
--- ---- the same from left to right
+-- ---- the same as functions, from left to right
 
--- the intrinsic that a keyword is
+-- the intrinsic that a keyword spells
 unfoldable pub keyword_in : List ℕ → Option Intrinsic
 keyword_in word = find (λ what. bytes_eq word (intrinsic_keyword what)) intrinsics
 
--- the width of a type that is written without a leading zero
+-- the width of an integer type
 abbrev pub width_of : TypeWord → Option ℕ
 width_of types.Other = None
 width_of types.OutOfRange = None
@@ -49,13 +49,13 @@ width_of (types.Integer width) = Some width
 unfoldable pub plain_width_in : List ℕ → Option ℕ
 plain_width_in word = if bytes_eq (take 2 word) (codes "i0") then None else width_of (type_in word)
 
--- behind `llvm.`: a keyword up to the first `.`, and a type behind that
+-- what the part of a name behind `llvm.` spells: a keyword up to the first `.`, and a type behind that
 unfoldable pub named_in : List ℕ → Option (Intrinsic × ℕ)
 named_in rest =
     option_and_then
     (λ what. option_map (λ width. (what, width)) (plain_width_in (after_first (λ b. b == 46) rest)))
     (keyword_in (before_first (λ b. b == 46) rest))
 
--- the intrinsic that a name is, and its width
+-- the intrinsic and the width that a name spells
 unfoldable pub intrinsic_in : List ℕ → Option (Intrinsic × ℕ)
 intrinsic_in name = if bytes_eq (take 5 name) (codes "llvm.") then named_in (drop 5 name) else None

@@ -1,4 +1,5 @@
--- What items of headers and of calls are in a text (LLVM Language Reference, "Functions", "Parameter Attributes").
+-- The grammar of items of headers and of calls: attributes, linkage and the like (LLVM Language Reference, "Functions",
+-- "Parameter Attributes").
 use Rattle.std.specs.Prelude.{◌≡◌, ℕ, ◌==◌, false, List, ◌∷◌, ◌++◌, IsTrue}
 use Rattle.ir_tokens.specs.Tokens.{Placed, KeptGroup, Word, Number, Group, Quoted, Mark}
 use Rattle.ir_instructions.specs.Parts.{Is, ◌⨾◌}
@@ -16,7 +17,7 @@ pub data SpellsItem (item : List ℕ) (tokens rest : List Placed) : Type 0 where
   of_key_and_value : (key value : List ℕ) → item ≡ key ++ marks.equals ∷ value
       → (Is (Quoted key) ⨾ Is (Mark marks.equals) ⨾ Is (Quoted value)) tokens rest → SpellsItem item tokens rest
 
--- no kept group and no `=` stand next, with which an item would go on
+-- neither a kept group nor a `=` is next, with which the item before would go on
 abbrev pub MayFollowItem : List Placed → Type 0
 MayFollowItem ((line, KeptGroup group) ∷ rest) = ⊥
 MayFollowItem ((line, Mark mark) ∷ rest) = (mark == marks.equals) ≡ false

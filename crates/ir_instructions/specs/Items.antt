@@ -6,13 +6,13 @@ use Rattle.ir_instructions.specs.declared.word.TypeWord.{TypeWord}
 use Rattle.ir_instructions.specs.declared.word.TypeWord.TheVariants as types
 use Rattle.ir_instructions.specs.Keywords.{type_in}
 
--- words that are no items, beside those of integer types
+-- the names of types that are not supported, which are no items; those of integer types are none either
 abbrev pub left_out_types : List (List ℕ)
 left_out_types =
     codes "void" ∷ codes "half" ∷ codes "bfloat" ∷ codes "float" ∷ codes "double" ∷ codes "fp128" ∷ codes "x86_fp80" ∷ codes "ppc_fp128"
     ∷ codes "ptr" ∷ codes "label" ∷ codes "token" ∷ codes "metadata" ∷ []
 
--- no integer type
+-- the word is no integer type
 abbrev pub is_other : TypeWord → Bool
 is_other types.Other = true
 is_other types.OutOfRange = false

@@ -17,15 +17,15 @@ use Rattle.ir_instructions.specs.declared.word.Ending.TheVariants.{Return, Unrea
 
 -- ---- types
 
--- the word is `i` and digits, which spell a number from 1 to 64
+-- the word is `i` and digits that spell this number, which is from 1 to 64
 abbrev pub IsTypeWord : List ℕ → ℕ → Type 0
 IsTypeWord word width = (digits : List ℕ) × (word ≡ 105 ∷ digits) × IsTrue (are_digits digits) × (decimal_value digits ≡ width) × (1 ≤ width) × (width ≤ 64)
 
--- a type of so many bits
+-- the integer type of so many bits
 abbrev pub type_of_bits : ℕ → TypeWord
 type_of_bits n = if nat_le 1 n && nat_le n 64 then types.Integer n else types.OutOfRange
 
--- what a word is as a type
+-- the type that a word spells
 unfoldable pub type_in : List ℕ → TypeWord
 type_in [] = types.Other
 type_in (b ∷ digits) = if (b == 105) && are_digits digits then type_of_bits (decimal_value digits) else types.Other
@@ -49,13 +49,13 @@ operations =
     ∷ Binary And ∷ Binary Or ∷ Binary Xor ∷ Compare ∷ Select ∷ Convert Trunc ∷ Convert ZExt ∷ Convert SExt ∷ Freeze ∷ Phi
     ∷ Call ∷ Tail ∷ NoTail ∷ []
 
--- the operation whose first word a word is
+-- the operation that begins with a word
 unfoldable pub operation_in : List ℕ → Option Operation
 operation_in word = find (λ operation. bytes_eq word (operation_word operation)) operations
 
 -- ---- values and terminators
 
--- the value that a word is, or in a case of a `switch`
+-- the truth value that a word spells, as a case of a `switch` has one; and the value that a word spells
 unfoldable pub truth_in : List ℕ → Option RawValue
 truth_in word = if bytes_eq word (codes "true") then Some True else (if bytes_eq word (codes "false") then Some False else None)
 
@@ -69,6 +69,6 @@ ending_word Unreachable = codes "unreachable"
 ending_word Branch = codes "br"
 ending_word Switch = codes "switch"
 
--- the terminator that a word begins
+-- the terminator that begins with a word
 unfoldable pub ending_in : List ℕ → Option Ending
 ending_in word = find (λ ending. bytes_eq word (ending_word ending)) (Return ∷ Unreachable ∷ Branch ∷ Switch ∷ [])

@@ -1,4 +1,4 @@
--- What holds of the reader of each part.
+-- What holds of the parser of each production.
 use Rattle.std.specs.Prelude.{◌≡◌, ◌↔◌, ℕ, false, List, Ok}
 use Rattle.ir_tokens.specs.Tokens.{Placed, Word, Mark}
 use Rattle.ir_tokens.specs.declared.raw.RawOperand.{RawOperand}
@@ -9,13 +9,13 @@ use Rattle.ir_instructions.specs.Parts.{Part, Is, Each, Repeated}
 use Rattle.ir_instructions.specs.Punctuation as marks
 use Rattle.ir_instructions.specs.Readers.{Reader}
 
--- reading from left to right answers such a part, and what is behind it, exactly where the grammar spells it between
--- these tokens
+-- the parser of a production gives a syntax tree and the tokens behind it exactly where the grammar spells that tree
+-- between these tokens
 abbrev pub IsReadAsSpelled : {A : Type 0} → Reader A → (A → Part) → Type 0
 IsReadAsSpelled {A} reader P = (tokens rest : List Placed) (x : A) → (reader tokens ≡ Ok (x, rest)) ↔ P x tokens rest
 
--- the same of a part that may go on: what is answered is spelled, and what is spelled is answered where nothing behind
--- it goes on
+-- the same for a production that may be continued: what the parser gives is spelled so, and it gives what is spelled if
+-- nothing behind it continues it
 abbrev pub IsReadAsSpelledBefore : {A : Type 0} → (List Placed → Type 0) → Reader A → (A → Part) → Type 0
 IsReadAsSpelledBefore {A} Stops reader P =
     (tokens rest : List Placed) (x : A) → (reader tokens ≡ Ok (x, rest) → P x tokens rest) × (Stops rest → P x tokens rest → reader tokens ≡ Ok (x, rest))
@@ -24,7 +24,7 @@ IsReadAsSpelledBefore {A} Stops reader P =
 abbrev pub SpellsCaseValue : ℕ → RawOperand → Part
 SpellsCaseValue width a tokens rest = IsCaseValue a.value × SpellsOperand width a tokens rest
 
--- no metadata, no `,`, and nothing that begins an instruction or goes on in one
+-- no metadata is next; no `,` is; and nothing is that begins an instruction or continues one
 abbrev pub HasNoMetadata : List Placed → Type 0
 HasNoMetadata rest = is_metadata rest ≡ false
 

@@ -1,5 +1,5 @@
--- What the pieces of instructions are in a text: registers, types and values, and the tokens that spell them (LLVM
--- Language Reference, "Identifiers", "Type System", "Constants").
+-- The grammar of registers, types and values: for each the syntax tree and the tokens that spell it (LLVM Language
+-- Reference, "Identifiers", "Type System", "Constants").
 use Rattle.std.specs.Prelude.{◌≡◌, ℕ, List, Some, codes}
 use Rattle.ir_tokens.specs.Identifiers.{identifier_of}
 use Rattle.ir_tokens.specs.Numbers.{constant_of}

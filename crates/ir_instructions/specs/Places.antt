@@ -1,5 +1,5 @@
--- Which tokens are left out of the language, by the place where they stand. A token that fits at its place is no matter
--- here.
+-- Which tokens that do not fit are taken for unsupported parts of LLVM IR (left out), and not for syntax errors, by
+-- what is expected in their place. Tokens that do fit don't matter here.
 use Rattle.std.specs.Prelude.{ℕ, ◌==◌, Bool, true, false, ◌||◌, if◌then◌else◌, List, [], ◌∷◌, take, codes}
 use Rattle.ir_tokens.specs.declared.fault.IrFaultKind.{IrFaultKind}
 use Rattle.ir_tokens.specs.declared.fault.IrFaultKind.TheVariants.{BadByte, Syntax, LeftOut}
@@ -8,22 +8,22 @@ use Rattle.ir_instructions.specs.declared.place.Place.TheVariants as places
 use Rattle.ir_instructions.specs.Punctuation as marks
 use Rattle.ir_tokens.specs.Tokens.{Token, End, Other, Bad, Kept, KeptGroup, Label, Word, Number, Register, Function, Group, Metadata, Quoted, Mark}
 
--- it is a word
+-- the token is a word
 abbrev pub is_word : Token → Bool
 is_word (Word word) = true
 is_word token = false
 
--- `<`, `{` or `[`: a vector, a structure or an array begins
+-- `<`, `{` or `[`, with which vector, structure and array types begin
 abbrev pub begins_type : Token → Bool
 begins_type (Mark mark) = (mark == marks.less) || (mark == marks.open_brace) || (mark == marks.open_bracket)
 begins_type token = false
 
--- `#`: a record of debug information begins
+-- `#`, with which a debug record begins
 abbrev pub begins_record : Token → Bool
 begins_record (Mark mark) = mark == marks.hash
 begins_record token = false
 
--- the language goes on with such a token there, but it is left out
+-- the token is taken for an unsupported part of LLVM IR there
 unfoldable pub leaves_out : Place → Token → Bool
 leaves_out places.Entry token = true
 leaves_out places.Type token = is_word token || begins_type token
@@ -31,7 +31,7 @@ leaves_out places.Instruction token = is_word token || begins_record token
 leaves_out places.Choice token = is_word token
 leaves_out places.Fixed token = false
 
--- how what is left out is named: the word, or the first byte
+-- how the fault names a token that is not supported: the word, or the first byte
 unfoldable pub shown : Token → List ℕ
 shown (Word word) = word
 shown (Kept text) = take 1 text
@@ -46,7 +46,7 @@ shown (Quoted text) = take 1 text
 shown (Mark mark) = mark ∷ []
 shown token = []
 
--- why a token does not fit
+-- the kind of fault of a token that does not fit
 unfoldable pub misfit : Place → Token → IrFaultKind
 misfit place Bad = BadByte
 misfit place Other = Syntax

@@ -1,5 +1,5 @@
--- Reading the pieces of instructions from left to right: marks, words, registers, types, operands and attachments. Each
--- reader answers what it reads, or the fault of the first token that does not fit.
+-- The parser of the smallest productions: marks, words, registers, types, operands and attachments. Each function reads
+-- from left to right, and gives what it read, or the fault of the first token that does not fit.
 use Rattle.std.specs.Prelude.{ℕ, ◌==◌, Bool, true, false, if◌then◌else◌, List, ◌∷◌, Option, None, Some, Result, Ok, Err, codes}
 use Rattle.std.specs.Str.{bytes_eq}
 use Rattle.ops.specs.Number.{Number as Numeral}
@@ -22,7 +22,7 @@ use Rattle.ir_instructions.specs.Readers.{Reader, fault, unexpected, ◌>>=◌, 
 use Rattle.ir_instructions.specs.Keywords.{type_in, truth_in, value_in}
 use Rattle.ir_instructions.specs.Punctuation as marks
 
--- ---- what stands next
+-- ---- lookahead
 
 -- the mark
 abbrev pub is_mark : ℕ → List Placed → Bool
@@ -79,19 +79,19 @@ type_at tokens = Err (unexpected places.Type tokens)
 
 -- ---- operands
 
--- a number at a width, if it fits
+-- the operand that a number is at a width, or the fault that it is out of range
 abbrev pub number_value : ℕ → Option Numeral → Result RawOperand (Fault IrFaultKind)
 number_value line (Some number) = Ok (record { line = line; value = values.Number number })
 number_value line None = Err (fault line ConstRange)
 
--- a value of a type of this width
+-- a value at this width
 unfoldable pub operand_at : ℕ → Reader RawOperand
 operand_at width ((line, Register written) ∷ rest) = Ok (record { line = line; value = values.Register (identifier_of written) }, rest)
 operand_at width ((line, Number digits) ∷ rest) = given (number_value line (constant_of digits width)) rest
 operand_at width ((line, Word word) ∷ rest) = (or_left_out line word (value_in word) >>= λ value. done (record { line = line; value = value })) rest
 operand_at width tokens = Err (unexpected places.Choice tokens)
 
--- a value of a case
+-- the value of a case
 unfoldable pub case_value_at : ℕ → Reader RawOperand
 case_value_at width ((line, Number digits) ∷ rest) = given (number_value line (constant_of digits width)) rest
 case_value_at width ((line, Word word) ∷ rest) = (or_left_out line word (truth_in word) >>= λ value. done (record { line = line; value = value })) rest

@@ -1,4 +1,4 @@
-//! Arguments of calls from tokens: the items in them are dropped, and the value is what stands directly before the end.
+//! Parsing the arguments of calls. The items in them are dropped; the value is what stands directly before the end.
 
 ghost use Rattle.std.specs.Prelude.{◌≡◌};
 ghost use Rattle.ir_tokens.specs.SeenTokens.{seen};
@@ -18,14 +18,14 @@ use ops::Width;
 use refusal::refused;
 use std::alloc::Global;
 
-/// Whether an argument ends before the first token.
+/// Whether the end of an argument is next.
 fn ends_argument(tokens: &[Placed<'_>]) -> bool
     ensures { result ≡ parsing.ends_argument (seen tokens.now) }
 {
     is_mark(b',', tokens) || is_mark(b')', tokens)
 }
 
-/// An item of an argument, which is not its value.
+/// The production of an item inside an argument, in front of its value.
 enum InnerItem {}
 
 impl Part for InnerItem {
@@ -50,7 +50,7 @@ impl Part for InnerItem {
     }
 }
 
-/// The items of an argument.
+/// Parses the items in front of an argument's value.
 #[tactic(auto, unfolding(crate::specs::CallReaders::inner_items_at))]
 fn inner_items(alloc: Global, tokens: &mut &[Placed<'_>]) -> Result<List<Text>, IrError>
     ensures { Gives (λ x. (x, seen tokens.new.now)) result (parsing.inner_items_at (seen tokens.old.now)) }
@@ -58,7 +58,7 @@ fn inner_items(alloc: Global, tokens: &mut &[Placed<'_>]) -> Result<List<Text>, 
     each::<InnerItem>(alloc, List::new(alloc), tokens)
 }
 
-/// A type and a value of it.
+/// Parses an argument: a type, items, and a value of the type.
 #[tactic(auto, unfolding(crate::specs::CallReaders::argument_at))]
 pub(crate) fn argument(alloc: Global, tokens: &mut &[Placed<'_>]) -> Result<TypedOperand, IrError>
     ensures { Gives (λ x. (x, seen tokens.new.now)) result (parsing.argument_at (seen tokens.old.now)) }
@@ -69,8 +69,8 @@ pub(crate) fn argument(alloc: Global, tokens: &mut &[Placed<'_>]) -> Result<Type
     Ok(TypedOperand { width, operand })
 }
 
-/// The fault of a word that is no truth value, where one is expected. What stands directly before the end of an
-/// argument has to be its value; elsewhere the word is none that may be an item either.
+/// The fault of a word that is no truth value, where one is expected. Directly before the end of an argument only its
+/// value may stand, so that the word is a syntax error there; elsewhere it is also no item, and is not supported.
 fn no_truth(alloc: Global, line: usize, word: &[u8], rest: &[Placed<'_>]) -> IrError
     ensures { Refuses result (readers.fault line (parsing.no_truth_kind word.now (seen rest.now))) }
 {
@@ -81,7 +81,7 @@ fn no_truth(alloc: Global, line: usize, word: &[u8], rest: &[Placed<'_>]) -> IrE
     }
 }
 
-/// A truth value: a number, `true` or `false`.
+/// Parses a truth value: a number, `true` or `false`.
 #[tactic(auto, unfolding(crate::specs::CallReaders::truth_value_at))]
 fn truth_value(
     alloc: Global,
@@ -109,7 +109,7 @@ fn truth_value(
     }
 }
 
-/// A type and a truth value of it.
+/// Parses a truth argument: a type, items, and a truth value of the type.
 #[tactic(auto, unfolding(crate::specs::CallReaders::truth_argument_at))]
 pub(crate) fn truth_argument(
     alloc: Global,

@@ -1,4 +1,4 @@
-//! Attachments of metadata from tokens; they are dropped. (LLVM Language Reference, "Metadata".)
+//! Parsing attachments of metadata, which are dropped. (LLVM Language Reference, "Metadata".)
 
 ghost use Rattle.std.specs.Prelude.{◌≡◌, OnErr};
 ghost use Rattle.scan.specs.IrTokens as names;
@@ -21,7 +21,7 @@ pub(crate) fn is_metadata(tokens: &[Placed<'_>]) -> bool
     }
 }
 
-/// The name of metadata.
+/// Parses a name of metadata.
 #[tactic(auto, unfolding(crate::specs::TokenReaders::metadata_at))]
 fn metadata_name(tokens: &mut &[Placed<'_>]) -> Result<(), IrFault>
     ensures { parsing.metadata_at names.is_plain_name (seen tokens.old.now) ≡ readers.given result (seen tokens.new.now) }
@@ -42,7 +42,7 @@ fn metadata_name(tokens: &mut &[Placed<'_>]) -> Result<(), IrFault>
     }
 }
 
-/// The number of metadata.
+/// Parses a number of metadata.
 #[tactic(auto, unfolding(crate::specs::TokenReaders::metadata_at))]
 fn metadata_number(tokens: &mut &[Placed<'_>]) -> Result<(), IrFault>
     ensures { parsing.metadata_at numbers.is_number (seen tokens.old.now) ≡ readers.given result (seen tokens.new.now) }
@@ -63,7 +63,7 @@ fn metadata_number(tokens: &mut &[Placed<'_>]) -> Result<(), IrFault>
     }
 }
 
-/// An attachment: a name and a number.
+/// Parses an attachment: a name and a number.
 #[tactic(auto, unfolding(crate::specs::TokenReaders::attachment_at))]
 fn attachment(tokens: &mut &[Placed<'_>]) -> Result<(), IrFault>
     ensures { parsing.attachment_at (seen tokens.old.now) ≡ readers.given result (seen tokens.new.now) }
@@ -72,7 +72,7 @@ fn attachment(tokens: &mut &[Placed<'_>]) -> Result<(), IrFault>
     metadata_number(tokens)
 }
 
-/// The attachments of a function.
+/// Parses the attachments of a function.
 #[tactic(auto, unfolding(crate::specs::TokenReaders::attachments_at))]
 pub fn attachments(tokens: &mut &[Placed<'_>]) -> Result<(), IrFault>
     ensures read { parsing.attachments_at (seen tokens.old.now) ≡ readers.given result (seen tokens.new.now) }
@@ -86,7 +86,7 @@ pub fn attachments(tokens: &mut &[Placed<'_>]) -> Result<(), IrFault>
     Ok(())
 }
 
-/// An attachment of an instruction, behind a `,`.
+/// Parses an attachment of an instruction, behind a `,`.
 #[tactic(auto, unfolding(crate::specs::TokenReaders::tail_attachment_at))]
 fn tail_attachment(tokens: &mut &[Placed<'_>]) -> Result<(), IrFault>
     ensures { parsing.tail_attachment_at (seen tokens.old.now) ≡ readers.given result (seen tokens.new.now) }
@@ -95,7 +95,7 @@ fn tail_attachment(tokens: &mut &[Placed<'_>]) -> Result<(), IrFault>
     attachment(tokens)
 }
 
-/// The attachments of an instruction.
+/// Parses the attachments of an instruction.
 #[tactic(auto, unfolding(crate::specs::TokenReaders::tail_at))]
 pub fn tail(tokens: &mut &[Placed<'_>]) -> Result<(), IrFault>
     ensures read { parsing.tail_at (seen tokens.old.now) ≡ readers.given result (seen tokens.new.now) }

@@ -1,4 +1,4 @@
-//! Calls of integer intrinsics from tokens. (LLVM Language Reference, "'call' Instruction".)
+//! Parsing calls of integer intrinsics. (LLVM Language Reference, "'call' Instruction".)
 
 ghost use Rattle.std.specs.Prelude.{◌≡◌};
 ghost use Rattle.ir_tokens.specs.SeenTokens.{seen};
@@ -21,7 +21,7 @@ use ops::keywords::is;
 use ops::{Opcode, Unary, Width};
 use std::alloc::Global;
 
-/// The truth value behind an operand, where the intrinsic has one.
+/// Parses the truth value behind an operand, if the intrinsic takes one.
 #[tactic(auto, unfolding(crate::specs::CallReaders::truth_at, crate::specs::CallReaders::further_truth_at))]
 fn truth(
     alloc: Global,
@@ -64,7 +64,7 @@ fn one_argument(
     Ok(RawArguments::Unary(op, operand, truth))
 }
 
-/// What an intrinsic is called with.
+/// Parses the arguments of an intrinsic.
 fn arguments(
     alloc: Global,
     intrinsic: Intrinsic,
@@ -78,7 +78,7 @@ fn arguments(
     }
 }
 
-/// The intrinsic that a callee is, and the width in its name.
+/// The intrinsic that the callee is, and the width in its name.
 fn named(callee: &Identifier) -> Option<(Intrinsic, Width)>
     ensures { result ≡ parsing.callee_named callee.now }
 {
@@ -88,7 +88,8 @@ fn named(callee: &Identifier) -> Option<(Intrinsic, Width)>
     }
 }
 
-/// The intrinsic that is called on this line, and the width in its name. Every other callee is left out.
+/// Parses the callee of the `call` on this line: an intrinsic, and the width in its name. Every other callee is not
+/// supported.
 #[tactic(auto, unfolding(crate::specs::CallReaders::callee_at))]
 fn callee(
     alloc: Global,
@@ -112,7 +113,7 @@ fn callee(
     }
 }
 
-/// The `)` of a call, and its line.
+/// Parses the `)` of a call, for its line.
 #[tactic(auto, unfolding(crate::specs::CallReaders::close_at))]
 fn close(tokens: &mut &[Placed<'_>]) -> Result<usize, IrFault>
     ensures { parsing.close_at (seen tokens.old.now) ≡ readers.given result (seen tokens.new.now) }
@@ -133,7 +134,7 @@ fn close(tokens: &mut &[Placed<'_>]) -> Result<usize, IrFault>
     }
 }
 
-/// A call, behind the word `call` on this line.
+/// Parses a call, behind the word `call` on this line.
 #[tactic(auto, unfolding(crate::specs::CallReaders::call_at))]
 pub(crate) fn call(alloc: Global, line: usize, tokens: &mut &[Placed<'_>]) -> Result<RawOp, IrError>
     ensures { Gives (λ x. (x, seen tokens.new.now)) result (parsing.call_at line (seen tokens.old.now)) }
@@ -153,7 +154,7 @@ pub(crate) fn call(alloc: Global, line: usize, tokens: &mut &[Placed<'_>]) -> Re
     }))
 }
 
-/// The word `call` behind `tail` or `notail`, and its line.
+/// Parses the word `call` behind `tail` or `notail`, for its line.
 #[tactic(auto, unfolding(crate::specs::CallReaders::call_word_at))]
 fn call_word(alloc: Global, tokens: &mut &[Placed<'_>]) -> Result<usize, IrError>
     ensures { Gives (λ x. (x, seen tokens.new.now)) result (parsing.call_word_at (seen tokens.old.now)) }
@@ -174,7 +175,7 @@ fn call_word(alloc: Global, tokens: &mut &[Placed<'_>]) -> Result<usize, IrError
     }
 }
 
-/// A call, behind `tail` or `notail`.
+/// Parses a call, behind `tail` or `notail`.
 #[tactic(auto, unfolding(crate::specs::CallReaders::marked_call_at))]
 pub(crate) fn marked_call(alloc: Global, tokens: &mut &[Placed<'_>]) -> Result<RawOp, IrError>
     ensures { Gives (λ x. (x, seen tokens.new.now)) result (parsing.marked_call_at (seen tokens.old.now)) }

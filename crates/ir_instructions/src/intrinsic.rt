@@ -8,12 +8,12 @@ use crate::word::{TypeWord, type_of};
 use ops::keywords::{is, opcode_name, unary_name};
 use ops::{Opcode, Unary, Width};
 
-/// An integer intrinsic, by what it does.
+/// An integer intrinsic, as the operation that it is.
 #[derive(Clone, Copy)]
 pub enum Intrinsic {
-    /// One of two operands.
+    /// An intrinsic of two operands.
     Binary(Opcode),
-    /// One of one operand.
+    /// An intrinsic of one operand.
     Unary(Unary),
 }
 
@@ -37,7 +37,7 @@ const INTRINSICS: [Intrinsic; 8] = [
     Intrinsic::Unary(Unary::CtTz),
 ];
 
-/// The intrinsic that a keyword is.
+/// The intrinsic that a keyword spells.
 #[tactic(auto, unfolding(crate::specs::Intrinsics::keyword_in))]
 fn keyword_of(word: &[u8]) -> Option<Intrinsic>
     ensures { result ≡ spelled.keyword_in word.now }
@@ -48,7 +48,7 @@ fn keyword_of(word: &[u8]) -> Option<Intrinsic>
         .find(|intrinsic| is(word, intrinsic_keyword(*intrinsic)))
 }
 
-/// The width of an integer type that is written without a leading zero.
+/// The width of the integer type that a word spells, if it has no leading zero.
 #[tactic(auto, unfolding(crate::specs::Intrinsics::plain_width_in))]
 fn plain_width(word: &[u8]) -> Option<Width>
     ensures { result ≡ spelled.plain_width_in word.now }
@@ -62,7 +62,7 @@ fn plain_width(word: &[u8]) -> Option<Width>
     }
 }
 
-/// The intrinsic, and the width behind it, that a name without its `llvm.` is of.
+/// The intrinsic and the width that the part of a name behind `llvm.` spells.
 #[tactic(auto, unfolding(crate::specs::Intrinsics::named_in))]
 fn named(rest: &[u8]) -> Option<(Intrinsic, Width)>
     ensures { result ≡ spelled.named_in rest.now }
@@ -73,7 +73,7 @@ fn named(rest: &[u8]) -> Option<(Intrinsic, Width)>
     Some((intrinsic, width))
 }
 
-/// The intrinsic that a function's name is of, and the width in the name.
+/// The intrinsic and the width that a function's name spells.
 #[tactic(auto, unfolding(crate::specs::Intrinsics::intrinsic_in))]
 pub(crate) fn intrinsic_of(name: &[u8]) -> Option<(Intrinsic, Width)>
     ensures { result ≡ spelled.intrinsic_in name.now }

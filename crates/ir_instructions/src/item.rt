@@ -1,4 +1,4 @@
-//! Items of headers and of calls from tokens.
+//! Parsing items of headers and of calls: attributes, linkage and the like.
 
 ghost use Rattle.std.specs.Prelude.{◌≡◌, ◌∷◌, ◌++◌, IfOk};
 ghost use Rattle.ir_tokens.specs.SeenTokens.{seen};
@@ -14,7 +14,7 @@ use ir_tokens::{IrError, Placed, Token};
 use lists::{List, Text};
 use std::alloc::{AllocError, Global};
 
-/// A part of the text and another behind it.
+/// Two parts of the text, joined.
 fn joined(alloc: Global, first: &[u8], second: &[u8]) -> Result<Text, AllocError>
     ensures { IfOk result (λ text. text ≡ first.now ++ second.now) }
 {
@@ -23,7 +23,7 @@ fn joined(alloc: Global, first: &[u8], second: &[u8]) -> Result<Text, AllocError
     Ok(Text::from_vec(bytes))
 }
 
-/// A key, `=` and its value.
+/// A key, `=` and its value, joined.
 fn pair(alloc: Global, key: &[u8], value: &[u8]) -> Result<Text, AllocError>
     ensures { IfOk result (λ text. text ≡ key.now ++ marks.equals ∷ value.now) }
 {
@@ -33,7 +33,7 @@ fn pair(alloc: Global, key: &[u8], value: &[u8]) -> Result<Text, AllocError>
     Ok(Text::from_vec(bytes))
 }
 
-/// The value of a key, behind the `=`.
+/// Parses the value of a key, behind the `=`; the result is the whole item.
 #[tactic(auto, unfolding(crate::specs::ItemReaders::quoted_value_at))]
 fn quoted_value(alloc: Global, key: &[u8], tokens: &mut &[Placed<'_>]) -> Result<Text, IrError>
     ensures { Gives (λ x. (x, seen tokens.new.now)) result (parsing.quoted_value_at key.now (seen tokens.old.now)) }
@@ -50,7 +50,7 @@ fn quoted_value(alloc: Global, key: &[u8], tokens: &mut &[Placed<'_>]) -> Result
     }
 }
 
-/// The group that is kept behind a word, with the word before it, or the word alone.
+/// Parses the kept group behind a word, if there is one; the result is the whole item.
 #[tactic(auto, unfolding(crate::specs::ItemReaders::word_item_at))]
 fn word_item(alloc: Global, word: &[u8], tokens: &mut &[Placed<'_>]) -> Result<Text, IrError>
     ensures { Gives (λ x. (x, seen tokens.new.now)) result (parsing.word_item_at word.now (seen tokens.old.now)) }
@@ -67,7 +67,7 @@ fn word_item(alloc: Global, word: &[u8], tokens: &mut &[Placed<'_>]) -> Result<T
     }
 }
 
-/// A quoted text, and its value where a `=` is behind it.
+/// Parses the `=` and the value behind a quoted text, if they are there; the result is the whole item.
 #[tactic(auto, unfolding(crate::specs::ItemReaders::quoted_item_at))]
 fn quoted_item(alloc: Global, key: &[u8], tokens: &mut &[Placed<'_>]) -> Result<Text, IrError>
     ensures { Gives (λ x. (x, seen tokens.new.now)) result (parsing.quoted_item_at key.now (seen tokens.old.now)) }
@@ -94,7 +94,7 @@ pub(crate) fn begins_item(tokens: &[Placed<'_>]) -> bool
     }
 }
 
-/// An item; it is read as it is printed.
+/// Parses an item; the result is its text as it is printed.
 #[tactic(auto, unfolding(crate::specs::ItemReaders::item_at))]
 pub(crate) fn item(alloc: Global, tokens: &mut &[Placed<'_>]) -> Result<Text, IrError>
     ensures { Gives (λ x. (x, seen tokens.new.now)) result (parsing.item_at (seen tokens.old.now)) }
@@ -119,7 +119,7 @@ pub(crate) fn item(alloc: Global, tokens: &mut &[Placed<'_>]) -> Result<Text, Ir
     }
 }
 
-/// An item, as a part of a header or of a call.
+/// The production of an item of a header or of a call.
 enum EachItem {}
 
 impl Part for EachItem {
@@ -140,7 +140,7 @@ impl Part for EachItem {
     }
 }
 
-/// Items.
+/// Parses any number of items.
 #[tactic(auto, unfolding(crate::specs::ItemReaders::items_at))]
 pub fn items(alloc: Global, tokens: &mut &[Placed<'_>]) -> Result<List<Text>, IrError>
     ensures { Gives (λ x. (x, seen tokens.new.now)) result (parsing.items_at (seen tokens.old.now)) }
@@ -148,7 +148,7 @@ pub fn items(alloc: Global, tokens: &mut &[Placed<'_>]) -> Result<List<Text>, Ir
     each::<EachItem>(alloc, List::new(alloc), tokens)
 }
 
-/// That no word is next. One that is no item is left out.
+/// Checks that no word is next. Behind all items a word is one that is not supported.
 #[tactic(auto, unfolding(crate::specs::ItemReaders::no_word_at))]
 fn no_word(alloc: Global, tokens: &[Placed<'_>]) -> Result<(), IrError>
     ensures { Gives (λ x. (x, seen tokens.now)) result (parsing.no_word_at (seen tokens.now)) }
@@ -162,7 +162,7 @@ fn no_word(alloc: Global, tokens: &[Placed<'_>]) -> Result<(), IrError>
     }
 }
 
-/// Items that no word follows.
+/// Parses any number of items, behind which no word may stand.
 #[tactic(auto, unfolding(crate::specs::ItemReaders::last_items_at))]
 pub fn last_items(alloc: Global, tokens: &mut &[Placed<'_>]) -> Result<List<Text>, IrError>
     ensures { Gives (λ x. (x, seen tokens.new.now)) result (parsing.last_items_at (seen tokens.old.now)) }

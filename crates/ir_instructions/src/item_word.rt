@@ -15,7 +15,7 @@ fn is_among(word: &[u8], words: &[&str]) -> bool
     words.iter().any(|wanted| is(word, wanted))
 }
 
-/// The types that are no integers, which may be no items either.
+/// The types that are not supported; their names are no items either.
 const LEFT_OUT_TYPES: [&str; 12] = [
     "void",
     "half",

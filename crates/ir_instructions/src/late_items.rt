@@ -1,4 +1,4 @@
-//! Items behind a call, on the line of its `)`; they are dropped.
+//! Parsing the items behind a call, on the line of its `)`; they are dropped.
 
 ghost use Rattle.std.specs.Prelude.{◌≡◌};
 ghost use Rattle.ir_tokens.specs.SeenTokens.{seen};
@@ -27,7 +27,7 @@ fn begins_late_item(line: usize, tokens: &[Placed<'_>]) -> bool
     is_on_line(line, tokens) && begins_item(tokens)
 }
 
-/// The value behind a key and its `=`.
+/// Parses the value behind a key and its `=`.
 #[tactic(auto, unfolding(crate::specs::CallReaders::late_value_at))]
 fn late_value(line: usize, tokens: &mut &[Placed<'_>]) -> Result<(), IrFault>
     ensures { parsing.late_value_at line (seen tokens.old.now) ≡ readers.given result (seen tokens.new.now) }
@@ -48,7 +48,7 @@ fn late_value(line: usize, tokens: &mut &[Placed<'_>]) -> Result<(), IrFault>
     }
 }
 
-/// What goes on behind a quoted text: a value, behind a `=` on the line.
+/// Parses the `=` and the value behind a quoted text, if they are on the line.
 #[tactic(auto, unfolding(crate::specs::CallReaders::late_quoted_at))]
 fn late_quoted(line: usize, tokens: &mut &[Placed<'_>]) -> Result<(), IrFault>
     ensures { parsing.late_quoted_at line (seen tokens.old.now) ≡ readers.given result (seen tokens.new.now) }
@@ -61,7 +61,7 @@ fn late_quoted(line: usize, tokens: &mut &[Placed<'_>]) -> Result<(), IrFault>
     }
 }
 
-/// The group behind a word, if there is one on the line.
+/// Parses the kept group behind a word, if there is one on the line.
 #[tactic(auto, unfolding(crate::specs::CallReaders::late_group_at))]
 fn late_group(line: usize, tokens: &mut &[Placed<'_>]) -> Result<(), IrFault>
     ensures { parsing.late_group_at line (seen tokens.old.now) ≡ readers.given result (seen tokens.new.now) }
@@ -75,7 +75,7 @@ fn late_group(line: usize, tokens: &mut &[Placed<'_>]) -> Result<(), IrFault>
     Ok(())
 }
 
-/// An item.
+/// Parses an item that begins on the line.
 #[tactic(auto, unfolding(crate::specs::CallReaders::late_item_at))]
 fn late_item(line: usize, tokens: &mut &[Placed<'_>]) -> Result<(), IrFault>
     ensures { parsing.late_item_at line (seen tokens.old.now) ≡ readers.given result (seen tokens.new.now) }
@@ -100,7 +100,7 @@ fn late_item(line: usize, tokens: &mut &[Placed<'_>]) -> Result<(), IrFault>
     }
 }
 
-/// Items on this line.
+/// Parses all items that begin on this line.
 fn each_late_item(line: usize, tokens: &mut &[Placed<'_>]) -> Result<(), IrFault>
     ensures { parsing.each_late_item_at line (seen tokens.old.now) ≡ readers.given result (seen tokens.new.now) }
 {
@@ -110,7 +110,7 @@ fn each_late_item(line: usize, tokens: &mut &[Placed<'_>]) -> Result<(), IrFault
     Ok(())
 }
 
-/// That some token stands behind, as in each text.
+/// Checks that there is another token; a text ends with one.
 #[tactic(auto, unfolding(crate::specs::CallReaders::some_token_at))]
 fn some_token(tokens: &[Placed<'_>]) -> Result<(), IrFault>
     ensures { parsing.some_token_at (seen tokens.now) ≡ readers.given result (seen tokens.now) }
@@ -121,7 +121,7 @@ fn some_token(tokens: &[Placed<'_>]) -> Result<(), IrFault>
     }
 }
 
-/// All items on this line.
+/// Parses all items on this line, behind which there is another token.
 #[tactic(auto, unfolding(crate::specs::CallReaders::late_items_at))]
 pub(crate) fn late_items(line: usize, tokens: &mut &[Placed<'_>]) -> Result<(), IrFault>
     ensures { parsing.late_items_at line (seen tokens.old.now) ≡ readers.given result (seen tokens.new.now) }

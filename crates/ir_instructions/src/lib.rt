@@ -1,8 +1,9 @@
-//! Instructions and terminators of LLVM IR as they are written in a text, or the first token that does not fit, with
-//! its line.
+//! The parser of instructions and terminators of LLVM IR: from tokens to syntax trees, or to the first token that does
+//! not fit, with its line.
 //!
-//! Tokens are read from left to right, and each function reads one part of the grammar and goes behind it. `place` says
-//! which tokens are left out of the language where, and `part` reads what stands any number of times.
+//! It is a recursive descent parser without backtracking: each function reads one production of the grammar and moves
+//! behind it. `place` says which tokens are unsupported parts of LLVM IR and which are syntax errors, and `part`
+//! repeats a production.
 #![tactic(auto)]
 
 mod argument;

@@ -1,4 +1,4 @@
-//! Instructions from tokens. (LLVM Language Reference, "Instruction Reference".)
+//! Parsing instructions. (LLVM Language Reference, "Instruction Reference".)
 
 ghost use Rattle.std.specs.Prelude.{◌≡◌, OnErr};
 ghost use Rattle.ir_tokens.specs.SeenTokens.{seen};
@@ -32,7 +32,7 @@ fn is_flag(taken: Flags, tokens: &[Placed<'_>]) -> bool
     }
 }
 
-/// The flags before, and another that is not among them.
+/// Parses a flag that is not among those before, and adds it to them.
 #[tactic(auto, unfolding(crate::specs::InstructionReaders::flag_at))]
 fn flag(taken: Flags, before: Flags, tokens: &mut &[Placed<'_>]) -> Result<Flags, IrFault>
     ensures { parsing.flag_at taken before (seen tokens.old.now) ≡ readers.given result (seen tokens.new.now) }
@@ -56,7 +56,7 @@ fn flag(taken: Flags, before: Flags, tokens: &mut &[Placed<'_>]) -> Result<Flags
     }
 }
 
-/// The flags of an instruction, of those that it takes, in any order.
+/// Parses the flags of an instruction: those that it takes, in any order, each at most once.
 #[tactic(auto, unfolding(crate::specs::InstructionReaders::flags_at))]
 fn flags(taken: Flags, tokens: &mut &[Placed<'_>]) -> Result<Flags, IrFault>
     ensures { parsing.flags_at taken (seen tokens.old.now) ≡ readers.given result (seen tokens.new.now) }
@@ -68,7 +68,7 @@ fn flags(taken: Flags, tokens: &mut &[Placed<'_>]) -> Result<Flags, IrFault>
     Ok(flags)
 }
 
-/// A binary operation, behind its opcode.
+/// Parses a binary operation, behind its opcode.
 #[tactic(auto, unfolding(crate::specs::InstructionReaders::binary_at))]
 fn binary(alloc: Global, opcode: Opcode, tokens: &mut &[Placed<'_>]) -> Result<RawOp, IrError>
     ensures { Gives (λ x. (x, seen tokens.new.now)) result (parsing.binary_at opcode (seen tokens.old.now)) }
@@ -81,7 +81,7 @@ fn binary(alloc: Global, opcode: Opcode, tokens: &mut &[Placed<'_>]) -> Result<R
     Ok(RawOp::Binary(opcode, flags, width, left, right))
 }
 
-/// A predicate.
+/// Parses a predicate.
 #[tactic(auto, unfolding(crate::specs::InstructionReaders::pred_at))]
 fn predicate(alloc: Global, tokens: &mut &[Placed<'_>]) -> Result<Pred, IrError>
     ensures { Gives (λ x. (x, seen tokens.new.now)) result (parsing.pred_at (seen tokens.old.now)) }
@@ -101,7 +101,7 @@ fn predicate(alloc: Global, tokens: &mut &[Placed<'_>]) -> Result<Pred, IrError>
     }
 }
 
-/// A comparison, behind `icmp`.
+/// Parses a comparison, behind `icmp`.
 #[tactic(auto, unfolding(crate::specs::InstructionReaders::compare_at))]
 fn comparison(alloc: Global, tokens: &mut &[Placed<'_>]) -> Result<RawOp, IrError>
     ensures { Gives (λ x. (x, seen tokens.new.now)) result (parsing.compare_at (seen tokens.old.now)) }
@@ -115,7 +115,7 @@ fn comparison(alloc: Global, tokens: &mut &[Placed<'_>]) -> Result<RawOp, IrErro
     Ok(RawOp::Compare(pred, flags.samesign, width, left, right))
 }
 
-/// A choice, behind `select`.
+/// Parses a `select`, behind that word.
 #[tactic(auto, unfolding(crate::specs::InstructionReaders::select_at))]
 fn selection(alloc: Global, tokens: &mut &[Placed<'_>]) -> Result<RawOp, IrError>
     ensures { Gives (λ x. (x, seen tokens.new.now)) result (parsing.select_at (seen tokens.old.now)) }
@@ -128,7 +128,7 @@ fn selection(alloc: Global, tokens: &mut &[Placed<'_>]) -> Result<RawOp, IrError
     Ok(RawOp::Select(condition, if_true, if_false))
 }
 
-/// A cast, behind its opcode.
+/// Parses a cast, behind its opcode.
 #[tactic(auto, unfolding(crate::specs::InstructionReaders::convert_at))]
 fn conversion(alloc: Global, cast: Cast, tokens: &mut &[Placed<'_>]) -> Result<RawOp, IrError>
     ensures { Gives (λ x. (x, seen tokens.new.now)) result (parsing.convert_at cast (seen tokens.old.now)) }
@@ -140,7 +140,7 @@ fn conversion(alloc: Global, cast: Cast, tokens: &mut &[Placed<'_>]) -> Result<R
     Ok(RawOp::Convert(cast, flags, from.width, from.operand, to))
 }
 
-/// A `freeze`, behind that word.
+/// Parses a `freeze`, behind that word.
 #[tactic(auto, unfolding(crate::specs::InstructionReaders::freeze_at))]
 fn freezing(alloc: Global, tokens: &mut &[Placed<'_>]) -> Result<RawOp, IrError>
     ensures { Gives (λ x. (x, seen tokens.new.now)) result (parsing.freeze_at (seen tokens.old.now)) }
@@ -149,7 +149,7 @@ fn freezing(alloc: Global, tokens: &mut &[Placed<'_>]) -> Result<RawOp, IrError>
     Ok(RawOp::Freeze(typed.width, typed.operand))
 }
 
-/// An incoming value of a `phi` with its block.
+/// Parses an incoming value of a `phi` with its block.
 #[tactic(auto, unfolding(crate::specs::InstructionReaders::incoming_at))]
 fn incoming(alloc: Global, width: Width, tokens: &mut &[Placed<'_>]) -> Result<RawIncoming, IrError>
     ensures { Gives (λ x. (x, seen tokens.new.now)) result (parsing.incoming_at width (seen tokens.old.now)) }
@@ -162,7 +162,7 @@ fn incoming(alloc: Global, width: Width, tokens: &mut &[Placed<'_>]) -> Result<R
     Ok(RawIncoming { value, block })
 }
 
-/// Whether another incoming value is next: a `,`, and no attachment behind it.
+/// Whether a further incoming value is next: a `,` that no attachment follows.
 fn begins_incoming(tokens: &[Placed<'_>]) -> bool
     ensures { result ≡ parsing.begins_incoming (seen tokens.now) }
 {
@@ -175,7 +175,7 @@ fn begins_incoming(tokens: &[Placed<'_>]) -> bool
     }
 }
 
-/// Another incoming value, behind a `,`.
+/// Parses a further incoming value, behind a `,`.
 #[tactic(auto, unfolding(crate::specs::InstructionReaders::further_incoming_at))]
 fn further_incoming(
     alloc: Global,
@@ -188,7 +188,7 @@ fn further_incoming(
     incoming(alloc, width, tokens)
 }
 
-/// The incoming values in front, and behind them others.
+/// Parses any number of further incoming values, and appends them to those in front.
 fn incomings(
     alloc: Global,
     width: Width,
@@ -204,7 +204,7 @@ fn incomings(
     Ok(incomings)
 }
 
-/// A `phi`, behind that word.
+/// Parses a `phi`, behind that word.
 #[tactic(auto, unfolding(crate::specs::InstructionReaders::phi_at))]
 fn phi(alloc: Global, tokens: &mut &[Placed<'_>]) -> Result<RawOp, IrError>
     ensures { Gives (λ x. (x, seen tokens.new.now)) result (parsing.phi_at (seen tokens.old.now)) }
@@ -216,7 +216,7 @@ fn phi(alloc: Global, tokens: &mut &[Placed<'_>]) -> Result<RawOp, IrError>
     Ok(RawOp::Phi(width, incomings))
 }
 
-/// What an instruction computes, behind its first word, which is on this line.
+/// Parses an operation behind its first word, which is on this line.
 fn behind_opcode(
     alloc: Global,
     line: usize,
@@ -237,7 +237,7 @@ fn behind_opcode(
     }
 }
 
-/// What an instruction computes.
+/// Parses an operation: what an instruction computes.
 #[tactic(auto, unfolding(crate::specs::InstructionReaders::op_at))]
 fn op(alloc: Global, tokens: &mut &[Placed<'_>]) -> Result<RawOp, IrError>
     ensures { Gives (λ x. (x, seen tokens.new.now)) result (parsing.op_at (seen tokens.old.now)) }
@@ -257,7 +257,7 @@ fn op(alloc: Global, tokens: &mut &[Placed<'_>]) -> Result<RawOp, IrError>
     }
 }
 
-/// An instruction, as a part of a block.
+/// The production of an instruction of a block.
 enum Instruction {}
 
 impl Part for Instruction {
@@ -286,7 +286,7 @@ impl Part for Instruction {
     }
 }
 
-/// Instructions.
+/// Parses any number of instructions.
 #[tactic(auto, unfolding(crate::specs::InstructionReaders::insts_at))]
 pub fn insts(alloc: Global, tokens: &mut &[Placed<'_>]) -> Result<List<RawInst>, IrError>
     ensures read { Gives (λ x. (x, seen tokens.new.now)) result (parsing.insts_at (seen tokens.old.now)) }

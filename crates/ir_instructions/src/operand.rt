@@ -1,4 +1,4 @@
-//! Types and values from tokens.
+//! Parsing types and values.
 
 ghost use Rattle.std.specs.Prelude.{◌≡◌, OnErr};
 ghost use Rattle.ir_tokens.specs.Numbers.{constant_of};
@@ -16,7 +16,7 @@ use ops::Width;
 use refusal::refused;
 use std::alloc::Global;
 
-/// An integer type.
+/// Parses an integer type.
 #[tactic(auto, unfolding(crate::specs::TokenReaders::type_at))]
 pub fn integer_type(alloc: Global, tokens: &mut &[Placed<'_>]) -> Result<Width, IrError>
     ensures read { Gives (λ x. (x, seen tokens.new.now)) result (parsing.type_at (seen tokens.old.now)) }
@@ -38,7 +38,7 @@ pub fn integer_type(alloc: Global, tokens: &mut &[Placed<'_>]) -> Result<Width, 
     }
 }
 
-/// The value of a number at a width.
+/// The operand that digits spell at a width, or the fault that their number is out of range.
 pub(crate) fn number(line: usize, digits: &[u8], width: Width) -> Result<RawOperand, IrFault>
     ensures { result ≡ parsing.number_value line (constant_of digits.now width) }
 {
@@ -51,7 +51,7 @@ pub(crate) fn number(line: usize, digits: &[u8], width: Width) -> Result<RawOper
     }
 }
 
-/// A value of a type of this width.
+/// Parses a value at this width.
 #[tactic(auto, unfolding(crate::specs::TokenReaders::operand_at))]
 pub(crate) fn operand(
     alloc: Global,
@@ -84,7 +84,7 @@ pub(crate) fn operand(
     }
 }
 
-/// The value of a case: a number, `true` or `false`.
+/// Parses the value of a case: a number, `true` or `false`.
 #[tactic(auto, unfolding(crate::specs::TokenReaders::case_value_at))]
 pub(crate) fn case_value(
     alloc: Global,
@@ -112,7 +112,7 @@ pub(crate) fn case_value(
     }
 }
 
-/// A type and a value of it.
+/// Parses a type and a value of it.
 #[tactic(auto, unfolding(crate::specs::TokenReaders::typed_at))]
 pub(crate) fn typed(alloc: Global, tokens: &mut &[Placed<'_>]) -> Result<TypedOperand, IrError>
     ensures { Gives (λ x. (x, seen tokens.new.now)) result (parsing.typed_at (seen tokens.old.now)) }

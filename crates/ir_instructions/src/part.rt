@@ -1,4 +1,4 @@
-//! Parts that stand any number of times.
+//! Repeated productions.
 
 ghost use Rattle.std.specs.Prelude.{◌≡◌, OnErr};
 ghost use Rattle.ir_tokens.specs.SeenTokens.{seen};
@@ -9,31 +9,32 @@ use ir_tokens::{IrError, Placed};
 use lists::List;
 use std::alloc::Global;
 
-/// A part of the grammar that may stand any number of times, one behind the other.
+/// A production of the grammar that may be repeated, one behind the other.
 pub trait Part {
     ghost use Rattle.std.specs.Prelude.{◌≡◌, Bool, List as Seq};
     ghost use Rattle.ir_tokens.specs.Tokens.{Placed as PlacedToken};
     ghost use Rattle.ir_instructions.specs.Readers.{Reader};
 
-    /// What it is read as.
+    /// Its syntax tree.
     type Value: Drop;
 
-    /// Whether another such part begins with the first token.
+    /// Whether another one begins with the first token: the lookahead.
     ghost begins: { Seq PlacedToken → Bool };
 
-    /// What is read from the first token on.
+    /// The specification of `read`.
     ghost reader: { Reader Self.Value };
 
-    /// Whether another such part is next.
+    /// Whether another one is next.
     fn is_next(tokens: &[Placed<'_>]) -> bool
         ensures { result ≡ begins (seen tokens.now) };
 
-    /// The next part; goes behind it.
+    /// Parses one, and moves behind it.
     fn read(alloc: Global, tokens: &mut &[Placed<'_>]) -> Result<Self::Value, IrError>
         ensures { Gives (λ x. (x, seen tokens.new.now)) result (reader (seen tokens.old.now)) };
 }
 
-/// The parts in front, and behind them parts as long as another is next. Where one is refused the tokens stay.
+/// Parses the production as long as another one is next, and appends what it parses to those in front. Where one is
+/// refused the tokens stay where they were.
 pub fn each<P: Part>(
     alloc: Global,
     front: List<P::Value>,

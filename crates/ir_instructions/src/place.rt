@@ -1,4 +1,4 @@
-//! Places of a module's text, and why a token does not fit there.
+//! Why a token does not fit: whether it is an unsupported part of LLVM IR or a syntax error there.
 
 ghost use Rattle.std.specs.Prelude.{◌≡◌, IfOk, take};
 ghost use Rattle.ir_tokens.specs.SeenTokens.{seen, seen_token};
@@ -13,7 +13,7 @@ use lists::Text;
 use refusal::{Fault, refused};
 use std::alloc::{AllocError, Global};
 
-/// Where a token stands, by what may stand there.
+/// What is expected where a token stands.
 #[derive(Clone, Copy)]
 pub enum Place {
     /// An entry of the module.
@@ -22,7 +22,7 @@ pub enum Place {
     Type,
     /// An instruction or a terminator.
     Instruction,
-    /// One of several words, or what may stand in place of one: an opcode, a predicate, a value, an item.
+    /// One of several words, or what may stand in place of one: an opcode, a predicate, a value or an item.
     Choice,
     /// One certain token, or one of a certain kind.
     Fixed,
@@ -35,7 +35,7 @@ pub(crate) fn fault(line: usize, kind: IrFaultKind) -> IrFault
     Fault { line, kind }
 }
 
-/// What is left out on a line.
+/// The fault of what is not supported (left out) on a line.
 pub fn left_out(alloc: Global, line: usize, bytes: &[u8]) -> IrError
     ensures { Refuses result (readers.fault line (misfits.LeftOut bytes.now)) }
 {
@@ -52,7 +52,7 @@ pub fn copied(alloc: Global, bytes: &[u8]) -> Result<Text, AllocError>
     Ok(Text::from_vec(Vec::from_slice(alloc, bytes)?))
 }
 
-/// The first byte, where there is one.
+/// The first byte, if there is one.
 fn first_byte(bytes: &[u8]) -> &[u8]
     ensures { result.now ≡ take 1 bytes.now }
 {
@@ -62,7 +62,7 @@ fn first_byte(bytes: &[u8]) -> &[u8]
     }
 }
 
-/// How a token that is left out is named: the word, or the first byte.
+/// How the fault names a token that is not supported: the word, or the first byte.
 #[tactic(auto, unfolding(crate::specs::Places::shown))]
 fn shown(alloc: Global, token: Token<'_>) -> Result<Text, AllocError>
     ensures { IfOk result (λ text. text ≡ places.shown (seen_token token.entry)) }
@@ -83,7 +83,7 @@ fn shown(alloc: Global, token: Token<'_>) -> Result<Text, AllocError>
     }
 }
 
-/// Whether the language of modules goes on with such a token, which is left out here.
+/// Whether such a token, where it does not fit, is taken for an unsupported part of LLVM IR.
 #[tactic(auto, unfolding(crate::specs::Places::leaves_out))]
 fn leaves_out(place: Place, token: Token<'_>) -> bool
     ensures { result ≡ places.leaves_out place (seen_token token.entry) }
@@ -97,7 +97,7 @@ fn leaves_out(place: Place, token: Token<'_>) -> bool
     }
 }
 
-/// Why a token does not fit.
+/// The kind of fault of a token that does not fit.
 #[tactic(auto, unfolding(crate::specs::Places::misfit))]
 fn misfit(alloc: Global, place: Place, token: Token<'_>) -> Result<IrFaultKind, AllocError>
     ensures { IfOk result (λ kind. kind ≡ places.misfit place (seen_token token.entry)) }
@@ -115,7 +115,7 @@ fn misfit(alloc: Global, place: Place, token: Token<'_>) -> Result<IrFaultKind, 
     }
 }
 
-/// The fault of the first token, which does not fit in its place.
+/// The fault of the first token, which does not fit where this is expected.
 #[tactic(auto, unfolding(crate::specs::Readers::unexpected))]
 pub fn unexpected(alloc: Global, place: Place, tokens: &[Placed<'_>]) -> IrError
     ensures { Refuses result (readers.unexpected place (seen tokens.now)) }
@@ -129,7 +129,7 @@ pub fn unexpected(alloc: Global, place: Place, tokens: &[Placed<'_>]) -> IrError
     }
 }
 
-/// The same where one certain token should stand, so that no token is left out.
+/// The same where a certain token is expected, so that no other is taken for an unsupported part of LLVM IR.
 #[tactic(auto, unfolding(crate::specs::Readers::unexpected, crate::specs::Places::misfit, crate::specs::Places::leaves_out))]
 pub fn misplaced(tokens: &[Placed<'_>]) -> IrFault
     ensures { result ≡ readers.unexpected variants.Fixed (seen tokens.now) }

@@ -1,4 +1,4 @@
-//! Terminators from tokens. (LLVM Language Reference, "Terminator Instructions".)
+//! Parsing terminators. (LLVM Language Reference, "Terminator Instructions".)
 
 ghost use Rattle.std.specs.Prelude.{◌≡◌, OnErr};
 ghost use Rattle.ir_tokens.specs.SeenTokens.{seen};
@@ -14,7 +14,7 @@ use ir_tokens::{IrError, Placed, RawCase, RawTerminator, Token};
 use lists::List;
 use std::alloc::Global;
 
-/// A return, behind `ret`.
+/// Parses a return, behind `ret`.
 #[tactic(auto, unfolding(crate::specs::InstructionReaders::return_at))]
 fn returning(alloc: Global, tokens: &mut &[Placed<'_>]) -> Result<RawTerminator, IrError>
     ensures { Gives (λ x. (x, seen tokens.new.now)) result (parsing.return_at (seen tokens.old.now)) }
@@ -23,7 +23,7 @@ fn returning(alloc: Global, tokens: &mut &[Placed<'_>]) -> Result<RawTerminator,
     Ok(RawTerminator::Return(typed.width, typed.operand))
 }
 
-/// A branch on a condition, behind `br`.
+/// Parses a branch on a condition, behind `br`.
 #[tactic(auto, unfolding(crate::specs::InstructionReaders::conditional_at))]
 fn conditional(alloc: Global, tokens: &mut &[Placed<'_>]) -> Result<RawTerminator, IrError>
     ensures { Gives (λ x. (x, seen tokens.new.now)) result (parsing.conditional_at (seen tokens.old.now)) }
@@ -36,7 +36,7 @@ fn conditional(alloc: Global, tokens: &mut &[Placed<'_>]) -> Result<RawTerminato
     Ok(RawTerminator::Branch(typed.width, typed.operand, if_true, if_false))
 }
 
-/// A branch, behind `br`.
+/// Parses a branch, behind `br`.
 #[tactic(auto, unfolding(crate::specs::InstructionReaders::branch_at, crate::specs::InstructionReaders::jump_at))]
 fn branch(alloc: Global, tokens: &mut &[Placed<'_>]) -> Result<RawTerminator, IrError>
     ensures { Gives (λ x. (x, seen tokens.new.now)) result (parsing.branch_at (seen tokens.old.now)) }
@@ -49,7 +49,7 @@ fn branch(alloc: Global, tokens: &mut &[Placed<'_>]) -> Result<RawTerminator, Ir
     }
 }
 
-/// A case, as a part of a switch.
+/// The production of a case of a switch.
 enum Case {}
 
 impl Part for Case {
@@ -79,7 +79,7 @@ impl Part for Case {
     }
 }
 
-/// The cases of a switch, in their brackets.
+/// Parses the cases of a switch, in their brackets.
 #[tactic(auto, unfolding(crate::specs::InstructionReaders::cases_at))]
 fn cases(alloc: Global, tokens: &mut &[Placed<'_>]) -> Result<List<RawCase>, IrError>
     ensures { Gives (λ x. (x, seen tokens.new.now)) result (parsing.cases_at (seen tokens.old.now)) }
@@ -90,7 +90,7 @@ fn cases(alloc: Global, tokens: &mut &[Placed<'_>]) -> Result<List<RawCase>, IrE
     Ok(cases)
 }
 
-/// A switch, behind that word.
+/// Parses a switch, behind that word.
 #[tactic(auto, unfolding(crate::specs::InstructionReaders::switch_at))]
 fn switch(alloc: Global, tokens: &mut &[Placed<'_>]) -> Result<RawTerminator, IrError>
     ensures { Gives (λ x. (x, seen tokens.new.now)) result (parsing.switch_at (seen tokens.old.now)) }
@@ -102,7 +102,7 @@ fn switch(alloc: Global, tokens: &mut &[Placed<'_>]) -> Result<RawTerminator, Ir
     Ok(RawTerminator::Switch(typed.width, typed.operand, default, cases))
 }
 
-/// A terminator, behind its first word.
+/// Parses a terminator, behind its first word.
 fn behind_word(
     alloc: Global,
     ending: Ending,
@@ -118,7 +118,7 @@ fn behind_word(
     }
 }
 
-/// A terminator, with the line of its first word.
+/// Parses a terminator, with the line of its first word.
 #[tactic(auto, unfolding(crate::specs::InstructionReaders::terminator_at))]
 pub fn terminator(
     alloc: Global,

@@ -1,4 +1,4 @@
-//! Readers of one token.
+//! Parsing single tokens.
 
 ghost use Rattle.std.specs.Prelude.{◌≡◌, OnErr};
 ghost use Rattle.ir_tokens.specs.SeenTokens.{seen};
@@ -34,7 +34,7 @@ pub(crate) fn is_keyword(wanted: &str, tokens: &[Placed<'_>]) -> bool
     }
 }
 
-/// A mark.
+/// Parses this mark.
 #[tactic(auto, unfolding(crate::specs::TokenReaders::mark_at))]
 pub fn mark(wanted: u8, tokens: &mut &[Placed<'_>]) -> Result<(), IrFault>
     ensures read { parsing.mark_at wanted (seen tokens.old.now) ≡ readers.given result (seen tokens.new.now) }
@@ -56,7 +56,7 @@ pub fn mark(wanted: u8, tokens: &mut &[Placed<'_>]) -> Result<(), IrFault>
     }
 }
 
-/// A word that has to stand here.
+/// Parses this word.
 #[tactic(auto, unfolding(crate::specs::TokenReaders::keyword_at))]
 pub(crate) fn keyword(wanted: &str, tokens: &mut &[Placed<'_>]) -> Result<(), IrFault>
     ensures { parsing.keyword_at wanted.now (seen tokens.old.now) ≡ readers.given result (seen tokens.new.now) }
@@ -77,7 +77,7 @@ pub(crate) fn keyword(wanted: &str, tokens: &mut &[Placed<'_>]) -> Result<(), Ir
     }
 }
 
-/// A register.
+/// Parses a register.
 #[tactic(auto, unfolding(crate::specs::TokenReaders::register_at))]
 pub(crate) fn register(alloc: Global, tokens: &mut &[Placed<'_>]) -> Result<RawIdentifier, IrError>
     ensures { Gives (λ x. (x, seen tokens.new.now)) result (parsing.register_at (seen tokens.old.now)) }
@@ -97,7 +97,7 @@ pub(crate) fn register(alloc: Global, tokens: &mut &[Placed<'_>]) -> Result<RawI
     }
 }
 
-/// `label` and a register: where a terminator goes.
+/// Parses the target of a terminator: `label` and a register.
 #[tactic(auto, unfolding(crate::specs::TokenReaders::target_at))]
 pub(crate) fn target(alloc: Global, tokens: &mut &[Placed<'_>]) -> Result<RawIdentifier, IrError>
     ensures { Gives (λ x. (x, seen tokens.new.now)) result (parsing.target_at (seen tokens.old.now)) }

@@ -10,17 +10,17 @@ use ir_tokens::RawValue;
 use ops::keywords::{cast_name, is, opcode_name};
 use ops::{Cast, Opcode, Width};
 
-/// What a word is as a type.
+/// The type that a word spells.
 #[derive(Clone, Copy)]
 pub enum TypeWord {
     /// No integer type.
     Other,
-    /// An integer type that is left out: of no bit, or of more than 64.
+    /// An integer type that is not supported: of no bit, or of more than 64.
     OutOfRange,
     Integer(Width),
 }
 
-/// What an instruction does.
+/// An operation, by its first word.
 #[derive(Clone, Copy)]
 pub enum Operation {
     Binary(Opcode),
@@ -30,12 +30,12 @@ pub enum Operation {
     Freeze,
     Phi,
     Call,
-    /// `tail`, behind which a call stands; and `notail`.
+    /// `tail`, behind which a call stands; and so for `notail`.
     Tail,
     NoTail,
 }
 
-/// How a block ends.
+/// A terminator, by its first word.
 #[derive(Clone, Copy)]
 pub enum Ending {
     Return,
@@ -58,7 +58,7 @@ fn all_digits(text: &[u8]) -> bool
     text.iter().all(|byte| is_digit(*byte))
 }
 
-/// Whether the bytes are digits, one or more.
+/// Whether the bytes are at least one digit and nothing else.
 fn are_digits(text: &[u8]) -> bool
     ensures { result ≡ bytes.are_digits text.now }
 {
@@ -68,7 +68,7 @@ fn are_digits(text: &[u8]) -> bool
     }
 }
 
-/// The number that digits spell; 2^32 - 1 where it is more.
+/// The number that digits spell, or 2^32 - 1 if it is greater.
 fn magnitude(digits: &[u8]) -> u32
     ensures { result ≡ min (decimal_value digits.now) (2 ^ 32 - 1) }
 {
@@ -80,7 +80,7 @@ fn magnitude(digits: &[u8]) -> u32
     number
 }
 
-/// What a word is as a type.
+/// The type that a word spells.
 #[tactic(auto, unfolding(crate::specs::Keywords::type_in))]
 pub fn type_of(word: &[u8]) -> TypeWord
     ensures { result ≡ spelled.type_in word.now }
@@ -136,7 +136,7 @@ const OPERATIONS: [Operation; 23] = [
     Operation::NoTail,
 ];
 
-/// The operation whose first word a word is.
+/// The operation that begins with a word.
 #[tactic(auto, unfolding(crate::specs::Keywords::operation_in))]
 pub(crate) fn operation_of(word: &[u8]) -> Option<Operation>
     ensures { result ≡ spelled.operation_in word.now }
@@ -147,7 +147,7 @@ pub(crate) fn operation_of(word: &[u8]) -> Option<Operation>
         .find(|operation| is(word, operation_name(*operation)))
 }
 
-/// The value of one bit that a word is.
+/// The truth value that a word spells: `true` or `false`.
 #[tactic(auto, unfolding(crate::specs::Keywords::truth_in))]
 pub(crate) fn truth_of(word: &[u8]) -> Option<RawValue>
     ensures { result ≡ spelled.truth_in word.now }
@@ -161,7 +161,7 @@ pub(crate) fn truth_of(word: &[u8]) -> Option<RawValue>
     }
 }
 
-/// The value that a word is.
+/// The value that a word spells.
 #[tactic(auto, unfolding(crate::specs::Keywords::value_in))]
 pub(crate) fn value_of(word: &[u8]) -> Option<RawValue>
     ensures { result ≡ spelled.value_in word.now }
@@ -193,7 +193,7 @@ const ENDINGS: [Ending; 4] = [
     Ending::Switch,
 ];
 
-/// The terminator that a word begins.
+/// The terminator that begins with a word.
 #[tactic(auto, unfolding(crate::specs::Keywords::ending_in))]
 pub(crate) fn ending_of(word: &[u8]) -> Option<Ending>
     ensures { result ≡ spelled.ending_in word.now }

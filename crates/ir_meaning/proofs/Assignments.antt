@@ -1,4 +1,4 @@
--- Of two results one isn't assigned at the other's instruction.
+-- If one result is assigned at another's instruction, the other isn't assigned at the one's.
 use Rattle.std.proofs.Common.{◌≡◌, ℕ, suc, ◌<◌, ◌⊎◌, inl, inr, List, [], ◌∷◌, sym, subst, ◌∙◌, arith}
 use Rattle.std.specs.Prelude.{Contains}
 use Rattle.std.proofs.lemmas.Bool.{cases_eq}
@@ -20,7 +20,7 @@ contains_or (x ∷ xs) d =
       ]
     ]
 
--- a walk to a block that hasn't been there before
+-- a walk to a block that it hasn't been in before
 abbrev Arrives : Function → ℕ → Type 0
 Arrives f d = (before : List ℕ) × IsWalk f (d ∷ before) × (Contains before d → ⊥)
 
@@ -40,7 +40,7 @@ arrives f d (c ∷ b ∷ before) is_walk has =
       ]
     ]
 
--- the walk to an earlier block of a walk
+-- a walk to block b through blocks of `before` alone
 abbrev Earlier : Function → ℕ → List ℕ → Type 0
 Earlier f b before = (l : List ℕ) × IsWalk f (b ∷ l) × ((x : ℕ) → Contains (b ∷ l) x → Contains before x)
 
@@ -54,7 +54,7 @@ earlier f b c (d ∷ rest) is_walk has =
           (r.0, r.1, λ x h. later_in d rest x (r.2 x h))
     ]
 
--- a walk to place k of block b that hasn't come to the instruction at place j of block d
+-- a walk to place k of block b that hasn't passed the instruction at place j of block d
 pub record Unpassed (f : Function) (d j b k : ℕ) : Type 0 where
   pub before : List ℕ
   pub is_walk : IsWalk f (b ∷ before)
@@ -64,7 +64,7 @@ pub record Unpassed (f : Function) (d j b k : ℕ) : Type 0 where
 pub unassigned : (f : Function) (d j b k : ℕ) → Unpassed f d j b k → IsAssigned f (registers.Result d j) b k → ⊥
 unassigned f d j b k u a = elim (a.1 u.before u.is_walk) [ inl passed ↦ u.not_before passed | inr here ↦ u.not_here here.0 here.1 ]
 
--- where o is assigned at r's instruction, some walk comes to o's and hasn't come to r's
+-- where o is assigned at r's instruction, some walk comes to o's without having passed r's
 pub comes_first : (f : Function) (b k d j : ℕ) → IsReached f d → IsAssigned f (registers.Result b k) d j → Unpassed f d j b k
 comes_first f b k d j reached a =
     let first : Arrives f d = arrives f d (d ∷ reached.0) reached.1 (first_in d reached.0) in

@@ -1,4 +1,4 @@
--- Each result but those of phis holds what its instruction gives on what its operands hold now.
+-- Each result that is no phi's holds what its instruction gives on what its operands hold at the same moment.
 use Rattle.std.proofs.Common.{◌≡◌, ℕ, inr, List, Some, refl, sym, ap, subst, ◌∙◌}
 use Rattle.std.specs.Prelude.{slice_get}
 use Rattle.std.proofs.lemmas.Option.{same_Some}
@@ -23,9 +23,9 @@ use Rattle.ir_meaning.specs.HistoryLaws.{EquationsHoldWhereAssigned, EquationsHo
 use Rattle.ir_meaning.proofs.Steps.{has_inst}
 use Rattle.ir_meaning.proofs.Holding.{assigned_ran, results_held, operands_held}
 
--- ---- registers that are held as before
+-- ---- registers that hold what they held before
 
--- the operand's register, if it is one, is assigned at the place
+-- if the operand is a register, that is assigned at the place
 abbrev OperandIsAssigned : Function → ℕ → ℕ → Operand → Type 0
 OperandIsAssigned f d j a = (r : Register) → a ≡ operands.Register r → IsAssigned f r d j
 
@@ -35,7 +35,7 @@ operand_kept held now w (operands.Number n) v same h = h
 operand_kept held now w operands.Undef v same h = h
 operand_kept held now w operands.Poison v same h = h
 
--- an instruction gives what it gave, where the registers that it reads hold what they did
+-- an instruction may give what it gave, if the registers that it reads hold what they held
 module _ (f : Function) (d j : ℕ) (held now : Registers) (same : (r : Register) → IsAssigned f r d j → now r ≡ held r) where
   kept : (w : ℕ) (a : Operand) (v : Value) → OperandIsAssigned f d j a → OperandGives AnyNumber held w a v → OperandGives AnyNumber now w a v
   kept w a v assigned h = operand_kept held now w a v (λ r is. same r (assigned r is)) h

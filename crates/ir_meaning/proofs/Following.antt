@@ -33,7 +33,7 @@ use Rattle.ir_meaning.proofs.Pieces.{some_at, cases_in, if_phi_map, switch_among
 use Rattle.ir_meaning.proofs.Restricting.{reads_inst, reads_end, phi_read}
 use Rattle.ir_meaning.proofs.Totality.{AreEnterable, HasEntry, NoPhis, is_phi_or_not}
 
--- ---- what fits
+-- ---- operands and types fit
 
 op_fits_by : (f : Function) (b k w : ℕ) (op : Op) → ((i : ℕ) (r : Read) → slice_get (reads_of f b k w op) i ≡ Some r → OperandHasWidth f r.width r.operand) → IsTyped w op → ¬ IsPhi op → OpFits f w op
 op_fits_by f b k w (Binary op flags x y) reads typed no_phi = (typed, reads 0 (read b k w x) refl, reads 1 (read b k w y) refl)
@@ -80,7 +80,7 @@ pub width_known : (f : Function) (b k : ℕ) (block : Block) (inst : Inst) → I
 width_known f b k block inst is_block is_inst =
     ap (λ o. option_and_then (λ (x : Block). option_map (λ (i : Inst). i.width) (slice_get x.insts k)) o) is_block ∙ ap (option_map (λ (i : Inst). i.width)) is_inst
 
--- what holds of block b holds of each block there
+-- a predicate that holds of block b holds of whatever block is found at b
 pub at_block : (P : Block → Type 0) (f : Function) (b : ℕ) (block : Block) → IsBlock f b block → P block → (other : Block) → IsBlock f b other → P other
 at_block P f b block is h other is_other = subst P (same_Some block other (sym is ∙ is_other)) h
 
@@ -136,7 +136,7 @@ if_phi_not (Convert cast flags from a) P Q f h = λ is. is
 if_phi_not (Unary op truth a) P Q f h = λ is. is
 if_phi_not (Freeze a) P Q f h = λ is. is
 
--- what a phi takes, and what those behind it take
+-- the value that a phi takes, and those that the phis behind it take
 abbrev Takes : Registers → Option ℕ → Inst → List Inst → Value → List Value → List (Operand × ℕ) → Type 0
 Takes held from i insts v vs entries = PhiGives OnlyZero held from i.width entries v × IsValueOf i.width v × AreTaken held from insts vs
 
@@ -198,7 +198,7 @@ enters_taken f from old b k (i ∷ insts) (v ∷ vs) t held end h rest =
     (λ none. absurd none)
     h
 
--- the whole block, where as many instructions are phis as took values
+-- the whole block, where as many instructions are phis as values were taken
 pub enters_all : (f : Function) (from : Option ℕ) (old : Registers) (b n : ℕ) (insts : List Inst) (vs : List Value) (t : Terminator) (end : Ending) → AreTaken old from insts vs → n ≡ length vs
     → Follows OnlyZero f b n (drop n insts) t (holding_all old b 0 vs) end → Enters OnlyZero f from old b 0 insts t old end
 enters_all f from old b n insts vs t end taken is rest =
@@ -227,7 +227,7 @@ later_entry entries i e from below at other has =
       | inr later ↦ (has.0, later)
     ]
 
--- the phis before place i took these values, and those from there on may take any that they give
+-- the phis before the i-th have taken these values; with any that the others may take, all have taken theirs
 abbrev pub TakenUpTo : Registers → Option ℕ → List Inst → ℕ → List Value → Type 0
 TakenUpTo held from insts i taken = (vs : List Value) → AreTaken held from (drop i insts) vs → AreTaken held from insts (taken ++ vs)
 

@@ -25,7 +25,7 @@ rest_here all k x rest h = ap (slice_get all) (omega arith) ∙ h 0
 pub rest_next : {A : Type 0} (all : List A) (k : ℕ) (x : A) (rest : List A) → ((i : ℕ) → slice_get all (k + i) ≡ slice_get (x ∷ rest) i) → (i : ℕ) → slice_get all (suc k + i) ≡ slice_get rest i
 rest_next all k x rest h i = ap (slice_get all) (omega arith) ∙ h (suc i)
 
--- a phi, or none
+-- an operation is a phi or is none
 pub phi_cases : (op : Op) (P : List (Operand × ℕ) → Type 0) (Q R : Type 0) → ((entries : List (Operand × ℕ)) → op ≡ Phi entries → P entries → R) → (Q → R) → IfPhi P Q op → R
 phi_cases (Phi entries) P Q R f g h = f entries refl h
 phi_cases (Binary op flags x y) P Q R f g h = g h
@@ -40,7 +40,7 @@ phi_cases (Freeze x) P Q R f g h = g h
 abbrev Histories : Function → List Value → Outcome → Type 0
 Histories f args o = (m : Moment) × (before : List Moment) × IsHistory f args (m ∷ before) × EndsAt f m o
 
--- the history of a pass that ends so, through block b
+-- the histories of a pass through block b that ends so
 abbrev PassHistory : Function → List Value → ℕ → Ending → Type 0
 PassHistory f args b Undefines = Histories f args outcomes.Undefined
 PassHistory f args b (Returns v) = Histories f args (outcomes.Return v)
@@ -53,7 +53,7 @@ module _ (f : Function) (args : List Value) (b : ℕ) (block : Block) (at : IsBl
   abbrev Rest : ℕ → List Inst → Type 0
   Rest k insts = (i : ℕ) → slice_get block.insts (k + i) ≡ slice_get insts i
 
-  -- an instruction that gives a value goes on
+  -- behind an instruction that gives a value the history goes on
   goes_on : (k : ℕ) (i : Inst) (held : Registers) (before : List Moment) (v : Value) → slice_get block.insts k ≡ Some i → IsHistory f args (moment k held ∷ before) → InstGives (moment k held) i (effects.Gives v)
       → IsHistory f args (moment (suc k) (holding held b k v) ∷ moment k held ∷ before)
   goes_on k i held before v here h g = (inl (record { inst = i; is_inst = record { block = block; is_block = at; is_inst = here }; value = v; gives = g; next = refl }), h)
@@ -64,7 +64,7 @@ module _ (f : Function) (args : List Value) (b : ℕ) (block : Block) (at : IsBl
   end_history (Goes c next) k held before len h g =
       (moment k held ∷ before, (inr (record { to = c; held = next; gives = record { block = block; is_block = at; behind = len; gives = g }; next = refl }), h))
 
-  -- what is given by no phi
+  -- the effect of an operation that is no phi
   inst_from_op : (k : ℕ) (held : Registers) (w : ℕ) (op : Op) (e : Effect) → OpGives AnyNumber held w op e
       → IfPhi (λ entries. (v : Value) × PhiGives AnyNumber entered from w entries v × (e ≡ effects.Gives v)) (OpGives AnyNumber held w op e) op
   inst_from_op k held w (Binary op flags x y) e g = g
@@ -75,7 +75,7 @@ module _ (f : Function) (args : List Value) (b : ℕ) (block : Block) (at : IsBl
   inst_from_op k held w (Freeze x) e g = g
   inst_from_op k held w (Phi entries) e g = absurd g
 
-  -- an instruction is undefined behaviour, or gives a value and others follow
+  -- an instruction has undefined behaviour, or gives a value and the next one follows
   step : (k : ℕ) (i : Inst) (insts : List Inst) (held : Registers) (before : List Moment) (end : Ending) → slice_get block.insts k ≡ Some i → IsHistory f args (moment k held ∷ before)
       → ((v : Value) → IsHistory f args (moment (suc k) (holding held b k v) ∷ moment k held ∷ before) → Follows AnyNumber f b (suc k) insts block.end (holding held b k v) end → PassHistory f args b end)
       → (e : Effect) → InstGives (moment k held) i e → GoesOn (λ v. Follows AnyNumber f b (suc k) insts block.end (holding held b k v) end) e end → PassHistory f args b end
@@ -90,7 +90,7 @@ module _ (f : Function) (args : List Value) (b : ℕ) (block : Block) (at : IsBl
       (λ v h'. follows_history (suc k) insts (holding held b k v) (moment k held ∷ before) end (rest_next block.insts k i insts is) (omega arith) h')
       g.0 (inst_from_op k held i.width i.op g.0 g.1) g.2
 
-  -- a phi gives the value that it takes
+  -- a phi gives the value that it took
   phi_gives : (k : ℕ) (i : Inst) (held : Registers) (entries : List (Operand × ℕ)) (v : Value) → i.op ≡ Phi entries → PhiGives AnyNumber entered from i.width entries v → InstGives (moment k held) i (effects.Gives v)
   phi_gives k i held entries v phi gives =
       subst (λ op. IfPhi (λ entries. (u : Value) × PhiGives AnyNumber entered from i.width entries u × (effects.Gives v ≡ effects.Gives u)) (OpGives AnyNumber held i.width op (effects.Gives v)) op) (sym phi) (v, gives, refl)
@@ -110,7 +110,7 @@ module _ (f : Function) (args : List Value) (b : ℕ) (block : Block) (at : IsBl
 
 -- ---- a run
 
--- a pass that goes on leads to an outcome later
+-- a pass that goes on at a block has the outcome of the run from there
 led : (f : Function) (args : List Value) (n b : ℕ) (o : Outcome)
     → ((c : ℕ) (next : Registers) (before : List Moment) → IsHistory f args (entering (Some b) c next ∷ before) → RunsFrom AnyNumber f n (Some b) c next o → Histories f args o)
     → (end : Ending) → PassHistory f args b end → Leads (RunsFrom AnyNumber f n (Some b)) end o → Histories f args o

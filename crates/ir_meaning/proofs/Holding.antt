@@ -1,4 +1,4 @@
--- What registers hold since an instruction ran for the last time.
+-- What registers hold after an instruction ran last.
 use Rattle.std.proofs.Common.{◌≡◌, ℕ, suc, ◌<◌, ◌⊎◌, inl, inr, List, [], ◌∷◌, ◌++◌, length, map, Some, refl, sym, ap, subst, ◌∙◌, arith}
 use Rattle.std.specs.Prelude.{Contains}
 use Rattle.std.proofs.lemmas.Bool.{cases_eq}
@@ -64,9 +64,9 @@ pub assigned_ran : AssignedHasRun
 assigned_ran f args d j m before h a =
     last_time d j before (assigned_passed f d j (place_of m) (map place_of before) (histories_paths f args (m ∷ before) h) a)
 
--- ---- what is held since
+-- ---- what registers hold since then
 
--- a result is held as it was, if its instruction didn't run
+-- a result whose instruction didn't run since holds what it held
 kept_since : (f : Function) (args : List Value) (d j : ℕ) (m : Moment) (later : List Moment) (last : Moment) (earlier : List Moment) → IsHistory f args (m ∷ later ++ last ∷ earlier)
     → ((n : Moment) → Contains later n → place_of n ≡ (d, j) → ⊥) → (place_of last ≡ (d, j) → ⊥) → m.held (registers.Result d j) ≡ last.held (registers.Result d j)
 kept_since f args d j m [] last earlier h none other = step_keeps f last m d j h.0 other
@@ -78,7 +78,7 @@ parameter_since : (f : Function) (args : List Value) (p : ℕ) (m : Moment) (lat
 parameter_since f args p m [] last earlier h = step_keeps_parameter f last m p h.0
 parameter_since f args p m (n ∷ later) last earlier h = step_keeps_parameter f n m p h.0 ∙ parameter_since f args p n later last earlier h.1
 
--- the instruction at a moment gave this value, which is held
+-- the instruction at a moment gave this value, which its result holds at another
 abbrev Given : Function → ℕ → ℕ → Moment → Moment → Type 0
 Given f d j last m = (inst : Inst) × (v : Value) × IsInst f d j inst × InstGives last inst (effects.Gives v) × (m.held (registers.Result d j) ≡ Some v)
 
@@ -110,7 +110,7 @@ pub results_held : ResultsAreHeld
 results_held f args d j m before later last earlier has h l =
     given_since f args d j m later last earlier has (history_split f args m before later last earlier l.split h) l.there l.not_since
 
--- ---- what is assigned at an instruction is held since
+-- ---- what is assigned at an instruction holds since then what it held
 
 places_split : (later : List Moment) (last : Moment) (earlier : List Moment) → map place_of (later ++ last ∷ earlier) ≡ map place_of later ++ place_of last ∷ map place_of earlier
 places_split [] last earlier = refl
@@ -132,20 +132,20 @@ from_places (x ∷ later) p has =
       | inr further ↦ let r = from_places later p further in (r.0, later_in x later r.0 r.1, r.2)
     ]
 
--- the places of a history that is split
+-- the places of a history that is split at a moment are a path split there
 split_path : (f : Function) (args : List Value) (d j : ℕ) (m : Moment) (later : List Moment) (last : Moment) (earlier : List Moment) → IsHistory f args (m ∷ later ++ last ∷ earlier) → place_of last ≡ (d, j)
     → IsPath f (place_of m ∷ map place_of later ++ (d, j) ∷ map place_of earlier)
 split_path f args d j m later last earlier h there =
     subst (λ (p : Place). IsPath f (place_of m ∷ map place_of later ++ p ∷ map place_of earlier)) there
     (subst (λ (l : List Place). IsPath f (place_of m ∷ l)) (places_split later last earlier) (histories_paths f args (m ∷ later ++ last ∷ earlier) h))
 
--- an instruction that runs is in a block that is reached
+-- an instruction that ran is in a block that is reached
 place_reached : (f : Function) (args : List Value) (d j : ℕ) (m : Moment) (later : List Moment) (last : Moment) (earlier : List Moment) → IsHistory f args (m ∷ later ++ last ∷ earlier) → place_of last ≡ (d, j)
     → (blocks : List ℕ) × IsWalk f (d ∷ blocks)
 place_reached f args d j m later last earlier h there =
     path_reaches f (d, j) (map place_of earlier) (path_before f (place_of m) (map place_of later) (d, j) (map place_of earlier) (split_path f args d j m later last earlier h there))
 
--- a result that is assigned at the instruction which ran is another one's
+-- a result that is assigned at the instruction that ran is not its own
 other_place : (f : Function) (c i d j : ℕ) (last : Moment) → ((blocks : List ℕ) × IsWalk f (d ∷ blocks)) → place_of last ≡ (d, j) → IsAssigned f (registers.Result c i) d j → place_of last ≡ (c, i) → ⊥
 other_place f c i d j last reached there a is =
     let both : (c, i) ≡ (d, j) = sym is ∙ there in
@@ -168,7 +168,7 @@ operands_held f args o d j m before later last earlier h l a a' =
 
 -- ---- one visit
 
--- what a visit goes through behind moment t
+-- where a visit of t's block has come to, at moment m behind t
 record Behind (f : Function) (t m : Moment) : Type 0 where
   same_block : m.block ≡ t.block
   after : t.place < m.place

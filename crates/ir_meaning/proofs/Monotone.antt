@@ -1,4 +1,4 @@
--- Registers that hold values which allow others give effects which allow the others' effects.
+-- Instructions are monotone: registers that hold values which allow others give effects that allow those of the others.
 use Rattle.std.proofs.Common.{◌≡◌, ℕ, refl, sym, ap, subst, ◌∙◌}
 use Rattle.ops.specs.Value.{AllowsValue, AllowsEffect, IsValueOf}
 use Rattle.ops.specs.Instruction.{instruction}
@@ -49,7 +49,7 @@ freeze_allows f held held' more widths w (operands.Number n) has x' v' h freezes
 freeze_allows f held held' more widths w operands.Undef has x' v' h freezes = (x', v', h, freezes, itself v')
 freeze_allows f held held' more widths w operands.Poison has x' v' h freezes = (x', v', h, freezes, itself v')
 
--- an effect that allows another one, and what is equal to that
+-- an effect that allows another one allows what is equal to that
 allows_same : (d e e' : Effect) → AllowsEffect d e → e' ≡ e → AllowsEffect d e'
 allows_same d e e' h is = subst (λ x. AllowsEffect d x) (sym is) h
 

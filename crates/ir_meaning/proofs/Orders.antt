@@ -1,4 +1,4 @@
--- Refinement is an order.
+-- Refinement is reflexive and transitive.
 use Rattle.std.proofs.Common.{List, refl, sym, subst, ◌∙◌}
 use Rattle.ops.proofs.Values.{AllowsValue-refl, AllowsValue-trans}
 use Rattle.ir_core.specs.declared.function.Parameter.{Parameter}

@@ -1,4 +1,4 @@
--- A function that meets its checks has an outcome, and a run where registers hold more than the arguments tells it.
+-- A function that meets its checks has an outcome: that of a run in which registers hold more than the arguments.
 use Rattle.std.proofs.Common.{◌≡◌, ℕ, suc, Bool, true, false, List, [], ◌∷◌, length, Option, None, Some, unwrap_or, refl, sym, ap, subst, arith}
 use Rattle.ops.specs.declared.value.Value.{Value}
 use Rattle.ops.specs.declared.value.Value.TheVariants as values
@@ -27,7 +27,7 @@ arguments_held f args are = record {
   results = λ d j has none. absurd (not_in_empty d none);
 }
 
--- a run where registers hold the arguments and more is a run from the arguments
+-- a run in which registers hold the arguments and more at the start has an outcome of the run from the arguments alone
 pub runs_from_arguments : (C : ℕ → ℕ → Type 0) (f : Function) (args : List Value) (full : Registers) (n : ℕ) (o : Outcome) → MeetsChecks f → AreArguments f.parameters args → Within (arguments args) full
     → RunsFrom C f n None 0 full o → RunsFrom C f n None 0 (arguments args) o
 runs_from_arguments C f args full n o meets are within run =
@@ -55,7 +55,7 @@ functions_have_outcomes f meets args are n =
     let found = starts breaks f args n meets are in
     (found.0, found.1, starts_any breaks f args n found.0 found.1)
 
--- the outcome of a function at arguments that break no `noundef`, from a run where registers hold more
+-- a function whose arguments break no `noundef` has the outcome of a run in which registers hold more at the start
 pub zero_outcome : (f : Function) (args : List Value) (full : Registers) (n : ℕ) (o : Outcome) → MeetsChecks f → AreArguments f.parameters args → breaks_noundef f.parameters args ≡ false → Within (arguments args) full
     → RunsFrom OnlyZero f n None 0 full o → HasZeroOutcome f args n o
 zero_outcome f args full n o meets are breaks within run =

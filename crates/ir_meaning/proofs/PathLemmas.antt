@@ -1,4 +1,4 @@
--- What paths come to, and in which order.
+-- What paths have passed, and in which order.
 use Rattle.std.proofs.Common.{◌≡◌, ℕ, suc, ◌<◌, ◌⊎◌, inl, inr, List, [], ◌∷◌, ◌++◌, length, Option, sym, ap, subst, ◌∙◌, arith}
 use Rattle.std.specs.Prelude.{Contains, option_map, unwrap_or}
 use Rattle.std.proofs.lemmas.Bool.{cases_eq}
@@ -22,7 +22,7 @@ before_end f d j has = subst (λ n. j < n) (sym (end_of-is f d has.0 has.1)) has
 pub same_place : (p : Place) (d j : ℕ) → d ≡ p.0 → j ≡ p.1 → p ≡ (d, j)
 same_place p d j same_block same = ap (λ b. (b, p.1)) (sym same_block) ∙ ap (λ k. (d, k)) (sym same)
 
--- a path as a walk through blocks, and what it has come to
+-- the blocks of a path as a walk, which has passed the same instructions
 record Walked (f : Function) (p : Place) (before : List Place) : Type 0 where
   blocks : List ℕ
   is_walk : IsWalk f (p.0 ∷ blocks)
@@ -71,7 +71,7 @@ assigned_passed f d j p before path a =
     let w = walked f p before path in
     w.passed d j a.0 (a.1 w.blocks w.is_walk)
 
--- what a path comes to next, when it hasn't come to an instruction
+-- a step of a path from a place that isn't that of an instruction leaves this instruction unpassed
 unpassed_next : (f : Function) (d j : ℕ) (q p : Place) → HasInst f d j → ComesNext f q p → (q ≡ (d, j) → ⊥) → Unpassed f d j q.0 q.1 → Unpassed f d j p.0 p.1
 unpassed_next f d j q p has (inl next) other u = record {
   before = u.before;

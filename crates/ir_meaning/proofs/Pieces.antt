@@ -1,4 +1,4 @@
--- Pieces of proofs on runs: lists by place, and operations by whether they are a phi.
+-- Parts of proofs on runs: lists by index, and operations by whether they are a phi.
 use Rattle.std.proofs.Common.{◌≡◌, ℕ, zero, suc, ◌+◌, ◌<◌, ◌==◌, Bool, true, false, cond, List, [], ◌∷◌, length, map, Some, refl, sym, subst, arith, inl, inr, ◌⊎◌}
 use Rattle.std.specs.Prelude.{Contains, slice_get}
 use Rattle.std.proofs.lemmas.List.Elements.{Contains-append_cases, Contains-append_left, Contains-append_right, Contains-push, Contains-push_cases}
@@ -25,13 +25,13 @@ cases_in x xs y has =
       | inr later ↦ inr later
     ]
 
--- an item below the length
+-- there is an item at each index below the length
 pub some_at : {A : Type 0} (xs : List A) (i : ℕ) → i < length xs → (x : A) × (slice_get xs i ≡ Some x)
 some_at [] i h = absurd (omega arith)
 some_at (x ∷ xs) zero h = (x, refl)
 some_at (x ∷ xs) (suc i) h = some_at xs i (omega arith)
 
--- an item of a list has a place
+-- an item of a list has an index
 pub place_in : {A : Type 0} (xs : List A) (x : A) → Contains xs x → (i : ℕ) × (slice_get xs i ≡ Some x)
 place_in [] x has = absurd (not_in_empty x has)
 place_in (y ∷ ys) x has =
@@ -43,7 +43,7 @@ place_in (y ∷ ys) x has =
 pub contains_at : {A : Type 0} (xs : List A) (i : ℕ) (x : A) → slice_get xs i ≡ Some x → Contains xs x
 contains_at xs i x is = (i, slice_get_within xs i x is, get_or_from_slice_get xs i x x is)
 
--- a fact of each item from place k on
+-- P holds of each item and its index, which is k for the first item
 abbrev pub AllAt : {A : Type 0} → (ℕ → A → Type 0) → ℕ → List A → Type 0
 AllAt P k [] = Unit {0}
 AllAt P k (x ∷ xs) = P k x × AllAt P (suc k) xs
@@ -58,7 +58,7 @@ all_at P k (x ∷ xs) h = (
 pub all_from_0 : {A : Type 0} (P : ℕ → A → Type 0) (xs : List A) → ((i : ℕ) (x : A) → slice_get xs i ≡ Some x → P i x) → AllAt P 0 xs
 all_from_0 P xs h = all_at P 0 xs (λ i x e. subst (λ n. P n x) (omega arith) (h i x e))
 
--- from one case of an operation to the same case of another fact
+-- a fact by whether an operation is a phi, from another such fact case by case
 pub if_phi_map : (op : Op) (P P' : List (Operand × ℕ) → Type 0) (Q Q' : Type 0) → ((entries : List (Operand × ℕ)) → P entries → P' entries) → (Q → Q') → IfPhi P Q op → IfPhi P' Q' op
 if_phi_map (Phi entries) P P' Q Q' f g h = f entries h
 if_phi_map (Binary op flags a b) P P' Q Q' f g h = g h
@@ -68,7 +68,7 @@ if_phi_map (Convert cast flags from a) P P' Q Q' f g h = g h
 if_phi_map (Unary op truth a) P P' Q Q' f g h = g h
 if_phi_map (Freeze a) P P' Q Q' f g h = g h
 
--- the same where an ending is to be found
+-- the same where an ending is to be given too
 pub if_phi_ends : (op : Op) (P : List (Operand × ℕ) → Type 0) (P' : List (Operand × ℕ) → Ending → Type 0) (Q : Type 0) (Q' S : Ending → Type 0)
     → ((entries : List (Operand × ℕ)) → op ≡ Phi entries → P entries → (end : Ending) × P' entries end × S end)
     → (Q → (end : Ending) × Q' end × S end)

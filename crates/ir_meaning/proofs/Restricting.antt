@@ -1,5 +1,5 @@
--- A run where registers hold more than the run has come by is a run where they hold just that: only what was assigned
--- is read.
+-- A run whose registers hold more than it has assigned is also one whose registers hold just that, since it reads only
+-- what is assigned.
 use Rattle.std.proofs.Common.{◌≡◌, ℕ, zero, suc, ◌+◌, ◌<◌, ◌==◌, eqb, Bool, true, false, ◌&&◌, cond, List, [], ◌∷◌, length, Option, None, Some, option_map, refl, sym, ap, subst, ◌∙◌, inl, inr, ◌⊎◌, arith}
 use Rattle.std.specs.Prelude.{Contains, slice_get}
 use Rattle.std.proofs.lemmas.Bool.{cases_lt}
@@ -36,17 +36,17 @@ IsHeld held r = (v : Value) × (held r ≡ Some v)
 abbrev pub Within : Registers → Registers → Type 0
 Within held full = (r : Register) (v : Value) → held r ≡ Some v → full r ≡ Some v
 
--- the parameters and the results of the blocks that were passed are held
+-- the parameters are held, and the results of all blocks that were passed
 pub record PassedAreHeld (f : Function) (before : List ℕ) (held : Registers) : Type 0 where
   pub parameters : (p : ℕ) → p < length f.parameters → IsHeld held (registers.Parameter p)
   pub results : (d j : ℕ) → HasInst f d j → Contains before d → IsHeld held (registers.Result d j)
 
--- and those of block b before place k
+-- these are held, and the results of block b before place k
 pub record AreHeld (f : Function) (before : List ℕ) (b k : ℕ) (held : Registers) : Type 0 where
   pub passed : PassedAreHeld f before held
   pub here : (j : ℕ) → j < k → IsHeld held (registers.Result b j)
 
--- ---- one register more
+-- ---- one more register
 
 choose_held : (t : Bool) (v : Value) (o : Option Value) → ((u : Value) × (o ≡ Some u)) → (u : Value) × (cond t (Some v) o ≡ Some u)
 choose_held true v o h = (v, refl)
@@ -86,7 +86,7 @@ holding_more f before b k held v h = record {
   ];
 }
 
--- ---- what is read is held
+-- ---- registers that are read are held
 
 restrict_value : (held full : Registers) (r : Register) (v : Value) → Within held full → IsHeld held r → full r ≡ Some v → held r ≡ Some v
 restrict_value held full r v within h e = let same = within r h.0 h.1 in h.1 ∙ sym same ∙ e
@@ -97,7 +97,7 @@ operand_restricts C held full within w (operands.Number n) v h gives = gives
 operand_restricts C held full within w operands.Undef v h gives = gives
 operand_restricts C held full within w operands.Poison v h gives = gives
 
--- what these reads read at place k of block b is held
+-- the registers among these reads that are read at place k of block b are held
 abbrev ReadsHeld : Registers → ℕ → ℕ → List Read → Type 0
 ReadsHeld held b k reads = (i : ℕ) (r : Read) (register : Register) → slice_get reads i ≡ Some r → r.block ≡ b → r.place ≡ k → r.operand ≡ operands.Register register → IsHeld held register
 
@@ -133,7 +133,7 @@ op_restricts C held full within f b k w (Freeze x) e reads h =
     (h.0, h.1, operand_restricts C held full within w x h.0 (λ r is. reads 0 (read b k w x) r refl refl refl is) h.2, h.3, h.4)
 op_restricts C held full within f b k w (Phi entries) e reads h = h
 
--- ---- endings that differ in what is held alone
+-- ---- endings that differ only in what is held
 
 abbrev Restricts : (ℕ → Registers → Registers → Type 0) → Ending → Ending → Type 0
 Restricts Q Undefines end' = end' ≡ Undefines
@@ -177,8 +177,7 @@ end_restricts C Q held full within f b k terminators.Unreachable end reads q h =
 
 -- ---- one pass
 
--- what is known of a block: the walk that was passed before it, what its reads need, and what is handed over to the
--- next
+-- what is known of a block behind a walk: its reads are of held registers, and Q holds of where it goes on
 record IsPassed (C : ℕ → ℕ → Type 0) (f : Function) (before : List ℕ) (b : ℕ) (block : Block) (Q : ℕ → Registers → Registers → Type 0) : Type 0 where
   insts : (k : ℕ) (inst : Inst) → slice_get block.insts k ≡ Some inst → (held : Registers) → AreHeld f before b k held → ReadsHeld held b k (reads_of f b k inst.width inst.op)
   end : (held : Registers) → AreHeld f before b (length block.insts) held → ReadsHeld held b (length block.insts) (reads_at_end f b (length block.insts) block.end)
@@ -207,7 +206,7 @@ follows_restricts C f before b block Q is k (i ∷ insts) at count held full end
     (λ v g. follows_restricts C f before b block Q is (suc k) insts at.1 (omega arith) (holding held b k v) (holding full b k v) end (holding_within held full b k v within) (holding_more f before b k held v are) g) h.2 in
     (rest.0, (h.0, op, rest.1), rest.2)
 
--- what a phi reads is held in the old registers
+-- the registers that the phis read are held in the old registers
 abbrev PhisHeld : Option ℕ → Registers → Block → Type 0
 PhisHeld from old block = (k : ℕ) (inst : Inst) (entries : List (Operand × ℕ)) (c : ℕ) (a : Operand) (r : Register)
     → InstIs block k inst → inst.op ≡ Phi entries → from ≡ Some c → Contains entries (a, c) → a ≡ operands.Register r → IsHeld old r
@@ -234,7 +233,7 @@ enters_restricts C f before b block Q is from old old_full old_within phis k (i 
     (λ g. follows_restricts C f before b block Q is k (i ∷ insts) at count held full end within are g)
     h
 
--- ---- what the checks tell
+-- ---- what follows from the checks
 
 pub reads_inst : (f : Function) (b k : ℕ) (block : Block) (inst : Inst) → IsBlock f b block → InstIs block k inst → (i : ℕ) (r : Read) → slice_get (reads_of f b k inst.width inst.op) i ≡ Some r → IsRead f b k i r
 reads_inst f b k block inst is_block is_inst i r h =
@@ -249,7 +248,7 @@ reads_end f b block is_block i r h =
     (subst (λ x. slice_get (reads_by f b k block x) i ≡ Some r) (sym past)
     (subst (λ t. slice_get (cond t (reads_at_end f b k block.end) []) i ≡ Some r) (sym (itself k)) h))
 
--- on a walk to block b what is assigned at place k of it is held
+-- on a walk to block b a register is held that is assigned at place k of the block
 assigned_held : (f : Function) (before : List ℕ) (b k : ℕ) (held : Registers) (r : Register) → IsWalk f (b ∷ before) → AreHeld f before b k held → IsAssigned f r b k → IsHeld held r
 assigned_held f before b k held (registers.Parameter p) walk are h = are.passed.parameters p h
 assigned_held f before b k held (registers.Result d j) walk are h =
@@ -264,7 +263,7 @@ read_held f meets before b k held walk are c l i r register is_read in_block at_
     assigned_held f before b k held register walk are
     (subst (λ n. IsAssigned f register b n) at_place (subst (λ n. IsAssigned f register n r.place) in_block (meets.assigned c l i r is_read register is)))
 
--- the results of the block are held with those before it
+-- behind the block its results are held, beside what was held before it
 passed_more : (f : Function) (before : List ℕ) (b : ℕ) (block : Block) (held : Registers) → IsBlock f b block → AreHeld f before b (length block.insts) held → PassedAreHeld f (b ∷ before) held
 passed_more f before b block held is_block are = record {
   parameters = λ p below. are.passed.parameters p below;
@@ -276,7 +275,7 @@ passed_more f before b block held is_block are = record {
   ];
 }
 
--- a run goes on at a block that is named, where what was passed is held
+-- a run goes on at a successor, where the results of the blocks passed so far are held
 abbrev HandsOver : Function → List ℕ → ℕ → ℕ → Registers → Registers → Type 0
 HandsOver f before b c held full = Names f b c × Within held full × PassedAreHeld f (b ∷ before) held
 
@@ -303,7 +302,7 @@ phi_read f b k block inst entries a c is_block is_inst is_phi has =
           (subst (λ x. slice_get (reads_of f b k inst.width x) place.0 ≡ Some (read c (end_of f c) inst.width a)) (sym is_phi) mapped),
     )
 
--- what is assigned at the end of the last block of a walk is held once it was passed
+-- a register that is assigned in the last block of a walk is held once that block was passed
 assigned_passed : (f : Function) (before : List ℕ) (c : ℕ) (held : Registers) (r : Register) → IsWalk f (c ∷ before) → PassedAreHeld f (c ∷ before) held → (k : ℕ) → IsAssigned f r c k → IsHeld held r
 assigned_passed f before c held (registers.Parameter p) walk passed k h = passed.parameters p h
 assigned_passed f before c held (registers.Result d j) walk passed k h =

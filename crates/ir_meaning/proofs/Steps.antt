@@ -1,4 +1,4 @@
--- What one step of a run does to registers, and histories as paths.
+-- What one step of a run does to registers; histories as paths.
 use Rattle.std.proofs.Common.{◌≡◌, ℕ, ◌<◌, ◌==◌, ◌&&◌, Bool, true, false, cond, inl, inr, List, [], ◌∷◌, length, map, Some, refl, sym, ap, subst, ◌∙◌, arith}
 use Rattle.std.specs.Prelude.{Contains}
 use Rattle.std.proofs.lemmas.Bool.{cases_eq, ne_eqb, eq-eqb, and_from, and_right}
@@ -25,7 +25,7 @@ use Rattle.ir_meaning.proofs.PathLemmas.{end_of-is, same_place, path_reaches}
 
 -- ---- where a terminator goes
 
--- a pass that goes on keeps the registers, and goes to a block that the terminator names
+-- a pass that goes on leaves the registers as they are, and goes to a block that the terminator names
 abbrev pub GoesAmong : List ℕ → Registers → Ending → Type 0
 GoesAmong targets held Undefines = Unit {0}
 GoesAmong targets held (Returns v) = Unit {0}
@@ -54,7 +54,7 @@ end_among held f (terminators.Switch a w other cases) end h =
     (going_among (targets_of (terminators.Switch a w other cases)) (switch_target cases other) held a h.0 (λ n. switch_among_all cases other n))
 end_among held f terminators.Unreachable end h = subst (GoesAmong [] held) (sym h) tt
 
--- ---- registers that are held anew, and others
+-- ---- the register that a step writes, and the others
 
 pub held_here : (held : Registers) (b k : ℕ) (v : Value) (d j : ℕ) → d ≡ b → j ≡ k → holding held b k v (registers.Result d j) ≡ Some v
 held_here held b k v d j same_block same = ap (λ c. cond c (Some v) (held (registers.Result d j))) (and_from (d == b) (j == k) (eq-eqb d b same_block) (eq-eqb j k same))
@@ -82,19 +82,19 @@ leaves_held f m n l =
 pub has_inst : (f : Function) (b k : ℕ) (inst : Inst) → IsInst f b k inst → HasInst f b k
 has_inst f b k inst is = (is.block, is.is_block, slice_get_within is.block.insts k inst is.is_inst)
 
--- a result is held as before, if its instruction isn't the one that runs
+-- a step at another place than a result's instruction leaves the result as it was
 pub step_keeps : (f : Function) (m n : Moment) (d j : ℕ) → IsStep f m n → (place_of m ≡ (d, j) → ⊥) → n.held (registers.Result d j) ≡ m.held (registers.Result d j)
 step_keeps f m n d j (inl r) other =
     ap (λ (x : Moment). x.held (registers.Result d j)) r.next
     ∙ held_elsewhere m.held m.block m.place r.value d j (λ is. other (same_place (place_of m) d j is.0 is.1))
 step_keeps f m n d j (inr l) other = ap (λ (held : Registers). held (registers.Result d j)) (leaves_held f m n l)
 
--- a parameter is held as before
+-- a step leaves the parameters as they were
 pub step_keeps_parameter : (f : Function) (m n : Moment) (p : ℕ) → IsStep f m n → n.held (registers.Parameter p) ≡ m.held (registers.Parameter p)
 step_keeps_parameter f m n p (inl r) = ap (λ (x : Moment). x.held (registers.Parameter p)) r.next
 step_keeps_parameter f m n p (inr l) = ap (λ (held : Registers). held (registers.Parameter p)) (leaves_held f m n l)
 
--- an instruction that runs gives what is held then
+-- a step at the place of an instruction runs that instruction
 pub step_gives : (f : Function) (m n : Moment) → HasInst f m.block m.place → IsStep f m n → Runs f m n
 step_gives f m n has (inl r) = r
 step_gives f m n has (inr l) =

@@ -1,4 +1,4 @@
--- Places of registers, and what a write to one of them leaves.
+-- Indices of registers in the table, and what a write to one of them changes.
 use Rattle.std.proofs.Common.{◌≡◌, ◌≢◌, ℕ, zero, suc, ◌+◌, ◌<◌, ◌≤◌, eqb, true, false, ◌&&◌, cond, List, [], ◌∷◌, ◌++◌, length, take, set, replicate, get_or, Option, None, Some, option_map, option_and_then, IsSome, refl, sym, ap, subst, ◌∙◌, inl, inr, ◌⊎◌, arith, append_assoc, add-one, zero-add, suc-add, length-append}
 use Rattle.std.specs.Prelude.{slice_get}
 use Rattle.std.specs.List.{sum_by}
@@ -33,7 +33,7 @@ sizes blocks b = sum_by (λ block. length block.insts) (take b blocks)
 sizes_cons : (x : Block) (xs : List Block) (b : ℕ) → sizes (x ∷ xs) (suc b) ≡ length x.insts + sizes xs b
 sizes_cons x xs b = sum_by-cons (λ block. length block.insts) x (take b xs)
 
--- the sizes of the blocks up to one hold its own
+-- the sizes of the blocks up to and with block b are those up to it, and its own
 sizes_next : (blocks : List Block) (b : ℕ) (block : Block) → slice_get blocks b ≡ Some block → sizes blocks (suc b) ≡ sizes blocks b + length block.insts
 sizes_next [] b block h = absurd (none-some block h)
 sizes_next (x ∷ xs) zero block h =
@@ -63,7 +63,7 @@ get_set_other (x ∷ xs) zero (suc j) v h = refl
 get_set_other (x ∷ xs) (suc i) zero v h = refl
 get_set_other (x ∷ xs) (suc i) (suc j) v h = get_set_other xs i j v (λ e. h (ap suc e))
 
--- ---- places
+-- ---- indices
 
 pub first_next : (f : Function) (b : ℕ) (block : Block) → IsBlock f b block → first_of f (suc b) ≡ first_of f b + length block.insts
 unfolding first_of
@@ -77,7 +77,7 @@ parameters_first : (f : Function) (b : ℕ) → length f.parameters ≤ first_of
 unfolding first_of
 parameters_first f b = omega arith
 
--- the places of a block's results end before those of a later block
+-- the indices of a block's results are below those of a later block
 inst_before : (f : Function) (b k c : ℕ) → HasInst f b k → b < c → first_of f b + k < first_of f c
 inst_before f b k c has below = omega (arith, first_next f b has.0 has.1, first_le f (suc b) c (omega arith), has.2)
 
@@ -222,7 +222,7 @@ write_table f firsts vs b k v is fits = record {
 
 -- ---- the table at the start
 
--- the values at the start
+-- the values at the start: the arguments, and poison for each result
 abbrev pub started : List Value → ℕ → List Value
 started args n = args ++ replicate n values.Poison
 
@@ -266,7 +266,7 @@ started_arguments f args n are (registers.Parameter p) v h =
     read_held f (started args n) (registers.Parameter p) q.0.width v (ap (option_map (λ (x : Parameter). x.width)) q.1) (started_argument args n p v h)
 started_arguments f args n are (registers.Result b k) v h = absurd (none-some v h)
 
--- the first places of the first n blocks
+-- the indices of the first results of the first n blocks
 abbrev pub AreFirsts : Function → ℕ → List ℕ → Type 0
 AreFirsts f n firsts = (length firsts ≡ n) × ((b : ℕ) → b < n → slice_get firsts b ≡ Some (first_of f b))
 
@@ -280,7 +280,7 @@ get_push_before [] y i h = absurd (omega arith)
 get_push_before (x ∷ xs) y zero h = refl
 get_push_before (x ∷ xs) y (suc i) h = get_push_before xs y i (omega arith)
 
--- the values at the start up to block n: as many as there are registers before it
+-- the values at the start up to block n are as many as the registers before it
 pub started_count : (f : Function) (args : List Value) (n : ℕ) → AreArguments f.parameters args → length (started args (sum_by (λ block. length block.insts) (take n f.blocks))) ≡ first_of f n
 unfolding first_of
 started_count f args n are = simp (length-append, length-replicate) (omega (arith, arguments_count f.parameters args are))
@@ -300,7 +300,7 @@ replicate_add : (m n : ℕ) → replicate (m + n) values.Poison ≡ replicate m 
 replicate_add zero n = rw (zero-add n) refl
 replicate_add (suc m) n = rw (suc-add m n) (ap (λ (xs : List Value). values.Poison ∷ xs) (replicate_add m n))
 
--- one block more
+-- the values of one more block
 pub started_more : (f : Function) (args : List Value) (n : ℕ) (block : Block) → IsBlock f n block
     → started args (sum_by (λ x. length x.insts) (take n f.blocks)) ++ replicate (length block.insts) values.Poison ≡ started args (sum_by (λ x. length x.insts) (take (n + 1) f.blocks))
 started_more f args n block is =

@@ -1,4 +1,4 @@
--- Where each register holds something, a run has an outcome with each number that is left open being 0.
+-- If every register holds something, a run has an outcome in which each number that is left open is 0.
 use Rattle.std.proofs.Common.{◌≡◌, ℕ, zero, suc, ◌<◌, Bool, true, false, ◌&&◌, cond, List, [], ◌∷◌, length, Option, None, Some, refl, subst, arith}
 use Rattle.std.specs.Prelude.{Contains, slice_get}
 use Rattle.ops.specs.Instruction.{instruction}
@@ -71,7 +71,7 @@ op_gives held all w (Freeze a) no_phi =
     (effects.Gives v.0, (x.0, v.0, x.1, v.1, refl))
 op_gives held all w (Phi entries) no_phi = absurd (no_phi tt)
 
--- the run goes on at one of these blocks, if it goes on, and each register holds something then
+-- if the run goes on, then at one of these blocks, with something held in every register
 abbrev EndsAmong : List ℕ → Ending → Type 0
 EndsAmong targets Undefines = Unit {0}
 EndsAmong targets (Returns v) = Unit {0}
@@ -103,7 +103,7 @@ end_gives held all f (terminators.Switch a w other cases) =
     (going_by (switch_target cases other) held a v.0, (v.0, v.1, refl), going_among (targets_of (terminators.Switch a w other cases)) (switch_target cases other) held a v.0 all (λ n. switch_among_all cases other n))
 end_gives held all f terminators.Unreachable = (Undefines, refl, tt)
 
--- no phi stands among these
+-- none of these is a phi
 abbrev pub NoPhis : List Inst → Type 0
 NoPhis [] = Unit {0}
 NoPhis (i ∷ insts) = ¬ IsPhi i.op × NoPhis insts
@@ -123,11 +123,11 @@ follows f b k (i ∷ insts) t held no_phis all =
     (λ v. follows f b (suc k) insts t (holding held b k v) no_phis.1 (holding_all_held held b k v all)) in
     (rest.0, (op.0, op.1, rest.1), rest.2)
 
--- the phi has an entry for where control comes from
+-- the phi has an entry for the block that control comes from
 abbrev pub HasEntry : Option ℕ → List (Operand × ℕ) → Type 0
 HasEntry from entries = (b : ℕ) × (a : Operand) × (from ≡ Some b) × Contains entries (a, b)
 
--- phis stand first, and have such entries
+-- phis stand first, and each has such an entry
 abbrev pub AreEnterable : Option ℕ → List Inst → Type 0
 AreEnterable from [] = Unit {0}
 AreEnterable from (i ∷ insts) = IfPhi (λ entries. HasEntry from entries × AreEnterable from insts) (NoPhis (i ∷ insts)) i.op
@@ -148,7 +148,7 @@ enters f from old all_old b k (i ∷ insts) t held enterable all =
     (λ no_phis. follows f b k (i ∷ insts) t held no_phis all)
     enterable
 
--- ---- what the checks tell
+-- ---- what follows from the checks
 
 pub no_phis_by_place : (insts : List Inst) → ((k : ℕ) (i : Inst) → slice_get insts k ≡ Some i → ¬ IsPhi i.op) → NoPhis insts
 no_phis_by_place [] h = tt
@@ -163,7 +163,7 @@ is_phi_or_not (Convert cast flags from a) P Q f g = g (λ is. is)
 is_phi_or_not (Unary op truth a) P Q f g = g (λ is. is)
 is_phi_or_not (Freeze a) P Q f g = g (λ is. is)
 
--- a phi later has a phi before it
+-- an instruction before a phi is a phi
 abbrev PhisFirst : List Inst → Type 0
 PhisFirst insts = (j k : ℕ) (earlier later : Inst) → slice_get insts j ≡ Some earlier → slice_get insts k ≡ Some later → j < k → IsPhi later.op → IsPhi earlier.op
 

@@ -1,4 +1,4 @@
--- What registers hold keeps their widths.
+-- Values that registers hold keep their widths.
 use Rattle.std.proofs.Common.{◌≡◌, ℕ, zero, suc, ◌<◌, ◌^◌, ◌⊎◌, inl, inr, List, [], ◌∷◌, Option, None, Some, refl, sym, subst, ◌∙◌}
 use Rattle.std.specs.Prelude.{slice_get, option_map}
 use Rattle.std.proofs.lemmas.Bool.{cases_eq}
@@ -49,11 +49,11 @@ three_reads : (P : Read → Type 0) (x y z : Read) → P x → P y → P z → (
 three_reads P x y z p q s zero r e = subst P (same_Some x r e) p
 three_reads P x y z p q s (suc i) r e = two_reads P y z q s i r e
 
--- the read has its width
+-- the operand of the read has the width at which it is read
 abbrev ReadHasWidth : Function → Read → Type 0
 ReadHasWidth f r = OperandHasWidth f r.width r.operand
 
--- what an instruction reads at its place has its widths, so it has them at every place
+-- the widths of an instruction's operands don't depend on its place
 widths_anywhere : (f : Function) (b k w : ℕ) (op : Op) → ¬ IsPhi op → ((i : ℕ) (r : Read) → slice_get (reads_of f b k w op) i ≡ Some r → ReadHasWidth f r) → OperandsHaveWidths f w op
 widths_anywhere f b k w (Binary op flags x y) other h = λ c j. two_reads (ReadHasWidth f) (read c j w x) (read c j w y) (h 0 (read b k w x) refl) (h 1 (read b k w y) refl)
 widths_anywhere f b k w (Compare pred samesign compared x y) other h = λ c j. two_reads (ReadHasWidth f) (read c j compared x) (read c j compared y) (h 0 (read b k compared x) refl) (h 1 (read b k compared y) refl)
@@ -70,7 +70,7 @@ inst_widths f formed b k inst is other =
 
 -- ---- what is given
 
--- a number that is written is one of its width
+-- if the operand is a literal number, it is one of its width
 abbrev NumberFits : Operand → Type 0
 NumberFits a = (n : Number) → a ≡ operands.Number n → n.number < 2 ^ n.width
 
@@ -91,7 +91,7 @@ effect_width w e v is h = subst (IsEffectOf w) (sym is) h
 given_width : (w : ℕ) (u v : Value) → effects.Gives v ≡ effects.Gives u → IsValueOf w u → IsValueOf w v
 given_width w u v is h = effect_width w (effects.Gives u) v is h
 
--- an operand that is read has its width, and fits it
+-- the operand of the read has the width, and its number is one of its width
 abbrev ReadFits : Function → Read → Type 0
 ReadFits f r = ReadHasWidth f r × NumberFits r.operand
 

@@ -1,4 +1,4 @@
--- What holds where each number that is left open is 0 holds of some number.
+-- An outcome in which each number that is left open is 0 is one in which it may be any number.
 use Rattle.std.proofs.Common.{ℕ, zero, suc, ◌<◌, ◌^◌, Bool, true, false, List, [], ◌∷◌, Option, None, Some, sym, subst}
 use Rattle.std.proofs.lemmas.Nat.{pow_pos}
 use Rattle.ops.specs.declared.value.Value.{Value}

@@ -27,20 +27,20 @@ abbrev pub HistoriesArePaths : Type 0
 HistoriesArePaths = (f : Function) (args : List Value) (history : List Moment)
     → IsHistory f args history → IsPath f (map place_of history)
 
--- a run comes to blocks that are reached
+-- runs come only to blocks that are reached by walks
 abbrev pub MomentsAreReached : Type 0
 MomentsAreReached = (f : Function) (args : List Value) (m : Moment) (before : List Moment)
     → IsHistory f args (m ∷ before) → IsReached f m.block
 
--- where control came from another block, what was held at its end is what the phis read
+-- where control came from another block, the phis read the registers as they were at that block's end
 abbrev pub BlocksAreEnteredFromEnds : Type 0
 BlocksAreEnteredFromEnds = (f : Function) (args : List Value) (m : Moment) (before : List Moment) (c : ℕ)
     → IsHistory f args (m ∷ before) → m.from ≡ Some c
     → (n : Moment) × (earlier : List Moment) × IsHistory f args (n ∷ earlier)
     × (place_of n ≡ (c, end_of f c)) × (n.held ≡ m.entered)
 
--- Each outcome comes at the last moment of some history, but for the undefined behaviour of poison that breaks a
--- `noundef`, which comes before any.
+-- Each outcome comes at the last moment of some history. The one exception is the undefined behaviour of poison for a
+-- `noundef` parameter, which comes before any moment.
 abbrev pub OutcomesHaveHistories : Type 0
 OutcomesHaveHistories = (f : Function) (args : List Value) (n : ℕ) (o : Outcome)
     → breaks_noundef f.parameters args ≡ false → HasOutcome f args n o
@@ -48,30 +48,29 @@ OutcomesHaveHistories = (f : Function) (args : List Value) (n : ℕ) (o : Outcom
 
 -- ---- what registers hold
 
--- each number that is written is one of its width
+-- each literal number in the function is one of its width
 abbrev pub NumbersFit : Function → Type 0
 NumbersFit f = (b k i : ℕ) (r : Read) (n : Number) → IsRead f b k i r → r.operand ≡ operands.Number n → n.number < 2 ^ n.width
 
--- then registers hold values of their widths
+-- if so, registers hold values of their widths
 abbrev pub HeldHaveWidths : Type 0
 HeldHaveWidths = (f : Function) (args : List Value) (m : Moment) (before : List Moment)
     → IsFormed f → NumbersFit f → AreArguments f.parameters args → IsHistory f args (m ∷ before)
     → HoldWidths f m.held × HoldWidths f m.entered
 
--- At the last of these moments, which came before the later ones, the instruction at place j of block d ran, and not
--- again since.
+-- The instruction at place j of block d ran at the moment `last`, and at none of the moments `later` behind it.
 pub record LastRan (d j : ℕ) (before later : List Moment) (last : Moment) (earlier : List Moment) : Type 0 where
   pub split : before ≡ later ++ last ∷ earlier
   pub there : place_of last ≡ (d, j)
   pub not_since : (n : Moment) → Contains later n → ¬ (place_of n ≡ (d, j))
 
--- where a result is assigned its instruction has run, and so has run for the last time
+-- where a result is assigned, its instruction has run, so that there is a last time that it did
 abbrev pub AssignedHasRun : Type 0
 AssignedHasRun = (f : Function) (args : List Value) (d j : ℕ) (m : Moment) (before : List Moment)
     → IsHistory f args (m ∷ before) → IsAssigned f (registers.Result d j) m.block m.place
     → (later : List Moment) × (last : Moment) × (earlier : List Moment) × LastRan d j before later last earlier
 
--- a result holds what its instruction gave when it ran for the last time
+-- a result holds what its instruction gave when it ran last
 abbrev pub ResultsAreHeld : Type 0
 ResultsAreHeld = (f : Function) (args : List Value) (d j : ℕ) (m : Moment)
     (before later : List Moment) (last : Moment) (earlier : List Moment)
@@ -79,7 +78,7 @@ ResultsAreHeld = (f : Function) (args : List Value) (d j : ℕ) (m : Moment)
     → (inst : Inst) × (v : Value) × IsInst f d j inst × InstGives last inst (effects.Gives v)
     × (m.held (registers.Result d j) ≡ Some v)
 
--- where r is assigned, what is assigned at its instruction holds what it did when that ran for the last time
+-- where r is assigned, a register that is assigned at r's instruction holds what it held when that ran last
 abbrev pub OperandsAreHeld : Type 0
 OperandsAreHeld = (f : Function) (args : List Value) (o : Register) (d j : ℕ) (m : Moment)
     (before later : List Moment) (last : Moment) (earlier : List Moment)
@@ -87,8 +86,8 @@ OperandsAreHeld = (f : Function) (args : List Value) (o : Register) (d j : ℕ) 
     → IsAssigned f o d j → IsAssigned f (registers.Result d j) m.block m.place
     → m.held o ≡ last.held o
 
--- In one visit of a block, which isn't entered anew behind moment t, the instruction at t ran but once, and what is
--- assigned at it still holds what it did.
+-- In one visit of a block, that is where no block is entered behind moment t, the instruction at t ran only once, and a
+-- register that is assigned at it still holds what it held then.
 abbrev pub NothingNamedChangesInOneVisit : Type 0
 NothingNamedChangesInOneVisit = (f : Function) (args : List Value) (o : Register)
     (m : Moment) (later : List Moment) (t : Moment) (earlier : List Moment)
@@ -96,19 +95,19 @@ NothingNamedChangesInOneVisit = (f : Function) (args : List Value) (o : Register
     → IsAssigned f o t.block t.place
     → LastRan t.block t.place (later ++ t ∷ earlier) later t earlier × (m.held o ≡ t.held o)
 
--- a result holds a value that its instruction gives on what its operands hold now
+-- the result holds a value that its instruction may give on what its operands hold in the same registers
 abbrev pub EquationHolds : Registers → ℕ → ℕ → Inst → Type 0
 EquationHolds held d j inst =
     (v : Value) × (held (registers.Result d j) ≡ Some v) × OpGives AnyNumber held inst.width inst.op (effects.Gives v)
 
--- so it is of each result but those of phis wherever it is assigned
+-- the equation of each result that is no phi's holds wherever the result is assigned
 abbrev pub EquationsHoldWhereAssigned : Type 0
 EquationsHoldWhereAssigned = (f : Function) (args : List Value) (m : Moment) (before : List Moment)
     → ReadsAreAssigned f → IsHistory f args (m ∷ before)
     → (d j : ℕ) (inst : Inst) → IsInst f d j inst → ¬ IsPhi inst.op → IsAssigned f (registers.Result d j) m.block m.place
     → EquationHolds m.held d j inst
 
--- and so of all that stand before the place in its block
+-- and so does that of each result before the place in its block
 abbrev pub EquationsHoldInOneVisit : Type 0
 EquationsHoldInOneVisit = (f : Function) (args : List Value) (m : Moment) (before : List Moment)
     → ReadsAreAssigned f → IsHistory f args (m ∷ before)

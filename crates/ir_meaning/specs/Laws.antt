@@ -14,11 +14,11 @@ use Rattle.ir_core.specs.declared.operand.Operand.{Operand}
 use Rattle.ir_core.specs.declared.operand.Register.{Register}
 use Rattle.ir_core.specs.declared.outcome.Outcome.{Outcome}
 
--- an outcome with each number that is left open being 0 is an outcome
+-- an outcome in which each number that is left open is 0 is an outcome
 abbrev pub ZeroOutcomesAreOutcomes : Type 0
 ZeroOutcomesAreOutcomes = (f : Function) (args : List Value) (n : ℕ) (o : Outcome) → HasZeroOutcome f args n o → HasOutcome f args n o
 
--- a function that meets its checks has an outcome at all arguments and every bound of blocks entered
+-- a function that meets its checks has an outcome at all arguments, for every bound on the blocks entered
 abbrev pub FunctionsHaveOutcomes : Type 0
 FunctionsHaveOutcomes = (f : Function) → MeetsChecks f
     → (args : List Value) → AreArguments f.parameters args
@@ -36,15 +36,16 @@ HoldWidths f held = (r : Register) (width : ℕ) (v : Value) → width_of f r �
 abbrev pub OperandsHaveWidths : Function → ℕ → Op → Type 0
 OperandsHaveWidths f width op = (b k i : ℕ) (r : Read) → slice_get (reads_of f b k width op) i ≡ Some r → OperandHasWidth f r.width r.operand
 
--- Where registers hold values that allow others, an instruction may have an effect that allows each effect that it has
--- there. The widths are asked for since `freeze` gives a number of its width in place of poison.
+-- Instructions are monotone: where registers hold values that allow others, an instruction may have an effect that
+-- allows each effect that it has on those. The widths are needed since `freeze` gives a number of its width in place of
+-- poison.
 abbrev pub InstructionsAreMonotone : Type 0
 InstructionsAreMonotone = (f : Function) (held held' : Registers) (width : ℕ) (op : Op) (e' : Effect)
     → OperandsHaveWidths f width op → HoldWidths f held' → HoldAllowing held held'
     → OpGives AnyNumber held' width op e'
     → (e : Effect) × OpGives AnyNumber held width op e × AllowsEffect e e'
 
--- and a phi may take a value that allows each value that it takes there
+-- so are phis: a phi may take a value that allows each value that it takes there
 abbrev pub PhisAreMonotone : Type 0
 PhisAreMonotone = (held held' : Registers) (from : Option ℕ) (width : ℕ) (entries : List (Operand × ℕ)) (v' : Value)
     → HoldAllowing held held'

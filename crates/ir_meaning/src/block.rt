@@ -17,8 +17,8 @@ use ir_core::Function;
 use ops::{Effect, Value};
 use std::alloc::AllocError;
 
-/// One pass through the block, where control comes from a block, or from nowhere at the entry. What the phis take
-/// stands in `taken` meanwhile, whose room is used again. The only error is want of memory.
+/// One pass through the block, where control comes from a block, or from none at the function's entry. `taken` is a
+/// buffer for the values of the phis, which is used again for each block. The only error is want of memory.
 pub(crate) fn pass(
     f: &Function,
     table: &mut Table,
@@ -39,7 +39,7 @@ pub(crate) fn pass(
     Ok(follow(f, table, b, taken.len()))
 }
 
-/// The instructions of the block from this one on, and then its terminator.
+/// Runs the instructions of the block from this one on, and then its terminator.
 fn follow(f: &Function, table: &mut Table, b: u32, first: usize) -> Step
     requires formed { IsFormed f.now }
     requires table { IsTable f.now table.old.firsts.items table.old.values.items }

@@ -1,11 +1,12 @@
-//! The laws of assignment and of histories, each the contract of a function that does nothing.
+//! The laws of assignment and of histories. Each is the contract of a function with an empty body.
 
 ghost use Rattle.ir_meaning.specs.Assignments.{AssignedIsPassed, AssignmentIsTransitive, DefinedBeforeStaysSo, NoneIsAssignedBehind, NotBothAreAssigned};
 ghost use Rattle.ir_meaning.specs.HistoryLaws.{AssignedHasRun, BlocksAreEnteredFromEnds, EquationsHoldInOneVisit, EquationsHoldWhereAssigned, HeldHaveWidths, HistoriesArePaths, MomentsAreReached, NothingNamedChangesInOneVisit, OperandsAreHeld, OutcomesHaveHistories, ResultsAreHeld};
 ghost use Rattle.ir_meaning.specs.Orders.{RefinementIsReflexive, RefinementIsTransitive};
 
-/// Where o is assigned at r's instruction, r isn't at o's or right behind it, if the block is reached; so on the way to
-/// where r is assigned control doesn't come to o's instruction again behind r's. What is assigned has been passed.
+/// Where o is assigned at r's instruction, r isn't assigned at o's nor right behind it, if r's block is reached, and o
+/// is assigned wherever r is. So a path that has come to o's instruction since it last came to r's ends where r isn't
+/// assigned. A path that ends where a result is assigned has come to its instruction.
 pub fn assigned_registers_keep_their_order()
     ensures not_both { NotBothAreAssigned }
     ensures none_behind { NoneIsAssignedBehind }
@@ -14,8 +15,8 @@ pub fn assigned_registers_keep_their_order()
     ensures order { DefinedBeforeStaysSo }
 {}
 
-/// Each outcome of a function comes at the end of some history, whose places are a path through blocks that are
-/// reached.
+/// Each outcome of a function comes at the end of some history, that is, of the trace of a run; its places are a path
+/// through blocks that are reached.
 pub fn outcomes_have_histories()
     ensures outcomes { OutcomesHaveHistories }
     ensures paths { HistoriesArePaths }
@@ -23,8 +24,8 @@ pub fn outcomes_have_histories()
     ensures entered { BlocksAreEnteredFromEnds }
 {}
 
-/// Where a result is assigned its instruction has run, it holds what that gave when it ran for the last time, and what
-/// is assigned at the instruction holds what it did then.
+/// Where a result is assigned, its instruction has run, and the result holds what that gave when it ran last. What is
+/// assigned at the instruction holds what it held then.
 pub fn registers_hold_what_they_did()
     ensures ran { AssignedHasRun }
     ensures results { ResultsAreHeld }
@@ -32,19 +33,19 @@ pub fn registers_hold_what_they_did()
     ensures one_visit { NothingNamedChangesInOneVisit }
 {}
 
-/// Registers hold values of their widths.
+/// Registers hold values of their widths at every moment of a run.
 pub fn registers_hold_their_widths()
     ensures { HeldHaveWidths }
 {}
 
-/// Each result but those of phis holds, wherever it is assigned, what its instruction gives on what its operands hold
-/// there.
+/// Where a result is assigned that is no phi's, its equation holds: it holds a value that its instruction may give on
+/// what the operands hold there.
 pub fn equations_hold_where_assigned()
     ensures assigned { EquationsHoldWhereAssigned }
     ensures one_visit { EquationsHoldInOneVisit }
 {}
 
-/// Refinement is an order, so any number of steps may follow on one another.
+/// Refinement is reflexive and transitive, so that rewrites may follow one another.
 pub fn refinement_is_an_order()
     ensures reflexive { RefinementIsReflexive }
     ensures transitive { RefinementIsTransitive }

@@ -1,4 +1,4 @@
-//! What instructions do.
+//! The effects of instructions on what registers hold.
 
 ghost use Rattle.ops.specs.Value.{IsEffectOf, IsValueOf};
 ghost use Rattle.ir_core.specs.Run.{Freezes, OnlyZero, OpGives};
@@ -47,7 +47,7 @@ pub(crate) fn instruction(f: &Function, table: &Table, width: Width, op: &Op) ->
     }
 }
 
-/// The value, or 0 where it is poison.
+/// The value, with 0 in place of poison.
 fn frozen(width: Width, value: Value) -> Value
     requires { IsValueOf width value }
     ensures value { Freezes OnlyZero width value result }

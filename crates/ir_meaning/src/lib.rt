@@ -1,12 +1,12 @@
 //! What a function does when it runs, and laws of what it may do.
 //!
 //! What a run may do stands in `specs/Run` of `ir_core`, and the laws in `specs/Laws`. `specs/Table`, `specs/Step` and
-//! `specs/Taken` say what the code keeps while it runs.
+//! `specs/Taken` describe the state of the interpreter.
 //!
-//! What a run has come through is told beside that: `specs/Paths` says which ways there are through a function
-//! instruction by instruction, and `specs/Histories` which moments a run has come through and what is held at each. The
-//! laws of it stand in `specs/Assignments` (in which order results are assigned), `specs/HistoryLaws` (what registers
-//! hold) and `specs/Orders` (refinement is an order).
+//! Beside that stand traces of runs: `specs/Paths` defines paths through a function, instruction by instruction, and
+//! `specs/Histories` the moments that a run has passed and what registers hold at each. Their laws stand in
+//! `specs/Assignments` (in which order results are assigned), `specs/HistoryLaws` (what registers hold) and
+//! `specs/Orders` (refinement is an order).
 #![tactic(auto)]
 
 mod block;

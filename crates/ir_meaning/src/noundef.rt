@@ -1,4 +1,4 @@
-//! Where undefined behaviour comes of what is no number (LangRef, "Parameter Attributes").
+//! Undefined behaviour that comes of poison and `undef` (LangRef, "Parameter Attributes").
 
 ghost use Rattle.std.specs.Prelude.{◌≡◌, ◌&&◌, length};
 ghost use Rattle.ir_core.specs.Run.{breaks_noundef, has_noundef, is_indefinite, is_poison};
@@ -16,7 +16,7 @@ pub(crate) fn has_noundef(items: &[Text]) -> bool
         .any(|item| item.as_slice() == b"noundef".as_slice())
 }
 
-/// Whether what the operand gave stands for no number of the program: it is poison, or the literal `undef` gave it.
+/// Whether the operand gave no definite number: it is the literal `undef`, or gave poison.
 pub(crate) fn is_indefinite(a: Operand, value: &Value) -> bool
     ensures { result ≡ is_indefinite a value.now }
 {
@@ -26,7 +26,7 @@ pub(crate) fn is_indefinite(a: Operand, value: &Value) -> bool
     }
 }
 
-/// Whether a parameter with `noundef` is given poison, where there is an argument for each.
+/// Whether the argument of a parameter with `noundef` is poison. There is one argument for each parameter.
 pub(crate) fn breaks_noundef(parameters: &[Parameter], args: &[Value]) -> bool
     requires { length args.now ≡ length parameters.now }
     ensures { result ≡ breaks_noundef parameters.now args.now }

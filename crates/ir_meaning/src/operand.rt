@@ -1,4 +1,4 @@
-//! What operands give.
+//! The values of operands.
 
 ghost use Rattle.std.specs.Prelude.{◌≡◌};
 ghost use Rattle.ops.specs.Integer.{bits};
@@ -11,7 +11,7 @@ use crate::table::Table;
 use ir_core::{Function, Operand};
 use ops::{Value, Width, Word};
 
-/// What an operand of the function gives at the width: what its register holds, or the literal, where `undef` is 0.
+/// The value of an operand of the function at the width: what its register holds, or the literal, with 0 for `undef`.
 pub(crate) fn operand(f: &Function, table: &Table, width: Width, operand: Operand) -> Value
     requires table { IsTable f.now table.now.firsts.items table.now.values.items }
     requires width { OperandHasWidth f.now width operand }

@@ -1,4 +1,4 @@
-//! What phis take where their block is entered.
+//! The values that phis take when their block is entered.
 
 ghost use Rattle.std.specs.Prelude.{◌≡◌, ◌<◌, ℕ, Contains, IfOk, Some, length, slice_get};
 ghost use Rattle.ir_core.specs.Blocks.{IsBlock};
@@ -14,8 +14,8 @@ use ir_core::{Function, Op, Operand, Register};
 use ops::Value;
 use std::alloc::AllocError;
 
-/// Reads what the phis that stand first in the block take, where control comes from a block, or from nowhere at the
-/// entry. A phi's entries are gone through until that of the block is found. The only error is want of memory.
+/// Puts into `taken` the values of the phis at the head of the block, where control comes from a block, or from none at
+/// the function's entry. The entries of a phi are searched in order for that block. The only error is want of memory.
 pub(crate) fn take_phis(
     f: &Function,
     table: &Table,
@@ -46,7 +46,7 @@ pub(crate) fn take_phis(
     Ok(())
 }
 
-/// What a phi reads where control comes from the block.
+/// The operand of a phi for the block that control comes from.
 fn entry(entries: &[(Operand, u32)], from: u32) -> Operand
     requires { (a : Operand) × Contains entries.now (a, from) }
     ensures { Contains entries.now (result, from) }
@@ -59,7 +59,7 @@ fn entry(entries: &[(Operand, u32)], from: u32) -> Operand
     unreachable!()
 }
 
-/// Lets the first instructions of a block of the function hold these values.
+/// Stores these values as the results of the first instructions of a block of the function.
 pub(crate) fn hold_phis(f: &Function, table: &mut Table, b: u32, taken: &[Value])
     requires table { IsTable f.now table.old.firsts.items table.old.values.items }
     requires fits { (k : ℕ) (v : Value) → slice_get taken.now k ≡ Some v → Fits f.now (Register.Result b k) v }

@@ -20,8 +20,8 @@ use std::alloc::{AllocError, Global};
 /// "freeze").
 ///
 /// Memory is taken at the start, for a value of each parameter and instruction, and where a block has more phis than
-/// those entered before. An instruction takes constant time, but a phi goes through its entries up to that of the block
-/// that control comes from, and a `switch` through its cases up to that of its number.
+/// those entered before. An instruction takes constant time, but a phi searches its entries in order for the block that
+/// control comes from, and a `switch` its cases for the number.
 ///
 /// The only error is want of memory.
 pub fn run_zero(
@@ -42,7 +42,7 @@ pub fn run_zero(
     run(alloc, f, &mut table, blocks)
 }
 
-/// The outcome from the first block on, where the registers hold what the table says.
+/// Runs the function from its first block on, with what the table holds in its registers.
 fn run(alloc: Global, f: &Function, table: &mut Table, blocks: u32) -> Result<Outcome, AllocError>
     requires formed { IsFormed f.now }
     requires table { IsTable f.now table.old.firsts.items table.old.values.items }

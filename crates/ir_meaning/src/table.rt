@@ -1,4 +1,4 @@
-//! What the registers of a function hold, in one list.
+//! The register file of a run, as one list.
 
 ghost use Rattle.std.specs.Prelude.{◌≡◌, ◌+◌, ◌<◌, ◌++◌, ℕ, Some, IsSome, length, replicate, IfOk, OnOk};
 ghost use Rattle.ops.specs.Value.{IsValueOf};
@@ -13,10 +13,10 @@ use ops::Value;
 use std::alloc::{AllocError, Global};
 
 /// A value for each register of a function: the parameters first, and then the results block by block. A register that
-/// holds nothing yet has poison there.
+/// holds nothing yet has poison here.
 #[derive(Drop)]
 pub(crate) struct Table {
-    /// The place of the first result of each block.
+    /// The index in `values` of the first result of each block.
     pub(crate) firsts: Vec<usize>,
     pub(crate) values: Vec<Value>,
 }
@@ -53,7 +53,7 @@ impl Table {
         }
     }
 
-    /// The place of the result of an instruction of the function.
+    /// The index in `values` of the result of an instruction of the function.
     fn place(&self, f: &Function, b: u32, k: usize) -> usize
         requires table { IsTable f.now self.now.firsts.items self.now.values.items }
         requires inst { HasInst f.now b k }
@@ -63,7 +63,7 @@ impl Table {
         self.firsts[b as usize] + k
     }
 
-    /// Lets the result of an instruction of the function hold a value.
+    /// Stores a value as the result of an instruction of the function.
     pub(crate) fn set(&mut self, f: &Function, b: u32, k: usize, v: Value)
         requires table { IsTable f.now self.old.firsts.items self.old.values.items }
         requires fits { Fits f.now (Register.Result b k) v }
@@ -75,7 +75,7 @@ impl Table {
     }
 }
 
-/// Adds poison so many times.
+/// Appends poison so many times.
 fn push_poison(values: &mut Vec<Value>, count: usize) -> Result<(), AllocError>
     ensures { OnOk result (values.new.items ≡ values.old.items ++ replicate count Value.Poison) }
 {

@@ -24,7 +24,7 @@ pub(crate) enum Step {
     Goes(u32),
 }
 
-/// How the terminator ends a pass, where each number that is left open is 0.
+/// How the terminator ends a pass through its block, where each number that is left open is 0.
 pub(crate) fn end(f: &Function, table: &Table, end: &Terminator) -> Step
     requires table { IsTable f.now table.now.firsts.items table.now.values.items }
     requires fits { EndFits f.now end.now }
@@ -50,7 +50,7 @@ pub(crate) fn end(f: &Function, table: &Table, end: &Terminator) -> Step
     }
 }
 
-/// A return of what the operand gave: undefined behaviour where that is indefinite and the function returns `noundef`.
+/// A return of what the operand gave: undefined behaviour where that is indefinite and the return value is `noundef`.
 fn returning(noundef: bool, a: Operand, value: Value) -> Step
     ensures value { (held : Registers) → ending_of held result ≡ returning noundef a value }
     ensures goes { GoesTo [] result }
@@ -63,7 +63,8 @@ fn returning(noundef: bool, a: Operand, value: Value) -> Step
     }
 }
 
-/// The number that the operand gives, and `None` where that is indefinite: poison, or by the literal `undef`.
+/// The number that the operand gives; `None` where it is poison or the literal `undef`, so that control depends on
+/// nothing definite.
 fn number(f: &Function, table: &Table, width: Width, a: Operand) -> Option<u64>
     requires table { IsTable f.now table.now.firsts.items table.now.values.items }
     requires width { OperandHasWidth f.now width a }
@@ -75,7 +76,7 @@ fn number(f: &Function, table: &Table, width: Width, a: Operand) -> Option<u64>
     }
 }
 
-/// The block of the case with the number, and else the other. The cases are gone through until one has it.
+/// The block of the first case with the number, and else the default block.
 fn case_target(cases: &[(Word, u32)], other: u32, n: u64) -> u32
     ensures { result ≡ switch_target cases.now other n }
 {

@@ -1,4 +1,4 @@
--- What is spelled by tokens is spelled by them where more tokens stand behind.
+-- Tokens that spell something spell it with more tokens behind them too.
 use Rattle.std.proofs.Common.{ℕ, List, [], ◌∷◌, ◌++◌, Option, Some, None, ap, ◌∙◌, append_assoc}
 use Rattle.ops.specs.declared.opcode.Flags.{Flags}
 use Rattle.ops.specs.declared.opcode.Opcode.{Opcode}
@@ -31,7 +31,7 @@ use Rattle.ir_instructions.specs.Parts.{Part, IsOn, Is, Nothing, ◌⨾◌, Mayb
 use Rattle.ir_parse.specs.Grammar.{SpellsLabel, SpellsBlock, SpellsLabelledBlock, SpellsBlocks, SpellsParameter, SpellsParameterList, SpellsParameters, SpellsName, SpellsBody, SpellsFunction, SpellsEntry}
 use Rattle.ir_instructions.specs.ItemGrammar.{SpellsItem, of_word, of_word_and_group, of_number, of_group, of_quoted, of_key_and_value}
 
--- a part stays one where more tokens stand behind
+-- appending tokens to the rest leaves what the part spells
 abbrev pub Frames : Part → Type 0
 Frames P = (more tokens rest : List Placed) → P tokens rest → P (tokens ++ more) (rest ++ more)
 

@@ -1,4 +1,4 @@
--- What is read of blocks, functions and modules is spelled so.
+-- Soundness of the parser for blocks, functions and modules: what it gives is spelled so.
 use Rattle.std.proofs.Common.{◌≡◌, ℕ, Bool, true, false, cond, List, [], ◌∷◌, Option, Some, None, Ok, Err, refl, sym, subst}
 use Rattle.std.specs.Prelude.{codes, IsSome}
 use Rattle.std.specs.Str.{bytes_eq}
@@ -91,7 +91,7 @@ further_parameter_at-is tokens x e =
     let a = bind_ok (mark_at marks.comma tokens) _ _ e in
     (a.0.1, mark_at-is marks.comma tokens a.0 a.1, parameter_at-is a.0.1 x a.2)
 
--- parameters that are separated by `,` are a list of parameters
+-- parameters that are separated by `,` are a parameter list
 separated_parameters : (all : List RawParameter) (tokens rest : List Placed) → Separated SpellsParameter all tokens rest → SpellsParameterList all tokens rest
 separated_parameters [] tokens rest h = absurd h
 separated_parameters (p ∷ parameters) tokens rest h = h

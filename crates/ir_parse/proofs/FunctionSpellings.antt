@@ -1,4 +1,4 @@
--- What is spelled of blocks, functions and modules is read, where what follows may follow.
+-- Completeness of the parser for blocks, functions and modules: it gives what is spelled, if what follows may follow.
 use Rattle.std.proofs.Common.{◌≡◌, ℕ, true, false, eqb, List, [], ◌∷◌, Option, Some, None, Ok, refl, ap}
 use Rattle.std.specs.Prelude.{codes, IsSome}
 use Rattle.ir_tokens.specs.Tokens.{Placed, Label, Word, Mark}
@@ -25,7 +25,7 @@ use Rattle.ir_parse.proofs.TakingParts.{block-takes, parameter-takes, entry-take
 
 -- ---- blocks
 
--- instructions and a terminator begin with no label
+-- neither instructions nor a terminator begin with a label
 no_label : (line : ℕ) (b : RawBlock) (insts : List RawInst) (tokens middle rest : List Placed) → Each SpellsInst insts tokens middle → SpellsTerminator line b.end middle rest → is_label tokens ≡ false
 no_label line b [] tokens middle rest same end = let w = terminator_begins line b.end middle rest end in rw (same, w.2) refl
 no_label line b (i ∷ insts) tokens middle rest (t1, (t2, (written, name, is), behind), more) end = rw is refl
@@ -75,7 +75,7 @@ blocks_at-of (first ∷ others) tokens rest (t1, one, each) none may =
 
 -- ---- parameters
 
--- a `,` or a `)` follows a parameter
+-- a mark other than `=` follows, as the `,` or the `)` behind a parameter
 abbrev MayFollowParameter : List Placed → Type 0
 MayFollowParameter ((line, Mark mark) ∷ rest) = eqb mark marks.equals ≡ false
 MayFollowParameter tokens = ⊥

@@ -1,4 +1,4 @@
--- Behind a part fewer tokens are left, or no more.
+-- Behind each production fewer tokens are left, or at least no more.
 use Rattle.std.proofs.Common.{ℕ, List, [], ◌∷◌, Option, Some, None}
 use Rattle.std.specs.Prelude.{IsSome}
 use Rattle.ir_tokens.specs.declared.raw.RawEntry.{RawEntry}

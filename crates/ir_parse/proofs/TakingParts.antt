@@ -1,4 +1,4 @@
--- Each part that may stand any number of times takes a token at least.
+-- Each production that may be repeated takes at least one token.
 use Rattle.ir_instructions.specs.InstructionReaders.{is_mark}
 use Rattle.ir_instructions.specs.Readers.{TakesSome}
 use Rattle.ir_instructions.specs.Punctuation as marks

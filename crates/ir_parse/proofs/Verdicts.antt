@@ -21,7 +21,7 @@ use Rattle.ir_instructions.proofs.Steps.{ok_is}
 use Rattle.ir_parse.proofs.FunctionReadings.{module_of-is}
 use Rattle.ir_parse.proofs.FunctionSpellings.{module_of-of}
 
--- what is read of a text: its fault where it is too long, and else what is read of its tokens
+-- the result of reading a text: its fault if it is too long, and else the result of the parser on its tokens
 data IsRead (text : List ℕ) (r : Result RawModule (Fault IrFaultKind)) : Type 0 where
   of_long : most_bytes < length text → Err (fault 1 TooLong) ≡ r → IsRead text r
   of_tokens : length text ≤ most_bytes → (tokens : List Placed) → AreTokens text tokens → module_of tokens ≡ r → IsRead text r
@@ -67,7 +67,7 @@ texts law = record {
   not_both = λ text m f within h k. let e : ok_of m ≡ err_of f = one_read law text (Ok m) (Err f) (raw_read text m within h) (fault_read text f k) in cc;
 }
 
--- ---- what the code answers
+-- ---- the results of the code
 
 pub answers : (text : List ℕ) (tokens : List Placed) (r : Result RawModule (Refusal (Fault IrFaultKind))) → length text ≤ most_bytes → AreTokens text tokens → Gives (λ m. m) r (module_of tokens)
     → IfOk r (λ m. IsRaw text m) × OnOk r (length text ≤ most_bytes) × IfErr r (λ e. IfRefused e (IsTextFault text))

@@ -1,4 +1,4 @@
--- What a module is in a text: each part as it is written, and the tokens that spell it (LLVM Language Reference,
+-- The grammar of modules: for each production the syntax tree and the tokens that spell it (LLVM Language Reference,
 -- "Module Structure", "Functions").
 --
 -- With the grammar of instructions and terminators this is the whole of what is read. Attachments of metadata are
@@ -32,7 +32,7 @@ SpellsBlock b = Maybe SpellsLabel b.label ⨾ Each SpellsInst b.insts ⨾ Spells
 abbrev pub SpellsLabelledBlock : RawBlock → Part
 SpellsLabelledBlock b tokens rest = IsSome b.label × SpellsBlock b tokens rest
 
--- one block or more; the label may be missing in the first alone
+-- at least one block; only the first may have no label
 abbrev pub SpellsBlocks : List RawBlock → Part
 SpellsBlocks [] = Never
 SpellsBlocks (first ∷ others) = SpellsBlock first ⨾ Each SpellsLabelledBlock others
@@ -50,7 +50,7 @@ SpellsParameterList (first ∷ others) = Separated SpellsParameter (first ∷ ot
 abbrev pub SpellsParameters : List RawParameter → Part
 SpellsParameters parameters = Is (Mark marks.open_paren) ⨾ SpellsParameterList parameters ⨾ Is (Mark marks.close_paren)
 
--- FUNCTION, on this line, with a name and no number
+-- a function's name, with its line; a number is none
 abbrev pub SpellsName : ℕ → List ℕ → Part
 SpellsName line name tokens rest = (written : List ℕ) × (identifier_of written ≡ Named name) × IsOn line (Function written) tokens rest
 

@@ -8,11 +8,11 @@ use Rattle.ir_parse.specs.Grammar.{SpellsModule}
 use Rattle.ir_parse.specs.ModuleReaders.{module_of}
 use Rattle.ir_parse.specs.Text.{most_bytes, IsRaw, IsTextFault}
 
--- reading from left to right answers a module exactly where the grammar spells it
+-- the parser, which reads from left to right, gives a module exactly where the grammar spells it
 abbrev pub ModulesAreReadAsSpelled : Type 0
 ModulesAreReadAsSpelled = (tokens : List Placed) (m : RawModule) → (module_of tokens ≡ Ok m) ↔ SpellsModule m tokens
 
--- a text has one module or one fault, and within the limit never both
+-- a text has one module or one fault, and a text within the limit never has both
 pub record TextsHaveOneReadingOrFault : Type 0 where
   pub some : (text : List ℕ) → ((m : RawModule) × IsRaw text m) ⊎ ((fault : Fault IrFaultKind) × IsTextFault text fault)
   pub one_reading : (text : List ℕ) (a b : RawModule) → IsRaw text a → IsRaw text b → a ≡ b

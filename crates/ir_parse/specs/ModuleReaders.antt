@@ -1,5 +1,5 @@
--- Reading the parts of a module from left to right: each reader answers what it reads, or the fault of the first token
--- that does not fit.
+-- The parser of modules: each function reads one production from left to right, and gives its syntax tree, or the fault
+-- of the first token that does not fit.
 use Rattle.std.specs.Prelude.{ℕ, Bool, true, false, not, if◌then◌else◌, List, [], ◌∷◌, Option, None, Some, Result, Ok, Err, codes}
 use Rattle.std.specs.Str.{bytes_eq}
 use Rattle.ir_tokens.specs.declared.called.Identifier.{Identifier}
@@ -22,7 +22,7 @@ use Rattle.ir_instructions.specs.ItemReaders.{items_at, last_items_at}
 use Rattle.ir_instructions.specs.InstructionReaders.{attachments_at, identified, insts_at, is_mark, mark_at, tail_at, terminator_at, type_at}
 use Rattle.ir_instructions.specs.Punctuation as marks
 
--- ---- what stands next
+-- ---- lookahead
 
 abbrev pub is_label : List Placed → Bool
 is_label ((line, Label name) ∷ rest) = true
@@ -47,7 +47,7 @@ block_at = do
   _ ← tail_at
   done (record { label = label; insts = insts; end = end.1; end_line = end.0 })
 
--- blocks, where the label may be missing in the first
+-- blocks, of which only the first may have no label
 unfoldable pub blocks_at : Reader (List RawBlock)
 blocks_at = do
   first ← block_at
@@ -85,7 +85,7 @@ parameters_at = do
   _ ← mark_at marks.close_paren
   done parameters
 
--- a function's name; a number in its place is left out
+-- a function's name; a number in its place is not supported
 abbrev pub named_function : ℕ → Identifier → Reader (ℕ × List ℕ)
 named_function line (Named name) rest = Ok ((line, name), rest)
 named_function line (Numbered n) rest = Err (fault line (LeftOut (codes "@")))
@@ -94,7 +94,7 @@ unfoldable pub function_name_at : Reader (ℕ × List ℕ)
 function_name_at ((line, Function written) ∷ rest) = named_function line (identifier_of written) rest
 function_name_at tokens = Err (unexpected places.Fixed tokens)
 
--- attachments, and the blocks of a function in its braces
+-- attachments, and the blocks of a function in their braces
 unfoldable pub body_at : Reader (List RawBlock)
 body_at = do
   _ ← attachments_at
@@ -103,7 +103,7 @@ body_at = do
   _ ← mark_at marks.close_brace
   done blocks
 
--- a function behind its `define`
+-- a function behind the word `define`
 unfoldable pub function_at : Reader RawFunction
 function_at = do
   before ← items_at
@@ -132,7 +132,7 @@ entry_at ((line, Word word) ∷ rest) =
     if bytes_eq word (codes "define") then (function_at >>= λ f. done (entries.Function f)) rest else Err (fault line (LeftOut word))
 entry_at tokens = Err (unexpected places.Entry tokens)
 
--- an entry, before the end of the text
+-- an entry is next: the text does not end yet
 abbrev pub begins_entry : List Placed → Bool
 begins_entry tokens = not (is_end tokens)
 

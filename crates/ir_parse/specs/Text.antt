@@ -1,4 +1,4 @@
--- Texts of modules: the module as it is written, or the first fault.
+-- Texts of modules: the module as written, or the first fault.
 use Rattle.std.specs.Prelude.{◌≡◌, ℕ, ◌<◌, ◌≤◌, ◌^◌, List, length, Err}
 use Rattle.ir_tokens.specs.Order.{AreTokens}
 use Rattle.ir_tokens.specs.Tokens.{Placed}
@@ -10,17 +10,17 @@ use Rattle.ir_instructions.specs.Readers.{fault}
 use Rattle.ir_parse.specs.Grammar.{SpellsModule}
 use Rattle.ir_parse.specs.ModuleReaders.{module_of}
 
--- the most bytes of a text that is read
+-- how many bytes a text may have at most
 abbrev pub most_bytes : ℕ
 most_bytes = 2 ^ 24
 
--- the text, however long, is that of this module
+-- the text, however long, spells this module
 pub record IsRaw (text : List ℕ) (module_read : RawModule) : Type 0 where
   pub tokens : List Placed
   pub are_tokens : AreTokens text tokens
   pub spelled : SpellsModule module_read tokens
 
--- The first fault: the text is too long, or else the first token that does not fit, by its line and why it does not.
+-- The first fault: the text is too long, or else the first token that does not fit, with its line and the kind.
 pub data IsTextFault (text : List ℕ) (found : Fault IrFaultKind) : Type 0 where
   too_long : most_bytes < length text → found ≡ fault 1 TooLong → IsTextFault text found
   misfit : length text ≤ most_bytes → (tokens : List Placed) → AreTokens text tokens → module_of tokens ≡ Err found → IsTextFault text found

@@ -1,4 +1,4 @@
-//! Blocks from tokens.
+//! Parsing blocks.
 
 ghost use Rattle.ir_tokens.specs.SeenTokens.{seen};
 ghost use Rattle.refusal.specs.Refusals.{Gives};
@@ -9,7 +9,7 @@ use ir_tokens::{IrError, Placed, RawBlock, RawIdentifier, Token, identifier};
 use lists::List;
 use std::alloc::Global;
 
-/// A label, if there is one.
+/// Parses a label, if there is one.
 #[tactic(auto, unfolding(crate::specs::ModuleReaders::label_at))]
 fn label(alloc: Global, tokens: &mut &[Placed<'_>]) -> Result<Option<RawIdentifier>, IrError>
     ensures { Gives (λ x. (x, seen tokens.new.now)) result (parsing.label_at (seen tokens.old.now)) }
@@ -29,7 +29,7 @@ fn label(alloc: Global, tokens: &mut &[Placed<'_>]) -> Result<Option<RawIdentifi
     }
 }
 
-/// A block, of which the label may be missing; another one is next where a label is.
+/// The production of a block, whose label may be missing; a list of blocks goes on where a label is next.
 enum Block {}
 
 impl Part for Block {
@@ -63,7 +63,7 @@ impl Part for Block {
     }
 }
 
-/// The blocks of a function: one or more.
+/// Parses the blocks of a function, at least one.
 #[tactic(auto, unfolding(crate::specs::ModuleReaders::blocks_at))]
 pub(crate) fn blocks(alloc: Global, tokens: &mut &[Placed<'_>]) -> Result<List<RawBlock>, IrError>
     ensures { Gives (λ x. (x, seen tokens.new.now)) result (parsing.blocks_at (seen tokens.old.now)) }

@@ -1,4 +1,4 @@
-//! The entries of a module from tokens.
+//! Parsing the entries of a module.
 
 ghost use Rattle.std.specs.Prelude.{◌≡◌, OnErr};
 ghost use Rattle.ir_tokens.specs.SeenTokens.{seen};
@@ -12,7 +12,7 @@ use lists::List;
 use ops::keywords::is;
 use std::alloc::Global;
 
-/// An entry of a module; another one is next before the end of the text.
+/// The production of an entry of a module; the list of entries goes on up to the end of the text.
 enum ModuleEntry {}
 
 impl Part for ModuleEntry {
@@ -54,7 +54,8 @@ impl Part for ModuleEntry {
     }
 }
 
-/// The entry in front of the tokens, which goes behind it, or the fault of the first token that does not fit.
+/// Parses an entry at the front of the tokens, which are then those behind it. The error is the fault of the first
+/// token that does not fit.
 pub fn entry(alloc: Global, tokens: &mut &[Placed<'_>]) -> Result<RawEntry, IrError>
     ensures read { Gives (λ x. (x, seen tokens.new.now)) result (parsing.entry_at (seen tokens.old.now)) }
     ensures unmoved { OnErr result (tokens.new.now ≡ tokens.old.now) }
@@ -65,7 +66,7 @@ pub fn entry(alloc: Global, tokens: &mut &[Placed<'_>]) -> Result<RawEntry, IrEr
     Ok(entry)
 }
 
-/// The entries of a module.
+/// Parses the entries of a module.
 #[tactic(auto, unfolding(crate::specs::ModuleReaders::entries_at))]
 fn entries(alloc: Global, tokens: &mut &[Placed<'_>]) -> Result<List<RawEntry>, IrError>
     ensures { Gives (λ x. (x, seen tokens.new.now)) result (parsing.entries_at (seen tokens.old.now)) }
@@ -73,7 +74,7 @@ fn entries(alloc: Global, tokens: &mut &[Placed<'_>]) -> Result<List<RawEntry>, 
     each::<ModuleEntry>(alloc, List::new(alloc), tokens)
 }
 
-/// The module of a text's tokens, or the first fault.
+/// Parses the tokens of a text as a module. The error is the text's first fault.
 pub(crate) fn raw_module(alloc: Global, tokens: &[Placed<'_>]) -> Result<RawModule, IrError>
     ensures { Gives (λ x. x) result (parsing.module_of (seen tokens.now)) }
 {

@@ -1,4 +1,4 @@
-//! Functions from tokens. (LLVM Language Reference, "Functions".)
+//! Parsing functions. (LLVM Language Reference, "Functions".)
 
 ghost use Rattle.ir_tokens.specs.SeenTokens.{seen};
 ghost use Rattle.refusal.specs.Refusals.{Gives};
@@ -11,7 +11,7 @@ use ir_tokens::{Identifier, IrError, Placed, RawBlock, RawFunction, Token, ident
 use lists::{List, Text};
 use std::alloc::Global;
 
-/// The name of a function, with its line; a number is left out.
+/// Parses the name of a function, with its line; a number in its place is not supported.
 #[tactic(auto, unfolding(crate::specs::ModuleReaders::function_name_at))]
 fn function_name(alloc: Global, tokens: &mut &[Placed<'_>]) -> Result<(usize, Text), IrError>
     ensures { Gives (λ x. (x, seen tokens.new.now)) result (parsing.function_name_at (seen tokens.old.now)) }
@@ -31,7 +31,7 @@ fn function_name(alloc: Global, tokens: &mut &[Placed<'_>]) -> Result<(usize, Te
     }
 }
 
-/// The body of a function in its braces, and the attachments before it.
+/// Parses the attachments before the body of a function, and the body in its braces.
 #[tactic(auto, unfolding(crate::specs::ModuleReaders::body_at))]
 fn body(alloc: Global, tokens: &mut &[Placed<'_>]) -> Result<List<RawBlock>, IrError>
     ensures { Gives (λ x. (x, seen tokens.new.now)) result (parsing.body_at (seen tokens.old.now)) }
@@ -43,7 +43,7 @@ fn body(alloc: Global, tokens: &mut &[Placed<'_>]) -> Result<List<RawBlock>, IrE
     Ok(blocks)
 }
 
-/// A function, behind its `define`.
+/// Parses a function behind the word `define`.
 #[tactic(auto, unfolding(crate::specs::ModuleReaders::function_at))]
 pub(crate) fn function(alloc: Global, tokens: &mut &[Placed<'_>]) -> Result<RawFunction, IrError>
     ensures { Gives (λ x. (x, seen tokens.new.now)) result (parsing.function_at (seen tokens.old.now)) }

@@ -1,7 +1,7 @@
-//! Modules of LLVM IR as they are written in a text, or the first fault of the text, with its line.
+//! The parser: from the text of a module of LLVM IR to the module as written, or the first fault, with its line.
 //!
-//! Tokens are read from left to right, and each function reads one part of the grammar: blocks, parameters, functions
-//! and entries.
+//! It is a recursive descent parser without backtracking: tokens are read from left to right, and each function reads
+//! one production of the grammar, here blocks, parameters, functions and entries.
 #![tactic(auto)]
 
 mod block;

@@ -1,4 +1,4 @@
-//! Parameters from tokens.
+//! Parsing parameters.
 
 ghost use Rattle.ir_tokens.specs.SeenTokens.{seen};
 ghost use Rattle.refusal.specs.Refusals.{Gives};
@@ -9,7 +9,7 @@ use ir_tokens::{IrError, Placed, RawIdentifier, RawParameter, Token, identifier}
 use lists::List;
 use std::alloc::Global;
 
-/// The name of a parameter, if it has one.
+/// Parses the name of a parameter, if it has one.
 #[tactic(auto, unfolding(crate::specs::ModuleReaders::parameter_name_at))]
 fn parameter_name(
     alloc: Global,
@@ -32,7 +32,7 @@ fn parameter_name(
     }
 }
 
-/// A parameter.
+/// Parses a parameter.
 #[tactic(auto, unfolding(crate::specs::ModuleReaders::parameter_at))]
 fn parameter(alloc: Global, tokens: &mut &[Placed<'_>]) -> Result<RawParameter, IrError>
     ensures { Gives (λ x. (x, seen tokens.new.now)) result (parsing.parameter_at (seen tokens.old.now)) }
@@ -43,7 +43,7 @@ fn parameter(alloc: Global, tokens: &mut &[Placed<'_>]) -> Result<RawParameter, 
     Ok(RawParameter { width, items, name })
 }
 
-/// Another parameter, behind a `,`.
+/// The production of a further parameter, behind a `,`.
 enum FurtherParameter {}
 
 impl Part for FurtherParameter {
@@ -68,7 +68,7 @@ impl Part for FurtherParameter {
     }
 }
 
-/// Parameters: one or more.
+/// Parses a list of at least one parameter.
 #[tactic(auto, unfolding(crate::specs::ModuleReaders::some_parameters_at))]
 fn some_parameters(alloc: Global, tokens: &mut &[Placed<'_>]) -> Result<List<RawParameter>, IrError>
     ensures { Gives (λ x. (x, seen tokens.new.now)) result (parsing.some_parameters_at (seen tokens.old.now)) }
@@ -78,7 +78,7 @@ fn some_parameters(alloc: Global, tokens: &mut &[Placed<'_>]) -> Result<List<Raw
     each::<FurtherParameter>(alloc, parameters, tokens)
 }
 
-/// Parameters, before the `)`: any number.
+/// Parses a list of parameters, maybe empty, up to the `)`.
 #[tactic(auto, unfolding(crate::specs::ModuleReaders::parameter_list_at))]
 fn parameter_list(alloc: Global, tokens: &mut &[Placed<'_>]) -> Result<List<RawParameter>, IrError>
     ensures { Gives (λ x. (x, seen tokens.new.now)) result (parsing.parameter_list_at (seen tokens.old.now)) }
@@ -90,7 +90,7 @@ fn parameter_list(alloc: Global, tokens: &mut &[Placed<'_>]) -> Result<List<RawP
     }
 }
 
-/// The parameters of a function, in their brackets.
+/// Parses the parameters of a function, in their brackets.
 #[tactic(auto, unfolding(crate::specs::ModuleReaders::parameters_at))]
 pub(crate) fn parameters(
     alloc: Global,

@@ -1,4 +1,4 @@
-//! The module of a text as written.
+//! Parsing the text of a module.
 
 ghost use Rattle.std.specs.Prelude.{◌≤◌, length, IfOk, OnOk, IfErr};
 ghost use Rattle.refusal.specs.Refusals.{IfRefused};
@@ -9,10 +9,10 @@ use ir_tokens::{IrError, IrFaultKind, RawModule, tokens_of};
 use refusal::refused;
 use std::alloc::Global;
 
-/// The most bytes of a text that is read.
+/// How many bytes a text may have at most.
 pub const MOST_BYTES: usize = 1 << 24;
 
-/// The module of a text as it is written, or the text's first fault. It takes as many steps as the text has bytes.
+/// Parses a text as a module as written, in time linear in its length. The error is the text's first fault.
 pub fn parse(alloc: Global, bytes: &[u8]) -> Result<RawModule, IrError>
     ensures ok { IfOk result (λ m. IsRaw bytes.now m) }
     ensures limit { OnOk result (length bytes.now ≤ most_bytes) }

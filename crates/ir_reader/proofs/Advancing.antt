@@ -1,4 +1,4 @@
--- The entries in front of a text, and the tokens that are left behind them.
+-- The entries at the front of a text, and the tokens that are left behind them.
 use Rattle.std.proofs.Common.{◌≡◌, ℕ, ◌<◌, ◌≤◌, true, false, not, Bool, IsTrue, List, [], ◌∷◌, ◌++◌, length, Option, Ok, refl, ap, sym, subst, ◌∙◌, append_assoc, append-nil}
 use Rattle.std.specs.Prelude.{IfSome}
 use Rattle.std.specs.Bool.{then_some}
@@ -30,21 +30,21 @@ each_push : {A : Type 0} (P : A → Part) (xs : List A) (x : A) (tokens between 
 each_push P [] x tokens between rest same one = (rest, subst (λ l. P x l rest) (sym same) one, refl)
 each_push P (y ∷ xs) x tokens between rest (middle, first, others) one = (middle, first, each_push P xs x middle between rest others one)
 
--- tokens of which the entry in front takes all, if it does, are an entry
+-- tokens all of which the first entry takes are one entry
 pub whole_is : (tokens rest : List Placed) (e : RawEntry) (takes_all : Bool) (found : Option RawEntry) → entry_at tokens ≡ Ok (e, rest) → (IsTrue takes_all → rest ≡ []) → found ≡ then_some takes_all e → IfSome found (λ x. SpellsEntry x tokens [])
 whole_is tokens rest e true found read all is = rw is (subst (SpellsEntry e tokens) (all refl) (entry_at-is tokens (e, rest) read))
 whole_is tokens rest e false found read all is = rw is tt
 
--- the tokens of a reader's last call stand behind those before
+-- one call of the reader took these tokens behind those before
 abbrev pub Came : TokenReader → List Placed → Bool → TokenReader → Type 0
 Came before taken ends after = (text : List ℕ) (front : List Placed) → HasPassed text front before → HasCome text (front ++ taken) ends after
 
--- they were taken where none was
+-- into an empty list it took them alone
 pub came_alone : (before after : TokenReader) (old new : List ScannedPlaced) (ends : Bool) → old ≡ [] → ((text : List ℕ) (front : List Placed) → HasPassed text (front ++ seen old) before → HasCome text (front ++ seen new) ends after) → Came before (seen new) ends after
 came_alone before after old new ends none come text front h = come text front (subst (λ l. HasPassed text l before) (sym (ap (λ l. front ++ seen l) none ∙ append-nil front)) h)
 
 module _ (before after : TokenReader) (taken : List Placed) where
-  -- the tokens that were taken are one entry
+  -- the tokens that were taken are one more entry
   pub read_more : (e : RawEntry) → Came before taken false after → SpellsEntry e taken [] → (text : List ℕ) (front : List RawEntry) → HasRead text front before → HasRead text (front ++ e ∷ []) after
   read_more e came whole text front read = record {
     tokens = read.tokens ++ taken;
@@ -53,7 +53,7 @@ module _ (before after : TokenReader) (taken : List Placed) where
         (each_push SpellsEntry front e (read.tokens ++ (taken ++ rest)) (taken ++ rest) rest (read.spelled (taken ++ rest)) (entry e rest taken [] whole));
   }
 
-  -- they are the last, or those behind them are taken too
+  -- they are the last tokens, or the ones behind them were taken too
   pub left_last : Came before taken true after → (text : List ℕ) (front : List RawEntry) → HasRead text front before → HasLeft text front taken
   left_last came text front read = record { tokens = read.tokens ++ taken; are_tokens = came text read.tokens read.passed; spelled = read.spelled taken }
 
@@ -61,13 +61,13 @@ module _ (before after : TokenReader) (taken : List Placed) where
       → (text : List ℕ) (front : List RawEntry) → HasRead text front before → HasLeft text front all
   left_rest all came rest text front read = record { tokens = read.tokens ++ all; are_tokens = rest text read.tokens (came text read.tokens read.passed); spelled = read.spelled all }
 
--- ---- what is left
+-- ---- tokens that are left
 
 end_is : (tokens : List Placed) → is_end tokens ≡ true → (rest : List Placed) × Is End tokens rest
 end_is ((line, End) ∷ rest) is = (rest, (line, refl))
 end_is tokens is = absurd cc
 
--- entries behind those in front are read where the ones in front are
+-- entries are parsed the same behind others in front
 resume : (xs front : List RawEntry) (tokens left : List Placed) → Each SpellsEntry xs tokens left → each_at begins_entry entry_at front tokens ≡ each_at begins_entry entry_at (front ++ xs) left
 resume [] front tokens left same = rw (same, append-nil front) refl
 resume (x ∷ xs) front tokens left (middle, one, more) =
@@ -89,6 +89,6 @@ module _ (text : List ℕ) (front : List RawEntry) (left : List Placed) (h : Has
       misfit within h.tokens h.are_tokens
       (ap module_from (resume front [] h.tokens left h.spelled ∙ each-fault begins_entry entry_at front left (each_at begins_entry entry_at front left) (Refused fault) (ap not none) fails refl))
 
--- an entry takes tokens of those that are left
+-- an entry takes some of the tokens that are left
 pub left_smaller : (left rest : List Placed) (e : RawEntry) → is_end left ≡ false → entry_at left ≡ Ok (e, rest) → length rest < length left
 left_smaller left rest e none read = entry-takes left (e, rest) (ap not none) read

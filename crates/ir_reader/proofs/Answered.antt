@@ -1,4 +1,4 @@
--- What holds of a module that is answered.
+-- What holds of a module that is returned.
 use Rattle.std.proofs.Common.{ℕ, List, Result, Ok, Err}
 use Rattle.std.specs.Prelude.{IfOk}
 use Rattle.ir_core.specs.declared.module.Module.{Module}

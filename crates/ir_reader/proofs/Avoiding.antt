@@ -1,4 +1,4 @@
--- Whether a walk comes to a block and avoids another.
+-- It is decidable whether a walk comes to a block without passing another.
 use Rattle.std.proofs.Common.{◌≡◌, ◌⊎◌, inl, inr, ℕ, zero, suc, ◌<◌, List, [], ◌∷◌, length, refl, subst, arith}
 use Rattle.std.specs.Prelude.{Contains}
 use Rattle.std.proofs.Math.Decide.{map_dec}
@@ -17,10 +17,10 @@ dec_contains xs x = map_dec (λ (y, among, is). subst (Contains xs) is among) (�
 pub dec_names : (f : Function) (b c : ℕ) → Dec (Names f b c)
 dec_names f b c = dec_at (λ (block : Block). Contains (targets_of block.end) c) f.blocks b (λ block. dec_contains (targets_of block.end) c)
 
--- ---- steps through the numbers below a bound
+-- ---- paths through the numbers below a bound
 
--- One step leads from a to b, or steps do that come through numbers below the bound. A way through numbers up to v
--- comes by v once or not at all.
+-- There is a step from a to b, or a path through numbers below the bound. A path through numbers up to v passes v once,
+-- or not at all. (This is the recursion of Warshall's algorithm.)
 abbrev pub Through : (ℕ → ℕ → Type 0) → ℕ → ℕ → ℕ → Type 0
 Through Step zero a b = Step a b
 Through Step (suc v) a b = Through Step v a b ⊎ (Through Step v a v × Through Step v v b)
@@ -34,14 +34,14 @@ module _ (Step : ℕ → ℕ → Type 0) where
   one_step zero a b step = step
   one_step (suc v) a b step = inl (one_step v a b step)
 
-  -- to the greatest number, and from it
+  -- paths to the greatest number, and from it
   to_last : (v a : ℕ) → Through Step (suc v) a v → Through Step v a v
   to_last v a h = elim h [ inl way ↦ way | inr (way, again) ↦ way ]
 
   from_last : (v b : ℕ) → Through Step (suc v) v b → Through Step v v b
   from_last v b h = elim h [ inl way ↦ way | inr (again, way) ↦ way ]
 
-  -- two ways that meet at a number below the bound
+  -- two paths that meet at a number below the bound
   joined : (n c a b : ℕ) → c < n → Through Step n a c → Through Step n c b → Through Step n a b
   joined zero c a b lt to on = absurd (omega arith)
   joined (suc v) c a b lt to on = elim (cases_eq c v) [
@@ -57,7 +57,7 @@ module _ (Step : ℕ → ℕ → Type 0) where
 -- ---- walks that avoid block d
 
 module _ (f : Function) (d : ℕ) where
-  -- a walk comes to block b, and none before it is d
+  -- a walk comes to block b, and has not passed d before
   abbrev pub Comes : ℕ → List ℕ → Type 0
   Comes b before = IsWalk f (b ∷ before) × ¬ Contains before d
 
@@ -77,7 +77,7 @@ module _ (f : Function) (d : ℕ) where
   leads_within : (a b : ℕ) → Leads a b → a < length f.blocks
   leads_within a b ((block, at, among), apart) = slice_get_within f.blocks a block at
 
-  -- such a walk comes to the first block, or from there through blocks
+  -- such a walk is one to the first block, or a path from there through blocks
   through_blocks : (b : ℕ) (before : List ℕ) → Comes b before → (b ≡ 0) ⊎ Through Leads (length f.blocks) 0 b
   through_blocks b [] (walk, none) = inl walk
   through_blocks b (c ∷ before) ((names, walk), none) =

@@ -1,4 +1,4 @@
--- What is read meets the checks of functions and of modules.
+-- A module that is read meets the checks of functions and of modules.
 use Rattle.std.proofs.Common.{◌≡◌, inl, inr, ℕ, zero, suc, ◌<◌, List, [], ◌∷◌, length, take, Some, refl, sym, ap, subst, ◌∙◌, arith, Option, None, is_some}
 use Rattle.std.specs.Prelude.{slice_get}
 use Rattle.std.proofs.lemmas.Option.{slice_get_within}
@@ -107,7 +107,7 @@ call_no_phi : (CallsThing : Identifier → Thing → Type 0) (w : RawArguments) 
 call_no_phi CallsThing (arguments.Binary op a b) es means = means
 call_no_phi CallsThing (arguments.Unary op a truth) es means = means
 
--- a phi as the grammar has it has an entry, and so has the phi that is meant
+-- a phi as the grammar has it has at least one entry, and so has the phi that it means
 some_entry : (CallsThing : Identifier → Thing → Type 0) (w : RawOp) (es : List (Operand × ℕ)) → OpMeans CallsThing w (core.Phi es) → IsWellWrittenOp w → 0 < length es
 some_entry CallsThing (ops.Phi width incoming) es means some = let long = zip_length (IncomingMeans CallsThing) incoming es means in omega arith
 some_entry CallsThing (ops.Call call) es means some = absurd (call_no_phi CallsThing call.arguments es means)
@@ -147,7 +147,7 @@ meets earlier raw f well resolved fit free assigned =
 
 -- ---- modules
 
--- an entry that is read as a function is written as one
+-- an entry that means a function is written as one
 written_function : (earlier : List RawFunction) (raw : RawEntry) (f : Function) → IsEntryOf earlier raw (entries.Function f) → (g : RawFunction) × (raw ≡ raw_entries.Function g) × IsFunctionOf earlier g f
 written_function earlier (raw_entries.Kept text) f is = absurd is
 written_function earlier (raw_entries.Function g) f is = (g, refl, is)

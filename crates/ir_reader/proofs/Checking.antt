@@ -1,4 +1,4 @@
--- From check to check of a function: what holds where none has failed so far, and its first fault.
+-- The checks of a function one by one: what holds if none has failed so far, and which fault is the first.
 use Rattle.std.proofs.Common.{◌≡◌, ℕ, Bool, List, refl}
 use Rattle.ir_core.specs.declared.function.Function.{Function}
 use Rattle.ir_core.specs.Assigned.{ReadsAreAssigned}
@@ -24,11 +24,11 @@ use Rattle.ir_reader.proofs.Places.{zip_right}
 use Rattle.ir_resolve.proofs.Deciding.{stable}
 use Rattle.ir_reader.proofs.Fitting.{dec_fits}
 
--- what is said of all earlier functions for which the mark is right
+-- P holds of all lists of earlier functions for which the mark is right
 abbrev pub ForEarlier : Bool → RawFunction → (List RawFunction → Type 0) → Type 0
 ForEarlier is_repeated raw P = (earlier : List RawFunction) → MarksFunction is_repeated earlier raw → P earlier
 
--- what is said of all earlier functions with which this one has no fault of names or types
+-- P holds of all lists of earlier functions behind which this one has no fault of names or types
 abbrev pub WhereFaultless : RawFunction → (List RawFunction → Type 0) → Type 0
 WhereFaultless raw P = (earlier : List RawFunction) → HasNoFault earlier raw → P earlier
 

@@ -13,7 +13,7 @@ use Rattle.ir_reader.specs.FlowFaults.{EntryPredHere}
 use Rattle.ir_reader.specs.Predecessors.{ArePredecessors}
 use Rattle.ir_reader.proofs.Places.{same_at}
 
--- the line of a block's terminator, where the first set has the block
+-- the line of a block's terminator, if the block is in the set of the first block's predecessors
 pub entry_here : {R : Type 0} (raw : RawFunction) (f : Function) (sets : List (IndexSet ℕ R)) → ArePredecessors f sets → (set : IndexSet ℕ R) → slice_get sets 0 ≡ Some set → (b : ℕ) (w : RawBlock) → slice_get raw.blocks b ≡ Some w
     → (found : Option ℕ) → found ≡ then_some (contains nat_eq set b) w.end_line → IsFirst (EntryPredHere raw f b) found
 entry_here raw f sets preds set set_at b w at found is =

@@ -1,4 +1,4 @@
--- Each text has a module or a fault.
+-- Each text spells a module or has a fault.
 use Rattle.std.proofs.Common.{◌≡◌, ◌⊎◌, inl, inr, ℕ, zero, suc, ◌+◌, ◌<◌, ◌≤◌, List, [], ◌∷◌, ◌++◌, length, take, Option, None, Some, refl, ap, arith}
 use Rattle.std.specs.Prelude.{slice_get, option_map, unwrap_or}
 use Rattle.std.proofs.lemmas.Bool.{cases_lt}
@@ -43,7 +43,7 @@ use Rattle.ir_reader.proofs.Fitting.{dec_inst, dec_fits}
 -- ---- a function that is meant
 
 module _ (raw : RawFunction) (f : Function) where
-  -- the first line of a phi that doesn't fit
+  -- there is a first phi that doesn't fit, or none
   bad_phi_here : (b k : ℕ) → FirstOf (BadPhiHere raw f b k)
   bad_phi_here b k =
       let Bad : Type 0 = (inst : Inst) × IsInst f b k inst × ¬ OpFits f b k inst.op in
@@ -70,7 +70,7 @@ module _ (raw : RawFunction) (f : Function) where
       (λ b. first_by_place (BadPhiHere raw f b) (insts_in b) (bad_phi_here b) (λ k line bad. (bad_phi_within b k line bad).1))
       (λ b line (k, bad). (bad_phi_within b k line bad).0))
 
-  -- and that of a terminator that names the first block
+  -- there is a first terminator that names the first block, or none
   first_entry_pred : FirstOf (EntryPredAt raw f)
   first_entry_pred =
       first_by_place (EntryPredHere raw f) (length raw.blocks)
@@ -79,7 +79,7 @@ module _ (raw : RawFunction) (f : Function) where
       (first_at (λ (block : RawBlock) line. Names f b 0 × (block.end_line ≡ line)) raw.blocks b (λ block. first_on block.end_line (dec_names f b 0))))
       (λ b line (names, (block, at, on)). slice_get_within raw.blocks b block at)
 
--- ---- a function as written, these being the earlier ones
+-- ---- a function as written, behind these functions
 
 module _ (earlier : List RawFunction) (raw : RawFunction) where
   abbrev HasFunctionOrFault : Type 0

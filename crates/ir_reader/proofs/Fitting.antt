@@ -1,4 +1,4 @@
--- Whether a phi fits can be decided.
+-- It is decidable whether a phi fits.
 use Rattle.std.proofs.Common.{◌≡◌, ℕ, ◌<◌, List, length, Some, refl, ap, subst, ◌∙◌}
 use Rattle.std.specs.Prelude.{slice_get, Contains}
 use Rattle.std.proofs.Math.Decide.{map_dec, dec_lt}
@@ -53,7 +53,7 @@ dec_is_phi (Convert cast flags from x) = no (λ h. h)
 dec_is_phi (Unary op truth x) = no (λ h. h)
 dec_is_phi (Freeze x) = no (λ h. h)
 
--- an instruction stands at the place
+-- whether P holds of the instruction at the place is decidable
 pub dec_inst : (f : Function) (b k : ℕ) (P : Inst → Type 0) → ((inst : Inst) → Dec (P inst)) → Dec ((inst : Inst) × IsInst f b k inst × P inst)
 dec_inst f b k P each =
     map_dec (λ (block, is_block, (inst, is_inst, p)). (inst, record { block = block; is_block = is_block; is_inst = is_inst }, p)) (λ (inst, is, p). (is.block, is.is_block, (inst, is.is_inst, p)))
@@ -79,7 +79,7 @@ module _ (f : Function) (b k : ℕ) (entries : List (Operand × ℕ)) where
   dec_entry c =
       map_dec (λ (e, among, is). (e.0, subst (λ n. Contains entries (e.0, n)) is among)) (λ (a, among). ((a, c), among, refl)) (dec_one (λ (e : Entry). e.1 ≡ c) entries (λ e. dec_number e.1 c))
 
-  -- an entry of a block that doesn't name this one, a block without an entry that does, and two entries of one block
+  -- an entry for a block that is no predecessor, a predecessor without an entry, and two operands for one block
   abbrev IsForeign : Entry → Type 0
   IsForeign e = ¬ Names f e.1 b
 

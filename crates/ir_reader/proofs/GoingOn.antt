@@ -1,4 +1,4 @@
--- What is read of entries as written, and of one more behind them.
+-- What entries as written mean, and what they do with one more entry behind them.
 use Rattle.std.proofs.Common.{◌≡◌, ◌↔◌, ◌⊎◌, inl, inr, ℕ, ◌+◌, ◌<◌, ◌≤◌, Bool, List, [], ◌∷◌, ◌++◌, length, length-append, take, Some, Ok, IsTrue, refl, sym, subst, arith}
 use Rattle.std.specs.Prelude.{slice_get}
 use Rattle.std.proofs.lemmas.List.{take-append-le}
@@ -28,7 +28,7 @@ module _ (front : List RawEntry) (e : RawEntry) where
   last_at : slice_get (front ++ e ∷ []) (length front) ≡ Some e
   last_at = append_right front (e ∷ []) (length front) 0 e (omega arith) refl
 
-  -- the entries in front mean the same where one more stands behind them
+  -- the entries in front mean the same with one more entry behind them
   in_front : (read : List Entry) → AreEntriesOf front read → AreFirstEntries (front ++ e ∷ []) (length front) read
   in_front read are = record {
     count = are.count;
@@ -47,7 +47,7 @@ module _ (front : List RawEntry) (e : RawEntry) where
       all_entries (front ++ e ∷ []) (length front + 1) all (sym (length-append front (e ∷ [])))
       (first_entries_more (front ++ e ∷ []) (length front) e entry read all (in_front read are) last_at is meaning)
 
-  -- a fault is the first, where the entries before it have none
+  -- a fault of the last entry is the first, if the entries before it have none
   pub fault_more : (read : List Entry) (fault : Fault IrFaultKind) → AreEntriesOf front read → IsFaultOfEntry (functions_of front) e fault → IsFaultOfEntries (front ++ e ∷ []) fault
   fault_more read fault are own = record {
     k = length front;
@@ -57,7 +57,7 @@ module _ (front : List RawEntry) (e : RawEntry) where
     fault_there = subst (λ l. IsFaultOfEntry (functions_of l) e fault) (sym (take-append_seam front (e ∷ []))) own;
   }
 
-  -- and stays the first
+  -- a first fault stays the first with more entries behind it
   pub fault_stays : (fault : Fault IrFaultKind) → IsFaultOfEntries front fault → IsFaultOfEntries (front ++ e ∷ []) fault
   fault_stays fault h =
       let within : h.k < length front = slice_get_within front h.k h.raw h.is_raw in
@@ -91,9 +91,9 @@ module _ (front : List RawEntry) (e : RawEntry) where
           λ t. (named name).1 (elim (names.0 t) [ inl has ↦ inl ((known name).1 has) | inr n ↦ inr n ]),
         )
 
--- ---- what is left
+-- ---- tokens that are left
 
--- entries in front of what is left are read, and one more, where these tokens are the entries in front of the text
+-- one more entry is read of the tokens that are left, behind the entries in front of the text
 pub left_step : (tokens left rest : List Placed) (e : RawEntry) (was now next : Reading) → entry_at left ≡ Ok (e, rest)
     → ((text : List ℕ) (front : List RawEntry) → HasLeft text front tokens → (read : List RawEntry) × HasLeft text read left × (IsReadingOf front was → IsReadingOf read now))
     → ((front : List RawEntry) → IsReadingOf front now → IsReadingOf (front ++ e ∷ []) next)

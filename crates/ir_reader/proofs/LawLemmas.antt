@@ -1,4 +1,4 @@
--- A text is that of one module or has one fault, and within the limit never both.
+-- A text spells one module or has one fault, and within the limit never does both.
 use Rattle.std.proofs.Common.{◌≡◌, ◌⊎◌, inl, inr, ℕ, suc, ◌<◌, ◌≤◌, List, [], ◌∷◌, length, take, Some, refl, sym, ap, subst, ◌∙◌, arith}
 use Rattle.std.specs.Prelude.{slice_get}
 use Rattle.std.proofs.lemmas.Option.{slice_get_within}
@@ -44,7 +44,7 @@ one_line P l m (p, least) (q, least') = let le : l ≤ m = least m q in let ge :
 not_before : (f : Function) (r s : Register) (b k i c l j : ℕ) → IsFirstUnassigned f r b k i → IsFirstUnassigned f s c l j → ¬ IsBefore b k i c l j
 not_before f r s b k i c l j first second before = first.unassigned (second.first b k i first.read first.is_read before r first.reads)
 
--- two places stand in one order
+-- two operands are in order by block, place and index
 placed : (b k i c l j : ℕ) → IsBefore b k i c l j ⊎ (((b ≡ c) × (k ≡ l) × (i ≡ j)) ⊎ IsBefore c l j b k i)
 placed b k i c l j = elim (order b c) [
   | inl lt ↦ inl (inl lt)
@@ -84,7 +84,7 @@ module _ (law : FunctionsHaveOneMeaningOrFault) (earlier : List RawFunction) (ra
   one_resolved : (f g : Function) → ResolvesTo earlier raw f → ResolvesTo earlier raw g → f ≡ g
   one_resolved f g p q = law.one_meaning earlier raw f g p.0 p.1 q.1
 
-  -- what is said of one function that is meant is said of the other
+  -- a statement of the one function that is meant is one of the other, since they are the same
   moved : {line : ℕ} (f g : Function) (At : Function → ℕ → Type 0) → ResolvesTo earlier raw f → ResolvesTo earlier raw g → IsFirstLine (At f) line → IsFirstLine (At g) line
   moved {line} f g At p q h = subst (λ k. IsFirstLine (At k) line) (one_resolved f g p q) h
 

@@ -1,4 +1,4 @@
--- A function as written and the one that it means, place by place.
+-- A function as written and the one that it means, by place.
 use Rattle.std.proofs.Common.{◌≡◌, inl, inr, ℕ, zero, suc, ◌<◌, ◌==◌, Bool, true, false, if◌then◌else◌, List, [], ◌∷◌, length, map, None, Some, refl, sym, ap, subst, ◌∙◌, arith}
 use Rattle.std.specs.Prelude.{slice_get, option_map}
 use Rattle.std.specs.List.{AllZip}
@@ -54,7 +54,7 @@ module _ (CallsThing : Identifier → Thing → Type 0) where
   case_named (w ∷ ws) (e ∷ cases) zero c all at = let same : e.1 ≡ c = cc in (w.target.identifier, subst (BlockMeans CallsThing w.target.identifier) same all.0.1)
   case_named (w ∷ ws) (e ∷ cases) (suc k) c all at = case_named ws cases k c all.1 at
 
-  -- a block that a terminator names is called by a name
+  -- a block that a terminator names is written as an identifier that refers to it
   named : (w : RawTerminator) (t : Terminator) (k c : ℕ) → EndMeans CallsThing w t → slice_get (targets_of t) k ≡ Some c → (x : Identifier) × BlockMeans CallsThing x c
   named (terminators.Return width a) (ends.Return x) k c means at = cc
   named terminators.Unreachable ends.Unreachable k c means at = cc
@@ -117,7 +117,7 @@ module _ (raw : RawFunction) (f : Function) (means : Means raw f) where
   pub block_meant : (b : ℕ) (w : RawBlock) → slice_get raw.blocks b ≡ Some w → (block : CoreBlock) × IsBlock f b block × BlockIsOf (Calls raw) w block
   block_meant b w at = zip_left (BlockIsOf (Calls raw)) raw.blocks f.blocks b w means.blocks at
 
-  -- blocks that are named are there
+  -- the blocks that terminators name are blocks of the function
   pub targets_within : (b c : ℕ) → Names f b c → c < length f.blocks
   targets_within b c (block, at, among) =
       let (w, w_at, is) = block_written b block at in
@@ -126,7 +126,7 @@ module _ (raw : RawFunction) (f : Function) (means : Means raw f) where
       let within : c < length raw.blocks = calls.0 in
       omega (arith, same_count)
 
-  -- instruction by instruction
+  -- blocks have as many instructions as are written
   pub insts_count : (b : ℕ) (w : RawBlock) (block : CoreBlock) → slice_get raw.blocks b ≡ Some w → IsBlock f b block → length w.insts ≡ length block.insts
   insts_count b w block w_at at =
       let (w', w'_at, is) = block_written b block at in
@@ -149,7 +149,7 @@ module _ (raw : RawFunction) (f : Function) (means : Means raw f) where
       at_end true w block means = end_reads (Calls raw) f b k w.end block.end means
       at_end false w block means = tt
 
-  -- what is written at a place is what is read there
+  -- the operands that are written at a place mean those that are read there
   pub reads_written : (b k : ℕ) → AllZip (ReadMeans (Calls raw)) (written_at raw b k) (reads_at f b k)
   reads_written b k = elim (cases_lt b (length raw.blocks)) [
     | inl lt ↦
@@ -159,7 +159,7 @@ module _ (raw : RawFunction) (f : Function) (means : Means raw f) where
     | inr ge ↦ rw (slice_get_past raw.blocks b ge, slice_get_past f.blocks b (omega (arith, same_count))) tt
   ]
 
-  -- a register that is read is written there
+  -- a register that is read is written there as an identifier
   pub record WrittenRead (b k i : ℕ) : Type 0 where
     pub operand : Typed
     pub at : slice_get (written_at raw b k) i ≡ Some operand
@@ -183,7 +183,7 @@ module _ (raw : RawFunction) (f : Function) (means : Means raw f) where
       let (name, named) = register_named t.operand.value first.read.operand register first.reads means in
       record { operand = t; at = at; name = name; named = named }
 
-  -- what is written, as the code finds it
+  -- the operand that the code looks up is the one that is written
   pub found_operand : (b k i : ℕ) (r : WrittenRead b k i) (o : RawOperand) → Some o ≡ option_map (λ t. t.operand) (slice_get (written_at raw b k) i) → o ≡ r.operand.operand
   found_operand b k i r o found = same_Some o r.operand.operand (found ∙ ap (option_map (λ (t : Typed). t.operand)) r.at)
 

@@ -42,11 +42,11 @@ whole (y ∷ xs) (suc n) x (suc k, lt, is) = let (j, lt', is') = whole xs n x (k
 same_pair : (a b : Operand) (m n : ℕ) → a ≡ b → m ≡ n → ◌≡◌ {A = Operand × ℕ} (a, m) (b, n)
 same_pair a b m n p q = cc
 
--- so many entries have these operands
+-- the table has the operands of the first n entries
 abbrev pub Knows : {S : Type 0} → List (Operand × ℕ) → ℕ → IndexMap ℕ Operand S → Type 0
 Knows entries n m = (c : ℕ) (x : Operand) → (get nat_eq m c ≡ Some x) ↔ Contains (take n entries) (x, c)
 
--- entry i is this one
+-- where entry i is this one
 module _ (entries : List (Operand × ℕ)) (i : ℕ) (e : Operand × ℕ) (within : i < length entries) (here : e ≡ get_or entries i e) where
   own : Contains entries (e.0, e.1)
   own = (i, within, sym here)
@@ -96,7 +96,7 @@ module _ (entries : List (Operand × ℕ)) (i : ℕ) (e : Operand × ℕ) (withi
     | inr new ↦ subst (λ p. IsTrue (contains nat_eq set p)) (ap (λ (p : Operand × ℕ). p.1) new) is
   ]
 
--- all entries
+-- the table has the operands of all entries
 pub knows_all : {S : Type 0} (entries : List (Operand × ℕ)) (i : ℕ) (m : IndexMap ℕ Operand S) → length entries ≡ i → Knows entries i m → (c : ℕ) (x : Operand) → (get nat_eq m c ≡ Some x) ↔ Contains entries (x, c)
 knows_all entries i m end knows = subst (λ l. (c : ℕ) (x : Operand) → (get nat_eq m c ≡ Some x) ↔ Contains l (x, c)) (take_all i entries (omega arith)) knows
 
@@ -155,7 +155,7 @@ module _ {R : Type 0} (set : IndexSet ℕ R) where
   fits_where P Q f (Freeze x) h = tt
 
   module _ (written : List RawInst) (insts : List Inst) (k : ℕ) (inst : Inst) (w : RawInst) (here : slice_get insts k ≡ Some inst) (w_here : slice_get written k ≡ Some w) where
-    -- the line of an instruction, where it doesn't fit
+    -- the line of an instruction, if it is a phi that doesn't fit
     pub bad_here : (only fits : Bool) (found : Option ℕ) → (IsTrue only ↔ FirstArePhis insts k) → (IsTrue fits ↔ OpFitsIn set (IsTrue only) inst.op) → found ≡ then_some (not fits) w.result.line → IsFirst (BadPhiIn set written insts k) found
     bad_here only fits found phis iff is =
         first_same (λ line. ¬ OpFitsIn set (FirstArePhis insts k) inst.op × (w.result.line ≡ line)) (BadPhiIn set written insts k)
@@ -166,7 +166,7 @@ module _ {R : Type 0} (set : IndexSet ℕ R) where
         (first_if (not fits) (¬ OpFitsIn set (FirstArePhis insts k) inst.op) w.result.line found
         (not_iff fits (OpFitsIn set (FirstArePhis insts k) inst.op) (λ h. fits_where (IsTrue only) (FirstArePhis insts k) phis.0 inst.op (iff.0 h), λ h. iff.1 (fits_where (FirstArePhis insts k) (IsTrue only) phis.1 inst.op h))) is)
 
--- one more instruction is a phi
+-- whether the first instructions are phis, with one more
 pub phis_more : (insts : List Inst) (k : ℕ) (inst : Inst) (only is_phi : Bool) → slice_get insts k ≡ Some inst → (IsTrue only ↔ FirstArePhis insts k) → (IsTrue is_phi ↔ IsPhi inst.op) → IsTrue (only && is_phi) ↔ FirstArePhis insts (k + 1)
 phis_more insts k inst only is_phi here first iff = (
   λ h j earlier lt at. let both = (and_iff only is_phi).0 h in
@@ -220,7 +220,7 @@ module _ {R : Type 0} (raw : RawFunction) (f : Function) (sets : List (IndexSet 
       ))
       found first
 
-  -- where the code sees the sets and lists as others
+  -- the same in terms of the sets and lists that the code has
   pub bad_in_seen : (found : Option ℕ) (seen : IndexSet ℕ R) (ws : List RawInst) (insts : List Inst) → seen ≡ set → ws ≡ w.insts → insts ≡ block.insts
       → IsFirst (λ line. (k : ℕ) × BadPhiIn seen ws insts k line) found → IsFirst (λ line. (k : ℕ) × BadPhiHere raw f b k line) found
   bad_in_seen found seen ws insts e ws_is insts_is first = bad_in_block found (rw (e, ws_is, insts_is) at first)

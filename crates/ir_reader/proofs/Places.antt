@@ -1,11 +1,11 @@
--- What stands at a place of a list.
+-- Items of a list by index.
 use Rattle.std.proofs.Common.{◌≡◌, ◌⊎◌, inl, inr, ℕ, zero, suc, ◌+◌, ◌<◌, List, [], ◌∷◌, ◌++◌, length, take, get_or, Some, refl, sym, ap, subst, ◌∙◌, arith}
 use Rattle.std.specs.Prelude.{slice_get, Contains}
 use Rattle.std.specs.List.{AllZip}
 use Rattle.std.proofs.lemmas.Bool.{cases_lt}
 use Rattle.std.proofs.lemmas.Option.{slice_get-get_or, slice_get_within, get_or_from_slice_get, same_Some}
 
--- two numbers in their order
+-- two numbers are in one order or the other, or are equal
 pub order : (m n : ℕ) → (m < n) ⊎ ((m ≡ n) ⊎ (n < m))
 order m n = elim (cases_lt m n) [ inl lt ↦ inl lt | inr ge ↦ elim (cases_lt n m) [ inl gt ↦ inr (inr gt) | inr le ↦ inr (inl (omega arith)) ] ]
 
@@ -13,18 +13,18 @@ module _ {X : Type 0} where
   pub same_at : (xs : List X) (k : ℕ) (x y : X) → slice_get xs k ≡ Some x → slice_get xs k ≡ Some y → x ≡ y
   same_at xs k x y p q = same_Some x y (sym p ∙ q)
 
-  -- the item of a loop stands at its index
+  -- the item that a loop has read stands at its index
   pub read_at : (xs : List X) (k : ℕ) (x : X) → k < length xs → x ≡ get_or xs k x → slice_get xs k ≡ Some x
   read_at xs k x within is = slice_get-get_or xs k x within ∙ ap (λ y. Some y) (sym is)
 
-  -- what the code reads in a list that it sees as another
+  -- the item that the code looks up in an equal list
   pub seen_at : (seen xs : List X) (k : ℕ) (d : X) → seen ≡ xs → k < length seen → slice_get xs k ≡ Some (get_or seen k d)
   seen_at seen xs k d is within = subst (λ l. slice_get l k ≡ Some (get_or seen k d)) is (slice_get-get_or seen k d within)
 
   pub item_at : (seen xs : List X) (k : ℕ) (x : X) → seen ≡ xs → k < length seen → x ≡ get_or seen k x → slice_get xs k ≡ Some x
   item_at seen xs k x is within item = subst (λ l. slice_get l k ≡ Some x) is (read_at seen k x within item)
 
-  -- an element stands at each place within
+  -- there is an item at each index below the length
   pub there : (xs : List X) (k : ℕ) → k < length xs → (x : X) × (slice_get xs k ≡ Some x)
   there [] k within = absurd (omega arith)
   there (x ∷ xs) zero within = (x, refl)
@@ -42,13 +42,13 @@ module _ {X : Type 0} where
   take_at (suc n) (y ∷ xs) zero x lt at = at
   take_at (suc n) (y ∷ xs) (suc k) x lt at = take_at n xs k x (omega arith) at
 
-  -- what stands in two lists one behind the other stands in one of them
+  -- an item of a concatenation is one of the one list or of the other
   pub at_append : (xs ys : List X) (k : ℕ) (x : X) → slice_get (xs ++ ys) k ≡ Some x → (slice_get xs k ≡ Some x) ⊎ ((j : ℕ) × (k ≡ length xs + j) × (slice_get ys j ≡ Some x))
   at_append [] ys k x at = inr (k, omega arith, at)
   at_append (a ∷ xs) ys zero x at = inl at
   at_append (a ∷ xs) ys (suc k) x at = elim (at_append xs ys k x at) [ inl here ↦ inl here | inr (j, is, there) ↦ inr (j, omega arith, there) ]
 
-  -- in a list and one element more
+  -- the same for a list and one more item
   pub at_push : (xs : List X) (y : X) (k : ℕ) (x : X) → slice_get (xs ++ y ∷ []) k ≡ Some x → (slice_get xs k ≡ Some x) ⊎ ((k ≡ length xs) × (y ≡ x))
   at_push xs y k x at = elim (at_append xs (y ∷ []) k x at) [
     | inl old ↦ inl old
@@ -66,7 +66,7 @@ module _ {X : Type 0} where
   append_right (a ∷ xs) ys zero j x is at = absurd (omega arith)
   append_right (a ∷ xs) ys (suc k) j x is at = append_right xs ys k j x (omega arith) at
 
--- Of two lists whose elements go together one by one, an element of either has one of the other at its place.
+-- Of two lists whose items are related one by one, an item of either is related to the one of the other at its index.
 module _ {X Y : Type 0} (R : X → Y → Type 0) where
   pub zip_right : (xs : List X) (ys : List Y) (k : ℕ) (y : Y) → AllZip R xs ys → slice_get ys k ≡ Some y → (x : X) × (slice_get xs k ≡ Some x) × R x y
   zip_right [] [] k y all at = cc

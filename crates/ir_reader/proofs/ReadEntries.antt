@@ -1,4 +1,4 @@
--- Entry by entry through a module.
+-- The entries of a module, one by one.
 use Rattle.std.proofs.Common.{◌≡◌, inl, inr, ℕ, zero, suc, ◌+◌, ◌<◌, Bool, List, [], ◌∷◌, ◌++◌, length, length-append, take, Some, refl, sym, ap, subst, ◌∙◌, arith}
 use Rattle.std.specs.Prelude.{slice_get}
 use Rattle.ir_core.specs.declared.module.Entry.{Entry}
@@ -34,7 +34,7 @@ some_block (first ∷ others) tokens rest spelled = omega arith
 
 -- ---- the first entries
 
--- entries are those of the first entries as written, so many
+-- these are what the first entries as written mean
 pub record AreFirstEntries (written : List RawEntry) (place : ℕ) (read : List Entry) : Type 0 where
   pub count : length read ≡ place
   pub each : (k : ℕ) (raw : RawEntry) (entry : Entry) → slice_get written k ≡ Some raw → slice_get read k ≡ Some entry → IsEntryOf (functions_of (take k written)) raw entry

@@ -50,7 +50,7 @@ or_true : (a b : Bool) → IsTrue (a || b) ↔ (IsTrue a ⊎ IsTrue b)
 or_true true b = (λ t. inl t, λ h. refl)
 or_true false b = (λ t. inr t, λ h. elim h [ inl t ↦ absurd (false≢true t) | inr t ↦ t ])
 
--- one of the texts is this one
+-- the text is among these
 abbrev HasTextIn : {A : Type 0} → List (Vec ℕ A) → List ℕ → Type 0
 HasTextIn texts text = IsTrue (list_any (λ t. bytes_eq text t.items) texts)
 
@@ -69,7 +69,7 @@ text_push texts t text =
 any_same : {A : Type 0} (texts : List (Vec ℕ A)) (a b : List ℕ) → a ≡ b → HasTextIn texts a → HasTextIn texts b
 any_same texts a b e h = subst (HasTextIn texts) e h
 
--- the set after one text more
+-- the set with one more text
 pub text_more : {A : Type 0} (texts new : List (Vec ℕ A)) (t : Vec ℕ A) (text : List ℕ) → new ≡ insert_key (λ x y. bytes_eq x.items y.items) texts t → HasTextIn new text ↔ (HasTextIn texts text ⊎ (t.items ≡ text))
 text_more texts new t text is = rw is (by (list_any (λ y. bytes_eq t.items y.items) texts) refl)
   where
@@ -86,7 +86,7 @@ not_not : (b : Bool) → IsTrue (not (not b)) ↔ IsTrue b
 not_not true = (λ h. h, λ h. h)
 not_not false = (λ h. h, λ h. h)
 
--- of an entry that is a function: whether its name was there, and what is there with it
+-- for an entry that is a function: whether its name was in the set, and the set with it
 module _ {A : Type 0} (entry : RawEntry) (raw : RawFunction) (texts new : List (Vec ℕ A)) (key : Vec ℕ A) (is_function : entry ≡ raw_entries.Function raw) (key_is : key.items ≡ raw.name) where
   pub function_mark : (added : Bool) → added ≡ not (list_any (λ y. bytes_eq key.items y.items) texts) → IsTrue (not added) ↔ ((name : List ℕ) × IsNameOf entry name × HasTextIn texts name)
   function_mark added is =

@@ -1,4 +1,4 @@
--- The least number of which something holds that can be decided of each.
+-- The least number of which a decidable statement holds.
 use Rattle.std.proofs.Common.{◌⊎◌, inl, inr, ℕ, zero, suc, ◌<◌, sym, subst, arith}
 use Rattle.std.proofs.lemmas.Bool.{cases_eq}
 

@@ -1,4 +1,4 @@
--- Sets of blocks, one for each block.
+-- Sets of predecessors, one for each block.
 use Rattle.std.proofs.Common.{◌≡◌, ◌⊎◌, ◌↔◌, inl, inr, ℕ, zero, suc, ◌+◌, ◌<◌, nat_eq, true, false, cond, List, [], ◌∷◌, ◌++◌, map, take, drop, length, get_or, set, Some, IsTrue, refl, ap, sym, subst, ◌∙◌, arith}
 use Rattle.std.specs.Prelude.{slice_get, Contains, All, Result, Ok, Err, OnOk}
 use Rattle.ops.specs.Number.{Number}
@@ -72,7 +72,7 @@ module _ {S : Type 0} where
             λ h. elim h [ inl (u, u_at, has) ↦ (u, same ∙ u_at, has) | inr (is_block, among) ↦ absurd (differ ((one t c).0 among)) ],
           )
 
-  -- one after the other
+  -- a block is added to the sets of some targets, and then to those of others
   pub adds_both : (a b c : List (IndexSet ℕ S)) (block : ℕ) (xs ys : List ℕ) → AddsTo a b block xs → AddsTo b c block ys → AddsTo a c block (xs ++ ys)
   adds_both a b c block xs ys p q =
       record {
@@ -89,7 +89,7 @@ module _ {S : Type 0} where
         );
       }
 
-  -- ---- blocks one after the other
+  -- ---- blocks, one after the other
 
   pub adds_of_more : (a b c : List (IndexSet ℕ S)) (blocks : List Block) (i : ℕ) (block : Block) → i < length blocks → block ≡ get_or blocks i block → AddsOf a b (take i blocks) → AddsTo b c i (targets_of block.end) → AddsOf a c (take (i + 1) blocks)
   adds_of_more a b c blocks i block within is p q =
@@ -118,7 +118,7 @@ module _ {S : Type 0} where
       long (suc n) [] lt = absurd (omega arith)
       long (suc n) (x ∷ xs) lt = ap suc (long n xs (omega arith))
 
-  -- all blocks, where the sets were empty
+  -- once all blocks are added to empty sets, these have the predecessors
   pub all_predecessors : (f : Function) (a b : List (IndexSet ℕ S)) → length a ≡ length f.blocks → ((c d : ℕ) → ¬ Holds a c d) → AddsOf a b f.blocks → ArePredecessors f b
   all_predecessors f a b count empty adds =
       record {
@@ -129,7 +129,7 @@ module _ {S : Type 0} where
         );
       }
 
-  -- a set without a block more
+  -- one more empty set
   pub empty_more : (sets sets' : List (IndexSet ℕ S)) (s : IndexSet ℕ S) → sets' ≡ sets ++ s ∷ [] → ((b : ℕ) → contains nat_eq s b ≡ false) → ((c b : ℕ) → ¬ Holds sets c b) → (c b : ℕ) → ¬ Holds sets' c b
   empty_more sets sets' s more none empty c b (u, at, has) =
       elim (at_push sets s c u (subst (λ l. slice_get l c ≡ Some u) more at)) [
@@ -137,7 +137,7 @@ module _ {S : Type 0} where
         | inr (e, same) ↦ absurd (false≢true (sym (none b) ∙ subst (λ z. IsTrue (contains nat_eq z b)) (sym same) has))
       ]
 
-  -- what a vector holds after its slice was written
+  -- a vector whose whole slice was overwritten
   pub whole : (n : ℕ) (new old : List (IndexSet ℕ S)) → n ≡ length old → length new ≡ length old → take n (new ++ drop (length new) old) ≡ new
   whole n new old is same = ap (λ m. take m (new ++ drop (length new) old)) (is ∙ sym same) ∙ seam new (drop (length new) old)
     where
@@ -145,7 +145,7 @@ module _ {S : Type 0} where
       seam [] ys = refl
       seam (x ∷ xs) ys = ap (λ l. x ∷ l) (seam xs ys)
 
--- the targets of each block are blocks
+-- the blocks that terminators name are within the function
 pub all_targets : (f : Function) (n : ℕ) → n ≡ length f.blocks → ((b c : ℕ) → Names f b c → c < length f.blocks) → All (λ (block : Block). All (λ c. c < n) (targets_of block.end)) f.blocks
 all_targets f n is within k d lt j e lt' =
     let block = get_or f.blocks k d in
@@ -161,7 +161,7 @@ all_targets f n is within k d lt j e lt' =
     get_any (x ∷ xs) zero d e lt = refl
     get_any (x ∷ xs) (suc k) d e lt = get_any xs k d e (omega arith)
 
--- so are those of the cases of a switch
+-- so are those that the cases of a switch name
 pub cases_within : (other n m : ℕ) (cases : List (Number × ℕ)) → m ≡ n → All (λ c. c < n) (other ∷ map (λ case. case.1) cases) → All (λ case. case.1 < m) cases
 cases_within other n m cases same all k d lt = subst (λ l. (get_or cases k d).1 < l) (sym same) (by cases k d lt (λ j e within. all (suc j) e (omega arith)))
   where
@@ -170,7 +170,7 @@ cases_within other n m cases same all k d lt = subst (λ l. (get_or cases k d).1
     by (x ∷ cs) zero d lt all = all 0 0 (omega arith)
     by (x ∷ cs) (suc k) d lt all = by cs k d (omega arith) (λ j e within. all (suc j) e (omega arith))
 
--- what follows where a call succeeded
+-- what holds where a call succeeds implies what follows from it there
 pub on_ok : {X E : Type 0} (r : Result X E) (P Q : Type 0) → (P → Q) → OnOk r P → OnOk r Q
 on_ok (Ok x) P Q f h = f h
 on_ok (Err e) P Q f h = tt

@@ -1,4 +1,4 @@
--- Every register is assigned wherever it is read, or a first read is of one that isn't.
+-- Every register is assigned wherever it is read, or there is a first read of one that isn't.
 use Rattle.std.proofs.Common.{◌≡◌, ◌⊎◌, inl, inr, ℕ, suc, ◌<◌, ◌≤◌, ◌==◌, Bool, true, false, if◌then◌else◌, List, [], ◌∷◌, length, Option, None, Some, refl, sym, ap, subst, ◌∙◌, arith}
 use Rattle.std.specs.Prelude.{slice_get, option_map, unwrap_or, Contains}
 use Rattle.std.proofs.Math.Decide.{map_dec, dec_lt}
@@ -67,7 +67,7 @@ module _ (f : Function) where
       let end : end_of f b ≡ length block.insts = ap (λ (o : Option Block). unwrap_or (option_map (λ block. length block.insts) o) 0) is in
       (slice_get_within f.blocks b block is, omega arith)
 
-  -- what is read is read in a block, at the place of an instruction or of the terminator
+  -- reads are in a block of the function, at the place of an instruction or of the terminator
   read_within : (b k i : ℕ) (r : Read) → IsRead f b k i r → (b < length f.blocks) × (k < suc (end_of f b))
   read_within b k i r is = in_block b k i r (slice_get f.blocks b) refl is
 
@@ -91,7 +91,7 @@ module _ (f : Function) where
   dec_bad_block : (b : ℕ) → Dec (BadBlock b)
   dec_bad_block b = dec_below (BadIn b) (dec_bad_in b) (suc (end_of f b)) (λ k (i, (r, is, bad)). (read_within b k i r is).1)
 
-  -- a read that isn't bad is assigned
+  -- the register of a read that isn't bad is assigned there
   good : (b k i : ℕ) (r : Read) → IsRead f b k i r → ¬ BadAt b k i → ReadIsAssigned f r
   good b k i r is not_bad register same = stable (dec_assigned register r.block r.place) (λ h. not_bad (r, is, (register, same, h)))
 

@@ -1,4 +1,4 @@
--- What is counted in 32 bits.
+-- Sizes that fit 32 bits.
 use Rattle.std.specs.Prelude.{◌<◌, ◌^◌, length, All}
 use Rattle.ir_core.specs.declared.function.Function.{Function}
 use Rattle.assigned_flow.specs.FewEntries.{HasFewEntries}

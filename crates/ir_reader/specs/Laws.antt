@@ -6,7 +6,7 @@ use Rattle.refusal.specs.declared.fault.Fault.{Fault}
 use Rattle.ir_tokens.specs.declared.fault.IrFaultKind.{IrFaultKind}
 use Rattle.ir_reader.specs.Faults.{IsModuleText, IsFault}
 
--- a text is that of one module or has one fault, and within the limit never both
+-- a text spells one module or has one fault, and within the limit never does both
 pub record TextsHaveOneModuleOrFault : Type 0 where
   pub some : (text : List ℕ) → ((m : Module) × IsModuleText text m) ⊎ ((fault : Fault IrFaultKind) × IsFault text fault)
   pub one_module : (text : List ℕ) (a b : Module) → IsModuleText text a → IsModuleText text b → a ≡ b

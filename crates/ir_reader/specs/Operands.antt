@@ -1,11 +1,11 @@
--- The operands of a function as written, by their places. A terminator's place is the number of instructions before it.
+-- The operands of a function as written, by place. A terminator's place is the number of instructions before it.
 use Rattle.std.specs.Prelude.{ℕ, ◌==◌, if◌then◌else◌, List, [], length, Option, None, Some, slice_get}
 use Rattle.ir_tokens.specs.declared.raw.RawFunction.{RawFunction}
 use Rattle.ir_tokens.specs.declared.raw.RawBlock.{RawBlock}
 use Rattle.ir_tokens.specs.declared.raw.RawInst.{RawInst}
 use Rattle.ir_resolve.specs.TypedReads.{Typed, read_by, read_at_end}
 
--- those at place k of this block
+-- the operands of the instruction or the terminator at place k of this block
 abbrev pub written_by : ℕ → RawBlock → Option RawInst → List Typed
 written_by k block (Some inst) = read_by inst.op
 written_by k block None = if k == length block.insts then read_at_end block.end else []

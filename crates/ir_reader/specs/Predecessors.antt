@@ -1,4 +1,4 @@
--- Sets of blocks, one for each block, and phis whose blocks are those of a set.
+-- Sets of predecessors, one for each block, and phis that fit such a set.
 use Rattle.std.specs.Prelude.{◌≡◌, ◌↔◌, ◌⊎◌, ℕ, ◌<◌, List, length, nat_eq, IsTrue, Some, Contains, slice_get}
 use Rattle.indexmap.specs.IndexSet.{IndexSet, contains}
 use Rattle.ir_core.specs.declared.function.Function.{Function}
@@ -16,27 +16,27 @@ module _ {S : Type 0} where
   abbrev pub Holds : List (IndexSet ℕ S) → ℕ → ℕ → Type 0
   Holds sets c b = (set : IndexSet ℕ S) × (slice_get sets c ≡ Some set) × IsTrue (contains nat_eq set b)
 
-  -- the sets of these blocks have this one more
+  -- this block was added to the sets of the targets
   pub record AddsTo (before after : List (IndexSet ℕ S)) (block : ℕ) (targets : List ℕ) : Type 0 where
     pub count : length after ≡ length before
     pub holds : (c b : ℕ) → Holds after c b ↔ (Holds before c b ⊎ ((b ≡ block) × Contains targets c))
 
-  -- the sets have each of the blocks more that its terminator names
+  -- each of these blocks was added to the sets of those that its terminator names
   pub record AddsOf (before after : List (IndexSet ℕ S)) (blocks : List Block) : Type 0 where
     pub count : length after ≡ length before
     pub holds : (c b : ℕ) → Holds after c b ↔ (Holds before c b ⊎ ((block : Block) × (slice_get blocks b ≡ Some block) × Contains (targets_of block.end) c))
 
-  -- the set of each block has those whose terminators name it
+  -- each block's set has exactly its predecessors
   pub record ArePredecessors (f : Function) (sets : List (IndexSet ℕ S)) : Type 0 where
     pub count : length sets ≡ length f.blocks
     pub holds : (c b : ℕ) → Holds sets c b ↔ Names f b c
 
-  -- an operand for each block of the set and one only, and none for another
+  -- the entries have exactly one operand for each block of the set, and none for another
   pub record EntriesFitIn (set : IndexSet ℕ S) (entries : List (Operand × ℕ)) : Type 0 where
     pub from : (c : ℕ) → ((a : Operand) × Contains entries (a, c)) ↔ IsTrue (contains nat_eq set c)
     pub one : (x y : Operand) (c : ℕ) → Contains entries (x, c) → Contains entries (y, c) → x ≡ y
 
-  -- if the instruction is a phi, it may stand where it does, and its entries fit
+  -- if the instruction is a phi, it may stand there and its entries fit the set
   abbrev pub OpFitsIn : IndexSet ℕ S → Type 0 → Op → Type 0
   OpFitsIn set may_stand (Phi entries) = may_stand × EntriesFitIn set entries
   OpFitsIn set may_stand (Binary op flags x y) = Unit {0}
@@ -46,11 +46,11 @@ module _ {S : Type 0} where
   OpFitsIn set may_stand (Convert cast flags from x) = Unit {0}
   OpFitsIn set may_stand (Freeze x) = Unit {0}
 
--- the first instructions, so many, are phis
+-- the first k instructions are phis
 abbrev pub FirstArePhis : List Inst → ℕ → Type 0
 FirstArePhis insts k = (j : ℕ) (earlier : Inst) → j < k → slice_get insts j ≡ Some earlier → IsPhi earlier.op
 
--- instruction k of a block is a phi that doesn't fit, and its register stands on the line
+-- instruction k of a block is a phi that doesn't fit, and its register is on the line
 abbrev pub BadPhiIn : {S : Type 0} → IndexSet ℕ S → List RawInst → List Inst → ℕ → ℕ → Type 0
 BadPhiIn set written insts k line =
     ((inst : Inst) × (slice_get insts k ≡ Some inst) × ¬ OpFitsIn set (FirstArePhis insts k) inst.op)

@@ -1,4 +1,4 @@
--- Entries as written that are as the grammar asks.
+-- Entries as written in the way that the grammar asks.
 use Rattle.ir_tokens.specs.declared.raw.RawEntry.{RawEntry}
 use Rattle.ir_tokens.specs.declared.raw.RawEntry.TheVariants as raw_entries
 use Rattle.ir_resolve.specs.Formed.{IsWellWritten}

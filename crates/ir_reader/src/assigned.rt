@@ -1,4 +1,4 @@
-//! The check that registers are assigned where they are read.
+//! The check that each register is assigned wherever it is read.
 
 ghost use Rattle.std.specs.Prelude.{◌≡◌, ◌<◌, ℕ, length, OnOk, IfErr};
 ghost use Rattle.ir_tokens.specs.declared.called.Identifier.{Identifier as called};
@@ -19,7 +19,7 @@ use ir_tokens::{IrError, IrFaultKind, RawFunction, RawOperand, RawValue};
 use refusal::refused;
 use std::alloc::Global;
 
-/// The refusal for a register as it is written, in a block.
+/// The refusal for a register that is written as an operand in a block.
 fn unassigned(alloc: Global, written: &RawOperand, block: u32) -> IrError
     requires { (name : called) × (written.now.value ≡ register name) }
     ensures { IfRefused result (λ fault. (name : called) × (written.now.value ≡ register name)

@@ -1,4 +1,4 @@
-//! What is counted in 32 bits.
+//! Whether the sizes of a function fit 32 bits.
 
 ghost use Rattle.std.specs.Prelude.{◌<◌, ◌^◌, length, All, IsTrue};
 ghost use Rattle.assigned_flow.specs.FewEntries.{HasFewEntries};
@@ -6,10 +6,10 @@ ghost use Rattle.ir_reader.specs.Counts.{IsCountable};
 
 use ir_core::{Block, Function, Inst, Op};
 
-/// The most things that are counted.
+/// The greatest size.
 const MOST: usize = 0xffff_ffff;
 
-/// Whether a phi has few entries.
+/// Whether a phi has few enough entries.
 fn has_few_entries(op: &Op) -> bool
     ensures { IsTrue result → HasFewEntries op.now }
 {
@@ -24,21 +24,21 @@ fn has_few_entries(op: &Op) -> bool
     }
 }
 
-/// Whether all phis among instructions have few entries.
+/// Whether all phis among these instructions have few enough entries.
 fn have_few_entries(insts: &[Inst]) -> bool
     ensures { IsTrue result → All (λ i. HasFewEntries i.op) insts.now }
 {
     insts.iter().all(|inst| has_few_entries(&inst.op))
 }
 
-/// Whether each of the blocks has few instructions.
+/// Whether each of these blocks has few enough instructions.
 fn have_few_insts(blocks: &[Block]) -> bool
     ensures { IsTrue result → All (λ b. length b.insts < 2 ^ 32) blocks.now }
 {
     blocks.iter().all(|block| block.insts.len() <= MOST)
 }
 
-/// Whether all phis in the blocks have few entries.
+/// Whether all phis in these blocks have few enough entries.
 fn have_few_entries_in_blocks(blocks: &[Block]) -> bool
     ensures { IsTrue result → All (λ b. All (λ i. HasFewEntries i.op) b.insts) blocks.now }
 {
@@ -47,7 +47,7 @@ fn have_few_entries_in_blocks(blocks: &[Block]) -> bool
         .all(|block| have_few_entries(block.insts.as_slice()))
 }
 
-/// Whether blocks, their instructions and the entries of their phis are counted in 32 bits.
+/// Whether the numbers of blocks, of instructions in each, and of entries of each phi fit 32 bits.
 pub(crate) fn is_countable(f: &Function) -> bool
     ensures { IsTrue result → IsCountable f.now }
 {

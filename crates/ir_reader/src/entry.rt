@@ -1,4 +1,4 @@
-//! The check that no terminator names the first block.
+//! The check that no terminator names the entry block.
 
 ghost use Rattle.std.specs.Prelude.{◌≡◌, ◌<◌, ◌^◌, length};
 ghost use Rattle.ir_resolve.specs.FirstLines.{IsFirst};
@@ -10,8 +10,8 @@ use indexmap::IndexSet;
 use ir_resolve::lesser;
 use ir_tokens::RawFunction;
 
-/// The first line of a terminator, that of its first word, that names the first block. What is told of predecessors is
-/// that of the function that is meant.
+/// The first line of a terminator (that of its first word) that names the entry block. `predecessors` has those of each
+/// block of the function that is meant.
 pub(crate) fn named_entry(predecessors: &[IndexSet<u32>], raw: &RawFunction) -> Option<usize>
     requires some_block { 0 < length raw.now.blocks }
     requires blocks { length raw.now.blocks < 2 ^ 32 }

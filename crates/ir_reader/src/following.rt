@@ -1,4 +1,4 @@
-//! The tokens of a text, entry by entry, and those that are left.
+//! The tokens of a text, taken entry by entry.
 
 ghost use Rattle.std.specs.Prelude.{◌≡◌, ◌++◌, ℕ, [], List as Seq, IfOk, OnOk, IfSome};
 ghost use Rattle.ir_tokens.specs.Order.{AreTokens};
@@ -22,7 +22,7 @@ pub(crate) fn ends(tokens: &[Placed<'_>]) -> bool
     }
 }
 
-/// The entry that these tokens are, all of them, if they are one.
+/// Parses these tokens as one entry; `None` where they are not exactly one.
 pub(crate) fn whole_entry(
     alloc: Global,
     tokens: &[Placed<'_>],
@@ -37,7 +37,7 @@ pub(crate) fn whole_entry(
     }
 }
 
-/// Takes the tokens up to the last of the text behind those that are there.
+/// Reads the tokens up to the last of the text, and appends them.
 pub(crate) fn take_rest<'a>(
     reader: TokenReader<'a>,
     tokens: &mut Vec<Placed<'a>>,

@@ -1,4 +1,4 @@
-//! A function of a module, check by check.
+//! Resolving and checking a function of a module.
 
 ghost use Rattle.std.specs.Prelude.{List as Seq, IfOk, OnOk, IfErr};
 ghost use Rattle.ir_tokens.specs.declared.raw.RawFunction.{RawFunction as written_function};
@@ -19,7 +19,7 @@ use ir_tokens::{IrError, IrFaultKind, RawFunction};
 use refusal::refused;
 use std::alloc::Global;
 
-/// The function that is meant, or the first fault.
+/// The function that the syntax tree means, or its first fault.
 pub(crate) fn function(
     alloc: Global,
     raw: &RawFunction,
@@ -34,7 +34,7 @@ pub(crate) fn function(
     Ok(f)
 }
 
-/// Checks the function that is meant, where what is written has no fault of names or types.
+/// Checks a function that is resolved: its phis, its entry block, and that registers are assigned where they are read.
 fn check(alloc: Global, raw: &RawFunction, f: &Function) -> Result<(), IrError>
     requires written { IsWellWritten raw.now }
     requires means { Means raw.now f.now }

@@ -1,7 +1,7 @@
-//! The law of texts of modules, as the contract of a function that does nothing.
+//! The law of texts of modules, as the contract of a function with an empty body.
 ghost use Rattle.ir_reader.specs.Laws.{TextsHaveOneModuleOrFault};
 
-/// A text is that of one module or has one fault, and one within the limit never has both.
+/// A text spells one module or has one fault; a text within the limit never does both.
 pub fn every_text_has_one_module_or_one_fault()
     ensures { TextsHaveOneModuleOrFault }
 {

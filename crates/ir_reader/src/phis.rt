@@ -39,7 +39,7 @@ fn is_same(one: &Operand, other: &Operand) -> bool
     }
 }
 
-/// Whether the block has no other operand than this one, which it has from now on.
+/// Whether the block has no operand yet or this one; the operand is entered for it.
 fn keeps(
     operands: &mut IndexMap<u32, Operand>,
     block: u32,
@@ -55,16 +55,16 @@ fn keeps(
     }
 }
 
-/// Whether each block has an operand. It looks up to the first that has none, which is at most as often as there are
-/// operands, and once more.
+/// Whether each block has an operand. It stops at the first block without one, so that it makes at most one look-up
+/// more than there are operands.
 fn have_all(operands: &IndexMap<u32, Operand>, blocks: &[u32]) -> bool
     ensures { IsTrue result ↔ All (λ c. IsSome (get nat_eq operands.now c)) blocks.now }
 {
     blocks.iter().all(|block| operands.contains_key(block))
 }
 
-/// Whether entries have one operand for each of these blocks and none for another. The operands are added for their
-/// blocks to none.
+/// Whether entries have one operand for each of these predecessors and none for another block. `operands`, which is
+/// empty, is filled with the operands by block.
 fn fit_with(
     operands: &mut IndexMap<u32, Operand>,
     predecessors: &IndexSet<u32>,
@@ -84,7 +84,7 @@ fn fit_with(
     Ok(have_all(operands, predecessors.as_slice()))
 }
 
-/// Whether a phi has one operand for each of these blocks and none for another.
+/// Whether a phi has one operand for each of these predecessors and none for another block.
 fn entries_fit(
     alloc: Global,
     predecessors: &IndexSet<u32>,
@@ -96,8 +96,8 @@ fn entries_fit(
     fit_with(&mut operands, predecessors, entries)
 }
 
-/// Whether an instruction is no phi, or fits where these are the predecessors and it is told whether only phis stand
-/// before it.
+/// Whether an instruction is no phi, or one that fits these predecessors and has only phis before it, as `only_phis`
+/// says.
 fn op_fits(
     alloc: Global,
     predecessors: &IndexSet<u32>,
@@ -131,7 +131,7 @@ fn is_phi(op: &Op) -> bool
     }
 }
 
-/// The first line of a phi among a block's instructions that does not fit.
+/// The line of the first phi among a block's instructions that does not fit.
 fn bad_phi_in(
     alloc: Global,
     predecessors: &IndexSet<u32>,
@@ -152,7 +152,7 @@ fn bad_phi_in(
     Ok(found)
 }
 
-/// The first line of a phi that does not fit.
+/// The line of the first phi that does not fit.
 pub(crate) fn bad_phi(
     alloc: Global,
     predecessors: &[IndexSet<u32>],

@@ -1,4 +1,4 @@
-//! The blocks whose terminators name a block, whether a run comes to them or not.
+//! The predecessors of each block, whether a run comes to them or not.
 
 ghost use Rattle.std.specs.Prelude.{◌≡◌, ◌<◌, ◌^◌, ℕ, [], ◌∷◌, All, length, map, IfOk, OnOk};
 ghost use Rattle.ir_core.specs.Blocks.{targets_of, Names};
@@ -9,7 +9,7 @@ use ir_core::{Block, Function, Terminator};
 use ops::Word;
 use std::alloc::{AllocError, Global};
 
-/// So many sets without a block.
+/// So many empty sets.
 fn empty_sets(alloc: Global, count: usize) -> Result<Vec<IndexSet<u32>>, AllocError>
     ensures count { IfOk result (λ sets. length sets.items ≡ count) }
     ensures empty { IfOk result (λ sets. (c b : ℕ) → ¬ Holds sets.items c b) }
@@ -21,7 +21,7 @@ fn empty_sets(alloc: Global, count: usize) -> Result<Vec<IndexSet<u32>>, AllocEr
     Ok(sets)
 }
 
-/// Adds a block to the set of another.
+/// Adds a block to the predecessors of another.
 fn add(sets: &mut [IndexSet<u32>], block: u32, target: u32) -> Result<(), AllocError>
     requires { target < length sets.old }
     ensures { OnOk result (AddsTo sets.old sets.new block (target ∷ [])) }
@@ -31,7 +31,7 @@ fn add(sets: &mut [IndexSet<u32>], block: u32, target: u32) -> Result<(), AllocE
     Ok(())
 }
 
-/// Adds a block to the sets of those that the cases of its switch name.
+/// Adds a block to the predecessors of those that the cases of its switch name.
 fn add_cases(
     sets: &mut [IndexSet<u32>],
     block: u32,
@@ -46,7 +46,7 @@ fn add_cases(
     Ok(())
 }
 
-/// Adds a block to the sets of those that its terminator names.
+/// Adds a block to the predecessors of those that its terminator names.
 fn add_end(sets: &mut [IndexSet<u32>], block: u32, end: &Terminator) -> Result<(), AllocError>
     requires { All (λ c. c < length sets.old) (targets_of end.now) }
     ensures { OnOk result (AddsTo sets.old sets.new block (targets_of end.now)) }
@@ -65,7 +65,7 @@ fn add_end(sets: &mut [IndexSet<u32>], block: u32, end: &Terminator) -> Result<(
     }
 }
 
-/// Adds each block to the sets of those that its terminator names.
+/// Adds each block to the predecessors of those that its terminator names.
 fn add_blocks(sets: &mut [IndexSet<u32>], blocks: &[Block]) -> Result<(), AllocError>
     requires blocks { length blocks.now < 2 ^ 32 }
     requires targets { All (λ block. All (λ c. c < length sets.old) (targets_of block.end)) blocks.now }
@@ -77,7 +77,7 @@ fn add_blocks(sets: &mut [IndexSet<u32>], blocks: &[Block]) -> Result<(), AllocE
     Ok(())
 }
 
-/// For each block, those whose terminators name it.
+/// The predecessors of each block: the blocks whose terminators name it.
 pub(crate) fn predecessors(alloc: Global, f: &Function) -> Result<Vec<IndexSet<u32>>, AllocError>
     requires blocks { length f.now.blocks < 2 ^ 32 }
     requires targets { (b c : ℕ) → Names f.now b c → c < length f.now.blocks }

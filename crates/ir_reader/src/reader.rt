@@ -1,4 +1,4 @@
-//! The module of a text.
+//! Reading the text of a module.
 
 ghost use Rattle.std.specs.Prelude.{◌≡◌, ◌≤◌, ℕ, [], ◌∷◌, ◌++◌, List as Seq, length, Ok, IfOk, OnOk, IfErr};
 ghost use Rattle.ir_core.specs.Checks.{ModuleMeetsChecks};
@@ -27,8 +27,8 @@ use std::alloc::{AllocError, Global};
 /// function by function the first kind of [`IrFaultKind`](crate::IrFaultKind) in their order that the function has, at
 /// its first line.
 ///
-/// It takes as many steps as the text has bytes, but for the search in tables of names, numbers and blocks, and but for
-/// [`check_assigned`](assigned_flow::check_assigned), whose worst case is told there. A function of 2^32 blocks,
+/// The time is linear in the text's length, but for look-ups in tables of names, numbers and blocks, and but for
+/// [`check_assigned`](assigned_flow::check_assigned), which states its worst case. A function of 2^32 blocks,
 /// instructions of a block or entries of a `phi` is refused as for want of memory, and no text within the limit has
 /// one.
 pub fn read_module(alloc: Global, bytes: &[u8]) -> Result<Module, IrError>
@@ -40,8 +40,8 @@ pub fn read_module(alloc: Global, bytes: &[u8]) -> Result<Module, IrError>
     module_of(alloc, bytes)
 }
 
-/// The module of a text, or the text's first fault. A fault of an entry is kept while the rest of the text is read,
-/// since one of the text comes before it.
+/// The module of a text, or the text's first fault. A fault of an entry is kept while the rest of the text is parsed,
+/// since a fault of the text as written comes before it.
 fn module_of(alloc: Global, bytes: &[u8]) -> Result<Module, IrError>
     ensures ok { IfOk result (IsModuleText bytes.now) }
     ensures limit { OnOk result (length bytes.now ≤ most_bytes) }
@@ -55,7 +55,7 @@ fn module_of(alloc: Global, bytes: &[u8]) -> Result<Module, IrError>
     Ok(reading.module()?)
 }
 
-/// Reads the entries of a text, or answers the first fault of the text.
+/// Parses and checks the entries of a text. The error is the first fault of the text as written.
 fn push_entries(alloc: Global, bytes: &[u8], reading: &mut Reading) -> Result<(), IrError>
     requires limit { length bytes.now ≤ most_bytes }
     requires none { IsReadingOf [] reading.old }
@@ -67,9 +67,9 @@ fn push_entries(alloc: Global, bytes: &[u8], reading: &mut Reading) -> Result<()
     last_entries(alloc, tokens.as_slice(), reading)
 }
 
-/// Reads the entries in front of a text one by one, each from its own tokens, so that the memory of these serves the
-/// next one: up to the last tokens of the text, or to tokens that are no entry by themselves. It leaves all tokens from
-/// there on.
+/// Parses and checks entries from the start of a text one by one. Each is parsed from its own tokens, so that their
+/// memory is used again for the next one. It stops at the last tokens of the text, or at tokens that are not exactly
+/// one entry, and leaves all tokens from there on in `tokens`.
 fn first_entries<'a>(
     alloc: Global,
     bytes: &'a [u8],
@@ -94,7 +94,7 @@ fn first_entries<'a>(
     }
 }
 
-/// Reads the entry that these tokens are, all of them, if they are one, and answers whether they are.
+/// Parses and checks these tokens as one entry, and says whether they are exactly one.
 fn push_whole(
     alloc: Global,
     tokens: &[Placed<'_>],
@@ -110,7 +110,8 @@ fn push_whole(
     Ok(true)
 }
 
-/// Reads the entries that these tokens are, which are the last of a text, or answers the first fault of the text.
+/// Parses and checks the entries that these last tokens of a text are. The error is the first fault of the text as
+/// written.
 fn last_entries(alloc: Global, tokens: &[Placed<'_>], reading: &mut Reading) -> Result<(), IrError>
     ensures ok { OnOk result ((text : Seq ℕ) (front : Seq entry_written) →
         HasLeft text front (seen tokens.now) → IsReadingOf front reading.old → IsReadingOfText text reading.new) }
@@ -124,7 +125,8 @@ fn last_entries(alloc: Global, tokens: &[Placed<'_>], reading: &mut Reading) -> 
     Ok(())
 }
 
-/// Reads the entry in front of the tokens, which go behind it, or answers the fault of the first that does not fit.
+/// Parses and checks the entry at the front of the tokens, which are then those behind it. The error is the fault of
+/// the first token that does not fit.
 fn push_next(
     alloc: Global,
     tokens: &mut &[Placed<'_>],
@@ -141,7 +143,7 @@ fn push_next(
     Ok(())
 }
 
-/// An entry, or its first fault.
+/// Resolves and checks an entry. The error is its first fault.
 pub(crate) fn entry(alloc: Global, written: &RawEntry, is_repeated: bool) -> Result<Entry, IrError>
     requires { IsWellWrittenEntry written.now }
     ensures ok { IfOk result (λ entry. (earlier : Seq written_function) → MarksEntry is_repeated earlier written.now → IsEntryOf earlier written.now entry) }

@@ -1,4 +1,4 @@
-//! What is read of a text, entry by entry.
+//! The result of reading a text so far, entry by entry.
 
 ghost use Rattle.std.specs.Prelude.{[], ◌∷◌, ◌++◌, List as Seq, IfOk, OnOk, IfErr, IfSome, IfNone};
 ghost use Rattle.ir_tokens.specs.declared.raw.RawEntry.{RawEntry as written_entry};
@@ -15,7 +15,7 @@ use ir_tokens::{IrError, IrFault, RawEntry};
 use lists::List;
 use std::alloc::{AllocError, Global};
 
-/// What is read of the entries of a text so far.
+/// What the entries of a text so far mean, or their first fault.
 #[derive(Drop)]
 pub(crate) enum Reading {
     /// The entries, and the names of the functions among them.
@@ -25,14 +25,14 @@ pub(crate) enum Reading {
 }
 
 impl Reading {
-    /// That of no entry.
+    /// The result before the first entry.
     pub(crate) fn new(alloc: Global) -> Reading
         ensures { IsReadingOf [] result }
     {
         Reading::Faultless(List::new(alloc), IndexSet::new(alloc))
     }
 
-    /// Reads one entry more. Behind a fault none is looked at.
+    /// Resolves and checks one more entry. After a fault entries are not looked at.
     pub(crate) fn push(&mut self, alloc: Global, written: RawEntry) -> Result<(), AllocError>
         requires { IsWellWrittenEntry written }
         ensures { OnOk result ((front : Seq written_entry) →
@@ -69,7 +69,7 @@ impl Reading {
     }
 }
 
-/// Reads one entry behind those without a fault, or answers its first fault.
+/// Resolves and checks one more entry, where none before has a fault, and adds it; or gives its first fault.
 fn push_entry(
     alloc: Global,
     entries: &mut List<Entry>,

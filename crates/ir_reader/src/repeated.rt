@@ -1,4 +1,4 @@
-//! Names of functions that an earlier one has.
+//! Functions with the name of an earlier one.
 
 ghost use Rattle.std.specs.Prelude.{◌↔◌, ◌⊎◌, ℕ, List as Seq, IfOk, OnOk, IsTrue};
 ghost use Rattle.ir_reader.specs.RepeatedNames.{IsNameOf, HasText};
@@ -7,7 +7,7 @@ use indexmap::IndexSet;
 use ir_tokens::RawEntry;
 use std::alloc::{AllocError, Global};
 
-/// Whether the entry is a function whose name is among these; from now on it is.
+/// Whether the entry is a function whose name is among these; its name is added to them.
 pub(crate) fn is_repeated(
     alloc: Global,
     names: &mut IndexSet<Vec<u8>>,

@@ -1,4 +1,4 @@
-//! Copies of texts and of what is written for registers.
+//! Copies of texts and of identifiers.
 
 ghost use Rattle.std.specs.Prelude.{◌≡◌, IfOk};
 
@@ -13,7 +13,7 @@ pub(crate) fn text(alloc: Global, text: &Text) -> Result<Text, AllocError>
     Ok(Text::from_vec(Vec::from_slice(alloc, text.as_slice())?))
 }
 
-/// A copy of a name or a number.
+/// A copy of an identifier.
 pub(crate) fn identifier(alloc: Global, written: &Identifier) -> Result<Identifier, AllocError>
     ensures { IfOk result (λ copy. copy ≡ written.now) }
 {

@@ -1,4 +1,4 @@
-//! What is written at a place of a function.
+//! The operands of a function as written, by place.
 
 ghost use Rattle.std.specs.Prelude.{◌≡◌, ℕ, [], ◌∷◌, option_map, slice_get};
 ghost use Rattle.std.specs.Option.{option_copied};
@@ -7,14 +7,15 @@ ghost use Rattle.ir_reader.specs.Operands.{written_by, written_at};
 
 use ir_tokens::{RawArguments, RawBlock, RawFunction, RawOp, RawOperand, RawTerminator};
 
-/// One of the operands that are written at a place of a block; the terminator's place is the number of instructions.
+/// The operand at this index of the instruction or the terminator at a place of a block; the terminator's place is the
+/// number of instructions.
 pub(crate) fn operand(raw: &RawFunction, block: u32, place: u32, index: u32) -> Option<&RawOperand>
     ensures { option_copied result ≡ option_map (λ t. t.operand) (slice_get (written_at raw.now block place) index) }
 {
     operand_in(raw.blocks.as_slice().get(block as usize)?, place, index)
 }
 
-/// One of the operands that are written at a place of the block.
+/// The same for a place of this block.
 fn operand_in(block: &RawBlock, place: u32, index: u32) -> Option<&RawOperand>
     ensures { option_copied result ≡ option_map (λ t. t.operand)
         (slice_get (written_by place block.now (slice_get block.now.insts place)) index) }
@@ -26,7 +27,7 @@ fn operand_in(block: &RawBlock, place: u32, index: u32) -> Option<&RawOperand>
     }
 }
 
-/// One of the operands of an instruction.
+/// The operand of an instruction at this index.
 fn operand_of(op: &RawOp, index: u32) -> Option<&RawOperand>
     ensures { option_copied result ≡ option_map (λ t. t.operand) (slice_get (read_by op.now) index) }
 {
@@ -46,7 +47,7 @@ fn operand_of(op: &RawOp, index: u32) -> Option<&RawOperand>
     }
 }
 
-/// One of the operands of a call.
+/// The operand of a call at this index.
 fn operand_of_call(arguments: &RawArguments, index: u32) -> Option<&RawOperand>
     ensures { option_copied result ≡ option_map (λ t. t.operand) (slice_get (read_by_call arguments.now) index) }
 {
@@ -56,7 +57,7 @@ fn operand_of_call(arguments: &RawArguments, index: u32) -> Option<&RawOperand>
     }
 }
 
-/// One of the operands of a terminator.
+/// The operand of a terminator at this index.
 fn operand_of_end(end: &RawTerminator, index: u32) -> Option<&RawOperand>
     ensures { option_copied result ≡ option_map (λ t. t.operand) (slice_get (read_at_end end.now) index) }
 {
@@ -68,7 +69,7 @@ fn operand_of_end(end: &RawTerminator, index: u32) -> Option<&RawOperand>
     }
 }
 
-/// One of two operands.
+/// The one of two operands at this index.
 fn either<'a>(left: &'a RawOperand, right: &'a RawOperand, index: u32) -> Option<&'a RawOperand>
     ensures { (width other : ℕ) → option_copied result ≡ option_map (λ t. t.operand)
         (slice_get (typed width left.now ∷ typed other right.now ∷ []) index) }
@@ -80,7 +81,7 @@ fn either<'a>(left: &'a RawOperand, right: &'a RawOperand, index: u32) -> Option
     }
 }
 
-/// The only operand.
+/// The single operand, if the index is 0.
 fn only(operand: &RawOperand, index: u32) -> Option<&RawOperand>
     ensures { (width : ℕ) → option_copied result ≡ option_map (λ t. t.operand) (slice_get (typed width operand.now ∷ []) index) }
 {

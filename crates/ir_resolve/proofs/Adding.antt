@@ -1,4 +1,4 @@
--- What is read and named is added piece by piece.
+-- Uses are added piece by piece.
 use Rattle.std.proofs.Common.{◌≡◌, ℕ, ◌+◌, ◌<◌, ◌≤◌, List, [], ◌∷◌, ◌++◌, take, length, get_or, sym, ap, ◌∙◌, append_assoc, append-nil}
 use Rattle.std.specs.List.{flat_map}
 use Rattle.std.proofs.lemmas.List.{take_more, take_all}
@@ -17,7 +17,7 @@ adds_then a b c r r' t t' first second = record {
   targets_added = second.targets_added ∙ ap (λ xs. xs ++ t') first.targets_added ∙ append_assoc (seen_targets a) t t';
 }
 
--- what an instruction reads and names
+-- the operands of an instruction
 abbrev pub read_by_inst : RawInst → List Typed
 read_by_inst i = read_by i.op
 
@@ -28,7 +28,7 @@ pub flat_map_push : {X Y : Type 0} (f : X → List Y) (xs : List X) (x : X) → 
 flat_map_push f [] x = append-nil (f x)
 flat_map_push f (y ∷ xs) x = ap (λ ys. f y ++ ys) (flat_map_push f xs x) ∙ sym (append_assoc (f y) (flat_map f xs) (f x))
 
--- what is read and named in a list, and in one thing more
+-- the uses of a list, and of one item more
 module _ {X : Type 0} (R : List X → List Typed) (r : X → List Typed) (T : List X → List RawIdentifier) (t : X → List RawIdentifier)
     (R-push : (xs : List X) (x : X) → R (xs ++ x ∷ []) ≡ R xs ++ r x) (T-push : (xs : List X) (x : X) → T (xs ++ x ∷ []) ≡ T xs ++ t x) where
   pub adds_more : (xs : List X) (i : ℕ) (x : X) (a b c : Uses) → i < length xs → x ≡ get_or xs i x → Adds a b (R (take i xs)) (T (take i xs)) → Adds b c (r x) (t x) → Adds a c (R (take (i + 1) xs)) (T (take (i + 1) xs))

@@ -1,4 +1,4 @@
--- What is unknown or clashes for the table is so for the function, and what the function is built of is there.
+-- What is not defined or clashes by the table does so in the function, and what the function is built of is defined.
 use Rattle.std.proofs.Common.{◌≡◌, ◌⊎◌, inl, inr, ℕ, zero, suc, List, [], ◌∷◌, get_or, Option, None, refl, sym, subst, arith}
 use Rattle.std.specs.Prelude.{Contains}
 use Rattle.std.specs.List.{flat_map, AllByRecursion}
@@ -25,7 +25,7 @@ use Rattle.ir_resolve.proofs.Firsts.{first_either, first_same}
 some_weaker : {X : Type 0} (P Q : X → ℕ → Type 0) (xs : List X) → ((x : X) (line : ℕ) → P x line → Q x line) → (line : ℕ) → SomeAt xs P line → SomeAt xs Q line
 some_weaker P Q xs f line (x, there, p) = (x, there, f x line p)
 
--- ---- fewer names known, more unknown
+-- ---- with fewer names in the table more are unknown
 
 module _ (F G : Identifier → Thing → Type 0) (to : (x : Identifier) (thing : Thing) → G x thing → F x thing) where
   unknown_value : (v : RawValue) → IsUnknownValue F v → IsUnknownValue G v
@@ -73,7 +73,7 @@ module _ (raw : RawFunction) (known : List Known) (table : Tabulates raw known) 
       let of_blocks = subst (λ bs. IsFirst (SomeAt bs (BlockClashesAt raw.width)) block) all_blocks first_block in
       rw is (first_either (ReadClashesIn (CallsRegister raw) (reads_of raw)) (SomeAt raw.blocks (BlockClashesAt raw.width)) read block of_reads of_blocks)
 
--- ---- what is built is there
+-- ---- what the function is built of is defined
 
 each_contained : {X : Type 0} (P : X → Type 0) (xs : List X) → ((x : X) → Contains xs x → P x) → AllByRecursion P xs
 each_contained P xs f = recursion_from_All P xs (λ k d lt. f (get_or xs k d) (Contains-get_or xs k d lt))
@@ -90,7 +90,7 @@ contained_in_some f (z ∷ xs) x y in_xs there =
       | inr behind ↦ Contains-append_right (f z) (flat_map f xs) y (contained_in_some f xs x y behind there)
     ]
 
--- a case of no number clashes
+-- a case whose value is no number clashes
 case_clash : (returned : ℕ) (end : RawTerminator) (c : RawCase) → Contains (cases_of end) c → literal_of c.value.value ≡ None → EndClashesAt returned end c.value.line
 case_clash returned (terminators.Return width a) c (k, lt, is) none = absurd (omega arith)
 case_clash returned terminators.Unreachable c (k, lt, is) none = absurd (omega arith)

@@ -1,4 +1,4 @@
--- What can be decided, and what has a first line or none.
+-- Decidable statements, and statements of lines that have a first line or none.
 use Rattle.std.proofs.Common.{◌≡◌, ◌⊎◌, inl, inr, ℕ, zero, suc, ◌+◌, ◌<◌, ◌==◌, Bool, true, false, List, [], ◌∷◌, length, take, Option, None, Some, refl, sym, subst, ◌∙◌, arith}
 use Rattle.std.specs.Prelude.{slice_get, Contains}
 use Rattle.std.specs.Cmp.Lexicographic.{pointwise, bytes_decides}
@@ -26,7 +26,7 @@ pub dec_not : {P : Type 0} → Dec P → Dec (¬ P)
 dec_not (yes p) = no (λ h. h p)
 dec_not (no h) = yes h
 
--- what is decided and cannot fail holds
+-- a decidable statement holds if it cannot fail
 pub stable : {P : Type 0} → Dec P → ¬ (¬ P) → P
 stable (yes p) h = p
 stable (no k) h = absurd (h k)
@@ -41,7 +41,7 @@ dec_name a b = by (pointwise ◌==◌ a b) refl
     by true is = yes ((bytes_decides a b).0 is)
     by false is = no (λ same. false≢true (sym is ∙ (bytes_decides a b).1 same))
 
--- one of the elements has it
+-- whether P holds of an item is decidable
 pub dec_one : {X : Type 0} (P : X → Type 0) (xs : List X) → ((x : X) → Dec (P x)) → Dec ((x : X) × Contains xs x × P x)
 dec_one P [] each = no (λ (x, (k, lt, is), p). omega arith)
 dec_one P (a ∷ xs) each = elim (each a) [
@@ -52,7 +52,7 @@ dec_one P (a ∷ xs) each = elim (each a) [
   ]
 ]
 
--- it holds of what stands at the place
+-- whether P holds of the item at an index is decidable
 pub dec_at : {X : Type 0} (P : X → Type 0) (xs : List X) (k : ℕ) → ((x : X) → Dec (P x)) → Dec ((x : X) × (slice_get xs k ≡ Some x) × P x)
 dec_at {X} P xs k each = by (slice_get xs k) refl
   where
@@ -62,7 +62,7 @@ dec_at {X} P xs k each = by (slice_get xs k) refl
 
 -- ---- first lines
 
--- the first line at which something holds, or none
+-- the first line of which something holds, or that there is none
 abbrev pub FirstOf : (ℕ → Type 0) → Type 0
 FirstOf Holds = (found : Option ℕ) × IsFirst Holds found
 
@@ -72,7 +72,7 @@ first_moved P Q there back (found, first) = (found, first_same P Q there back fo
 pub none_first : (P : ℕ → Type 0) → ((line : ℕ) → ¬ P line) → FirstOf P
 none_first P none = (None, none)
 
--- what is decided, and stands on one line
+-- a decidable statement that is about one line
 pub first_on : {P : Type 0} (line : ℕ) → Dec P → FirstOf (λ at. P × (line ≡ at))
 first_on line (yes p) = (Some line, ((p, refl), λ other (q, is). omega arith))
 first_on line (no h) = (None, λ other (p, is). h p)
@@ -96,11 +96,11 @@ first_before At (suc n) each =
     let next : n + 1 ≡ suc n = omega arith in
     (lesser found here, subst (λ m. IsFirst (Before At m) (lesser found here)) next (first_more_place At n found here (lesser found here) before now refl))
 
--- the first line of all places
+-- the first line over all indices
 pub first_by_place : (At : ℕ → ℕ → Type 0) (n : ℕ) → ((j : ℕ) → FirstOf (At j)) → ((j line : ℕ) → At j line → j < n) → FirstOf (λ line. (j : ℕ) × At j line)
 first_by_place At n each within = let (found, first) = first_before At n each in (found, first_all_places At n found within first)
 
--- the first line of what stands at a place
+-- the first line for the item at an index
 pub first_at : {X : Type 0} (P : X → ℕ → Type 0) (xs : List X) (k : ℕ) → ((x : X) → FirstOf (P x)) → FirstOf (λ line. (x : X) × (slice_get xs k ≡ Some x) × P x line)
 first_at {X} P xs k each = by (slice_get xs k) refl
   where
@@ -109,9 +109,9 @@ first_at {X} P xs k each = by (slice_get xs k) refl
     by (Some x) is =
         first_moved (P x) (λ line. (x : X) × (slice_get xs k ≡ Some x) × P x line) (λ line p. (x, is, p)) (λ line (y, at, p). subst (λ z. P z line) (same_Some y x (sym at ∙ is)) p) (each x)
 
--- ---- what is there again
+-- ---- repetitions
 
--- what a thing has, if it has something, and on which line it then stands
+-- the item has exactly one k, and is on exactly one line
 abbrev pub HasOne : {X K : Type 0} → (X → K → Type 0) → (X → ℕ → Type 0) → X → Type 0
 HasOne {X} {K} Has StandsOn x = (k : K) × (line : ℕ) × Has x k × ((j : K) → Has x j → j ≡ k) × StandsOn x line × ((at : ℕ) → StandsOn x at → line ≡ at)
 

@@ -1,4 +1,4 @@
--- Parameters, blocks and results are defined one after the other.
+-- The definitions of parameters, blocks and results, one after the other.
 use Rattle.std.proofs.Common.{◌≡◌, ℕ, suc, ◌+◌, ◌<◌, List, [], ◌∷◌, ◌++◌, map, take, length, get_or, sym, ap, ◌∙◌, append_assoc, arith}
 use Rattle.std.specs.List.{enumerate_from}
 use Rattle.std.proofs.lemmas.List.{take_more, map_push, length-take-le}
@@ -12,14 +12,14 @@ enumerate_from-push n (y ∷ xs) x =
     let count : (n + 1) + length xs ≡ n + suc (length xs) = omega arith in
     ap (λ ps. (n, y) ∷ ps) (enumerate_from-push (n + 1) xs x ∙ ap (λ m. enumerate_from (n + 1) xs ++ (m, x) ∷ []) count)
 
--- one more thing is numbered
+-- one more item is numbered
 enumerate_more : {X : Type 0} (xs : List X) (i : ℕ) (x : X) → i < length xs → x ≡ get_or xs i x → enumerate_from 0 (take (i + 1) xs) ≡ enumerate_from 0 (take i xs) ++ (i, x) ∷ []
 enumerate_more xs i x lt at =
     let more : take (i + 1) xs ≡ take i xs ++ x ∷ [] = take_more xs i x lt ∙ ap (λ y. take i xs ++ y ∷ []) (sym at) in
     let count : 0 + length (take i xs) ≡ i = omega (arith, length-take-le i xs (omega arith)) in
     ap (enumerate_from 0) more ∙ enumerate_from-push 0 (take i xs) x ∙ ap (λ n. enumerate_from 0 (take i xs) ++ (n, x) ∷ []) count
 
--- what one more thing defines
+-- the definitions of one more item
 module _ {X : Type 0} (D : List (ℕ × X) → List Defined) (d : ℕ × X → List Defined) (D-push : (ps : List (ℕ × X)) (p : ℕ × X) → D (ps ++ p ∷ []) ≡ D ps ++ d p) where
   pub defined_more : (xs : List X) (i : ℕ) (x : X) (before now new : List Defined) → i < length xs → x ≡ get_or xs i x
       → now ≡ before ++ D (enumerate_from 0 (take i xs)) → new ≡ now ++ d (i, x) → new ≡ before ++ D (enumerate_from 0 (take (i + 1) xs))

@@ -23,8 +23,8 @@ module _ (earlier : List RawFunction) (raw : RawFunction) where
   abbrev HasMeaningOrFault : Type 0
   HasMeaningOrFault = (HasNoFault earlier raw × ((f : Function) × Means raw f)) ⊎ ((fault : Fault IrFaultKind) × IsFirstNameFault earlier raw fault)
 
-  -- a kind of faults, where those before it are none: its first line is that of the first fault, or what follows where
-  -- it is none
+  -- if there is no fault of the kinds before this one: the first line of this kind is that of the first fault, or, if
+  -- there is none, one goes on with the next kind
   checked : (kind : IrFaultKind) → FirstOf (HasFaultAt earlier raw kind) → ((other : IrFaultKind) (line : ℕ) → rank other < rank kind → ¬ HasFaultAt earlier raw other line)
       → (((line : ℕ) → ¬ HasFaultAt earlier raw kind line) → HasMeaningOrFault) → HasMeaningOrFault
   checked kind (Some line, first) clear next = inr (record { line = line; kind = kind }, record { line = first; first = clear })

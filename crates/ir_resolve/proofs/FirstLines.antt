@@ -1,4 +1,4 @@
--- The first line at which a function as written has a fault of a kind, or none.
+-- Each kind of fault of a function as written has a first line, or there is no fault of the kind.
 use Rattle.std.proofs.Common.{◌≡◌, ◌≢◌, ◌⊎◌, inl, inr, ℕ, Bool, true, false, List, length, is_some, Option, None, Some, refl, sym, ap, subst, ◌∙◌}
 use Rattle.std.specs.Prelude.{slice_get}
 use Rattle.std.proofs.Math.Decide.{map_dec, dec_lt}
@@ -73,7 +73,7 @@ first_numbering raw =
     (λ w. first_at (λ i line. IsMisnumbered w i line) (called_in written) p (λ i. first_misnumbered i w))))
     (λ p line (w, i, w_at, i_at, is). slice_get_within written p w w_at)
 
--- ---- what is given twice
+-- ---- names that are given twice
 
 one_name : (written : Option RawIdentifier) → HasOne HasName IsWrittenOn written ⊎ ((name : List ℕ) → ¬ HasName written name)
 one_name None = inr (λ name (w, is, named). cc)
@@ -127,7 +127,7 @@ dec_literal_clash width v = by (literal_of v) refl
     by None is = no (λ (n, literal, apart). let none : None ≡ Some n = sym is ∙ literal in cc)
     by (Some m) is = map_dec (λ apart. (m, is, apart)) (λ (n, literal, apart). subst (λ (x : Number). x.width ≢ width) (same_Some n m (sym literal ∙ is)) apart) (dec_not (dec_number m.width width))
 
--- ---- what is unknown, where a table has what the function has
+-- ---- what is not defined, by a table of what the function defines
 
 module _ (known : List Known) where
   dec_unknown_value : (v : RawValue) → Dec (IsUnknownValue (CallsIn known) v)
@@ -235,7 +235,7 @@ first_block_clash returned block =
     first_of_two (SomeAt block.insts (λ i. OpClashesAt i.op)) (EndClashesAt returned block.end)
     (first_of_some (λ (i : RawInst). OpClashesAt i.op) block.insts (λ i. first_op_clash i.op)) (first_end_clash returned block.end)
 
--- ---- of the function
+-- ---- for the whole function
 
 module _ (raw : RawFunction) (known : List Known) (table : Tabulates raw known) where
   pub first_unknown : FirstOf (UnknownAt raw)

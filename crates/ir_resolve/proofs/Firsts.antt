@@ -1,4 +1,4 @@
--- The first line of one of several at which something holds.
+-- The first line at which something holds of one of several items.
 use Rattle.std.proofs.Common.{◌≡◌, ◌⊎◌, inl, inr, ℕ, ◌+◌, ◌<◌, ◌≤◌, leb, Bool, true, false, cond, List, [], ◌∷◌, ◌++◌, map, take, length, get_or, Option, None, Some, ◌↔◌, IsTrue, refl, ap, sym, subst, ◌∙◌, arith}
 use Rattle.std.specs.Bool.{then_some}
 use Rattle.std.proofs.lemmas.Bool.{cases_lt, leb-true, leb-false, false≢true}
@@ -37,7 +37,7 @@ module _ {X : Type 0} (P : X → ℕ → Type 0) where
   pub first_all : (xs : List X) (i : ℕ) (found : Option ℕ) → length xs ≤ i → IsFirst (SomeAt (take i xs) P) found → IsFirst (SomeAt xs P) found
   first_all xs i found le h = subst (λ ys. IsFirst (SomeAt ys P) found) (take_all i xs le) h
 
--- the same of what is seen of each
+-- the same for the views of the items
 module _ {X Y : Type 0} (f : X → Y) (P : Y → ℕ → Type 0) where
   pub first_more_seen : (xs : List X) (i : ℕ) (x : X) (found here new : Option ℕ) → i < length xs → x ≡ get_or xs i x → IsFirst (SomeAt (map f (take i xs)) P) found → IsFirst (P (f x)) here → new ≡ lesser found here → IsFirst (SomeAt (map f (take (i + 1) xs)) P) new
   first_more_seen xs i x found here new lt at before now is =
@@ -54,7 +54,7 @@ first_of false P line iff = λ other (p, is). false≢true (iff.1 p)
 pub first_if : (b : Bool) (P : Type 0) (line : ℕ) (here : Option ℕ) → (IsTrue b ↔ P) → here ≡ then_some b line → IsFirst (λ at. P × (line ≡ at)) here
 first_if b P line here iff is = rw is (first_of b P line iff)
 
--- the same by places
+-- the same by index
 abbrev pub Before : (ℕ → ℕ → Type 0) → ℕ → ℕ → Type 0
 Before At i line = (j : ℕ) × (j < i) × At j line
 

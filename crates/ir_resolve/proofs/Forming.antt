@@ -1,4 +1,4 @@
--- A function that is meant, and has no fault, meets its checks by names, widths and cases.
+-- A function that is meant, by one as written without a fault, meets its checks by names, widths and cases.
 use Rattle.std.proofs.Common.{◌≡◌, ◌≢◌, inl, inr, ℕ, ◌<◌, List, [], ◌∷◌, ◌++◌, map, get_or, Some, refl, sym, ap, ◌∙◌, arith, Bool, true, false, ◌&&◌, Option, None, is_some}
 use Rattle.std.specs.Prelude.{All, slice_get}
 use Rattle.std.specs.List.{AllZip, flat_map}
@@ -98,9 +98,9 @@ module _ (C : Identifier → Thing → Type 0) where
   literal_meant values.Undef n h = h
   literal_meant values.Poison n h = h
 
--- ---- what is read, written and by places
+-- ---- operands as written and as read
 
--- what is written is what is read, at the same width
+-- an operand as written means one that is read, at the same width
 abbrev pub ReadMeans : (Identifier → Thing → Type 0) → Typed → Read → Type 0
 ReadMeans C t r = ValueMeans C t.operand.value r.operand × (t.width ≡ r.width)
 
@@ -172,7 +172,7 @@ op_typed C (ops.Phi n incoming) width (core.Phi entries) h wide typed own = tt
 op_typed C w width o h wide typed own = absurd h
 
 module _ (C : Identifier → Thing → Type 0) (cases : List RawCase) (entries : List (Number × ℕ)) (all : AllZip (CaseMeans C) cases entries) where
-  -- no two have one value, where no case has that of an earlier one
+  -- no two cases have one value, if none has that of an earlier one
   differ_before : ((line : ℕ) → ¬ Repeats HasNumber IsCaseOn cases line) → (i j : ℕ) (c d : Number × ℕ) → i < j → slice_get entries i ≡ Some c → slice_get entries j ≡ Some d → ¬ (c.0.number ≡ d.0.number)
   differ_before once i j c d lt c_at d_at same =
       let (v, v_at, v_means) = pair_of_second (CaseMeans C) cases entries i c all c_at in

@@ -1,4 +1,4 @@
--- What a table of names finds.
+-- Lookups in the symbol table.
 use Rattle.std.proofs.Common.{◌≡◌, ◌⊎◌, ◌↔◌, inl, inr, Bool, true, false, cond, ◌||◌, IsTrue, is_some, List, [], ◌∷◌, ◌++◌, Option, None, Some, refl, sym, ap, subst, ◌∙◌}
 use Rattle.std.specs.Map.{lookup}
 use Rattle.std.specs.Cmp.Lexicographic.{bytes_decides}
@@ -42,7 +42,7 @@ lookup_seen (e ∷ entries) k =
 pub entity_found : (entries : List (Key × Entity)) (k : Key) (x : Identifier) → seen k ≡ x → lookup (eq k) entries ≡ entity_in (seen_entries entries) x
 entity_found entries k x is = lookup_seen entries k ∙ ap (λ i. lookup (same i) (seen_entries entries)) is
 
--- ---- what is known behind an insertion
+-- ---- what the table has after an insertion
 
 alone : (c : Bool) (v : Entity) → is_some (cond c (Some v) None) ≡ (false || c)
 alone true v = refl
@@ -92,7 +92,7 @@ or_right : (a b : Bool) → b ≡ true → (a || b) ≡ true
 or_right true b h = refl
 or_right false b h = h
 
--- an identifier is known behind it exactly where it was before or is this one
+-- after an insertion the table has exactly the new identifier and those that it had
 pub known_then : (x y : Identifier) (old new : Bool) → new ≡ (old || same x y) → IsTrue new ↔ (IsTrue old ⊎ Is y x)
 known_then x y old new is = (
   λ t. elim (either_true old (same x y) (sym is ∙ t)) [ inl o ↦ inl o | inr s ↦ inr (sym (is_same x y s)) ],

@@ -1,4 +1,4 @@
--- What means a function by names that call the same means it.
+-- Where identifiers refer to the same things, a function as written means the same.
 use Rattle.std.proofs.Common.{ℕ, List, [], ◌∷◌}
 use Rattle.std.specs.List.{AllZip}
 use Rattle.ops.specs.Number.{Number}

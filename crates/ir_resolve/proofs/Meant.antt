@@ -1,4 +1,4 @@
--- A function whose reads and targets are known means a function.
+-- A function as written whose registers and blocks are all defined means a function.
 use Rattle.std.proofs.Common.{◌≡◌, ℕ, List, [], ◌∷◌, map, Option, None, Some, refl, sym, ◌∙◌}
 use Rattle.std.specs.List.{AllZip, AllByRecursion}
 use Rattle.ops.specs.Flags.{no_flags}
@@ -37,7 +37,7 @@ use Rattle.ir_resolve.specs.Means.{ValueMeans, BlockMeans, IncomingMeans, OpMean
 use Rattle.ir_resolve.specs.Views.{Known, CallsIn, entity_in}
 use Rattle.ir_resolve.specs.KnownNames.{ReadsAreKnown, TargetsAreKnown, IsReadyInst, IsReadyEnd, IsReadyBlock}
 
--- where each has one that goes with it, so has the list; each of whichever these hold
+-- if each item is related to one, the list is related to a list
 some_zip : {X Y : Type 0} (R : X → Y → Type 0) → ((x : X) → (y : Y) × R x y) → (xs : List X) → (ys : List Y) × AllZip R xs ys
 some_zip R f [] = ([], tt)
 some_zip R f (x ∷ xs) = let (y, r) = f x in let (ys, all) = some_zip R f xs in (y ∷ ys, (r, all))
@@ -47,7 +47,7 @@ some_zip_of P R f [] all = ([], tt)
 some_zip_of P R f (x ∷ xs) all = let (y, r) = f x all.0 in let (ys, rest) = some_zip_of P R f xs all.1 in (y ∷ ys, (r, rest))
 
 module _ (known : List Known) where
-  -- the thing of a name, as the table has it
+  -- the register that an identifier refers to in the table
   register_found : (x : Identifier) (found : Option Entity) → entity_in known x ≡ found → ¬ IsUnknownValue (CallsIn known) (values.Register x) → (a : Operand) × ValueMeans (CallsIn known) (values.Register x) a
   register_found x (Some (entities.Register r width)) is there = (operands.Register r, (width, is))
   register_found x (Some (entities.Block b)) is there = absurd (there (x, refl, λ r (width, calls). let same : Some (entities.Block b) ≡ Some (entities.Register r width) = sym is ∙ calls in cc))

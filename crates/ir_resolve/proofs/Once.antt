@@ -1,4 +1,4 @@
--- A function as written means one function at most, and has one first fault at most.
+-- A function as written means at most one function, and has at most one first fault.
 use Rattle.std.proofs.Common.{◌≡◌, inl, inr, ℕ, Bool, zero, suc, ◌≤◌, List, [], ◌∷◌, map, Some, refl, sym, ap, subst, ◌∙◌, arith}
 use Rattle.std.specs.List.{AllZip, zip}
 use Rattle.std.proofs.lemmas.Bool.{cases_lt}
@@ -69,7 +69,7 @@ parameter w p q h k =
     let name : p.name ≡ q.name = h.2 ∙ sym k.2 in
     ap (λ n. record p { width = n }) width ∙ ap (λ n. record p { width = q.width; items = n }) items ∙ ap (λ n. record q { name = n }) name
 
--- where a name calls one register and one block at most
+-- where an identifier refers to at most one register and at most one block
 module _ (C : Identifier → Thing → Type 0) (one_register : (x : Identifier) (r s : Register) → C x (Value r) → C x (Value s) → r ≡ s) (one_block : (x : Identifier) (b c : ℕ) → C x (Block b) → C x (Block c) → b ≡ c) where
   of_register : (x : Identifier) (r : Register) (b : Operand) → C x (Value r) → ValueMeans C (values.Register x) b → operands.Register r ≡ b
   of_register x r (operands.Register s) h k = ap operands.Register (one_register x r s h k)
@@ -224,7 +224,7 @@ module _ (C : Identifier → Thing → Type 0) (one_register : (x : Identifier) 
       ∙ ap (λ n. record g { after = n; blocks = f.blocks }) after
       ∙ ap (λ bs. record g { blocks = bs }) (zip_once (BlockIsOf C) block raw.blocks f.blocks g.blocks h.blocks k.blocks)
 
--- what a name calls is the one that the table of all identifiers gives
+-- an identifier refers to what the table of all identifiers says
 module _ (raw : RawFunction) (no_repeat : (line : ℕ) → ¬ Repeats HasName IsWrittenOn (written_names raw) line) where
   abbrev pub known : List Known
   known = zip (identifiers_of raw) (map (λ (d : Defined). d.1) (definitions_of raw))
@@ -251,7 +251,7 @@ one_meaning earlier raw f g none h k =
 
 -- ---- one fault
 
--- the kind before which so many come
+-- the kind that has this rank
 abbrev kind_of : ℕ → IrFaultKind
 kind_of zero = Numbering
 kind_of (suc zero) = Duplicate

@@ -1,4 +1,4 @@
--- Of lists whose things agree one by one, what stands at a place.
+-- Lists whose items are related one by one, and the items at an index.
 use Rattle.std.proofs.Common.{◌≡◌, ℕ, zero, suc, List, [], ◌∷◌, map, length, Some, refl, ap}
 use Rattle.std.specs.Prelude.{slice_get}
 use Rattle.std.specs.List.{AllZip}
@@ -25,7 +25,7 @@ module _ {X Y : Type 0} (R : X → Y → Type 0) where
   same_length (a ∷ xs) [] all = absurd all
   same_length (a ∷ xs) (b ∷ ys) all = ap suc (same_length xs ys all.1)
 
-  -- what is made of things that agree agrees
+  -- what is made of related items is related
   pub made_pairs : {A B : Type 0} (Q : A → B → Type 0) (f : A → X) (g : B → Y) → ((a : A) (b : B) → Q a b → R (f a) (g b)) → (xs : List A) (ys : List B) → AllZip Q xs ys → AllZip R (map f xs) (map g ys)
   made_pairs Q f g agree [] [] all = tt
   made_pairs Q f g agree [] (b ∷ ys) all = absurd all

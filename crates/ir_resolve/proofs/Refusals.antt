@@ -45,7 +45,7 @@ module _ (raw : RawFunction) (definitions : List Definition) (are : map seen_def
       let es : map (λ (d : Definition). d.entity) there ≡ map (λ (d : Defined). d.1) (definitions_of raw) = ap (map (λ (d : Definition). d.entity)) there_is ∙ entities_are in
       known_is ∙ ap (λ xs. zip xs (map (λ (d : Definition). d.entity) there)) ids ∙ ap (zip (identifiers_of raw)) es
 
-  -- what is first of what is written for these is first of what is written
+  -- the first wrong number among the definitions is the first in the function
   pub misnumbered_first : (here : List Definition) (found : Option ℕ) → here ≡ definitions → IsFirst (λ line. (p : ℕ) × MisnumbersHere (map seen_written here) p line) found → IsFirst (NumberingAt raw) found
   misnumbered_first here found is first =
       subst (λ written. IsFirst (λ line. (p : ℕ) × MisnumbersHere written p line) found) (ap (map seen_written) is ∙ written_are) first
@@ -55,7 +55,7 @@ module _ (raw : RawFunction) (definitions : List Definition) (are : map seen_def
 
 -- ---- the first line of a duplicate
 
--- where none of them is there
+-- if there is no duplicate at all, none is a name
 pub name_none : (function name case rest found : Option ℕ) → rest ≡ lesser name case → found ≡ lesser function rest → found ≡ None → name ≡ None
 name_none function name case rest found rest_is found_is none =
     let outer = none_of function rest (sym found_is ∙ none) in
@@ -110,12 +110,12 @@ module _ (earlier : List RawFunction) (raw : RawFunction) (no_numbering : (line 
       clear_all no_clash TypeClash l = no_clash l
       clear_all no_clash other l = λ none. none
 
--- one of these lists of earlier functions has the mark
+-- for each mark there are earlier functions that have it
 pub marked : (is_repeated : Bool) (raw : RawFunction) → (earlier : List RawFunction) × MarksFunction is_repeated earlier raw
 marked true raw = (raw ∷ [], (λ t. (0, raw, refl, refl), λ has. refl))
 marked false raw = ([], (λ t. absurd (false≢true t), λ (k, other, at, name). cc))
 
--- a fault of what is read and named is the first, where numbers are those of the series and nothing is given twice
+-- a fault of uses is the first fault, if numbers are those of the series and nothing is given twice
 pub uses_refused : (raw : RawFunction) (is_repeated : Bool) (e : Refusal (Fault IrFaultKind)) → ((line : ℕ) → ¬ NumberingAt raw line)
     → ((earlier : List RawFunction) → MarksFunction is_repeated earlier raw → (line : ℕ) → ¬ DuplicateAt earlier raw line)
     → IfRefused e (IsFaultOfUses raw) → IfRefused e (λ fault. (earlier : List RawFunction) → MarksFunction is_repeated earlier raw → IsFirstNameFault earlier raw fault)

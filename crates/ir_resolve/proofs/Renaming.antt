@@ -1,4 +1,4 @@
--- A key is there again exactly where a name is given again.
+-- A key is in the table before exactly if its name was given before.
 use Rattle.std.proofs.Common.{◌≡◌, ◌↔◌, ℕ, ◌<◌, Bool, true, false, cond, IsTrue, List, take, map, Option, None, Some, refl, sym, ap, subst, ◌∙◌, arith}
 use Rattle.std.specs.Prelude.{Contains, slice_get, option_map}
 use Rattle.std.proofs.lemmas.Bool.{false≢true}
@@ -40,7 +40,7 @@ module _ (written : List (Option RawIdentifier)) where
   name_of_id j name id = from_mapped (slice_get written j) name (sym (slice_get-map given written j) ∙ named_back 0 (map given written) j name id)
 
   module _ (i : ℕ) (w : Option RawIdentifier) (x : Identifier) (w_at : slice_get written i ≡ Some w) (x_at : slice_get ids i ≡ Some x) where
-    -- what has its identifier and stands before it has its name, since numbers differ
+    -- a definition before with the same identifier has the same name, since numbers differ
     earlier_name : (z : Identifier) → slice_get ids i ≡ Some z → Contains (take i ids) z → (name : List ℕ) × HasName w name × SomeHas HasName (take i written) name
     earlier_name (Numbered m) z_at there =
         let (j, lt, j_at) = place_before i ids (Numbered m) there in
@@ -84,7 +84,7 @@ module _ (written : List (Option RawIdentifier)) where
         rw line (there_again r name w_is (r, w_is, named) before)
     repeat_here false here iff is = rw is (new_here (λ some. false≢true (iff.1 some)))
 
-    -- where no line is told, it was not there
+    -- if no line is given, the key was not in the table before
     pub not_there : (there : Bool) (here : Option ℕ) → (IsTrue there ↔ SomeHas Is (take i ids) x) → here ≡ cond there (option_map (λ r. r.line) w) None → here ≡ None → there ≡ false
     not_there false here iff is none = refl
     not_there true here iff is none =

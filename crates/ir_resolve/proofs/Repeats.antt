@@ -1,4 +1,4 @@
--- What one of several things has that an earlier one has.
+-- Items that have something that an earlier one has too.
 use Rattle.std.proofs.Common.{◌≡◌, ◌⊎◌, ◌↔◌, inl, inr, ℕ, ◌+◌, ◌<◌, List, [], ◌∷◌, ◌++◌, take, length, get_or, Option, Some, refl, ap, sym, subst, ◌∙◌, arith}
 use Rattle.std.specs.Prelude.{slice_get}
 use Rattle.std.proofs.lemmas.List.{take_more}
@@ -20,7 +20,7 @@ module _ {X K : Type 0} (Has : X → K → Type 0) where
       let more : take (i + 1) xs ≡ take i xs ++ x ∷ [] = take_more xs i x lt ∙ ap (λ y. take i xs ++ y ∷ []) (sym at) in
       rw more (some_push (take i xs) x k)
 
-  -- what is known of the things so far, and of one more
+  -- what the items up to one more have
   pub known_more : (Old New : K → Type 0) (xs : List X) (i : ℕ) (x : X) → i < length xs → x ≡ get_or xs i x
       → ((k : K) → Old k ↔ SomeHas Has (take i xs) k) → ((k : K) → New k ↔ (Old k ⊎ Has x k)) → (k : K) → New k ↔ SomeHas Has (take (i + 1) xs) k
   known_more Old New xs i x lt at old new k =
@@ -33,7 +33,7 @@ module _ {X K : Type 0} (Has : X → K → Type 0) where
   some_none k (x, (j, lt, is), has) = omega arith
 
   module _ (StandsOn : X → ℕ → Type 0) where
-    -- the first line at place i, where what the things before have is known
+    -- the first line at index i, given what the items before have
     pub first_repeat : (Known : K → Type 0) (xs : List X) (i : ℕ) (x : X) (here : Option ℕ) → i < length xs → x ≡ get_or xs i x → ((k : K) → Known k ↔ SomeHas Has (take i xs) k)
         → IsFirst (λ line. (k : K) × Has x k × Known k × StandsOn x line) here → IsFirst (RepeatsHere Has StandsOn xs i) here
     first_repeat Known xs i x here lt at knows first =

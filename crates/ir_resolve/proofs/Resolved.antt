@@ -1,4 +1,4 @@
--- A function that is meant, and has no fault, is resolved.
+-- A function that is meant, by one as written without a fault, is resolved.
 use Rattle.std.proofs.Common.{◌≡◌, inl, inr, ℕ, ◌<◌, ◌==◌, Bool, true, false, cond, [], ◌++◌, map, length, Option, None, Some, refl, sym, ap, subst, ◌∙◌, arith}
 use Rattle.std.specs.Prelude.{Contains, slice_get, option_map, option_and_then}
 use Rattle.std.specs.List.{flat_map}
@@ -79,7 +79,7 @@ module _ (raw : RawFunction) (f : Function) (m : Means raw f) where
       (rw is refl, is ∙ ap Some (register x r other refl (means, wide)))
   value_fits v (operands.Register r) width means literal register = absurd means
 
-  -- ---- what is read, and where control goes
+  -- ---- operands, and targets of terminators
 
   module _ (no_clash : (line : ℕ) → ¬ TypeClashAt raw line) where
     abbrev IsWritten : Read → Type 0

@@ -1,4 +1,4 @@
--- The series of numbers of things without a name.
+-- The series of numbers for things without a name.
 use Rattle.std.proofs.Common.{◌≡◌, ℕ, zero, suc, ◌+◌, ◌<◌, ◌≤◌, List, [], ◌∷◌, ◌++◌, map, take, length, get_or, None, Some, refl, sym, ap, ◌∙◌, arith}
 use Rattle.std.specs.Prelude.{slice_get}
 use Rattle.std.proofs.lemmas.List.{take_more, map_push, length-map, length-take-le}
@@ -32,7 +32,7 @@ number_after-le n [] = omega arith
 number_after-le n (Some text ∷ names) = let le = number_after-le n names in omega arith
 number_after-le n (None ∷ names) = let le = number_after-le (suc n) names in omega arith
 
--- a key by which something is called, and the next number behind it
+-- the key of a definition, and the next number behind it
 pub next_numbered : (n m next : ℕ) (name : Name) (k : Key) → seen k ∷ [] ≡ identifiers_from n (name ∷ []) → k ≡ keys.Numbered m → next ≡ n + 1 → next ≡ number_after n (name ∷ [])
 next_numbered n m next None k is numbered more = omega arith
 next_numbered n m next (Some text) k is numbered more = cc
@@ -42,7 +42,7 @@ next_named n next None (keys.Numbered m) is other same = absurd (other m refl)
 next_named n next None (keys.Named text) is other same = cc
 next_named n next (Some text) k is other same = same
 
--- the names that the first definitions give
+-- the names of the first definitions
 abbrev pub names_to : List Definition → ℕ → List Name
 names_to definitions i = map given (map seen_written (take i definitions))
 
@@ -70,7 +70,7 @@ module _ (definitions : List Definition) (i : ℕ) (d : Definition) (lt : i < le
         let count : length (names_to definitions i) ≡ i = length-map (map seen_written (take i definitions)) given ∙ length-map (take i definitions) seen_written ∙ length-take-le i definitions (omega arith) in
         omega arith
 
--- what stands at a place of the series
+-- the identifier at an index of the series
 pub named_from : (n : ℕ) (names : List Name) (p : ℕ) (text : List ℕ) → slice_get names p ≡ Some (Some text) → slice_get (identifiers_from n names) p ≡ Some (Named text)
 named_from n [] p text at = cc
 named_from n (Some t ∷ names) zero text at = cc

@@ -1,4 +1,4 @@
--- Where parameters, blocks and results stand in text order.
+-- The indices of parameters, blocks and results in text order.
 use Rattle.std.proofs.Common.{◌≡◌, ◌⊎◌, inl, inr, ℕ, zero, suc, ◌+◌, List, [], ◌∷◌, ◌++◌, map, take, length, Option, None, Some, refl, sym, ap, ◌∙◌, arith}
 use Rattle.std.specs.Prelude.{slice_get, option_map}
 use Rattle.std.specs.List.{flat_map, enumerate_from}
@@ -13,7 +13,7 @@ use Rattle.ir_resolve.specs.declared.names.definition.Entity.TheVariants as enti
 use Rattle.ir_resolve.specs.Written.{written_in, written_names}
 use Rattle.ir_resolve.specs.Definitions.{Defined, parameter_defined, result_defined, block_defined, parameters_defined, definitions_of}
 
--- ---- lists one after the other, and numbered lists
+-- ---- concatenated lists, and numbered lists
 
 pub get_right : {X : Type 0} (xs ys : List X) (q : ℕ) → slice_get (xs ++ ys) (length xs + q) ≡ slice_get ys q
 get_right [] ys q = ap (slice_get ys) (omega arith)
@@ -24,7 +24,7 @@ get_left [] ys p z at = cc
 get_left (x ∷ xs) ys zero z at = at
 get_left (x ∷ xs) ys (suc p) z at = get_left xs ys p z at
 
--- what stands in one list or in the other
+-- an item of a concatenation is one of the one list or of the other
 pub get_cases : {X : Type 0} (xs ys : List X) (p : ℕ) (z : X) → slice_get (xs ++ ys) p ≡ Some z → (slice_get xs p ≡ Some z) ⊎ ((q : ℕ) × (p ≡ length xs + q) × (slice_get ys q ≡ Some z))
 get_cases [] ys p z at = inr (p, omega arith, at)
 get_cases (x ∷ xs) ys zero z at = inl at
@@ -37,7 +37,7 @@ get_numbered n (x ∷ xs) (suc k) =
     let same : (n + 1) + k ≡ n + suc k = omega arith in
     get_numbered (n + 1) xs k ∙ ap (λ m. option_map (λ x. (m, x)) (slice_get xs k)) same
 
--- of what is made of numbered things, what stands at a place
+-- the item at an index of a list that is made of numbered items
 made_at : {X Y : Type 0} (f : ℕ × X → Y) (n : ℕ) (xs : List X) (k : ℕ) (x : X) → slice_get xs k ≡ Some x → slice_get (map f (enumerate_from n xs)) k ≡ Some (f (n + k, x))
 made_at f n xs k x at = slice_get-map f (enumerate_from n xs) k ∙ ap (option_map f) (get_numbered n xs k ∙ ap (option_map (λ y. (n + k, y))) at)
 
@@ -70,14 +70,14 @@ parameter_at ps k d at =
 abbrev pub from : ℕ → List RawBlock → List Defined
 from n blocks = flat_map block_defined (enumerate_from n blocks)
 
--- how much stands before block i
+-- how many things stand before block i
 abbrev pub before : List RawBlock → ℕ → ℕ
 before blocks i = length (flat_map written_in (take i blocks))
 
 length-block : (n : ℕ) (b : RawBlock) → length (block_defined (n, b)) ≡ length (written_in b)
 length-block n b = ap suc (length-map (enumerate_from 0 b.insts) (result_defined n) ∙ length-enumerate_from 0 b.insts ∙ sym (length-map b.insts (λ i. Some i.result)))
 
--- what stands for block i, or for a result of it
+-- d is the definition of block i or of a result of it, at this index
 pub data StandsFor (n : ℕ) (blocks : List RawBlock) (q : ℕ) (d : Defined) : Type 0 where
   block : (i : ℕ) (b : RawBlock) → slice_get blocks i ≡ Some b → q ≡ before blocks i → d ≡ (b.label, entities.Block (n + i)) → StandsFor n blocks q d
   result : (i j : ℕ) (b : RawBlock) (inst : RawInst) → slice_get blocks i ≡ Some b → slice_get b.insts j ≡ Some inst → q ≡ before blocks i + suc j → d ≡ result_defined (n + i) (j, inst) → StandsFor n blocks q d
@@ -85,7 +85,7 @@ pub data StandsFor (n : ℕ) (blocks : List RawBlock) (q : ℕ) (d : Defined) : 
 before-cons : (b : RawBlock) (blocks : List RawBlock) (i : ℕ) → before (b ∷ blocks) (suc i) ≡ length (written_in b) + before blocks i
 before-cons b blocks i = length-append (written_in b) (flat_map written_in (take i blocks))
 
--- of a block and those behind it
+-- the same for a block and those behind it
 one_more : (n : ℕ) (b : RawBlock) (blocks : List RawBlock) (q r : ℕ) (d : Defined) → q ≡ length (written_in b) + r → StandsFor (n + 1) blocks r d → StandsFor n (b ∷ blocks) q d
 one_more n b blocks q r d is (block i c at place defines) =
     let number : (n + 1) + i ≡ n + suc i = omega arith in
@@ -110,7 +110,7 @@ stands_for n (b ∷ blocks) q d at =
       | inr (r, is, others) ↦ one_more n b blocks q r d (is ∙ ap (λ m. m + r) (length-block n b)) (stands_for (n + 1) blocks r d others)
     ]
 
--- and the other way round
+-- and conversely
 pub block_stands : (n : ℕ) (blocks : List RawBlock) (i : ℕ) (b : RawBlock) (q : ℕ) → slice_get blocks i ≡ Some b → q ≡ before blocks i → slice_get (from n blocks) q ≡ Some (b.label, entities.Block (n + i))
 block_stands n [] i b q at place = cc
 block_stands n (c ∷ blocks) zero b q at place =
@@ -141,7 +141,7 @@ result_stands n (c ∷ blocks) (suc i) j b inst q at inst_at place =
     ∙ get_right (block_defined (n, c)) (from (n + 1) blocks) (before blocks i + suc j)
     ∙ result_stands (n + 1) blocks i j b inst (before blocks i + suc j) at inst_at refl ∙ ap (λ m. Some (result_defined m (j, inst))) number
 
--- ---- what is written for them
+-- ---- the identifiers that are written for them
 
 written_parameters : (n : ℕ) (ps : List RawParameter) → map (λ (d : Defined). d.0) (map parameter_defined (enumerate_from n ps)) ≡ map (λ p. p.name) ps
 written_parameters n [] = refl

@@ -1,4 +1,4 @@
--- A table of names is filled in order.
+-- The symbol table as it is filled in order.
 use Rattle.std.proofs.Common.{◌≡◌, ◌↔◌, ℕ, ◌+◌, ◌<◌, Bool, false, ◌||◌, cond, IsTrue, List, [], ◌∷◌, ◌++◌, length, map, take, get_or, Option, None, Some, refl, sym, ap, subst, ◌∙◌, arith}
 use Rattle.std.specs.Prelude.{option_map}
 use Rattle.std.specs.List.{zip}
@@ -43,12 +43,12 @@ module _ (definitions : List Definition) (keys : List Key) (are_keys : AreKeysOf
   in_ids : i < length ids
   in_ids = subst (λ n. i < n) (sym (length-map keys seen)) in_keys
 
-  -- what is known behind one more
+  -- the identifiers in the table after one more definition
   pub known_behind : (old new : Identifier → Bool) → ((y : Identifier) → IsTrue (old y) ↔ SomeHas Is (take i ids) y) → ((y : Identifier) → new y ≡ (old y || same y x)) → (y : Identifier) → IsTrue (new y) ↔ SomeHas Is (take (i + 1) ids) y
   known_behind old new known more =
       known_more Is (λ y. IsTrue (old y)) (λ y. IsTrue (new y)) ids i x in_ids (sym (key_at x)) known (λ y. known_then y x (old y) (new y) (more y))
 
-  -- the table behind one more
+  -- the table after one more definition
   pub table_behind : (d0 : Definition) (old new : List Known) → old ≡ zip (take i ids) (take i es) → new ≡ old ++ (x, (get_or definitions i d0).entity) ∷ [] → new ≡ zip (take (i + 1) ids) (take (i + 1) es)
   table_behind d0 old new so_far more =
       let e = (get_or definitions i d0).entity in

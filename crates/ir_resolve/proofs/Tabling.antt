@@ -1,4 +1,4 @@
--- A table of the identifiers of all things has what the function has.
+-- The table of the identifiers of all things says what the function's identifiers refer to.
 use Rattle.std.proofs.Common.{◌≡◌, inl, inr, ℕ, zero, suc, ◌+◌, ◌<◌, Bool, true, false, cond, List, [], ◌∷◌, map, length, Option, Some, refl, sym, ap, subst, ◌∙◌, arith}
 use Rattle.std.specs.Prelude.{slice_get, option_map}
 use Rattle.std.specs.List.{zip, enumerate_from}
@@ -26,9 +26,9 @@ use Rattle.ir_resolve.proofs.Renaming.{name_of_id}
 use Rattle.ir_resolve.proofs.Lookups.{is_same, same_itself}
 use Rattle.ir_resolve.proofs.Standing.{some_same, mapped, before, get_cases, get_left, get_right, parameter_at, parameter_stands, StandsFor, block, result, stands_for, block_stands, result_stands}
 
--- ---- what stands at a place
+-- ---- the thing at an index
 
--- the entity is that of a thing of the function, which stands there
+-- the entity is that of a thing of the function, whose index is p
 abbrev IsEntityAt : RawFunction → ℕ → Entity → Type 0
 IsEntityAt raw p (entities.Register r width) = HasThing raw (Value r) × (place_of raw (Value r) ≡ p) × RegisterHasWidth raw r width
 IsEntityAt raw p (entities.Block b) = HasThing raw (Block b) × (place_of raw (Block b) ≡ p)
@@ -64,7 +64,7 @@ module _ (raw : RawFunction) where
         | inr (q, is, right) ↦ entity_from_block p q d (omega (arith, length-parameters)) (stands_for 0 raw.blocks q d right)
       ]
 
-  -- and where each thing stands
+  -- and each thing has an index
   register_stands : (r : Register) (width : ℕ) → RegisterHasWidth raw r width → (w : Option RawIdentifier) × (slice_get (definitions_of raw) (place_of raw (Value r)) ≡ Some (w, entities.Register r width))
   register_stands (registers.Parameter k) width (par, at, is) = (
     par.name,
@@ -94,12 +94,12 @@ module _ (raw : RawFunction) where
             ∙ ap (λ m. Some (c.label, entities.Block m)) number,
       )
 
-  -- a register that it has has a width
+  -- a register of the function has a width
   pub width_of_register : (r : Register) → HasThing raw (Value r) → (width : ℕ) × RegisterHasWidth raw r width
   width_of_register (registers.Parameter k) lt = let (par, at) = some_at raw.parameters k lt in (par.width, (par, at, refl))
   width_of_register (registers.Result d j) (inst, written) = (result_width inst.op, (inst, written, refl))
 
--- ---- what is found
+-- ---- lookups
 
 unzip_at : {X Y : Type 0} (xs : List X) (ys : List Y) (i : ℕ) (x : X) (y : Y) → slice_get (zip xs ys) i ≡ Some (x, y) → (slice_get xs i ≡ Some x) × (slice_get ys i ≡ Some y)
 unzip_at [] ys i x y at = cc
@@ -126,7 +126,7 @@ find_at (k ∷ ids) (v ∷ es) zero x e first at e_at =
 find_at (k ∷ ids) (v ∷ es) (suc p) x e first at e_at =
     find_more x k v (lookup (same x) (zip ids es)) e (same x k) refl (λ one. first 0 (omega arith) (ap Some one)) (find_at ids es p x e (λ q lt. first (suc q) (omega arith)) at e_at)
 
--- where no name is given again, no identifier stands twice
+-- if no name is given twice, no two things have one identifier
 pub once : (written : List (Option RawIdentifier)) → ((line : ℕ) → ¬ Repeats HasName IsWrittenOn written line) → (p q : ℕ) (x : Identifier) → q < p → slice_get (called_in written) q ≡ Some x → ¬ (slice_get (called_in written) p ≡ Some x)
 once written no_repeat p q (Numbered m) lt q_at p_at = let less : m < m = numbered_lt 0 (map given written) q p m m lt q_at p_at in omega arith
 once written no_repeat p q (Named name) lt q_at p_at =
@@ -138,7 +138,7 @@ once written no_repeat p q (Named name) lt q_at p_at =
 
 module _ (raw : RawFunction) (known : List Known) (no_repeat : (line : ℕ) → ¬ Repeats HasName IsWrittenOn (written_names raw) line)
     (is : known ≡ zip (identifiers_of raw) (map (λ (d : Defined). d.1) (definitions_of raw))) where
-  -- an entity is found exactly where it stands with this identifier
+  -- a lookup gives exactly the entity at the index of the identifier
   entity_found_at : (x : Identifier) (e : Entity) → entity_in known x ≡ Some e → (p : ℕ) × (slice_get (identifiers_of raw) p ≡ Some x) × IsEntityAt raw p e
   entity_found_at x e found =
       let (p, id_at, e_at) = found_at (identifiers_of raw) (map (λ (d : Defined). d.1) (definitions_of raw)) x e (subst (λ k. lookup (same x) k ≡ Some e) is found) in

@@ -1,4 +1,4 @@
--- What is read or named and not there.
+-- Uses of what is not defined.
 use Rattle.std.proofs.Common.{◌≡◌, ◌↔◌, ℕ, Bool, true, false, not, IsTrue, List, Option, None, Some, is_some, refl, sym, ap, subst, ◌∙◌}
 use Rattle.ir_tokens.specs.declared.called.Identifier.{Identifier}
 use Rattle.ir_core.specs.declared.operand.Register.{Register}
@@ -11,7 +11,7 @@ use Rattle.ir_resolve.specs.TypedReads.{Typed}
 use Rattle.ir_resolve.specs.FaultKinds.{IsUnknownValue, IsUnknownBlock}
 use Rattle.ir_resolve.specs.Views.{Known, entity_in, register_of, block_of, CallsRegisterIn, CallsIn}
 
--- what is read is no register that is there, and stands on the line; the same of a block
+-- the operand is a register that is not defined, and is on the line; the same for a block
 abbrev pub ReadIsUnknown : List Known → Typed → ℕ → Type 0
 ReadIsUnknown known t at = IsUnknownValue (CallsIn known) t.operand.value × (t.operand.line ≡ at)
 

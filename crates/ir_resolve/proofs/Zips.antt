@@ -1,4 +1,4 @@
--- Lists whose things agree one by one, and what holds of each thing.
+-- Lists whose items are related one by one, and predicates that hold of each item.
 use Rattle.std.proofs.Common.{◌≡◌, ℕ, ◌+◌, ◌<◌, ◌≤◌, List, [], ◌∷◌, ◌++◌, map, take, length, get_or, ap, sym, subst, ◌∙◌}
 use Rattle.std.specs.List.{AllZip, AllByRecursion}
 use Rattle.std.proofs.lemmas.List.{take_more, take_all}
@@ -20,7 +20,7 @@ module _ {X Y : Type 0} (R : X → Y → Type 0) where
   pub zip_all : (xs : List X) (ys : List Y) (i : ℕ) → length xs ≤ i → AllZip R (take i xs) ys → AllZip R xs ys
   zip_all xs ys i le all = subst (λ zs. AllZip R zs ys) (take_all i xs le) all
 
--- what holds of each holds of the one at a place, and of what is seen of it
+-- a predicate that holds of each item holds of the one at an index, and of its view
 pub each_at : {X : Type 0} (P : X → Type 0) (xs : List X) (i : ℕ) (x : X) → i < length xs → x ≡ get_or xs i x → AllByRecursion P xs → P x
 each_at P xs i x within is all = let at : P (get_or xs i x) = All-from_recursion P xs all i x within in rw is at
 

@@ -1,4 +1,5 @@
--- The parameters, blocks and results of a function in text order: what is written for each, and what it is.
+-- The definitions of a function in text order: its parameters, blocks and results, each with the identifier that is
+-- written, if any.
 use Rattle.std.specs.Prelude.{ℕ, List, ◌∷◌, ◌++◌, map, Option, Some}
 use Rattle.std.specs.List.{flat_map, enumerate_from}
 use Rattle.ir_core.specs.declared.operand.Register.TheVariants as registers
@@ -14,7 +15,7 @@ use Rattle.ir_resolve.specs.FaultKinds.{result_width}
 abbrev pub Defined : Type 0
 Defined = Option RawIdentifier × Entity
 
--- parameter k, result j of block b, and block b with its results
+-- the definitions of parameter k, of result j of block b, and of block b with its results
 abbrev pub parameter_defined : ℕ × RawParameter → Defined
 parameter_defined p = (p.1.name, entities.Register (registers.Parameter p.0) p.1.width)
 

@@ -1,4 +1,4 @@
--- What a function that is read meets, as far as names, types and cases go (`IsFormed` in `ir_core`), where it is
+-- The checks of `IsFormed` in `ir_core` that follow from resolving names, types and cases, for a function that is
 -- written as the grammar has it.
 use Rattle.std.specs.Prelude.{◌≡◌, ℕ, ◌<◌, length, is_some, Contains}
 use Rattle.ops.specs.Flags.{FlagsFit, CastFlagsFit}
@@ -18,12 +18,13 @@ use Rattle.ir_tokens.specs.declared.raw.RawArguments.TheVariants as arguments
 use Rattle.ir_tokens.specs.declared.raw.RawOp.{RawOp}
 use Rattle.ir_tokens.specs.declared.raw.RawOp.TheVariants.{Binary, Compare, Call, Select, Convert, Freeze, Phi}
 
--- a call has a truth value exactly where its intrinsic has one
+-- a call has a truth value exactly if its intrinsic takes one
 abbrev pub IsWellWrittenCall : RawArguments → Type 0
 IsWellWrittenCall (arguments.Binary op a b) = Unit {0}
 IsWellWrittenCall (arguments.Unary op a truth) = is_some truth ≡ has_truth op
 
--- the flags of an operation are its own, and so is the truth value of a call; a phi has an entry
+-- an operation has only flags that it takes, a call a truth value if its intrinsic takes one, and a phi at least one
+-- entry
 abbrev pub IsWellWrittenOp : RawOp → Type 0
 IsWellWrittenOp (Binary op flags width a b) = FlagsFit op flags
 IsWellWrittenOp (Compare pred samesign width a b) = Unit {0}
@@ -33,12 +34,12 @@ IsWellWrittenOp (Convert cast flags from a to) = CastFlagsFit cast flags
 IsWellWrittenOp (Freeze width a) = Unit {0}
 IsWellWrittenOp (Phi width incoming) = 0 < length incoming
 
--- the function has a block, each operation has flags of its own alone, and each phi has an entry
+-- the function has at least one block, and its operations are written so
 pub record IsWellWritten (raw : RawFunction) : Type 0 where
   pub some_block : 0 < length raw.blocks
   pub insts : (block : RawBlock) (inst : RawInst) → Contains raw.blocks block → Contains block.insts inst → IsWellWrittenOp inst.op
 
--- the checks of a function by names, widths and cases
+-- the checks of a function that are about names, widths and cases
 pub record IsWellNamed (f : Function) : Type 0 where
   pub some_block : 0 < length f.blocks
   pub names : NamesDiffer (names_of f)

@@ -7,8 +7,7 @@ use Rattle.ir_tokens.specs.declared.fault.IrFaultKind.{IrFaultKind}
 use Rattle.ir_resolve.specs.Means.{Means}
 use Rattle.ir_resolve.specs.Faults.{HasNoFault, IsFirstNameFault}
 
--- Where these functions stand before it, a function as written has one first fault, or it has none and means one
--- function.
+-- Behind these functions, a function as written has one first fault, or it has none and means one function.
 pub record FunctionsHaveOneMeaningOrFault : Type 0 where
   pub some : (earlier : List RawFunction) (raw : RawFunction)
       → (HasNoFault earlier raw × ((f : Function) × Means raw f)) ⊎ ((fault : Fault IrFaultKind) × IsFirstNameFault earlier raw fault)

@@ -1,4 +1,4 @@
--- What a function as written means: the function whose registers and blocks are known by their places.
+-- The meaning of a function as written: the function whose registers and blocks are identified by index.
 use Rattle.std.specs.Prelude.{◌≡◌, ℕ, Some}
 use Rattle.std.specs.List.{AllZip}
 use Rattle.ops.specs.Flags.{no_flags}
@@ -31,9 +31,9 @@ use Rattle.ir_tokens.specs.declared.raw.RawCase.{RawCase}
 use Rattle.ir_resolve.specs.Written.{Thing, Value, Block, Calls, given}
 use Rattle.ir_resolve.specs.FaultKinds.{literal_of, result_width, truth_of}
 
--- Where these names call these things:
+-- Given what identifiers refer to:
 module _ (CallsThing : Identifier → Thing → Type 0) where
-  -- a name calls a register, and a literal is its number
+  -- an identifier means the register that it refers to, and a literal its number
   abbrev pub ValueMeans : RawValue → Operand → Type 0
   ValueMeans (values.Register x) (operands.Register r) = CallsThing x (Value r)
   ValueMeans values.Undef operands.Undef = Unit {0}
@@ -42,7 +42,7 @@ module _ (CallsThing : Identifier → Thing → Type 0) where
   -- no other operand is meant
   ValueMeans value operand = ⊥
 
-  -- a name calls a block
+  -- an identifier means the block that it refers to
   abbrev pub BlockMeans : Identifier → ℕ → Type 0
   BlockMeans x b = CallsThing x (Block b)
 
@@ -70,7 +70,7 @@ module _ (CallsThing : Identifier → Thing → Type 0) where
   abbrev pub InstMeans : RawInst → Inst → Type 0
   InstMeans written inst = (inst.name ≡ given (Some written.result)) × (inst.width ≡ result_width written.op) × OpMeans written.op inst.op
 
-  -- the number of a case
+  -- a case means the number of its value, and the block that it names
   abbrev pub CaseMeans : RawCase → Number × ℕ → Type 0
   CaseMeans written entry = (literal_of written.value.value ≡ Some entry.0) × BlockMeans written.target.identifier entry.1
 
@@ -90,7 +90,7 @@ module _ (CallsThing : Identifier → Thing → Type 0) where
 abbrev pub ParameterMeans : RawParameter → Parameter → Type 0
 ParameterMeans written p = (p.width ≡ written.width) × (p.items ≡ written.items) × (p.name ≡ given written.name)
 
--- where these names call these things, a function as written means the function
+-- given what identifiers refer to, the function as written means this function
 pub record MeansBy (CallsThing : Identifier → Thing → Type 0) (raw : RawFunction) (f : Function) : Type 0 where
   pub name : f.name ≡ raw.name
   pub before : f.before ≡ raw.before
@@ -99,6 +99,6 @@ pub record MeansBy (CallsThing : Identifier → Thing → Type 0) (raw : RawFunc
   pub after : f.after ≡ raw.after
   pub blocks : AllZip (BlockIsOf CallsThing) raw.blocks f.blocks
 
--- a function as written means the function
+-- the function as written means this function
 abbrev pub Means : RawFunction → Function → Type 0
 Means raw = MeansBy (Calls raw) raw

@@ -1,4 +1,4 @@
--- A table of names that has exactly what a function has.
+-- A symbol table that says what the function's identifiers refer to.
 use Rattle.std.specs.Prelude.{◌≡◌, ◌↔◌, ℕ, List}
 use Rattle.ir_tokens.specs.declared.called.Identifier.{Identifier}
 use Rattle.ir_core.specs.declared.operand.Register.{Register}
@@ -11,12 +11,12 @@ use Rattle.ir_resolve.specs.Written.{Thing, Calls}
 use Rattle.ir_resolve.specs.FaultKinds.{CallsRegister, UnknownAt, TypeClashAt}
 use Rattle.ir_resolve.specs.Views.{Known, CallsIn, CallsRegisterIn}
 
--- a name or number calls the same things and registers in the table and in the function
+-- each identifier refers to the same things, and to registers of the same widths, in the table and in the function
 pub record Tabulates (raw : RawFunction) (known : List Known) : Type 0 where
   pub things : (x : Identifier) (thing : Thing) → CallsIn known x thing ↔ Calls raw x thing
   pub registers : (x : Identifier) (r : Register) (width : ℕ) → CallsRegisterIn known x r width ↔ CallsRegister raw x r width
 
--- the first fault of what is read and named: first what is unknown, and then types
+-- the first fault of uses: first come uses of what is not defined, and then types
 pub data IsFaultOfUses (raw : RawFunction) (fault : Fault IrFaultKind) : Type 0 where
   unknown : fault.kind ≡ Unknown → IsFirstLine (UnknownAt raw) fault.line → IsFaultOfUses raw fault
   clash : fault.kind ≡ TypeClash → ((line : ℕ) → ¬ UnknownAt raw line) → IsFirstLine (TypeClashAt raw) fault.line → IsFaultOfUses raw fault

@@ -1,4 +1,4 @@
--- What a function as written reads, each operand with the width that is written for it, and which blocks it names, in
+-- The operands of a function as written, each with the width that is written for it, and the blocks that it names, in
 -- text order.
 use Rattle.std.specs.Prelude.{ℕ, List, [], ◌∷◌, ◌++◌, map}
 use Rattle.std.specs.List.{flat_map}
@@ -14,7 +14,7 @@ use Rattle.ir_tokens.specs.declared.raw.RawOperand.{RawOperand}
 use Rattle.ir_tokens.specs.declared.raw.RawIdentifier.{RawIdentifier}
 use Rattle.ir_tokens.specs.declared.raw.RawCase.{RawCase}
 
--- an operand and the width of its written type
+-- an operand and the width that is written for it
 pub record Typed : Type 0 where
   pub width : ℕ
   pub operand : RawOperand
@@ -22,12 +22,12 @@ pub record Typed : Type 0 where
 abbrev pub typed : ℕ → RawOperand → Typed
 typed width operand = record { width = width; operand = operand }
 
--- what a call reads; its truth value is part of what is called
+-- the operands of a call; its truth value is none, as it is part of the operation
 abbrev pub read_by_call : RawArguments → List Typed
 read_by_call (arguments.Binary op a b) = typed a.width a.operand ∷ typed b.width b.operand ∷ []
 read_by_call (arguments.Unary op a truth) = typed a.width a.operand ∷ []
 
--- what an instruction reads
+-- the operands of an instruction
 abbrev pub read_by : RawOp → List Typed
 read_by (ops.Binary op flags width a b) = typed width a ∷ typed width b ∷ []
 read_by (ops.Compare pred samesign width a b) = typed width a ∷ typed width b ∷ []
@@ -37,7 +37,7 @@ read_by (ops.Convert cast flags from a to) = typed from a ∷ []
 read_by (ops.Freeze width a) = typed width a ∷ []
 read_by (ops.Phi width incoming) = map (λ i. typed width i.value) incoming
 
--- the blocks that it names
+-- the blocks that an instruction names
 abbrev pub named_by : RawOp → List RawIdentifier
 named_by (ops.Binary op flags width a b) = []
 named_by (ops.Compare pred samesign width a b) = []
@@ -47,7 +47,7 @@ named_by (ops.Convert cast flags from a to) = []
 named_by (ops.Freeze width a) = []
 named_by (ops.Phi width incoming) = map (λ i. i.block) incoming
 
--- the same of a terminator
+-- the operands of a terminator, and the blocks that it names
 abbrev pub read_at_end : RawTerminator → List Typed
 read_at_end (terminators.Return width a) = typed width a ∷ []
 read_at_end terminators.Unreachable = []
@@ -62,7 +62,7 @@ named_at_end (terminators.Jump to) = to ∷ []
 named_at_end (terminators.Branch width c to other) = to ∷ other ∷ []
 named_at_end (terminators.Switch width a other cases) = other ∷ map (λ c. c.target) cases
 
--- the cases that it has
+-- the cases of a terminator
 abbrev pub cases_of : RawTerminator → List RawCase
 cases_of (terminators.Return width a) = []
 cases_of terminators.Unreachable = []
@@ -70,7 +70,7 @@ cases_of (terminators.Jump to) = []
 cases_of (terminators.Branch width c to other) = []
 cases_of (terminators.Switch width a other cases) = cases
 
--- what a block reads and names, and what the function does
+-- the operands of a block, the blocks that it names, and the same for a function
 abbrev pub read_in : RawBlock → List Typed
 read_in block = flat_map (λ i. read_by i.op) block.insts ++ read_at_end block.end
 

@@ -1,4 +1,4 @@
--- What the code keeps of what a function reads and names.
+-- The lists of uses in the code, as contracts see them.
 use Rattle.std.specs.Prelude.{◌≡◌, List, map, ◌++◌}
 use Rattle.ir_tokens.specs.declared.raw.RawIdentifier.{RawIdentifier}
 use Rattle.ir_resolve.specs.declared.uses.Read.{Read}
@@ -14,7 +14,7 @@ seen_reads uses = map seen_read uses.reads.items
 abbrev pub seen_targets : Uses → List RawIdentifier
 seen_targets uses = map (λ w. w.now) uses.targets.items
 
--- these are added at the end
+-- these uses were appended
 pub record Adds (before after : Uses) (reads : List Typed) (targets : List RawIdentifier) : Type 0 where
   pub reads_added : seen_reads after ≡ seen_reads before ++ reads
   pub targets_added : seen_targets after ≡ seen_targets before ++ targets

@@ -1,4 +1,4 @@
--- What the tables of the names of a function hold.
+-- The symbol table in the code, as contracts see it.
 use Rattle.std.specs.Prelude.{◌≡◌, ℕ, List, map, Option, None, Some, Bool, false, ◌==◌}
 use Rattle.std.specs.Option.{option_copied, is_some}
 use Rattle.std.specs.Map.{lookup}
@@ -15,12 +15,12 @@ use Rattle.ir_resolve.specs.declared.names.definition.Entity.TheVariants as enti
 use Rattle.ir_resolve.specs.declared.names.definition.Definition.{Definition}
 use Rattle.ir_resolve.specs.Written.{Thing, Value, Block, called_in}
 
--- the identifier that a key is, without where its text lies
+-- the identifier that a key is, without where its text lies in memory
 abbrev pub seen : Key → Identifier
 seen (keys.Named text) = Named text.now
 seen (keys.Numbered number) = Numbered number
 
--- what is written for a definition
+-- the identifier that is written for a definition
 abbrev pub seen_written : Definition → Option RawIdentifier
 seen_written d = option_copied d.written
 
@@ -31,14 +31,14 @@ seen_definition d = (seen_written d, d.entity)
 abbrev pub AreKeysOf : List Definition → List Key → Type 0
 AreKeysOf definitions keys = map seen keys ≡ called_in (map seen_written definitions)
 
--- an identifier, and what it calls
+-- an identifier, and what it refers to
 abbrev pub Known : Type 0
 Known = Identifier × Entity
 
 abbrev pub seen_entries : List (Key × Entity) → List Known
 seen_entries entries = map (λ e. (seen e.0, e.1)) entries
 
--- whether two identifiers are the same
+-- two identifiers are the same
 abbrev pub same : Identifier → Identifier → Bool
 same (Named a) (Named b) = pointwise ◌==◌ a b
 same (Numbered m) (Numbered n) = m == n
@@ -49,7 +49,7 @@ same (Numbered m) (Named b) = false
 abbrev pub Is : Identifier → Identifier → Type 0
 Is x y = x ≡ y
 
--- what a table knows, whether it knows an identifier, and what that calls there
+-- the entries of a table, whether it has an identifier, and what that refers to
 abbrev pub known_by : {S : Type 0} → IndexMap Key Entity S → List Known
 known_by names = seen_entries names.entries
 
@@ -59,7 +59,7 @@ knows known x = is_some (lookup (same x) known)
 abbrev pub entity_in : List Known → Identifier → Option Entity
 entity_in known x = lookup (same x) known
 
--- the register of an identifier with its width, and the block
+-- the register that is referred to, with its width, and the block
 abbrev pub register_of : Option Entity → Option (Register × ℕ)
 register_of None = None
 register_of (Some (entities.Register register width)) = Some (register, width)
@@ -70,7 +70,7 @@ block_of None = None
 block_of (Some (entities.Register register width)) = None
 block_of (Some (entities.Block b)) = Some b
 
--- an identifier calls the register of the width, and the thing
+-- in the table an identifier refers to the register of the width, and to the thing
 abbrev pub CallsRegisterIn : List Known → Identifier → Register → ℕ → Type 0
 CallsRegisterIn known x r width = entity_in known x ≡ Some (entities.Register r width)
 

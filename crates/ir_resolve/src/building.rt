@@ -1,4 +1,4 @@
-//! Builds a function of which each register and each block that is named is there.
+//! Builds the resolved function, once every register and block that is used is known to be defined.
 
 mod function;
 mod instruction;

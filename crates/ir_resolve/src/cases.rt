@@ -1,4 +1,4 @@
-//! Cases of switches that have one number.
+//! Cases of one switch with the same number.
 
 ghost use Rattle.std.specs.Prelude.{◌≡◌, ◌↔◌, ◌⊎◌, ℕ, IsTrue, IfOk, OnOk, nat_eq};
 ghost use Rattle.indexmap.specs.IndexSet.{contains};
@@ -12,7 +12,7 @@ use indexmap::IndexSet;
 use ir_tokens::{RawBlock, RawCase, RawTerminator};
 use std::alloc::{AllocError, Global};
 
-/// The cases that a terminator has.
+/// The cases of a terminator.
 fn cases(end: &RawTerminator) -> &[RawCase]
     ensures { result.now ≡ cases_of end.now }
 {
@@ -25,7 +25,7 @@ fn cases(end: &RawTerminator) -> &[RawCase]
     }
 }
 
-/// The line of a case, where its number was there before; from now on it is.
+/// The line of a case, if its number is among these; the number is added to them.
 fn repeated(numbers: &mut IndexSet<u64>, case: &RawCase) -> Result<Option<usize>, AllocError>
     ensures line { IfOk result (IsFirst (λ at. (k : ℕ)
         × HasNumber case.now k × IsTrue (contains nat_eq numbers.old k) × IsCaseOn case.now at)) }
@@ -40,7 +40,7 @@ fn repeated(numbers: &mut IndexSet<u64>, case: &RawCase) -> Result<Option<usize>
     Ok((!is_new).then_some(case.value.line))
 }
 
-/// The first line of a case whose number an earlier one has.
+/// The first line of a case that has the number of an earlier one.
 fn repeated_in(alloc: Global, cases: &[RawCase]) -> Result<Option<usize>, AllocError>
     ensures { IfOk result (IsFirst (Repeats HasNumber IsCaseOn cases.now)) }
 {
@@ -52,7 +52,7 @@ fn repeated_in(alloc: Global, cases: &[RawCase]) -> Result<Option<usize>, AllocE
     Ok(found)
 }
 
-/// The first line of a case whose number an earlier case of its switch has.
+/// The first line of a case that has the number of an earlier case of its switch.
 pub(crate) fn repeated_case(alloc: Global, blocks: &[RawBlock]) -> Result<Option<usize>, AllocError>
     ensures { IfOk result (IsFirst (SomeAt blocks.now
         (λ block. Repeats HasNumber IsCaseOn (cases_of block.end)))) }

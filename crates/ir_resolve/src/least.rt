@@ -1,9 +1,9 @@
-//! The least of lines.
+//! The lesser of two lines.
 
 ghost use Rattle.std.specs.Prelude.{◌≡◌};
 ghost use Rattle.ir_resolve.specs.FirstLines.{lesser};
 
-/// The lesser of two lines, where both are there, and else the one that is.
+/// The lesser of two lines if both are there, and else the one that is there.
 pub fn lesser(one: Option<usize>, other: Option<usize>) -> Option<usize>
     ensures { result ≡ lesser one other }
 {

@@ -1,8 +1,9 @@
-//! Functions whose registers and blocks are known by place, from functions as written, or the first fault of one.
+//! Name resolution and type checking: from a function as written to one whose registers and blocks are identified by
+//! index, or to its first fault.
 //!
-//! The definitions stand in `specs/`: `Written` says what names and numbers call, `TypedReads` what is read and which
-//! blocks are named, `Means` which function is meant, `FaultKinds` where a function as written has a fault of which
-//! kind, and `Faults` which of these is its first.
+//! The definitions stand in `specs/`: `Written` says what names and numbers refer to, `TypedReads` which operands are
+//! read and which blocks are named, `Means` which function is meant, `FaultKinds` where a function as written has a
+//! fault of which kind, and `Faults` which of these is its first.
 #![tactic(auto)]
 
 mod building;

@@ -6,7 +6,7 @@ ghost use Rattle.ir_resolve.specs.FaultKinds.{literal_of};
 use ir_tokens::RawValue;
 use ops::Word;
 
-/// The number that a literal stands for, with its width.
+/// The number that a literal spells, with its width.
 pub(crate) fn literal(value: &RawValue) -> Option<Word>
     ensures { result ≡ literal_of value.now }
 {

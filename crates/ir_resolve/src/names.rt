@@ -1,4 +1,4 @@
-//! What the names and numbers of a function as written call.
+//! The symbol table: what the names and numbers of a function as written refer to.
 
 mod definition;
 mod key;

@@ -1,4 +1,4 @@
-//! Functions by places, from functions as written.
+//! Resolving a function as written.
 
 ghost use Rattle.std.specs.Prelude.{◌≡◌, ℕ, None, List as Seq, IfOk, OnOk, IfErr};
 ghost use Rattle.ir_tokens.specs.declared.raw.RawFunction.{RawFunction as written_function};
@@ -24,8 +24,8 @@ use ir_tokens::{IrError, IrFaultKind, RawFunction};
 use refusal::refused;
 use std::alloc::{AllocError, Global};
 
-/// The first line of a duplicate: a name of a function, of a register or a block, or a number of a case that is there
-/// again. Of registers and blocks the first line is known.
+/// The first line of a duplicate: the function's name if an earlier function has it, a name of a register or a block,
+/// or the number of a case. `repeated_name` is the first line for registers and blocks.
 fn duplicate(
     alloc: Global,
     raw: &RawFunction,
@@ -42,7 +42,7 @@ fn duplicate(
     Ok(lesser(repeated_function, lesser(repeated_name, repeated_case)))
 }
 
-/// What each name and number calls, where numbers are those of the series and nothing is given twice.
+/// The symbol table of a function, or its first fault of the kinds `Numbering` and `Duplicate`.
 fn named(alloc: Global, raw: &RawFunction, is_repeated: bool) -> Result<Names<'_>, IrError>
     ensures table { IfOk result (λ names. Tabulates raw.now (known_by names)) }
     ensures numbered { OnOk result ((line : ℕ) → ¬ NumberingAt raw.now line) }
@@ -63,7 +63,7 @@ fn named(alloc: Global, raw: &RawFunction, is_repeated: bool) -> Result<Names<'_
     }
 }
 
-/// Whether what is read and named is there, and has the types that are written.
+/// Checks that the registers and blocks that are used are defined, and that types are as written.
 fn check_uses(alloc: Global, names: &Names<'_>, raw: &RawFunction) -> Result<(), IrError>
     requires { Tabulates raw.now (known_by names.now) }
     ensures known { OnOk result ((line : ℕ) → ¬ UnknownAt raw.now line) }
@@ -84,12 +84,12 @@ fn check_uses(alloc: Global, names: &Names<'_>, raw: &RawFunction) -> Result<(),
     }
 }
 
-/// The function that is meant, whose registers and blocks are known by place, or the first fault: of the first kind in
-/// the order of [`IrFaultKind`] that the function has, at the least line (LLVM Language Reference, "Identifiers", and
-/// the types that each instruction asks for). The caller says whether an earlier function of the module has the
-/// function's name.
+/// The function that the syntax tree means, whose registers and blocks are identified by index, or the first fault: of
+/// the first kind in the order of [`IrFaultKind`] that the function has, at the least line (LLVM Language Reference,
+/// "Identifiers", and the types that each instruction asks for). The caller says whether an earlier function of the
+/// module has the function's name.
 ///
-/// It takes steps and memory in proportion to what the function has, but for look-ups in hash tables.
+/// Time and memory are linear in the function's size, but for look-ups in hash tables.
 pub fn resolve(alloc: Global, raw: &RawFunction, is_repeated: bool) -> Result<Function, IrError>
     ensures means { IfOk result (Means raw.now) }
     ensures faultless { OnOk result ((earlier : Seq written_function) →
@@ -97,7 +97,7 @@ pub fn resolve(alloc: Global, raw: &RawFunction, is_repeated: bool) -> Result<Fu
     ensures refused { IfErr result (λ e. IfRefused e (λ fault. (earlier : Seq written_function) →
         MarksFunction is_repeated earlier raw.now → IsFirstNameFault earlier raw.now fault)) }
 
-    // What is read meets these checks, where it is written as the grammar has it.
+    // If the grammar spells what is read, the function meets these checks.
     ensures formed { IfOk result (λ f. IsWellWritten raw.now → IsWellNamed f) }
 {
     let names = named(alloc, raw, is_repeated)?;

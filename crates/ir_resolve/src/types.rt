@@ -1,4 +1,4 @@
-//! Types that do not fit.
+//! Type checking.
 
 ghost use Rattle.std.specs.Prelude.{◌≡◌, ◌↔◌, map, IsTrue};
 ghost use Rattle.ops.specs.Conversion.{CastFits};
@@ -39,7 +39,7 @@ fn value_clashes(names: &Names<'_>, width: u32, value: &RawValue) -> bool
     }
 }
 
-/// The first line at which a value is read that does not have the width that is written for it.
+/// The first line on which a value is read at another width than its own.
 pub(crate) fn read_clash(names: &Names<'_>, reads: &[Read<'_>]) -> Option<usize>
     ensures { IsFirst
         (ReadClashesIn (CallsRegisterIn (known_by names.now)) (map seen_read reads.now)) result }
@@ -52,7 +52,7 @@ pub(crate) fn read_clash(names: &Names<'_>, reads: &[Read<'_>]) -> Option<usize>
     found
 }
 
-/// Whether a cast may go from a width to another.
+/// Whether a cast may go from the one width to the other.
 fn cast_fits(cast: Cast, from: Width, to: Width) -> bool
     ensures { IsTrue result ↔ CastFits cast from to }
 {
@@ -62,7 +62,7 @@ fn cast_fits(cast: Cast, from: Width, to: Width) -> bool
     }
 }
 
-/// Whether the truth value of a call, if it has one, is a number of one bit.
+/// Whether the truth value of a call, if there is one, is a number of `i1`.
 fn truth_is_bit(truth: &Option<TypedOperand>) -> bool
     ensures { IsTrue result ↔ TruthIsBit truth.now }
 {
@@ -72,7 +72,7 @@ fn truth_is_bit(truth: &Option<TypedOperand>) -> bool
     }
 }
 
-/// Whether a call's operands have the width of the result.
+/// Whether a call's operands have the width of its result.
 fn arguments_fit(width: Width, arguments: &RawArguments) -> bool
     ensures { IsTrue result ↔ ArgumentsFit width arguments.now }
 {
@@ -82,14 +82,14 @@ fn arguments_fit(width: Width, arguments: &RawArguments) -> bool
     }
 }
 
-/// Whether the types in a call go together.
+/// Whether the types in a call agree.
 fn call_fits(call: &RawCall) -> bool
     ensures { IsTrue result ↔ CallFits call.now }
 {
     call.named == call.width && arguments_fit(call.width, &call.arguments)
 }
 
-/// The first line at which the types that an instruction writes do not go together.
+/// The first line on which the types that are written in an instruction do not agree.
 fn op_clash(op: &RawOp) -> Option<usize>
     ensures { IsFirst (OpClashesAt op.now) result }
 {
@@ -109,7 +109,7 @@ fn op_clash(op: &RawOp) -> Option<usize>
     }
 }
 
-/// Whether a case does not fit a switch of the width.
+/// Whether a case does not fit a switch on an operand of the width.
 fn case_clashes(width: Width, case: &RawCase) -> bool
     ensures { IsTrue result ↔ CaseClashes width case.now }
 {
@@ -118,7 +118,7 @@ fn case_clashes(width: Width, case: &RawCase) -> bool
         || literal_clashes(case.width.bits(), &case.value.value)
 }
 
-/// The first line of a case that does not fit a switch of the width.
+/// The first line of a case that does not fit a switch on an operand of the width.
 fn clash_of_cases(width: Width, cases: &[RawCase]) -> Option<usize>
     ensures { IsFirst (SomeAt cases.now (λ c at. CaseClashes width c × (c.value.line ≡ at))) result }
 {
@@ -129,7 +129,7 @@ fn clash_of_cases(width: Width, cases: &[RawCase]) -> Option<usize>
     found
 }
 
-/// The first line at which the types of a terminator do not fit, in a function that returns this width.
+/// The first line on which the types of a terminator do not agree, in a function that returns this width.
 fn end_clash(returned: Width, end: &RawTerminator) -> Option<usize>
     ensures { IsFirst (EndClashesAt returned end.now) result }
 {
@@ -143,7 +143,7 @@ fn end_clash(returned: Width, end: &RawTerminator) -> Option<usize>
     }
 }
 
-/// The first line at which the types that an instruction writes do not go together.
+/// The first line on which the types that are written in one of these instructions do not agree.
 fn clash_of_insts(insts: &[RawInst]) -> Option<usize>
     ensures { IsFirst (SomeAt insts.now (λ i. OpClashesAt i.op)) result }
 {
@@ -154,7 +154,7 @@ fn clash_of_insts(insts: &[RawInst]) -> Option<usize>
     found
 }
 
-/// The first line at which the types that a block writes do not fit, in a function that returns this width.
+/// The first line on which the types that are written in a block do not agree, in a function that returns this width.
 fn clash_in_block(returned: Width, block: &RawBlock) -> Option<usize>
     ensures { IsFirst (BlockClashesAt returned block.now) result }
 {
@@ -164,7 +164,8 @@ fn clash_in_block(returned: Width, block: &RawBlock) -> Option<usize>
     )
 }
 
-/// The first line at which the types that the blocks write do not fit, in a function that returns this width.
+/// The first line on which the types that are written in one of these blocks do not agree, in a function that returns
+/// this width.
 pub(crate) fn block_clash(returned: Width, blocks: &[RawBlock]) -> Option<usize>
     ensures { IsFirst (SomeAt blocks.now (BlockClashesAt returned)) result }
 {

@@ -1,4 +1,4 @@
-//! Names of registers and blocks that a function does not have.
+//! Uses of registers and blocks that the function does not define.
 
 ghost use Rattle.std.specs.Prelude.{◌≡◌, ◌↔◌, map, IsTrue};
 ghost use Rattle.ir_resolve.specs.FirstLines.{IsFirst, SomeAt};
@@ -11,7 +11,7 @@ use crate::names::{Names, block, register};
 use crate::uses::{Read, Uses};
 use ir_tokens::{Identifier, RawIdentifier, RawValue};
 
-/// Whether the value names a register that is not there.
+/// Whether the value is a register that is not defined.
 fn is_unknown(names: &Names<'_>, value: &RawValue) -> bool
     ensures { IsTrue result ↔ IsUnknownValue (CallsIn (known_by names.now)) value.now }
 {
@@ -25,14 +25,14 @@ fn is_unknown(names: &Names<'_>, value: &RawValue) -> bool
     }
 }
 
-/// Whether no block has the name or number.
+/// Whether the identifier refers to no block.
 fn is_unknown_block(names: &Names<'_>, identifier: &Identifier) -> bool
     ensures { IsTrue result ↔ IsUnknownBlock (CallsIn (known_by names.now)) identifier.now }
 {
     block(names, identifier).is_none()
 }
 
-/// The first line at which a register is read that is not there.
+/// The first line on which a register is read that is not defined.
 fn unknown_register(names: &Names<'_>, reads: &[Read<'_>]) -> Option<usize>
     ensures { IsFirst (SomeAt (map seen_read reads.now)
         (λ t at. IsUnknownValue (CallsIn (known_by names.now)) t.operand.value
@@ -46,7 +46,7 @@ fn unknown_register(names: &Names<'_>, reads: &[Read<'_>]) -> Option<usize>
     found
 }
 
-/// The first line at which a block is named that is not there.
+/// The first line on which a block is named that is not defined.
 fn unknown_block(names: &Names<'_>, targets: &[&RawIdentifier]) -> Option<usize>
     ensures { IsFirst (SomeAt (map (λ w. w.now) targets.now)
         (λ w at. IsUnknownBlock (CallsIn (known_by names.now)) w.identifier × (w.line ≡ at))) result }
@@ -59,7 +59,7 @@ fn unknown_block(names: &Names<'_>, targets: &[&RawIdentifier]) -> Option<usize>
     found
 }
 
-/// The first line at which a register or a block is named that is not there.
+/// The first line on which a register or a block is used that is not defined.
 pub(crate) fn unknown(names: &Names<'_>, uses: &Uses<'_>) -> Option<usize>
     ensures { IsFirst
         (UnknownIn (CallsIn (known_by names.now)) (seen_reads uses.now) (seen_targets uses.now)) result }

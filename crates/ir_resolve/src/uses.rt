@@ -1,4 +1,4 @@
-//! What a function as written reads, and which blocks it names.
+//! The uses of a function as written: its operands, and the blocks that it names.
 
 ghost use Rattle.std.specs.Prelude.{◌≡◌, [], ◌∷◌, map, OnOk, IfOk};
 ghost use Rattle.ir_resolve.specs.TypedReads.{typed, read_by, read_by_call, named_by, read_at_end, named_at_end, read_in, named_in, reads_of, targets_of};
@@ -11,21 +11,21 @@ use ir_tokens::{
 use ops::Width;
 use std::alloc::{AllocError, Global};
 
-/// An operand, and the width that is written for it, in bits.
+/// An operand, and the width that is written for it.
 #[derive(Clone, Copy)]
 pub(crate) struct Read<'a> {
     pub(crate) width: u32,
     pub(crate) operand: &'a RawOperand,
 }
 
-/// What is read, and the names of blocks, both in text order.
+/// The operands of a function, and the blocks that it names, both in text order.
 #[derive(Drop)]
 pub(crate) struct Uses<'a> {
     pub(crate) reads: Vec<Read<'a>>,
     pub(crate) targets: Vec<&'a RawIdentifier>,
 }
 
-/// How many reads and names of blocks there is room for at first. Most functions have no more.
+/// For how many operands and blocks memory is reserved at first. Most functions have no more.
 const USUAL_READS: usize = 64;
 
 const USUAL_TARGETS: usize = 32;
@@ -42,7 +42,7 @@ impl<'a> Uses<'a> {
         Ok(())
     }
 
-    /// Adds the name of a block.
+    /// Adds a block that is named.
     fn add_target(&mut self, target: &'a RawIdentifier) -> Result<(), AllocError>
         ensures { OnOk result (Adds self.old self.new [] (target.now ∷ [])) }
     {
@@ -50,7 +50,7 @@ impl<'a> Uses<'a> {
         Ok(())
     }
 
-    /// Adds what stands in a `phi`.
+    /// Adds the uses of a `phi`.
     fn add_incoming(&mut self, width: Width, incoming: &'a [RawIncoming]) -> Result<(), AllocError>
         ensures { OnOk result (Adds self.old self.new
             (map (λ i. typed width i.value) incoming.now) (map (λ i. i.block) incoming.now)) }
@@ -62,7 +62,7 @@ impl<'a> Uses<'a> {
         Ok(())
     }
 
-    /// Adds what a call reads.
+    /// Adds the operands of a call.
     fn add_arguments(&mut self, arguments: &'a RawArguments) -> Result<(), AllocError>
         ensures { OnOk result (Adds self.old self.new (read_by_call arguments.now) []) }
     {
@@ -75,7 +75,7 @@ impl<'a> Uses<'a> {
         }
     }
 
-    /// Adds what an instruction reads and names.
+    /// Adds the uses of an instruction.
     fn add_op(&mut self, op: &'a RawOp) -> Result<(), AllocError>
         ensures { OnOk result (Adds self.old self.new (read_by op.now) (named_by op.now)) }
     {
@@ -96,7 +96,7 @@ impl<'a> Uses<'a> {
         }
     }
 
-    /// Adds the blocks of the cases of a switch.
+    /// Adds the blocks that the cases of a switch name.
     fn add_cases(&mut self, cases: &'a [RawCase]) -> Result<(), AllocError>
         ensures { OnOk result (Adds self.old self.new [] (map (λ c. c.target) cases.now)) }
     {
@@ -106,7 +106,7 @@ impl<'a> Uses<'a> {
         Ok(())
     }
 
-    /// Adds what a terminator reads and names.
+    /// Adds the uses of a terminator.
     fn add_end(&mut self, end: &'a RawTerminator) -> Result<(), AllocError>
         ensures { OnOk result (Adds self.old self.new (read_at_end end.now) (named_at_end end.now)) }
     {
@@ -127,7 +127,7 @@ impl<'a> Uses<'a> {
         }
     }
 
-    /// Adds what a block reads and names.
+    /// Adds the uses of a block.
     fn add_block(&mut self, block: &'a RawBlock) -> Result<(), AllocError>
         ensures { OnOk result (Adds self.old self.new (read_in block.now) (named_in block.now)) }
     {
@@ -137,7 +137,7 @@ impl<'a> Uses<'a> {
         self.add_end(&block.end)
     }
 
-    /// What a function reads and names.
+    /// All uses of a function.
     pub(crate) fn of(alloc: Global, raw: &'a RawFunction) -> Result<Self, AllocError>
         ensures reads { IfOk result (λ uses. seen_reads uses ≡ reads_of raw.now) }
         ensures targets { IfOk result (λ uses. seen_targets uses ≡ targets_of raw.now) }

@@ -16,7 +16,7 @@ front_at_least n zero digits = at_least n digits
 front_at_least n (suc i) [] = omega arith
 front_at_least n (suc i) (d ∷ digits) = front_at_least (10 * n + (d - 48)) i digits
 
--- the digits up to one spell no more than all
+-- the number that the first digits spell is at most the number that all spell
 pub value_past : (digits : List ℕ) (i : ℕ) → i < length digits → 10 * decimal_value (take i digits) + (get_or digits i 0 - 48) ≤ decimal_value digits
 value_past digits i lt = omega (arith, fold_more step 0 digits i 0 lt, front_at_least 0 (i + 1) digits)
 

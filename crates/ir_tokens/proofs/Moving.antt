@@ -1,4 +1,4 @@
--- A token that isn't the last has a byte, and ends within the text.
+-- A token that isn't the last has at least one byte, and ends within the text.
 use Rattle.std.proofs.Common.{◌≡◌, ◌≢◌, ℕ, ◌+◌, ◌-◌, ◌<◌, ◌≤◌, Bool, false, not, eqb, List, [], ◌∷◌, length, drop, sym, ap, ◌∙◌, ◌⊎◌, ⊎_elim, arith}
 use Rattle.std.proofs.lemmas.Bool.{false≢true}
 use Rattle.std.proofs.lemmas.List.{length-take, length-drop, length-append}
@@ -31,7 +31,7 @@ begins_some text bytes kind n more h = ⊎_elim
     o)
     (seen text kind n h)
 
--- ---- a token that goes on
+-- ---- a token that extends further
 
 between_some : (text : List ℕ) (start end : ℕ) → 0 < length (between text start end) → start < end
 between_some text start end some = omega (arith, length-take (end - start) (drop start text))

@@ -1,4 +1,4 @@
--- At each place of a text something stands.
+-- At each place of a text there is a token or a fault.
 use Rattle.std.proofs.Common.{◌≡◌, ◌≢◌, ℕ, zero, suc, ◌+◌, ◌-◌, ◌<◌, ◌≤◌, Bool, true, false, eqb, List, Result, Ok, Err, length, take, drop, refl, sym, ap, ◌∙◌, ⊎_elim, ◌⊎◌, inl, inr, arith}
 use Rattle.std.specs.List.{list_any}
 use Rattle.std.proofs.lemmas.Bool.{false≢true}
@@ -20,9 +20,9 @@ use Rattle.scan.proofs.ModuleTokens.{begins_other, begins_token, longest_token, 
 use Rattle.scan.proofs.PlaceLemmas.{Behind}
 use Rattle.scan.proofs.QuotedLemmas.{zero_contained, zero_found}
 
--- ---- the longest front that is a token
+-- ---- the longest prefix that is a token
 
--- bytes are a token of some kind or of none
+-- bytes are a token of some kind, or of none
 abbrev SomeKind : (TokenKind → Bool) → Type 0
 SomeKind is = ((kind : TokenKind) × (is kind ≡ true)) ⊎ ((kind : TokenKind) → is kind ≡ false)
 
@@ -47,7 +47,7 @@ some_kind is =
       | kinds.Mark ↦ mark
     ]))))))))))))
 
--- none longer than k bytes
+-- the longest prefix of at most k bytes that is a token
 record LongestUpTo (text : List ℕ) (k : ℕ) : Type 0 where
   kind : TokenKind
   n : ℕ
@@ -81,7 +81,7 @@ Longest text = (kind : TokenKind) × (n : ℕ) × IsLongestFront text kind n
 longest : (text : List ℕ) → Longest text
 longest text = let l : LongestUpTo text (length text) = longest_up_to text (length text) in (l.kind, l.n, record { within = l.within; found = l.found; longest = l.longest })
 
--- ---- what a text begins with, where it begins with no gap
+-- ---- what a text that does not begin with a gap begins with
 
 holds_or_not : (bytes : List ℕ) → HoldsZero bytes ⊎ ¬ HoldsZero bytes
 holds_or_not bytes = ⊎_elim
@@ -89,7 +89,7 @@ holds_or_not bytes = ⊎_elim
     (λ (e : list_any (λ b. eqb b 0) (unquoted (in_quotes bytes)) ≡ false). inr (λ h. false≢true (sym e ∙ zero_found (unquoted (in_quotes bytes)) h)))
     (which (list_any (λ b. eqb b 0) (unquoted (in_quotes bytes))))
 
--- badly, or with a token, a byte that begins none, or the end
+-- the text begins badly, or with a token, a byte that begins none, or its end
 abbrev Begun : List ℕ → Type 0
 Begun text = BeginsBadly text ⊎ ((kind : TokenKind) × (n : ℕ) × Begins text kind n × ¬ HoldsZero (take n text))
 
@@ -115,7 +115,7 @@ begun text no_gap = ⊎_elim
     (which (begins_with is_bad text)))
     (zero_or_more (length text))
 
--- ---- what stands behind the gap at a place
+-- ---- what stands behind the gap from a place on
 
 pub next_exists : (text : List ℕ) (at : ℕ) → at ≤ length text → (next : Result Token BadByte) × IsNextOfModule text at next
 next_exists text at le =

@@ -1,4 +1,4 @@
--- The tokens of one entry, one after the other.
+-- The tokens of one entry, read one by one.
 use Rattle.std.proofs.Common.{◌≡◌, ℕ, ◌<◌, ◌≤◌, Bool, false, List, [], ◌∷◌, ◌++◌, length, take, Option, inl, inr, refl, sym, ap, subst, ◌∙◌, arith}
 use Rattle.std.proofs.lemmas.Bool.{cases_lt}
 use Rattle.std.proofs.lemmas.List.{take_all, take-append-le, length-append}
@@ -9,7 +9,7 @@ use Rattle.ir_tokens.specs.Places.{place_behind}
 use Rattle.ir_tokens.specs.ReaderPlaces.{place_behind_all, MayBegin, IsOneEntry}
 use Rattle.ir_tokens.specs.Tokens.{Placed}
 
--- no entry may begin behind any of these tokens, from a place on, and the reader stands behind them
+-- no entry may begin behind any of these tokens, and `behind` is the context behind them all
 pub record Within (place : Place) (tokens : List Placed) (behind : Place) : Type 0 where
   pub is_behind : behind ≡ place_behind_all place tokens
   pub within : (k : ℕ) → 0 < k → k ≤ length tokens → ¬ MayBegin (place_behind_all place (take k tokens))
@@ -24,7 +24,7 @@ before_last : (place : Place) (tokens : List Placed) (t : Placed) (behind : Plac
     → (k : ℕ) → 0 < k → k ≤ length tokens → ¬ MayBegin (place_behind_all place (take k (tokens ++ t ∷ [])))
 before_last place tokens t behind h k some le = subst (λ l. ¬ MayBegin (place_behind_all place l)) (sym (take-append-le k tokens (t ∷ []) le)) (h.within k some le)
 
--- an entry may begin behind the token, or the text ends with it
+-- one more token, behind which an entry may begin or the text ends
 pub ends_with : (place behind : Place) (tokens new : List Placed) (t : Placed) (ends : Bool) → Within place tokens behind → new ≡ tokens ++ t ∷ [] → (ends ≡ false → MayBegin (place_behind behind t)) → IsOneEntry place new ends
 ends_with place behind tokens new t ends h is may = subst (λ l. IsOneEntry place l ends) (sym is) (
     record {
@@ -39,7 +39,7 @@ none_begins (AtEntry before) not_there may = not_there before refl
 none_begins (InHeader word) not_there may = may
 none_begins (InBody word) not_there may = may
 
--- no entry may begin behind the token
+-- one more token, behind which no entry may begin
 pub goes_on_with : (place behind : Place) (tokens new : List Placed) (t : Placed) → Within place tokens behind → new ≡ tokens ++ t ∷ [] → ¬ MayBegin (place_behind behind t) → Within place new (place_behind behind t)
 goes_on_with place behind tokens new t h is none = subst (λ l. Within place l (place_behind behind t)) (sym is) (
     record {

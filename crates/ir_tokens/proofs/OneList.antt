@@ -17,7 +17,7 @@ use Rattle.ir_tokens.proofs.Moving.{token_within}
 
 -- ---- one token at a place
 
--- what a token that the scan finds is read as, by how far it goes on, and where that ends
+-- the token that this token of the scan is read as, by how far it extends, and where that ends
 abbrev IsReadAs : Extent → List ℕ → Scanned → Placed → ℕ → Type 0
 IsReadAs extents.Itself text s t end = (t ≡ (s.line, token_of s.kind (between text s.span.start s.span.end))) × (end ≡ s.span.end)
 IsReadAs extents.Line text s t end = (rest : Span)
@@ -26,7 +26,7 @@ IsReadAs extents.Group text s t end =
     ((rest : Span) × IsGroup text s.span.end rest × (t ≡ (s.line, KeptGroup (between text s.span.start rest.end))) × (end ≡ rest.end))
     ⊎ (HasNoGroup text s.span.end × (t ≡ (s.line, Other)) × (end ≡ s.span.end))
 
--- what the scan's answer is read as
+-- the token that the result of the scan is read as
 abbrev IsRead : List ℕ → Place → ℕ → Result Scanned BadByte → Placed → ℕ → Type 0
 IsRead text place at (Ok s) t end = IsReadAs (extent_of place s.line (between text s.span.start s.span.end)) text s t end
 IsRead text place at (Err e) t end = (t ≡ (e.line, Bad)) × (end ≡ at)

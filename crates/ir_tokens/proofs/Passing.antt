@@ -1,4 +1,4 @@
--- A reader goes behind one token more.
+-- A reader moves over one more token.
 use Rattle.std.proofs.Common.{◌≡◌, ℕ, true, false, List, [], ◌∷◌, ◌++◌, sym, ap, subst, ◌∙◌, append_assoc}
 use Rattle.ir_tokens.specs.declared.place.Place.{Place}
 use Rattle.ir_tokens.specs.Order.{IsTokenAt, AreTokens, last}

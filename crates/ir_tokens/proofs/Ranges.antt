@@ -1,4 +1,4 @@
--- Numbers that are beyond the range of each width.
+-- Numbers that are out of range at every width.
 use Rattle.std.proofs.Common.{◌≡◌, ℕ, ◌-◌, ◌^◌, ◌≤◌, false, List, None, refl, arith}
 use Rattle.std.specs.Prelude.{ℤ, pos, negsuc, unsigned_abs}
 use Rattle.std.proofs.Math.Pow.{pow_mono}
@@ -12,7 +12,7 @@ out_of_range N (negsuc n) le big =
     let less : N - 1 ≤ 63 = omega arith in
     let half : 2 ^ (N - 1) ≤ 2 ^ 63 = pow_mono less in grind (arith, ints)
 
--- a number of more than 64 bits is of no width
+-- a number of more than 64 bits is a constant of no width
 pub no_constant : (digits : List ℕ) (N : ℕ) → N ≤ 64 → 2 ^ 64 ≤ unsigned_abs (number_of digits) → constant_of digits N ≡ None
 unfolding constant_of
 no_constant digits N le big = rw (out_of_range N (number_of digits) le big) refl

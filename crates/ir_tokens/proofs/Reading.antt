@@ -1,11 +1,11 @@
--- The tokens of a text from a place on: one more.
+-- Reading one more token of a text.
 use Rattle.std.proofs.Common.{◌≡◌, ℕ, false, List, [], ◌∷◌, ◌++◌, sym, subst, append_assoc}
 use Rattle.ir_tokens.specs.declared.place.Place.{Place}
 use Rattle.ir_tokens.specs.Order.{IsTokenAt, TokensFrom, AreTokens, token}
 use Rattle.ir_tokens.specs.Places.{place_behind}
 use Rattle.ir_tokens.specs.Tokens.{Placed, is_last}
 
--- the tokens in front are those of the text up to a place, whatever tokens are there and behind
+-- the tokens in front, and then any tokens of the text from this offset on, are tokens of the whole text
 abbrev pub SoFar : List ℕ → Place → ℕ → List Placed → Type 0
 SoFar text place at front = (tokens : List Placed) → TokensFrom text place at tokens → AreTokens text (front ++ tokens)
 

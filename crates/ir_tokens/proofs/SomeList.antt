@@ -20,7 +20,7 @@ use Rattle.ir_tokens.proofs.Nexts.{next_exists}
 
 -- ---- a token at a place
 
--- a bracket is closed on its line or not
+-- a bracket is closed on its line, or isn't
 group_or_none : (text : List ℕ) (at : ℕ) → at ≤ length text → ((rest : Span) × IsGroup text at rest) ⊎ HasNoGroup text at
 group_or_none text at le = answered (closing false 0 (drop at text)) refl
   where

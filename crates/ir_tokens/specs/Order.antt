@@ -12,11 +12,11 @@ use Rattle.ir_tokens.specs.declared.place.Extent.TheVariants as extents
 use Rattle.ir_tokens.specs.Places.{extent_of, place_behind}
 use Rattle.ir_tokens.specs.Tokens.{Placed, Kept, KeptGroup, Other, Bad, token_of, is_last}
 
--- the token that the scan finds next in the text goes on so far
+-- the token that the scan finds next in the text extends so far
 abbrev pub HasExtent : List ℕ → Place → Scanned → Extent → Type 0
 HasExtent text place t extent = extent_of place t.line (between text t.span.start t.span.end) ≡ extent
 
--- A token of a text, where `at` bytes stand before it or before the gap in front of it, and where it ends.
+-- A token of a text in a context, read from byte offset `at` on, where a gap may come first; and the offset behind it.
 pub data IsTokenAt (text : List ℕ) (place : Place) (at : ℕ) : Placed → ℕ → Type 0 where
   -- a token by itself
   itself : (t : Scanned) → IsNextToken text at t → HasExtent text place t extents.Itself
@@ -30,15 +30,15 @@ pub data IsTokenAt (text : List ℕ) (place : Place) (at : ℕ) : Placed → ℕ
   -- the `(` of a kept group that isn't closed on its line
   unclosed : (t : Scanned) → IsNextToken text at t → HasExtent text place t extents.Group → HasNoGroup text t.span.end
       → IsTokenAt text place at (t.line, Other) t.span.end
-  -- a byte that may not stand
+  -- an invalid byte
   bad_byte : (line : ℕ) → IsBadToken text at line → IsTokenAt text place at (line, Bad) at
 
--- the tokens of a text from a place in it on
+-- the tokens of a text from byte offset `at` on, in a context
 pub data TokensFrom (text : List ℕ) : Place → ℕ → List Placed → Type 0 where
   last : {place : Place} {at end : ℕ} {t : Placed} → IsTokenAt text place at t end → is_last t.1 ≡ true → TokensFrom text place at (t ∷ [])
   token : {place : Place} {at end : ℕ} {t : Placed} {tokens : List Placed} → IsTokenAt text place at t end → is_last t.1 ≡ false
       → TokensFrom text (place_behind place t) end tokens → TokensFrom text place at (t ∷ tokens)
 
--- the tokens of a text, up to its end or to the first that stands in no module
+-- the tokens of a text, up to its end or to the first that the grammar allows nowhere
 abbrev pub AreTokens : List ℕ → List Placed → Type 0
 AreTokens text tokens = TokensFrom text (AtEntry None) 0 tokens

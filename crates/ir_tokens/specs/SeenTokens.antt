@@ -1,4 +1,4 @@
--- Tokens of the code without where they lie in memory.
+-- Tokens of the code as contracts see them, without where their bytes lie in memory.
 use Rattle.std.specs.Prelude.{List, map}
 use Rattle.ir_tokens.specs.declared.token.Token.{Token as Scanned}
 use Rattle.ir_tokens.specs.declared.token.Token.TheVariants as scanned
@@ -21,10 +21,10 @@ seen_token (scanned.Metadata text) = Metadata text.now
 seen_token (scanned.Quoted text) = Quoted text.now
 seen_token (scanned.Mark byte) = Mark byte
 
--- a token behind its line
+-- a token with its line
 abbrev pub seen_placed : ScannedPlaced → Placed
 seen_placed placed = (placed.line, seen_token placed.token)
 
--- tokens in order
+-- a list of tokens
 abbrev pub seen : List ScannedPlaced → List Placed
 seen tokens = map seen_placed tokens

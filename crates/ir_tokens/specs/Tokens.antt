@@ -9,7 +9,7 @@ pub data Token : Type 0 where
   End : Token
   -- a printable byte that begins no token, or the `(` of a kept group that isn't closed on its line
   Other : Token
-  -- a byte that may not stand where it does
+  -- an invalid byte
   Bad : Token
   -- a line that is kept as it is, from its first token to its last byte that is no blank
   Kept : (text : List ℕ) → Token
@@ -32,16 +32,16 @@ pub data Token : Type 0 where
   Quoted : (text : List ℕ) → Token
   Mark : (byte : ℕ) → Token
 
--- a token behind its line, which counts from 1; that of the end is the last line
+-- a token with its line, which counts from 1; that of the end is the last line
 abbrev pub Placed : Type 0
 Placed = ℕ × Token
 
--- the token of one byte; a mark has one
+-- the mark that these bytes are, which is one byte
 abbrev pub mark_of : List ℕ → Token
 mark_of [] = Other
 mark_of (b ∷ bytes) = Mark b
 
--- the token of a kind and its bytes, where it goes no further
+-- the token of a kind and its bytes, if it extends no further
 abbrev pub token_of : TokenKind → List ℕ → Token
 token_of kinds.End bytes = End
 token_of kinds.Other bytes = Other
@@ -55,7 +55,7 @@ token_of kinds.Metadata bytes = Metadata (drop 1 bytes)
 token_of kinds.Quoted bytes = Quoted bytes
 token_of kinds.Mark bytes = mark_of bytes
 
--- the end, or what stands in no module: nothing behind it is read
+-- reading ends with the token: it is the end of the text, or one that the grammar allows nowhere
 abbrev pub is_last : Token → Bool
 is_last End = true
 is_last Other = true

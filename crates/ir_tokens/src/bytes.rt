@@ -1,4 +1,4 @@
-//! Bytes of tokens.
+//! Tests of a token's bytes.
 
 ghost use Rattle.std.specs.Prelude.{◌≡◌, ◌-◌, length, take, drop};
 ghost use Rattle.std.specs.List.{list_all, list_any};
@@ -21,7 +21,7 @@ pub(crate) fn is_among(bytes: &[u8], words: &[&str]) -> bool
     words.iter().any(|wanted| is(bytes, wanted))
 }
 
-/// The bytes behind the first.
+/// The bytes without the first.
 pub(crate) fn without_first(bytes: &[u8]) -> &[u8]
     ensures { result.now ≡ drop 1 bytes.now }
 {
@@ -31,7 +31,7 @@ pub(crate) fn without_first(bytes: &[u8]) -> &[u8]
     }
 }
 
-/// The bytes before the last.
+/// The bytes without the last.
 pub(crate) fn without_last(bytes: &[u8]) -> &[u8]
     ensures { result.now ≡ take (length bytes.now - 1) bytes.now }
 {
@@ -63,7 +63,7 @@ fn begins_name(byte: u8) -> bool
     is_letter(byte) || matches!(byte, b'-' | b'$' | b'.' | b'_')
 }
 
-/// Whether a plain name may hold the byte.
+/// Whether the byte may stand in a plain name.
 #[tactic(auto, unfolding(scan::specs::Bytes::is_name_byte))]
 fn is_name_byte(byte: u8) -> bool
     ensures { result ≡ kinds.is_name_byte byte }
@@ -83,7 +83,7 @@ fn all_name_bytes(text: &[u8]) -> bool
     text.iter().all(|byte| is_name_byte(*byte))
 }
 
-/// Whether the text is digits, one or more.
+/// Whether the text is at least one digit and nothing else.
 pub(crate) fn are_digits(text: &[u8]) -> bool
     ensures { result ≡ kinds.are_digits text.now }
 {
@@ -93,7 +93,7 @@ pub(crate) fn are_digits(text: &[u8]) -> bool
     }
 }
 
-/// Whether the text is a number: digits, one or more, maybe behind a `-`.
+/// Whether the text is a number: at least one digit, maybe with a `-` before them.
 #[tactic(auto, unfolding(crate::specs::Numbers::is_number, scan::specs::Bytes::is_digit))]
 pub fn is_number(text: &[u8]) -> bool
     ensures { result ≡ numbers.is_number text.now }
@@ -104,8 +104,8 @@ pub fn is_number(text: &[u8]) -> bool
     }
 }
 
-/// Whether the text is a name as it stands without quotes: letters, digits, `-`, `$`, `.` and `_`, of which the first
-/// is no digit.
+/// Whether the text is a name that is written without quotes: letters, digits, `-`, `$`, `.` and `_`, not beginning
+/// with a digit.
 #[tactic(auto, unfolding(scan::specs::IrTokens::is_plain_name))]
 pub fn is_plain_name(text: &[u8]) -> bool
     ensures { result ≡ names.is_plain_name text.now }

@@ -1,11 +1,11 @@
-//! What registers, functions and blocks are called.
+//! Identifiers of registers, functions and blocks.
 
 use lists::Text;
 
-/// What a register, a function or a block is called.
+/// The identifier of a register, a function or a block: a name or a number.
 #[derive(Drop)]
 pub enum Identifier {
     Named(Text),
-    /// A number; one past the end of `u64` is held as that end, since no function has so many registers.
+    /// A number; one that is 2^64 or more is held as 2^64 - 1, since no function has so many registers.
     Numbered(u64),
 }

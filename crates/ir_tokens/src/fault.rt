@@ -1,45 +1,44 @@
-//! Why a text is no module.
+//! Why a text is refused as a module.
 
 use crate::called::Identifier;
 use lists::Text;
 use refusal::{Fault, Refusal};
 
-/// What is wrong, in the order in which it is looked for: up to `ConstRange` over the whole text, and then function by
-/// function.
+/// The kinds of faults. They are looked for in this order: the kinds up to `ConstRange` over the whole text, and the
+/// others then function by function.
 #[derive(Drop)]
 pub enum IrFaultKind {
     /// The text has more than 16,777,216 bytes.
     TooLong,
-    /// A byte that may not stand where it does.
+    /// An invalid byte.
     BadByte,
-    /// Another token than those that may stand there, or the text ends there.
+    /// A token that fits nothing that the grammar allows there, or the text ends too soon.
     Syntax,
-    /// What is left out of the language: the word, or the first byte of a token that is no word.
+    /// A part of LLVM IR that is not supported (left out): the word, or the first byte of a token that is no word.
     LeftOut(Text),
     /// An integer type whose width is not from 1 to 64.
     Width,
     /// A number that does not fit its type.
     ConstRange,
-    /// A number is written for a parameter, a block or a result that is not the next of the series.
+    /// The number that is written for a parameter, a block or a result is not the next of the function's series.
     Numbering,
-    /// A name is given twice, an earlier function has the function's name, or a `switch` has two cases of one value.
+    /// A name is given twice, an earlier function has the function's name, or two cases of a `switch` have one value.
     Duplicate,
-    /// A register or a block is named that the function does not have.
+    /// A register or a block is used that the function does not define.
     Unknown,
-    /// A value does not have the type that is written for it, or types do not go together.
+    /// A value does not have the type that is written for it, or types do not agree.
     TypeClash,
-    /// A `phi`, at its register: it stands behind another instruction than a `phi`, it has no entry for a block whose
-    /// terminator names its own or one for another block, or it has two operands for one block.
+    /// A `phi`, on the line of its register: it stands behind an instruction that is no `phi`, it has no entry for a
+    /// predecessor of its block or one for another block, or it has two operands for one block.
     BadPhi,
-    /// A terminator names the first block.
+    /// A terminator names the entry block.
     EntryPred,
-    /// A register is read where it is not assigned on every way there: what is written for it, and the place of the
-    /// block in which that stands, which counts from 0.
+    /// A register is read where it is not assigned on every path: the identifier that is written for it, and the index
+    /// of the block in which that stands.
     Unassigned(Identifier, u32),
 }
 
-/// The first fault of a text. Where the text ends too soon its line is the last one, and where it is too long the
-/// first.
+/// The first fault of a text. If the text ends too soon, its line is the last one, and if it is too long, the first.
 pub type IrFault = Fault<IrFaultKind>;
 
 /// Why no module was read.

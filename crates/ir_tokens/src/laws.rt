@@ -1,7 +1,7 @@
-//! The laws of tokens, each the contract of a function that does nothing.
+//! The law of tokens, as the contract of a function with an empty body.
 ghost use Rattle.ir_tokens.specs.Laws.{TextsHaveOneListOfTokens};
 
-/// A text has one list of tokens.
+/// A text has exactly one list of tokens.
 pub fn every_text_has_one_list_of_tokens()
     ensures { TextsHaveOneListOfTokens }
 {

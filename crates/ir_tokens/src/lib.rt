@@ -1,5 +1,5 @@
-//! The tokens of a module's text in order, each with its line, what names and numbers mean as they are written, and the
-//! kinds of faults.
+//! The second half of lexing a module: its tokens in order, each with its line; the names and numbers that they spell;
+//! and the kinds of faults.
 #![tactic(auto)]
 
 mod bytes;

@@ -1,4 +1,4 @@
-//! Names and numbers of registers, functions and blocks.
+//! The identifiers that are written for registers, functions and blocks.
 
 ghost use Rattle.std.specs.Prelude.{◌≡◌, IfOk};
 ghost use Rattle.scan.specs.Quoted as quoted;
@@ -11,8 +11,8 @@ use lists::Text;
 use scan::unescaped;
 use std::alloc::{AllocError, Global};
 
-/// The name or the number that is written: digits are a number, a quoted text is the name that it spells, and other
-/// bytes are the name itself.
+/// The identifier that is written: digits are a number, a quoted text is the name that it spells, and other bytes are
+/// the name itself.
 #[tactic(auto, unfolding(crate::specs::Identifiers::identifier_of))]
 pub fn identifier(alloc: Global, written: &[u8]) -> Result<Identifier, AllocError>
     ensures { IfOk result (λ i. i ≡ identifiers.identifier_of written.now) }
@@ -24,7 +24,7 @@ pub fn identifier(alloc: Global, written: &[u8]) -> Result<Identifier, AllocErro
     }
 }
 
-/// The bytes of a name as it is written.
+/// The bytes of the name that is written.
 #[tactic(auto, unfolding(crate::specs::Identifiers::name_of))]
 fn name(alloc: Global, written: &[u8]) -> Result<Vec<u8>, AllocError>
     ensures { IfOk result (λ x. x.items ≡ identifiers.name_of written.now) }
@@ -35,7 +35,7 @@ fn name(alloc: Global, written: &[u8]) -> Result<Vec<u8>, AllocError>
     }
 }
 
-/// The bytes that stand for these between quotes.
+/// The bytes that these, between quotes, stand for.
 fn unquoted(alloc: Global, inner: &[u8]) -> Result<Vec<u8>, AllocError>
     ensures { IfOk result (λ x. x.items ≡ quoted.unquoted inner.now) }
 {

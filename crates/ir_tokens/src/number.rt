@@ -5,7 +5,7 @@ ghost use Rattle.ir_tokens.specs.Numbers as numbers;
 
 use ops::{Width, Word, residue};
 
-/// The number that decimal digits spell, where it is below 2^64.
+/// The number that decimal digits spell, if it is below 2^64.
 pub(crate) fn decimal_number(digits: &[u8]) -> Option<u64>
     ensures { SomeIff result (numbers.decimal_value digits.now < 2 ^ 64) (numbers.decimal_value digits.now) }
 {
@@ -17,7 +17,7 @@ pub(crate) fn decimal_number(digits: &[u8]) -> Option<u64>
     Some(number)
 }
 
-/// The number that digits spell, maybe behind a `-`, where it has at most 64 bits besides the sign.
+/// The number that digits, maybe with a `-` before them, spell, if its absolute value is below 2^64.
 #[tactic(auto, unfolding(crate::specs::Numbers::number_of))]
 fn number(digits: &[u8]) -> Option<i128>
     ensures some { IfSome result (λ z. z ≡ numbers.number_of digits.now) }
@@ -29,7 +29,7 @@ fn number(digits: &[u8]) -> Option<i128>
     }
 }
 
-/// The number of `width` bits that digits spell, maybe behind a `-`, read modulo 2^N. `None` where it is not from
+/// The number of `width` bits that digits, maybe with a `-` before them, spell, modulo 2^N. `None` if it is not from
 /// -2^(N-1) to 2^N - 1. (LLVM Language Reference, "Simple Constants".)
 #[tactic(auto, unfolding(crate::specs::Numbers::constant_of, crate::specs::Numbers::is_in_range))]
 pub fn constant(digits: &[u8], width: Width) -> Option<Word>

@@ -1,4 +1,4 @@
-//! Tokens that depend on where they stand.
+//! Tokens that depend on their context in the module.
 
 ghost use Rattle.std.specs.Prelude.{◌≡◌};
 ghost use Rattle.ir_tokens.specs.Places as places;
@@ -7,30 +7,30 @@ ghost use Rattle.ir_tokens.specs.SeenTokens.{seen_placed};
 use crate::bytes::{is, is_among};
 use crate::token::{Placed, Token};
 
-/// Where in a module the next token stands.
+/// The lexical context of the next token in a module.
 #[derive(Clone, Copy, PartialEq, Eq)]
 pub enum Place {
-    /// Between the entries of the module; with the line of the token before, where there is one.
+    /// Between the entries of the module; with the line of the token before, if there is one.
     AtEntry(Option<usize>),
-    /// In the header of a function, from the word `define` to the body; with the line of the token before, where that
-    /// is a word.
+    /// In the header of a function, from the word `define` to the body; with the line of the token before, if that is a
+    /// word.
     InHeader(Option<usize>),
-    /// In the body of a function; with the line of the token before, where that is a word.
+    /// In the body of a function; with the line of the token before, if that is a word.
     InBody(Option<usize>),
 }
 
-/// How far a token goes on.
+/// How far a token extends beyond the bytes that the scan found.
 #[derive(Clone, Copy, PartialEq, Eq)]
 pub enum Extent {
-    /// It is a token by itself.
+    /// Not at all.
     Itself,
-    /// It begins a kept line.
+    /// To the end of its line: it begins a kept line.
     Line,
-    /// It is the `(` of a kept group.
+    /// To the closing bracket: it is the `(` of a kept group.
     Group,
 }
 
-/// Whether a token of these bytes begins a kept line, where it is the first on its line.
+/// Whether a token with these bytes begins a kept line, if it is the first on its line.
 #[tactic(auto, unfolding(crate::specs::Places::begins_kept))]
 fn begins_kept(bytes: &[u8]) -> bool
     ensures { result ≡ places.begins_kept bytes.now }
@@ -41,7 +41,7 @@ fn begins_kept(bytes: &[u8]) -> bool
     ) || matches!(bytes, [b'!' | b'$', ..])
 }
 
-/// How far the token on a line goes on that has these bytes by itself.
+/// How far the token extends that stands on a line and has these bytes by itself.
 #[tactic(auto, unfolding(crate::specs::Places::extent_of))]
 pub(crate) fn extent_of(place: Place, line: usize, bytes: &[u8]) -> Extent
     ensures { result ≡ places.extent_of place line bytes.now }
@@ -55,7 +55,7 @@ pub(crate) fn extent_of(place: Place, line: usize, bytes: &[u8]) -> Extent
     }
 }
 
-/// The place behind a token.
+/// The lexical context behind a token.
 pub(crate) fn place_behind(place: Place, placed: Placed<'_>) -> Place
     ensures { result ≡ places.place_behind place (seen_placed placed.entry) }
 {

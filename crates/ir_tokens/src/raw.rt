@@ -1,4 +1,4 @@
-//! Modules as they are written: what has a name is known by it, and each type and number is read.
+//! Modules as they are written, the syntax trees of the parser: names are kept, and types and numbers are read.
 
 use crate::Identifier;
 use lists::{List, Text};
@@ -57,7 +57,7 @@ pub struct RawIdentifier {
 /// A basic block as written.
 #[derive(Drop)]
 pub struct RawBlock {
-    /// Missing in the first block of a function at most.
+    /// Missing only in the first block of a function, if at all.
     pub label: Option<RawIdentifier>,
     pub insts: List<RawInst>,
     pub end: RawTerminator,
@@ -81,17 +81,17 @@ pub enum RawOp {
     Compare(Pred, bool, Width, RawOperand, RawOperand),
     /// `call` of an integer intrinsic.
     Call(RawCall),
-    /// `select`: the condition, what it gives where the condition is true, and what where it is false.
+    /// `select`: the condition, the operand that it chooses where it is true, and the one where it is false.
     Select(TypedOperand, TypedOperand, TypedOperand),
     /// A cast with its flags, from a width to another.
     Convert(Cast, Flags, Width, RawOperand, Width),
     /// `freeze`.
     Freeze(Width, RawOperand),
-    /// `phi`, with one incoming value or more.
+    /// `phi`, with at least one incoming value.
     Phi(Width, List<RawIncoming>),
 }
 
-/// A call of an integer intrinsic as written. What else stands in it is dropped.
+/// A call of an integer intrinsic as written. Attributes and other items in it are dropped.
 #[derive(Drop)]
 pub struct RawCall {
     /// The line of the word `call`, counted from 1.
@@ -103,12 +103,12 @@ pub struct RawCall {
     pub arguments: RawArguments,
 }
 
-/// An integer intrinsic with what it is called with.
+/// An integer intrinsic with its arguments.
 #[derive(Drop)]
 pub enum RawArguments {
     /// `umin`, `umax`, `smin` or `smax` of two operands.
     Binary(Opcode, TypedOperand, TypedOperand),
-    /// An intrinsic of one operand, and the number, `true` or `false` beside it, where the intrinsic has one.
+    /// An intrinsic of one operand, and its truth value (a number, `true` or `false`), if the intrinsic takes one.
     Unary(Unary, TypedOperand, Option<TypedOperand>),
 }
 
@@ -138,7 +138,7 @@ pub enum RawValue {
     Poison,
 }
 
-/// A value of a `phi`, and the block that control comes from.
+/// An incoming value of a `phi`, and the block that control comes from.
 #[derive(Drop)]
 pub struct RawIncoming {
     pub value: RawOperand,
@@ -155,7 +155,7 @@ pub enum RawTerminator {
     Jump(RawIdentifier),
     /// `br` on a condition of a width: to the first block where it is true, and to the second where it is false.
     Branch(Width, RawOperand, RawIdentifier, RawIdentifier),
-    /// `switch` on an operand of a width: where to go in no case, and the cases.
+    /// `switch` on an operand of a width: the default block, and the cases.
     Switch(Width, RawOperand, RawIdentifier, List<RawCase>),
 }
 

@@ -1,4 +1,4 @@
-//! The tokens of a text, entry by entry.
+//! The tokens of a text, read entry by entry.
 
 ghost use Rattle.std.specs.Prelude.{◌≡◌, ◌<◌, ℕ, List as Seq, [], ◌++◌, IfOk, OnErr, false};
 ghost use Rattle.ir_tokens.specs.ReaderPlaces.{StandsIn, HasPassed, HasCome, IsOneEntry};
@@ -12,7 +12,7 @@ use crate::tokens::next;
 use scan::Cursor;
 use std::alloc::AllocError;
 
-/// A place in a text that goes forward entry by entry.
+/// A reader that moves over a text entry by entry.
 #[derive(Drop)]
 pub struct TokenReader<'a> {
     text: &'a [u8],
@@ -21,7 +21,7 @@ pub struct TokenReader<'a> {
 }
 
 impl<'a> TokenReader<'a> {
-    /// The place before the first token.
+    /// The reader at the start of the text.
     pub fn new(text: &'a [u8]) -> TokenReader<'a>
         ensures { HasPassed text.now [] result }
     {
@@ -32,9 +32,9 @@ impl<'a> TokenReader<'a> {
         }
     }
 
-    /// Takes the tokens of the next entry, up to where another may begin, behind those that are there. Answers the
-    /// reader behind them, and whether the last token of the text is among them; nothing is read behind it. Where
-    /// memory is short the tokens are as before.
+    /// Reads the tokens of the next entry, up to where another may begin, and appends them. Returns the reader behind
+    /// them, and whether the last token of the text is among them; nothing is read behind that. Where memory is refused
+    /// the tokens are as before.
     pub fn take_entry(
         self,
         tokens: &mut Vec<Placed<'a>>,

@@ -20,10 +20,10 @@ pub struct Placed<'a> {
 pub enum Token<'a> {
     /// The end of the text.
     End,
-    /// A printable byte that begins no token, or the `(` of a kept group that is not closed on its line. It stands in
-    /// no module, and nothing behind it is read.
+    /// A printable byte that begins no token, or the `(` of a kept group that is not closed on its line. The grammar
+    /// allows it nowhere, and nothing behind it is read.
     Other,
-    /// A byte that may not stand where it does, as `BadByte` has it. Nothing behind it is read.
+    /// An invalid byte, as `BadByte` describes it. Nothing behind it is read.
     Bad,
     /// A line between functions that is kept as it is, from its first token to its last byte that is no blank.
     Kept(&'a [u8]),
@@ -48,7 +48,7 @@ pub enum Token<'a> {
     Mark(u8),
 }
 
-/// The token of a kind and its bytes, where it goes no further.
+/// The token of a kind and its bytes, if it extends no further.
 pub(crate) fn token_of(kind: TokenKind, bytes: &[u8]) -> Token<'_>
     ensures { seen_token result ≡ relation.token_of kind bytes.now }
 {
@@ -76,7 +76,7 @@ fn mark(bytes: &[u8]) -> Token<'_>
     }
 }
 
-/// Whether nothing behind the token is read.
+/// Whether reading ends with the token.
 pub(crate) fn is_last(token: Token<'_>) -> bool
     ensures { result ≡ relation.is_last (seen_token token.entry) }
 {

@@ -9,7 +9,7 @@ use crate::token::{Placed, Token, is_last, token_of};
 use scan::{BadByte, Cursor};
 use std::alloc::{AllocError, Global};
 
-/// The token behind the cursor, which goes behind it; at a byte that may not stand the cursor stays.
+/// Reads the token behind the cursor, which moves behind it; at an invalid byte the cursor stays where it was.
 pub(crate) fn next<'a>(cursor: &mut Cursor<'a>, text: &'a [u8], place: Place) -> Placed<'a>
     requires text { cursor.old.text ≡ text.now }
     requires within { cursor.old.at ≤ length text.now }
@@ -52,9 +52,9 @@ pub(crate) fn next<'a>(cursor: &mut Cursor<'a>, text: &'a [u8], place: Place) ->
     }
 }
 
-/// The tokens of a text in order, up to its end or to the first that stands in no module. It takes as many steps as the
-/// text has bytes: since nothing is read behind a `(` that is not closed on its line, a line is looked through for one
-/// such alone.
+/// The tokens of a text in order, up to its end or to the first that the grammar allows nowhere. The time is linear in
+/// the text's length: since nothing is read behind a `(` that is not closed on its line, the rest of a line is searched
+/// in vain only once.
 pub fn tokens_of(alloc: Global, text: &[u8]) -> Result<Vec<Placed<'_>>, AllocError>
     ensures { IfOk result (λ tokens. AreTokens text.now (seen tokens.items)) }
 {

@@ -1,4 +1,4 @@
--- Readers of the arguments of calls.
+-- Viable prefixes of the arguments of calls.
 use Rattle.std.proofs.Common.{◌≡◌, ℕ, suc, Bool, true, false, cond, List, [], ◌∷◌, ◌++◌, length, Option, Some, None, Ok, Err, refl, sym, ap, subst, ◌∙◌, ◌⊎◌, inl, inr, append_assoc, arith}
 use Rattle.std.specs.Prelude.{codes}
 use Rattle.ops.specs.declared.keywords.flag.Flag.{Flag}
@@ -201,7 +201,7 @@ last_token [] t none = none
 last_token (u ∷ []) t none = none
 last_token (u ∷ v ∷ front) t none = last_token (v ∷ front) t none
 
--- no flag is a value
+-- no keyword of a flag is a value
 flag_is_no_value : (flag : Flag) → value_in (flag_keyword flag) ≡ None
 unfolding value_in truth_in
 flag_is_no_value Nuw = refl

@@ -1,4 +1,4 @@
--- Where instructions read items: in calls.
+-- Where instructions read items, they do so in calls.
 use Rattle.std.proofs.Common.{◌≡◌, ◌≢◌, ◌≤◌, ℕ, suc, Bool, true, false, cond, eqb, List, [], ◌∷◌, ◌++◌, length, Option, Some, None, Ok, Err, refl, sym, ap, subst, ◌∙◌, inr, append_assoc, arith, length-append}
 use Rattle.std.proofs.lemmas.Bool.{eqb-true}
 use Rattle.std.proofs.lemmas.List.{append-nil, append_cancel_right}
@@ -63,7 +63,7 @@ each_both : {A : Type 0} (P : A → Part) (xs ys : List A) (tokens middle rest :
 each_both P [] ys tokens middle rest same two = subst (λ (ts : List Placed). Each P ys ts rest) (sym same) two
 each_both P (x ∷ xs) ys tokens middle rest (behind, one, more) two = (behind, one, each_both P xs ys behind middle rest more two)
 
--- the items before a group that is one
+-- the items before a group that is read as an item
 group_in : (text : List ℕ) (items : List (List ℕ)) (front behind rest : List Placed) → Each SpellsItem items (front ++ the_group text ∷ behind) rest → length rest ≤ length behind
     → (before : List (List ℕ)) × ((tokens : List Placed) → Each SpellsItem before (front ++ tokens) tokens)
 group_in text [] front behind rest same less = absurd (omega (arith, ap length same, length-append front (the_group text ∷ behind)))
@@ -137,7 +137,7 @@ token_item (l, Group text) rest next = of_group (l, refl)
 token_item (l, Quoted text) rest next = of_quoted (l, refl)
 token_item (l, t) rest next = absurd cc
 
--- behind items it is one more
+-- such a token behind items is one more item
 one_behind : (before : List (List ℕ)) (front : List Placed) → ((tokens : List Placed) → Each SpellsItem before (front ++ tokens) tokens) → (t : Placed) (rest : List Placed) → begins_item (t ∷ []) ≡ true → Each SpellsItem (before ++ item_of t.1 ∷ []) (front ++ t ∷ rest) rest
 one_behind before front each t rest next = each_both SpellsItem before (item_of t.1 ∷ []) (front ++ t ∷ rest) (t ∷ rest) rest (each (t ∷ rest)) (rest, token_item t rest next, refl)
 
@@ -185,7 +185,7 @@ last_items_words text front e goes line w more none =
     let b = last_before text front e goes in
     (fault line (LeftOut w), rw (items_at-of b.0 (front ++ (line, Word w) ∷ more) ((line, Word w) ∷ more) (b.1 ((line, Word w) ∷ more)) none tt) refl)
 
--- items behind which an end of an argument is refused
+-- items of a header, behind which the end of an argument is refused
 pub header_then : {A B : Type 0} {E F G : Follow} {R : Reader A} {S : A → Reader B} (text : List ℕ) → Sample E R F → Faring R F
     → ((front : List Placed) → Ended (Whole text front) → Goes text R front → Ready R front) → ((x : A) (end : Placed) (more : List Placed) → EndsArgument end.1 → (e : Fault IrFaultKind) × (S x (end ∷ more) ≡ Err e))
     → ((x : A) → Placing text F (S x) G) → ((x : A) → Goes text (S x) [] → ⊥) → Placing text E (R >>= S) G
@@ -218,7 +218,7 @@ pub type_follows : FollowsItems a_type
 unfolding is_item_word type_in bytes.is_digit
 type_follows = (refl, tt)
 
--- no type refuses the group
+-- a type refuses the group
 pub type_not_at_once : {B : Type 0} (text : List ℕ) (S : ℕ → Reader B) → Goes text (type_at >>= S) [] → ⊥
 unfolding type_at unexpected
 type_not_at_once text S = none_at_once text (type_at >>= S) (fault 0 (misfit places.Type (Group text))) (λ more. refl)
@@ -235,7 +235,7 @@ pub mark_not_at_once : {B : Type 0} (text : List ℕ) (wanted : ℕ) (S : Unit {
 unfolding mark_at unexpected
 mark_not_at_once text wanted S = none_at_once text (mark_at wanted >>= S) (fault 0 (misfit places.Fixed (Group text))) (λ more. refl)
 
--- a mark, and what is behind it
+-- a mark, and then another parser
 pub mark_then : {B : Type 0} {E G : Follow} {S : Unit {0} → Reader B} (text : List ℕ) (wanted : ℕ) → E (Mark wanted) → ((u : Unit {0}) → Placing text Anything (S u) G) → Placing text E (mark_at wanted >>= S) G
 mark_then {E = E} text wanted e p =
     let fares_so : Faring (mark_at wanted) Anything = good (mark-good {E = E} wanted e) in
@@ -267,7 +267,7 @@ inner_is_next item tokens rest (of_group (line, one)) going = rw (one, going) re
 inner_is_next item tokens rest (of_quoted (line, one)) going = rw (one, going) refl
 inner_is_next item tokens rest (of_key_and_value key value same (middle, (line, one), (behind, (next, two), three))) going = rw (one, two) refl
 
--- items are read up to what is none
+-- items are read up to a token that is none
 in_items : (Q : Reader RawOperand) (items before : List (List ℕ)) (tokens rest : List Placed) → Each SpellsItem items tokens rest → ends_argument rest ≡ false → MayFollowItem rest → In Q before tokens ≡ In Q (before ++ items) rest
 in_items Q [] before tokens rest same going may = rw (same, append-nil before) refl
 in_items Q (item ∷ items) before tokens rest (middle, one, more) going may =
@@ -297,7 +297,7 @@ in_places text Q width q spelled is_good front e goes =
     items_read : (items : List (List ℕ)) (tokens rest : List Placed) → Each SpellsItem items tokens rest → begins_inner_item rest ≡ false → ends_argument rest ≡ false → MayFollowItem rest → In Q [] tokens ≡ goes_on (Q rest) (λ y. done y)
     items_read items tokens rest each none going may = in_items Q items [] tokens rest each going may ∙ here Q items rest none ∙ read_alone (Q rest)
 
-    -- the value is no group
+    -- the value is not the group
     short : (x : RawOperand) (t : Token) (more rest value_on : List Placed) → value_on ≡ (x.line, t) ∷ rest → IsValueToken width x.value t
         → (taken : List Placed) × (front ++ the_group text ∷ (more ++ rest) ≡ taken ++ value_on) → length value_on ≤ length (more ++ rest)
     short x t [] rest value_on same value (taken, there) =
@@ -365,7 +365,7 @@ arguments_placing text (intrinsics.Unary op) =
     (λ operand. placing_then text (truth-good op).sample (good (truth-good op)) (truth_places text op) (λ truth. placing_done text (λ t f. f) _) (later (λ truth. done_not_at_once text _)))
     (later (λ operand. truth_not_at_once text op _ (λ truth. done_not_at_once text _)))
 
--- ---- what stands behind a call
+-- ---- items and attachments behind a call
 
 close_read : (tokens : List Placed) (x : ℕ × List Placed) → close_at tokens ≡ Ok x → tokens ≡ (x.0, Mark marks.close_paren) ∷ x.1
 unfolding close_at
@@ -380,12 +380,12 @@ close_read ((line, Mark m) ∷ rest) x is = by (eqb m marks.close_paren) refl is
     by false h read = absurd cc
 close_read ((line, t) ∷ rest) x is = absurd cc
 
--- a mark before the group stands on a line
+-- a mark before the group is not on line 0
 mark_line : (text : List ℕ) (t : Placed) (front : List Placed) (mark : ℕ) → Ended (Whole text (t ∷ front)) → t.1 ≡ Mark mark → t.0 ≢ 0
 mark_line text t [] mark e is = e.2 mark is
 mark_line text t (u ∷ front) mark e is = e.2 mark is
 
--- items behind a call stand on its line, and the group doesn't
+-- items behind a call are on its line, and the group is not
 closing_places : {A : Type 0} (text : List ℕ) (x : A) → Places text (Closing x) NotComma
 closing_places {A} text x front e goes =
     let (y, more, rest, is) = goes_through text (Closing x) front (good_open (closing-open x) (Whole text front) e) goes (Mark marks.open_paren) refl in
@@ -516,7 +516,7 @@ inst_places text =
 step_places : (text : List ℕ) (a : List RawInst) → Places text (Step a) NotComma
 step_places text a = places_then text (good_open (inst-open {E = Anything} tt)) (inst_places text) (λ x. (placing_done {E = NotComma} text (λ t f. f) (a ++ x ∷ [])).places) (λ x. (done-good {V = Unit {0}} (λ t f. f) (a ++ x ∷ [])).sample) (later (λ x. done_not_at_once text (a ++ x ∷ [])))
 
--- where no instruction is next, none are read
+-- where no instruction is next, the group is not read
 insts_not_at_once : (text : List ℕ) (a : List RawInst) → Goes text (Loop a) [] → ⊥
 insts_not_at_once text a goes = more_than_end text [] (goes.read (a, Whole text []) (each-done parsing.is_register parsing.inst_at a (Whole text []) refl))
 

@@ -1,4 +1,4 @@
--- Readers of calls. A callee that is no intrinsic is told of at the word `call`.
+-- Viable prefixes of calls. The fault of a callee that is no intrinsic is at the word `call`.
 use Rattle.std.proofs.Common.{◌≡◌, ℕ, Bool, true, false, cond, List, [], ◌∷◌, ◌++◌, Option, Some, None, Ok, Err, refl, sym, ap, subst, ◌∙◌, ◌⊎◌, inl, inr, append_assoc}
 use Rattle.std.proofs.lemmas.List.{append-nil, append_cancel_right}
 use Rattle.std.specs.Prelude.{codes}
@@ -54,7 +54,8 @@ assoc (Err e) f g = refl
 
 -- ---- a callee
 
--- A function is refused that is no intrinsic, in a call whose word is on the line, where such tokens stand before it.
+-- A function is refused since it is no intrinsic, in a call whose word is on the line, behind tokens of which Stands
+-- holds.
 pub record IsCallee {A : Type 0} (R : Reader A) (F : Follow) (line : ℕ) (Stands : List Placed → Type 0) (front : List Placed) (t : Placed) (found : Fault IrFaultKind) : Type 0 where
   pub written : List ℕ
   pub one : List ℕ
@@ -92,7 +93,7 @@ callee_second G R S s line Stands Wider tokens x o wider front t behind there fo
   others = λ other none. bad_second (Unit {0}) (Unit {0}) Anything Anything R S tokens x o front t.0 t.1 behind there (Function other) (c.others other none);
 })
 
--- what is told of a callee behind the word `call`
+-- the fault of a callee behind the word `call`
 pub callee_told : {A : Type 0} (R : Reader A) (F : Follow) (line : ℕ) (front : List Placed) (t : Placed) (found : Fault IrFaultKind) → CalleeOr R F line (CallStands line) front t found → Reasons Anything R F front t found
 callee_told R F line front t found (inl why) = why
 callee_told R F line front t found (inr c) =
@@ -115,7 +116,7 @@ callee_bad line none (like_function written other) = absurd cc
 callee_bad line none (like_width w other width out is) = (λ more. (fault 0 (misfit places.Fixed (Word other)), refl), λ empty. like_width w other width out is)
 callee_bad line none (like_number digits other) = (λ more. (fault 0 (misfit places.Fixed (Number other)), refl), λ empty. like_number digits other)
 
--- an intrinsic
+-- a name of an intrinsic
 abbrev ctpop : List ℕ
 ctpop = codes "llvm.ctpop.i8"
 
@@ -158,7 +159,7 @@ callee_flags : (line : ℕ) → TakesNoFlag (callee_at line)
 unfolding callee_at unexpected
 callee_flags line = ((unexpected places.Fixed [], refl), λ flag at more. (fault at (misfit places.Fixed (Word (flag_keyword flag))), refl))
 
--- ---- a call behind its word
+-- ---- a call behind the word `call`
 
 -- items and a type
 abbrev pub Typed : Reader ℕ
@@ -175,7 +176,7 @@ items_local (item ∷ items) tokens rest (between, one, more) =
     let b = items_local items between rest more in
     (a.0 ++ b.0, a.1 ∙ ap (λ (ts : List Placed). a.0 ++ ts) b.1 ∙ sym (append_assoc a.0 b.0 rest), λ others. rw (append_assoc a.0 b.0 others) (b.0 ++ others, a.2 (b.0 ++ others), b.2 others))
 
--- what is read as items and a type is spelled so by itself
+-- the tokens are items and a type, and no more
 abbrev pub StandsTyped : List Placed → Type 0
 StandsTyped front = (width : ℕ) × (Items ⨾ SpellsType width) front []
 
@@ -247,7 +248,7 @@ module _ {A : Type 0} (f : RawOp → A) where
       both_splits Typed (Callee line) (apart_splits typed-good.apart)
       (λ width. both_splits (callee_at line) (Arguments line width) (apart_splits (token_apart (callee_at line) (CalleeOr (callee_at line) Anything line (λ front. front ≡ [])) (callee_flags line) (callee_takes line))) (λ named. (arguments-open line width named).splits))
 
-  -- ---- as it is read
+  -- ---- a call as the parser reads it
 
   pub call_from : (line : ℕ) (tokens : List Placed) → (call_at line >>= λ op. Ending (f op)) tokens ≡ Called line tokens
   unfolding call_at
@@ -325,7 +326,7 @@ call_word_read ((line, Word w) ∷ rest) x is = by (bytes_eq w (codes "call")) r
     by false h read = absurd cc
 call_word_read ((line, t) ∷ rest) x is = absurd cc
 
--- `call` stands first, and behind it items and a type
+-- the tokens are `call`, items and a type
 abbrev pub StandsMarked : ℕ → List Placed → Type 0
 StandsMarked line front = (behind : List Placed) × (front ≡ (line, Word (codes "call")) ∷ behind) × StandsTyped behind
 

@@ -1,4 +1,4 @@
--- Readers that go on by what stands next.
+-- Parsers that choose a production by lookahead.
 use Rattle.std.proofs.Common.{◌≡◌, ℕ, Bool, true, false, cond, List, [], ◌∷◌, ◌++◌, Ok, Err, refl, sym, ap, subst, ◌∙◌, ◌⊎◌, inl, inr, append_assoc}
 use Rattle.ir_tokens.specs.Tokens.{Token, Placed, Word, Number, Function, Group}
 use Rattle.ir_tokens.specs.declared.fault.IrFaultKind.{IrFaultKind}
@@ -12,11 +12,11 @@ use Rattle.ir_viable_prefixes.proofs.Outcomes.{Follow, Next, next_map, StopsBefo
 use Rattle.ir_viable_prefixes.proofs.FlagRuns.{either_apart}
 use Rattle.ir_viable_prefixes.proofs.Reasons.{a_type, a_pred, an_end, a_group, Like, like_map, NoRecord, NoGroup, Maps, reason_map}
 
--- the test asks for the next token alone
+-- the test depends on the next token alone
 abbrev pub AsksNext : (List Placed → Bool) → Type 0
 AsksNext test = (l k : ℕ) (t : Token) (a b : List Placed) → test ((l, t) ∷ a) ≡ test ((k, t) ∷ b)
 
--- tokens of which the test says so
+-- tokens for which the test gives b
 abbrev pub Tested : (List Placed → Bool) → Bool → Follow
 Tested test b t = test ((0, t) ∷ []) ≡ b
 
@@ -28,21 +28,21 @@ same_test : (test : List Placed → Bool) → AsksNext test → (front : List Pl
 same_test test asks [] l k t a b = asks l k t a b
 same_test test asks ((i, u) ∷ front) l k t a b = asks i i u (front ++ (l, t) ∷ a) (front ++ (k, t) ∷ b)
 
--- behind a front that is not empty, the test says the same
+-- behind a front that is not empty, the test gives the same
 pub begun_test : (test : List Placed → Bool) → AsksNext test → (b : Bool) (front rest tokens : List Placed) → test (front ++ rest) ≡ b → (front ≡ [] → test tokens ≡ b) → test (front ++ tokens) ≡ b
 begun_test test asks b [] rest tokens h none = none refl
 begun_test test asks b ((i, u) ∷ front) rest tokens h none = asks i i u (front ++ tokens) (front ++ rest) ∙ h
 
--- where the test says so of a token, it does of those of its sort
+-- if the test gives b for a token, it does for the others of its sort
 abbrev pub Opens : (List Placed → Bool) → Bool → Type 0 → Type 0
 Opens test b U = (t u : Token) → Tested test b t → Like U t u → Tested test b u
 
--- where it says so of the mark of a record, it does of the words of terminators, or the reader takes a group; and it
--- does of groups where it does of a terminator
+-- if it gives b for a mark that begins a record, it does for the words of terminators, or the parser takes a group; and
+-- if it does for a terminator, it does for groups
 abbrev pub OpensRecords : {A : Type 0} → (List Placed → Bool) → Bool → Follow → Reader A → Follow → Type 0
 OpensRecords test b E S F = (t : Token) → begins_record t ≡ true → Tested test b t → NoRecord (Fit E S F []) (Tested test b) × (Tested test b an_end → NoGroup (Tested test b))
 
--- what may stand next in the one place may in another
+-- the same for a parser before which more tokens may stand next
 pub opens_wider : {A : Type 0} (test : List Placed → Bool) (b : Bool) (D E : Follow) (S : Reader A) (F : Follow) → ((t : Token) → D t → E t) → OpensRecords test b D S F → OpensRecords test b E S F
 opens_wider test b D E S F enters opens t begins h = (by (opens t begins h).0, (opens t begins h).1)
   where
@@ -50,11 +50,11 @@ opens_wider test b D E S F enters opens t begins h = (by (opens t begins h).0, (
     by (inl fit) = inl (fit.0, λ none. enters a_group (fit.1 none))
     by (inr says) = inr says
 
--- it says of the mark of a record what it says of the words of terminators and of groups
+-- for a mark that begins a record the test gives what it gives for the words of terminators and for groups
 abbrev pub SaysOfRecords : (List Placed → Bool) → Type 0
 SaysOfRecords test = (b : Bool) (t : Token) → begins_record t ≡ true → Tested test b t → ((ending : Ending) → Tested test b (Word (ending_word ending))) × NoGroup (Tested test b)
 
--- what fits one, fits the other
+-- a token that fits the one parser fits the other
 pub fits_transferred : {A : Type 0} (test : List Placed → Bool) → AsksNext test → (b : Bool) (R S : Reader A) → ((tokens : List Placed) → test tokens ≡ b → S tokens ≡ R tokens)
     → (D E F : Follow) → ((t : Token) → D t → Tested test b t) → ((t : Token) → D t → E t) → (tokens : List Placed) → test tokens ≡ b
     → (front : List Placed) (u : Placed) (behind : List Placed) → tokens ≡ front ++ u ∷ behind → (t : Token) → Fit D R F front t → Fit E S F front t
@@ -87,7 +87,7 @@ bad_transferred test asks b R S agree U U' voiced opens tokens next ((i, v) ∷ 
   λ none. absurd cc,
 )
 
--- What holds of a reader holds of one that does the same where the test says so.
+-- What holds of a parser holds of one that does the same wherever the test gives b.
 pub transfer : {A : Type 0} (test : List Placed → Bool) → AsksNext test → (b : Bool) (R S : Reader A) → ((tokens : List Placed) → test tokens ≡ b → S tokens ≡ R tokens)
     → (U U' Z : Type 0) → (U → U') → Opens test b U → (D E F : Follow) → OpensRecords test b E S F → (V W : Why) → ((t : Token) → D t → Tested test b t) → ((t : Token) → D t → E t)
     → (tokens : List Placed) → ((front : List Placed) (t : Placed) (behind : List Placed) → tokens ≡ front ++ t ∷ behind → (found : Fault IrFaultKind) → V front t found → W front t found)
@@ -242,7 +242,7 @@ maps_transferred test asks b R S agree U U' voiced opens D E F records within en
     go_on (inl fit) = inl (fits_transferred test asks b R S agree D E F within enters tokens next front (l, t) behind there a_type fit)
     go_on (inr fit) = inr (fits_transferred test asks b R S agree D E F within enters tokens next front (l, t) behind there a_pred fit)
 
--- the same of values
+-- a value that fits the one parser fits the other
 fits_end_transferred : {A : Type 0} (test : List Placed → Bool) → AsksNext test → (b : Bool) (R S : Reader A) → ((tokens : List Placed) → test tokens ≡ b → S tokens ≡ R tokens)
     → (D E F : Follow) → ((t : Token) → D t → Tested test b t) → ((t : Token) → D t → E t) → (tokens : List Placed) → test tokens ≡ b
     → (front : List Placed) (u : Placed) (behind : List Placed) → tokens ≡ front ++ u ∷ behind → (v : Token) → FitsEnd D R F front v → FitsEnd E S F front v
@@ -292,7 +292,7 @@ refuses_moved test asks b R S agree tokens next ((i, v) ∷ front) before last r
     let r = refused more in
     (r.0, agree ((i, v) ∷ (front ++ u ∷ more)) (asks i i v (front ++ u ∷ more) (front ++ rest) ∙ subst (λ (ts : List Placed). test ts ≡ b) there next) ∙ r.1)
 
--- what is told of a call
+-- faults in calls
 module _ {A : Type 0} (test : List Placed → Bool) (asks : AsksNext test) (b : Bool) (R S : Reader A) (agree : (tokens : List Placed) → test tokens ≡ b → S tokens ≡ R tokens)
     (U U' : Type 0) (voiced : U → U') (opens : Opens test b U) (D E F : Follow) (within : (t : Token) → D t → Tested test b t) (enters : (t : Token) → D t → E t) (tokens : List Placed) (next : test tokens ≡ b) where
   no_value_moved : (front : List Placed) (l : ℕ) {t : Token} (behind : List Placed) → tokens ≡ front ++ (l, t) ∷ behind → {kind : IrFaultKind} → NoValue U D R F front t kind → NoValue U' E S F front t kind
@@ -330,7 +330,7 @@ reasons_transferred test asks b R S agree U U' Z voiced opens D E F records with
     (reasons_moved test asks b R S agree U U' voiced opens D E F within enters tokens next records)
     next r o
 
--- ---- one of two
+-- ---- a choice of two parsers
 
 abbrev pub And : Follow → Follow → Follow
 And E F t = E t × F t
@@ -348,7 +348,7 @@ either_outcome U E F R S test asks yes_opens no_opens records tokens r s = by (t
     by true next = reasons_transferred test asks true R (Either test R S) (λ ts h. rw h refl) U (Unit {0}) (Unit {0}) (λ v. tt) yes_opens (And E (Tested test true)) E F (λ t begins says. let r = records true t begins says in (inr r.0, λ end. r.1)) (λ t d. d.1) (λ t d. d.0) tokens next (R tokens) (r next)
     by false next = reasons_transferred test asks false S (Either test R S) (λ ts h. rw h refl) (Unit {0}) (Unit {0}) (Unit {0}) (λ v. tt) no_opens (And E (Tested test false)) E F (λ t begins says. let r = records false t begins says in (inr r.0, λ end. r.1)) (λ t d. d.1) (λ t d. d.0) tokens next (S tokens) (s next)
 
--- a sample of the first is one of both
+-- a sample of the first parser is one of the choice
 pub either_sample : {A : Type 0} (E F : Follow) (R S : Reader A) (test : List Placed → Bool) → AsksNext test → Sample (And E (Tested test true)) R F → Sample E (Either test R S) F
 either_sample E F R S test asks r = (
   r.0,

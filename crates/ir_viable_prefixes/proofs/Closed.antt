@@ -1,4 +1,4 @@
--- Readers that end with a token of their own: what they read is read so whatever stands behind it, on whatever line.
+-- Parsers that end with a token of their own: they read the same whatever stands behind it, on whatever line.
 use Rattle.std.proofs.Common.{◌≡◌, ℕ, Bool, true, false, cond, eqb, List, [], ◌∷◌, ◌++◌, Ok, Err, refl, sym, ap, subst, ◌∙◌, append_assoc}
 use Rattle.ir_tokens.specs.Tokens.{Placed, Mark}
 use Rattle.ir_tokens.specs.declared.fault.IrFaultKind.TheVariants.{Syntax}
@@ -7,7 +7,7 @@ use Rattle.ir_instructions.specs.Readers.{Read, Reader, fault, ◌>>=◌, done}
 use Rattle.ir_instructions.proofs.Steps.{bind_ok, read_as}
 use Rattle.ir_viable_prefixes.proofs.Outcomes.{Follow, Ended, StopsBefore, ReasonsIf, IsReadIf, OutcomeIf, GoodIf}
 
--- what is read of the tokens of a text is some of them, and is read so whatever stands behind it
+-- what the parser reads of the tokens of a text is a prefix, which it reads so whatever stands behind it
 abbrev pub Closes : {A : Type 0} → Reader A → Type 0
 Closes {A} R =
     (tokens : List Placed) (x : A × List Placed) → Ended tokens → R tokens ≡ Ok x → (t : Placed) × (front : List Placed) × (tokens ≡ t ∷ (front ++ x.1)) × ((others : List Placed) → R (t ∷ (front ++ others)) ≡ Ok (x.0, others))
@@ -15,7 +15,7 @@ Closes {A} R =
 read_if : {A : Type 0} {V : Type 0} {E : Follow} {R : Reader A} {F : Follow} {W : Type 0} (tokens : List Placed) (x : A × List Placed) → R tokens ≡ Ok x → OutcomeIf V E R F W (ReasonsIf V E R F) tokens (R tokens) → IsReadIf V E R F W tokens x.0 x.1
 read_if {A} {V} {E} {R} {F} {W} tokens x is o = subst (OutcomeIf V E R F W (ReasonsIf V E R F) tokens) is o
 
--- a reader before one that closes
+-- a parser in sequence with one that closes
 pub closes_behind : {A B : Type 0} {V : Type 0} {E : Follow} {R : Reader A} {F : Follow} {W : Type 0} {S : A → Reader B} → GoodIf V E R F W → ((x : A) → Closes (S x)) → Closes (R >>= S)
 closes_behind {A} {B} {V} {E} {R} {F} {W} {S} r s tokens y e is =
     let one = bind_ok (R tokens) S y is in
@@ -34,7 +34,7 @@ closes_behind {A} {B} {V} {E} {R} {F} {W} {S} r s tokens y e is =
       λ others. rw (append_assoc first (t ∷ front) others, subst (StopsBefore R (u ∷ first) x) same stopped (front ++ others)) (reads others),
     )
 
--- one that closes, and what is made then
+-- a parser that closes, with its result mapped
 pub closes_done : {A B : Type 0} {R : Reader A} → Closes R → (f : A → B) → Closes (R >>= λ x. done (f x))
 closes_done {A} {B} {R} r f tokens y e is =
     let one = bind_ok (R tokens) (λ x. done (f x)) y is in

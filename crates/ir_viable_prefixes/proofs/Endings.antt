@@ -1,4 +1,4 @@
--- What stands behind a call: the items on the line of its `)`, and attachments.
+-- Viable prefixes of what stands behind a call: the items on the line of its `)`, and attachments.
 use Rattle.std.proofs.Common.{◌≡◌, ◌≢◌, ◌<◌, ℕ, zero, suc, Bool, true, false, ◌&&◌, cond, eqb, eq-eqb, List, [], ◌∷◌, ◌++◌, length, Ok, Err, refl, sym, ap, subst, ◌∙◌, inl, inr, append_assoc, arith}
 use Rattle.std.proofs.lemmas.Bool.{eqb-true}
 use Rattle.std.specs.Prelude.{codes}
@@ -31,7 +31,7 @@ use Rattle.ir_viable_prefixes.proofs.Reasons.{Like, like_word, like_type, like_f
 use Rattle.ir_viable_prefixes.proofs.Statements.{NotComma, mark_next, tail-good}
 use Rattle.ir_viable_prefixes.proofs.TokenReaders.{all_bad, mark-good}
 
--- ---- attachments, and what is made then
+-- ---- attachments, with the result mapped
 
 abbrev pub Ending : {A : Type 0} → A → Reader A
 Ending x = tail_at >>= λ u. done x
@@ -39,7 +39,7 @@ Ending x = tail_at >>= λ u. done x
 pub ending-good : {A : Type 0} (x : A) → Good Anything (Ending x) NotComma
 ending-good x = tail-good then (λ u. done-good (λ t f. f) x)
 
--- attachments leave nothing out
+-- no fault of attachments is `LeftOut`
 abbrev the_read : {A : Type 0} → Read A → Read A
 the_read r = r
 
@@ -76,7 +76,7 @@ ending_nothing x =
     both_nothing tail_at (λ u. done x)
     (λ tokens found is. loop_nothing (is_mark marks.comma) (λ before. tail_attachment_at) (λ before. tail_attachment_nothing) _ tt tokens found is) (λ u. done_nothing x)
 
--- an attachment, behind which anything but a `,` may stand
+-- an attachment in front of other tokens
 abbrev an_attachment : List Placed → List Placed
 an_attachment tokens = (0, Mark marks.comma) ∷ (0, Metadata (codes "a")) ∷ (0, Metadata (codes "0")) ∷ tokens
 
@@ -90,11 +90,11 @@ attached x tokens next =
 
 -- ---- items on the line of a call
 
--- what is read behind the `)` on this line
+-- the parser of what stands behind a `)` on this line
 abbrev Late : {A : Type 0} → A → ℕ → Reader A
 Late x line = late_items_at line >>= λ u. Ending x
 
--- what is read from the `)` on
+-- the parser of a call from the `)` on
 abbrev pub Closing : {A : Type 0} → A → Reader A
 Closing x = close_at >>= Late x
 
@@ -137,7 +137,7 @@ like_no_quoted (like_width w other width out is) = refl
 like_no_quoted (like_number digits other) = refl
 
 module _ {A : Type 0} (x : A) (line : ℕ) (some_line : line ≢ 0) where
-  -- a token on a line of its own is none of these items, and none goes on with it
+  -- a token on a line of its own is none of these items, and continues none
   own_off : eqb 0 line ≡ false
   own_off = by (eqb 0 line) refl
     where
@@ -162,7 +162,7 @@ module _ {A : Type 0} (x : A) (line : ℕ) (some_line : line ≢ 0) where
   abbrev Behind : List Placed → List Placed
   Behind tokens = (line, a_close) ∷ tokens
 
-  -- such tokens behind the `)` are items of its line, before the next one and before each on a line of its own
+  -- tokens behind the `)` are items on its line, before the next token and before each on a line of its own
   abbrev Agree : List Placed → Placed → Type 0
   Agree items next = (more : List Placed) → Closing x (Behind (items ++ next ∷ more)) ≡ Late x line (next ∷ more)
 
@@ -188,7 +188,7 @@ module _ {A : Type 0} (x : A) (line : ℕ) (some_line : line ≢ 0) where
     abbrev Shown : List Placed → List Placed → Type 0
     Shown items tokens = OutcomeIf (Unit {0}) E (Closing x) NotComma (Unit {0}) (Reasons E (Closing x) NotComma) (Behind (items ++ tokens)) (Closing x (Behind (items ++ tokens)))
 
-    -- where no item is next, attachments are
+    -- where no item is next, only attachments may follow
     attachments_shown : (items : List Placed) (next : Placed) (rest : List Placed) → Ended (next ∷ rest) → Agree items next → AgreeOwn items → begins_late_item line (next ∷ rest) ≡ false → Shown items (next ∷ rest)
     attachments_shown items next rest e agree own none =
         subst (OutcomeIf (Unit {0}) E (Closing x) NotComma (Unit {0}) (Reasons E (Closing x) NotComma) (Behind (items ++ next ∷ rest))) (sym (agree rest ∙ no_late x line next rest none))
@@ -211,11 +211,11 @@ module _ {A : Type 0} (x : A) (line : ℕ) (some_line : line ≢ 0) where
     more_shown : (items taken tokens : List Placed) → Shown (items ++ taken) tokens → Shown items (taken ++ tokens)
     more_shown items taken tokens o = subst (λ (ts : List Placed). OutcomeIf (Unit {0}) E (Closing x) NotComma (Unit {0}) (Reasons E (Closing x) NotComma) (Behind ts) (Closing x (Behind ts))) (append_assoc items taken tokens) o
 
-    -- what is to be shown of fewer tokens
+    -- the induction hypothesis, for fewer tokens
     abbrev Fewer : List Placed → Type 0
     Fewer rest = (items : List Placed) (next : Placed) (tokens : List Placed) → length tokens < length rest → Ended (next ∷ tokens) → Agree items next → AgreeOwn items → Shown items (next ∷ tokens)
 
-    -- one token more that is an item by itself
+    -- one more token, which is an item by itself
     one_shown : (items : List Placed) (l : ℕ) (t : Token) (next : Placed) (rest : List Placed) → Ended ((l, t) ∷ next ∷ rest) → Agree items (l, t) → begins_late_item line ((l, t) ∷ []) ≡ true → ((more : List Placed) → late_item_at line ((l, t) ∷ next ∷ more) ≡ Ok (tt, next ∷ more))
         → ((u : Token) (more : List Placed) → late_item_at line ((l, t) ∷ (0, u) ∷ more) ≡ Ok (tt, (0, u) ∷ more)) → Fewer (next ∷ rest) → Shown items ((l, t) ∷ next ∷ rest)
     one_shown items l t next rest e agree begins one one_own fewer =
@@ -223,7 +223,7 @@ module _ {A : Type 0} (x : A) (line : ℕ) (some_line : line ≢ 0) where
         (fewer (items ++ (l, t) ∷ []) next rest (omega arith) e.1 (agree_more items (l, t) [] next agree (λ more. same_late line l t (next ∷ more) [] ∙ begins) one)
         (own_more items (l, t) [] agree (λ u more. same_late line l t ((0, u) ∷ more) [] ∙ begins) one_own))
 
-    -- a word and its group on the line
+    -- a word and its kept group on the line
     group_shown : (items : List Placed) (l : ℕ) (w : List ℕ) (k : ℕ) (group : List ℕ) (rest : List Placed) → Ended ((l, Word w) ∷ (k, KeptGroup group) ∷ rest) → Agree items (l, Word w) → begins_late_item line ((l, Word w) ∷ []) ≡ true → eqb k line ≡ true
         → Fewer ((k, KeptGroup group) ∷ rest) → Shown items ((l, Word w) ∷ (k, KeptGroup group) ∷ rest)
     unfolding late_item_at late_group_at
@@ -245,7 +245,7 @@ module _ {A : Type 0} (x : A) (line : ℕ) (some_line : line ≢ 0) where
 
     -- ---- a key, and its value on the line
 
-    -- what is read behind a key and its `=` on the line
+    -- the value behind a key and its `=` on the line
     value_read : (l k m : ℕ) (key : List ℕ) (tokens : List Placed) → eqb k line ≡ true → eqb m marks.equals ≡ true → late_item_at line ((l, Quoted key) ∷ (k, Mark m) ∷ tokens) ≡ late_value_at line tokens
     unfolding late_item_at late_quoted_at mark_at
     value_read l k m key tokens here equals = rw (here, equals) refl
@@ -401,7 +401,7 @@ module _ {A : Type 0} (x : A) (E : Follow) where
       (refuses (fault l (misfit places.Fixed t))
       (inl (refl, fixed_reason (Fit E (Closing x) NotComma []) (Bad (Unit {0}) (Closing x) []) (Again E (Closing x) NotComma []) (RefusesAt (Closing x) []) t (λ u like. closing_bad x like, λ begins. inr (closing_refuses x)))) (λ more. refl))
 
--- ---- what is read is some tokens
+-- ---- what is read is a prefix of the tokens
 
 abbrev Ends : List Placed → Unit {0} × List Placed → Type 0
 Ends tokens y = (front : List Placed) × (tokens ≡ front ++ y.1)

@@ -1,4 +1,4 @@
--- Readers of entries. Where an entry may begin, the entries may end too.
+-- Viable prefixes of entries. Where an entry may begin, the entries may also end.
 use Rattle.std.proofs.Common.{◌≡◌, ◌<◌, ℕ, suc, Bool, true, false, cond, List, [], ◌∷◌, ◌++◌, length, Option, Some, None, Ok, Err, refl, sym, ap, subst, ◌∙◌, ◌⊎◌, inl, inr, append_assoc, arith}
 use Rattle.std.specs.Prelude.{codes}
 use Rattle.std.specs.Str.{bytes_eq}
@@ -28,7 +28,7 @@ use Rattle.ir_viable_prefixes.proofs.Repeats.{Steps, steps_of, another_apart, lo
 
 -- ---- an entry
 
--- a kept line, or the word of a function
+-- the first token of an entry: a kept line, or the word `define`
 abbrev pub entry_token_at : Reader (Option (List ℕ))
 entry_token_at ((line, Kept text) ∷ rest) = Ok (Some text, rest)
 entry_token_at ((line, Word word) ∷ rest) = cond (bytes_eq word (codes "define")) (Ok (None, rest)) (Err (fault line (LeftOut word)))
@@ -48,7 +48,7 @@ same_entry ((line, Word word) ∷ rest) = by (bytes_eq word (codes "define")) re
     by false h = rw h refl
 same_entry tokens = refl
 
--- the first token is no entry's
+-- the first token begins no entry
 abbrev pub IsFirst : Why
 IsFirst front t found = (front ≡ []) × (found.line ≡ t.0) × (found.kind ≡ misfit places.Entry t.1)
 
@@ -86,7 +86,7 @@ Ends = Tested parsing.begins_entry false
 entry_apart : ReadsApart parsing.entry_at
 entry_apart tokens x is = both_apart entry_token_at behind_entry (token_apart entry_token_at IsFirst entry_flags entry_token_takes) (λ y. (behind_entry-good y).apart) tokens x (sym (same_entry tokens) ∙ is)
 
--- what a refusal says, or that the first token is no entry's
+-- the reason of a refusal, or that the first token begins no entry
 abbrev pub OrFirst : {A : Type 0} → Follow → Reader A → Follow → Why
 OrFirst E R F front t found = IsFirst front t found ⊎ Reasons E R F front t found
 
@@ -112,11 +112,11 @@ entry_outcome tokens e =
 
 -- ---- entries
 
--- the reader may end behind the front
+-- the parser may stop behind the front
 abbrev pub EndsAt : {A : Type 0} → Reader A → Follow → List Placed → Type 0
 EndsAt {A} R F front = (x : A) × ((t : Token) → F t → StopsAt R front x t)
 
--- what a refusal says, or that the entries may end there, and the token begins none
+-- the reason of a refusal, or that the entries may stop there and the token begins none
 abbrev pub OrEnds : {A : Type 0} → Follow → Reader A → Follow → Why
 OrEnds E R F front t found = (EndsAt R F front × (found.line ≡ t.0) × (found.kind ≡ misfit places.Entry t.1)) ⊎ Reasons E R F front t found
 
@@ -148,7 +148,7 @@ entry_steps = steps_of (record { asks = entry_next; takes = entry-takes; ends = 
 abbrev pub Loop : List RawEntry → Reader (List RawEntry)
 Loop = repeat_at parsing.begins_entry (another_at parsing.entry_at)
 
--- what is read as an entry is so whatever stands behind it
+-- an entry is read the same whatever stands behind it
 entry-closes : Closes parsing.entry_at
 entry-closes tokens x e is = by tokens e (sym (same_entry tokens) ∙ is)
   where
@@ -204,7 +204,7 @@ ends_first : (a : List RawEntry) (front : List Placed) → front ≡ [] → Ends
 ends_first a front none =
     (a, λ t ends more. subst (λ (f : List Placed). Loop a (f ++ (0, t) ∷ more) ≡ Ok (a, (0, t) ∷ more)) (sym none) (repeat-done parsing.begins_entry (another_at parsing.entry_at) a ((0, t) ∷ more) (entry_next 0 0 t more [] ∙ ends)))
 
--- where entries may end behind an entry, they may behind both
+-- where entries may stop behind an entry, they may behind that and those before
 ends_second : (a : List RawEntry) (tokens : List Placed) (x : List RawEntry × List Placed) → parsing.begins_entry tokens ≡ true → another_at parsing.entry_at a tokens ≡ Ok x → (o : IsReadIf (Unit {0}) Begins (another_at parsing.entry_at a) Anything (Unit {0}) tokens x.0 x.1)
     (front : List Placed) (u : Placed) (behind : List Placed) → x.1 ≡ front ++ u ∷ behind → EndsAt (Loop x.0) Ends front → EndsAt (Loop a) Ends (o.front ++ front)
 ends_second a tokens x next is o front u behind there (all, ends) = (

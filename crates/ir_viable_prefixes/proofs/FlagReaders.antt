@@ -1,4 +1,4 @@
--- Readers of flags. One that is refused stands already among those before it.
+-- Viable prefixes of flags. A flag that is refused is among those before it.
 use Rattle.std.proofs.Common.{◌≡◌, ℕ, suc, Bool, true, false, List, [], ◌∷◌, ◌++◌, length, Option, Some, None, Ok, Err, refl, sym, ap, subst, ◌∙◌, ◌⊎◌, inl, inr, is_some, arith}
 use Rattle.std.proofs.lemmas.List.{append-nil, append_cancel_right}
 use Rattle.ops.specs.declared.opcode.Flags.{Flags}
@@ -39,7 +39,7 @@ flag_next : (set : Flags) → AsksNext (parsing.is_flag set)
 flag_next set l k (Word w) a b = refl
 flag_next set l k t a b = refl
 
--- a flag is no word of a width
+-- the keyword of a flag is no integer type of a wrong width
 flag_is_no_width : (set : Flags) (w : List ℕ) → type_in w ≡ OutOfRange → is_some (flag_in set w) ≡ true → ⊥
 unfolding type_in
 flag_is_no_width set w out next = by (flag_in set w) refl
@@ -70,7 +70,7 @@ flag_shut set t u none (like_function written other) = refl
 flag_shut set t u none (like_width w other width out is) = rw (type_is_no_flag set other width is) refl
 flag_shut set t u none (like_number digits other) = refl
 
--- no word of a terminator is a flag
+-- the word of a terminator is no flag
 ending_is_no_flag : (set : Flags) (ending : Ending) → Tested (parsing.is_flag set) false (Word (ending_word ending))
 unfolding flag_in
 ending_is_no_flag set endings.Return = refl
@@ -87,7 +87,7 @@ flag_steps set = record { asks = flag_next set; takes = flag-takes set; ends = �
 
 -- ---- one flag
 
--- the token is a flag that is there already
+-- the token is a flag that is among those before
 abbrev IsThere : Flags → Why
 IsThere before front t found = (front ≡ []) × (w : List ℕ) × (flag : Flag) × (t.1 ≡ Word w) × (w ≡ flag_keyword flag) × (has_flag before flag ≡ true) × (found.line ≡ t.0) × (found.kind ≡ Syntax)
 
@@ -108,7 +108,7 @@ flag_outcome set before ((line, t) ∷ rest) e next = absurd cc
 abbrev the_read : {A : Type 0} → A × List Placed → Read A
 the_read x = Ok x
 
--- the flag that a step reads, whatever stands behind it
+-- a step reads a flag the same whatever stands behind it
 flag_step : (set : Flags) (before : Flags) (tokens : List Placed) (x : Flags × List Placed) → parsing.flag_at set before tokens ≡ Ok x
     → (l : ℕ) × (f : Flag) × (tokens ≡ (l, Word (flag_keyword f)) ∷ x.1) × (x.0 ≡ with_flag before f) × ((more : List Placed) → parsing.flag_at set before ((l, Word (flag_keyword f)) ∷ more) ≡ Ok (x.0, more))
 unfolding parsing.flag_at
@@ -179,11 +179,11 @@ has_with before SameSign SameSign h = inr refl
 abbrev AreFlags : List Placed → Type 0
 AreFlags front = (flags : List Flag) × Each (λ f. Is (Word (flag_keyword f))) flags front []
 
--- flags, from those before on
+-- the parser of flags behind those before
 abbrev FlagsFrom : Flags → Flags → Reader Flags
 FlagsFrom set = repeat_at (parsing.is_flag set) (parsing.flag_at set)
 
--- behind these a token that is none is left
+-- behind these flags it stops at a token that is none
 abbrev StopsAtNone : Flags → Flags → List Placed → Type 0
 StopsAtNone set before front = (u : Token) → NotFlag set u → (after : Flags) × ((more : List Placed) → FlagsFrom set before (front ++ (0, u) ∷ more) ≡ Ok (after, (0, u) ∷ more))
 
@@ -196,7 +196,7 @@ stops_behind set before after line new front one next stops u none =
     let s = stops u none in
     (s.0, λ more. repeat-more (parsing.is_flag set) (parsing.flag_at set) (flag-takes set) before ((line, Word (flag_keyword new)) ∷ (front ++ (0, u) ∷ more)) (after, front ++ (0, u) ∷ more) (flag_next set line 0 (Word (flag_keyword new)) (front ++ (0, u) ∷ more) [] ∙ next) (one (front ++ (0, u) ∷ more)) ∙ s.1 more)
 
--- the token is a flag that is there before, or among these
+-- the token is a flag that is among those before, or among these
 abbrev IsThereOrRead : Flags → Flags → Why
 IsThereOrRead set before front t found =
     ((w : List ℕ) × (flag : Flag) × (t.1 ≡ Word w) × (w ≡ flag_keyword flag) × (found.line ≡ t.0) × (found.kind ≡ Syntax) × (FollowsFlag front w ⊎ ((has_flag before flag ≡ true) × AreFlags front))) × StopsAtNone set before front
@@ -226,7 +226,7 @@ flag_lifts set E enters a tokens next = record {
       subst (λ (ts : List Placed). IsThereOrRead set a (ts ++ front) t found) (sym first) (read_behind set a x.0 s.0 s.1 front t found s.3 s.4 flag why);
 }
 
--- a token of a reader behind flags fits where they are left
+-- a token that fits the next parser fits behind the flags
 fits_behind : {A : Type 0} (set : Flags) (S : Flags → Reader A) (front : List Placed) (u : Token) → StopsAtNone set no_flags front → ((x : Flags) → Fit (NotFlag set) (S x) Anything [] u) → Fit Anything (parsing.flags_at set >>= S) Anything front u
 unfolding parsing.flags_at
 fits_behind set S front u stops fits =
@@ -234,7 +234,7 @@ fits_behind set S front u stops fits =
     let fit = fits s.0 in
     ((fit.0.0, fit.0.1, λ ts f. rw (s.1 (fit.0.1 ++ ts)) (fit.0.2 ts f)), λ none. tt)
 
--- what the reader behind flags takes first
+-- the parser behind flags takes a type or a predicate first
 abbrev pub TakesNoun : {A : Type 0} → Flags → Reader A → Type 0
 TakesNoun set R = Fit (NotFlag set) R Anything [] a_type ⊎ Fit (NotFlag set) R Anything [] a_pred
 
@@ -287,7 +287,7 @@ own_flag : (set : Flags) (before : List Placed) (t : Placed) (behind : List Plac
 own_flag set [] t behind own = own.0
 own_flag set (u ∷ before) t behind own = own_flag set before t behind own.1
 
--- flags of the operation are read, and none is next
+-- all flags of the operation that stand there are read
 pub flags_are : (set : Flags) (tokens : List Placed) (x : Flags × List Placed) → parsing.flags_at set tokens ≡ Ok x → ((front : List Placed) × (tokens ≡ front ++ x.1) × AreOwn set front) × (parsing.is_flag set x.1 ≡ false)
 unfolding parsing.flags_at
 flags_are set tokens x is =
@@ -310,7 +310,7 @@ next_new set front l t rest own none (w, is, (before, run, flag, flags, same, wo
     is_one : (b : Bool) → b ≡ true → b ≡ false → ⊥
     is_one b holds fails = cc
 
--- flags, and behind them a reader that takes none at once, but a type or a predicate
+-- flags, and then a parser that takes no flag first, but a type or a predicate
 pub flags_then : {A B : Type 0} {V W : Type 0} (set : Flags) {R : Reader B} {S : Flags → B → Reader A} → GoodIf ⊥ (NotFlag set) R Anything V → ((x : Flags) (y : B) → GoodIf V Anything (S x y) Anything W) → ((flag : Flag) → RefusesEach R (Word (flag_keyword flag))) → TakesNoun set R
     → GoodIf (Unit {0}) Anything (parsing.flags_at set >>= λ x. R >>= S x) Anything W
 flags_then {A} {B} {V} {W} set {R} {S} r s no_flags_at nouns = record {

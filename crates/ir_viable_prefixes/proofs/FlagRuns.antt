@@ -1,4 +1,4 @@
--- Where flags stand one behind the other, and readers between whose parts none do.
+-- Runs of flags, and parsers in sequence that split none.
 use Rattle.std.proofs.Common.{◌≡◌, ℕ, zero, suc, Bool, true, false, cond, List, [], ◌∷◌, ◌++◌, Ok, Err, refl, sym, ap, subst, ◌∙◌, ◌⊎◌, inl, inr, append_assoc}
 use Rattle.std.proofs.lemmas.List.{append-nil}
 use Rattle.refusal.specs.declared.fault.Fault.{Fault}
@@ -12,7 +12,7 @@ use Rattle.ir_instructions.proofs.Steps.{bind_ok, read_as}
 use Rattle.ops.specs.declared.keywords.flag.Flag.{Flag}
 use Rattle.ops.specs.FlagKeywords.{flag_keyword}
 
--- flags stand last, of which the first is this word
+-- the last tokens are keywords of flags, of which the first is this word
 abbrev pub FollowsFlag : List Placed → List ℕ → Type 0
 FollowsFlag front word =
     (before behind : List Placed) × (flag : Flag) × (flags : List Flag) × (front ≡ before ++ behind) × (word ≡ flag_keyword flag)
@@ -24,22 +24,22 @@ IsAgain front token = (word : List ℕ) × (token ≡ Word word) × FollowsFlag 
 abbrev pub NoFlag : Token → Type 0
 NoFlag t = (flag : Flag) → t ≡ Word (flag_keyword flag) → ⊥
 
--- the last one is no flag
+-- the last token is no flag
 abbrev pub NoFlagLast : List Placed → Type 0
 NoFlagLast [] = Unit {0}
 NoFlagLast (t ∷ []) = NoFlag t.1
 NoFlagLast (t ∷ u ∷ tokens) = NoFlagLast (u ∷ tokens)
 
--- the first one is no flag
+-- the first token is no flag
 abbrev pub NoFlagNext : List Placed → Type 0
 NoFlagNext [] = Unit {0}
 NoFlagNext (t ∷ tokens) = NoFlag t.1
 
--- no flag of the first tokens has one of the others right behind it
+-- no run of flags goes across the border between the two
 abbrev pub Parted : List Placed → List Placed → Type 0
 Parted front rest = NoFlagLast front ⊎ NoFlagNext rest
 
--- ---- flags that stand last
+-- ---- runs of flags at the end
 
 abbrev AreFlags : List Placed → Type 0
 AreFlags [] = Unit {0}
@@ -53,7 +53,7 @@ second_flags : (first front : List Placed) → AreFlags (first ++ front) → Are
 second_flags [] front flags = flags
 second_flags (u ∷ first) front flags = second_flags first front flags.1
 
--- of such flags none has the last one apart from what is next
+-- among tokens that are all flags the last is one
 no_last : (u : Placed) (first front : List Placed) → AreFlags (u ∷ (first ++ front)) → NoFlagLast (u ∷ first) → ⊥
 no_last u [] front flags none = none flags.0.0 flags.0.1
 no_last u (v ∷ first) front flags none = no_last v first front flags.1 none
@@ -66,7 +66,7 @@ parted_tail : (u : Placed) (first rest : List Placed) → Parted (u ∷ first) r
 parted_tail u [] rest p = inl tt
 parted_tail u (v ∷ first) rest p = p
 
--- flags that stand last stand all behind where the tokens are parted
+-- a run of flags at the end is all behind a border across which no run goes
 pub new_behind : (first front : List Placed) (line : ℕ) (t : Token) (behind : List Placed) → Parted first (front ++ (line, t) ∷ behind) → ¬ IsAgain front t → ¬ IsAgain (first ++ front) t
 new_behind [] front line t behind parted new again = new again
 new_behind (u ∷ first) front line t behind parted new (w, is, ([], run, flag, flags, same, word, each)) = by parted
@@ -89,11 +89,11 @@ none_repeated t (w, is, (before, run, flag, flags, same, word, (between, (l, one
 
 -- ---- readers
 
--- what it reads is parted from what it leaves
+-- no run of flags goes across the border between what the parser reads and what it leaves
 abbrev pub ReadsApart : {A : Type 0} → Reader A → Type 0
 ReadsApart {A} R = (tokens : List Placed) (x : A × List Placed) → R tokens ≡ Ok x → (front : List Placed) × (tokens ≡ front ++ x.1) × Parted front x.1
 
--- what it reads is some tokens
+-- what the parser reads is a prefix of the tokens
 abbrev pub Splits : {A : Type 0} → Reader A → Type 0
 Splits {A} R = (tokens : List Placed) (x : A × List Placed) → R tokens ≡ Ok x → (front : List Placed) × (tokens ≡ front ++ x.1)
 
@@ -124,7 +124,7 @@ parted_both first [] rest one two = subst (λ (ts : List Placed). Parted ts rest
 parted_both first (u ∷ front) rest one (inl last) = inl (last_both first u front last)
 parted_both first (u ∷ front) rest one (inr next) = inr next
 
--- tokens that begin with such, and what is left
+-- the rest is left behind a prefix, and no run of flags goes across the border
 abbrev pub Leaves : List Placed → List Placed → Type 0
 Leaves tokens rest = (front : List Placed) × (tokens ≡ front ++ rest) × Parted front rest
 
@@ -157,7 +157,7 @@ pub loop_apart : {A : Type 0} (is_next : List Placed → Bool) (step : A → Rea
 loop_apart {A} is_next step parts a tokens x is =
     (repeat-is is_next step (λ b ts c rest. Leaves ts rest) (λ b ts. leaves_all ts) (λ b ts y c rest next one more. leaves_both ts y.1 rest (parts b ts y one) more) _ a tokens x is).0
 
--- ---- readers that leave nothing out
+-- ---- parsers with no `LeftOut` faults
 
 abbrev pub IsLeft : IrFaultKind → Type 0
 IsLeft kind = (text : List ℕ) × (kind ≡ LeftOut text)
@@ -168,7 +168,7 @@ LeavesNothingOut R = (tokens : List Placed) (found : Fault IrFaultKind) → R to
 abbrev the_read : {A : Type 0} → Read A → Read A
 the_read r = r
 
--- the fault that is found is the one that is made
+-- the fault that is returned is this one
 pub fault_left : {A : Type 0} (made found : Fault IrFaultKind) → the_read {A = A} (Err made) ≡ the_read (Err found) → ¬ IsLeft made.kind → ¬ IsLeft found.kind
 fault_left made found same none = let is : made ≡ found = cc in subst (λ (e : Fault IrFaultKind). ¬ IsLeft e.kind) is none
 

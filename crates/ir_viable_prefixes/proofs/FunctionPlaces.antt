@@ -137,7 +137,7 @@ body_refuses_ends end more ends = by ends
 
 -- ---- parameters
 
--- items of a parameter stand behind the front
+-- behind the front the items of a parameter stand
 abbrev InParameter : {A : Type 0} → Reader A → List Placed → Type 0
 InParameter R front = RefusesWords R front × Ready R front
 
@@ -244,7 +244,7 @@ listed_more ps tokens next =
     ap (λ (r : Read (List RawParameter)). goes_on r Closed) (one_step (is_mark marks.comma) Further (another_takes (is_mark marks.comma) parsing.further_parameter_at parameter-takes) ps tokens next)
     ∙ assoc (Further ps tokens) (each_at (is_mark marks.comma) parsing.further_parameter_at) Closed
 
--- the list goes on from each end of an argument
+-- behind each end of an argument the parameter list may go on or is closed
 listed_ends : (ps : List RawParameter) (end : Token) → EndsArgument end → (y : List RawParameter) × (more : List Placed) × ((tokens : List Placed) → Listed ps ((0, end) ∷ (more ++ tokens)) ≡ Ok (y, tokens))
 unfolding mark_at parsing.further_parameter_at
 listed_ends ps end ends = by ends
@@ -313,7 +313,7 @@ some_listed_places text front e goes =
     (place_second Anything parsing.parameter_at (λ p. Listed (p ∷ [])) x first f (reads_first text parsing.parameter_at (λ p. Listed (p ∷ [])) (later (λ p. listed_not_at_once text (p ∷ []))) front first f x same e is stopped second)
     (listed_places text (suc (length f)) (x ∷ []) f (omega arith) ended second)))
 
--- parameters, if there are some, and the `)`
+-- a parameter list, maybe empty, and the `)`
 abbrev List_and_close : Reader (List RawParameter)
 List_and_close = parsing.parameter_list_at >>= Closed
 
@@ -371,7 +371,7 @@ function_name_groupless ((line, Function written) ∷ rest) x is = by (identifie
     by (Numbered n) read = absurd cc
 function_name_groupless ((line, t) ∷ rest) x is = absurd cc
 
--- what is refused first is refused
+-- what the first parser refuses is refused
 refused_first : {A B : Type 0} (R : Reader A) (S : A → Reader B) (tokens : List Placed) → (e : Fault IrFaultKind) × (R tokens ≡ Err e) → (e : Fault IrFaultKind) × ((R >>= S) tokens ≡ Err e)
 refused_first R S tokens (e, refused) = (e, rw refused refl)
 

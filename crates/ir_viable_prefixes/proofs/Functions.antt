@@ -1,4 +1,4 @@
--- Readers of blocks, parameters and functions.
+-- Viable prefixes of blocks, parameters and functions.
 use Rattle.std.proofs.Common.{◌≡◌, ℕ, Bool, true, false, eqb, List, [], ◌∷◌, Option, Some, None, Ok, Err, refl, sym, subst, ◌⊎◌, inl, inr}
 use Rattle.std.specs.Prelude.{codes}
 use Rattle.std.proofs.lemmas.Bool.{eqb-true}
@@ -109,7 +109,7 @@ block_behind label = do
   _ ← tail_at
   done (record { label = label; insts = insts; end = end.1; end_line = end.0 })
 
--- a terminator begins with no flag, type or predicate
+-- no terminator begins with a flag, a type or a predicate
 terminator_refuses : (w : List ℕ) → ending_in w ≡ None → RefusesEach terminator_at (Word w)
 unfolding terminator_at
 terminator_refuses w none line more = (fault line (LeftOut w), rw none refl)
@@ -153,7 +153,7 @@ pub block-good : Good Anything parsing.block_at NotComma
 unfolding parsing.block_at
 block-good = label-good then block_behind-good
 
--- a label that is there
+-- the parser of a label that has to be there
 abbrev some_label_at : Reader (Option RawIdentifier)
 some_label_at ((line, Label written) ∷ rest) = Ok (Some (identified line written), rest)
 some_label_at tokens = Err (unexpected places.Fixed tokens)
@@ -316,7 +316,7 @@ pub further_parameter-good : {E : Follow} → E (Mark marks.comma) → Good E pa
 unfolding parsing.further_parameter_at
 further_parameter-good e = mark-good marks.comma e then (λ u. parameter-good tt)
 
--- a mark but `=` may follow a parameter
+-- a mark other than `=` may follow a parameter
 pub mark_follows : (m wanted : ℕ) → eqb m wanted ≡ true → eqb wanted marks.equals ≡ false → FollowsParameter (Mark m)
 mark_follows m wanted is other = (((refl, subst (λ (n : ℕ). eqb n marks.equals ≡ false) (sym (eqb-true m wanted is)) other), refl), refl)
 
@@ -410,7 +410,7 @@ unfolding parsing.function_at is_item_word type_in bytes.is_digit
 function-good =
     items-good then (λ before. type-good (refl, tt) then (λ width. function_name-good then (λ name. parameters-good then (λ parameters. last_items-good then (λ after. body-good then (λ blocks. done-good (λ t f. tt) _))))))
 
--- ---- what closes
+-- ---- parsers that end with a token of their own
 
 body-closes : Closes parsing.body_at
 unfolding parsing.body_at

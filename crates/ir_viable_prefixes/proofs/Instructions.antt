@@ -1,5 +1,5 @@
--- Readers of instructions. A `,` behind a `phi` begins an incoming value or an attachment, and the token behind it says
--- which.
+-- Viable prefixes of instructions. A `,` behind a `phi` begins an incoming value or an attachment, and the token behind
+-- the `,` decides which.
 use Rattle.std.proofs.Common.{◌≡◌, ◌<◌, ◌≤◌, ℕ, zero, suc, Bool, true, false, List, [], ◌∷◌, ◌++◌, length, Option, Some, None, Ok, Err, refl, sym, ap, subst, ◌∙◌, inl, inr, arith, length-append}
 use Rattle.ir_tokens.specs.Tokens.{Token, Placed, Word, Register, Mark}
 use Rattle.ir_tokens.specs.declared.raw.RawOp.{RawOp}
@@ -34,14 +34,14 @@ use Rattle.ir_viable_prefixes.proofs.FlagRuns.{NoFlagNext, new_behind, ReadsApar
 use Rattle.ir_viable_prefixes.proofs.Statements.{NotComma, NotRegister, mark_shut, mark_open, metadata_shut, metadata_open, register_shut, register_open, mark_records, metadata_records, register_records, mark_next, metadata_next, register_next, attachment-good, binary-good, compare-good, select-good, convert-good, freeze-good, incoming-good}
 use Rattle.ir_viable_prefixes.proofs.TokenReaders.{mark-good, a_register, register-good, type-good, placed_operation, opcode_at, opcode-good}
 
--- readers one behind the other are so in either order of brackets
+-- sequencing of parsers is associative
 assoc : {A B C : Type 0} (r : Read A) (f : A → Reader B) (g : B → Reader C) → goes_on (goes_on r f) g ≡ goes_on r (λ x. f x >>= g)
 assoc (Ok x) f g = refl
 assoc (Err e) f g = refl
 
--- ---- incoming values behind the first, and attachments
+-- ---- further incoming values, and attachments
 
--- incoming values behind those in front, and attachments
+-- further incoming values behind those in front, and attachments
 abbrev Others : {A : Type 0} → ℕ → (List RawIncoming → A) → List RawIncoming → Reader A
 Others width f front = parsing.incomings_at width front >>= λ incomings. Ending (f incomings)
 
@@ -92,7 +92,7 @@ read_less : {A : Type 0} (E F : Follow) (R : Reader A) (W : Why) (tokens : List 
 read_less {A} E F R W tokens (Ok x) y is o = let less : length x.1 ≤ length tokens = no_longer o in let same : x.1 ≡ y.1 = cc in rw (← same) less
 read_less E F R W tokens (Err d) y is o = absurd cc
 
--- an attachment behind the `,`, and more
+-- an attachment behind the `,`, and further ones
 attached-good : {A : Type 0} (x : A) → Good (And Anything (Tested parsing.is_metadata true)) (parsing.attachment_at >>= λ u. Ending x) NotComma
 attached-good x = attachment-good (tt, refl) then (λ u. ending-good x)
 
@@ -166,7 +166,7 @@ phi_ending f tokens =
 phi-good : {A : Type 0} (f : RawOp → A) → Good Anything (parsing.phi_at >>= λ op. Ending (f op)) NotComma
 phi-good f = same-good (phi_ending f) (type-good tt then (λ width. incoming-good width tt then (λ first. others-good width (λ incomings. f (Phi width incomings)) (first ∷ []))))
 
--- what is read behind the line and the word of an operation
+-- the parser of an operation behind its word, with attachments and the result mapped
 abbrev pub Behind : {A : Type 0} → (RawOp → A) → ℕ → Operation → Reader A
 Behind f line operations.Call = Called f line
 Behind f line operations.Tail = call_word_at >>= Called f
@@ -182,7 +182,7 @@ same_behind_word f line operations.Tail tokens = marked_from f tokens
 same_behind_word f line operations.NoTail tokens = marked_from f tokens
 same_behind_word f line operation tokens = refl
 
--- what is told behind the word of an operation
+-- the reason of a refusal behind the word of an operation
 abbrev pub BehindWhy : {A : Type 0} → (RawOp → A) → ℕ → Operation → Why
 BehindWhy f line operations.Call = CalleeOr (Called f line) NotComma line StandsTyped
 BehindWhy f line operations.Tail = MarkedWhy f
@@ -204,7 +204,7 @@ behind_open f line operations.Phi = let r = phi-good f in (r.sample, r.outcome, 
 pub behind_sample : {A : Type 0} (f : RawOp → A) (o : ℕ × Operation) → Sample Anything (BehindWord f o) NotComma
 behind_sample f o = (behind_open f o.0 o.1).0
 
--- the word of an operation that is read
+-- the word of an operation that was read
 pub opcode_read : (tokens : List Placed) (x : (ℕ × Operation) × List Placed) → opcode_at tokens ≡ Ok x → tokens ≡ (x.0.0, Word (operation_word x.0.1)) ∷ x.1
 opcode_read [] x is = absurd cc
 opcode_read ((line, Word w) ∷ rest) x is = by (operation_in w) refl is
@@ -214,7 +214,7 @@ opcode_read ((line, Word w) ∷ rest) x is = by (operation_in w) refl is
     by None h read = absurd cc
 opcode_read ((line, t) ∷ rest) x is = absurd cc
 
--- `=`, and behind it the line and the word of an operation
+-- `=`, and the word of an operation with its line
 abbrev pub Opcode : Reader (ℕ × Operation)
 Opcode = parsing.mark_at marks.equals >>= λ u. opcode_at
 
@@ -227,7 +227,7 @@ equals_read tokens x is =
     let mark = mark_at-is marks.equals tokens one.0 one.1 in
     (mark.0, mark.1 ∙ ap (λ (ts : List Placed). (mark.0, Mark marks.equals) ∷ ts) (opcode_read one.0.1 x one.2))
 
--- the tokens that are read so
+-- the two tokens that are read so
 begun_by : (tokens : List Placed) (line : ℕ) (operation : Operation) (rest : List Placed) → Opcode tokens ≡ Ok ((line, operation), rest) → (o : IsReadIf (Unit {0}) Anything Opcode Anything (Unit {0}) tokens (line, operation) rest)
     → (l : ℕ) × ((l, Mark marks.equals) ∷ (line, Word (operation_word operation)) ∷ [] ≡ o.front)
 begun_by tokens line operation rest is o =

@@ -1,5 +1,5 @@
--- Where a group of attributes is read, items are: readers by what they make of a value or a word in the place of the
--- group.
+-- Where a parser reads a group of attributes, items stand. Which items these are is told by what the parser makes of a
+-- value or a word in the group's place.
 use Rattle.std.proofs.Common.{◌≡◌, ◌<◌, ℕ, zero, suc, Bool, true, false, List, [], ◌∷◌, ◌++◌, length, Ok, Err, refl, sym, ap, subst, ◌∙◌, ◌⊎◌, inl, inr, append_assoc, arith, length-append}
 use Rattle.std.proofs.lemmas.List.{append_cancel_right}
 use Rattle.ir_tokens.specs.Tokens.{Token, Placed, End, Word, Group}
@@ -21,34 +21,34 @@ use Rattle.ir_viable_prefixes.proofs.Outcomes.{Follow, Next, Ended, StopsBefore,
 use Rattle.ir_viable_prefixes.proofs.Repeats.{Steps, loop_sample, one_step}
 use Rattle.ir_viable_prefixes.proofs.Values.{ReadsValue}
 
--- ---- what items are of
+-- ---- which items stand there
 
--- each end of an argument is refused behind `true`
+-- behind the front and `true`, each end of an argument is refused
 abbrev pub RefusesEnds : {A : Type 0} → Reader A → List Placed → Type 0
 RefusesEnds R front = (end : Placed) (more : List Placed) → EndsArgument end.1 → (e : Fault IrFaultKind) × (R (front ++ (0, a_truth) ∷ end ∷ more) ≡ Err e)
 
--- such a token behind the front, each end of an argument, and more are read
+-- behind the front, such a token, each end of an argument and some more tokens are read
 abbrev pub ReadsEnds : {A : Type 0} → Reader A → Follow → List Placed → Type 0
 ReadsEnds {A} R F front =
     (t : Placed) (end : Token) → begins_item (t ∷ []) ≡ true → EndsArgument end
     → (y : A) × (more : List Placed) × ((tokens : List Placed) → Next F tokens → R (front ++ t ∷ (0, end) ∷ (more ++ tokens)) ≡ Ok (y, tokens))
 
--- words that are no items are refused
+-- behind the front, words that are no items are refused
 abbrev pub RefusesWords : {A : Type 0} → Reader A → List Placed → Type 0
 RefusesWords R front = (line : ℕ) (w : List ℕ) (more : List Placed) → is_item_word w ≡ false → (e : Fault IrFaultKind) × (R (front ++ (line, Word w) ∷ more) ≡ Err e)
 
--- behind the front and a token that is an item by itself, the reader stops before each end of an argument
+-- behind the front and a token that is an item by itself, the parser stops before each end of an argument
 abbrev pub Ready : {A : Type 0} → Reader A → List Placed → Type 0
 Ready {A} R front = (t end : Placed) → begins_item (t ∷ []) ≡ true → EndsArgument end.1 → (x : A) × ((more : List Placed) → R (front ++ t ∷ end ∷ more) ≡ Ok (x, end ∷ more))
 
--- The reader reads items behind the front, where what stands next is a value, and then the value and the rest, which an
--- end of an argument begins.
+-- Behind the front the parser reads the items of an argument, as long as the next token isn't its value, then the
+-- value, and then a rest that begins with the end of an argument.
 pub record Argument {A : Type 0} (Q : Reader RawOperand) (R : Reader A) (F : Follow) (front : List Placed) : Type 0 where
   pub rest : RawOperand → Reader A
   pub reads : (items : List (List ℕ)) (tokens value : List Placed) → Each SpellsItem items tokens value → begins_inner_item value ≡ false → ends_argument value ≡ false → MayFollowItem value → R (front ++ tokens) ≡ goes_on (Q value) rest
   pub ends : (x : RawOperand) → (y : A) × (more : List Placed) × ((tokens : List Placed) → Next F tokens → (rest x (more ++ tokens) ≡ Ok (y, tokens)) × Next EndsArgument (more ++ tokens))
 
--- behind the front, items stand before a type or in front of a body, or those of a parameter or of an argument do
+-- behind the front stand items before a type or a body, or those of a parameter, or those of an argument
 pub data IsPlace {A : Type 0} (R : Reader A) (F : Follow) (front : List Placed) : Type 0 where
   header : RefusesEnds R front → IsPlace R F front
   parameter : RefusesWords R front → ReadsEnds R F front → IsPlace R F front
@@ -66,7 +66,7 @@ assoc : {A B C : Type 0} (r : Read A) (f : A → Reader B) (g : B → Reader C) 
 assoc (Ok x) f g = refl
 assoc (Err e) f g = refl
 
--- a place of the first reader is one of both
+-- a place of the first parser is one of the sequence
 pub place_first : {A B : Type 0} (F G : Follow) (R : Reader A) (S : A → Reader B) → ((x : A) → Sample F (S x) G) → (front : List Placed) → IsPlace R F front → IsPlace (R >>= S) G front
 place_first F G R S s front (header refused) = header (λ end more ends. let r = refused end more ends in (r.0, rw r.1 refl))
 place_first F G R S s front (parameter words reads) =
@@ -89,7 +89,7 @@ place_first F G R S s front (argument Q width q a) =
 pub place_second : {A B : Type 0} (G : Follow) (R : Reader A) (S : A → Reader B) (x : A) (first front : List Placed) → ((tokens : List Placed) → R (first ++ (front ++ tokens)) ≡ Ok (x, front ++ tokens)) → IsPlace (S x) G front → IsPlace (R >>= S) G (first ++ front)
 place_second G R S x first front one place = place_moved (S x) (R >>= S) G front (first ++ front) (λ ts. rw (append_assoc first front ts, one ts) refl) place
 
--- ---- readers that read a group behind a front
+-- ---- parsers that read a group behind a front
 
 abbrev pub the_group : List ℕ → Placed
 the_group text = (0, Group text)
@@ -97,16 +97,16 @@ the_group text = (0, Group text)
 abbrev pub the_end : Placed
 the_end = (0, End)
 
--- the group behind the front, and the end
+-- the front, the group and the end of the text
 abbrev pub Whole : List ℕ → List Placed → List Placed
 Whole text front = front ++ the_group text ∷ the_end ∷ []
 
--- the reader reads up to the end, or nothing before that is refused whatever stands behind it
+-- the parser reads up to the end, or refuses nothing before that whatever stands behind
 pub record Goes {A : Type 0} (text : List ℕ) (R : Reader A) (front : List Placed) : Type 0 where
   pub read : (x : A × List Placed) → R (Whole text front) ≡ Ok x → x.1 ≡ the_end ∷ []
   pub refused : (first : List Placed) (t : Placed) (behind : List Placed) → Whole text front ≡ first ++ t ∷ behind → RefusesPlaced R first t → behind ≡ []
 
--- where it does, items are read
+-- where that is so, behind the front items are read
 abbrev pub Places : {A : Type 0} → List ℕ → Reader A → Follow → Type 0
 Places text R F = (front : List Placed) → Ended (Whole text front) → Goes text R front → IsPlace R F front
 
@@ -118,11 +118,11 @@ places_same {A} {F} {R} {S} text same r front e goes =
       refused = λ first t behind there refused. goes.refused first t behind there (λ more. let r = refused more in (r.0, same (first ++ t ∷ more) ∙ r.1));
     }))
 
--- a reader that refuses the group does not read on at once
+-- a parser that refuses the group does not read it
 pub none_at_once : {A : Type 0} (text : List ℕ) (R : Reader A) (found : Fault IrFaultKind) → ((more : List Placed) → R (the_group text ∷ more) ≡ Err found) → Goes text R [] → ⊥
 none_at_once text R found refused goes = let none : the_end ∷ [] ≡ [] = goes.refused [] (the_group text) (the_end ∷ []) refl (λ more. (found, refused more)) in cc
 
--- nor does one that leaves it, where the next one doesn't
+-- nor does one that leaves it, if the next one does not read it
 pub none_left : {A B : Type 0} (text : List ℕ) (R : Reader A) (S : A → Reader B) (x : A) → ((more : List Placed) → R (the_group text ∷ more) ≡ Ok (x, the_group text ∷ more)) → (Goes text (S x) [] → ⊥) → Goes text (R >>= S) [] → ⊥
 none_left text R S x left none goes = none (record { read = λ y is. goes.read y (rw (left (the_end ∷ [])) is); refused = λ first t behind there refused. by first t behind there refused })
   where
@@ -139,14 +139,14 @@ none_left text R S x left none goes = none (record { read = λ y is. goes.read y
         let r = refused more in
         (r.0, subst (λ (v : Placed). (R >>= S) (v ∷ (first ++ t ∷ more)) ≡ Err r.0) same (rw (left (first ++ t ∷ more)) (subst (λ (v : Placed). S x (v ∷ (first ++ t ∷ more)) ≡ Err r.0) (sym same) r.1))))
 
--- ---- one reader behind another
+-- ---- parsers in sequence
 
 nothing_ended : (first rest : List Placed) → [] ≡ first ++ rest → Ended rest → ⊥
 nothing_ended [] [] same e = e
 nothing_ended [] (t ∷ rest) same e = cc
 nothing_ended (t ∷ first) rest same e = cc
 
--- what is left is the end, or the group is
+-- what is left is the end alone, or the group is left too
 pub left_of : (text : List ℕ) (front first rest : List Placed) → Whole text front ≡ first ++ rest → Ended rest → (rest ≡ the_end ∷ []) ⊎ ((f : List Placed) × (front ≡ first ++ f) × (rest ≡ Whole text f))
 left_of text front [] rest same e = inr (front, refl, sym same)
 left_of text [] (u ∷ []) rest same e = inl (sym cc)
@@ -173,8 +173,8 @@ goes_behind text R S front first f x is whole stopped goes = record {
 abbrev the_read : {A : Type 0} → Read A → Read A
 the_read r = r
 
--- What the reader makes of tokens: it reads some whatever stands further behind, or refuses the token behind a front
--- that may be completed.
+-- What the parser makes of tokens: it reads a prefix whatever stands further behind, or refuses the token behind a
+-- front which other tokens can complete.
 pub data Fares {A : Type 0} (R : Reader A) (F : Follow) (tokens : List Placed) : Type 0 where
   reads : (x : A) (front rest : List Placed) → R tokens ≡ Ok (x, rest) → tokens ≡ front ++ rest → Ended rest → StopsBefore R front x rest → Fares R F tokens
   fails : (found : Fault IrFaultKind) (front : List Placed) (t : Placed) (behind : List Placed) → R tokens ≡ Err found → tokens ≡ front ++ t ∷ behind → RefusesPlaced R front t → CompletesBegun R F front → Fares R F tokens
@@ -195,7 +195,7 @@ good {A} {V} {E} {R} {F} {W} r tokens e = fares V E R F W (ReasonsIf V E R F) to
 pub good_open : {A : Type 0} {E : Follow} {R : Reader A} {F : Follow} → GoodOpen E R F → Faring R F
 good_open {A} {E} {R} {F} r tokens e = fares (Unit {0}) E R F (Unit {0}) (Reasons E R F) tokens (r.outcome tokens e)
 
--- the first reader reads on, or the second does behind it
+-- the first parser reads the group, or the second does behind it
 pub then_goes : {A B D : Type 0} {F : Follow} (text : List ℕ) (R : Reader A) (S : A → Reader B) (front : List Placed) → Fares R F (Whole text front) → Goes text (R >>= S) front
     → (Goes text R front → D) → ((x : A) (first f : List Placed) → front ≡ first ++ f → R (Whole text front) ≡ Ok (x, Whole text f) → StopsBefore R first x (Whole text f) → Ended (Whole text f) → Goes text (S x) f → D) → D
 then_goes {A} {B} {D} {F} text R S front (reads x taken rest is there ended stopped) goes first second = by (left_of text front taken rest there ended)
@@ -216,12 +216,12 @@ then_goes text R S front (fails found taken t behind is there refused completes)
       refused = λ a u rest same refused_too. goes.refused a u rest same (λ more. let r = refused_too more in (r.0, rw r.1 refl));
     })
 
--- the second reader does not read on at once, or the first reads what it reads whatever stands behind it
+-- the second parser does not read the group first, or the first reads the same whatever stands behind
 pub data Rests {A B : Type 0} (text : List ℕ) (R : Reader A) (S : A → Reader B) : Type 0 where
   later : ((x : A) → Goes text (S x) [] → ⊥) → Rests text R S
   closed : Closes R → Rests text R S
 
--- so it is read with all that may stand behind the group's place
+-- so the first parser reads the same with whatever may stand in the group's place and behind
 pub reads_first : {A B : Type 0} (text : List ℕ) (R : Reader A) (S : A → Reader B) → Rests text R S → (front first f : List Placed) (x : A) → front ≡ first ++ f → Ended (Whole text front) → R (Whole text front) ≡ Ok (x, Whole text f) → StopsBefore R first x (Whole text f) → Goes text (S x) f
     → (tokens : List Placed) → R (first ++ (f ++ tokens)) ≡ Ok (x, f ++ tokens)
 reads_first text R S (later none) front first [] x same e is stopped goes tokens = absurd (none x goes)
@@ -237,7 +237,7 @@ places_then {A} {B} {F} {G} {R} {S} text outcome r p s rests front e goes =
     then_goes text R S front (outcome (Whole text front) e) goes (λ first. place_first F G R S s front (r front e first))
     (λ x first f same is stopped ended second. subst (IsPlace (R >>= S) G) (sym same) (place_second G R S x first f (reads_first text R S rests front first f x same e is stopped second) (p x f ended second)))
 
--- a reader with its places and a sample
+-- a parser with a sample of what it reads, and with its places of items
 pub record Placing {A : Type 0} (text : List ℕ) (E : Follow) (R : Reader A) (F : Follow) : Type 0 where
   pub sample : Sample E R F
   pub places : Places text R F
@@ -260,7 +260,7 @@ placing_done text enters x = record {
   places = λ front e goes. absurd (more_than_end text front (goes.read (x, Whole text front) refl));
 }
 
--- ---- readers that read no group
+-- ---- parsers that read no group
 
 pub last_is : (a b : List Placed) (s t : Placed) → a ++ s ∷ [] ≡ b ++ t ∷ [] → (a ≡ b) × (s ≡ t)
 last_is [] [] s t same = (refl, cc)
@@ -273,7 +273,7 @@ last_is (u ∷ a) (v ∷ b) s t same =
     let (others, last) = last_is a b s t cc in
     (ap (λ (w : Placed). w ∷ a) heads ∙ ap (λ (ts : List Placed). v ∷ ts) others, last)
 
--- tokens with which the reader reads the group
+-- behind these tokens the parser can read the group
 abbrev pub Through : {A : Type 0} → List ℕ → Reader A → List Placed → Type 0
 Through {A} text R front = (x : A) × (more : List Placed) × (rest : List Placed) × (R (front ++ the_group text ∷ (more ++ rest)) ≡ Ok (x, rest))
 
@@ -300,7 +300,7 @@ no_through text R front r (x, more, rest, is) =
 pub places_none : {A : Type 0} {F : Follow} {R : Reader A} (text : List ℕ) → Faring R F → Groupless R → (u : Token) → F u → Places text R F
 places_none {R = R} text outcome r u follows front e goes = absurd (no_through text R front r (goes_through text R front (outcome (Whole text front) e) goes u follows))
 
--- ---- readers that do the same from a token on
+-- ---- parsers that do the same from a token on
 
 pub goes_begun : {A : Type 0} (text : List ℕ) (R S : Reader A) (v : Placed) (front : List Placed) → ((tokens : List Placed) → S (v ∷ tokens) ≡ R (v ∷ tokens)) → Goes text S (v ∷ front) → Goes text R (v ∷ front)
 goes_begun text R S v front agree goes = record {

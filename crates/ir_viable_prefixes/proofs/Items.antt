@@ -1,4 +1,4 @@
--- Readers of items.
+-- Viable prefixes of items.
 use Rattle.std.proofs.Common.{◌≡◌, ℕ, suc, Bool, true, false, eqb, List, [], ◌∷◌, ◌++◌, length, Ok, Err, refl, sym, ap, subst, ◌∙◌, inl, inr, cond, append_assoc, arith}
 use Rattle.std.proofs.lemmas.List.{append-nil, append_cancel_right}
 use Rattle.std.specs.Prelude.{codes}
@@ -36,7 +36,7 @@ use Rattle.ir_viable_prefixes.proofs.TokenReaders.{all_bad, types_bad, mark-good
 
 -- ---- items
 
--- a token that is no last one
+-- the parser of one token that the text does not end with
 abbrev some_token_at : Reader Token
 some_token_at [] = Err (fault 0 Syntax)
 some_token_at ((line, t) ∷ rest) = cond (is_last t) (Err (fault line (misfit places.Fixed t))) (Ok (t, rest))
@@ -50,7 +50,7 @@ some_token_takes E F line t = by (is_last t) refl
         (λ more. rw h refl)
     by false h = takes t h (λ more. rw h refl)
 
--- the item that begins with this token, behind it
+-- the parser of an item that begins with this token, behind it
 abbrev behind_item : Token → Reader (List ℕ)
 behind_item (Word word) = parsing.word_item_at word
 behind_item (Number digits) = done digits
@@ -127,7 +127,7 @@ behind_item-good (Number digits) = done-good (λ t is. tt) digits
 behind_item-good (Group text) = done-good (λ t is. tt) text
 behind_item-good t = done-good (λ u is. tt) []
 
--- items leave nothing out
+-- no fault of items is `LeftOut`
 pub fixed_left : (t : Token) → ¬ IsLeft (misfit places.Fixed t)
 unfolding misfit leaves_out
 fixed_left Bad_token (text, left) = cc
@@ -244,7 +244,7 @@ item_shut t u none (like_function written other) = refl
 item_shut t u none (like_width w other width out is) = rw (type_in-of other width is) refl
 item_shut t u none (like_number digits other) = absurd cc
 
--- behind items, no mark begins a record, since a group is one more
+-- behind items no mark begins a record, since a group would be one more item
 item_records : (front : List (List ℕ)) (b : Bool) → OpensRecords parsing.begins_item b (Tested parsing.begins_item true) (each_at parsing.begins_item parsing.item_at front) FollowsItems
 unfolding parsing.item_at is_item_word type_in
 item_records front true (Mark m) begins next = absurd cc
@@ -256,9 +256,9 @@ item_records front false (Mark m) begins next = (inl ((front ++ codes "#0" ∷ [
         ∙ each-done parsing.begins_item parsing.item_at (front ++ codes "#0" ∷ []) tokens (tested_next parsing.begins_item item_next false tokens (next_map FollowsItems (Tested parsing.begins_item false) tokens (λ t f. f.0) follows))
 item_records front b t begins next = absurd cc
 
--- ---- what items take
+-- ---- which tokens items take
 
--- a part that is read is so whatever stands behind it
+-- the part is spelled by a prefix of the tokens, whatever stands behind it
 abbrev Local : Part → Type 0
 Local P = (tokens rest : List Placed) → P tokens rest → (front : List Placed) × (tokens ≡ front ++ rest) × ((others : List Placed) → P (front ++ others) others)
 
@@ -275,7 +275,7 @@ item_is_local item tokens rest (of_key_and_value key value same (middle, (l, one
   λ others. of_key_and_value key value same ((k, Mark marks.equals) ∷ (m, Quoted value) ∷ others, (l, refl), ((m, Quoted value) ∷ others, (k, refl), (m, refl))),
 )
 
--- items, and one more
+-- items, and one more item
 pub one_more : (items : List (List ℕ)) (last : List ℕ) (tokens rest : List Placed) → Each SpellsItem items tokens rest → (front : List Placed) × (tokens ≡ front ++ rest) × ((middle others : List Placed) → SpellsItem last middle others → Each SpellsItem (items ++ last ∷ []) (front ++ middle) others)
 one_more [] last tokens rest same = ([], same, λ middle others is. (others, is, refl))
 one_more (item ∷ items) last tokens rest (between, one, more) =
@@ -286,7 +286,7 @@ one_more (item ∷ items) last tokens rest (between, one, more) =
       λ middle others is. rw (append_assoc a.0 b.0 middle) (b.0 ++ middle, a.2 (b.0 ++ middle), b.2 middle others is),
     )
 
--- behind items no flag is next, since it would be one more
+-- behind items no flag is next, since it would be one more item
 items_apart : ReadsApart parsing.items_at
 unfolding parsing.items_at is_item_word type_in
 items_apart tokens x is =
@@ -336,13 +336,13 @@ items-good = record {
         subst (OutcomeIf ⊥ (Tested parsing.begins_item true) parsing.item_at FollowsItem (Unit {0}) (ReasonsIf ⊥ (Tested parsing.begins_item true) parsing.item_at FollowsItem) tokens) (sym (item_from tokens next))
         (reasons_transferred parsing.begins_item item_next true (some_token_at >>= behind_item) parsing.item_at item_from ⊥ ⊥ (Unit {0}) (λ v. v) item_open (Tested parsing.begins_item true) (Tested parsing.begins_item true) FollowsItem item_begins (λ t d. d) (λ t d. d) tokens next ((some_token_at >>= behind_item) tokens) (item_parts_outcome tokens e))
 
--- ---- items that no word follows
+-- ---- items behind which no word may stand
 
 -- a word that is an item and a value
 abbrev a_word : List ℕ
 a_word = codes "true"
 
--- behind items, such a word is read as one more
+-- behind items, such a word is read as one more item
 word_is_read : (tokens : List Placed) (x : List (List ℕ) × List Placed) (front : List Placed) → parsing.items_at tokens ≡ Ok x → tokens ≡ front ++ x.1 → (others : List Placed) → Next FollowsItems others
     → parsing.items_at (front ++ (0, Word a_word) ∷ others) ≡ Ok (x.0 ++ a_word ∷ [], others)
 unfolding is_item_word type_in
@@ -361,11 +361,11 @@ word_is_read tokens x front is there others next =
     may_follow ((l, Mark mark) ∷ ts) n = n.1
     may_follow ((l, t) ∷ ts) n = tt
 
--- the word that may not follow items
+-- the refused token is a word, which may not stand behind these items
 abbrev IsWordFirst : Why
 IsWordFirst front t found = (front ≡ []) × (w : List ℕ) × (t.1 ≡ Word w) × (found.line ≡ t.0) × (found.kind ≡ LeftOut w)
 
--- tokens but words
+-- tokens that are no words
 abbrev NotWord : Follow
 NotWord t = is_word t ≡ false
 
@@ -378,7 +378,7 @@ no_word_stops t none = λ l more. refl
 abbrev pub FollowsLast : Follow
 FollowsLast t = FollowsItems t × NotWord t
 
--- what is behind the items, where no word may stand
+-- the parser of what follows the items, where no word may stand
 abbrev Behind : List (List ℕ) → Reader (List (List ℕ))
 Behind items = parsing.no_word_at >>= λ u. done items
 

@@ -1,4 +1,4 @@
--- Readers that read no group of attributes on a line of its own.
+-- Parsers that read no group of attributes on a line of its own.
 use Rattle.std.proofs.Common.{◌≡◌, ◌≢◌, ℕ, Bool, true, false, cond, List, [], ◌∷◌, ◌++◌, Ok, refl, sym, ap, subst, ◌∙◌, append_assoc}
 use Rattle.std.specs.Prelude.{codes}
 use Rattle.std.specs.List.{AllByRecursion}
@@ -43,7 +43,7 @@ free_both : (a b : List Placed) → Free a → Free b → Free (a ++ b)
 free_both [] b one two = two
 free_both (t ∷ a) b one two = (one.0, free_both a b one.1 two)
 
--- the tokens begin with such, and the rest is behind them
+-- the rest stands behind tokens among which no such group is
 abbrev pub Taken : List Placed → List Placed → Type 0
 Taken tokens rest = (front : List Placed) × (tokens ≡ front ++ rest) × Free front
 
@@ -157,7 +157,7 @@ own_free set (t ∷ front) own = (λ text same. no_flag text (subst (λ (u : Pla
 flags_groupless : (set : Flags) → Groupless (parsing.flags_at set)
 flags_groupless set tokens x is = let a = flags_are set tokens x is in (a.0.0, a.0.1, own_free set a.0.0 a.0.2)
 
--- `,` and what is behind it
+-- `,` and another parser
 comma_groupless : {B : Type 0} (S : Reader B) → Groupless S → Groupless (parsing.mark_at marks.comma >>= λ u. S)
 comma_groupless S s = both_groupless (parsing.mark_at marks.comma) (λ u. S) (mark_groupless marks.comma) (λ u. s)
 
@@ -208,7 +208,7 @@ phi_groupless =
     (λ width. both_groupless (parsing.incoming_at width) _ (incoming_groupless width)
     (λ first. made_groupless (parsing.incomings_at width (first ∷ [])) _ (each_groupless parsing.begins_incoming (parsing.further_incoming_at width) (comma_groupless (parsing.incoming_at width) (incoming_groupless width)) (first ∷ []))))
 
--- no call
+-- the operation is no call
 abbrev pub Plain : Operation → Type 0
 Plain operations.Call = ⊥
 Plain operations.Tail = ⊥

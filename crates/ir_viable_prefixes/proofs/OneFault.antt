@@ -1,4 +1,4 @@
--- Of tokens that do not fit, one fault is told: that of the first, of which one fault is said.
+-- Of tokens that do not fit only one fault is told: it is told of the first misfit, of which only one fault is said.
 use Rattle.std.proofs.Common.{◌≡◌, ℕ, List, [], ◌∷◌, ◌++◌, refl, sym, ap, subst, ◌∙◌, ◌⊎◌, inl, inr, append_assoc}
 use Rattle.std.proofs.lemmas.List.{append_cancel_left}
 use Rattle.ir_tokens.specs.Tokens.{Placed}
@@ -9,7 +9,7 @@ use Rattle.ir_viable_prefixes.specs.Fits.{Fits}
 use Rattle.ir_viable_prefixes.specs.Laws.{IsSaid, of_token, in_call, IsTold, IsFirstMisfit}
 use Rattle.ir_viable_prefixes.proofs.Told.{begun_fits}
 
--- two tokens of one list stand at one place, or the one before the other
+-- two tokens of one list are at the same index, or one of them is before the other
 abbrev Places : List Placed → Placed → List Placed → Placed → Type 0
 Places front t other u = ((front ≡ other) × (t ≡ u)) ⊎ (((between : List Placed) × (other ≡ front ++ t ∷ between)) ⊎ ((between : List Placed) × (front ≡ other ++ u ∷ between)))
 
@@ -27,7 +27,7 @@ places (v ∷ front) (w ∷ other) t u behind rest same = by (places front other
     by (inr (inl (between, is))) = inr (inl (between, ap (λ (x : Placed). x ∷ other) (sym heads) ∙ ap (λ (ts : List Placed). v ∷ ts) is))
     by (inr (inr (between, is))) = inr (inr (between, ap (λ (x : Placed). x ∷ front) heads ∙ ap (λ (ts : List Placed). w ∷ ts) is))
 
--- behind equal tokens the others are equal
+-- lists with the same token behind the same front have the same rest
 behind_same : (front other : List Placed) (t u : Placed) (behind rest : List Placed) → front ≡ other → t ≡ u → front ++ t ∷ behind ≡ other ++ u ∷ rest → behind ≡ rest
 behind_same front other t u behind rest fronts tokens same =
     tail_is t behind rest (append_cancel_left front (t ∷ behind) (t ∷ rest) (same ∙ ap (λ (f : List Placed). f ++ u ∷ rest) (sym fronts) ∙ ap (λ (v : Placed). front ++ v ∷ rest) (sym tokens)))
@@ -35,7 +35,7 @@ behind_same front other t u behind rest fronts tokens same =
     tail_is : (t : Placed) (a b : List Placed) → t ∷ a ≡ t ∷ b → a ≡ b
     tail_is t a b both = cc
 
--- what does not fit stands before nothing that does
+-- no viable prefix has a misfit in it
 no_later : (front other : List Placed) (t : Placed) (between : List Placed) → other ≡ front ++ t ∷ between → Fits other → ¬ Fits (front ++ t ∷ []) → ⊥
 no_later front other t between is fits misfit = misfit (begun_fits (front ++ t ∷ []) between (subst Fits (is ∙ sym (append_assoc front (t ∷ []) between)) fits))
 

@@ -1,4 +1,4 @@
--- What two kinds say of one token: they are the same.
+-- Two kinds of fault that are said of one token are the same.
 use Rattle.std.proofs.Common.{◌≡◌, ℕ, ◌<◌, ◌^◌, true, false, List, refl, sym, ap, subst, ◌∙◌, pos, arith}
 use Rattle.std.specs.Prelude.{codes, IsSome}
 use Rattle.std.proofs.lemmas.Int.{ints}
@@ -60,7 +60,7 @@ bad_left_out (entry goes fits) bad = let no_entry : is_last Bad_token ≡ false 
 width_number : (front : List Placed) {t : Token} → IsWrongWidth front t → IsWrongNumber front t → ⊥
 width_number front wide wrong = let same : Word wide.0 ≡ Number wrong.0 = sym wide.1 ∙ wrong.2 in cc
 
--- a flag is no type but for its width
+-- the keyword of a flag is no integer type of a wrong width
 flag_no_width : (front : List Placed) {t : Token} (word : List ℕ) → t ≡ Word word → type_in word ≡ OutOfRange → IsRepeated front t → ⊥
 unfolding type_in
 flag_no_width front {t} word is out (w, same, (before, run, flag, flags, stands, keyword, each), fits) = by flag (subst (λ (v : List ℕ). type_in v ≡ OutOfRange) (sym (word_is w word (sym same ∙ is)) ∙ keyword) out)
@@ -94,14 +94,14 @@ number_left_out {front} {t} none (entry goes fits) wrong = none fits (codes "0")
 number_nothing : (front : List Placed) (t : Token) → IsWrongNumber front t → IsNothingElse front t → ⊥
 number_nothing front t wrong nothing = nothing.number wrong.0 (codes "0") wrong.2 (zero_fits front t wrong)
 
--- ---- what is left out, and what nothing else is
+-- ---- `LeftOut` and `Syntax`
 
 left_out_nothing : {front : List Placed} {t : Token} → IsLeftOut front t → IsNothingElse front t → IsRepeated front t
 left_out_nothing (another a) nothing = nothing.another a
 left_out_nothing (mark_of_record begins ends none) nothing = absurd (none (nothing.mark_of_record begins ends))
 left_out_nothing (entry goes fits) nothing = absurd (nothing.entry goes fits)
 
--- ---- each two kinds
+-- ---- each pair of kinds
 
 module _ (front : List Placed) (t : Token) (no_numbers : EndsHaveNoNumbers front) where
   one_bad : t ≡ Bad_token → (b : IrFaultKind) → IsMisfit front t b → BadByte ≡ b

@@ -1,6 +1,6 @@
--- What a reader makes of tokens, said so that it composes: it goes behind a front of them whatever stands further
--- behind, or it refuses the token behind a front that it can be made to read by other tokens. Tokens that might stand
--- there stand on a line of their own.
+-- What a parser (reader) makes of tokens, said so that it composes for parsers in sequence: it reads a prefix (front)
+-- of them whatever stands further behind, or it refuses the token behind a front which other tokens can complete.
+-- Tokens that might stand in the place of others stand on a line of their own.
 use Rattle.std.proofs.Common.{◌≡◌, ◌≢◌, ℕ, true, false, List, [], ◌∷◌, ◌++◌, Some, None, Ok, Err, refl, sym, ap, subst, ◌∙◌, ◌⊎◌, inl, inr, append_assoc}
 use Rattle.std.specs.Prelude.{codes}
 use Rattle.std.proofs.lemmas.List.{append-nil, append_cancel_right}
@@ -26,9 +26,9 @@ use Rattle.ir_viable_prefixes.specs.Misfits as nouns
 use Rattle.ir_viable_prefixes.proofs.FlagRuns.{FollowsFlag, IsAgain, NoFlag, NoFlagNext, Parted, new_behind, none_repeated, ReadsApart, Splits, apart_splits, both_splits, leaves_both, done_apart, both_apart, IsLeft, LeavesNothingOut}
 use Rattle.ir_viable_prefixes.proofs.Reasons.{a_type, a_pred, an_end, a_group, Like, like_word, NoRecord, NoGroup, Maps, Reason, reason_map}
 
--- ---- what stands next
+-- ---- the next token
 
--- which tokens may stand next
+-- a set of tokens, as those that may stand next
 abbrev pub Follow : Type 1
 Follow = Token → Type 0
 
@@ -39,7 +39,7 @@ Next F ((line, t) ∷ tokens) = F t
 abbrev pub Anything : Follow
 Anything t = Unit {0}
 
--- the tokens of a text end with one that nothing is read behind, and no mark of the others stands on line 0
+-- the last of the tokens is one behind which nothing is read, and no mark among the others is on line 0
 abbrev pub Ended : List Placed → Type 0
 Ended [] = ⊥
 Ended (t ∷ []) = is_last t.1 ≡ true
@@ -49,7 +49,7 @@ pub ended_behind : (t : Placed) (tokens : List Placed) → is_last t.1 ≡ false
 ended_behind t [] going e = absurd cc
 ended_behind t (u ∷ tokens) going e = e.1
 
--- what holds of any token holds of the next one
+-- a predicate that holds of any token holds of the next one
 pub next_any : (P : Follow) (tokens : List Placed) → Ended tokens → ((t : Token) → P t) → Next P tokens
 next_any P [] e p = absurd e
 next_any P ((line, t) ∷ tokens) e p = p t
@@ -58,17 +58,17 @@ pub next_map : (P Q : Follow) (tokens : List Placed) → ((t : Token) → P t �
 next_map P Q [] f h = absurd h
 next_map P Q ((line, t) ∷ tokens) f h = f t h
 
--- ---- what a reader does
+-- ---- what a parser does
 
--- whatever stands further behind, the reader reads the front and stops before this token
+-- whatever stands further behind, the parser reads the front and stops before this token
 abbrev pub StopsAt : {A : Type 0} → Reader A → List Placed → A → Follow
 StopsAt R front x t = (more : List Placed) → R (front ++ (0, t) ∷ more) ≡ Ok (x, (0, t) ∷ more)
 
--- the same on each line
+-- the same with the token on any line
 abbrev pub StopsEach : {A : Type 0} → Reader A → List Placed → A → Follow
 StopsEach R front x t = (line : ℕ) (more : List Placed) → R (front ++ (line, t) ∷ more) ≡ Ok (x, (line, t) ∷ more)
 
--- the same of the token that stands next
+-- the same with the token that is next
 abbrev pub StopsBefore : {A : Type 0} → Reader A → List Placed → A → List Placed → Type 0
 StopsBefore R front x [] = ⊥
 StopsBefore R front x (t ∷ tokens) = (more : List Placed) → R (front ++ t ∷ more) ≡ Ok (x, t ∷ more)
@@ -85,12 +85,12 @@ pub stops_next : {A : Type 0} (R : Reader A) (front : List Placed) (x : A) (toke
 stops_next R front x [] h = absurd h
 stops_next R front x ((line, t) ∷ tokens) h = h line
 
--- behind tokens only what stands next matters, and only where there are none
+-- stopping before tokens depends on the first of them alone
 pub stops_same : {A : Type 0} (R : Reader A) (read : List Placed) (x : A) (front : List Placed) (t : Placed) (a b : List Placed) → StopsBefore R read x (front ++ t ∷ a) → StopsBefore R read x (front ++ t ∷ b)
 stops_same R read x [] t a b h = h
 stops_same R read x (u ∷ front) t a b h = h
 
--- tokens that are read behind the front, where such a token follows
+-- some tokens behind the front complete it: the parser reads all of them, if a token of F follows
 abbrev pub Completes : {A : Type 0} → Reader A → Follow → List Placed → Type 0
 Completes {A} R F front = (x : A) × (more : List Placed) × ((tokens : List Placed) → Next F tokens → R (front ++ (more ++ tokens)) ≡ Ok (x, tokens))
 
@@ -103,40 +103,39 @@ begun : {A : Type 0} (R : Reader A) (F : Follow) (front : List Placed) → Compl
 begun R F [] c = tt
 begun R F (t ∷ front) c = c
 
--- some tokens that it reads; the first one is such a one
+-- a sample: some tokens that the parser reads, of which the first, if there is one, is in E
 abbrev pub Sample : {A : Type 0} → Follow → Reader A → Follow → Type 0
 Sample {A} E R F = (x : A) × (some : List Placed) × ((tokens : List Placed) → Next F tokens → (R (some ++ tokens) ≡ Ok (x, tokens)) × Next E (some ++ tokens))
 
--- the reader reads on behind the front and the token, before which it may be entered where the front is empty
+-- the token fits behind the front: the parser can read both and some more; if the front is empty, the token is in E
 abbrev pub Fit : {A : Type 0} → Follow → Reader A → Follow → List Placed → Token → Type 0
 Fit {A} E R F front t = ((x : A) × (more : List Placed) × ((tokens : List Placed) → Next F tokens → R (front ++ (0, t) ∷ (more ++ tokens)) ≡ Ok (x, tokens))) × (front ≡ [] → E t)
 
--- what a fault that is found says of a token that is refused behind a front
+-- a reason: what a fault says of a token that is refused behind a front
 abbrev pub Why : Type 1
 Why = List Placed → Placed → Fault IrFaultKind → Type 0
 
--- the reader refuses the token behind the front, whatever stands further behind; where the front is empty, the token is
--- of the sort
+-- the parser refuses the token behind the front, whatever stands further behind
 abbrev pub RefusesAt : {A : Type 0} → Reader A → List Placed → Follow
 RefusesAt R front t = (more : List Placed) → (e : Fault IrFaultKind) × (R (front ++ (0, t) ∷ more) ≡ Err e)
 
--- the same of a token on its line
+-- the same with the token on its own line
 abbrev pub RefusesPlaced : {A : Type 0} → Reader A → List Placed → Placed → Type 0
 RefusesPlaced R front t = (more : List Placed) → (e : Fault IrFaultKind) × (R (front ++ t ∷ more) ≡ Err e)
 
--- the same on each line, where the token stands first
+-- the same with the token first, on any line
 abbrev pub RefusesEach : {A : Type 0} → Reader A → Follow
 RefusesEach R t = (line : ℕ) (more : List Placed) → (e : Fault IrFaultKind) × (R ((line, t) ∷ more) ≡ Err e)
 
 abbrev pub Bad : {A : Type 0} → Type 0 → Reader A → List Placed → Token → Token → Type 0
 Bad V R front t u = RefusesAt R front u × (front ≡ [] → Like V t u)
 
--- the reader reads on behind the front and the value, behind which an argument ends
+-- the value fits behind the front, with the end of an argument behind it
 abbrev pub FitsEnd : {A : Type 0} → Follow → Reader A → Follow → List Placed → Token → Type 0
 FitsEnd {A} E R F front v =
     ((x : A) × (more : List Placed) × ((tokens : List Placed) → Next F tokens → (R (front ++ (0, v) ∷ (more ++ tokens)) ≡ Ok (x, tokens)) × Next EndsArgument (more ++ tokens))) × (front ≡ [] → E v)
 
--- the reader refuses the value, or the end of an argument behind it; where the front is empty, the value is of the sort
+-- the parser refuses the value, or the end of an argument behind it; if the front is empty, the value is of t's sort
 abbrev pub RefusesEnd : {A : Type 0} → Type 0 → Reader A → List Placed → Token → Token → Type 0
 RefusesEnd V R front t v = ((end : Placed) (more : List Placed) → EndsArgument end.1 → (e : Fault IrFaultKind) × (R (front ++ (0, v) ∷ end ∷ more) ≡ Err e)) × (front ≡ [] → Like V t v)
 
@@ -146,7 +145,7 @@ a_truth = Word (codes "true")
 abbrev pub no_truth : Token
 no_truth = Word (codes "undef")
 
--- why what stands last in an argument is no value of it
+-- why the last token of an argument is no value
 pub data NoValue {A : Type 0} (V : Type 0) (E : Follow) (R : Reader A) (F : Follow) (front : List Placed) : Token → IrFaultKind → Type 0 where
   no_number : (digits : List ℕ) (width : ℕ) → constant_of digits width ≡ None → ((other : List ℕ) (number : Numeral) → constant_of other width ≡ Some number → FitsEnd E R F front (Number other))
       → ((other : List ℕ) → constant_of other width ≡ None → RefusesEnd V R front (Number digits) (Number other)) → NoValue V E R F front (Number digits) ConstRange
@@ -155,7 +154,7 @@ pub data NoValue {A : Type 0} (V : Type 0) (E : Follow) (R : Reader A) (F : Foll
   no_group : (text : List ℕ) → NoValue V E R F front (Group text) Syntax
   no_quoted : (text : List ℕ) → NoValue V E R F front (Quoted text) Syntax
 
--- what is told of a call
+-- the faults in calls
 pub data InCall {A : Type 0} (V : Type 0) (E : Follow) (R : Reader A) (F : Follow) (front : List Placed) : Placed → Fault IrFaultKind → Type 0 where
   of_callee : (line at : ℕ) (written one : List ℕ) → CallStands line front → Fit E R F front (Function one)
       → ((other : List ℕ) → callee_named (identifier_of other) ≡ None → Bad V R front (Function written) (Function other)) → InCall V E R F front (at, Function written) (fault line (LeftOut (codes "call")))
@@ -163,22 +162,22 @@ pub data InCall {A : Type 0} (V : Type 0) (E : Follow) (R : Reader A) (F : Follo
       → ((other : Placed) → EndsArgument other.1 → RefusesPlaced R front other) → Fit E R F before a_group → FitsEnd E R F before a_truth → NoValue V E R F before last kind → InCall V E R F front end (fault line kind)
   of_truth : (line : ℕ) (w : List ℕ) → Fit E R F front a_group → FitsEnd E R F front a_truth → RefusesEnd V R front (Word w) no_truth → InCall V E R F front (line, Word w) (fault line Syntax)
 
--- the word is that of a flag that stands last, and the reader reads on with what follows flags
+-- the word repeats one of the flags right before it, and a type or a predicate fits, as behind flags
 abbrev pub Again : {A : Type 0} → Follow → Reader A → Follow → List Placed → List ℕ → Type 0
 Again E R F front w = FollowsFlag front w × (Fit E R F front a_type ⊎ Fit E R F front a_pred)
 
--- reasons where words are meant at the front if V holds
+-- the reason of a refusal; V says whether words count as tokens of one sort at the front
 abbrev pub ReasonsIf : {A : Type 0} → Type 0 → Follow → Reader A → Follow → Why
 ReasonsIf V E R F front t found = ((found.line ≡ t.0) × Reason (Fit E R F front) (Bad V R front) (Again E R F front) (RefusesAt R front) t.1 found.kind) ⊎ InCall V E R F front t found
 
 abbrev pub Reasons : {A : Type 0} → Follow → Reader A → Follow → Why
 Reasons E R F = ReasonsIf (Unit {0}) E R F
 
--- the reader stops before the token, or refuses it
+-- the parser stops before the token, or refuses it
 abbrev pub Halts : {A : Type 0} → Reader A → List Placed → A → Follow
 Halts R front x t = (more : List Placed) → (R (front ++ (0, t) ∷ more) ≡ Ok (x, (0, t) ∷ more)) ⊎ ((e : Fault IrFaultKind) × (R (front ++ (0, t) ∷ more) ≡ Err e))
 
--- W: it halts before words too where it stops before a word
+-- what the parser reads; W says whether, where it stops before a word, it also halts before other words
 pub record IsReadIf {A : Type 0} (V : Type 0) (E : Follow) (R : Reader A) (F : Follow) (W : Type 0) (tokens : List Placed) (x : A) (rest : List Placed) : Type 0 where
   pub front : List Placed
   pub there : tokens ≡ front ++ rest
@@ -192,11 +191,11 @@ pub record IsReadIf {A : Type 0} (V : Type 0) (E : Follow) (R : Reader A) (F : F
   pub nothing : front ≡ [] → (t : Token) → F t → E t
   pub words : front ≡ [] → Next (λ t. (u : Token) → Like W t u → Like V t u) rest
 
--- no type and no predicate is read in place of the token
+-- neither a type nor a predicate is read in place of the token
 abbrev pub Free : {A : Type 0} → Type 0 → Reader A → List Placed → Token → Type 0
 Free V R front t = ((w : List ℕ) (width : ℕ) → IsTypeWord w width → Bad V R front t (Word w)) × ((pred : Pred) → Bad V R front t (Word (predicate_keyword pred)))
 
--- the token repeats no flag that stands last, or what follows flags is not read there
+-- the token repeats none of the flags right before it, or neither a type nor a predicate is read there
 abbrev pub New : {A : Type 0} → Type 0 → Reader A → List Placed → Token → Type 0
 New V R front t = ¬ IsAgain front t ⊎ Free V R front t
 
@@ -208,7 +207,7 @@ pub record IsRefused {A : Type 0} (V : Type 0) (R : Reader A) (F : Follow) (W : 
   pub refused : RefusesPlaced R front token
   pub completes : CompletesBegun R F front
   pub why : W front token found
-  -- what is left out repeats no flag
+  -- a token of which the fault is `LeftOut` repeats no flag
   pub new : IsLeft found.kind → New V R front token.1
 
 abbrev pub OutcomeIf : {A : Type 0} → Type 0 → Follow → Reader A → Follow → Type 0 → Why → List Placed → Read A → Type 0
@@ -221,8 +220,8 @@ Outcome E R F Y tokens r = OutcomeIf (Unit {0}) E R F (Unit {0}) Y tokens r
 abbrev pub OutcomesIf : {A : Type 0} → Type 0 → Follow → Reader A → Follow → Type 0 → Type 0
 OutcomesIf V E R F W = (tokens : List Placed) → Ended tokens → OutcomeIf V E R F W (ReasonsIf V E R F) tokens (R tokens)
 
--- The reader reads some tokens, and does so with all that are those of a text. It is entered before such tokens as E,
--- where it reads nothing, and reads on such as F.
+-- The parser has a sample, what it reads or refuses is known for all tokens that end as those of a text do, and it
+-- splits no run of flags. It may begin before tokens of E, and tokens of F may follow it.
 pub record GoodIf {A : Type 0} (V : Type 0) (E : Follow) (R : Reader A) (F : Follow) (W : Type 0) : Type 0 where
   pub sample : Sample E R F
   pub outcome : OutcomesIf V E R F W
@@ -236,10 +235,10 @@ Good E R F = GoodIf (Unit {0}) E R F (Unit {0})
 pub data Takes {A : Type 0} (R : Reader A) (W : Why) (line : ℕ) (t : Token) : Type 0 where
   takes : (x : A) → is_last t ≡ false → ((more : List Placed) → R ((line, t) ∷ more) ≡ Ok (x, more)) → Takes R W line t
   refuses : (found : Fault IrFaultKind) → W [] (line, t) found → ((more : List Placed) → R ((line, t) ∷ more) ≡ Err found) → Takes R W line t
-  -- for a reason that what stands behind decides
+  -- for a reason that depends on what stands behind
   refuses_by : ((more : List Placed) → (e : Fault IrFaultKind) × W [] (line, t) e × (R ((line, t) ∷ more) ≡ Err e)) → Takes R W line t
 
--- a token that it takes by itself
+-- a token that the parser takes by itself fits
 pub fits_alone : {A : Type 0} (E : Follow) (R : Reader A) (F : Follow) (t : Token) (x : A) → E t → ((more : List Placed) → R ((0, t) ∷ more) ≡ Ok (x, more)) → Fit E R F [] t
 fits_alone E R F t x e h = ((x, [], λ tokens next. h tokens), λ none. e)
 
@@ -273,7 +272,7 @@ pub token_outcome : {A : Type 0} (V : Type 0) (E : Follow) (R : Reader A) (F : F
 token_outcome V E R F W Y one [] e = absurd e
 token_outcome V E R F W Y one ((line, t) ∷ rest) e = taken V E R F W Y line t rest e (one line t)
 
--- it refuses flags, and takes none of no tokens
+-- the parser refuses flags, and the empty list of tokens
 abbrev pub TakesNoFlag : {A : Type 0} → Reader A → Type 0
 TakesNoFlag R = ((e : Fault IrFaultKind) × (R [] ≡ Err e)) × ((flag : Flag) → RefusesEach R (Word (flag_keyword flag)))
 
@@ -303,7 +302,7 @@ pub data MayTake {A : Type 0} (R : Reader A) (Y : Why) (x : A) (line : ℕ) (t :
   may_take : Takes R Y line t → MayTake R Y x line t
   leaves : StopsEach R [] x t → ((u : Token) → Like (Unit {0}) t u → StopsEach R [] x u) → (begins_record t ≡ true → ((ending : Ending) → StopsEach R [] x (Word (ending_word ending))) × NoGroup (StopsEach R [] x)) → MayTake R Y x line t
 
--- it leaves flags, and takes none of no tokens
+-- the parser reads nothing before flags, and of no tokens
 abbrev pub LeavesFlags : {A : Type 0} → Reader A → A → Type 0
 LeavesFlags R x = (R [] ≡ Ok (x, [])) × ((flag : Flag) → StopsEach R [] x (Word (flag_keyword flag)))
 
@@ -352,7 +351,7 @@ token_or_none {A} {E} {R} {F} x none_at enters flags one = record {
               words = λ none u like. like;
             })
 
--- ---- nothing more
+-- ---- the parser that reads nothing
 
 pub done-good : {A : Type 0} {V : Type 0} {E F : Follow} → ((t : Token) → F t → E t) → (x : A) → GoodIf V E (done x) F V
 done-good {A} {V} {E} {F} enters x = record {
@@ -373,13 +372,13 @@ done-good {A} {V} {E} {F} enters x = record {
   apart = done_apart x;
 }
 
--- ---- one reader behind another
+-- ---- parsers in sequence
 
 read_both : {A B : Type 0} (R : Reader A) (S : A → Reader B) (front second : List Placed) (x : A) (y : B) (tokens rest : List Placed)
     → R (front ++ (second ++ tokens)) ≡ Ok (x, second ++ tokens) → S x (second ++ tokens) ≡ Ok (y, rest) → (R >>= S) ((front ++ second) ++ tokens) ≡ Ok (y, rest)
 read_both R S front second x y tokens rest one two = rw (append_assoc front second tokens, one) two
 
--- the sample of one reader and that of the other
+-- a sample of the first and one of the second
 pub sample_both : {A B : Type 0} (E F G : Follow) (R : Reader A) (S : A → Reader B) → Sample E R F → ((x : A) → Sample F (S x) G) → Sample E (R >>= S) G
 sample_both {A} {B} E F G R S r s =
     let q = s r.0 in (
@@ -399,9 +398,9 @@ no_second : (a b : List Placed) → a ++ b ≡ [] → b ≡ []
 no_second [] b none = none
 no_second (t ∷ a) b none = absurd cc
 
--- ---- what is completed
+-- ---- completions
 
--- what completes the first reader, and a sample of the second, complete both
+-- a completion of the first and a sample of the second complete the sequence
 completes_first : {A B : Type 0} (F G : Follow) (R : Reader A) (S : A → Reader B) → ((x : A) → Sample F (S x) G) → (front : List Placed) → CompletesBegun R F front → CompletesBegun (R >>= S) G front
 completes_first F G R S s [] c = tt
 completes_first F G R S s (t ∷ front) c =
@@ -420,9 +419,9 @@ completes_both {A} {B} {U} {V} {E} {F} G R S s tokens x o ((l, u) ∷ front) res
           (stops R o.front x.0 ((l, u) ∷ (front ++ (c.1 ++ ts))) (subst (StopsBefore R o.front x.0) same o.stopped)) (c.2 ts next),
     )
 
--- ---- what fits
+-- ---- tokens that fit
 
--- what fits the first reader, or the second, fits both
+-- a token that fits the first parser, or the second behind it, fits the sequence
 pub fits_first : {A B : Type 0} (E F G : Follow) (R : Reader A) (S : A → Reader B) → ((x : A) → Sample F (S x) G) → (front : List Placed) (t : Token) → Fit E R F front t → Fit E (R >>= S) G front t
 fits_first E F G R S s front t (c, enters) =
     let q = s c.0 in
@@ -443,7 +442,7 @@ fits_second U V E F G R S tokens x o ((l, v) ∷ front) u behind there t (c, ent
   λ none. let bad = no_second o.front ((l, v) ∷ front) none in absurd cc,
 )
 
--- the same of values
+-- the same for values
 fits_end_first : {A B : Type 0} (E F G : Follow) (R : Reader A) (S : A → Reader B) → ((x : A) → Sample F (S x) G) → (front : List Placed) (v : Token) → FitsEnd E R F front v → FitsEnd E (R >>= S) G front v
 fits_end_first E F G R S s front v (c, enters) =
     let q = s c.0 in (
@@ -478,7 +477,7 @@ fits_end_second U V E F G R S tokens x o ((l, w) ∷ front) u behind there v (c,
   λ none. let bad = no_second o.front ((l, w) ∷ front) none in absurd cc,
 )
 
--- ---- what both read
+-- ---- what the sequence reads
 
 both_read : {A B : Type 0} {U V W : Type 0} {E F G : Follow} (R : Reader A) (S : A → Reader B) (tokens : List Placed) (x : A × List Placed) (y : B × List Placed)
     → ((z : A) → Sample F (S z) G) → IsReadIf U E R F V tokens x.0 x.1 → IsReadIf V F (S x.0) G W x.1 y.0 y.1 → IsReadIf U E (R >>= S) G W tokens y.0 y.1
@@ -558,9 +557,9 @@ both_read {A} {B} {U} {V} {W} {E} {F} {G} R S tokens x y s o p = record {
         by_front [] same h = h refl
         by_front (u ∷ front) same h = subst (StopsBefore R o.front x.0) same o.stopped
 
--- ---- what both refuse
+-- ---- what the sequence refuses
 
--- what the first refuses, or the second, both refuse
+-- a token that the first parser refuses, or the second behind it, is refused by the sequence
 pub bad_first : {A B : Type 0} (V : Type 0) (R : Reader A) (S : A → Reader B) (front : List Placed) (t u : Token) → Bad V R front t u → Bad V (R >>= S) front t u
 bad_first V R S front t u (refuses_u, like) = (λ more. let r = refuses_u more in (r.0, rw r.1 refl), like)
 
@@ -595,13 +594,13 @@ second_refuses {G = G} R S s tokens x found o p why new = record {
   new = new;
 }
 
--- where the first halts and the second refuses, both refuse
+-- if the first halts before a token and the second refuses it, the sequence refuses it
 halts_refuses : {A B : Type 0} (R : Reader A) (S : A → Reader B) (front : List Placed) (x : A) (u : Token) (more : List Placed) → (e : Fault IrFaultKind) × (S x ((0, u) ∷ more) ≡ Err e)
     → (R (front ++ (0, u) ∷ more) ≡ Ok (x, (0, u) ∷ more)) ⊎ ((e : Fault IrFaultKind) × (R (front ++ (0, u) ∷ more) ≡ Err e)) → (e : Fault IrFaultKind) × ((R >>= S) ((front ++ []) ++ (0, u) ∷ more) ≡ Err e)
 halts_refuses R S front x u more r (inl first) = (r.0, rw (append_assoc front [] ((0, u) ∷ more), first) r.1)
 halts_refuses R S front x u more r (inr (e, first)) = (e, rw (append_assoc front [] ((0, u) ∷ more), first) refl)
 
--- behind a token of its own, what the second refuses both refuse
+-- behind a token that the second parser has read, what it refuses is refused by the sequence
 begun_refuses : {A B : Type 0} (U V : Type 0) (E F : Follow) (R : Reader A) (S : A → Reader B) (tokens : List Placed) (x : A × List Placed) (o : IsReadIf U E R F V tokens x.0 x.1)
     (v : Placed) (front rest : List Placed) → x.1 ≡ v ∷ (front ++ rest) → (others : List Placed) → (e : Fault IrFaultKind) × (S x.0 (v ∷ (front ++ others)) ≡ Err e) → (e : Fault IrFaultKind) × ((R >>= S) ((o.front ++ v ∷ front) ++ others) ≡ Err e)
 begun_refuses U V E F R S tokens x o v front rest there others r =
@@ -621,7 +620,7 @@ bad_second U V E F R S tokens x o [] l t behind there u (refuses_u, like) =
 bad_second U V E F R S tokens x o ((i, v) ∷ front) l t behind there u (refuses_u, like) =
     (λ more. begun_refuses U V E F R S tokens x o (i, v) front ((l, t) ∷ behind) there ((0, u) ∷ more) (refuses_u more), λ none. let bad = no_second o.front ((i, v) ∷ front) none in absurd cc)
 
--- the same of values
+-- the same for values
 refuses_end_second : {A B : Type 0} (U V : Type 0) (E F : Follow) (R : Reader A) (S : A → Reader B) (tokens : List Placed) (x : A × List Placed) (o : IsReadIf U E R F V tokens x.0 x.1)
     (front : List Placed) (l : ℕ) (t : Token) (behind : List Placed) → x.1 ≡ front ++ (l, t) ∷ behind → (v : Token) → RefusesEnd V (S x.0) front t v → RefusesEnd U (R >>= S) (o.front ++ front) t v
 refuses_end_second U V E F R S tokens x o [] l t behind there v (refuses_v, like) =
@@ -635,7 +634,7 @@ refuses_end_second U V E F R S tokens x o [] l t behind there v (refuses_v, like
 refuses_end_second U V E F R S tokens x o ((i, w) ∷ front) l t behind there v (refuses_v, like) =
     (λ end more ends. begun_refuses U V E F R S tokens x o (i, w) front ((l, t) ∷ behind) there ((0, v) ∷ end ∷ more) (refuses_v end more ends), λ none. let bad = no_second o.front ((i, w) ∷ front) none in absurd cc)
 
--- where the second refuses the mark of a record, both do, and where a group fits behind the first, it fits
+-- a mark of a record that the second parser refuses is refused by the sequence; a group that fits behind the first fits
 records_second : {A B : Type 0} (U V : Type 0) (E F G : Follow) (R : Reader A) (S : A → Reader B) → ((x : A) → Sample F (S x) G) → (tokens : List Placed) (x : A × List Placed) (o : IsReadIf U E R F V tokens x.0 x.1) (front : List Placed) (l : ℕ) (t : Token) (behind : List Placed) → x.1 ≡ front ++ (l, t) ∷ behind
     → begins_record t ≡ true → NoRecord (Fit F (S x.0) G front) (RefusesAt (S x.0) front) → NoRecord (Fit E (R >>= S) G (o.front ++ front)) (RefusesAt (R >>= S) (o.front ++ front))
 records_second U V E F G R S s tokens x o front l t behind there begins (inl fit) = inl (fits_second U V E F G R S tokens x o front (l, t) behind there a_group fit)
@@ -655,9 +654,9 @@ groups_second U V E F G R S tokens x o [] l t behind there begins end refused te
 groups_second U V E F G R S tokens x o ((i, v) ∷ front) l t behind there begins end refused text more =
     begun_refuses U V E F R S tokens x o (i, v) front ((l, t) ∷ behind) there ((0, Group text) ∷ more) (refused text more)
 
--- ---- what refusals say
+-- ---- reasons of refusals
 
--- flags that stand last do so behind others
+-- a run of flags at the end stays one with other tokens in front
 pub repeats_behind : (first front : List Placed) (w : List ℕ) → FollowsFlag front w → FollowsFlag (first ++ front) w
 repeats_behind first front w (before, behind, flag, flags, same, is, each) = (first ++ before, behind, flag, flags, ap (λ (ts : List Placed). first ++ ts) same ∙ sym (append_assoc first before behind), is, each)
 
@@ -688,7 +687,7 @@ maps_second U V E F G R S s tokens x o front l t behind there = record {
     go_on (inl fit) = inl (fits_second U V E F G R S tokens x o front (l, t) behind there a_type fit)
     go_on (inr fit) = inr (fits_second U V E F G R S tokens x o front (l, t) behind there a_pred fit)
 
--- what is told of a call by the first reader, both tell
+-- faults in calls of the first parser are faults of the sequence
 no_value_first : {A B : Type 0} (V : Type 0) (E F G : Follow) (R : Reader A) (S : A → Reader B) → ((x : A) → Sample F (S x) G) → (front : List Placed) {t : Token} {kind : IrFaultKind} → NoValue V E R F front t kind → NoValue V E (R >>= S) G front t kind
 no_value_first V E F G R S s front (no_number digits width out fit bad) =
     no_number digits width out (λ other number is. fits_end_first E F G R S s front (Number other) (fit other number is)) (λ other is. let b = bad other is in (λ end more ends. let r = b.0 end more ends in (r.0, rw r.1 refl), b.1))
@@ -705,7 +704,7 @@ in_call_first V E F G R S s front (of_value before line last end kind same ends 
 in_call_first V E F G R S s front (of_truth line w item fit bad) =
     of_truth line w (fits_first E F G R S s front a_group item) (fits_end_first E F G R S s front a_truth fit) (λ end more ends. let r = bad.0 end more ends in (r.0, rw r.1 refl), bad.1)
 
--- and so is what the second tells
+-- and so are those of the second
 no_value_second : {A B : Type 0} (U V : Type 0) (E F G : Follow) (R : Reader A) (S : A → Reader B) (tokens : List Placed) (x : A × List Placed) (o : IsReadIf U E R F V tokens x.0 x.1)
     (front : List Placed) (l : ℕ) {t : Token} (behind : List Placed) → x.1 ≡ front ++ (l, t) ∷ behind → {kind : IrFaultKind} → NoValue V F (S x.0) G front t kind → NoValue U E (R >>= S) G (o.front ++ front) t kind
 no_value_second U V E F G R S tokens x o front l behind there (no_number digits width out fit bad) =
@@ -720,7 +719,7 @@ pub stands_behind : (first front : List Placed) (line : ℕ) → CallStands line
 stands_behind first front line (before, call, behind, width, begins, same, spelled) =
     (first ++ before, call, behind, width, begins, ap (λ (ts : List Placed). first ++ ts) same ∙ sym (append_assoc first before (call ++ behind)), spelled)
 
--- a token that the second reader refuses behind others of its own
+-- a token that the second parser refuses behind some that it has read
 refuses_begun : {A B : Type 0} (U V : Type 0) (E F : Follow) (R : Reader A) (S : A → Reader B) (tokens : List Placed) (x : A × List Placed) (o : IsReadIf U E R F V tokens x.0 x.1)
     (front before : List Placed) (last : Placed) (rest : List Placed) → x.1 ≡ front ++ rest → front ≡ before ++ last ∷ [] → (u : Placed) → RefusesPlaced (S x.0) front u → RefusesPlaced (R >>= S) (o.front ++ front) u
 refuses_begun U V E F R S tokens x o [] before last rest there same u refused = let some = no_second before (last ∷ []) (sym same) in absurd cc
@@ -748,24 +747,24 @@ pub reasons_second : {A B : Type 0} (U V : Type 0) (E F G : Follow) (R : Reader 
 reasons_second U V E F G R S s tokens x o front t behind there found (inl (same, why)) = inl (same, reason_map _ _ _ _ _ _ _ _ t.1 (maps_second U V E F G R S s tokens x o front t.0 t.1 behind there) found.kind why)
 reasons_second U V E F G R S s tokens x o front t behind there found (inr call) = inr (in_call_second U V E F G R S tokens x o front behind there call)
 
--- What a refusal by the first says of these tokens goes over to both, and so does what one by the second says.
+-- Reasons of refusals by the first parser carry over to the sequence, and so do those by the second.
 pub record Lifts {A B : Type 0} (T U : Type 0) (E F G : Follow) (R : Reader A) (S : A → Reader B) (X : Why) (V : A → Why) (W : Why) (tokens : List Placed) : Type 0 where
   pub first : (front : List Placed) (t : Placed) (behind : List Placed) → tokens ≡ front ++ t ∷ behind → (found : Fault IrFaultKind) → X front t found → W front t found
   pub second : (x : A × List Placed) → R tokens ≡ Ok x → (o : IsReadIf T E R F U tokens x.0 x.1) (front : List Placed) (t : Placed) (behind : List Placed) → x.1 ≡ front ++ t ∷ behind
       → (found : Fault IrFaultKind) → V x.0 front t found → W (o.front ++ front) t found
 
--- What the second leaves out repeats no flag of the first either.
+-- A token that the second parser refuses as `LeftOut` repeats no flag that the first has read either.
 abbrev pub StaysNew : {A B : Type 0} (T U : Type 0) (E F G : Follow) (R : Reader A) (S : A → Reader B) (V : A → Why) (tokens : List Placed) → Type 0
 StaysNew {A} T U E F G R S V tokens =
     (x : A × List Placed) → R tokens ≡ Ok x → (o : IsReadIf T E R F U tokens x.0 x.1) (found : Fault IrFaultKind) (p : IsRefused U (S x.0) G (V x.0) x.1 found) → S x.0 x.1 ≡ Err found → IsLeft found.kind → New T (R >>= S) (o.front ++ p.front) p.token.1
 
--- where what follows flags is not read behind the first, it is not behind both
+-- if neither a type nor a predicate is read by the second parser there, neither is by the sequence
 pub free_second : {A B : Type 0} (T U : Type 0) (E F : Follow) (R : Reader A) (S : A → Reader B) (tokens : List Placed) (x : A × List Placed) (o : IsReadIf T E R F U tokens x.0 x.1)
     (front : List Placed) (t : Placed) (behind : List Placed) → x.1 ≡ front ++ t ∷ behind → Free U (S x.0) front t.1 → Free T (R >>= S) (o.front ++ front) t.1
 free_second T U E F R S tokens x o front t behind there free =
     (λ w width is. bad_second T U E F R S tokens x o front t.0 t.1 behind there (Word w) (free.0 w width is), λ pred. bad_second T U E F R S tokens x o front t.0 t.1 behind there (Word (predicate_keyword pred)) (free.1 pred))
 
--- so it is behind what is read apart
+-- this holds if no run of flags goes across the border of the two
 pub apart_new : {A B : Type 0} (T U : Type 0) (E F G : Follow) (R : Reader A) (S : A → Reader B) (V : A → Why) (tokens : List Placed) → ReadsApart R → StaysNew T U E F G R S V tokens
 apart_new T U E F G R S V tokens apart x is o found p failed left =
     let a = apart tokens x is in
@@ -777,7 +776,7 @@ apart_new T U E F G R S V tokens apart x is o found p failed left =
     by parted (inl new) = inl (new_behind o.front p.front p.token.0 p.token.1 p.behind parted new)
     by parted (inr free) = inr (free_second T U E F R S tokens x o p.front p.token p.behind p.there free)
 
--- and where the second leaves nothing out
+-- and if no fault of the second is `LeftOut`
 pub nothing_new : {A B : Type 0} (T U : Type 0) (E F G : Follow) (R : Reader A) (S : A → Reader B) (V : A → Why) (tokens : List Placed) → ((x : A) → LeavesNothingOut (S x)) → StaysNew T U E F G R S V tokens
 nothing_new T U E F G R S V tokens nothing x is o found p failed left = absurd (nothing x.0 x.1 found failed left)
 
@@ -796,7 +795,7 @@ reasons_lift U V E F G R S s tokens = record {
   second = λ x is o front t behind there found why. reasons_second U V E F G R S s tokens x o front t behind there found why;
 }
 
--- what a reader behind another does
+-- what the sequence does
 pub both : {A B : Type 0} (U V W : Type 0) (E F G : Follow) (R : Reader A) (S : A → Reader B) → ReadsApart R → ((x : A) → Sample F (S x) G) → (tokens : List Placed) → OutcomeIf U E R F V (ReasonsIf U E R F) tokens (R tokens)
     → ((x : A × List Placed) → R tokens ≡ Ok x → Ended x.1 → OutcomeIf V F (S x.0) G W (ReasonsIf V F (S x.0) G) x.1 (S x.0 x.1)) → OutcomeIf U E (R >>= S) G W (ReasonsIf U E (R >>= S) G) tokens ((R >>= S) tokens)
 both U V W E F G R S apart s tokens o p =
@@ -810,7 +809,7 @@ pub ◌then◌ : {A B : Type 0} {U V W : Type 0} {E F G : Follow} {R : Reader A}
   apart = both_apart R S r.apart (λ x. (s x).apart);
 }
 
--- The same of a reader that may end with a word that is one of a flag elsewhere.
+-- The same for a parser that may end with a word which elsewhere is that of a flag.
 pub record GoodOpen {A : Type 0} (E : Follow) (R : Reader A) (F : Follow) : Type 0 where
   pub sample : Sample E R F
   pub outcome : OutcomesIf (Unit {0}) E R F (Unit {0})
@@ -824,9 +823,9 @@ pub ◌then_open◌ : {A B : Type 0} {E F G : Follow} {R : Reader A} {S : A → 
   splits = both_splits R S (apart_splits r.apart) (λ x. (s x).splits);
 }
 
--- ---- one reader behind another that is open
+-- ---- such a parser in sequence with another
 
--- a reader that refuses the words of flags, types and predicates, where it reads nothing before
+-- a parser that refuses the words of flags, types and predicates as its first token
 pub record Apart {A : Type 0} (S : Reader A) : Type 0 where
   pub flags : (flag : Flag) → RefusesEach S (Word (flag_keyword flag))
   pub types : (w : List ℕ) (width : ℕ) → IsTypeWord w width → RefusesEach S (Word w)
@@ -841,7 +840,7 @@ no_flag_next : {A : Type 0} (S : Reader A) (apart : Apart S) (tokens : List Plac
 no_flag_next S apart [] y read = tt
 no_flag_next S apart ((l, t) ∷ more) y read = no_flag_read S apart l t more y read
 
--- behind what is open, what it leaves out is new
+-- behind such a parser, what this one refuses as `LeftOut` repeats no flag
 apart_behind : {A B : Type 0} (E F G : Follow) (R : Reader A) (S : A → Reader B) → ((x : A) → Apart (S x)) → (g : Token) → G g → (tokens : List Placed) → StaysNew (Unit {0}) (Unit {0}) E F G R S (λ x. Reasons F (S x) G) tokens
 apart_behind {A} {B} E F G R S apart g is_g tokens x is o found p failed left = by p.front p.token p.there p.completes (p.new left)
   where
@@ -872,7 +871,7 @@ behind_open {A} {B} {E} {F} {G} {R} {S} r s apart g is_g = record {
       leaves_both tokens one.0.1 y.1 (a.0, a.1, inr (no_flag_next (S one.0.0) (apart one.0.0) one.0.1 y one.2)) ((s one.0.0).apart one.0.1 y one.2);
 }
 
--- what a refusal says, and what follows from that
+-- a reason may be replaced by one that follows from it
 pub outcome_map : {A : Type 0} (V : Type 0) (E : Follow) (R : Reader A) (F : Follow) (W : Type 0) (X Y : Why) → ((front : List Placed) (t : Placed) (found : Fault IrFaultKind) → X front t found → Y front t found) → (tokens : List Placed) (r : Read A) → OutcomeIf V E R F W X tokens r → OutcomeIf V E R F W Y tokens r
 outcome_map V E R F W X Y f tokens (Ok x) o = o
 outcome_map V E R F W X Y f tokens (Err e) o = record { front = o.front; token = o.token; behind = o.behind; there = o.there; refused = o.refused; completes = o.completes; why = f o.front o.token e o.why; new = o.new }

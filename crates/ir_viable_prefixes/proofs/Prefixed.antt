@@ -1,4 +1,4 @@
--- A reader that reads some tokens first, and then does what another does.
+-- A parser that reads some tokens first, and then does what another does.
 use Rattle.std.proofs.Common.{◌≡◌, ℕ, Bool, true, false, List, [], ◌∷◌, ◌++◌, Ok, Err, refl, sym, ap, subst, ◌∙◌, ◌⊎◌, inl, inr, append_assoc}
 use Rattle.std.proofs.lemmas.List.{append-nil}
 use Rattle.ir_tokens.specs.Tokens.{Token, Placed, KeptGroup, Word, Number, Function, Group, Mark}
@@ -11,7 +11,7 @@ use Rattle.ir_viable_prefixes.proofs.FlagRuns.{IsLeft}
 use Rattle.ir_viable_prefixes.proofs.Outcomes.{Again, Follow, Next, Anything, StopsBefore, Halts, Completes, CompletesBegun, Fit, FitsEnd, RefusesAt, RefusesEnd, Bad, a_truth, no_truth, NoValue, no_number, no_word, no_truth_value, no_group, no_quoted, InCall, of_callee, of_value, of_truth, Why, ReasonsIf, Reasons, New, IsRefused, OutcomeIf, repeats_behind, stands_behind}
 use Rattle.ir_viable_prefixes.proofs.Reasons.{a_type, a_pred, a_group, Like, like_word, like_type, like_function, like_width, like_number, NoRecord, NoGroup, Maps, reason_map}
 
--- neither a mark nor a kept group, with which an item may go on or an argument may end
+-- a token that is neither a mark nor a kept group, with which an item may go on or an argument may end
 abbrev pub is_plain : Token → Bool
 is_plain (KeptGroup group) = false
 is_plain (Mark m) = false
@@ -24,8 +24,8 @@ like_plain (like_function written other) = refl
 like_plain (like_width w other width out is) = refl
 like_plain (like_number digits other) = refl
 
--- The reader R reads these tokens first and then does what S does: before the one that is next, and before such as are
--- Own. S refuses the others, where nothing is read before.
+-- The parser R reads these tokens first and then does what S does, both before the token that is next and before tokens
+-- of Own. S refuses other tokens as its first.
 pub record Prefixed {A : Type 0} (R S : Reader A) (F Own : Follow) (first : Placed) (others : List Placed) (next : Placed) (rest : List Placed) : Type 0 where
   pub agree : (more : List Placed) → R (first ∷ (others ++ next ∷ more)) ≡ S (next ∷ more)
   pub agree_own : (u : Token) → Own u → (more : List Placed) → R (first ∷ (others ++ (0, u) ∷ more)) ≡ S ((0, u) ∷ more)
@@ -65,7 +65,7 @@ module _ {A : Type 0} (R S : Reader A) (V : Type 0) (E F Own : Follow) (first : 
   moved [] tail there u o more = own u (o refl) more
   moved (v ∷ front) tail there u o more = begun v front tail there ((0, u) ∷ more)
 
-  -- ---- what fits, and what is refused
+  -- ---- tokens that fit, and tokens that are refused
 
   none_own : (u : Token) (x : A) (more : List Placed) → RefusesAt S [] u → ((tokens : List Placed) → Next F tokens → S ((0, u) ∷ (more ++ tokens)) ≡ Ok (x, tokens)) → ⊥
   none_own u x more refused read =
@@ -102,7 +102,7 @@ module _ {A : Type 0} (R S : Reader A) (V : Type 0) (E F Own : Follow) (first : 
   groups : (front tail : List Placed) → next ∷ rest ≡ front ++ tail → NoGroup (RefusesAt S front) → NoGroup (RefusesAt R (Behind front))
   groups front tail there refused text more = let r = refused text more in (r.0, moved front tail there (Group text) (λ none. h.plain (Group text) refl) more ∙ r.1)
 
-  -- ---- what is told
+  -- ---- reasons of refusals
 
   maps : (front tail : List Placed) → next ∷ rest ≡ front ++ tail → (t : Token)
       → Maps (Fit Anything S F front) (Fit E R F (Behind front)) (Bad (Unit {0}) S front) (Bad V R (Behind front)) (Again Anything S F front) (Again E R F (Behind front)) (RefusesAt S front) (RefusesAt R (Behind front)) t

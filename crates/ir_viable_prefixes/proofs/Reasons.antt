@@ -1,4 +1,4 @@
--- Why a reader refuses a token, said by which other tokens it takes there.
+-- Why a parser refuses a token, in terms of the other tokens that it takes there.
 use Rattle.std.proofs.Common.{◌≡◌, ℕ, Bool, true, false, cond, List, Some, None, refl, ◌⊎◌, inl, inr}
 use Rattle.std.proofs.lemmas.Bool.{eqb-true}
 use Rattle.std.specs.Prelude.{codes}
@@ -17,7 +17,7 @@ use Rattle.ir_instructions.specs.Keywords.{IsTypeWord, ending_word, type_in}
 use Rattle.ir_instructions.specs.Punctuation as marks
 use Rattle.ir_viable_prefixes.specs.Misfits.{IsNoun}
 
--- ---- tokens that fit where others of their sort do
+-- ---- sample tokens of each sort
 
 abbrev pub a_type : Token
 a_type = Word (codes "i8")
@@ -29,20 +29,20 @@ a_pred = Word (codes "eq")
 abbrev pub an_end : Token
 an_end = Word (codes "unreachable")
 
--- a group of attributes, which fits among items alone
+-- a group of attributes, which fits only among items
 abbrev pub a_group : Token
 a_group = Group (codes "#0")
 
 -- ---- reasons
 
--- The tokens that the reader takes in the place are Fit, and those that it refuses because of them are left out.
+-- If these tokens Fit, the token is refused as `LeftOut`.
 pub data LeftOutBy (Fit : Token → Type 0) : Token → Type 0 where
   word : (word other : List ℕ) → IsNoun other → Fit (Word other) → LeftOutBy Fit (Word word)
   mark_of_type : (token : Token) → begins_type token ≡ true → Fit a_type → LeftOutBy Fit token
   function : (written other : List ℕ) → callee_named (identifier_of other) ≡ None → Fit (Function other) → LeftOutBy Fit (Function written)
   mark_of_record : (token : Token) → begins_record token ≡ true → Fit an_end → LeftOutBy Fit token
 
--- a word that is no type for its width alone, and a type
+-- a word that would be a type but for its width, and a type
 pub data Widths : Token → Token → Type 0 where
   widths : (w other : List ℕ) (width : ℕ) → type_in w ≡ OutOfRange → IsTypeWord other width → Widths (Word w) (Word other)
 
@@ -52,7 +52,7 @@ no_widths no_word (widths w other width out is) = cc
 pub no_other_widths : (w : List ℕ) {u : Token} → type_in w ≡ Nothing → Widths (Word w) u → ⊥
 no_other_widths w none (widths v other width out is) = cc
 
--- Tokens of one sort, of which one may fit where the other is refused; words are so where W holds.
+-- Two tokens of one sort, of which one may fit where the other is refused; words are of one sort if W holds.
 pub data Like (W : Type 0) : Token → Token → Type 0 where
   like_word : W → (w other : List ℕ) → IsNoun other → Like W (Word w) (Word other)
   like_type : (m : ℕ) (other : List ℕ) (width : ℕ) → begins_type (Mark m) ≡ true → IsTypeWord other width → Like W (Mark m) (Word other)
@@ -67,7 +67,7 @@ like_map f (like_function written other) = like_function written other
 like_map f (like_width w other width out is) = like_width w other width out is
 like_map f (like_number digits other) = like_number digits other
 
--- where no words are meant, the token is none
+-- if the token is no word, whether words are of one sort doesn't matter
 pub like_other : {V : Type 0} {t u : Token} → is_word t ≡ false → Like (Unit {0}) t u → Like V t u
 like_other no_word (like_word v w other noun) = absurd cc
 like_other no_word (like_type m other width begins type) = like_type m other width begins type
@@ -75,17 +75,16 @@ like_other no_word (like_function written other) = like_function written other
 like_other no_word (like_width w other width out is) = absurd cc
 like_other no_word (like_number digits other) = like_number digits other
 
--- items stand there, or no terminator does: the reader takes a group, or what holds of words refused holds of each that
--- begins one
+-- items stand there, so that the parser takes a group, or it refuses the first word of each terminator
 abbrev pub NoRecord : (Token → Type 0) → (Token → Type 0) → Type 0
 NoRecord Fit Refused = Fit a_group ⊎ ((ending : Ending) → Refused (Word (ending_word ending)))
 
--- what holds of tokens refused holds of each group
+-- the parser refuses each group
 abbrev pub NoGroup : (Token → Type 0) → Type 0
 NoGroup Refused = (text : List ℕ) → Refused (Group text)
 
--- Fit are the tokens that the reader takes in the place, Bad those that it refuses in place of another, Repeats the
--- words that are flags there already, and Refused all that it refuses.
+-- The reason of a refusal by its kind. Fit are the tokens that the parser takes in the place, Bad t those that it
+-- refuses in place of t, Repeats the flags directly before, and Refused all tokens that it refuses.
 abbrev pub Reason : (Token → Type 0) → (Token → Token → Type 0) → (List ℕ → Type 0) → (Token → Type 0) → Token → IrFaultKind → Type 0
 Reason Fit Bad Repeats Refused t BadByte = t ≡ Bad_token
 Reason Fit Bad Repeats Refused t Width = (word : List ℕ) × (t ≡ Word word) × (type_in word ≡ OutOfRange) × Fit a_type
@@ -101,7 +100,7 @@ begins_one : (t : Token) → begins_type t ≡ true → begins_record t ≡ true
 begins_one (Mark m) type record_of = let same : m ≡ marks.hash = eqb-true m marks.hash record_of in let no_type : begins_type (Mark m) ≡ false = rw same refl in cc
 begins_one t type record_of = absurd cc
 
--- the mark of a record is left out where a terminator fits
+-- the mark of a record is refused as `LeftOut` only where a terminator fits
 record_fits : {Fit : Token → Type 0} {t : Token} → LeftOutBy Fit t → begins_record t ≡ true → Fit an_end
 record_fits (word w other noun fit) begins = absurd cc
 record_fits (mark_of_type t type fit) begins = absurd (begins_one t type begins)
@@ -133,26 +132,26 @@ reason_map P Q B C R S M N t m Syntax h = (λ u like. by u (h.0 u like), λ begi
     by u (inr r) = inr (r.0, r.1, m.repeats r.0 r.2)
 reason_map P Q B C R S M N t m kind h = absurd h
 
--- ---- the reasons of places
+-- ---- reasons by what is expected
 
--- a word that is left out where a noun fits
+-- a word is refused as `LeftOut` where a noun fits
 pub word_reason : (Fit : Token → Type 0) (Bad : Token → Token → Type 0) (Repeats : List ℕ → Type 0) (Refused : Token → Type 0) (w other : List ℕ) → IsNoun other → Fit (Word other) → ((u : Token) → Widths (Word w) u → Bad (Word w) u) → Reason Fit Bad Repeats Refused (Word w) (LeftOut w)
 unfolding shown
 word_reason Fit Bad Repeats Refused w other noun fit types = (refl, word w other noun fit, types, λ begins. absurd cc)
 
--- a number of a function is left out where a name of one fits that is no intrinsic
+-- a function with a number is refused as `LeftOut` where one with a name fits that is no intrinsic
 pub function_reason : (Fit : Token → Type 0) (Bad : Token → Token → Type 0) (Repeats : List ℕ → Type 0) (Refused : Token → Type 0) (written other : List ℕ) → callee_named (identifier_of other) ≡ None → Fit (Function other) → Reason Fit Bad Repeats Refused (Function written) (LeftOut (codes "@"))
 unfolding shown
 function_reason Fit Bad Repeats Refused written other none fit = (refl, function written other none fit, λ u ws. absurd (no_widths refl ws), λ begins. absurd cc)
 
--- none of its sort fits, and no record
+-- no token of its sort fits, and no record begins there
 abbrev pub NoneLike : (Token → Type 0) → (Token → Token → Type 0) → (Token → Type 0) → Token → Type 0
 NoneLike Fit Bad Refused t = ((u : Token) → Like (Unit {0}) t u → Bad t u) × (begins_record t ≡ true → NoRecord Fit Refused)
 
 none_reason : (Fit : Token → Type 0) (Bad : Token → Token → Type 0) (Repeats : List ℕ → Type 0) (Refused : Token → Type 0) (t : Token) → NoneLike Fit Bad Refused t → ¬ (t ≡ Bad_token) → Reason Fit Bad Repeats Refused t Syntax
 none_reason Fit Bad Repeats Refused t none no_bad = (λ u like. inl (none.0 u like), none.1, no_bad)
 
--- where one certain token may stand, none is left out
+-- where a certain token is expected, no other is refused as `LeftOut`
 pub fixed_reason : (Fit : Token → Type 0) (Bad : Token → Token → Type 0) (Repeats : List ℕ → Type 0) (Refused : Token → Type 0) (t : Token) → NoneLike Fit Bad Refused t → Reason Fit Bad Repeats Refused t (misfit places.Fixed t)
 unfolding misfit leaves_out
 fixed_reason Fit Bad Repeats Refused Bad_token none = refl

@@ -1,4 +1,4 @@
--- Where the fault of a text stands.
+-- At which token the fault of a text is.
 use Rattle.std.proofs.Common.{◌≡◌, ◌≢◌, ◌≤◌, ℕ, Bool, true, false, List, [], ◌∷◌, ◌++◌, length, Result, Ok, Err, refl, sym, ap, subst, ◌∙◌, ◌⊎◌, inl, inr, append_assoc, arith}
 use Rattle.std.proofs.lemmas.List.{append-nil}
 use Rattle.std.specs.Prelude.{codes, Option, Some, None, IsSome, is_some}
@@ -53,7 +53,7 @@ use Rattle.ir_viable_prefixes.proofs.TextEnds.{UpTo, ended_before, is_left_out, 
 use Rattle.ir_viable_prefixes.proofs.TokenReaders.{i8}
 use Rattle.ir_viable_prefixes.proofs.Told.{CalleeAlone, told_alone, truth_stands, alone, begun_fits}
 
--- a mark of a text stands on a line from 1 on
+-- the line of a mark is at least 1
 mark_line : (kind : TokenKind) (bytes text : List ℕ) (start mark : ℕ) → token_of kind bytes ≡ Mark mark → line_at kind text start ≢ 0
 mark_line kinds.End bytes text start mark is = absurd cc
 mark_line kind bytes text start mark is = λ none. omega arith
@@ -65,13 +65,13 @@ on_some_line (kept_group t rest next extent group) mark is = absurd cc
 on_some_line (unclosed t next extent none) mark is = absurd cc
 on_some_line (bad_byte line bad) mark is = absurd cc
 
--- the tokens of a text end with the end, or with what stands in no module
+-- the last token of a text is its end, or one that the grammar allows nowhere
 tokens_end : {text : List ℕ} {place : Place} {at : ℕ} {tokens : List Placed} → TokensFrom text place at tokens → Ended tokens
 tokens_end (last one end) = end
 tokens_end (token one going (last next end)) = (going, end, on_some_line one)
 tokens_end (token one going (token next goes more)) = (going, tokens_end (token next goes more), on_some_line one)
 
--- what is read of tokens up to the end of a text, they fit
+-- tokens that the parser reads up to the end of a text are a viable prefix
 read_to_end : ModulesAreReadAsSpelled → (front more : List Placed) (all : List RawEntry) → ((tokens : List Placed) → Next EndsText tokens → entries_at (front ++ (more ++ tokens)) ≡ Ok (all, tokens)) → Fits front
 read_to_end law front more all read =
     let end : List Placed = (0, End) ∷ [] in
@@ -96,7 +96,7 @@ end_fits law front (all, ends) =
 abbrev the_module : Result RawModule (Fault IrFaultKind) → Result RawModule (Fault IrFaultKind)
 the_module r = r
 
--- the names of intrinsics are those that may be called
+-- the names of intrinsics are those that the parser accepts as callees
 is_called : (written : List ℕ) → NamesIntrinsic written → IsSome (callee_named (identifier_of written))
 is_called written (name, named, is, intrinsic) = rw (is, intrinsic_in-of name named intrinsic) refl
 
@@ -109,7 +109,7 @@ left_out_is law front none (reasons.mark_of_type t begins fit) = nouns.another (
 left_out_is law front none (reasons.function written other other_name fit) = nouns.another (nouns.of_function written other (no_intrinsic other other_name) (token_fits law front (Function other) fit))
 left_out_is law front none (reasons.mark_of_record t begins fit) = nouns.mark_of_record begins (Unreachable, token_fits law front an_end fit) (none begins)
 
--- what the reader refuses does not fit
+-- a token that the parser refuses does not fit
 bad_misfits : ModulesAreReadAsSpelled → (front : List Placed) (u : Token) → RefusesAt entries_at front u → ¬ FitsBehind front u
 bad_misfits law front u refused (more, m, spelled) =
     let read : module_of ((front ++ (0, u) ∷ []) ++ more) ≡ Ok m = (law ((front ++ (0, u) ∷ []) ++ more) m).1 spelled in
@@ -126,7 +126,7 @@ again_is : ModulesAreReadAsSpelled → (front : List Placed) (t : Token) → Aga
 again_is law front t (w, is, (follows, inl fit)) = (w, is, follows, inl (codes "i8", 8, i8, token_fits law front a_type fit))
 again_is law front t (w, is, (follows, inr fit)) = (w, is, follows, inr (Eq, token_fits law front a_pred fit))
 
--- what repeats no flag, or where what follows flags does not fit
+-- a token that repeats no flag, or in whose place neither a type nor a predicate fits
 no_repeat : ModulesAreReadAsSpelled → (front : List Placed) (t : Token) → New (Unit {0}) entries_at front t → ¬ IsRepeated front t
 no_repeat law front t (inl new) (w, is, follows, fits) = new (w, is, follows)
 no_repeat law front t (inr free) (w, is, follows, inl (other, width, type, fits)) = bad_misfits law front (Word other) (free.0 other width type).0 fits
@@ -148,12 +148,12 @@ syntax_is law front h (nouns.of_mark t begins types) = absurd cc
 no_attributes : ModulesAreReadAsSpelled → (front : List Placed) → NoGroup (RefusesAt entries_at front) → ¬ AttributesFit front
 no_attributes law front refused (text, fits) = bad_misfits law front (Group text) (refused text) fits
 
--- a terminator that fits is an item
+-- a terminator fits only where a group of attributes does
 terminator_is : ModulesAreReadAsSpelled → (front : List Placed) → NoRecord (Fit Anything entries_at EndsText front) (RefusesAt entries_at front) → TerminatorFits front → AttributesFit front
 terminator_is law front (inl fit) ends = (codes "#0", token_fits law front a_group fit)
 terminator_is law front (inr refused) (ending, fits) = absurd (bad_misfits law front (Word (ending_word ending)) (refused ending) fits)
 
--- where the text may end, a token that is refused is none that begins an entry
+-- where the text may end, a token that is refused has the fault of one that begins no entry
 abbrev EndsLeaveOut : List Placed → Token → IrFaultKind → Type 0
 EndsLeaveOut front t kind = is_last t ≡ false → FitsBehind front End → kind ≡ misfit_at places.Entry t
 
@@ -161,12 +161,12 @@ EndsLeaveOut front t kind = is_last t ≡ false → FitsBehind front End → kin
 abbrev EndsHaveNoTypes : List Placed → Type 0
 EndsHaveNoTypes front = FitsBehind front End → TypeFits front → ⊥
 
--- no type fits in place of a word that is none for its width
+-- no type fits in place of a word that would be one but for its width
 no_width_is : ModulesAreReadAsSpelled → (front : List Placed) (t : Token) → ((u : Token) → Widths t u → Bad (Unit {0}) entries_at front t u) → ¬ IsWrongWidth front t
 no_width_is law front t bad (w, is, out, (other, width, is_type, fits)) =
     bad_misfits law front (Word other) (bad (Word other) (subst (λ (v : Token). Widths v (Word other)) (sym is) (widths w other width out is_type))).0 fits
 
--- what a reason says
+-- the reason of a refusal by the parser of modules
 abbrev Said : List Placed → Token → IrFaultKind → Type 0
 Said front t kind = Reason (Fit Anything entries_at EndsText front) (Bad (Unit {0}) entries_at front) (Again Anything entries_at EndsText front) (RefusesAt entries_at front) t kind
 
@@ -217,7 +217,7 @@ reason_is law front t Syntax ends new h = record {
 }
 reason_is law front t kind ends new h = absurd h
 
--- the end, and what stands in no module, have no others of their sort
+-- the end, and a token that the grammar allows nowhere, have no others of their sort
 last_none : {front : List Placed} {t : Token} → is_last t ≡ true → begins_type t ≡ false → AnotherFits front t → IsRepeated front t
 last_none end none (nouns.of_word w fits) = absurd cc
 last_none end none (nouns.of_mark t begins types) = absurd cc
@@ -238,7 +238,7 @@ entry_is front t ends types new = (refl, nouns.entry refl ends, λ wrong. types 
 
 -- ---- calls
 
--- the value fits, and behind it the end of an argument
+-- the value fits, with the end of an argument behind it
 value_fits : ModulesAreReadAsSpelled → (front : List Placed) (v : Token) → FitsEnd Anything entries_at EndsText front v → ValueFits front v
 value_fits law front v (c, enters) = by c.1 (c.2 ((0, End) ∷ []) refl)
   where
@@ -253,7 +253,7 @@ value_fits law front v (c, enters) = by c.1 (c.2 ((0, End) ∷ []) refl)
         let same : tokens ≡ front ++ (0, v) ∷ end ∷ (more ++ (0, End) ∷ []) = append_assoc front ((0, v) ∷ end ∷ []) (more ++ (0, End) ∷ []) in
         (end, ends, (more ++ (0, End) ∷ [], record { entries = c.0 }, (law tokens (record { entries = c.0 })).0 (ap module_from (ap entries_at same ∙ read))))
 
--- what is refused with each end of an argument behind it does not fit
+-- a value that is refused with each end of an argument behind it does not fit
 no_value_fits : ModulesAreReadAsSpelled → (front : List Placed) (t v : Token) → RefusesEnd (Unit {0}) entries_at front t v → ¬ ValueFits front v
 no_value_fits law front t v (refused, like) (end, ends, (more, m, spelled)) =
     let read : module_of ((front ++ (0, v) ∷ end ∷ []) ++ more) ≡ Ok m = (law ((front ++ (0, v) ∷ end ∷ []) ++ more) m).1 spelled in
@@ -295,7 +295,7 @@ callee_is law front t bad other fits = by (identifier_of other) refl
         found (Some named) h = (name, named, is, intrinsic_in-is name named h)
         found None h = absurd (bad_misfits law front (Function other) (bad other (ap callee_named is ∙ h)).0 fits)
 
--- what is refused on its line does not fit
+-- a token that is refused on its own line does not fit
 placed_misfits : ModulesAreReadAsSpelled → (front : List Placed) (u : Placed) → RefusesPlaced entries_at front u → ¬ Fits (front ++ u ∷ [])
 placed_misfits law front u refused (more, m, spelled) =
     let read : module_of ((front ++ u ∷ []) ++ more) ≡ Ok m = (law ((front ++ u ∷ []) ++ more) m).1 spelled in
@@ -319,7 +319,7 @@ call_is law front behind (of_truth line w item fit bad) e unfit is =
 abbrev EndsHaveNoFunctions : List Placed → Type 0
 EndsHaveNoFunctions front = FitsBehind front End → (written : List ℕ) → ¬ FitsBehind front (Function written)
 
--- where only intrinsics fit, nothing is told of a function by itself
+-- where only intrinsics fit, no function is refused for its sort
 another_no_callee : (front : List Placed) {t : Token} → AnotherFits front t → (written : List ℕ) → t ≡ Function written → ¬ CalleeFits front
 another_no_callee front (nouns.of_word w noun) written is c = cc
 another_no_callee front (nouns.of_mark mark begins type) written is c = let no : begins_type mark ≡ false = rw is refl in cc
@@ -338,13 +338,13 @@ no_callee front t (LeftOut text) ends (shows, left, no_width, new) written is c 
 no_callee front t Syntax ends told written is c = told.function written c.one is c.fits
 no_callee front t kind ends told written is c = absurd told
 
--- what is said of the token by itself
+-- the kind of fault that is said of the token by itself
 by_token : ModulesAreReadAsSpelled → (front : List Placed) (t : Placed) (behind : List Placed) (found : Fault IrFaultKind) → EndsHaveNoNumbers front → EndsHaveNoFunctions front → found.line ≡ t.0 → IsMisfit front t.1 found.kind → IsSaid front t behind found × CalleeAlone front t found
 by_token law front t behind found numbers functions line told =
     let none = no_callee front t.1 found.kind functions told in
     (of_token line told (λ other h. one_kind front t.1 numbers found.kind other told h) none, λ l at written is callee stands. absurd (none written (ap (λ (p : Placed). p.1) is) callee))
 
--- ---- what is told
+-- ---- the fault that is told
 
 said_is : ModulesAreReadAsSpelled → (front : List Placed) (t : Placed) (behind : List Placed) (found : Fault IrFaultKind) → Ended (front ++ t ∷ behind) → ¬ Fits (front ++ t ∷ []) → entries_at (front ++ t ∷ behind) ≡ Err found → EndsLeaveOut front t.1 found.kind → EndsHaveNoTypes front → EndsHaveNoNumbers front → EndsHaveNoFunctions front → (IsLeft found.kind → ¬ IsRepeated front t.1) → OrEnds Anything entries_at EndsText front t found
     → IsSaid front t behind found × CalleeAlone front t found
@@ -354,9 +354,9 @@ said_is law front t behind found e unfit is ends types numbers functions new (in
 said_is law front t behind found e unfit is ends types numbers functions new (inr (inl (line, why))) = by_token law front t behind found numbers functions line (reason_is law front t.1 found.kind ends new why)
 said_is law front t behind found e unfit is ends types numbers functions new (inr (inr call)) = let told = call_is law front behind call e unfit is in (in_call told, told_alone front behind t found told)
 
--- ---- where a fault stands
+-- ---- the token at which a fault is
 
--- what fits with the end behind it is read up to there
+-- a viable prefix with the end behind it is read up to there
 read_up_to : ModulesAreReadAsSpelled → (front : List Placed) (ends : FitsBehind front End) → Ended (UpTo front 0) → (x : List RawEntry × List Placed) × (entries_at (UpTo front 0) ≡ Ok x)
 read_up_to law front (more, m, spelled) e = by (entries_at (UpTo front 0)) refl (entries_outcome (UpTo front 0) e)
   where

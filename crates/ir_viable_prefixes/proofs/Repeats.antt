@@ -1,4 +1,4 @@
--- Readers of what stands any number of times.
+-- Repeated productions.
 use Rattle.std.proofs.Common.{◌≡◌, ◌<◌, ℕ, zero, suc, Bool, true, false, List, [], ◌∷◌, ◌++◌, length, Ok, Err, refl, sym, ap, subst, ◌∙◌, append_assoc, arith}
 use Rattle.ir_tokens.specs.Tokens.{Token, Placed}
 use Rattle.refusal.specs.declared.fault.Fault.{Fault}
@@ -9,9 +9,9 @@ use Rattle.ir_viable_prefixes.proofs.FlagRuns.{ReadsApart, done_apart, both_apar
 use Rattle.ir_viable_prefixes.proofs.Choices.{AsksNext, Tested, tested_next, Opens, OpensRecords, opens_wider, transfer, And, reasons_moved}
 use Rattle.ir_viable_prefixes.proofs.Outcomes.{Follow, next_map, Ended, Sample, Why, Reasons, ReasonsIf, Lifts, OutcomeIf, StaysNew, apart_new, outcome_both, reasons_lift, reasons_first, reasons_second, GoodIf, done-good}
 
--- What a loop has of its steps: one is next or not by the next token, takes some, and ends before such tokens as D, as
--- before each that begins another. Tokens of one sort are next alike, words among them where V holds, or where W does
--- if none is next.
+-- What a loop needs of its steps: lookahead of one token says whether another is next; a step takes some tokens, and
+-- may stop before tokens of D and before each token that begins another. Tokens of one sort get the same lookahead;
+-- words are of one sort if V holds, or, where no step is next, if W does.
 pub record Steps {A : Type 0} (V : Type 0) (D F : Follow) (W : Type 0) (is_next : List Placed → Bool) (step : A → Reader A) : Type 0 where
   pub asks : AsksNext is_next
   pub takes : (a : A) → TakesSome is_next (step a)
@@ -26,7 +26,7 @@ pub loop_sample : {A : Type 0} (V : Type 0) (D F : Follow) (W : Type 0) (is_next
 loop_sample V D F W is_next step s E enters a =
     (a, [], λ tokens f. (repeat-done is_next step a tokens (tested_next is_next s.asks false tokens (next_map F (Tested is_next false) tokens s.ends f)), next_map F E tokens enters f))
 
--- where another is next, the loop is a step and the loop
+-- where another step is next, the loop is that step and then the loop
 pub one_step : {A : Type 0} (is_next : List Placed → Bool) (step : A → Reader A) → ((a : A) → TakesSome is_next (step a)) → (a : A) (tokens : List Placed) → is_next tokens ≡ true → repeat_at is_next step a tokens ≡ (step a >>= repeat_at is_next step) tokens
 unfolding steps_at
 one_step {A} is_next step takes a tokens next = by (step a tokens) refl
@@ -35,7 +35,7 @@ one_step {A} is_next step takes a tokens next = by (step a tokens) refl
     by (Ok x) is = repeat-more is_next step takes a tokens x next is
     by (Err e) is = rw (next, is) refl
 
--- What a loop makes of tokens, where what its steps say of refusals goes over to it.
+-- What a loop does with tokens, if reasons of refusals by its steps are reasons of the loop.
 pub repeat_outcomes : {A : Type 0} (V : Type 0) (D F : Follow) (W : Type 0) (is_next : List Placed → Bool) (step : A → Reader A) → Steps V D F W is_next step → (X : A → Why) (Y : Follow → A → Why)
     → ((E : Follow) → ((t : Token) → Tested is_next true t → E t) → (a : A) (tokens : List Placed) → is_next tokens ≡ true → Lifts V (Unit {0}) (Tested is_next true) D F (step a) (repeat_at is_next step) (X a) (Y D) (Y E a) tokens)
     → ((a : A) (tokens : List Placed) → StaysNew V (Unit {0}) (Tested is_next true) D F (step a) (repeat_at is_next step) (Y D) tokens)
@@ -58,7 +58,7 @@ repeat_outcomes {A} V D F W is_next step s X Y lifts new good (suc n) E enters n
         (outcome_both V (Unit {0}) W (Tested is_next true) D F (step a) (repeat_at is_next step) (X a) (Y D) (Y E a) tokens (lifts E next_enters a tokens next) (new a tokens) (λ x. loop_sample V D F W is_next step s D s.ends_step x) (step a tokens) refl (good a tokens e next)
         (λ x is ended. more x (s.takes a tokens x next is) ended)))
 
--- what fits a step fits the loop, and what a step refuses the loop does
+-- a token that fits a step fits the loop, and one that a step refuses the loop refuses
 pub loop_lifts : {A : Type 0} (V : Type 0) (D F : Follow) (W : Type 0) (is_next : List Placed → Bool) (step : A → Reader A) → Steps V D F W is_next step
     → (E : Follow) → ((t : Token) → Tested is_next true t → E t) → (a : A) (tokens : List Placed) → is_next tokens ≡ true
     → Lifts V (Unit {0}) (Tested is_next true) D F (step a) (repeat_at is_next step) (ReasonsIf V (Tested is_next true) (step a) D) (λ x. Reasons D (repeat_at is_next step x) F) (Reasons E (repeat_at is_next step a) F) tokens
@@ -86,7 +86,7 @@ repeat-good {A} {E} {F} {W} V D is_next step s apart good enters next_enters a =
   apart = loop_apart is_next step apart a;
 }
 
--- ---- the same for parts
+-- ---- the same for lists of productions
 
 pub another_takes : {A : Type 0} (is_next : List Placed → Bool) (part : Reader A) → TakesSome is_next part → (front : List A) → TakesSome is_next (another_at part front)
 another_takes {A} is_next part some front tokens x next e = taken (part tokens) refl e
@@ -95,7 +95,7 @@ another_takes {A} is_next part some front tokens x next e = taken (part tokens) 
     taken (Ok y) one e = let fewer : length y.1 < length tokens = some tokens y next one in let same : y.1 ≡ x.1 = cc in rw (← same) fewer
     taken (Err d) one e = absurd cc
 
--- the same for a part
+-- what a list needs of its production
 pub record Parts {A : Type 0} (V : Type 0) (D F : Follow) (W : Type 0) (is_next : List Placed → Bool) (part : Reader A) : Type 0 where
   pub asks : AsksNext is_next
   pub takes : TakesSome is_next part

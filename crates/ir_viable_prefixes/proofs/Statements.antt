@@ -1,4 +1,4 @@
--- Readers of instructions and terminators.
+-- Viable prefixes of instructions and terminators.
 use Rattle.std.proofs.Common.{◌≡◌, ℕ, Bool, true, false, not, eqb, List, [], ◌∷◌, Option, Some, None, refl, sym, subst, ◌∙◌, inl, inr}
 use Rattle.std.proofs.lemmas.Bool.{eqb-true}
 use Rattle.std.specs.Prelude.{codes}
@@ -35,7 +35,7 @@ use Rattle.ir_viable_prefixes.proofs.FlagRuns.{either_apart}
 use Rattle.ir_viable_prefixes.proofs.Repeats.{repeat-good, each-good}
 use Rattle.ir_viable_prefixes.proofs.TokenReaders.{no_label, no_to, type_flags, type_fits, pred_flags, pred_fits, mark-good, keyword-good, register-good, type-good, operand-good, case_value-good, metadata-good, pred-good, ending_word_at, ending-good}
 
--- ---- what stands next
+-- ---- lookahead
 
 pub mark_next : (wanted : ℕ) → AsksNext (parsing.is_mark wanted)
 mark_next wanted l k (Mark m) a b = refl
@@ -57,7 +57,7 @@ case_next : AsksNext parsing.begins_case
 case_next l k (Mark m) a b = refl
 case_next l k t a b = refl
 
--- no mark, no register and no metadata is of the sort of a word, of a mark that begins a type, or of a function
+-- a token that is not the mark has no other of its sort that is; so it is for registers and metadata
 pub mark_shut : (wanted : ℕ) → Opens (parsing.is_mark wanted) false (Unit {0})
 mark_shut wanted t u none (like_word v w other noun) = refl
 mark_shut wanted t u none (like_type m other width begins is) = refl
@@ -65,7 +65,7 @@ mark_shut wanted t u none (like_function written other) = refl
 mark_shut wanted t u none (like_width w other width out is) = refl
 mark_shut wanted t u none (like_number digits other) = refl
 
--- a mark that begins no type has none of its sort
+-- a mark that begins no type has no other token of its sort
 pub mark_open : (wanted : ℕ) → begins_type (Mark wanted) ≡ false → Opens (parsing.is_mark wanted) true (Unit {0})
 mark_open wanted other t u next (like_word v w noun is) = absurd cc
 mark_open wanted other t u next (like_type m word width begins is) = let same : m ≡ wanted = eqb-true m wanted next in let no_type : begins_type (Mark m) ≡ false = subst (λ (n : ℕ). begins_type (Mark n) ≡ false) (sym same) other in absurd cc
@@ -73,7 +73,7 @@ mark_open wanted other t u next (like_function written f) = absurd cc
 mark_open wanted other t u next (like_width w word width out is) = absurd cc
 mark_open wanted other t u next (like_number digits n) = absurd cc
 
--- a mark that begins no record is none that does
+-- the test for a mark that begins no record fails for marks that begin one, as for terminators and groups
 pub mark_records : (wanted : ℕ) → begins_record (Mark wanted) ≡ false → SaysOfRecords (parsing.is_mark wanted)
 mark_records wanted other false (Mark m) begins says = (λ ending. refl, λ text. refl)
 mark_records wanted other true (Mark m) begins says =
@@ -88,7 +88,7 @@ pub metadata_records : SaysOfRecords parsing.is_metadata
 metadata_records b (Mark m) begins says = (λ ending. says, λ text. says)
 metadata_records b t begins says = absurd cc
 
--- a mark that begins a record closes no cases
+-- a mark that begins a record does not end the cases of a switch
 case_records : SaysOfRecords parsing.begins_case
 case_records true (Mark m) begins says = (λ ending. refl, λ text. refl)
 case_records false (Mark m) begins says = absurd (closes (eqb m marks.close_bracket) refl says)
@@ -147,7 +147,7 @@ case_shut t u none (like_function written other) = absurd cc
 case_shut t u none (like_width w other width out is) = absurd cc
 case_shut t u none (like_number digits other) = absurd cc
 
--- tokens of which a test says that they are none such
+-- tokens for which these tests fail
 abbrev pub NotComma : Follow
 NotComma = Tested (parsing.is_mark marks.comma) false
 
@@ -278,7 +278,7 @@ label_records b t begins says = absurd cc
 abbrev IsLabel : Follow
 IsLabel = And Anything (Tested (parsing.is_keyword (codes "label")) true)
 
--- the word of a target, where it stands
+-- the word `label` of a target, where it is next
 label_outcome : (tokens : List Placed) → Ended tokens → parsing.is_keyword (codes "label") tokens ≡ true → OutcomeIf ⊥ IsLabel (parsing.keyword_at (codes "label")) Anything (Unit {0}) (ReasonsIf ⊥ IsLabel (parsing.keyword_at (codes "label")) Anything) tokens (parsing.keyword_at (codes "label") tokens)
 unfolding parsing.keyword_at
 label_outcome ((line, Word w) ∷ rest) e next =
@@ -334,7 +334,7 @@ ending_at-good endings.Unreachable = done-good (λ t f. tt) _
 ending_at-good endings.Branch = branch-good
 ending_at-good endings.Switch = switch-good
 
--- a terminator by its first word, and behind it
+-- the parser of a terminator: its first word, and then the rest
 abbrev placed_terminator_at : Reader (ℕ × RawTerminator)
 placed_terminator_at = ending_word_at >>= λ begun. parsing.ending_at begun.1 >>= λ end. done (begun.0, end)
 

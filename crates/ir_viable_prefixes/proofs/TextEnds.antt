@@ -1,4 +1,4 @@
--- Where the text may end, whole entries stand, and a token that is refused there begins none.
+-- Where the text may end, the tokens are whole entries, and a token that is refused there begins none.
 use Rattle.std.proofs.lemmas.List.{append_cancel_right}
 use Rattle.std.proofs.Common.{◌≡◌, ◌<◌, ℕ, zero, suc, true, false, List, [], ◌∷◌, ◌++◌, length, Option, Ok, Err, refl, sym, ap, subst, ◌∙◌, append_assoc, arith, length-append}
 use Rattle.std.specs.Prelude.{codes}
@@ -19,7 +19,7 @@ use Rattle.ir_viable_prefixes.proofs.Entries.{entry_token_at, behind_entry, same
 use Rattle.ir_viable_prefixes.proofs.Outcomes.{Anything, Ended, RefusesAt, RefusesPlaced, IsReadIf, Outcome, Takes, takes, refuses, refuses_by}
 use Rattle.ir_viable_prefixes.proofs.Repeats.{one_step}
 
--- ---- lists that end with the end
+-- ---- lists of tokens that end with the end of the text
 
 going : (u : Placed) (front : List Placed) (t : Placed) → Ended (u ∷ (front ++ t ∷ [])) → is_last u.1 ≡ false
 going u [] t e = e.0
@@ -29,13 +29,13 @@ going u (v ∷ front) t e = e.0
 abbrev pub UpTo : List Placed → ℕ → List Placed
 UpTo front l = front ++ (l, End) ∷ []
 
--- with the end in place of a token, a text ends there
+-- with the end of the text in place of a token, the tokens end there
 pub ended_before : (front : List Placed) (t : Placed) (behind : List Placed) → Ended (front ++ t ∷ behind) → (l : ℕ) → Ended (UpTo front l)
 ended_before [] t behind e l = refl
 ended_before (u ∷ []) t behind e l = (e.0, refl, e.2)
 ended_before (u ∷ v ∷ front) t behind e l = (e.0, ended_before (v ∷ front) t behind e.1 l, e.2)
 
--- what is left of such a list ends with the same
+-- what is left of such a list ends with the same token
 left_over : (front first rest : List Placed) (t : Placed) → front ++ t ∷ [] ≡ first ++ rest → Ended rest → (others : List Placed) × (rest ≡ others ++ t ∷ []) × (front ≡ first ++ others)
 left_over front [] rest t same e = (front, sym same, refl)
 left_over [] (u ∷ first) rest t same e = absurd (nothing first rest e (sym cc))
@@ -70,18 +70,18 @@ IsRead a tokens x = IsReadIf (Unit {0}) Begins (One a) Anything (Unit {0}) token
 step : (a : List RawEntry) (u : Placed) (tokens : List Placed) → is_last u.1 ≡ false → Loop a (u ∷ tokens) ≡ (One a >>= Loop) (u ∷ tokens)
 step a u tokens goes = one_step parsing.begins_entry One entry_steps.takes a (u ∷ tokens) (begins u.0 u.1 tokens goes)
 
--- an entry that is read is so whatever stands behind it
+-- an entry is read the same whatever stands behind it
 whatever_follows : (a : List RawEntry) (tokens : List Placed) (x : List RawEntry × List Placed) (o : IsRead a tokens x) → Ended tokens → One a tokens ≡ Ok x → (others : List Placed) → One a (o.front ++ others) ≡ Ok (x.0, others)
 whatever_follows a tokens x o e is others =
     let c = another-closes a tokens x e is in
     let same : c.0 ∷ c.1 ≡ o.front = append_cancel_right (c.0 ∷ c.1) o.front x.1 (sym c.2 ∙ o.there) in
     subst (λ (f : List Placed). One a (f ++ others) ≡ Ok (x.0, others)) same (c.3 others)
 
--- what is to be shown of fewer tokens
+-- the induction hypothesis, for fewer tokens
 abbrev Follows : ℕ → ℕ → List RawEntry × List Placed → Placed → List Placed → Type 0
 Follows n l x t more = (a : List RawEntry) (front : List Placed) → length front < n → Ended (UpTo front l) → Loop a (UpTo front l) ≡ Ok x → Loop a (front ++ t ∷ more) ≡ Loop x.0 (t ∷ more)
 
--- the same where an entry is read first
+-- the step: an entry is read first
 entry_follows : (n : ℕ) (l : ℕ) (x : List RawEntry × List Placed) (t : Placed) (more : List Placed) → Follows n l x t more → (a : List RawEntry) (u : Placed) (front : List Placed) → length (u ∷ front) < suc n → is_last u.1 ≡ false → Loop a (UpTo (u ∷ front) l) ≡ Ok x
     → (y : List RawEntry × List Placed) → One a (UpTo (u ∷ front) l) ≡ Ok y → IsRead a (UpTo (u ∷ front) l) y → Ended (UpTo (u ∷ front) l) → Loop a ((u ∷ front) ++ t ∷ more) ≡ Loop x.0 (t ∷ more)
 entry_follows n l x t more follows a u front short goes read y is o e =
@@ -116,7 +116,7 @@ the_fault f = Err f
 fault_is : (f g : Fault IrFaultKind) → the_fault f ≡ the_fault g → f ≡ g
 fault_is f g same = cc
 
--- behind entries, what begins no entry is refused as such
+-- behind entries, a token that begins none is refused as such
 pub begins_none : (a : List RawEntry) (line : ℕ) (t : Token) (behind : List Placed) (found : Fault IrFaultKind) → is_last t ≡ false → ((more : List Placed) → (e : Fault IrFaultKind) × (Loop a ((line, t) ∷ more) ≡ Err e)) → Loop a ((line, t) ∷ behind) ≡ Err found
     → (found.line ≡ line) × (found.kind ≡ misfit places.Entry t)
 begins_none a line t behind found goes refused is = by (entry_token_takes line t)
@@ -144,7 +144,7 @@ begins_none a line t behind found goes refused is = by (entry_token_takes line t
     by (refuses given why h) = of given why (h behind)
     by (refuses_by h) = let r = h behind in of r.0 r.1 r.2
 
--- no such token is refused as what nothing else is
+-- no such token is refused as `Syntax`
 pub is_left_out : (t : Token) → is_last t ≡ false → Syntax ≡ misfit places.Entry t → ⊥
 unfolding misfit leaves_out
 is_left_out End goes is = absurd cc

@@ -1,4 +1,4 @@
--- Readers of one token.
+-- Viable prefixes of single tokens.
 use Rattle.std.proofs.Common.{◌≡◌, ℕ, Bool, true, false, eqb, eq-eqb, List, [], ◌∷◌, Option, Some, None, Ok, Err, refl, ◌≤◌, arith, sym, subst, inl, inr}
 use Rattle.std.specs.Prelude.{codes}
 use Rattle.std.specs.Str.{bytes_eq}
@@ -45,7 +45,7 @@ use Rattle.ir_viable_prefixes.proofs.Reasons.{a_type, an_end, Widths, widths, no
 
 -- ---- nouns
 
--- no noun is one of the words that stand for nothing else
+-- the word is neither `label` nor `to`, as no noun is
 abbrev IsFree : List ℕ → Type 0
 IsFree u = (bytes_eq u (codes "label") ≡ false) × (bytes_eq u (codes "to") ≡ false)
 
@@ -184,12 +184,12 @@ type_is_no_opcode u width is = by (operation_in u) refl
     by None h = h
     by (Some o) h = absurd (opcode_is_no_type o width (subst (λ (w : List ℕ). type_in w ≡ types.Integer width) (operation_in-is u o h) (type_in-of u width is)))
 
--- ---- tokens of one sort that a reader of one token refuses
+-- ---- tokens of one sort that a parser of one token refuses
 
 abbrev Refusing : {A : Type 0} → Reader A → Token → Type 0
 Refusing R u = (line : ℕ) (more : List Placed) → (e : Fault IrFaultKind) × (R ((line, u) ∷ more) ≡ Err e)
 
--- each word, each function and each number
+-- a parser that refuses each word, each function and each number
 pub all_bad : {A : Type 0} (R : Reader A) → ((w : List ℕ) → Refusing R (Word w)) → ((f : List ℕ) → Refusing R (Function f)) → ((n : List ℕ) → Refusing R (Number n)) → {t u : Token} → Like (Unit {0}) t u → Bad (Unit {0}) R [] t u
 all_bad R words functions numbers (like_word v w other noun) = (words other 0, λ none. like_word v w other noun)
 all_bad R words functions numbers (like_type m other width begins is) = (words other 0, λ none. like_type m other width begins is)
@@ -197,7 +197,7 @@ all_bad R words functions numbers (like_function written other) = (functions oth
 all_bad R words functions numbers (like_width w other width out is) = (words other 0, λ none. like_width w other width out is)
 all_bad R words functions numbers (like_number digits other) = (numbers other 0, λ none. like_number digits other)
 
--- each noun, each function and each number
+-- a parser that refuses each noun, each function and each number
 nouns_bad : {A : Type 0} (R : Reader A) → ((w : List ℕ) → IsNoun w → Refusing R (Word w)) → ((f : List ℕ) → Refusing R (Function f)) → ((n : List ℕ) → Refusing R (Number n)) → {t u : Token} → Like (Unit {0}) t u → Bad (Unit {0}) R [] t u
 nouns_bad R words functions numbers (like_word v w other noun) = (words other noun 0, λ none. like_word v w other noun)
 nouns_bad R words functions numbers (like_type m other width begins is) = (words other (nouns.type width is) 0, λ none. like_type m other width begins is)
@@ -205,7 +205,7 @@ nouns_bad R words functions numbers (like_function written other) = (functions o
 nouns_bad R words functions numbers (like_width w other width out is) = (words other (nouns.type width is) 0, λ none. like_width w other width out is)
 nouns_bad R words functions numbers (like_number digits other) = (numbers other 0, λ none. like_number digits other)
 
--- in place of what is neither a word nor a mark that begins a type, each function and each number
+-- in place of a token that is neither a word nor begins a type: it refuses each function and each number
 function_bad : {A : Type 0} {V : Type 0} (R : Reader A) {t : Token} → is_word t ≡ false → begins_type t ≡ false → ((f : List ℕ) → Refusing R (Function f)) → ((n : List ℕ) → Refusing R (Number n)) → {u : Token} → Like (Unit {0}) t u → Bad V R [] t u
 function_bad R none no_type functions numbers (like_word v w other noun) = absurd cc
 function_bad R none no_type functions numbers (like_type m other width begins is) = absurd cc
@@ -213,7 +213,7 @@ function_bad R none no_type functions numbers (like_function written other) = (f
 function_bad R none no_type functions numbers (like_width w other width out is) = absurd cc
 function_bad R none no_type functions numbers (like_number digits other) = (numbers other 0, λ empty. like_number digits other)
 
--- in place of what is no word, each type and each function, and in place of a number each number
+-- in place of a token that is no word: it refuses each type and each function, and in place of a number each number
 pub other_bad : {A : Type 0} {V : Type 0} (R : Reader A) {t : Token} → is_word t ≡ false → ((w : List ℕ) (width : ℕ) → IsTypeWord w width → Refusing R (Word w)) → ((f : List ℕ) → Refusing R (Function f))
     → ((digits other : List ℕ) → t ≡ Number digits → Refusing R (Number other)) → {u : Token} → Like (Unit {0}) t u → Bad V R [] t u
 other_bad R none words functions numbers (like_word v w other noun) = absurd cc
@@ -222,7 +222,7 @@ other_bad R none words functions numbers (like_function written other) = (functi
 other_bad R none words functions numbers (like_width w other width out is) = absurd cc
 other_bad R none words functions numbers (like_number digits other) = (numbers digits other refl 0, λ empty. like_number digits other)
 
--- in place of a word of a width out of range, each type
+-- in place of a word that would be a type but for its width: it refuses each type
 pub types_bad : {A : Type 0} {V : Type 0} (R : Reader A) → ((w : List ℕ) (width : ℕ) → IsTypeWord w width → Refusing R (Word w)) → {t u : Token} → Widths t u → Bad V R [] t u
 types_bad R words (widths w other width out is) = (words other width is 0, λ empty. like_width w other width out is)
 
@@ -233,7 +233,7 @@ is_number t = false
 pub no_number : (t : Token) (digits : List ℕ) → is_number t ≡ false → t ≡ Number digits → ⊥
 no_number t digits none is = let number : is_number t ≡ true = rw is refl in cc
 
--- ---- what the readers refuse
+-- ---- what the parsers refuse
 
 mark_bad : (wanted : ℕ) {t u : Token} → Like (Unit {0}) t u → Bad (Unit {0}) (mark_at wanted) [] t u
 unfolding mark_at unexpected
@@ -524,7 +524,7 @@ pub pred-good : {V : Type 0} {E : Follow} → E (Word (codes "eq")) → GoodIf V
 unfolding pred_at pred_in
 pred-good {V} {E} e = one_token (Word (codes "eq"), e, _, λ more. refl) pred_flags (pred_takes V E Anything (fits_alone E pred_at Anything (Word (codes "eq")) Eq e (λ more. refl)))
 
--- the line and the word of an operation
+-- the first word of an operation, with its line
 abbrev pub placed_operation : ℕ → List ℕ → Option Operation → Reader (ℕ × Operation)
 placed_operation line word (Some operation) rest = Ok ((line, operation), rest)
 placed_operation line word None rest = Err (fault line (LeftOut word))
@@ -572,7 +572,7 @@ pub opcode-good : Good Anything opcode_at Anything
 unfolding operation_in
 opcode-good = one_token (Word (codes "freeze"), tt, _, λ more. refl) opcode_flags (opcode_takes Anything Anything (fits_alone Anything opcode_at Anything (Word (codes "freeze")) (0, operations.Freeze) tt (λ more. refl)))
 
--- the line and the first word of a terminator
+-- the first word of a terminator, with its line
 abbrev pub placed_ending : ℕ → List ℕ → Option Ending → Reader (ℕ × Ending)
 placed_ending line word (Some ending) rest = Ok ((line, ending), rest)
 placed_ending line word None rest = Err (fault line (LeftOut word))

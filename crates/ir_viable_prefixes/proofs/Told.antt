@@ -1,4 +1,4 @@
--- What is told in a call is what the reader of modules finds there.
+-- A fault in a call that is told of a token is the one that the parser of modules finds there.
 use Rattle.std.proofs.Common.{◌≡◌, ℕ, Bool, true, false, not, ◌&&◌, List, [], ◌∷◌, ◌++◌, Option, Some, None, Result, Ok, Err, refl, sym, ap, subst, ◌∙◌, ◌⊎◌, inl, inr, append_assoc}
 use Rattle.std.specs.Prelude.{codes}
 use Rattle.std.specs.Str.{bytes_eq}
@@ -36,7 +36,7 @@ use Rattle.ir_viable_prefixes.proofs.Outcomes.{Next, Anything, Ended, RefusesPla
 use Rattle.ir_viable_prefixes.proofs.Prefixed.{is_plain}
 use Rattle.ir_viable_prefixes.proofs.Values.{IsValue, IsNone, IsNoneBy, IsNoneLast, operands, truths, WordsOf, ReadsValue, ends_next, none_before, end_is}
 
--- ---- what is read fits
+-- ---- tokens that are read are a viable prefix
 
 abbrev the_module : Result RawModule (Fault IrFaultKind) → Result RawModule (Fault IrFaultKind)
 the_module r = r
@@ -51,7 +51,7 @@ unfit law tokens refused (more, m, spelled) =
 fit : ModulesAreReadAsSpelled → (tokens more : List Placed) (x : List RawEntry × List Placed) → parsing.entries_at (tokens ++ more) ≡ Ok x → Fits tokens
 fit law tokens more x read = (more, record { entries = x.0 }, (law (tokens ++ more) (record { entries = x.0 })).0 (ap parsing.module_from read))
 
--- tokens that begin with others fit only where those do
+-- each prefix of a viable prefix is one
 pub begun_fits : (front rest : List Placed) → Fits (front ++ rest) → Fits front
 begun_fits front rest (more, m, spelled) = (rest ++ more, m, subst (SpellsModule m) (append_assoc front rest more) spelled)
 
@@ -66,7 +66,7 @@ begins : (l : ℕ) (t : Token) (more : List Placed) → is_last t ≡ false → 
 begins l End more goes = absurd cc
 begins l t more goes = refl
 
--- entries end before the end alone
+-- entries stop only before the end of the text
 entries_end : (text : List ℕ) (f : List Placed) → Ended (Whole text f) → parsing.begins_entry (Whole text f) ≡ false → ⊥
 entries_end text [] e none = let next : parsing.begins_entry (Whole text []) ≡ true = refl in cc
 entries_end text (u ∷ []) e none = let next : parsing.begins_entry (Whole text (u ∷ [])) ≡ true = begins u.0 u.1 (Whole text []) e.0 in cc
@@ -76,7 +76,7 @@ none_begins : (tokens : List Placed) (x : List RawEntry × List Placed) → pars
 unfolding parsing.entries_at
 none_begins tokens x is = (repeat-is parsing.begins_entry (another_at parsing.entry_at) (λ a ts b rest. Unit {0}) (λ a ts. tt) (λ a ts y b rest next one more. tt) _ [] tokens x is).1
 
--- a token that is refused stands behind the group, where that fits
+-- a token that is refused stands behind the group, if that fits
 behind_group : (front first : List Placed) (g e t u : Placed) (behind : List Placed) → front ++ g ∷ e ∷ [] ≡ first ++ t ∷ u ∷ behind → (others : List Placed) × (front ++ g ∷ [] ≡ first ++ t ∷ others)
 behind_group [] [] g e t u behind same = ([], let heads : g ≡ t = cc in ap (λ (w : Placed). w ∷ []) heads)
 behind_group [] (v ∷ []) g e t u behind same = absurd cc
@@ -130,7 +130,7 @@ plain_next l (KeptGroup group) more is = absurd cc
 plain_next l (Mark m) more is = absurd cc
 plain_next l t more is = (refl, tt)
 
--- no value fits before the end of an argument where ends are refused
+-- no value fits before the end of an argument where each such end is refused
 no_truth_fits : ModulesAreReadAsSpelled → (front : List Placed) → RefusesEnds parsing.entries_at front → ¬ ValueFits front a_truth
 no_truth_fits law front refused (end, ends, fits) =
     unfit law (front ++ (0, a_truth) ∷ end ∷ []) (λ more. let r = refused end more ends in (r.0, ap parsing.entries_at (append_assoc front ((0, a_truth) ∷ end ∷ []) more) ∙ r.1)) fits
@@ -142,12 +142,12 @@ item_end_fits law front reads t next =
     fit law (front ++ t ∷ (0, Mark marks.comma) ∷ []) (c.1 ++ the_end ∷ []) (c.0, the_end ∷ []) (ap parsing.entries_at (append_assoc front (t ∷ (0, Mark marks.comma) ∷ []) (c.1 ++ the_end ∷ [])) ∙ c.2 (the_end ∷ []) refl)
 
 module _ (law : ModulesAreReadAsSpelled) (front : List Placed) (Q : Reader RawOperand) (width : ℕ) (q : ReadsValue Q width) (a : Argument Q parsing.entries_at EndsText front) where
-  -- what stands before the end of an argument is read as its value
+  -- the token before the end of an argument is read as its value
   value_read : (l : ℕ) (t : Token) (tokens : List Placed) → is_plain t ≡ true → Next EndsArgument tokens → parsing.entries_at (front ++ (l, t) ∷ tokens) ≡ goes_on (Q ((l, t) ∷ tokens)) a.rest
   value_read l t tokens is ends =
       let next = plain_next l t tokens is in a.reads [] ((l, t) ∷ tokens) ((l, t) ∷ tokens) refl (rw (ends_next tokens ends) (no_inner (begins_item ((l, t) ∷ tokens)))) next.0 next.1
 
-  -- tokens that a value ends with, and the end of an argument
+  -- tokens of which the last is read as a value fit with the end of an argument behind them
   ends_fit : (before : List Placed) (x : RawOperand) → ((tokens : List Placed) → Next EndsArgument tokens → parsing.entries_at (front ++ (before ++ tokens)) ≡ a.rest x tokens) → (end : Placed) × EndsArgument end.1 × Fits (front ++ (before ++ end ∷ []))
   ends_fit before x read = by (a.ends x).1 ((a.ends x).2 (the_end ∷ []) refl)
     where
@@ -164,11 +164,11 @@ module _ (law : ModulesAreReadAsSpelled) (front : List Placed) (Q : Reader RawOp
   value_ends_fit : (l : ℕ) (t : Token) → is_plain t ≡ true → IsValue Q t → (end : Placed) × EndsArgument end.1 × Fits (front ++ (l, t) ∷ end ∷ [])
   value_ends_fit l t is value = let x = value l in ends_fit ((l, t) ∷ []) x.0 (λ ts ends. value_read l t ts is ends ∙ ap (λ (r : Read RawOperand). goes_on r a.rest) (x.1 ts))
 
-  -- what is no value is refused on its line
+  -- a token that is no value is refused on its line
   none_found : (l : ℕ) (t : Token) (end : Placed) (more : List Placed) (kind : IrFaultKind) → is_plain t ≡ true → EndsArgument end.1 → IsNoneLast Q t kind → parsing.entries_at (front ++ (l, t) ∷ end ∷ more) ≡ Err (fault l kind)
   none_found l t end more kind is ends none = value_read l t (end ∷ more) is ends ∙ ap (λ (r : Read RawOperand). goes_on r a.rest) (none l (end ∷ more) ends)
 
-  -- where no end of an argument fits behind the token
+  -- no end of an argument fits behind the token
   abbrev NoEnd : ℕ → Token → Type 0
   NoEnd l t = (other : Placed) → EndsArgument other.1 → ¬ Fits ((front ++ (l, t) ∷ []) ++ other ∷ [])
 
@@ -179,7 +179,7 @@ module _ (law : ModulesAreReadAsSpelled) (front : List Placed) (Q : Reader RawOp
   undef_fits none (end, ends, fits) =
       unfit law (front ++ (0, no_truth) ∷ end ∷ []) (λ more. (fault 0 Syntax, ap parsing.entries_at (append_assoc front ((0, no_truth) ∷ end ∷ []) more) ∙ none_found 0 no_truth end more Syntax refl ends none)) fits
 
-  -- what is told of the value is found
+  -- the fault that is told of the value is the one that the parser finds
   value_found : (l : ℕ) {t : Token} (end : Placed) (more : List Placed) {kind : IrFaultKind} → EndsArgument end.1 → NoEnd l t → IsNoValue front t kind → parsing.entries_at (front ++ (l, t) ∷ end ∷ more) ≡ Err (fault l kind)
   value_found l end more ends none (calls.number digits w out exact) = by (constant_of digits width) refl
     where
@@ -207,7 +207,7 @@ module _ (law : ModulesAreReadAsSpelled) (front : List Placed) (Q : Reader RawOp
   value_found l end more ends none (calls.group text) = none_found l (Group text) end more Syntax refl ends (λ line ts last_end. q.group text line ts)
   value_found l end more ends none (calls.quoted text) = none_found l (Quoted text) end more Syntax refl ends (λ line ts last_end. q.quoted text line ts)
 
-  -- and so is what is told of a word that does not fit where a truth value is expected
+  -- and so is the one that is told of a word where a truth value is expected
   truth_found : (l : ℕ) (w : List ℕ) (more : List Placed) → ¬ Fits (front ++ (l, Word w) ∷ []) → ¬ ValueFits front no_truth → parsing.entries_at (front ++ (l, Word w) ∷ more) ≡ Err (fault l (no_truth_kind w more))
   truth_found l w more misfit no_undef = by q.words
     where
@@ -235,13 +235,13 @@ module _ (law : ModulesAreReadAsSpelled) (front : List Placed) (Q : Reader RawOp
       by (operands undef words) = absurd (no_undef (value_ends_fit 0 no_truth refl undef))
       by (truths undef words) = of (is_item_word w) refl (words w)
 
--- ---- at each place
+-- ---- by the kind of place
 
 undef_is_item : is_item_word (codes "undef") ≡ true
 unfolding is_item_word type_in
 undef_is_item = refl
 
--- what is no value is an item by itself, or a word that is none
+-- a token that is no value is an item by itself, or a word that is no item
 no_value_item : {front : List Placed} {t : Token} {kind : IrFaultKind} → IsNoValue front t kind → (l : ℕ) → (begins_item ((l, t) ∷ []) ≡ true) ⊎ ((w : List ℕ) × (t ≡ Word w) × (is_item_word w ≡ false))
 no_value_item (calls.number digits w out exact) l = inl refl
 no_value_item (calls.word w fits) l = by (is_item_word w) refl
@@ -276,7 +276,7 @@ truth_told law front l w more (argument Q width q a) misfit truth no_undef = tru
 
 -- ---- the line of a call
 
--- no word stands behind a `=`
+-- no word stands directly behind a `=`
 abbrev Clean : List Placed → Type 0
 Clean [] = Unit {0}
 Clean (t ∷ []) = Unit {0}
@@ -310,7 +310,7 @@ items_clean (item ∷ items) tokens rest (middle, one, more) clean = item_clean 
 typed_clean : (width : ℕ) (tokens : List Placed) → (Items ⨾ SpellsType width) tokens [] → Clean tokens
 typed_clean width tokens (middle, (items, each), (word, type, (l, one))) = items_clean items tokens middle each (subst Clean (sym one) tt)
 
--- behind its first token, a call is such tokens
+-- the tokens of a call behind its first one are such
 call_clean : {line : ℕ} {call : List Placed} → BeginsCall line call → (behind : List Placed) → Clean behind → (t : Placed) (rest : List Placed) → call ++ behind ≡ t ∷ rest → Clean rest
 call_clean {line} (plain at) behind clean t rest same = let is : (line, Word (codes "call")) ∷ behind ≡ rest = cc in subst Clean is (clean_behind (line, Word (codes "call")) behind (λ other. cc) clean)
 call_clean {line} (tail at on) behind clean t rest same =
@@ -363,12 +363,12 @@ one_line [] (t ∷ after) a b begins begun one two same = absurd (no_later begin
 one_line (t ∷ before) [] a b begins begun one two same = absurd (no_later begun b two begins t before a (sym same))
 one_line (t ∷ before) (u ∷ after) a b begins begun one two same = one_line before after a b begins begun one two cc
 
--- the words that begin a call stand last on one line
+-- if the last tokens are those of a call, they determine the line of its word `call`
 calls_stand_once : (front : List Placed) (line other : ℕ) → CallStands line front → CallStands other front → line ≡ other
 calls_stand_once front line other (before, call, a, width, begins, same, spelled) (after, late, b, size, begun, there, spelled_too) =
     one_line before after a b begins begun (typed_clean width a spelled) (typed_clean size b spelled_too) (sym same ∙ there)
 
--- ---- what is found
+-- ---- the fault that is found
 
 function_no_end : {t : Token} → EndsArgument t → (written : List ℕ) → t ≡ Function written → ⊥
 function_no_end comma written is = cc
@@ -379,7 +379,7 @@ callee_alone front behind (calls.callee l a w fits stands) line at written is st
 callee_alone front behind (calls.value before l last end kind same ends none item fits why) line at written is stood = absurd (function_no_end ends written (ap (λ (p : Placed). p.1) is))
 callee_alone front behind (calls.truth l word item fits none ends) line at written is stood = let both : Word word ≡ Function written = ap (λ (p : Placed). p.1) is in absurd cc
 
--- what is told of a callee by the token itself, or in a call, is what stands there
+-- a fault that is told of a callee in a call is the one that is found
 abbrev pub CalleeAlone : List Placed → Placed → Fault IrFaultKind → Type 0
 CalleeAlone front t found = (line at : ℕ) (written : List ℕ) → t ≡ (at, Function written) → CalleeFits front → CallStands line front → found ≡ fault line (LeftOut (codes "call"))
 
@@ -395,7 +395,7 @@ err_is a b r one two = of a b (sym one ∙ two)
     of : (a b : Fault IrFaultKind) → the_fault a ≡ the_fault b → a ≡ b
     of a b same = cc
 
--- a word that is Syntax where a truth value is expected stands before the end of its argument
+-- a word that is `Syntax` where a truth value is expected stands before the end of its argument
 begins_with_end : (behind : List Placed) → ends_argument behind ≡ true → BeginsWithEnd behind
 begins_with_end [] ends = absurd cc
 begins_with_end ((l, t) ∷ more) ends = ((l, t), more, refl, end_is l t more ends)
@@ -431,7 +431,7 @@ alone_of law front behind (calls.truth line word (text, item) truth no_undef (en
     let at_end : ends_argument behind ≡ true = subst (λ (ts : List Placed). ends_argument ts ≡ true) (sym stands) (ends_next (end ∷ more) ends) in
     err_is found (fault line Syntax) (parsing.entries_at (front ++ (line, Word word) ∷ behind)) is (truth_told law front line word behind place misfit truth no_undef ∙ rw at_end refl)
 
--- where a fault is told in a call, it is what is found
+-- a fault in a call that is told of the token is the one that is found
 pub alone : ModulesAreReadAsSpelled → (front : List Placed) (t : Placed) (behind : List Placed) (found : Fault IrFaultKind) → Ended (front ++ t ∷ behind) → Fits front → ¬ Fits (front ++ t ∷ []) → parsing.entries_at (front ++ t ∷ behind) ≡ Err found
     → CalleeAlone front t found → (other : Fault IrFaultKind) → IsToldInCall front behind t other → found ≡ other
 alone law front t behind found e fits misfit is callee other told = alone_of law front behind told found e fits misfit is callee

@@ -1,4 +1,4 @@
--- Readers of values behind items of an argument: the value is what stands directly before its end.
+-- Viable prefixes of an argument's items and value: the value is what stands directly before the end.
 use Rattle.std.proofs.Common.{◌≡◌, ◌<◌, ◌≤◌, ℕ, zero, suc, Bool, true, false, not, ◌&&◌, ◌||◌, eqb, List, [], ◌∷◌, ◌++◌, length, Option, Some, None, Ok, Err, refl, sym, ap, subst, ◌∙◌, ◌⊎◌, inl, inr, arith}
 use Rattle.std.specs.Prelude.{codes}
 use Rattle.std.proofs.lemmas.Bool.{eqb-true}
@@ -30,7 +30,7 @@ use Rattle.ir_viable_prefixes.proofs.Outcomes.{Again, Follow, Next, Anything, En
 use Rattle.ir_viable_prefixes.proofs.Prefixed.{is_plain, Prefixed, prefixed, reasons_behind}
 use Rattle.ir_viable_prefixes.proofs.Reasons.{a_group, Like, like_word, like_type, like_function, like_width, like_number, fixed_reason}
 
--- ---- a reader of a value
+-- ---- a parser of a value
 
 -- items in front, and the value
 abbrev pub In : Reader RawOperand → List (List ℕ) → Reader RawOperand
@@ -40,24 +40,25 @@ In Q items = each_at begins_inner_item item_at items >>= λ before. Q
 abbrev pub IsValue : Reader RawOperand → Token → Type 0
 IsValue Q t = (line : ℕ) → (x : RawOperand) × ((more : List Placed) → Q ((line, t) ∷ more) ≡ Ok (x, more))
 
--- it refuses the token, for a kind of reason that what stands behind may decide
+-- it refuses the token, with a kind of fault that may depend on what stands behind
 abbrev pub IsNoneBy : Reader RawOperand → Token → (List Placed → IrFaultKind) → Type 0
 IsNoneBy Q t kind = (line : ℕ) (more : List Placed) → Q ((line, t) ∷ more) ≡ Err (fault line (kind more))
 
 abbrev pub IsNone : Reader RawOperand → Token → IrFaultKind → Type 0
 IsNone Q t kind = IsNoneBy Q t (λ more. kind)
 
--- the same where an argument ends behind it
+-- the same where the end of an argument stands behind it
 abbrev pub IsNoneLast : Reader RawOperand → Token → IrFaultKind → Type 0
 IsNoneLast Q t kind = (line : ℕ) (more : List Placed) → Next EndsArgument more → Q ((line, t) ∷ more) ≡ Err (fault line kind)
 
--- a word that is no value is left out, or where a truth value is expected and an argument ends behind it, nothing else
+-- a word that is no value is refused as `LeftOut`, or, where a truth value is expected and the argument ends, as
+-- `Syntax`
 pub data WordsOf (Q : Reader RawOperand) : Type 0 where
   operands : IsValue Q no_truth → ((w : List ℕ) → IsValue Q (Word w) ⊎ IsNone Q (Word w) (LeftOut w)) → WordsOf Q
   truths : IsNoneBy Q no_truth (no_truth_kind (codes "undef")) → ((w : List ℕ) → IsValue Q (Word w) ⊎ IsNoneBy Q (Word w) (no_truth_kind w)) → WordsOf Q
 
--- What the reader makes of tokens that may be items, where they stand last; each token that is none it takes or refuses
--- by itself.
+-- What the parser makes of a token that stands last in an argument and may be an item; every other token it takes or
+-- refuses by itself.
 pub record ReadsValue (Q : Reader RawOperand) (width : ℕ) : Type 0 where
   pub truth : IsValue Q a_truth
   pub words : WordsOf Q
@@ -69,9 +70,9 @@ pub record ReadsValue (Q : Reader RawOperand) (width : ℕ) : Type 0 where
   pub kept : (text : List ℕ) → IsNone Q (KeptGroup text) Syntax
   pub shorter : (tokens : List Placed) (x : RawOperand × List Placed) → Q tokens ≡ Ok x → length x.1 < length tokens
 
--- ---- items, and what is read behind them
+-- ---- items, and then the value
 
--- an argument ends
+-- the end of an argument is next
 pub ends_next : (tokens : List Placed) → Next EndsArgument tokens → ends_argument tokens ≡ true
 ends_next [] ends = absurd ends
 ends_next ((l, t) ∷ tokens) ends = by ends
@@ -80,7 +81,7 @@ ends_next ((l, t) ∷ tokens) ends = by ends
     by comma = refl
     by close = refl
 
--- a word that is no truth value is Syntax before the end of an argument
+-- a word that is no truth value is refused as `Syntax` before the end of an argument
 pub none_before : (Q : Reader RawOperand) (w : List ℕ) → IsNoneBy Q (Word w) (no_truth_kind w) → IsNoneLast Q (Word w) Syntax
 none_before Q w none line more ends = none line more ∙ rw (ends_next more ends) refl
 
@@ -106,7 +107,7 @@ module _ (Q : Reader RawOperand) where
   pub no_item : (items : List (List ℕ)) (t : Placed) (more : List Placed) → begins_item (t ∷ more) ≡ false → In Q items (t ∷ more) ≡ Q (t ∷ more)
   no_item items t more none = here items (t ∷ more) (rw none refl)
 
-  -- it takes a token at least
+  -- at least one token is taken
   in_shorter : ((tokens : List Placed) (x : RawOperand × List Placed) → Q tokens ≡ Ok x → length x.1 < length tokens) → (items : List (List ℕ)) (tokens : List Placed) (x : RawOperand × List Placed) → In Q items tokens ≡ Ok x → length x.1 < length tokens
   in_shorter shorter items tokens x is =
       let one = bind_ok (each_at begins_inner_item item_at items tokens) (λ before. Q) x is in
@@ -139,7 +140,7 @@ ends_no_record : {t : Token} → EndsArgument t → begins_record t ≡ false
 ends_no_record comma = refl
 ends_no_record close = refl
 
--- the end of an argument has none of its sort
+-- no other token is of the sort of an argument's end
 no_like : {W : Type 0} {t u : Token} → EndsArgument t → Like W t u → ⊥
 unfolding is_marked
 no_like ends (like_word v w other noun) = let mark : is_marked (Word w) ≡ true = ends_mark ends in absurd cc
@@ -164,7 +165,7 @@ end_is l (Mark m) more ends = by (eqb m marks.comma) (eqb m marks.close_paren) r
     by false false h k both = absurd cc
 end_is l t more ends = absurd cc
 
--- only the first token says whether an argument ends, or an item begins
+-- the lookahead for the end of an argument, and that for an item, depend on the first token alone
 same_end : (l : ℕ) (t : Token) (a b : List Placed) → ends_argument ((l, t) ∷ a) ≡ ends_argument ((l, t) ∷ b)
 same_end l (Mark m) a b = refl
 same_end l t a b = refl
@@ -198,7 +199,7 @@ quoted_alone : (key : List ℕ) (tokens : List Placed) → is_mark marks.equals 
 unfolding quoted_item_at
 quoted_alone key tokens none = rw none refl
 
--- ---- what is read of values behind items
+-- ---- what the parser of items and a value does
 
 module _ (Q : Reader RawOperand) (width : ℕ) (q : ReadsValue Q width) where
   abbrev pub ValueWhy : List (List ℕ) → Why
@@ -224,7 +225,7 @@ module _ (Q : Reader RawOperand) (width : ℕ) (q : ReadsValue Q width) where
   completion : (items : List (List ℕ)) (before : List (List ℕ)) (first : Placed) (others : List Placed) → ((more : List Placed) → In Q before (first ∷ (others ++ (0, a_truth) ∷ more)) ≡ In Q items ((0, a_truth) ∷ more)) → Completes (In Q before) EndsArgument (first ∷ others)
   completion items before first others agree = let x = q.truth 0 in (x.0, (0, a_truth) ∷ [], λ ts ends. agree ts ∙ last Q items (0, a_truth) ts ends ∙ x.1 ts)
 
-  -- ---- what stands last
+  -- ---- a token that stands last
 
   value_last : (items : List (List ℕ)) (l : ℕ) (t : Token) (k : ℕ) (u : Token) (rest : List Placed) → Ended ((l, t) ∷ (k, u) ∷ rest) → EndsArgument u → IsValue Q t
       → OutcomeIf (Unit {0}) Anything (In Q items) EndsArgument (Unit {0}) (ValueWhy items) ((l, t) ∷ (k, u) ∷ rest) (In Q items ((l, t) ∷ (k, u) ∷ rest))
@@ -298,7 +299,7 @@ module _ (Q : Reader RawOperand) (width : ℕ) (q : ReadsValue Q width) where
 
   -- ---- an item first
 
-  -- behind an item what is read of the rest is read
+  -- behind an item the rest is read as by itself
   item_first : (items next_items : List (List ℕ)) (first : Placed) (others : List Placed) (next : Placed) (rest : List Placed)
       → ((more : List Placed) → In Q items (first ∷ (others ++ next ∷ more)) ≡ In Q next_items (next ∷ more))
       → ((u : Token) → is_plain u ≡ true → (more : List Placed) → In Q items (first ∷ (others ++ (0, u) ∷ more)) ≡ In Q next_items ((0, u) ∷ more))
@@ -343,9 +344,9 @@ module _ (Q : Reader RawOperand) (width : ℕ) (q : ReadsValue Q width) where
 
   -- ---- any tokens
 
-  -- what is read or refused of a token that begins no item
+  -- given what it does with a token that begins no item
   module _ (alone : (items : List (List ℕ)) (l : ℕ) (t : Token) → begins_item ((l, t) ∷ []) ≡ false → Takes (In Q items) (ValueWhy items) l t) where
-    -- what is to be shown of fewer tokens
+    -- the induction hypothesis, for fewer tokens
     abbrev Shown : List Placed → Type 0
     Shown tokens = (items : List (List ℕ)) → OutcomeIf (Unit {0}) Anything (In Q items) EndsArgument (Unit {0}) (ValueWhy items) tokens (In Q items tokens)
 
@@ -361,7 +362,7 @@ module _ (Q : Reader RawOperand) (width : ℕ) (q : ReadsValue Q width) where
     word_first items l w k u rest e begins going fewer =
         one_first items w l (Word w) k u rest begins going (λ more. refl) (λ v plain more. word_alone w 0 v more (plain_no_group v plain)) (fewer ((k, u) ∷ rest) (omega arith) e.1 (items ++ w ∷ []))
 
-    -- a key, behind which its `=` and value stand
+    -- a key with its `=` and value behind it begins an inner item
     key_begins : (l : ℕ) (key : List ℕ) (k m : ℕ) (more : List Placed) → eqb m marks.equals ≡ true → begins_inner_item ((l, Quoted key) ∷ (k, Mark m) ∷ more) ≡ true
     key_begins l key k m more equals = subst (λ (n : ℕ). begins_inner_item ((l, Quoted key) ∷ (k, Mark n) ∷ more) ≡ true) (sym (eqb-true m marks.equals equals)) refl
 

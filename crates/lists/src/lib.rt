@@ -1,4 +1,5 @@
-//! Lists that contracts see as lists: of their room and of where they lie, a clause sees nothing.
+//! Lists whose contracts speak of the sequence of items alone: no clause tells their capacity, or where they lie in
+//! memory.
 #![tactic(auto)]
 
 mod list;

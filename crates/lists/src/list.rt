@@ -57,7 +57,7 @@ impl<T> List<T> {
         self.items.as_slice()
     }
 
-    /// The value at a place, to be changed there.
+    /// A mutable reference to the value at an index.
     pub fn get_mut(&mut self, index: usize) -> &mut T
         requires { index < length self.old }
         ensures* writes_back { sem 𝓛 (lends_item T.row self.entry index result) }

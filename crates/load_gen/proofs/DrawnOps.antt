@@ -1,4 +1,4 @@
--- What the instructions are that may be drawn: binary ones, whose first operand is the first register.
+-- The instructions that may be drawn are binary operations whose left operand is the register x.
 use Rattle.std.proofs.Common.{◌≡◌, ℕ, ◌/◌, ◌^◌, ◌<◌, ◌≤◌, ◌==◌, Bool, true, false, if◌then◌else◌, refl, arith, pow_pos, mod-lt}
 use Rattle.std.proofs.Math.Pow.{pow_mono}
 use Rattle.ops.specs.Flags.{no_flags}

@@ -57,7 +57,7 @@ functions_meet_checks number count k f at = subst MeetsChecks (is_function numbe
 abbrev name : Function → List ℕ
 name f = f.name
 
--- the name tells the function's place
+-- the name of a function tells its index
 names_tell : (number count j k : ℕ) (f g : Function) → count < 2 ^ 32
     → IsGenerated number count j f → IsGenerated number count k g → f.name ≡ g.name → j ≡ k
 unfolding function

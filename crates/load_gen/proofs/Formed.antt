@@ -21,7 +21,7 @@ use Rattle.load_gen.proofs.InstPlaces.{HoldsInLoop, each_place, loop_length}
 use Rattle.load_gen.proofs.RightReads.{Right, IsRight, names_cases, read_right}
 use Rattle.load_gen.proofs.NamesApart.{names_differ}
 
--- ---- what is right is known, has its width, is assigned, and fits
+-- ---- an operand that is `Right` is known, has its width, is assigned, and fits
 
 known : (f : Function) (W b k : ℕ) (x : Operand) → Right f W b k x → IsKnown f x
 known f W b k (operands.Register r) right = subst IsSome (sym right.0) refl
@@ -70,7 +70,7 @@ module _ (s J : ℕ) where
   inst_of_block : (c k : ℕ) (inst : Inst) (block : Block) → IsBlock f c block → IsInst f c k inst → slice_get block.insts k ≡ Some inst
   inst_of_block c k inst block at is = ap (λ (x : Block). slice_get x.insts k) (same_Some block is.block (sym at ∙ is.is_block)) ∙ is.is_inst
 
-  -- what holds of each instruction of the loop at its place holds of each of the function
+  -- a predicate that holds of each instruction of the loop holds of each instruction of the function
   each_inst : (P : ℕ → Inst → Type 0) → HoldsInLoop W t (λ k found. IfSome found (P k))
       → (c k : ℕ) (inst : Inst) → IsInst f c k inst → (c ≡ 1) × P k inst
   unfolding function blocks

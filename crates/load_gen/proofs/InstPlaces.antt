@@ -42,7 +42,8 @@ next W = fixed (codes "next") W (Binary Add no_flags (in_loop 0) (number W 1))
 abbrev pub condition : ℕ → Inst
 condition W = fixed (codes "c") 1 (Compare Ult false W (in_loop 0) b)
 
--- what holds of each of them at its place, of the drawn ones at theirs, and behind them all holds at every place
+-- P holds at every place of the loop: at those of the fixed instructions, at those of the drawn ones, and of no
+-- instruction at the places behind them
 pub record HoldsInLoop (W s : ℕ) (P : ℕ → Option Inst → Type 0) : Type 0 where
   pub at_counter : P 0 (Some (counter W))
   pub at_previous : P 1 (Some (previous W))

@@ -41,7 +41,7 @@ names_of_block : (f : Function) (c d : ℕ) (block : Block) → IsBlock f c bloc
 names_of_block f c d block at (other, is, has) =
     subst (λ (x : Block). Contains (targets_of x.end) d) (same_Some other block (sym is ∙ at)) has
 
--- the blocks that name others: the entry names the loop, which names itself and the exit
+-- the edges of the control-flow graph: the entry names the loop, which names itself and the exit
 pub names_cases : (s J c d : ℕ) → Names (function s J) c d → ((c ≡ 0) × (d ≡ 1)) ⊎ ((c ≡ 1) × ((d ≡ 1) ⊎ (d ≡ 2)))
 unfolding function blocks
 names_cases s J zero d names = inl (refl, sym (among_one 1 d (names_of_block (function s J) 0 d _ refl names)))
@@ -112,7 +112,7 @@ module _ (s J : ℕ) where
       let long = loop_length W t in
       (record { name = Some (codes "loop"); insts = loop_insts W t; end = Branch (in_loop 19) 1 2 }, refl, omega arith)
 
-  -- what stands earlier in the loop is assigned there, and behind the loop all of it is
+  -- what is defined earlier in the loop is assigned there, and all results of the loop are assigned behind it
   assigned_in_loop : (j k : ℕ) → j < 20 → j < k → IsAssigned f (registers.Result 1 j) 1 k
   assigned_in_loop j k h earlier = (loop_has j h, λ before walk. inr (refl, earlier))
 
@@ -166,7 +166,7 @@ module _ (s J : ℕ) where
   abbrev repeated : Block
   repeated = record { name = Some (codes "loop"); insts = loop_insts W t; end = Branch (in_loop 19) 1 2 }
 
-  -- what goes round is read at the end of the loop
+  -- the operand of a phi for the back edge is read at the end of the loop
   round_right : (j : ℕ) → j < 19 → IsRight f (read 1 (end_of f 1) W (in_loop j))
   unfolding function blocks
   round_right j h = let long = loop_length W t in result_right j (length (loop_insts W t)) h (omega arith)

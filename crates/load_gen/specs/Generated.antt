@@ -1,4 +1,4 @@
--- The module that a number stands for: functions of one shape, a loop of 20 instructions, 16 of which are drawn.
+-- The module that a number stands for: functions of one shape, each a loop of 20 instructions, 16 of which are drawn.
 use Rattle.std.specs.Prelude.{ℕ, false, zero, suc, ◌+◌, ◌==◌, if◌then◌else◌, ◌++◌, List, [], ◌∷◌, Some, codes, decimal}
 use Rattle.ops.specs.Flags.{no_flags}
 use Rattle.ops.specs.Integer.{minus_one}
@@ -32,8 +32,8 @@ a = operands.Register (registers.Parameter 0)
 abbrev pub b : Operand
 b = operands.Register (registers.Parameter 1)
 
--- the result at this place of the loop: the phis %i and %p are at 0 and 1, %v1 to %v16 at 2 to 17, %next at 18 and %c
--- at 19
+-- the result of the instruction at this place of the loop: the phis %i and %p are at 0 and 1, %v1 to %v16 at 2 to 17,
+-- %next at 18 and %c at 19
 abbrev pub in_loop : ℕ → Operand
 in_loop place = operands.Register (registers.Result 1 place)
 
@@ -45,7 +45,7 @@ listed (suc (suc place)) = in_loop place
 
 -- ---- the drawn instructions
 
--- the instruction of each number that may be drawn, 8 the last, at iW and the registers x and y
+-- the instruction that is drawn by the number d, from 0 to 8, at iW on the registers x and y
 abbrev pub operation : ℕ → ℕ → Operand → Operand → Op
 operation d W x y =
     if d == 0 then Binary Add no_flags x (number W 0)
@@ -58,8 +58,8 @@ operation d W x y =
     else if d == 7 then Binary Add no_flags x (number W 3)
     else Binary Shl no_flags x (number W 1)
 
--- %vk, by the three draws from state s: which instruction it is, then x, then y, both among the k + 3 registers before
--- it
+-- %vk, by three draws from state s: the number of the instruction, then x, then y, both among the k + 3 registers
+-- before it
 unfoldable pub drawn_inst : ℕ → ℕ → ℕ → Inst
 drawn_inst W k s = record {
   name = Some (codes "v" ++ decimal k);
@@ -83,11 +83,11 @@ drawn_insts W s (suc k) = drawn_insts W s k ++ drawn_inst W (suc k) (state_after
 abbrev pub width : ℕ → ℕ
 width s = 3 + drawn s 3
 
--- an instruction that each function has
+-- an instruction that is the same in each function but for its width
 abbrev pub fixed : List ℕ → ℕ → Op → Inst
 fixed name W op = record { name = Some name; width = W; op = op }
 
--- what stands in the loop at iW, where the state is s before the drawn instructions
+-- the instructions of the loop at iW, where the state is s before the drawn ones
 unfoldable pub loop_insts : ℕ → ℕ → List Inst
 loop_insts W s =
     fixed (codes "i") W (Phi ((number W 0, 0) ∷ (in_loop 18, 1) ∷ []))
@@ -126,7 +126,7 @@ unfoldable pub state_before : ℕ → ℕ → ℕ
 state_before number zero = number
 state_before number (suc J) = state_after (next_state (state_before number J)) 16
 
--- the first functions, so many
+-- the functions from the first on, as many as are asked for
 unfoldable pub functions : ℕ → ℕ → List Entry
 functions number zero = []
 functions number (suc J) = functions number J ++ entries.Function (function (state_before number J) J) ∷ []

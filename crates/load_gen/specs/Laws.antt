@@ -13,7 +13,7 @@ use Rattle.load_gen.specs.Generated.{generated}
 abbrev pub IsGenerated : ℕ → ℕ → ℕ → Function → Type 0
 IsGenerated number count k f = slice_get (generated number count).entries k ≡ Some (entries.Function f)
 
--- a generated module meets the checks of a module, where a u32 counts its functions
+-- a generated module meets the checks of a module, if the count of its functions fits 32 bits
 abbrev pub GeneratedModulesMeetChecks : Type 0
 GeneratedModulesMeetChecks = (number count : ℕ) → count < 2 ^ 32 → ModuleMeetsChecks (generated number count)
 
@@ -27,7 +27,7 @@ abbrev pub IsOfTwenty : Entry → Type 0
 IsOfTwenty (entries.Kept line) = ⊥
 IsOfTwenty (entries.Function f) = map (λ block. length block.insts) f.blocks ≡ 0 ∷ 20 ∷ 0 ∷ []
 
--- its entries are such functions, and as many as are told
+-- each entry is such a function, and there are as many as were asked for
 abbrev pub GeneratedEntriesAreOfTwenty : Type 0
 GeneratedEntriesAreOfTwenty = (number count : ℕ) → All IsOfTwenty (generated number count).entries
 

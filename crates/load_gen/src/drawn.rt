@@ -1,4 +1,4 @@
-//! The instructions that are drawn.
+//! The instructions of the loop that are drawn at random.
 
 ghost use Rattle.std.specs.Prelude.{◌≡◌, ◌≤◌, ◌<◌, ◌++◌, IfOk, OnOk};
 ghost use Rattle.ops.specs.Flags.{no_flags};
@@ -14,7 +14,7 @@ use lists::List;
 use ops::{Flags, Opcode, Width, Word, minus_one};
 use std::alloc::{AllocError, Global};
 
-/// The place of the loop among the blocks.
+/// The index of the loop among the blocks.
 pub(crate) const LOOP: u32 = 1;
 
 /// How many instructions are drawn.
@@ -63,7 +63,7 @@ fn drawn_inst(
     })
 }
 
-/// The register at a place of the list of those that may be drawn: the parameters, and then the results of the loop.
+/// The register at an index of the list of those that may be drawn: the parameters, and then the results of the loop.
 fn listed(place: u32) -> Operand
     ensures { result ≡ listed place }
 {
@@ -73,14 +73,14 @@ fn listed(place: u32) -> Operand
     }
 }
 
-/// The result at this place of the loop.
+/// The result of the loop's instruction at this index.
 pub(crate) fn in_loop(place: u32) -> Operand
     ensures { result ≡ in_loop place }
 {
     Operand::Register(Register::Result(LOOP, place))
 }
 
-/// The instruction that was drawn.
+/// The instruction for the number that was drawn.
 fn operation(row: u32, width: Width, x: Operand, y: Operand) -> Op
     requires width { 3 ≤ width }
     ensures { result ≡ operation row width x y }
@@ -101,7 +101,7 @@ fn operation(row: u32, width: Width, x: Operand, y: Operand) -> Op
     }
 }
 
-/// An instruction that promises nothing.
+/// A binary operation without flags.
 pub(crate) fn binary(opcode: Opcode, x: Operand, y: Operand) -> Op
     ensures { result ≡ Binary opcode no_flags x y }
 {

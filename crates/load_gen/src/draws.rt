@@ -1,4 +1,4 @@
-//! The numbers that are drawn.
+//! The pseudo-random numbers that are drawn.
 
 ghost use Rattle.std.specs.Prelude.{◌≡◌, ◌<◌};
 ghost use Rattle.load_gen.specs.Draws.{next_state, drawn};
@@ -13,10 +13,10 @@ impl Draws {
     const MULTIPLIER: u64 = 6364136223846793005;
 
     const INCREMENT: u64 = 1442695040888963407;
-    /// The lower bits of the state, which repeat soonest and are not drawn.
+    /// How many of the state's lowest bits are left out of what is drawn, since they have the shortest periods.
     const LOWER_BITS: u32 = 33;
 
-    /// One of the `count` numbers from 0.
+    /// Draws a number below `count`.
     #[tactic(auto, unfolding(crate::specs::Draws::next_state, crate::specs::Draws::drawn))]
     pub(crate) fn draw(&mut self, count: u32) -> u32
         requires { 0 < count }

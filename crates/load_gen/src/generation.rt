@@ -1,4 +1,4 @@
-//! The module of a number.
+//! The module that a number, the seed, stands for.
 
 ghost use Rattle.std.specs.Prelude.{◌≡◌, IfOk};
 ghost use Rattle.load_gen.specs.Generated.{generated};

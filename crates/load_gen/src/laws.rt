@@ -1,8 +1,8 @@
-//! The laws of generated modules, each the contract of a function that does nothing.
+//! The laws of generated modules. Each is the contract of a function with an empty body.
 
 ghost use Rattle.load_gen.specs.Laws.{GeneratedEntriesAreCounted, GeneratedEntriesAreOfTwenty, GeneratedFunctionsAreSmall, GeneratedModulesMeetChecks, GeneratedNumbersFit};
 
-/// A generated module meets the checks of a module, if a u32 counts its functions.
+/// A generated module meets the checks of a module, if the count of its functions fits a `u32`.
 pub fn generated_modules_meet_checks()
     ensures { GeneratedModulesMeetChecks }
 {}

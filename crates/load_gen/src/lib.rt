@@ -1,4 +1,4 @@
-//! Modules that are made of a number, as input of any size that reads the same wherever it is made.
+//! Modules that are generated from a number: input of any size that is the same wherever it is made.
 //!
 //! The definitions stand in `specs/`: `Draws` says which numbers are drawn, `Generated` which module they make, and
 //! `Laws` what holds of it.

@@ -6,14 +6,14 @@ use itoa::Buffer;
 use lists::{List, Text};
 use std::alloc::{AllocError, Global};
 
-/// The name.
+/// A copy of the text, as a name.
 pub(crate) fn name(alloc: Global, text: &[u8]) -> Result<Text, AllocError>
     ensures { IfOk result (λ name. name ≡ text.now) }
 {
     Ok(List::from_vec(Vec::from_slice(alloc, text)?))
 }
 
-/// The name with a number at its end.
+/// The text with a number at its end, as a name.
 pub(crate) fn numbered(alloc: Global, text: &[u8], number: u32) -> Result<Text, AllocError>
     ensures { IfOk result (λ name. name ≡ text.now ++ decimal number) }
 {

@@ -13,7 +13,7 @@ use lists::{List, Text};
 use ops::{Opcode, Pred, Width};
 use std::alloc::{AllocError, Global};
 
-/// The places of instructions of the loop.
+/// The indices of instructions in the loop.
 const COUNTER: u32 = 0;
 
 const LAST_DRAWN: u32 = DRAWN + 1;
@@ -22,12 +22,12 @@ const NEXT: u32 = DRAWN + 2;
 
 const CONDITION: u32 = DRAWN + 3;
 
-/// The places of the other blocks.
+/// The indices of the other blocks.
 const ENTRY: u32 = 0;
 
 const EXIT: u32 = 2;
 
-/// The function of this number.
+/// The function with this number.
 #[tactic(auto, unfolding(crate::specs::Generated::function))]
 pub(crate) fn function(alloc: Global, draws: &mut Draws, place: u32) -> Result<Function, AllocError>
     ensures function { IfOk result (λ f. f ≡ function draws.old.state place) }
@@ -56,7 +56,7 @@ fn parameters(alloc: Global, width: Width) -> Result<List<Parameter>, AllocError
     Ok(List::from_vec(vec![in alloc; a, b]?))
 }
 
-/// The width of what the function computes with.
+/// The width of the function's parameters, drawn instructions and return value.
 fn drawn_width(draws: &mut Draws) -> Width
     ensures width { result ≡ width draws.old.state }
     ensures state { draws.new.state ≡ next_state draws.old.state }
@@ -143,7 +143,7 @@ fn push_named(
     insts.push(inst(name(alloc, text)?, width, op))
 }
 
-/// What is one operand where the loop is entered, and another where it goes round.
+/// A phi of the loop: one operand where control comes from the entry, and another on the back edge.
 fn phi(alloc: Global, entered: Operand, round: Operand) -> Result<Op, AllocError>
     ensures { IfOk result (λ op. op ≡ Phi ((entered, 0) ∷ (round, 1) ∷ [])) }
 {

@@ -30,7 +30,7 @@ use Rattle.needed.proofs.Reading.{reads_at-inst, reads_at-end, Stays, OperandSta
 
 -- ---- names
 
--- some of a list, in order
+-- xs is a sublist of ys: some of its items, in order
 data Part {A : Type 0} : List A → List A → Type 0 where
   none : Part [] []
   with : {xs ys : List A} (x : A) → Part xs ys → Part (x ∷ xs) (x ∷ ys)
@@ -69,7 +69,7 @@ differ_with x xs ys member h d (suc i) zero n a b =
     absurd (omega arith)
 differ_with x xs ys member h d (suc i) (suc j) n a b = ap suc (h i j n a b)
 
--- of names that differ some differ too
+-- if no name is given twice in a list, none is in a sublist
 differ_part : {xs ys : List Given} → Part xs ys → NamesDiffer ys → NamesDiffer xs
 differ_part none d = d
 differ_part (with {xs = xs} {ys = ys} x p) d = differ_with x xs ys (part_member p) (differ_part p (differ_tail x ys d)) d
@@ -165,7 +165,7 @@ entries_back kept (Unary op truth x) new e = absurd cc
 entries_back kept (Freeze x) new e = absurd cc
 entries_back kept (Phi entries) new e = (entries, refl, cc)
 
--- an operand that is a register was one
+-- if an operand is a register after renaming, it was one before
 register_back : (kept : KeptMarks) (a : Operand) (new : Register) → moved_operand kept a ≡ operands.Register new → (r : Register) × (a ≡ operands.Register r) × (moved_register kept r ≡ new)
 register_back kept (operands.Register r) new e = (r, refl, cc)
 register_back kept (operands.Number n) new e = absurd cc
@@ -182,7 +182,7 @@ module _ (f : Function) (m : MeetsChecks f) (kept : KeptMarks) (needed : KeepsNe
   abbrev cleaned : Function
   cleaned = kept_function kept f
 
-  -- an instruction of the cleaned function is one of the old that is kept, with its registers where they stand then
+  -- an instruction of the cleaned function is a kept one of the old function, with its registers renamed
   pub record InstBack (b c : ℕ) (new : Inst) : Type 0 where
     pub place : ℕ
     pub inst : Inst
@@ -312,7 +312,7 @@ module _ (f : Function) (m : MeetsChecks f) (kept : KeptMarks) (needed : KeepsNe
   reads_at_end-moved b k (terminators.Switch a width other cases) = refl
   reads_at_end-moved b k terminators.Unreachable = refl
 
-  -- what the cleaned function reads is what the old one does, moved
+  -- a read of the cleaned function is one of the old function, with its register renamed
   record ReadBack (b i : ℕ) (new : Read) : Type 0 where
     place : ℕ
     old : Read
@@ -428,7 +428,7 @@ module _ (f : Function) (m : MeetsChecks f) (kept : KeptMarks) (needed : KeepsNe
         subst (λ (x : Read). IsAssigned cleaned register x.block x.place) back.moved (subst (λ x. IsAssigned cleaned x old.block (kept_before kept old.block old.place)) was.2 now);
   }
 
-  -- a number that is read was read at its place
+  -- a literal number that is read in the cleaned function is read in the old one
   pub number_was : (b k i : ℕ) (r : Read) (n : Number) → IsRead cleaned b k i r → r.operand ≡ operands.Number n
       → (place : ℕ) × (old : Read) × IsRead f b place i old × (old.operand ≡ operands.Number n)
   number_was b k i r n h e =

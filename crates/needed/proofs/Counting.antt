@@ -1,4 +1,4 @@
--- Where instructions stand once only some of them are kept.
+-- The indices of instructions once only some of them are kept.
 use Rattle.std.proofs.Common.{◌≡◌, ℕ, zero, suc, ◌+◌, ◌-◌, ◌<◌, ◌≤◌, Bool, true, false, cond, ◌⊎◌, inl, inr, List, [], ◌∷◌, length, Option, None, Some, refl, sym, ap, subst, ◌∙◌, arith, Contains}
 use Rattle.std.specs.Prelude.{slice_get, option_map}
 use Rattle.std.proofs.lemmas.Bool.{cases_eq}
@@ -39,7 +39,7 @@ below_or zero (suc k) = inl (omega arith)
 below_or (suc j) zero = inr (omega arith)
 below_or (suc j) (suc k) = elim (below_or j k) [ inl less ↦ inl (omega arith) | inr more ↦ inr (omega arith) ]
 
--- two that are kept stand at different places
+-- two kept instructions have different new indices
 pub same_place : (kept : KeptMarks) (b j k : ℕ) → kept b j ≡ true → kept b k ≡ true → kept_before kept b j ≡ kept_before kept b k → j ≡ k
 same_place kept b j k at_j at_k same =
     elim (below_or j k) [
@@ -60,12 +60,12 @@ kept_before_le kept b (suc k) = let h : kept_before kept b k ≤ k = kept_before
 
 -- ---- options and lists
 
--- an option that a map makes a value of is a value
+-- if mapping an option gives a value, the option has one
 pub mapped : {A B : Type 0} (f : A → B) (o : Option A) (y : B) → option_map f o ≡ Some y → (x : A) × (o ≡ Some x) × (f x ≡ y)
 mapped f None y h = absurd cc
 mapped f (Some x) y h = (x, refl, same_Some (f x) y h)
 
--- what a list contains stands at some place, and the other way round
+-- an item that a list contains has an index, and an item at an index is contained
 pub contained_at : {A : Type 0} (xs : List A) (x : A) → Contains xs x → (i : ℕ) × (slice_get xs i ≡ Some x)
 contained_at xs x h = (h.0, slice_get-get_or xs h.0 x h.1 ∙ ap (λ y. Some y) h.2)
 
@@ -78,14 +78,14 @@ contains_first x xs = contains_at (x ∷ xs) x 0 refl
 pub contains_later : {A : Type 0} (y : A) (xs : List A) (x : A) → Contains xs x → Contains (y ∷ xs) x
 contains_later y xs x h = let at : (i : ℕ) × (slice_get xs i ≡ Some x) = contained_at xs x h in contains_at (y ∷ xs) x (suc at.0) at.1
 
--- the rest of a list from place k on
+-- x and `rest` are the list from place k on
 pub rest_here : {A : Type 0} (all : List A) (k : ℕ) (x : A) (rest : List A) → ((i : ℕ) → slice_get all (k + i) ≡ slice_get (x ∷ rest) i) → slice_get all k ≡ Some x
 rest_here all k x rest h = ap (slice_get all) (omega arith) ∙ h 0
 
 pub rest_next : {A : Type 0} (all : List A) (k : ℕ) (x : A) (rest : List A) → ((i : ℕ) → slice_get all (k + i) ≡ slice_get (x ∷ rest) i) → (i : ℕ) → slice_get all (suc k + i) ≡ slice_get rest i
 rest_next all k x rest h i = ap (slice_get all) (omega arith) ∙ h (suc i)
 
--- ---- where kept instructions stand
+-- ---- the new indices of kept instructions
 
 pub length-kept : (kept : KeptMarks) (b k : ℕ) (insts : List Inst) → length (kept_insts kept b k insts) + kept_before kept b k ≡ kept_before kept b (k + length insts)
 length-kept kept b k [] = let e : k ≡ k + 0 = omega arith in omega (arith, ap (kept_before kept b) e)
@@ -95,7 +95,7 @@ length-kept kept b k (i ∷ insts) = by (kept b k) refl (length-kept kept b (suc
     by true e h = let next : suc k + length insts ≡ k + suc (length insts) = omega arith in omega (arith, h, count-kept kept b k e, ap (kept_before kept b) next)
     by false e h = let next : suc k + length insts ≡ k + suc (length insts) = omega arith in omega (arith, h, count-dropped kept b k e, ap (kept_before kept b) next)
 
--- an instruction that is kept stands behind the kept ones before it
+-- the new index of a kept instruction is the number of kept ones before it
 pub kept_at : (kept : KeptMarks) (b k : ℕ) (insts : List Inst) (j c : ℕ) (i : Inst) → slice_get insts j ≡ Some i → kept b (k + j) ≡ true → c + kept_before kept b k ≡ kept_before kept b (k + j) → slice_get (kept_insts kept b k insts) c ≡ Some (moved_inst kept i)
 kept_at kept b k [] j c i h keep at = absurd cc
 kept_at kept b k (x ∷ insts) zero c i h keep at =
@@ -121,7 +121,7 @@ kept_at kept b k (x ∷ insts) (suc j) c i h keep at =
         let none : kept_before kept b (suc k) ≡ kept_before kept b k = count-dropped kept b k e in
         rest c (omega (arith, none, same, at))
 
--- an instruction that is left is an old one that is kept, with its registers where they stand then
+-- an instruction that is left is a kept one of the old ones, with its registers renamed
 pub record IsKept (kept : KeptMarks) (b k : ℕ) (insts : List Inst) (c : ℕ) (new : Inst) : Type 0 where
   pub place : ℕ
   pub inst : Inst

@@ -1,4 +1,4 @@
--- What registers hold on a walk through the blocks, and in the cleaned function.
+-- What registers hold on a walk through the blocks, in the old function and in the cleaned one.
 use Rattle.std.proofs.Common.{◌≡◌, ℕ, zero, suc, ◌<◌, ◌==◌, ◌&&◌, Bool, true, false, cond, ◌⊎◌, inl, inr, List, [], ◌∷◌, length, Option, Some, refl, sym, ap, subst, ◌∙◌, arith, Contains, map}
 use Rattle.std.specs.Prelude.{slice_get, option_map}
 use Rattle.std.proofs.lemmas.Bool.{cases_eq, eq-eqb, ne_eqb, and_from, and_right}
@@ -32,7 +32,7 @@ use Rattle.needed.specs.KeptFunction.{KeptMarks, kept_before, moved_register, mo
 use Rattle.needed.proofs.Counting.{same_place, mapped, contained_at, contains_at}
 use Rattle.needed.proofs.Reading.{Stays, OperandStays, ReadsStay}
 
--- ---- one register is held anew, and the others as before
+-- ---- the register that is written, and the others
 
 pub held_here : (held : Registers) (b k : ℕ) (v : Value) (d j : ℕ) → d ≡ b → j ≡ k → holding held b k v (registers.Result d j) ≡ Some v
 held_here held b k v d j same_block same_inst = ap (λ c. cond c (Some v) (held (registers.Result d j))) (and_from (d == b) (j == k) (eq-eqb d b same_block) (eq-eqb j k same_inst))
@@ -41,7 +41,7 @@ and_left : (x y : Bool) → x ≡ false → (x && y) ≡ false
 and_left true y e = absurd cc
 and_left false y e = refl
 
--- the register is the one that is held anew, or holds what it did
+-- a register is the one that is written, or holds what it held
 pub held_cases : (held : Registers) (b k : ℕ) (v : Value) (d j : ℕ) → ((d ≡ b) × (j ≡ k)) ⊎ ((((d ≡ b) × (j ≡ k)) → ⊥) × (holding held b k v (registers.Result d j) ≡ held (registers.Result d j)))
 held_cases held b k v d j =
     elim (cases_eq d b) [
@@ -57,13 +57,13 @@ held_cases held b k v d j =
 abbrev pub IsHeld : Registers → Register → Type 0
 IsHeld held r = (v : Value) × (held r ≡ Some v)
 
--- On a walk through these blocks to place k of block b: the parameters are held, and the results of the instructions
--- that were passed.
+-- On a walk through the blocks `before` to place k of block b the parameters are held, and the results of the
+-- instructions that were passed.
 pub record Held (f : Function) (b : ℕ) (before : List ℕ) (k : ℕ) (held : Registers) : Type 0 where
   pub parameters : (p : ℕ) → p < length f.parameters → IsHeld held (registers.Parameter p)
   pub results : (d j : ℕ) → HasInst f d j → Contains before d ⊎ ((d ≡ b) × (j < k)) → IsHeld held (registers.Result d j)
 
--- what is assigned there is held
+-- a register that is assigned there is held
 pub assigned_held : (f : Function) (b : ℕ) (before : List ℕ) (k : ℕ) (held : Registers) (r : Register) → IsWalk f (b ∷ before) → Held f b before k held → IsAssigned f r b k → IsHeld held r
 assigned_held f b before k held (registers.Parameter p) walk h a = h.parameters p a
 assigned_held f b before k held (registers.Result d j) walk h a = h.results d j a.0 (a.1 before walk)
@@ -82,7 +82,7 @@ held_next f b before k held v h = record { parameters = h.parameters; results = 
           | inr other ↦ let x : IsHeld held (registers.Result d j) = h.results d j has (was d j other.0 passed) in (x.0, other.1 ∙ x.1)
         ]
 
--- where the block is passed
+-- the same on the walk that goes on behind the block
 pub held_on : (f : Function) (b : ℕ) (before : List ℕ) (block : Block) (held : Registers) → IsBlock f b block → Held f b before (length block.insts) held → (c : ℕ) → Held f c (b ∷ before) 0 held
 held_on f b before block held at h c = record { parameters = h.parameters; results = results }
   where
@@ -114,7 +114,7 @@ held_first f args a = record { parameters = λ p lt. argument_held f.parameters 
     none d j has (inl c) = absurd (let lt : c.0 < 0 = c.1 in omega arith)
     none d j has (inr (same, lt)) = absurd (omega arith)
 
--- ---- what is held gives values, and each instruction an effect
+-- ---- where operands are held they give values, and each instruction has an effect
 
 abbrev pub OperandHeld : Registers → Operand → Type 0
 OperandHeld held (operands.Register r) = IsHeld held r
@@ -128,7 +128,7 @@ operand_held held (operands.Number n) h = tt
 operand_held held operands.Undef h = tt
 operand_held held operands.Poison h = tt
 
--- all that is read is held
+-- each register among the reads is held
 abbrev pub ReadsHeld : Registers → List Read → Type 0
 ReadsHeld held reads = (i : ℕ) (r : Read) → slice_get reads i ≡ Some r → OperandHeld held r.operand
 
@@ -168,9 +168,9 @@ op_gives f b k w held (Freeze x) h n =
     (effects.Gives q.0, (p.0, q.0, p.1, q.1, refl))
 op_gives f b k w held (Phi entries) h n = absurd (n tt)
 
--- ---- the same is held in the cleaned function
+-- ---- the cleaned function's registers hold the same
 
--- registers that stay hold the same in the old function and in the cleaned one
+-- registers that stay hold the same in the old function and, renamed, in the cleaned one
 pub record Agree (kept : KeptMarks) (held new : Registers) : Type 0 where
   pub parameters : (p : ℕ) → held (registers.Parameter p) ≡ new (registers.Parameter p)
   pub results : (b k : ℕ) → kept b k ≡ true → held (registers.Result b k) ≡ new (registers.Result b (kept_before kept b k))
@@ -179,7 +179,7 @@ agree : (kept : KeptMarks) (held new : Registers) (r : Register) → Agree kept 
 agree kept held new (registers.Parameter p) h s = h.parameters p
 agree kept held new (registers.Result b k) h s = h.results b k s
 
--- after an instruction that is kept
+-- after an instruction that is kept, both have it
 pub agree_kept : (kept : KeptMarks) (b k : ℕ) (held new : Registers) (v : Value) → kept b k ≡ true → Agree kept held new → Agree kept (holding held b k v) (holding new b (kept_before kept b k) v)
 agree_kept kept b k held new v keep h = record { parameters = h.parameters; results = results }
   where
@@ -198,7 +198,7 @@ agree_kept kept b k held new v keep h = record { parameters = h.parameters; resu
           ]
         ]
 
--- after one that is not
+-- after an instruction that is removed, only the old function has it
 pub agree_dropped : (kept : KeptMarks) (b k : ℕ) (held new : Registers) (v : Value) → kept b k ≡ false → Agree kept held new → Agree kept (holding held b k v) new
 agree_dropped kept b k held new v gone h = record { parameters = h.parameters; results = results }
   where

@@ -1,4 +1,4 @@
--- Where kept instructions stand, by counts of marks.
+-- The new indices of kept instructions, by counts of marks.
 use Rattle.std.proofs.Common.{◌≡◌, ℕ, zero, suc, ◌+◌, ◌<◌, ◌≤◌, Bool, true, false, List, [], ◌∷◌, ◌++◌, length, take, drop, Some, refl, sym, ap, subst, ◌∙◌, ◌⊎◌, inl, inr, arith, get_or, count_by}
 use Rattle.std.specs.Prelude.{slice_get}
 use Rattle.std.proofs.Math.Seq.{drop-cons}
@@ -15,7 +15,7 @@ use Rattle.needed.specs.NeededMarks.{AreCounts}
 use Rattle.needed.proofs.Counting.{count-kept, count-dropped}
 use Rattle.needed.proofs.MarkLemmas.{get_or-read}
 
--- how many of the first i are marked
+-- how many of the first i instructions are marked
 abbrev pub marked_before : List Bool → ℕ → ℕ
 marked_before marks i = count_by (λ mark. mark) (take i marks)
 
@@ -30,7 +30,7 @@ get_pushed : (xs : List ℕ) (x : ℕ) → slice_get (xs ++ x ∷ []) (length xs
 get_pushed [] x = refl
 get_pushed (z ∷ xs) x = get_pushed xs x
 
--- the counts of the first i, and how many of those are marked
+-- the counts of the first i instructions are known, and how many of those are marked
 pub record Counted (marks : List Bool) (i : ℕ) (counts : List ℕ) (count : ℕ) : Type 0 where
   pub length_is : length counts ≡ i
   pub at : (k : ℕ) → k < i → slice_get counts k ≡ Some (marked_before marks k)
@@ -61,7 +61,7 @@ counted_other marks i counts count d c within is =
     let low : count ≤ i = c.low in
     counted_more marks i counts count count c (c.count_is ∙ sym (count_by_more_no (λ mark. mark) marks i d within is)) (omega arith)
 
--- ---- the place by two counts
+-- ---- the new index as the difference of two counts
 
 count-place : (firsts : List ℕ) (marks : List Bool) (b k : ℕ) → number_of firsts b k ≤ length marks → marked_before marks (number_of firsts b k) ≡ marked_before marks (get_or firsts b 0) + kept_before (marks_by firsts marks) b k
 count-place firsts marks b zero le = let none : number_of firsts b 0 ≡ get_or firsts b 0 = omega arith in let same = ap (marked_before marks) none in same ∙ omega arith
@@ -79,7 +79,7 @@ count-place firsts marks b (suc k) le =
 count_read : (marks : List Bool) (counts : List ℕ) (i v : ℕ) → AreCounts marks counts → i < length marks → v ≡ get_or counts i v → v ≡ marked_before marks i
 count_read marks counts i v c within here = here ∙ get_or_from_slice_get counts i (marked_before marks i) v (c.at i within)
 
--- the two counts that are read for a register
+-- the two counts that are read for a register: at its number, and at the first number of its block
 pub place_read : (firsts counts : List ℕ) (marks : List Bool) (register : Register) (b k first all before : ℕ) → AreCounts marks counts → register ≡ registers.Result b k → IsNumbered firsts (length marks) (operands.Register register)
     → first ≡ get_or firsts b first → all ≡ get_or counts (first + k) all → before ≡ get_or counts first before → all ≡ before + kept_before (marks_by firsts marks) b k
 place_read firsts counts marks register b k first all before c is numbered here all_here before_here =
@@ -96,14 +96,14 @@ place_is kept register b k place is e = ap (λ x. registers.Result b x) e ∙ sy
 
 -- ---- a list that is changed item by item
 
--- The items before the index are written, and from there on all are as they were: F i changes a list whose first item
--- has index i.
+-- The items before the index are changed, and those from there on are as they were. F i is the change to a list whose
+-- first item has index i.
 pub record Written {A : Type 0} (F : ℕ → List A → List A) (all : List A) (i : ℕ) (items : List A) : Type 0 where
   pub written : take i items ++ F i (drop i items) ≡ F 0 all
   pub rest : drop i items ≡ drop i all
   pub size : length items ≡ length all
 
--- the next item is the old one
+-- the next item is still the old one
 pub next_as_before : {A : Type 0} (F : ℕ → List A → List A) (all : List A) (i : ℕ) (items : List A) (x : A) → Written F all i items → i < length items → x ≡ get_or items i x → x ≡ get_or all i x
 next_as_before F all i items x w within here =
     let size = w.size in
@@ -111,7 +111,7 @@ next_as_before F all i items x w within here =
     let heads : get_or items i x ≡ get_or all i x = cc in
     here ∙ heads
 
--- the mark that is read
+-- the mark that is read is that of instruction k of block b
 pub mark_read : (firsts : List ℕ) (marks : List Bool) (b k first : ℕ) (mark : Bool) → b < length firsts → number_of firsts b k < length marks → first ≡ get_or firsts b first → mark ≡ get_or marks (first + k) mark → marks_by firsts marks b k ≡ mark
 mark_read firsts marks b k first mark inside within here read =
     let same : get_or firsts b 0 ≡ first = get_or-read firsts b first 0 inside here in

@@ -1,4 +1,4 @@
--- Marking what operands read, one by one.
+-- Marking the instructions that define operands, one by one.
 use Rattle.std.proofs.Common.{◌≡◌, ℕ, zero, suc, ◌+◌, ◌<◌, Bool, true, false, cond, ◌⊎◌, inl, inr, List, [], ◌∷◌, ◌++◌, length, take, get_or, Some, refl, sym, ap, subst, ◌∙◌, arith, All, Contains, append_assoc, append-nil, count_by, length-append, map}
 use Rattle.std.specs.Prelude.{slice_get, option_map}
 use Rattle.std.proofs.Math.ListN.{set, length-set}
@@ -28,7 +28,7 @@ only_one x y h = let at : (i : ℕ) × (slice_get (x ∷ []) i ≡ Some y) = con
 pub contains_none : {A : Type 0} (y : A) → Contains [] y → ⊥
 contains_none y h = let lt : h.0 < 0 = h.1 in omega arith
 
--- where all that is read is marked already
+-- all are marked already
 pub marked_same : (firsts : List ℕ) (reads : List Operand) (s : Search) → ((b k : ℕ) → Contains reads (result_of b k) → IsMarked s (number_of firsts b k)) → Marked firsts reads s s
 marked_same firsts reads s h = record {
   count = refl;
@@ -41,7 +41,7 @@ marked_same firsts reads s h = record {
   unmarked_less = omega arith;
 }
 
--- where one more is marked
+-- one more is marked
 pub marked_one : (firsts : List ℕ) (b k : ℕ) (operand : Operand) (old new : Search) → operand ≡ result_of b k → number_of firsts b k < length old.marks.items → get_or old.marks.items (number_of firsts b k) false ≡ false
     → new.marks.items ≡ set old.marks.items (number_of firsts b k) true → new.work.items ≡ old.work.items ++ (b, k) ∷ [] → Marked firsts (operand ∷ []) old new
 marked_one firsts b k operand old new is within unset marks_are work_is = record {
@@ -85,7 +85,7 @@ marked_one firsts b k operand old new is within unset marks_are work_is = record
         let changed : unmarked new ≡ count_by (λ mark. cond mark false true) (set old.marks.items n true) = ap (count_by (λ mark. cond mark false true)) marks_are in
         omega (arith, sum_by-set (λ mark. cond (cond mark false true) 1 0) old.marks.items n true false within, was, changed)
 
--- one after the other
+-- first those of some operands are marked, and then those of others
 pub marked_then : (firsts : List ℕ) (xs ys : List Operand) (s t u : Search) → Marked firsts xs s t → Marked firsts ys t u → Marked firsts (xs ++ ys) s u
 marked_then firsts xs ys s t u p q = record {
   count = q.count ∙ p.count;
@@ -115,7 +115,7 @@ marked_next firsts reads i operand s t u p lt here q =
     let next : take (i + 1) reads ≡ take i reads ++ operand ∷ [] = take_more reads i operand lt ∙ ap (λ (o : Operand). take i reads ++ o ∷ []) (sym here) in
     subst (λ l. Marked firsts l s u) (sym next) (marked_then firsts (take i reads) (operand ∷ []) s t u p q)
 
--- what is read of entries
+-- the operands of entries
 abbrev pub values_of : List (Operand × ℕ) → List Operand
 values_of entries = map (λ (e : Operand × ℕ). e.0) entries
 
@@ -124,7 +124,7 @@ marked_next_entry firsts entries i entry s t u p lt here q =
     let next : take (i + 1) entries ≡ take i entries ++ entry ∷ [] = take_more entries i entry lt ∙ ap (λ (e : Operand × ℕ). take i entries ++ e ∷ []) (sym here) in
     subst (λ l. Marked firsts l s u) (sym (ap values_of next ∙ map-append (λ (e : Operand × ℕ). e.0) (take i entries) (entry ∷ []))) (marked_then firsts (values_of (take i entries)) (entry.0 ∷ []) s t u p q)
 
--- what is numbered stays so while marks are set
+-- an operand keeps its number while marks are set
 pub numbered_at : (firsts : List ℕ) (reads : List Operand) (i : ℕ) (operand : Operand) (n m : ℕ) → All (IsNumbered firsts n) reads → m ≡ n → i < length reads → operand ≡ get_or reads i operand → IsNumbered firsts m operand
 numbered_at firsts reads i operand n m h same lt here = subst (λ n. IsNumbered firsts n operand) (sym same) (subst (IsNumbered firsts n) (sym here) (All-get_or (IsNumbered firsts n) reads i operand lt h))
 
@@ -134,17 +134,17 @@ numbered_entry firsts entries i entry n m h same lt here =
     let value : slice_get (values_of entries) i ≡ Some entry.0 = slice_get-map (λ (e : Operand × ℕ). e.0) entries i ∙ ap (option_map (λ (e : Operand × ℕ). e.0)) at in
     numbered_at firsts (values_of entries) i entry.0 n m h same (slice_get_within (values_of entries) i entry.0 value) (sym (get_or_from_slice_get (values_of entries) i entry.0 entry.0 value))
 
--- an item that is read, whatever the default
+-- a lookup within the list gives the item, whatever the default
 pub get_or-read : {A : Type 0} (xs : List A) (i : ℕ) (x d : A) → i < length xs → x ≡ get_or xs i x → get_or xs i d ≡ x
 get_or-read xs i x d lt here = get_or_from_slice_get xs i x d (slice_get_read xs (length xs) i x refl lt here)
 
--- the first number of the block, and the number of the instruction, that are read
+-- the sum of the block's first number, as it was read, and the place is the instruction's number
 number_read : (firsts : List ℕ) (operand : Operand) (b k first n : ℕ) → operand ≡ result_of b k → IsNumbered firsts n operand → first ≡ get_or firsts b first → (number_of firsts b k ≡ first + k) × (number_of firsts b k < n)
 number_read firsts operand b k first n is numbered here =
     let in_table : IsNumbered firsts n (result_of b k) = subst (IsNumbered firsts n) is numbered in
     (ap (λ x. x + k) (get_or-read firsts b first 0 in_table.0 here), in_table.1)
 
--- where what is read is marked already
+-- the defining instruction is marked already
 pub mark_again : (firsts : List ℕ) (operand : Operand) (b k first : ℕ) (mark : Bool) (s : Search) → operand ≡ result_of b k → IsNumbered firsts (length s.marks.items) operand
     → first ≡ get_or firsts b first → mark ≡ get_or s.marks.items (first + k) mark → mark ≡ true → Marked firsts (operand ∷ []) s s
 mark_again firsts operand b k first mark s is numbered here read set =
@@ -157,7 +157,7 @@ mark_again firsts operand b k first mark s is numbered here read set =
     let place : k ≡ j = cc in
     subst (λ d. IsMarked s (number_of firsts d j)) block (subst (λ j. IsMarked s (number_of firsts b j)) place marked))
 
--- where it is not
+-- the defining instruction is not marked yet
 pub mark_anew : (firsts : List ℕ) (operand : Operand) (b k first : ℕ) (mark : Bool) (old new : Search) → operand ≡ result_of b k → IsNumbered firsts (length old.marks.items) operand
     → first ≡ get_or firsts b first → mark ≡ get_or old.marks.items (first + k) mark → mark ≡ false
     → new.marks.items ≡ set old.marks.items (first + k) true → new.work.items ≡ old.work.items ++ (b, k) ∷ [] → Marked firsts (operand ∷ []) old new

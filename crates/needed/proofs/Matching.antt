@@ -1,4 +1,4 @@
--- A run of the cleaned function is matched by one of the old one.
+-- The simulation of a run of the cleaned function by one of the old function.
 use Rattle.std.proofs.Common.{◌≡◌, ℕ, zero, suc, ◌+◌, ◌<◌, ◌==◌, Bool, true, false, cond, ◌⊎◌, inl, inr, List, [], ◌∷◌, length, Option, None, Some, refl, sym, ap, subst, ◌∙◌, arith, Contains, map}
 use Rattle.std.specs.Prelude.{slice_get, option_map}
 use Rattle.std.proofs.lemmas.Option.{slice_get-map}
@@ -115,7 +115,7 @@ module _ (f : Function) (m : MeetsChecks f) (kept : KeptMarks) (needed : KeepsNe
   abbrev cleaned : Function
   cleaned = kept_function kept f
 
-  -- the pass of the old function through block b ends as that of the cleaned one does, or is undefined
+  -- the old function's pass through block b ends as the cleaned one's does, or in undefined behaviour
   abbrev Match : ℕ → List ℕ → Ending → Ending → Type 0
   Match b before Undefines end = Unit {0}
   Match b before (Returns v) end = end ≡ Returns v
@@ -159,13 +159,13 @@ module _ (f : Function) (m : MeetsChecks f) (kept : KeptMarks) (needed : KeepsNe
   )
   end_back b n before held new terminators.Unreachable end h names on s g = (Undefines, refl, tt)
 
-  -- what is assigned at the end of the block before is held where this one is entered
+  -- a register that is assigned at the end of the block before is held where this one is entered
   held_from : (b c : ℕ) (before : List ℕ) (was : Registers) (r : Register) → IsWalk f (c ∷ before) → Held f b (c ∷ before) 0 was → IsAssigned f r c (end_of f c) → IsHeld was r
   held_from b c before was (registers.Parameter p) walk hd a = hd.parameters p a
   held_from b c before was (registers.Result d j) walk hd a =
       hd.results d j a.0 (elim (a.1 before walk) [ inl passed ↦ inl (contains_later c before d passed) | inr here ↦ inl (subst (Contains (c ∷ before)) (sym here.0) (contains_first c before)) ])
 
-  -- a phi of a block that is entered takes a value
+  -- each phi of a block that is entered takes a value
   phi_gives : (b : ℕ) (before : List ℕ) (block : Block) → IsBlock f b block → IsWalk f (b ∷ before) → (was : Registers) → Held f b before 0 was
       → (k : ℕ) (i : Inst) (entries : List (Operand × ℕ)) → slice_get block.insts k ≡ Some i → i.op ≡ Phi entries → (v : Value) × PhiGives AnyNumber was (last before) i.width entries v
   phi_gives b [] block at walk was hd k i entries here phi =
@@ -190,14 +190,14 @@ module _ (f : Function) (m : MeetsChecks f) (kept : KeptMarks) (needed : KeepsNe
     abbrev End : Terminator
     End = moved_end kept block.end
 
-    -- what an instruction reads is held where it stands
+    -- the registers that an instruction reads are held at its place
     reads_held : (k : ℕ) (inst : Inst) (held : Registers) → slice_get block.insts k ≡ Some inst → ¬ IsPhi inst.op → Held f b before k held → ReadsHeld held (reads_of f b k inst.width inst.op)
     reads_held k inst held here other h i r e =
         let there : IsThere b k r = own_place f b k inst.width inst.op other i r e in
         let a : ReadIsAssigned f r = inst_reads_assigned f m kept needed b k block inst at here i r e in
         operand_held held r.operand (λ register is. assigned_held f b before k held register walk h (subst (λ c. IsAssigned f register c k) there.0 (subst (λ j. IsAssigned f register r.block j) there.1 (a register is))))
 
-    -- from place k on, whatever is held
+    -- the rest of a pass from place k on is simulated, whatever registers hold
     abbrev Rest : ℕ → List Inst → Ending → Type 0
     Rest k insts end = (held new : Registers) → Held f b before k held → Agree kept held new
         → Follows AnyNumber cleaned b (kept_before kept b k) (kept_insts kept b k insts) End new end → Matched b before end (λ old. Follows AnyNumber f b k insts block.end held old)
@@ -250,7 +250,7 @@ module _ (f : Function) (m : MeetsChecks f) (kept : KeptMarks) (needed : KeepsNe
         (follows_back (suc k) insts end (rest_next block.insts k i insts is) (omega arith) (λ j. none (suc j)))
         (kept b k) refl g
 
-    -- no phi stands behind an instruction that is none
+    -- behind an instruction that is no phi none is
     none_behind : (k : ℕ) (i : Inst) (insts : List Inst) → ((j : ℕ) → slice_get block.insts (k + j) ≡ slice_get (i ∷ insts) j) → ¬ IsPhi i.op → NoPhis (i ∷ insts)
     none_behind k i insts is other zero inst e = let same : i ≡ inst = cc in subst (λ (x : Inst). ¬ IsPhi x.op) same other
     none_behind k i insts is other (suc j) inst e =
@@ -258,7 +258,7 @@ module _ (f : Function) (m : MeetsChecks f) (kept : KeptMarks) (needed : KeepsNe
         let later : IsInst f b (k + suc j) inst = record { block = block; is_block = at; is_inst = is (suc j) ∙ e } in
         λ phi. other (m.formed.phis_first b k (k + suc j) i inst first later (omega arith) phi)
 
-    -- ---- the phis, where the block is entered
+    -- ---- the phis, as the block is entered
 
     module _ (was now : Registers) (was_held : Held f b before 0 was) (agreed : Agree kept was now) where
       enters_follows : (k c : ℕ) (insts : List Inst) (held : Registers) (end : Ending) → NoPhis insts
@@ -329,7 +329,7 @@ module _ (f : Function) (m : MeetsChecks f) (kept : KeptMarks) (needed : KeepsNe
 
   -- ---- a run
 
-  -- a pass through a block
+  -- a pass of the cleaned function through a block is simulated by one of the old function
   passes_back : (b : ℕ) (before : List ℕ) (held new : Registers) (end : Ending) → IsWalk f (b ∷ before) → Held f b before 0 held → Agree kept held new
       → Passes AnyNumber cleaned (last before) b new end → Matched b before end (λ old. Passes AnyNumber f (last before) b held old)
   passes_back b before held new end walk hd h g =

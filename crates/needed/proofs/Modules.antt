@@ -1,4 +1,4 @@
--- The laws of cleaning for modules.
+-- The laws of dead code elimination for modules.
 use Rattle.std.proofs.Common.{◌≡◌, ℕ, zero, suc, List, [], ◌∷◌, Some, refl, sym, ap, subst, ◌∙◌}
 use Rattle.std.specs.Prelude.{slice_get}
 use Rattle.std.proofs.lemmas.Option.{same_Some}
@@ -31,7 +31,7 @@ entries_refine (d ∷ ds) (e ∷ es) h c = (entry_refines d e (λ f is. h 0 f (a
 pub modules_refine : CleanedModulesRefine
 modules_refine m n meets cleaned = entries_refine m.entries n.entries meets.functions cleaned
 
--- a function among the new entries is one of the old, cleaned
+-- a function among the new entries is an old one, cleaned
 function_back : (d : Entry) (g : Function) → EntryCleaned d (entries.Function g) → (f : Function) × (d ≡ entries.Function f) × IsCleaned f g
 function_back (entries.Kept old) g c = absurd c
 function_back (entries.Function old) g c = (old, refl, c)
@@ -45,7 +45,7 @@ entry_back (d ∷ ds) (e ∷ es) c zero g h =
     (was.0, ap (λ (x : Entry). Some x) was.1, was.2)
 entry_back (d ∷ ds) (e ∷ es) c (suc k) g h = entry_back ds es c.1 k g h
 
--- a cleaned function has its name
+-- cleaning leaves a function's name as it was
 name_stays : (f g : Function) → IsCleaned f g → g.name ≡ f.name
 name_stays f g c = ap (λ (x : Function). x.name) c.2
 

@@ -44,7 +44,7 @@ module _ (f : Function) (firsts : List ℕ) (count : ℕ) (n : AreNumbers f.bloc
   number-is : (b k : ℕ) → HasInst f b k → number_of firsts b k ≡ insts_before f.blocks b + k
   number-is b k h = ap (λ x. x + k) (n.at b (slice_get_within f.blocks b h.0 h.1))
 
-  -- a number is less than those of the blocks behind
+  -- a number is less than those of the blocks behind its own
   number-below : (b k d : ℕ) → HasInst f b k → b < d → d ≤ length f.blocks → number_of firsts b k < insts_before f.blocks d
   number-below b k d h less within =
       let inside : k < length h.0.insts = h.2 in
@@ -64,7 +64,7 @@ module _ (f : Function) (firsts : List ℕ) (count : ℕ) (n : AreNumbers f.bloc
       let below : number_of firsts b k < insts_before f.blocks d = number-below b k d h less (omega arith) in
       omega (arith, below, number-is d j g)
 
-  -- two instructions have different numbers
+  -- instructions with the same number are the same
   pub same_number : (b k d j : ℕ) → HasInst f b k → HasInst f d j → number_of firsts b k ≡ number_of firsts d j → (b ≡ d) × (k ≡ j)
   same_number b k d j h g same =
       elim (below_or b d) [
@@ -78,7 +78,7 @@ module _ (f : Function) (firsts : List ℕ) (count : ℕ) (n : AreNumbers f.bloc
         ]
       ]
 
--- an item that is read from a slice of the list
+-- an item that a slice of the list gives is the list's
 pub item_read : {A : Type 0} (xs items : List A) (i : ℕ) (x : A) → items ≡ xs → i < length items → x ≡ get_or items i x → slice_get xs i ≡ Some x
 item_read xs items i x same lt here = subst (λ l. slice_get l i ≡ Some x) same (slice_get_read items (length items) i x refl lt here)
 

@@ -1,4 +1,4 @@
--- What is read at a place, and what of it is kept and assigned.
+-- Reads at a place: which of them are of registers that are kept and assigned.
 use Rattle.std.proofs.Common.{◌≡◌, ℕ, zero, suc, true, cond, List, [], ◌∷◌, length, Option, Some, refl, sym, ap, subst, ◌∙◌, arith}
 use Rattle.std.specs.Prelude.{slice_get, option_map, unwrap_or}
 use Rattle.std.proofs.lemmas.Bool.{eq-eqb}
@@ -34,7 +34,7 @@ end_of-is f b block at = ap (λ (o : Option Block). unwrap_or (option_map (λ (b
 pub has_inst : (f : Function) (b k : ℕ) (block : Block) (inst : Inst) → IsBlock f b block → slice_get block.insts k ≡ Some inst → HasInst f b k
 has_inst f b k block inst at here = (block, at, slice_get_within block.insts k inst here)
 
--- what holds of the first and of each other
+-- a predicate that holds of the first item and of each other
 pub each_none : {A : Type 0} (P : A → Type 0) (i : ℕ) (y : A) → slice_get [] i ≡ Some y → P y
 each_none P i y e = absurd cc
 
@@ -52,7 +52,7 @@ one_there b k w x = each_first (IsThere b k) (read b k w x) [] (refl, refl) (eac
 two_there : (b k w : ℕ) (x y : Operand) → (i : ℕ) (r : Read) → slice_get (read b k w x ∷ read b k w y ∷ []) i ≡ Some r → IsThere b k r
 two_there b k w x y = each_first (IsThere b k) (read b k w x) (read b k w y ∷ []) (refl, refl) (one_there b k w y)
 
--- all but a phi reads where it stands
+-- an instruction that is no phi reads its operands at its own place
 pub own_place : (f : Function) (b k w : ℕ) (op : Op) → ¬ IsPhi op → (i : ℕ) (r : Read) → slice_get (reads_of f b k w op) i ≡ Some r → IsThere b k r
 own_place f b k w (Binary op flags x y) other = two_there b k w x y
 own_place f b k w (Compare pred samesign compared x y) other = two_there b k compared x y
@@ -75,7 +75,7 @@ OperandStays kept (operands.Number n) = Unit {0}
 OperandStays kept operands.Undef = Unit {0}
 OperandStays kept operands.Poison = Unit {0}
 
--- what is read stays
+-- each register among the reads stays
 abbrev pub ReadsStay : KeptMarks → List Read → Type 0
 ReadsStay kept reads = (i : ℕ) (r : Read) → slice_get reads i ≡ Some r → OperandStays kept r.operand
 
@@ -90,20 +90,20 @@ module _ (f : Function) (m : MeetsChecks f) (kept : KeptMarks) (needed : KeepsNe
   operand_stays operands.Undef b k n a = tt
   operand_stays operands.Poison b k n a = tt
 
-  -- what a kept instruction reads stays
+  -- the registers that a kept instruction reads stay
   pub inst_reads_stay : (b k : ℕ) (block : Block) (inst : Inst) → IsBlock f b block → slice_get block.insts k ≡ Some inst → kept b k ≡ true → ReadsStay kept (reads_of f b k inst.width inst.op)
   inst_reads_stay b k block inst at here keep i r h =
       let is : IsRead f b k i r = ap (λ l. slice_get l i) (reads_at-inst f b k block inst at here) ∙ h in
       let n : IsNeeded f (registers.Result b k) = (needed b k (has_inst f b k block inst at here)).0 keep in
       operand_stays r.operand r.block r.place (λ register e. IsNeeded.by_inst b k n (record { operand = i; read = r; is_read = is; reads = e })) (m.assigned b k i r is)
 
-  -- what a terminator reads stays
+  -- the register that a terminator reads stays
   pub end_reads_stay : (b : ℕ) (block : Block) → IsBlock f b block → ReadsStay kept (reads_at_end f b (length block.insts) block.end)
   end_reads_stay b block at i r h =
       let is : IsRead f b (length block.insts) i r = ap (λ l. slice_get l i) (reads_at-end f b block at) ∙ h in
       let is_end : IsRead f b (end_of f b) i r = subst (λ k. IsRead f b k i r) (sym (end_of-is f b block at)) is in
       operand_stays r.operand r.block r.place (λ register e. IsNeeded.by_end b (record { operand = i; read = r; is_read = is_end; reads = e })) (m.assigned b (length block.insts) i r is)
 
-  -- what an instruction reads is assigned
+  -- the registers that an instruction reads are assigned where it reads them
   pub inst_reads_assigned : (b k : ℕ) (block : Block) (inst : Inst) → IsBlock f b block → slice_get block.insts k ≡ Some inst → (i : ℕ) (r : Read) → slice_get (reads_of f b k inst.width inst.op) i ≡ Some r → ReadIsAssigned f r
   inst_reads_assigned b k block inst at here i r h = m.assigned b k i r (ap (λ l. slice_get l i) (reads_at-inst f b k block inst at here) ∙ h)

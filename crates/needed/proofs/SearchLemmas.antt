@@ -1,4 +1,4 @@
--- The walk to what is needed.
+-- The search for live instructions by a worklist.
 use Rattle.std.proofs.Common.{◌≡◌, ℕ, zero, suc, ◌+◌, ◌<◌, true, false, ◌⊎◌, inl, inr, List, [], ◌∷◌, ◌++◌, length, get_or, Option, None, Some, refl, sym, ap, subst, ◌∙◌, arith, All, Contains, map}
 use Rattle.std.specs.Prelude.{slice_get, option_map, option_and_then, IsSome}
 use Rattle.std.proofs.lemmas.Bool.{cases_eq}
@@ -48,7 +48,7 @@ read_has f known b k d j h =
     let is : IsKnown f (result_of d j) = subst (IsKnown f) h.reads (known b k h.operand h.read h.is_read) in
     known_result f d j (slice_get f.blocks d) refl is
 
--- ---- what is read, as a list of operands
+-- ---- reads as a list of operands
 
 abbrev operands_in : List Read → List Operand
 operands_in reads = map (λ (r : Read). r.operand) reads
@@ -73,7 +73,7 @@ operands-at_end f b k (terminators.Branch c to other) = refl
 operands-at_end f b k (terminators.Switch a width other cases) = refl
 operands-at_end f b k terminators.Unreachable = refl
 
--- these operands are what is written at the place to be read
+-- these are the operands of the instruction or the terminator at place k of block b
 abbrev Reads : Function → ℕ → ℕ → List Operand → Type 0
 Reads f b k reads = operands_in (reads_at f b k) ≡ reads
 
@@ -94,7 +94,7 @@ contains_read : (f : Function) (b k : ℕ) (reads : List Operand) (r : Register)
 contains_read f b k reads r is h =
     contains_at reads (operands.Register r) h.operand (ap (λ l. slice_get l h.operand) (sym is) ∙ slice_get-map (λ (r : Read). r.operand) (reads_at f b k) h.operand ∙ ap (option_map (λ (r : Read). r.operand)) h.is_read ∙ ap (λ a. Some a) h.reads)
 
--- ---- each of them has a number
+-- ---- each operand has a number
 
 module _ (f : Function) (known : AllKnown f) (firsts : List ℕ) (count : ℕ) (n : AreNumbers f.blocks firsts count) where
   operand_numbered : (b k : ℕ) (a : Operand) → ((r : Register) → a ≡ operands.Register r → ReadsRegister f b k r) → IsNumbered firsts count a
@@ -107,7 +107,7 @@ module _ (f : Function) (known : AllKnown f) (firsts : List ℕ) (count : ℕ) (
   pub reads_numbered : (b k : ℕ) (reads : List Operand) → Reads f b k reads → All (IsNumbered firsts count) reads
   reads_numbered b k reads is i d lt = operand_numbered b k (get_or reads i d) (λ r e. read_by f b k reads r is (contains_at reads (operands.Register r) i (slice_get-get_or reads i d lt ∙ ap (λ a. Some a) e)))
 
-  -- ---- one step of the walk
+  -- ---- one step of the search
 
   abbrev Needed : ℕ × ℕ → Type 0
   Needed x = HasInst f x.0 x.1 × IsNeeded f (registers.Result x.0 x.1)
@@ -128,7 +128,7 @@ module _ (f : Function) (known : AllKnown f) (firsts : List ℕ) (count : ℕ) (
     ];
   }
 
-  -- what is marked anew is work
+  -- an instruction that is newly marked is on the worklist
   followed_more : (reads : List Operand) (s t : Search) (b k d j : ℕ) → Marked firsts reads s t → ((x : ℕ × ℕ) → Contains reads (result_of x.0 x.1) → Needed x) → HasInst f b k → IsMarked t (number_of firsts b k)
       → (IsMarked s (number_of firsts b k) → Contains s.work.items (b, k) ⊎ (ReadsRegister f b k (registers.Result d j) → IsMarked t (number_of firsts d j)))
       → Contains t.work.items (b, k) ⊎ (ReadsRegister f b k (registers.Result d j) → IsMarked t (number_of firsts d j))
@@ -145,7 +145,7 @@ module _ (f : Function) (known : AllKnown f) (firsts : List ℕ) (count : ℕ) (
             inl (subst (λ l. Contains l (b, k)) (sym m.work) (Contains-append_right s.work.items m.more (b, k) new))
       ]
 
-  -- the terminator of one more block
+  -- the terminator of one more block was looked at
   pub search_end : (b : ℕ) (block : Block) (s t : Search) → IsBlock f b block → IsSearched f firsts count b s → Marked firsts (operands_at_end block.end) s t → IsSearched f firsts count (b + 1) t
   search_end b block s t at h m =
       let is : Reads f b (end_of f b) (operands_at_end block.end) = end_reads f b block at in
@@ -163,7 +163,7 @@ module _ (f : Function) (known : AllKnown f) (firsts : List ℕ) (count : ℕ) (
             (λ old. elim (h.followed c k d j has old) [ inl work ↦ inl work | inr reads ↦ inr (λ r. m.stays (number_of firsts d j) (reads r)) ]);
       }
 
-  -- an instruction that was work
+  -- an instruction was taken from the worklist
   pub search_inst : (blocks b k : ℕ) (block : Block) (inst : Inst) (old s t : Search) → IsBlock f b block → slice_get block.insts k ≡ Some inst
       → IsSearched f firsts count blocks old → old.marks.items ≡ s.marks.items → old.work.items ≡ s.work.items ++ (b, k) ∷ [] → Marked firsts (operands_of inst.op) s t → IsSearched f firsts count blocks t
   search_inst blocks b k block inst old s t at here h marks_are work_is m =
@@ -192,9 +192,9 @@ module _ (f : Function) (known : AllKnown f) (firsts : List ℕ) (count : ℕ) (
             ]);
       }
 
-  -- ---- where the walk begins and ends
+  -- ---- where the search begins and ends
 
-  -- the register is marked, or a parameter
+  -- the register is a parameter, or its instruction is marked
   abbrev Reached : Search → Register → Type 0
   Reached s (registers.Parameter p) = Unit {0}
   Reached s (registers.Result b k) = IsMarked s (number_of firsts b k)
@@ -222,9 +222,9 @@ module _ (f : Function) (known : AllKnown f) (firsts : List ℕ) (count : ℕ) (
   pub search_ends : (s : Search) → IsSearched f firsts count (length f.blocks) s → s.work.items ≡ [] → KeepsNeeded f (marks_by firsts s.marks.items)
   search_ends s h no_work b k has = (h.sound.needed b k has, complete s h no_work (registers.Result b k))
 
--- ---- what the walk looks at
+-- ---- what the search looks up
 
--- the instruction that was work is one of the function
+-- an instruction on the worklist is one of the function
 pub work_has : (f : Function) (firsts : List ℕ) (count blocks b k : ℕ) (old : Search) (rest : List (ℕ × ℕ)) → IsSearched f firsts count blocks old → old.work.items ≡ rest ++ (b, k) ∷ [] → HasInst f b k
 work_has f firsts count blocks b k old rest h is =
     (h.sound.work (b, k) (subst (λ l. Contains l (b, k)) (sym is) (Contains-append_right rest ((b, k) ∷ []) (b, k) (contains_at ((b, k) ∷ []) (b, k) 0 refl)))).0
@@ -238,7 +238,7 @@ place_within f b k block has at =
 pub numbered_for : (firsts : List ℕ) (reads : List Operand) (n m : ℕ) → m ≡ n → All (IsNumbered firsts n) reads → All (IsNumbered firsts m) reads
 numbered_for firsts reads n m same h = subst (λ n. All (IsNumbered firsts n) reads) (sym same) h
 
--- the block and the instruction that are read for it
+-- the block and the instruction that are looked up for it
 pub block_looked_at : (f : Function) (b k : ℕ) (items : List Block) (block : Block) → HasInst f b k → items ≡ f.blocks → block ≡ get_or items b block → slice_get f.blocks b ≡ Some block
 block_looked_at f b k items block has same here =
     let within : b < length f.blocks = slice_get_within f.blocks b has.0 has.1 in
@@ -249,7 +249,7 @@ inst_looked_at f b k block items inst has at same here =
     let within : k < length block.insts = place_within f b k block has at in
     item_read block.insts items k inst same (omega (arith, within, ap length same)) here
 
--- each block's operands are numbered
+-- all operands of each block have numbers
 pub blocks_numbered : (f : Function) → AllKnown f → (firsts : List ℕ) (count : ℕ) → AreNumbers f.blocks firsts count → All (BlockIsNumbered firsts count) f.blocks
 blocks_numbered f known firsts count n b d lt = record {
   insts = λ k e inside. reads_numbered f known firsts count n b k (operands_of (get_or block.insts k e).op) (inst_reads f b k block (get_or block.insts k e) at (slice_get-get_or block.insts k e inside));

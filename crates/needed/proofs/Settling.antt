@@ -1,4 +1,4 @@
--- Instructions that are kept move to the front of their list, in order.
+-- Kept instructions are moved to the front of their list, in order.
 use Rattle.std.proofs.Common.{◌≡◌, ℕ, zero, suc, ◌+◌, ◌<◌, ◌≤◌, true, false, List, [], ◌∷◌, ◌++◌, length, take, drop, refl, sym, ap, ◌∙◌, arith, get_or, append_assoc}
 use Rattle.std.proofs.Math.ListN.{set, length-set}
 use Rattle.std.proofs.Math.Seq.{drop-cons}
@@ -6,14 +6,14 @@ use Rattle.std.proofs.lemmas.List.{drop-set-lt, get_or-set_same}
 use Rattle.ir_core.specs.declared.instruction.Inst.{Inst}
 use Rattle.needed.specs.KeptFunction.{KeptMarks, kept_first, kept_insts, moved_inst}
 
--- the first `count` are what is kept of the first `place`, and from there on all are as they were
+-- the first `count` items are what is kept of the first `place`, and from there on all are as they were
 pub record Settled (kept : KeptMarks) (b : ℕ) (all : List Inst) (place count : ℕ) (items : List Inst) : Type 0 where
   pub settled : take count items ++ kept_insts kept b place (drop place items) ≡ kept_insts kept b 0 all
   pub low : count ≤ place
   pub size : length items ≡ length all
   pub rest : drop place items ≡ drop place all
 
--- item p becomes y, and changes places with item c
+-- item p is replaced by y, and then swapped with item c, which is z
 abbrev pub settled_at : {X : Type 0} → List X → ℕ → ℕ → X → X → List X
 settled_at items c p y z = set (set (set items p y) c y) p z
 
@@ -36,7 +36,7 @@ next_is place items x within here =
     let next : suc place ≡ place + 1 = omega arith in
     drop-cons items place x within ∙ ap (λ v. v ∷ drop (suc place) items) (sym here) ∙ ap (λ (n : ℕ). x ∷ drop n items) next
 
--- an instruction that is written, and changes places, is settled
+-- an instruction that was replaced and then swapped to the front
 swapped_is : (items was more : List Inst) (c p : ℕ) (y : Inst) → p < length items → was ≡ set items p y
     → more ≡ set (set was c (get_or was p y)) p (get_or was c y) → more ≡ settled_at items c p y (get_or (set items p y) c y)
 swapped_is items was more c p y within e swapped =
@@ -51,7 +51,7 @@ get_or_same [] n x d within = absurd (omega arith)
 get_or_same (y ∷ ys) zero x d within = refl
 get_or_same (y ∷ ys) (suc n) x d within = get_or_same ys n x d (omega arith)
 
--- the next instruction is the old one, and so are those behind it
+-- the next instruction is still the old one, and so are those behind it
 heads_and_tails : (items all : List Inst) (place : ℕ) (d : Inst) → place < length items → length items ≡ length all → drop place items ≡ drop place all → (get_or items place d ≡ get_or all place d) × (drop (suc place) items ≡ drop (suc place) all)
 heads_and_tails items all place d within size rest =
     let same : get_or items place d ∷ drop (suc place) items ≡ get_or all place d ∷ drop (suc place) all = sym (drop-cons items place d within) ∙ rest ∙ drop-cons all place d (omega arith) in

@@ -1,4 +1,5 @@
--- Cleaned functions and modules: of a function's instructions those alone are kept whose results are needed.
+-- Dead code elimination of functions and modules: of a function's instructions those alone are kept whose results are
+-- needed (live).
 use Rattle.std.specs.Prelude.{◌≡◌, ℕ, IsTrue, ◌↔◌, List, [], ◌∷◌}
 use Rattle.ir_core.specs.declared.module.Module.{Module}
 use Rattle.ir_core.specs.declared.module.Entry.{Entry}
@@ -9,7 +10,7 @@ use Rattle.ir_core.specs.Blocks.{HasInst}
 use Rattle.needed.specs.Needed.{IsNeeded}
 use Rattle.needed.specs.KeptFunction.{KeptMarks, kept_function}
 
--- the instructions that are kept are those whose registers are needed
+-- exactly the instructions whose results are needed are kept
 abbrev pub KeepsNeeded : Function → KeptMarks → Type 0
 KeepsNeeded f kept = (b k : ℕ) → HasInst f b k → IsTrue (kept b k) ↔ IsNeeded f (registers.Result b k)
 
@@ -17,7 +18,7 @@ KeepsNeeded f kept = (b k : ℕ) → HasInst f b k → IsTrue (kept b k) ↔ IsN
 abbrev pub IsCleaned : Function → Function → Type 0
 IsCleaned old new = (kept : KeptMarks) × KeepsNeeded old kept × (new ≡ kept_function kept old)
 
--- kept lines stay, and a function is cleaned
+-- a kept line is unchanged, and a function is cleaned
 abbrev pub EntryCleaned : Entry → Entry → Type 0
 EntryCleaned (entries.Kept old) (entries.Kept new) = new ≡ old
 EntryCleaned (entries.Function old) (entries.Function new) = IsCleaned old new

@@ -1,4 +1,4 @@
--- The instructions of a function, numbered block after block.
+-- The instructions of a function, numbered from 0 block after block.
 use Rattle.std.specs.Prelude.{◌≡◌, ℕ, ◌+◌, ◌<◌, Bool, false, List, length, take, sum_by, All, slice_index_or}
 use Rattle.ir_core.specs.declared.function.Block.{Block}
 use Rattle.ir_core.specs.declared.instruction.Inst.{Inst}
@@ -8,7 +8,7 @@ use Rattle.ir_core.specs.declared.operand.Register.TheVariants as registers
 use Rattle.needed.specs.KeptFunction.{KeptMarks}
 use Rattle.needed.specs.Operands.{operands_of, operands_at_end}
 
--- how many instructions the blocks before block b have
+-- how many instructions the blocks before block b have together
 abbrev pub insts_before : List Block → ℕ → ℕ
 insts_before blocks b = sum_by (λ block. length block.insts) (take b blocks)
 
@@ -22,11 +22,11 @@ pub record AreNumbers (blocks : List Block) (firsts : List ℕ) (count : ℕ) : 
 abbrev pub number_of : List ℕ → ℕ → ℕ → ℕ
 number_of firsts b k = slice_index_or firsts b 0 + k
 
--- marks by number, as marks by block and place
+-- a table of marks by number, as a function of block and place
 abbrev pub marks_by : List ℕ → List Bool → KeptMarks
 marks_by firsts marks b k = slice_index_or marks (number_of firsts b k) false
 
--- the result has a number below the count
+-- if the operand is the result of an instruction, that has a number below the count
 abbrev pub IsNumbered : List ℕ → ℕ → Operand → Type 0
 IsNumbered firsts count (operands.Register (registers.Result b k)) = (b < length firsts) × (number_of firsts b k < count)
 IsNumbered firsts count (operands.Register (registers.Parameter p)) = Unit {0}
@@ -34,7 +34,7 @@ IsNumbered firsts count (operands.Number n) = Unit {0}
 IsNumbered firsts count operands.Undef = Unit {0}
 IsNumbered firsts count operands.Poison = Unit {0}
 
--- so has each result that a block reads
+-- so has each operand of a block's instructions and terminator
 pub record BlockIsNumbered (firsts : List ℕ) (count : ℕ) (block : Block) : Type 0 where
   pub insts : All (λ (i : Inst). All (IsNumbered firsts count) (operands_of i.op)) block.insts
   pub end : All (IsNumbered firsts count) (operands_at_end block.end)

@@ -1,4 +1,4 @@
--- What is left of a function where some of its instructions are kept.
+-- What is left of a function where some of its instructions are kept and the others removed.
 use Rattle.std.specs.Prelude.{ℕ, zero, suc, ◌+◌, Bool, true, false, if◌then◌else◌, List, [], ◌∷◌, map}
 use Rattle.ir_core.specs.declared.function.Function.{Function}
 use Rattle.ir_core.specs.declared.function.Block.{Block}
@@ -16,12 +16,12 @@ use Rattle.ir_core.specs.declared.terminator.Terminator.TheVariants as terminato
 abbrev pub KeptMarks : Type 0
 KeptMarks = ℕ → ℕ → Bool
 
--- how many of the first k instructions of block b are kept: where its instruction k stands then
+-- how many of the first k instructions of block b are kept: the index of its instruction k afterwards
 abbrev pub kept_before : KeptMarks → ℕ → ℕ → ℕ
 kept_before kept b zero = 0
 kept_before kept b (suc k) = (if kept b k then 1 else 0) + kept_before kept b k
 
--- a register, an operand, an operation, an instruction and a terminator, with each register where it stands then
+-- a register, an operand, an operation, an instruction and a terminator, with registers renamed to their new indices
 abbrev pub moved_register : KeptMarks → Register → Register
 moved_register kept (registers.Parameter p) = registers.Parameter p
 moved_register kept (registers.Result b k) = registers.Result b (kept_before kept b k)
@@ -51,25 +51,25 @@ moved_end kept (terminators.Branch c to other) = terminators.Branch (moved_opera
 moved_end kept (terminators.Switch a width other cases) = terminators.Switch (moved_operand kept a) width other cases
 moved_end kept terminators.Unreachable = terminators.Unreachable
 
--- the instruction before these, if it is kept
+-- the list with the instruction before it, if that is kept
 abbrev pub kept_first : Bool → Inst → List Inst → List Inst
 kept_first true inst insts = inst ∷ insts
 kept_first false inst insts = insts
 
--- of these instructions, which block b has from place k on, those that are kept
+-- those of these instructions that are kept, which are the ones of block b from place k on
 abbrev pub kept_insts : KeptMarks → ℕ → ℕ → List Inst → List Inst
 kept_insts kept b k [] = []
 kept_insts kept b k (inst ∷ insts) = kept_first (kept b k) (moved_inst kept inst) (kept_insts kept b (suc k) insts)
 
--- block b with its kept instructions
+-- block b with its kept instructions alone
 abbrev pub kept_block : KeptMarks → ℕ → Block → Block
 kept_block kept b block = record { name = block.name; insts = kept_insts kept b 0 block.insts; end = moved_end kept block.end }
 
--- the blocks from block b on, each with its kept instructions
+-- the blocks from block b on, each with its kept instructions alone
 abbrev pub kept_blocks : KeptMarks → ℕ → List Block → List Block
 kept_blocks kept b [] = []
 kept_blocks kept b (block ∷ blocks) = kept_block kept b block ∷ kept_blocks kept (suc b) blocks
 
--- the function with its kept instructions
+-- the function with its kept instructions alone
 abbrev pub kept_function : KeptMarks → Function → Function
 kept_function kept f = record { name = f.name; before = f.before; width = f.width; parameters = f.parameters; after = f.after; blocks = kept_blocks kept 0 f.blocks }

@@ -1,4 +1,4 @@
--- Which registers of a function are needed.
+-- Which registers of a function are needed: those that are live, in that a terminator depends on them.
 use Rattle.std.specs.Prelude.{◌≡◌, ℕ}
 use Rattle.ir_core.specs.declared.function.Function.{Function}
 use Rattle.ir_core.specs.declared.operand.Operand.TheVariants as operands
@@ -6,7 +6,8 @@ use Rattle.ir_core.specs.declared.operand.Register.{Register}
 use Rattle.ir_core.specs.declared.operand.Register.TheVariants as registers
 use Rattle.ir_core.specs.Reads.{Read, IsRead, end_of}
 
--- what is written at place k of block b reads the register; what a phi reads is written at the phi's place
+-- the instruction or the terminator at place k of block b has the register as an operand; those of a phi count at the
+-- phi's own place
 pub record ReadsRegister (f : Function) (b k : ℕ) (register : Register) : Type 0 where
   pub operand : ℕ
   pub read : Read

@@ -1,4 +1,4 @@
--- Marking what operands read.
+-- How live instructions are marked by a worklist.
 use Rattle.std.specs.Prelude.{◌≡◌, ℕ, ◌+◌, Bool, true, false, if◌then◌else◌, ◌⊎◌, List, ◌++◌, length, count_by, take, Contains, slice_get, slice_index_or, Some, ◌<◌}
 use Rattle.ir_core.specs.declared.function.Function.{Function}
 use Rattle.ir_core.specs.declared.operand.Operand.{Operand}
@@ -18,7 +18,8 @@ IsMarked s number = slice_index_or s.marks.items number false ≡ true
 abbrev pub unmarked : Search → ℕ
 unmarked s = count_by (λ mark. if mark then false else true) s.marks.items
 
--- What these operands read is marked, and each instruction that was not marked before is work.
+-- The instructions that define these operands are marked, and those that were not marked before were appended to the
+-- worklist.
 pub record Marked (firsts : List ℕ) (reads : List Operand) (old new : Search) : Type 0 where
   pub count : length new.marks.items ≡ length old.marks.items
   pub more : List (ℕ × ℕ)
@@ -34,22 +35,22 @@ pub record AreCounts (marks : List Bool) (counts : List ℕ) : Type 0 where
   pub count : length counts ≡ length marks
   pub at : (i : ℕ) → i < length marks → slice_get counts i ≡ Some (count_by (λ mark. mark) (take i marks))
 
--- Marked instructions are needed, and so are those that are work.
+-- Marked instructions are live, and so are those on the worklist.
 pub record IsSound (f : Function) (firsts : List ℕ) (count : ℕ) (s : Search) : Type 0 where
   pub size : length s.marks.items ≡ count
   pub work : (x : ℕ × ℕ) → Contains s.work.items x → HasInst f x.0 x.1 × IsNeeded f (registers.Result x.0 x.1)
   pub needed : (b k : ℕ) → HasInst f b k → IsMarked s (number_of firsts b k) → IsNeeded f (registers.Result b k)
 
--- what the terminators of the first blocks read is marked
+-- the instructions that define operands of the first blocks' terminators are marked
 abbrev pub EndsAreMarked : Function → List ℕ → ℕ → Search → Type 0
 EndsAreMarked f firsts blocks s = (b d j : ℕ) → b < blocks → ReadsRegister f b (end_of f b) (registers.Result d j) → IsMarked s (number_of firsts d j)
 
--- what a marked instruction reads is marked, if that one is no work
+-- a marked instruction is on the worklist, or those that define its operands are marked
 abbrev pub IsFollowed : Function → List ℕ → Search → Type 0
 IsFollowed f firsts s = (b k d j : ℕ) → HasInst f b k → IsMarked s (number_of firsts b k)
     → Contains s.work.items (b, k) ⊎ (ReadsRegister f b k (registers.Result d j) → IsMarked s (number_of firsts d j))
 
--- a walk that has come to the terminators of the first blocks
+-- a state of the search in which the terminators of the first blocks were looked at
 pub record IsSearched (f : Function) (firsts : List ℕ) (count blocks : ℕ) (s : Search) : Type 0 where
   pub sound : IsSound f firsts count s
   pub ends : EndsAreMarked f firsts blocks s

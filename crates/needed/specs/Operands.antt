@@ -1,4 +1,4 @@
--- What instructions and terminators read, without widths and places.
+-- The operands of instructions and terminators, without widths and places.
 use Rattle.std.specs.Prelude.{List, [], ◌∷◌, map}
 use Rattle.ir_core.specs.declared.instruction.Op.{Op}
 use Rattle.ir_core.specs.declared.instruction.Op.TheVariants.{Binary, Compare, Unary, Select, Convert, Freeze, Phi}

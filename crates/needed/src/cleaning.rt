@@ -1,4 +1,4 @@
-//! Cleaning a function in place.
+//! Dead code elimination in place.
 
 ghost use Rattle.std.specs.Prelude.{◌≡◌, ◌+◌, ◌<◌, ◌≤◌, ◌^◌, ℕ, length, All, OnOk, OnErr, slice_index_or};
 ghost use Rattle.ir_core.specs.Checks.{IsKnown};
@@ -15,7 +15,7 @@ use lists::List;
 use std::alloc::{AllocError, Global};
 use std::mem;
 
-/// Keeps the kept instructions of a block alone. It takes no memory.
+/// Removes the instructions of a block that are not kept. It takes no memory.
 fn clean_block(alloc: Global, kept: &Kept, index: usize, block: &mut Block)
     requires block { index < length kept.now.firsts.items }
     requires numbers { slice_index_or kept.now.firsts.items index 0 + length block.old.insts
@@ -29,7 +29,7 @@ fn clean_block(alloc: Global, kept: &Kept, index: usize, block: &mut Block)
     block.end = moved_end(kept, end);
 }
 
-/// The blocks with their kept instructions alone. It takes no memory.
+/// Removes the instructions of all blocks that are not kept. It takes no memory.
 fn cleaned_blocks(alloc: Global, kept: &Kept, blocks: List<Block>) -> List<Block>
     requires numbers { AreNumbers blocks kept.now.firsts.items (length kept.now.marks.items) }
     requires operands { All (BlockIsNumbered kept.now.firsts.items (length kept.now.marks.items)) blocks }
@@ -42,10 +42,11 @@ fn cleaned_blocks(alloc: Global, kept: &Kept, blocks: List<Block>) -> List<Block
     List::from_vec(blocks)
 }
 
-/// Keeps exactly those instructions of a function whose results are needed, all else as it was.
+/// Dead code elimination: keeps exactly those instructions of a function whose results are needed (live), and all else
+/// as it was.
 ///
 /// It takes its memory before it changes the function, which stays as it was where that is refused. It is linear in the
-/// function's size: what is needed is found by a walk from the terminators, which comes to each instruction once.
+/// function's size: live instructions are found from the terminators by a worklist, on which each stands at most once.
 pub fn clean(alloc: Global, f: &mut Function) -> Result<(), AllocError>
     // Blocks, and the instructions of each, are counted in 32 bits.
     requires blocks { length f.old.blocks < 2 ^ 32 }

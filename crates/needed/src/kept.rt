@@ -1,4 +1,4 @@
-//! The instructions that are kept.
+//! The instructions that are kept by dead code elimination.
 
 ghost use Rattle.std.specs.Prelude.{◌<◌, ◌^◌, ℕ, length, All, IfOk};
 ghost use Rattle.ir_core.specs.Checks.{IsKnown};
@@ -12,14 +12,14 @@ use crate::search::needed;
 use ir_core::Function;
 use std::alloc::{AllocError, Global};
 
-/// Which instructions of a function are kept.
+/// Which instructions of a function are kept, and where they will stand.
 #[derive(Drop)]
 pub(crate) struct Kept {
     /// For each block, the number of its first instruction.
     pub(crate) firsts: Vec<usize>,
     /// For each instruction by its number, whether it is kept.
     pub(crate) marks: Vec<bool>,
-    /// For each instruction by its number, how many kept ones have a smaller number.
+    /// For each instruction by its number, how many kept ones have smaller numbers.
     pub(crate) counts: Vec<usize>,
     ghost counted: { AreCounts marks.items counts.items },
 }
@@ -40,7 +40,7 @@ fn counts(alloc: Global, marks: &[bool]) -> Result<Vec<usize>, AllocError>
 }
 
 impl Kept {
-    /// The needed instructions of a function are kept.
+    /// Keeps the instructions of a function that are needed (live).
     pub(crate) fn needed(alloc: Global, f: &Function) -> Result<Kept, AllocError>
         requires blocks { length f.now.blocks < 2 ^ 32 }
         requires insts { All (λ b. length b.insts < 2 ^ 32) f.now.blocks }

@@ -1,9 +1,10 @@
-//! Cleaning: of a function's instructions those alone are kept whose results are needed.
+//! Dead code elimination, here called cleaning: of a function's instructions those alone are kept whose results are
+//! needed, that is, live.
 //!
-//! The definitions stand in `specs/`: `Needed` says which registers are needed, `KeptFunction` what is left where some
-//! instructions are kept, `Cleaned` that those are kept that are needed, and `Laws` that what is left may stand in the
-//! place of what was there, and meets the same checks. `Operands`, `InstNumbers`, `NeededMarks` and `KeptTables` serve
-//! the private functions.
+//! The definitions stand in `specs/`: `Needed` says which registers are live, `KeptFunction` what is left of a function
+//! where only some instructions are kept, `Cleaned` that the kept ones are the live ones, and `Laws` that what is left
+//! refines what was there and meets the same checks. `Operands`, `InstNumbers`, `NeededMarks` and `KeptTables` serve
+//! private functions alone.
 #![tactic(auto)]
 
 mod cleaning;

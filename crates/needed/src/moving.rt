@@ -1,4 +1,4 @@
-//! The instructions that are kept move to where they stand then.
+//! Renames registers, as instructions move to smaller indices where others before them are removed.
 
 ghost use Rattle.std.specs.Prelude.{◌≡◌, ◌+◌, ◌<◌, ◌≤◌, length, All, map, slice_index_or};
 ghost use Rattle.needed.specs.KeptFunction as clean;
@@ -10,7 +10,7 @@ use ir_core::{Inst, Op, Operand, Register, Terminator};
 use lists::List;
 use std::mem;
 
-/// Where a register stands then.
+/// The register, at the index that its instruction has after the removal.
 fn moved_register(kept: &Kept, register: Register) -> Register
     requires { HasPlace kept.now (Operand.Register register) }
     ensures { result ≡ clean.moved_register (marks_of kept.now) register }
@@ -25,7 +25,7 @@ fn moved_register(kept: &Kept, register: Register) -> Register
     }
 }
 
-/// An operand with its register where it stands then.
+/// An operand with its register renamed.
 fn moved_operand(kept: &Kept, operand: Operand) -> Operand
     requires { HasPlace kept.now operand }
     ensures { result ≡ clean.moved_operand (marks_of kept.now) operand }
@@ -36,7 +36,7 @@ fn moved_operand(kept: &Kept, operand: Operand) -> Operand
     }
 }
 
-/// The entries of a phi, with their operands where they stand then. It takes no memory.
+/// The entries of a phi with the registers of their operands renamed. It takes no memory.
 fn moved_entries(kept: &Kept, entries: List<(Operand, u32)>) -> List<(Operand, u32)>
     requires { HavePlaces kept.now (map (λ e. e.0) entries) }
     ensures { result ≡ map (λ e. (clean.moved_operand (marks_of kept.now) e.0, e.1)) entries }
@@ -48,7 +48,7 @@ fn moved_entries(kept: &Kept, entries: List<(Operand, u32)>) -> List<(Operand, u
     List::from_vec(entries)
 }
 
-/// An operation with its operands where they stand then.
+/// An operation with the registers of its operands renamed.
 fn moved_op(kept: &Kept, op: Op) -> Op
     requires { HavePlaces kept.now (operands_of op) }
     ensures { result ≡ clean.moved_op (marks_of kept.now) op }
@@ -74,7 +74,7 @@ fn moved_op(kept: &Kept, op: Op) -> Op
     }
 }
 
-/// The terminator with its operand where it stands then.
+/// The terminator with the register of its operand renamed.
 pub(crate) fn moved_end(kept: &Kept, end: Terminator) -> Terminator
     requires { HavePlaces kept.now (operands_at_end end) }
     ensures { result ≡ clean.moved_end (marks_of kept.now) end }
@@ -90,7 +90,7 @@ pub(crate) fn moved_end(kept: &Kept, end: Terminator) -> Terminator
     }
 }
 
-/// Moves an instruction's operands to where they stand then.
+/// Renames the registers of an instruction's operands.
 fn move_operands(kept: &Kept, inst: &mut Inst)
     requires { HavePlaces kept.now (operands_of inst.old.op) }
     ensures { inst.new ≡ clean.moved_inst (marks_of kept.now) inst.old }
@@ -99,7 +99,7 @@ fn move_operands(kept: &Kept, inst: &mut Inst)
     inst.op = moved_op(kept, op);
 }
 
-/// The kept ones of a block's instructions, each with its operands where they stand then. It takes no memory.
+/// Those of a block's instructions that are kept, with the registers of their operands renamed. It takes no memory.
 pub(crate) fn kept_insts(kept: &Kept, block: usize, insts: List<Inst>) -> List<Inst>
     requires block { block < length kept.now.firsts.items }
     requires numbers { slice_index_or kept.now.firsts.items block 0 + length insts

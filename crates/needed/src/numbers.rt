@@ -6,7 +6,7 @@ ghost use Rattle.needed.specs.InstNumbers.{AreNumbers};
 use ir_core::Function;
 use std::alloc::{AllocError, Global};
 
-/// The numbers of a function's instructions, which go up from 0 block after block.
+/// The numbers of a function's instructions, counted up from 0 block after block.
 #[derive(Drop)]
 pub(crate) struct Numbers {
     /// For each block, the number of its first instruction.

@@ -1,4 +1,5 @@
-//! Which instructions are needed: a walk from the terminators, which marks each instruction that it finds to be needed.
+//! Which instructions are live: a search by a worklist, which begins with what the terminators read and follows
+//! operands from uses to definitions.
 
 ghost use Rattle.std.specs.Prelude.{◌≡◌, [], ◌∷◌, ℕ, length, All, IfOk, OnOk, map};
 ghost use Rattle.ir_core.specs.Checks.{IsKnown};
@@ -12,17 +13,17 @@ use crate::numbers::Numbers;
 use ir_core::{Function, Op, Operand, Register, Terminator};
 use std::alloc::{AllocError, Global};
 
-/// How far the walk has come.
+/// The state of the search.
 #[derive(Drop)]
 pub(crate) struct Search {
-    /// For each instruction by its number, whether it is known to be needed.
+    /// For each instruction by its number, whether it is known to be live.
     marks: Vec<bool>,
-    /// The marked instructions, by block and place, whose operands are still to be marked.
+    /// The worklist: the marked instructions, by block and place, whose operands are still to be marked.
     work: Vec<(u32, u32)>,
 }
 
 impl Search {
-    /// Marks the instruction whose result the register is.
+    /// Marks the instruction that defines the register, and puts it on the worklist, unless it is marked already.
     fn mark_register(&mut self, numbers: &Numbers, register: Register) -> Result<(), AllocError>
         requires { IsNumbered numbers.now.firsts.items (length self.old.marks.items) (Operand.Register register) }
         ensures { OnOk result (
@@ -38,7 +39,7 @@ impl Search {
         Ok(())
     }
 
-    /// Marks the instruction whose result an operand reads.
+    /// Marks the instruction that defines an operand.
     fn mark(&mut self, numbers: &Numbers, operand: Operand) -> Result<(), AllocError>
         requires { IsNumbered numbers.now.firsts.items (length self.old.marks.items) operand }
         ensures { OnOk result (Marked numbers.now.firsts.items (operand ∷ []) self.old self.new) }
@@ -49,7 +50,7 @@ impl Search {
         }
     }
 
-    /// Marks the instructions whose results these operands read.
+    /// Marks the instructions that define these operands.
     fn mark_all(&mut self, numbers: &Numbers, operands: &[Operand]) -> Result<(), AllocError>
         requires { All (IsNumbered numbers.now.firsts.items (length self.old.marks.items)) operands.now }
         ensures { OnOk result (Marked numbers.now.firsts.items operands.now self.old self.new) }
@@ -60,7 +61,7 @@ impl Search {
         Ok(())
     }
 
-    /// Marks the instructions whose results the operands of these entries read.
+    /// Marks the instructions that define the operands of these entries.
     fn mark_entries(
         &mut self,
         numbers: &Numbers,
@@ -76,7 +77,7 @@ impl Search {
         Ok(())
     }
 
-    /// Marks the instructions whose results an instruction reads.
+    /// Marks the instructions that define an instruction's operands.
     fn mark_op(&mut self, numbers: &Numbers, op: &Op) -> Result<(), AllocError>
         requires { All (IsNumbered numbers.now.firsts.items (length self.old.marks.items)) (operands_of op.now) }
         ensures { OnOk result (
@@ -95,7 +96,7 @@ impl Search {
         }
     }
 
-    /// Marks the instructions whose results a terminator reads.
+    /// Marks the instruction that defines a terminator's operand.
     fn mark_end(&mut self, numbers: &Numbers, end: &Terminator) -> Result<(), AllocError>
         requires { All (IsNumbered numbers.now.firsts.items (length self.old.marks.items)) (operands_at_end end.now) }
         ensures { OnOk result (
@@ -108,7 +109,7 @@ impl Search {
         }
     }
 
-    /// The start of the walk: what the terminators read is marked.
+    /// The start of the search: the instructions that define the terminators' operands are marked.
     fn from_ends(alloc: Global, f: &Function, numbers: &Numbers) -> Result<Search, AllocError>
         requires numbers { AreNumbers f.now.blocks numbers.now.firsts.items numbers.now.count }
         requires registers { (b k i : ℕ) (r : Read) →
@@ -126,7 +127,7 @@ impl Search {
         Ok(search)
     }
 
-    /// The rest of the walk: what a marked instruction reads is marked, until no work is left.
+    /// Takes instructions from the worklist and marks those that define their operands, until the worklist is empty.
     fn follow(&mut self, f: &Function, numbers: &Numbers) -> Result<(), AllocError>
         requires numbers { AreNumbers f.now.blocks numbers.now.firsts.items numbers.now.count }
         requires registers { (b k i : ℕ) (r : Read) →
@@ -145,7 +146,7 @@ impl Search {
     }
 }
 
-/// For each instruction by its number, whether it is needed.
+/// For each instruction by its number, whether its result is needed (live).
 pub(crate) fn needed(
     alloc: Global,
     f: &Function,

@@ -1,4 +1,4 @@
-//! What is not needed of a function.
+//! The dead instructions of a function.
 
 ghost use Rattle.std.specs.Prelude.{◌≡◌, ◌+◌, ◌<◌, ◌^◌, ◌↔◌, ◌⊎◌, ℕ, length, false, All, Contains, IfOk, OnOk, slice_index_or};
 ghost use Rattle.ir_core.specs.Blocks.{HasInst};
@@ -13,7 +13,7 @@ use crate::search::needed;
 use ir_core::Function;
 use std::alloc::{AllocError, Global};
 
-/// Puts the first so many places of a block behind others, but for those that are marked.
+/// Appends to `places` those of the first `count` instructions of a block that are not marked.
 fn push_unmarked(
     numbers: &Numbers,
     marks: &[bool],
@@ -35,7 +35,7 @@ fn push_unmarked(
     Ok(())
 }
 
-/// The instructions of a function whose results are not needed, by block and place.
+/// The dead instructions of a function, whose results are not needed, by block and place.
 pub fn unneeded_insts(alloc: Global, f: &Function) -> Result<Vec<(u32, u32)>, AllocError>
     requires blocks { length f.now.blocks < 2 ^ 32 }
     requires insts { All (λ b. length b.insts < 2 ^ 32) f.now.blocks }

@@ -54,8 +54,7 @@ digits_length : (n a : ℕ) → length (binary_digits n a) ≡ n
 digits_length zero a = refl
 digits_length (suc n) a = ap suc (digits_length n (a / 2))
 
--- what stands behind the first that fails the test doesn't count, and one that is put behind others that all pass
--- counts
+-- an item put behind xs lengthens the prefix that passes exactly where all of xs passes and the item does
 passed : (p : Bool → Bool) (x y : Bool) (rest : List Bool) (b : Bool) → p x ≡ b → prefix_len p (x ∷ rest) ≡ suc (length rest) → (b ≡ true) × (prefix_len p rest ≡ length rest)
 passed p x y rest true h e = (refl, omega (arith, rw h at e))
 passed p x y rest false h e = absurd (omega (arith, rw h at e))

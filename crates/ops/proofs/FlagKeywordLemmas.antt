@@ -1,5 +1,5 @@
--- Flags: what those that are found spell, that what is spelled is found, and that flags which are added are the
--- instruction's own.
+-- Keywords of flags: a flag that is found is spelled by its keyword, a flag that is spelled is found, and flags that
+-- are read one by one are among those that the instruction takes.
 use Rattle.std.proofs.Common.{◌≡◌, ℕ, Bool, true, false, cond, ◌&&◌, List, [], ◌∷◌, None, Some, IsTrue, refl, sym, ap, subst}
 use Rattle.std.specs.Prelude.{filter}
 use Rattle.std.specs.Str.{bytes_eq}
@@ -48,7 +48,7 @@ adds_taken taken before (flag ∷ flags) after fit adds = adds_taken taken (with
 pub taken_flags : (taken : Flags) (written : List Flag) (flags : Flags) → AddsFlags taken no_flags written flags → AreWithin flags taken
 taken_flags taken written flags adds = adds_taken taken no_flags written flags refl adds
 
--- the flags of an `icmp` that is spelled are `samesign` or none
+-- an `icmp` is spelled with `samesign` or with no flag
 no_flag : (b : Bool) → (b && false) ≡ b → b ≡ false
 no_flag true e = sym e
 no_flag false e = refl
@@ -67,7 +67,7 @@ pub icmp_flags-fit : (samesign : Bool) → AreWithin (icmp_flags samesign) flags
 icmp_flags-fit true = refl
 icmp_flags-fit false = refl
 
--- the keyword of a predicate is no flag
+-- the keyword of a predicate is not that of a flag
 pub predicate_is_no_flag : (taken : Flags) (pred : Pred) → flag_in taken (predicate_keyword pred) ≡ None
 unfolding flag_in
 predicate_is_no_flag taken Eq = refl
@@ -83,7 +83,7 @@ predicate_is_no_flag taken Sle = refl
 
 -- ---- flags in the order of their list
 
--- the flags where this one is among them exactly where it is on
+-- flags, with this one set to `on`
 set : Flags → Flag → Bool → Flags
 set flags Nuw on = record flags { nuw = on }
 set flags Nsw on = record flags { nsw = on }

@@ -1,4 +1,4 @@
--- Sets of flags that are the same.
+-- Equality of sets of flags.
 use Rattle.std.proofs.Common.{◌≡◌, Bool, true, false, ◌&&◌, IsTrue, refl, sym, ◌∙◌}
 use Rattle.std.specs.Bool.{beq}
 use Rattle.ops.specs.declared.opcode.Flags.{Flags}
@@ -7,7 +7,7 @@ pub both : (a b : Bool) → (a && b) ≡ true → (a ≡ true) × (b ≡ true)
 both true b e = (refl, e)
 both false b e = absurd cc
 
--- the sets are the same flag by flag
+-- sets that agree in each flag are equal
 pub same_set : (f g : Flags) → f.nuw ≡ g.nuw → f.nsw ≡ g.nsw → f.exact ≡ g.exact → f.nneg ≡ g.nneg → f.disjoint ≡ g.disjoint → f.samesign ≡ g.samesign → f ≡ g
 same_set f g p q r s t u =
     let same : ◌≡◌ {A = Flags} (record { nuw = f.nuw; nsw = f.nsw; exact = f.exact; nneg = f.nneg; disjoint = f.disjoint; samesign = f.samesign }) (record { nuw = g.nuw; nsw = g.nsw; exact = g.exact; nneg = g.nneg; disjoint = g.disjoint; samesign = g.samesign })

@@ -1,4 +1,4 @@
--- Words of tables: what those that are found spell, and that what is spelled is found.
+-- Tables of keywords: the entry that is found is spelled by the word, and each word that is spelled is found.
 use Rattle.std.proofs.Common.{◌≡◌, ℕ, Bool, true, false, cond, List, [], ◌∷◌, Option, Some, refl, subst}
 use Rattle.std.specs.Prelude.{find}
 use Rattle.std.specs.Str.{bytes_eq}

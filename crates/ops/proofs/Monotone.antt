@@ -1,4 +1,4 @@
--- Operands that allow others give an effect, or a value, that allows theirs.
+-- Instructions are monotone: operands that allow others give an effect, or a value, that allows what those give.
 use Rattle.std.proofs.Common.{ℕ, Bool, true, false, cond, ◌&&◌, ◌||◌}
 use Rattle.std.specs.Prelude.{◌==◌}
 use Rattle.ops.specs.declared.value.Value.{Value}
@@ -18,7 +18,7 @@ use Rattle.ops.specs.Unary.{unary}
 use Rattle.ops.specs.Laws.{InstructionIsMonotone, ComparisonIsMonotone, ConversionIsMonotone, UnaryIsMonotone, SelectionIsMonotone}
 use Rattle.ops.proofs.Values.{AllowsValue-refl, AllowsEffect-refl, AllowsEffect-trans}
 
--- a division of poison allows one of a number by the same divisor
+-- an unsigned division of poison allows one of a number by the same divisor
 unsigned_allows : (zero : Bool) (v : Value) → AllowsEffect (cond zero Undefined (Gives Poison)) (cond zero Undefined (Gives v))
 unsigned_allows true v = tt
 unsigned_allows false v = tt

@@ -26,7 +26,7 @@ Decides-minus_one N n p h =
 Decides-least : (N n : ℕ) → 1 ≤ N → n < 2 ^ N → Decides (n == least N) (signed N n ≡ neg_ℤ (pos (2 ^ (N - 1))))
 Decides-least N n p h = let e = signed-least N n p h in Decides-like (n == least N) e.1 e.0 (Decides-eqb n (least N))
 
--- a test of undefined behaviour
+-- an instruction that tests for undefined behaviour first: it has that exactly where the test holds
 tested : (c : Bool) (v : Value) (P : Type 0) → (c ≡ true → P) → (P → c ≡ true) → (cond c Undefined (Gives v) ≡ Undefined) ↔ P
 tested true v P f g = (λ e. f refl, λ x. refl)
 tested false v P f g = (λ e. cc, λ x. let e : false ≡ true = g x in cc)
@@ -52,7 +52,7 @@ poison_tested c n Zero Minus d =
     (λ e. ⊎_elim (λ z. inl (tt, inr z)) (λ m. inr (tt, m, inl refl)) (d.0 e))
     (λ x. ⊎_elim (λ u. ⊎_elim (λ e. cc) (λ z. d.1 (inl z)) u.1) (λ u. d.1 (inr u.1)) x)
 
--- an instruction that does not divide
+-- an instruction that is no division never has undefined behaviour
 never : (v : Value) (X Y Z : Type 0) → (Gives v ≡ Undefined) ↔ (⊥ × X ⊎ ⊥ × Y × Z)
 never v X Y Z = (λ e. cc, λ x. ⊎_elim (λ u. absurd u.0) (λ u. absurd u.0) x)
 

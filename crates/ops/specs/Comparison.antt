@@ -7,7 +7,7 @@ use Rattle.ops.specs.declared.comparison.Pred.{Pred}
 use Rattle.ops.specs.declared.comparison.Pred.TheVariants.{Eq, Ne, Ugt, Uge, Ult, Ule, Sgt, Sge, Slt, Sle}
 use Rattle.ops.specs.Integer.{bits, signed, negative}
 
--- "icmp": the predicate holds of a and b, which the signed ones read in two's complement
+-- "icmp": the predicate holds of a and b; signed predicates read them in two's complement
 unfoldable pub holds : Pred → ℕ → ℕ → ℕ → Bool
 holds Eq N a b = a == b
 holds Ne N a b = not (a == b)
@@ -24,7 +24,7 @@ holds Sle N a b = int_le (signed N a) (signed N b)
 abbrev pub signs_differ : ℕ → ℕ → ℕ → Bool
 signs_differ N a b = xor (negative N a) (negative N b)
 
--- it gives 1 or 0 of i1, and poison where an operand is poison; with samesign also where the sign bits differ
+-- the result of icmp: 1 or 0 of i1; poison where an operand is poison, and with samesign where the sign bits differ
 unfoldable pub comparison : Pred → Bool → ℕ → Value → Value → Value
 comparison pred samesign N (Bits a) (Bits b) =
     if samesign && signs_differ N a.number b.number

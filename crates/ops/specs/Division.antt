@@ -28,7 +28,7 @@ remainder y z = y -ℤ quotient y z *ℤ z
 abbrev pub has_no_quotient : ℕ → ℕ → ℕ → Bool
 has_no_quotient N a b = b == 0 || (b == minus_one N && a == least N)
 
--- v, but poison with exact where a remainder is left
+-- v, but poison where the flag exact is set and the division leaves a remainder
 abbrev pub exactly : Flags → Bool → Value → Value
 exactly flags divided v = if flags.exact && not divided then Poison else v
 
@@ -53,13 +53,14 @@ urem N a b = if b == 0 then Undefined else Gives (bits N (a % b))
 unfoldable pub srem : ℕ → ℕ → ℕ → Effect
 srem N a b = if has_no_quotient N a b then Undefined else Gives (bits N (residue N (remainder (signed N a) (signed N b))))
 
--- an unsigned division where an operand is poison, and b is the divisor: undefined behaviour by poison and by 0
+-- the effect of `udiv` or `urem` by b where an operand is poison: undefined behaviour where b is poison or 0
 abbrev pub unsigned_poison : Value → Effect
 unsigned_poison Poison = Undefined
 unsigned_poison (Bits b) = if b.number == 0 then Undefined else Gives Poison
 
--- A signed one: undefined behaviour by poison, by 0 and by -1. (By -1 is this project's own: the least number may stand
--- in place of poison, so that otherwise a value in its place could bring undefined behaviour.)
+-- the effect of `sdiv` or `srem`: undefined behaviour where b is poison, 0 or -1. (That it is so for -1 is this
+-- project's own choice: the least number may stand in place of poison, so that otherwise a value in its place could
+-- bring undefined behaviour.)
 abbrev pub signed_poison : ℕ → Value → Effect
 signed_poison N Poison = Undefined
 signed_poison N (Bits b) = if b.number == 0 || b.number == minus_one N then Undefined else Gives Poison

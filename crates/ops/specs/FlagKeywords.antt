@@ -17,7 +17,7 @@ flag_keyword SameSign = codes "samesign"
 abbrev pub every_flag : List Flag
 every_flag = Nuw ∷ Nsw ∷ Exact ∷ NNeg ∷ Disjoint ∷ SameSign ∷ []
 
--- the flag stands among flags
+-- flags have this flag
 abbrev pub has_flag : Flags → Flag → Bool
 has_flag flags Nuw = flags.nuw
 has_flag flags Nsw = flags.nsw
@@ -26,7 +26,7 @@ has_flag flags NNeg = flags.nneg
 has_flag flags Disjoint = flags.disjoint
 has_flag flags SameSign = flags.samesign
 
--- the flags, and this one
+-- flags, with this flag added
 abbrev pub with_flag : Flags → Flag → Flags
 with_flag flags Nuw = record flags { nuw = true }
 with_flag flags Nsw = record flags { nsw = true }
@@ -35,11 +35,12 @@ with_flag flags NNeg = record flags { nneg = true }
 with_flag flags Disjoint = record flags { disjoint = true }
 with_flag flags SameSign = record flags { samesign = true }
 
--- the flag that a keyword is, among those that an instruction takes
+-- the flag that a keyword spells, if it is among those that an instruction takes
 unfoldable pub flag_in : Flags → List ℕ → Option Flag
 flag_in taken word = find (λ flag. bytes_eq word (flag_keyword flag) && has_flag taken flag) every_flag
 
--- Flags before and after these: each is one that the instruction takes, and is new.
+-- Reading these flags in order makes the set `before` the set `after`: each is one that the instruction takes, and is
+-- not in the set yet.
 abbrev pub AddsFlags : Flags → Flags → List Flag → Flags → Type 0
 AddsFlags taken before [] after = before ≡ after
 AddsFlags taken before (flag ∷ flags) after =

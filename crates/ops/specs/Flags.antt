@@ -58,7 +58,7 @@ flags_of_icmp = samesign_flag
 abbrev pub icmp_flags : Bool → Flags
 icmp_flags samesign = record no_flags { samesign = samesign }
 
--- the flags that stand in both sets
+-- the flags that both sets have
 abbrev pub common : Flags → Flags → Flags
 common f g = record {
   nuw = f.nuw && g.nuw;
@@ -69,7 +69,7 @@ common f g = record {
   samesign = f.samesign && g.samesign;
 }
 
--- each flag of the first set stands in the second
+-- the second set has each flag of the first
 abbrev pub AreWithin : Flags → Flags → Type 0
 AreWithin f g = common f g ≡ f
 

@@ -35,7 +35,7 @@ on_numbers UMax flags N a b = Gives (bits N (umax a b))
 on_numbers SMin flags N a b = Gives (bits N (smin N a b))
 on_numbers SMax flags N a b = Gives (bits N (smax N a b))
 
--- the instruction's effect where an operand is poison, and b is the one on the right: poison, but for divisions
+-- the instruction's effect where an operand is poison, b being the right one: poison, except for divisions
 unfoldable pub on_poison : Opcode → ℕ → Value → Effect
 on_poison Add N b = Gives Poison
 on_poison Sub N b = Gives Poison

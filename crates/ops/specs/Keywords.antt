@@ -56,6 +56,6 @@ predicate_keyword Sle = codes "sle"
 abbrev pub predicates : List Pred
 predicates = Eq ∷ Ne ∷ Ugt ∷ Uge ∷ Ult ∷ Ule ∷ Sgt ∷ Sge ∷ Slt ∷ Sle ∷ []
 
--- the predicate that a keyword is
+-- the predicate that a keyword spells
 unfoldable pub pred_in : List ℕ → Option Pred
 pred_in word = find (λ pred. bytes_eq word (predicate_keyword pred)) predicates

@@ -24,14 +24,14 @@ AllowsValueIsReflexive = (v : Value) → AllowsValue v v
 abbrev pub AllowsEffectIsReflexive : Type 0
 AllowsEffectIsReflexive = (e : Effect) → AllowsEffect e e
 
--- a value allows what the values that it allows do, and so does an effect
+-- a value allows whatever the values that it allows do, and so does an effect
 abbrev pub AllowsValueIsTransitive : Type 0
 AllowsValueIsTransitive = (u v w : Value) → AllowsValue u v → AllowsValue v w → AllowsValue u w
 
 abbrev pub AllowsEffectIsTransitive : Type 0
 AllowsEffectIsTransitive = (d e f : Effect) → AllowsEffect d e → AllowsEffect e f → AllowsEffect d f
 
--- operands that allow others give an effect, or a value, that allows theirs
+-- operands that allow others give an effect, or a value, that allows what those give
 abbrev pub InstructionIsMonotone : Type 0
 InstructionIsMonotone = (op : Opcode) (flags : Flags) (N : ℕ) (a b a' b' : Value) →
     AllowsValue a a' → AllowsValue b b' → AllowsEffect (instruction op flags N a b) (instruction op flags N a' b')
@@ -70,7 +70,7 @@ UnaryKeepsWidth = (op : Unary) (truth : Bool) (N : ℕ) (a : Value) → IsValueO
 abbrev pub SelectionKeepsWidth : Type 0
 SelectionKeepsWidth = (N : ℕ) (c a b : Value) → IsValueOf N a → IsValueOf N b → IsValueOf N (selection c a b)
 
--- the instruction divides; it divides signed numbers
+-- the instruction is a division; it is one of signed numbers
 abbrev pub IsDivision : Opcode → Type 0
 IsDivision UDiv = Unit {0}
 IsDivision SDiv = Unit {0}
@@ -95,7 +95,7 @@ IsUndefinedDivision op N a b =
     IsDivision op × ((b ≡ Poison) ⊎ IsSigned N b (pos 0))
     ⊎ IsSignedDivision op × IsSigned N b (neg_ℤ (pos 1)) × ((a ≡ Poison) ⊎ IsSigned N a (neg_ℤ (pos (2 ^ (N - 1)))))
 
--- undefined behaviour is the effect of exactly these
+-- the effect is undefined behaviour at exactly these divisions
 abbrev pub UndefinedIsOfDivisions : Type 0
 UndefinedIsOfDivisions = (op : Opcode) (flags : Flags) (N : ℕ) (a b : Value) →
     1 ≤ N → IsValueOf N a → IsValueOf N b → (instruction op flags N a b ≡ Undefined) ↔ IsUndefinedDivision op N a b

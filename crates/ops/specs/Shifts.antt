@@ -12,11 +12,11 @@ use Rattle.ops.specs.Division.{divides, exactly}
 unfoldable pub shl : Flags → ℕ → ℕ → ℕ → Value
 shl flags N a b = if nat_le N b then Poison else arithmetic flags N (pos a *ℤ pos (2 ^ b)) (signed N a *ℤ pos (2 ^ b))
 
--- "lshr": the floor of a by 2^b; poison where b is not below N
+-- "lshr": a / 2^b, rounded down; poison where b is not below N
 unfoldable pub lshr : Flags → ℕ → ℕ → ℕ → Value
 lshr flags N a b = if nat_le N b then Poison else exactly flags (divides (2 ^ b) a) (bits N (a / 2 ^ b))
 
--- "ashr": the floor of the signed number by 2^b; poison where b is not below N
+-- "ashr": the signed number / 2^b, rounded down; poison where b is not below N
 unfoldable pub ashr : Flags → ℕ → ℕ → ℕ → Value
 ashr flags N a b =
     if nat_le N b

@@ -15,7 +15,7 @@ at_number CtPop N a = ctpop N a
 at_number CtLz N a = ctlz N a
 at_number CtTz N a = cttz N a
 
--- the number at which that truth value makes the result poison: "is_int_min_poison" at the least number,
+-- the result at this number is poison where the truth value is true: "is_int_min_poison" at the least number,
 -- "is_zero_poison" at 0
 unfoldable pub poison_where_true : Unary → ℕ → ℕ → Bool
 poison_where_true Abs N a = a == least N
@@ -23,7 +23,7 @@ poison_where_true CtPop N a = false
 poison_where_true CtLz N a = a == 0
 poison_where_true CtTz N a = a == 0
 
--- the intrinsic at a value of iN: poison where that is poison, and where the truth value says so
+-- the intrinsic at a value of iN: poison where the value is, and where a true truth value makes it so
 unfoldable pub unary : Unary → Bool → ℕ → Value → Value
 unary op truth N Poison = Poison
 unary op truth N (Bits a) =

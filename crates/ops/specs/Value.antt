@@ -6,7 +6,7 @@ use Rattle.ops.specs.declared.value.Value.TheVariants.{Poison, Bits}
 use Rattle.ops.specs.declared.value.Effect.{Effect}
 use Rattle.ops.specs.declared.value.Effect.TheVariants.{Undefined, Gives}
 
--- the value can be held by a register of width N: poison has every width
+-- a register of width N can hold the value: poison has every width
 abbrev pub HasWidth : Value → ℕ → Type 0
 HasWidth Poison N = Unit {0}
 HasWidth (Bits a) N = a.width ≡ N
@@ -16,12 +16,13 @@ abbrev pub IsValueOf : ℕ → Value → Type 0
 IsValueOf N Poison = Unit {0}
 IsValueOf N (Bits a) = (a.width ≡ N) × (a.number < 2 ^ N)
 
--- where a program gives v, another may give v' in its place: poison allows every value, and a number only itself
+-- v' refines v: where a program gives v, another may give v' in its place. Poison allows every value, a number only
+-- itself
 abbrev pub AllowsValue : Value → Value → Type 0
 AllowsValue Poison v' = Unit {0}
 AllowsValue (Bits a) v' = v' ≡ Bits a
 
--- undefined behaviour allows everything
+-- the same of effects: undefined behaviour allows every effect
 abbrev pub AllowsEffect : Effect → Effect → Type 0
 AllowsEffect Undefined e' = Unit {0}
 AllowsEffect (Gives v) Undefined = ⊥

@@ -56,7 +56,7 @@ fn reduce(flags: Flags, width: Width, unsigned_result: i128, signed_result: i128
     }
 }
 
-/// The same of a product, which may be too large for `i128`.
+/// The same for `mul` and `shl`, whose unsigned result may be too large for `i128`.
 #[tactic(auto, unfolding(crate::specs::Arithmetic::arithmetic, crate::specs::Integer::fits_unsigned, crate::specs::Integer::residue))]
 pub(crate) fn reduce_product(
     flags: Flags,

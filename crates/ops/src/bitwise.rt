@@ -1,4 +1,4 @@
-//! Bit by bit. (LLVM Language Reference, "Bitwise Binary Operations".)
+//! `and`, `or` and `xor`. (LLVM Language Reference, "Bitwise Binary Operations".)
 
 ghost use Rattle.std.specs.Prelude.{◌≡◌, ◌<◌, ◌^◌, bit_and, bit_xor};
 ghost use Rattle.ops.specs.Bitwise.{or};

@@ -46,7 +46,7 @@ pub fn compare(pred: Pred, samesign: bool, width: Width, a: Value, b: Value) -> 
     Value::Bits(Word::truth(holds))
 }
 
-/// Whether just one of two numbers is negative.
+/// Whether exactly one of two numbers is negative.
 fn signs_differ(width: Width, a: u64, b: u64) -> bool
     ensures { result ≡ signs_differ width a b }
 {
@@ -74,8 +74,8 @@ fn holds(pred: Pred, width: Width, a: u64, b: u64) -> bool
     }
 }
 
-/// What `select` gives: `a` where the condition, of type `i1`, is 1, and `b` where it is 0. What is not chosen has no
-/// effect.
+/// What `select` gives: `a` where the condition, of type `i1`, is 1, and `b` where it is 0. The operand that is not
+/// chosen does not matter, even where it is poison.
 #[tactic(auto, unfolding(crate::specs::Comparison::selection))]
 pub fn choose(condition: Value, a: Value, b: Value) -> Value
     requires { HasWidth condition 1 }

@@ -70,7 +70,7 @@ pub(crate) fn srem(width: Width, a: u64, b: u64) -> Effect
     Effect::Gives(Value::Bits(Word::fitting(width, residue(width, remainder))))
 }
 
-/// An unsigned division where an operand is poison.
+/// The effect of `udiv` or `urem` where an operand is poison.
 pub(crate) fn unsigned_poison(divisor: Value) -> Effect
     ensures { result ≡ unsigned_poison divisor }
 {
@@ -80,8 +80,8 @@ pub(crate) fn unsigned_poison(divisor: Value) -> Effect
     }
 }
 
-/// A signed division where an operand is poison. (By -1 it is undefined behaviour, since the least number may stand in
-/// place of poison.)
+/// The effect of `sdiv` or `srem` where an operand is poison. (Division of poison by -1 is undefined behaviour, since
+/// the least number may stand in place of poison.)
 pub(crate) fn signed_poison(width: Width, divisor: Value) -> Effect
     ensures { result ≡ signed_poison width divisor }
 {
@@ -100,7 +100,7 @@ fn has_no_quotient(width: Width, a: u64, b: u64) -> bool
     b == 0 || b == minus_one(width) && i128::from(a) == width.half_modulus()
 }
 
-/// The number, or poison where it was to be exact and a remainder is left.
+/// The number, or poison where the flag `exact` is set and the division leaves a remainder.
 pub(crate) fn exactly(flags: Flags, divided: bool, number: Word) -> Value
     ensures { result ≡ exactly flags divided (Value.Bits number) }
 {

@@ -1,4 +1,4 @@
-//! What one instruction with two operands of one type does.
+//! The semantics of instructions and intrinsics with two operands of one type.
 
 ghost use Rattle.std.specs.Prelude.{◌≡◌, ◌<◌, ◌^◌};
 ghost use Rattle.ops.specs.Flags.{FlagsFit};
@@ -32,7 +32,7 @@ pub fn evaluate(op: Opcode, flags: Flags, width: Width, a: Value, b: Value) -> E
     on_numbers(op, flags, width, left.number(), right.number())
 }
 
-/// The same where an operand is poison, and `b` is the one on the right.
+/// The effect where an operand is poison; `b` is the one on the right.
 #[tactic(auto, unfolding(crate::specs::Instruction::on_poison))]
 fn on_poison(op: Opcode, width: Width, b: Value) -> Effect
     ensures { result ≡ on_poison op width b }
@@ -56,7 +56,7 @@ fn on_poison(op: Opcode, width: Width, b: Value) -> Effect
     }
 }
 
-/// The same where both operands are numbers.
+/// The effect where both operands are numbers.
 #[tactic(auto, unfolding(crate::specs::Instruction::on_numbers))]
 fn on_numbers(op: Opcode, flags: Flags, width: Width, a: u64, b: u64) -> Effect
     requires left { a < 2 ^ width }

@@ -28,7 +28,7 @@ pub(crate) fn negative(width: Width, number: u64) -> bool
     width.half_modulus() <= i128::from(number)
 }
 
-/// Whether the number is one of `width` bits without a sign.
+/// Whether the number is in the range of unsigned numbers of `width` bits.
 #[tactic(auto, unfolding(crate::specs::Integer::fits_unsigned))]
 pub(crate) fn fits_unsigned(width: Width, number: i128) -> bool
     ensures { result ≡ fits_unsigned width number }
@@ -36,7 +36,7 @@ pub(crate) fn fits_unsigned(width: Width, number: i128) -> bool
     0 <= number && number < width.modulus()
 }
 
-/// Whether the number is one of `width` bits in two's complement.
+/// Whether the number is in the range of signed numbers of `width` bits.
 #[tactic(auto, unfolding(crate::specs::Integer::fits_signed))]
 pub(crate) fn fits_signed(width: Width, number: i128) -> bool
     ensures { result ≡ fits_signed width number }

@@ -1,4 +1,4 @@
-//! The laws of values and instructions, each the contract of a function that does nothing.
+//! The laws of values and instructions. Each is the contract of a function with an empty body.
 ghost use Rattle.ops.specs.Laws.{AllowsValueIsReflexive, AllowsEffectIsReflexive, AllowsValueIsTransitive, AllowsEffectIsTransitive, InstructionIsMonotone, ComparisonIsMonotone, ConversionIsMonotone, UnaryIsMonotone, SelectionIsMonotone, InstructionKeepsWidth, ComparisonIsOneBit, ConversionHasWidth, UnaryKeepsWidth, SelectionKeepsWidth, UndefinedIsOfDivisions};
 
 /// Each value, and each effect, allows itself.
@@ -7,13 +7,13 @@ pub fn allowing_is_reflexive()
     ensures effects { AllowsEffectIsReflexive }
 {}
 
-/// A value allows what the values that it allows do, and so does an effect.
+/// A value allows whatever the values that it allows do, and so does an effect: allowing is transitive.
 pub fn allowing_is_transitive()
     ensures values { AllowsValueIsTransitive }
     ensures effects { AllowsEffectIsTransitive }
 {}
 
-/// Operands that allow others give an effect, or a value, that allows theirs.
+/// Instructions are monotone: operands that allow others give an effect, or a value, that allows what those give.
 pub fn instructions_are_monotone()
     ensures evaluate { InstructionIsMonotone }
     ensures compare { ComparisonIsMonotone }

@@ -1,4 +1,4 @@
-//! The values of LLVM IR over registers, and what one instruction makes of them.
+//! The values that registers of LLVM IR hold, and what single instructions do with them.
 #![tactic(auto)]
 
 mod arithmetic;

@@ -1,4 +1,4 @@
-//! What an intrinsic with one operand gives.
+//! The semantics of intrinsics with one operand.
 
 ghost use Rattle.std.specs.Prelude.{◌≡◌, ◌<◌, ◌^◌};
 ghost use Rattle.ops.specs.Unary as meaning;
@@ -11,8 +11,8 @@ use crate::value::Value;
 use crate::width::Width;
 use crate::word::Word;
 
-/// What an intrinsic, called with a truth value, gives at an operand of type `iN`, where N is `width`. It takes no
-/// memory.
+/// What an intrinsic gives at an operand of type `iN`, where N is `width`. The truth value is its `i1` argument
+/// (`is_int_min_poison`, `is_zero_poison`). It takes no memory.
 #[tactic(auto, unfolding(crate::specs::Unary::unary))]
 pub fn unary(op: Unary, truth: bool, width: Width, a: Value) -> Value
     requires { HasWidth a width }
@@ -29,7 +29,7 @@ pub fn unary(op: Unary, truth: bool, width: Width, a: Value) -> Value
     Value::Bits(Word::fitting(width, number))
 }
 
-/// Whether a true truth value makes the result at a number poison.
+/// Whether the result at this number is poison where the truth value is true.
 #[tactic(auto, unfolding(crate::specs::Unary::poison_where_true))]
 fn poison_where_true(op: Unary, width: Width, a: u64) -> bool
     ensures { result ≡ meaning.poison_where_true op width a }
@@ -41,7 +41,7 @@ fn poison_where_true(op: Unary, width: Width, a: u64) -> bool
     }
 }
 
-/// The result at a number.
+/// The result at a number, where it isn't poison.
 #[tactic(auto, unfolding(crate::specs::Unary::at_number))]
 fn at_number(op: Unary, width: Width, a: u64) -> u64
     requires { a < 2 ^ width }

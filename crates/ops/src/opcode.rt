@@ -1,4 +1,4 @@
-//! Which instructions and intrinsics with operands of one type there are, and what they may promise.
+//! The instructions and intrinsics whose operands have one type, and the flags that instructions may have.
 
 ghost use Rattle.std.specs.Prelude.{◌≡◌, ◌↔◌, IsTrue};
 ghost use Rattle.ops.specs.Flags.{AreWithin, FlagsFit, common, flags_of, icmp_flags};
@@ -82,18 +82,21 @@ impl Opcode {
 /// C/C++ Library Intrinsics", "Bit Manipulation Intrinsics".)
 #[derive(Clone, Copy, PartialEq, Eq, Debug)]
 pub enum Unary {
-    /// The absolute value. With its truth value, the least number gives poison, and else itself.
+    /// The absolute value. Where its truth value `is_int_min_poison` is true, the least number gives poison, and else
+    /// itself.
     Abs,
     /// How many bits are 1. It has no truth value.
     CtPop,
-    /// How many bits are 0 above the highest 1. With its truth value, 0 gives poison, and else the width.
+    /// How many bits are 0 above the highest 1. At 0 that is the width, or poison where its truth value
+    /// `is_zero_poison` is true.
     CtLz,
-    /// How many bits are 0 below the lowest 1. With its truth value, 0 gives poison, and else the width.
+    /// How many bits are 0 below the lowest 1. At 0 that is the width, or poison where its truth value `is_zero_poison`
+    /// is true.
     CtTz,
 }
 
 impl Unary {
-    /// Whether the intrinsic has a truth value beside its operand.
+    /// Whether the intrinsic has a truth value, an argument of type `i1`, beside its operand.
     pub fn has_truth(self) -> bool
         ensures { result ≡ has_truth self }
     {
@@ -103,7 +106,7 @@ impl Unary {
         }
     }
 
-    /// Whether the intrinsic may be called with this truth value; one that has none is called with a false one.
+    /// Whether the intrinsic may have this truth value; for one that takes none, it is false.
     pub fn takes(self, truth: bool) -> bool
         ensures { IsTrue result ↔ TruthFits self truth }
     {
@@ -111,7 +114,7 @@ impl Unary {
     }
 }
 
-/// The promises that an instruction is written with. One that is broken makes the result poison.
+/// The flags that an instruction is written with: promises, of which a broken one makes the result poison.
 #[derive(Clone, Copy, PartialEq, Eq, Debug, Default)]
 pub struct Flags {
     /// No unsigned wrap: the result over unsigned numbers fits the type.
@@ -129,7 +132,7 @@ pub struct Flags {
 }
 
 impl Flags {
-    /// No promise at all.
+    /// No flag.
     pub const NONE: Flags = Flags {
         nuw: false,
         nsw: false,
@@ -139,38 +142,38 @@ impl Flags {
         samesign: false,
     };
 
-    /// The promises that rule out a wrap.
+    /// The flags that rule out a wrap.
     pub const WRAP: Flags = Flags {
         nuw: true,
         nsw: true,
         ..Flags::NONE
     };
 
-    /// The promise that rules out a remainder.
+    /// The flag that rules out a remainder.
     pub const EXACT: Flags = Flags {
         exact: true,
         ..Flags::NONE
     };
 
-    /// The promise that a number is not negative.
+    /// The flag that rules out a negative operand.
     pub const NNEG: Flags = Flags {
         nneg: true,
         ..Flags::NONE
     };
 
-    /// The promise that operands share no bit.
+    /// The flag that rules out a bit that both operands have.
     pub const DISJOINT: Flags = Flags {
         disjoint: true,
         ..Flags::NONE
     };
 
-    /// The promise that operands share their sign.
+    /// The flag that rules out operands of different signs.
     pub const SAMESIGN: Flags = Flags {
         samesign: true,
         ..Flags::NONE
     };
 
-    /// Those of an `icmp` that is written with `samesign`, or without.
+    /// The flags of an `icmp` that is written with `samesign`, or without.
     pub fn of_icmp(samesign: bool) -> Flags
         ensures { result ≡ icmp_flags samesign }
     {
@@ -180,7 +183,7 @@ impl Flags {
         }
     }
 
-    /// Whether each of these flags stands in `others` too.
+    /// Whether `others` has each of these flags.
     pub fn are_within(self, others: Flags) -> bool
         ensures { IsTrue result ↔ AreWithin self others }
     {

@@ -11,7 +11,7 @@ use crate::value::Value;
 use crate::width::Width;
 use crate::word::Word;
 
-/// `shl` of a number by `b` places.
+/// `shl` of a number by `b` bits.
 #[tactic(auto, unfolding(crate::specs::Shifts::shl))]
 pub(crate) fn shl(flags: Flags, width: Width, a: u64, b: u64) -> Value
     requires { a < 2 ^ width }
@@ -26,7 +26,7 @@ pub(crate) fn shl(flags: Flags, width: Width, a: u64, b: u64) -> Value
     reduce_product(flags, width, unsigned_result, signed_result)
 }
 
-/// `lshr` of a number by `b` places.
+/// `lshr` of a number by `b` bits.
 #[tactic(auto, unfolding(crate::specs::Shifts::lshr))]
 pub(crate) fn lshr(flags: Flags, width: Width, a: u64, b: u64) -> Value
     requires { a < 2 ^ width }
@@ -38,7 +38,7 @@ pub(crate) fn lshr(flags: Flags, width: Width, a: u64, b: u64) -> Value
     exactly(flags, a % power(b) == 0, Word::fitting(width, a >> b))
 }
 
-/// `ashr` of a number by `b` places.
+/// `ashr` of a number by `b` bits.
 #[tactic(auto, unfolding(crate::specs::Shifts::ashr))]
 pub(crate) fn ashr(flags: Flags, width: Width, a: u64, b: u64) -> Value
     requires { a < 2 ^ width }

@@ -1,17 +1,17 @@
-//! What registers hold and what instructions do.
+//! The values that registers hold, and the effects of instructions.
 
 use crate::word::Word;
 
 /// What a register of an integer type can hold. (LLVM Language Reference, "Poison Values".)
 #[derive(Clone, Copy, PartialEq, Eq, Debug)]
 pub enum Value {
-    /// The result of an operation that broke a promise, as an addition with `nsw` that overflows.
+    /// The result of an operation that broke the promise of a flag, as of an addition with `nsw` that overflows.
     Poison,
     /// A number.
     Bits(Word),
 }
 
-/// What one instruction does. (LLVM Language Reference, "Undefined Behavior".)
+/// The effect of one instruction. (LLVM Language Reference, "Undefined Behavior".)
 #[derive(Clone, Copy, PartialEq, Eq, Debug)]
 pub enum Effect {
     /// Undefined behaviour: the whole run may do anything.

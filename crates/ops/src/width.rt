@@ -56,7 +56,7 @@ impl Width {
         (1u128 << self.bits) as i128
     }
 
-    /// Half of that: the least number whose highest bit is set.
+    /// Half of the modulus: the least number whose highest bit is set.
     pub fn half_modulus(self) -> i128
         ensures { result ≡ pos (2 ^ (self - 1)) }
     {

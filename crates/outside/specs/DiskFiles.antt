@@ -1,6 +1,6 @@
 -- The files of the system.
 use Rattle.std.specs.Prelude.{ℕ}
 
--- What a caller sees of them. What they hold isn't told.
+-- What contracts know of them: not what they hold.
 pub record DiskFilesState : Type 0 where
   pub faults : ℕ

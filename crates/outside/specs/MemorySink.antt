@@ -8,15 +8,15 @@ pub record MemorySinkState : Type 0 where
   -- how many more bytes there is room for
   pub room : ℕ
   pub failing : List FailingPut
-  -- how many puts there were, each of which has its number from 0; it stands still at 2 ^ 64 - 1
+  -- how many puts there were, which is the number of the next one; the count saturates at 2 ^ 64 - 1
   pub puts : ℕ
   pub faults : ℕ
 
--- the most bytes that the next put takes, where it is one that fails: as the first of its number says
+-- how many bytes the next put takes at most, if it is listed to fail: by the first entry with its number
 abbrev pub listed : MemorySinkState → Option ℕ
 listed sink = option_map (λ put. put.most) (find (λ put. put.number == sink.puts) sink.failing)
 
--- The room left can't hold the piece.
+-- The piece is longer than the room that is left.
 abbrev pub IsTooLong : MemorySinkState → List ℕ → Type 0
 IsTooLong sink piece = sink.room < length piece
 

@@ -6,6 +6,6 @@ use Rattle.outside.specs.declared.stored_file.StoredFile.{StoredFile}
 abbrev pub bytes_of : List StoredFile → List ℕ → Option (List ℕ)
 bytes_of held name = option_map (λ file. file.bytes) (find (λ file. bytes_eq file.name name) held)
 
--- the same, with no bytes under a name that nothing is held under
+-- the same, but a name that nothing is held under has no bytes
 abbrev pub bytes_or_none : List StoredFile → List ℕ → Option (List ℕ)
 bytes_or_none held name = Some (unwrap_or (bytes_of held name) [])

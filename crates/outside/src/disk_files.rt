@@ -13,9 +13,9 @@ use std::{fs, rt};
 /// How many bytes one read of a real file asks for.
 const CHUNK: usize = 4096;
 
-/// The files of the system. What they hold isn't told.
+/// The files of the system. Contracts don't tell what they hold.
 ///
-/// A fault is an error of the system, at opening a file or at reading it. A refusal of memory is none.
+/// A fault is an error of the system when a file is opened or read. A refused allocation is no fault.
 #[derive(Drop)]
 pub struct DiskFiles<R> {
     runtime: R,
@@ -46,8 +46,7 @@ impl<R: rt::Files> DiskFiles<R> {
     }
 }
 
-/// What a reader gives up to its end, or the first `most` bytes of that.
-/// A read that gives nothing is taken as the end.
+/// The bytes that a reader gives up to its end, or the first `most` of them. A read of 0 bytes is taken as the end.
 fn read_up_to<F: Read>(alloc: Global, file: &mut F, most: usize) -> Result<Vec<u8>, ReadError>
     ensures within { IfOk result (λ read. vec_len read ≤ most) }
     // A reader that tells what it has left, as one in memory, gives exactly that.

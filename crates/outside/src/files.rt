@@ -7,9 +7,9 @@ ghost use Rattle.outside.specs.Files.{FilesState, FilesFollow, names_after};
 use crate::errors::ReadError;
 use std::alloc::Global;
 
-/// Where texts come from, by name.
+/// Where texts are read from, by name.
 ///
-/// A file may fail to be read, and that is told by a count of faults that never falls.
+/// A read may fail; each failure raises a count of faults that never falls.
 pub trait Files {
     /// The bytes under each name and the names asked for, where they are told, and the count of faults.
     ghost state: { Self → FilesState };

@@ -1,4 +1,4 @@
-//! A law of counts that rise.
+//! A law of counts of faults.
 
 ghost use Rattle.std.specs.Prelude.{◌≤◌, ℕ};
 ghost use Rattle.outside.specs.Faults.{Rose};

@@ -51,7 +51,7 @@ impl MemoryFiles {
         self.held.push(StoredFile::new(alloc, name, bytes)?)
     }
 
-    /// Lists a read to fail, by its number from 0. A read that is refused memory has no number.
+    /// Makes the read with this number fail; reads are numbered from 0. A read that is refused memory gets no number.
     pub fn fail_at(&mut self, read: u64) -> Result<(), AllocError>
         ensures ok { OnOk result (self.new ≡ record self.old { failing = self.old.failing ++ read ∷ [] }) }
         ensures err { OnErr result (self.new ≡ self.old) }
@@ -73,7 +73,7 @@ impl MemoryFiles {
         self.faults
     }
 
-    /// Whether the read that comes next is one that fails.
+    /// Whether the next read is one that was listed to fail.
     fn is_listed(&self) -> bool
         ensures { IsTrue result ↔ IsListed self.now }
     {
@@ -95,7 +95,7 @@ impl MemoryFiles {
         Ok(Some(first_bytes(alloc, bytes, most)?))
     }
 
-    /// Notes that a name was asked for.
+    /// Records that a name was asked for.
     fn note(&mut self, alloc: Global, name: &str) -> Result<(), AllocError>
         ensures ok { OnOk result (self.new ≡ record self.old { asked = self.old.asked ++ name.now ∷ [] }) }
         ensures err { OnErr result (self.new ≡ self.old) }
@@ -104,7 +104,7 @@ impl MemoryFiles {
         self.asked.push(name)
     }
 
-    /// What a read gives, which is noted unless memory is refused: nothing, where it fails.
+    /// The bytes that a read gives, or `None` where it fails. The name is recorded unless memory is refused.
     fn answer(
         &mut self,
         alloc: Global,

@@ -38,7 +38,7 @@ impl Model for MemorySink {
 
     ghost view = { λ sink. record { written = sink.written.items; room = sink.room; failing = sink.failing; puts = sink.puts; faults = sink.faults } };
 
-    // So that a put never asks for memory.
+    // So that a put never allocates.
     ghost invariant = { λ sink. vec_len sink.written + sink.room ≤ vec_capacity sink.written };
 }
 
@@ -56,7 +56,7 @@ impl MemorySink {
         })
     }
 
-    /// Lists a put to fail. The first that is listed under a number counts.
+    /// Makes a put fail. Where two are listed under one number, the first counts.
     pub fn fail_at(&mut self, put: FailingPut) -> Result<(), AllocError>
         ensures ok { OnOk result (self.new ≡ record self.old { failing = self.old.failing ++ put ∷ [] }) }
         ensures err { OnErr result (self.new ≡ self.old) }
@@ -86,7 +86,7 @@ impl MemorySink {
     }
 }
 
-/// The most bytes that the put of a number takes, where it is listed to fail.
+/// How many bytes the put of this number takes at most, if it is listed to fail.
 fn most_listed(failing: &[FailingPut], number: u64) -> Option<usize>
     ensures { result ≡ option_map (λ put. put.most) (find (λ put. put.number == number) failing.now) }
 {

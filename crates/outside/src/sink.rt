@@ -6,14 +6,14 @@ ghost use Rattle.outside.specs.Sink.{SinkState, SinkFollows, Appends, AppendsPre
 
 use crate::errors::Failed;
 
-/// Where texts go.
+/// Where texts are written to.
 ///
-/// A piece may fail to be written, and that is told by a count of faults that never falls.
+/// A put may fail; each failure raises a count of faults that never falls.
 pub trait Sink {
     /// The bytes written so far and the count of puts, where they are told, and the count of faults.
     ghost state: { Self → SinkState };
 
-    /// Writes a piece: all of it, or at a fault a prefix. It takes no memory.
+    /// Writes a piece: all of it, or where it fails a prefix. It takes no memory.
     fn put(&mut self, piece: &[u8]) -> Result<(), Failed>
         ensures ok { OnOk result (Appends (state self.old) (state self.new) piece.now) }
         ensures prefix { OnErr result (AppendsPrefix (state self.old) (state self.new) piece.now) }

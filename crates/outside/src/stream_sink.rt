@@ -10,9 +10,10 @@ use crate::sink::Sink;
 use std::io::Write;
 use std::marker::Model;
 
-/// A stream, as standard output. As a sink it doesn't tell what was written.
+/// A stream, as standard output, as a sink. Contracts don't tell what was written to it.
 ///
-/// A fault is an error of the stream at writing or flushing, or that it takes nothing of what is left.
+/// A fault is an error of the stream when it is written or flushed, or a write that takes none of the bytes that are
+/// left.
 #[derive(Drop)]
 pub struct StreamSink<W: Write> {
     stream: W,

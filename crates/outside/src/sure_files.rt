@@ -11,7 +11,7 @@ use lists::{List, Text};
 use std::alloc::{AllocError, Global};
 use std::marker::Model;
 
-/// Files in memory whose reads never fail: under a name that nothing is held under are no bytes.
+/// Files in memory whose reads never fail: a name that nothing is held under reads as an empty file.
 #[derive(Drop)]
 pub struct SureFiles {
     held: List<StoredFile>,

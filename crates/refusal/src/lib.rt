@@ -1,5 +1,5 @@
-//! Why what was given is refused: its fault, or want of memory. Readers of texts of every kind, and the checks behind
-//! them, answer with one type, so that `?` passes a refusal on as it is.
+//! The error type that readers of texts and the checks behind them share: the input has a fault, or memory was refused.
+//! Since it is one type, `?` passes it on as it is.
 #![tactic(auto)]
 
 mod fault;

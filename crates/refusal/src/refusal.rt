@@ -1,4 +1,4 @@
-//! What is answered in place of what was to be read or made.
+//! What a reader or a check returns in place of a value.
 
 ghost use Rattle.std.specs.Prelude.{◌≡◌};
 ghost use Rattle.refusal.specs.declared.refusal.Refusal.TheVariants as refusals;
@@ -31,7 +31,7 @@ impl<F, T: Drop> From<AllocFailed<T>> for Refusal<F> {
     }
 }
 
-/// What takes no memory answers with its fault alone.
+/// A check that allocates nothing returns a bare `Fault`; `?` makes it a refusal.
 impl<K> From<Fault<K>> for Refusal<Fault<K>> {
     ghost from_gives = { λ fault refusal. refusal ≡ refusals.Refused fault };
 

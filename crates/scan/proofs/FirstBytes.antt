@@ -1,4 +1,4 @@
--- Which tokens of a module a first byte leaves.
+-- Which kinds of tokens of a module may begin with a byte.
 use Rattle.std.proofs.Common.{◌≡◌, ℕ, zero, suc, ◌+◌, ◌<◌, ◌≤◌, max, Bool, true, false, eqb, not, ◌&&◌, ◌||◌, List, [], ◌∷◌, length, take, drop, get_or, refl, sym, ap, subst, ◌∙◌, ⊎_elim, ◌⊎◌, inl, inr, arith}
 use Rattle.std.specs.List.{list_all, prefix_len, Contains}
 use Rattle.std.proofs.lemmas.List.{length-drop, drop_all, at_drop_more}
@@ -52,7 +52,7 @@ number_is_name bytes rest e =
     negative_is_plain [] h all = absurd (false≢true h)
     negative_is_plain (b ∷ digits) h all = and_both (begins_name b) (list_all is_name_byte (b ∷ digits)) (ap begins_name (eqb-true b 45 (and_left (eqb b 45) (is_run is_digit digits) h))) all
 
--- a name that begins with a byte of names has no others
+-- a name whose first byte may stand in a name has only such bytes
 name_bytes : (bytes : List ℕ) → begins_with is_name_byte bytes ≡ true → is_name bytes ≡ true → list_all is_name_byte bytes ≡ true
 unfolding is_name_byte begins_name is_letter is_digit
 name_bytes bytes first e = ⊎_elim
@@ -104,11 +104,11 @@ quoted_longest text n no_digits no_plains quoted = subst (λ (m : ℕ). IsLonges
 
 -- ---- a text whose first byte is one of names
 
--- no front of the kind is longer
+-- no prefix that is a token of the kind is longer
 abbrev pub NoLonger : TokenKind → List ℕ → ℕ → Type 0
 NoLonger kind text most = (m : ℕ) → m ≤ length text → spells kind (take m text) (drop m text) ≡ true → m ≤ most
 
--- no mark begins so
+-- no mark begins with a byte of which p holds
 no_mark : (p : ℕ → Bool) (text : List ℕ) → list_all (begins_with (λ b. not (p b))) marks ≡ true → begins_with p text ≡ true → IsLongest (spells Mark) text 0
 no_mark p text fails first = record {
   within = omega arith;
@@ -191,7 +191,7 @@ label_quotable text n first h colon =
 pub number_quotable : (text : List ℕ) (n : ℕ) → begins_with is_name_byte text ≡ true → IsLongest (spells Number) text n → list_all is_quotable (take n text) ≡ true
 number_quotable text n first h = plain_quotable text n first (λ some. number_is_name (take n text) (drop n text) (h.found some))
 
--- such bytes have no quotes, and may stand
+-- bytes that may all stand between quotes hold no quotes, so no byte 0 in quotes
 pub quotable_holds_none : (bytes : List ℕ) → list_all is_quotable bytes ≡ true → HoldsZero bytes → ⊥
 quotable_holds_none bytes all holds = short_holds_none [] (omega arith) (subst (λ (inner : List ℕ). Contains (unquoted inner) 0) (nothing bytes (no_quotes bytes all)) holds)
   where
@@ -241,7 +241,7 @@ no_number text fails = record {
     no_run [] fails = refl
     no_run (b ∷ text) fails = rw fails refl
 
--- a text that begins with the byte
+-- a text that begins with the byte c, of which p fails
 no_other : (p : ℕ → Bool) (c : ℕ) (text : List ℕ) → p c ≡ false → begins_with (λ b. eqb b c) text ≡ true → begins_with p text ≡ false
 no_other p c [] fails e = refl
 no_other p c (b ∷ text) fails e = ap p (eqb-true b c e) ∙ fails
@@ -288,7 +288,7 @@ none_longer passes text most h = record { length_of = 0; longest = h; fits = ome
 pub itself : (passes : List ℕ → List ℕ → Bool) (text : List ℕ) (n : ℕ) → IsLongest passes text n → AtMost passes text n
 itself passes text n h = record { length_of = n; longest = h; fits = omega arith }
 
--- what may be longer than a token: of each kind that begins with a mark
+-- for each kind of token that begins with a mark, none is longer than `most`
 record MarkedAtMost (text : List ℕ) (most : ℕ) : Type 0 where
   register : AtMost (spells Register) text most
   function : AtMost (spells Function) text most
@@ -309,7 +309,7 @@ marked_front text t no_name no_quote h marked = longest_front text t h (record {
   mark = marked.mark;
 })
 
--- none is longer, of the kinds that begin with another byte than the text
+-- of the kinds that begin with another byte than the text, no token is longer
 no_register : (text : List ℕ) (most : ℕ) → begins_with (λ b. eqb b 37) text ≡ false → AtMost (spells Register) text most
 unfolding is_register
 no_register text most e = none_longer (spells Register) text most (behind_fails 37 is_name text e)
@@ -371,7 +371,7 @@ mark_front text n no_name no_quote no_37 no_64 no_33 no_35 h = marked_front text
   mark = itself (spells Mark) text n h;
 })
 
--- ---- quotes stand only where one of the first two bytes is one
+-- ---- quotes of a token stand only where one of the first two bytes is a quote
 
 digits_quotable : (bytes : List ℕ) → is_run is_digit bytes ≡ true → list_all is_quotable bytes ≡ true
 digits_quotable bytes i = list_all-along is_digit is_quotable bytes (λ b d. name_quotable b (digit_name b d)) (and_right (begins_with is_digit bytes) (list_all is_digit bytes) i)
@@ -386,7 +386,7 @@ no_quoted_name bytes no_quote e = ⊎_elim
     o)
     (name_cases bytes e)
 
--- a byte that is no quote, and a form behind it
+-- the byte c, which is no quote, and behind it bytes that pass a test
 behind_quotable : (c : ℕ) (test : List ℕ → Bool) (bytes : List ℕ) → is_quotable c ≡ true → begins_with (λ b. eqb b 34) (drop 1 bytes) ≡ false → ((rest : List ℕ) → begins_with (λ b. eqb b 34) rest ≡ false → test rest ≡ true → list_all is_quotable rest ≡ true) → is_behind c test bytes ≡ true → list_all is_quotable bytes ≡ true
 behind_quotable c test [] good no_quote along e = refl
 behind_quotable c test (b ∷ rest) good no_quote along e = and_both (is_quotable b) (list_all is_quotable rest)

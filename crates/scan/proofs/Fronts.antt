@@ -1,4 +1,4 @@
--- The longest front that passes a test.
+-- The longest prefix (front) of a text that passes a test.
 use Rattle.std.proofs.Common.{◌≡◌, ◌≢◌, ℕ, zero, suc, ◌+◌, ◌<◌, ◌≤◌, max, Bool, true, false, eqb, ltb, ◌&&◌, ◌||◌, List, [], ◌∷◌, ◌++◌, length, take, drop, refl, sym, ap, subst, ◌∙◌, ⊎_elim, ◌⊎◌, inl, inr, arith, add-one, eq-eqb, map, get_or}
 use borrow.Author.Tests.{ltb-true, ltb-false}
 use Rattle.std.specs.List.{list_all, prefix_len}
@@ -13,7 +13,7 @@ use Rattle.scan.specs.RuleTokens.{is_among}
 use Rattle.scan.specs.Bytes.{begins_with, is_run, is_run_behind}
 use Rattle.scan.specs.Longest.{IsLongest}
 
--- which way a test goes
+-- a test holds or fails
 pub which : (b : Bool) → (b ≡ true) ⊎ (b ≡ false)
 which true = inl refl
 which false = inr refl
@@ -48,7 +48,7 @@ and_right false b e = absurd (false≢true e)
 pub and_both : (a b : Bool) → a ≡ true → b ≡ true → (a && b) ≡ true
 and_both a b p q = rw (p, q) refl
 
--- a front of a byte or more begins as its text does
+-- a prefix of at least one byte begins as its text does
 pub front_begins : (p : ℕ → Bool) (xs : List ℕ) (n : ℕ) → 0 < n → begins_with p (take n xs) ≡ begins_with p xs
 front_begins p xs zero h = absurd (omega arith)
 front_begins p [] (suc n) h = refl
@@ -61,9 +61,9 @@ run_begins p (x ∷ xs) h = ⊎_elim
     (λ (k : p x ≡ false). absurd (let none : 0 < 0 = rw k at h in omega arith))
     (which (p x))
 
--- ---- fronts of one form
+-- ---- prefixes of one form
 
--- tests that agree on the fronts of a text have one longest front
+-- tests that agree on the prefixes of a text have the same longest prefix
 pub longest_along : (f g : List ℕ → List ℕ → Bool) (text : List ℕ) (n : ℕ) → ((m : ℕ) → f (take m text) (drop m text) ≡ g (take m text) (drop m text)) → IsLongest g text n → IsLongest f text n
 longest_along f g text n same h = record {
   within = h.within;
@@ -71,7 +71,7 @@ longest_along f g text n same h = record {
   longest = λ m k e. h.longest m k (sym (same m) ∙ e);
 }
 
--- no front passes
+-- no prefix passes
 pub longest_none : (f : List ℕ → List ℕ → Bool) (text : List ℕ) → ((m : ℕ) → 0 < m → m ≤ length text → f (take m text) (drop m text) ≡ false) → IsLongest f text 0
 longest_none f text none = record {
   within = omega arith;
@@ -83,7 +83,7 @@ longest_none f text none = record {
     only zero k e = omega arith
     only (suc m) k e = absurd (false≢true (sym (none (suc m) (omega arith) k) ∙ e))
 
--- a front begins so, and goes on so
+-- the first byte passes p, and all bytes pass q
 abbrev pub is_begun : (ℕ → Bool) → (ℕ → Bool) → List ℕ → List ℕ → Bool
 is_begun p q bytes rest = begins_with p bytes && list_all q bytes
 
@@ -104,7 +104,7 @@ run_is_longest p text = record {
   longest = λ m k h. run_longest p text m k (and_right (begins_with p (take m text)) (list_all p (take m text)) h);
 }
 
--- a byte more at the front, where what follows it must be a byte or more
+-- one more byte at the front, where at least one byte has to follow it
 pub behind_none : (f g : List ℕ → List ℕ → Bool) (b : ℕ) (text : List ℕ) → ((rest : List ℕ) → g [] rest ≡ false) → ((bytes rest : List ℕ) → f (b ∷ bytes) rest ≡ g bytes rest) → IsLongest g text 0 → IsLongest f (b ∷ text) 0
 behind_none f g b text nothing same h = longest_none f (b ∷ text) none
   where
@@ -185,7 +185,7 @@ marked_some c p text run n e is some = subst (λ (t : List ℕ). IsLongest (λ b
 pub marked_fits : (c : ℕ) (p : ℕ → Bool) (text run : List ℕ) → text ≡ c ∷ run → prefix_len p run < length text
 marked_fits c p text run e = let le : prefix_len p run ≤ length run = prefix_len-le-length p run in rw e (omega arith)
 
--- ---- a form that counts in some places alone
+-- ---- a form that counts only in some places
 
 or_false : (a : Bool) → (a || false) ≡ a
 or_false true = refl
@@ -204,11 +204,11 @@ longest_with f g here text n k e a b = longest_along (λ bytes rest. f bytes res
 among_push : (words : List (List ℕ)) (word bytes : List ℕ) → is_among (words ++ word ∷ []) bytes ≡ (is_among words bytes || bytes_eq bytes word)
 among_push words word bytes = list_any-append (bytes_eq bytes) words (word ∷ []) ∙ ap (λ (b : Bool). is_among words bytes || b) (or_false (bytes_eq bytes word))
 
--- a front that is the word
+-- a prefix that is the word has its length
 front_is : (text word : List ℕ) (m : ℕ) → m ≤ length text → bytes_eq (take m text) word ≡ true → m ≡ length word
 front_is text word m h e = sym (length-take-le m text h) ∙ ap length ((bytes_eq-Decides (take m text) word).0 e)
 
--- the word is one more byte long at least, and the text begins with it
+-- the word is longer than the longest so far, and the text begins with it
 pub among_longer : (words : List (List ℕ)) (text word : List ℕ) (n : ℕ) → n < length word → length word ≤ length text → bytes_eq word (take (length word) text) ≡ true → IsLongest (λ bytes rest. is_among words bytes) text n → IsLongest (λ bytes rest. is_among (words ++ word ∷ []) bytes) text (length word)
 among_longer words text word n more fits e h = record {
   within = fits;
@@ -220,7 +220,7 @@ among_longer words text word n more fits e h = record {
       (or_true (is_among words (take m text)) (bytes_eq (take m text) word) (sym (among_push words word (take m text)) ∙ b));
 }
 
--- the word is no longer, or the text doesn't begin with it
+-- the word is not longer than the longest so far, or the text doesn't begin with it
 pub among_no_longer : (words : List (List ℕ)) (text word : List ℕ) (n : ℕ) → (length word ≤ n) ⊎ (bytes_eq word (take (length word) text) ≡ false) → IsLongest (λ bytes rest. is_among words bytes) text n → IsLongest (λ bytes rest. is_among (words ++ word ∷ []) bytes) text n
 among_no_longer words text word n refused h = record {
   within = h.within;
@@ -245,7 +245,7 @@ words_more f xs i d text n h was = subst (λ (words : List (List ℕ)). IsLonges
 pub words_all : {X : Type 0} (f : X → List ℕ) (xs : List X) (i : ℕ) (text : List ℕ) (n : ℕ) → length xs ≤ i → IsLongest (λ bytes rest. is_among (map f (take i xs)) bytes) text n → IsLongest (λ bytes rest. is_among (map f xs) bytes) text n
 words_all f xs i text n h was = subst (λ (ys : List _). IsLongest (λ bytes rest. is_among (map f ys) bytes) text n) (take_all i xs h) was
 
--- ---- words of one length, before something
+-- ---- words of one length, followed by something
 
 -- the words are of k bytes each
 abbrev pub AreOf : ℕ → List (List ℕ) → Type 0
@@ -275,7 +275,7 @@ before_none words k follows text n of some h differs = longest_none (λ bytes re
         (λ (e : (is_among words (take m text) && follows (drop m text)) ≡ false). e)
         (which (is_among words (take m text) && follows (drop m text)))
 
--- the word is the one, or one of two
+-- the list is of one word, or of two of one length
 pub one_of : (word : List ℕ) → AreOf (length word) (word ∷ [])
 one_of word bytes e = ap length ((bytes_eq-Decides bytes word).0 (sym (or_false (bytes_eq bytes word)) ∙ e))
 

@@ -1,4 +1,4 @@
--- What is skipped before a token is a gap.
+-- What the code skips before a token is a gap.
 use Rattle.std.proofs.Common.{◌≡◌, ◌≢◌, ℕ, ◌+◌, ◌-◌, ◌<◌, ◌≤◌, Bool, true, false, eqb, List, [], ◌∷◌, ◌++◌, length, take, drop, get_or, refl, sym, ap, subst, ◌∙◌, ⊎_elim, ◌⊎◌, inl, inr, append_assoc, add-one, eq-eqb, arith}
 use Rattle.std.proofs.lemmas.Bool.{eqb-true, false≢true}
 use Rattle.std.proofs.lemmas.List.{append-nil, length-append, length-drop, take_at, drop_at, drop-drop}
@@ -13,7 +13,7 @@ use Rattle.scan.proofs.Fronts.{which, or_left}
 not_ten : (b : ℕ) → eqb b 10 ≡ false → b ≢ 10
 not_ten b e h = false≢true (sym e ∙ ap (λ c. eqb c 10) h)
 
--- what is skipped where a comment is open or not
+-- what is skipped before the rest, where a comment is open at the start or not
 abbrev SkipsGap : Bool → List ℕ → List ℕ → Type 0
 SkipsGap false text rest = (gap : List ℕ) × IsGap gap × (text ≡ gap ++ rest)
 SkipsGap true text rest = (line : List ℕ) × (gap : List ℕ) × IsInLine line × IsGap gap × (text ≡ (line ++ 10 ∷ gap) ++ rest)
@@ -40,7 +40,7 @@ skips false (b ∷ text) c rest e = ⊎_elim
     (which (is_space b)))
     (which (eqb b 59))
 
--- what is skipped up to the end
+-- what is skipped up to the end of the text
 abbrev SkipsAll : Bool → List ℕ → Type 0
 SkipsAll false text = IsLastGap text
 SkipsAll true text = IsInLine text ⊎ ((line : List ℕ) × (gap : List ℕ) × IsInLine line × IsLastGap gap × (text ≡ line ++ 10 ∷ gap))
@@ -103,7 +103,7 @@ pub last_gap_skipped : (text : List ℕ) → IsLastGap text → behind_gap false
 last_gap_skipped text (inl g) = ap (behind_gap false) (sym (append-nil text)) ∙ gap_skipped g []
 last_gap_skipped text (inr p) = ap (behind_gap false) p.4 ∙ gap_skipped p.2 (59 ∷ p.1) ∙ comment_ends p.1 p.3
 
--- a gap that is skipped goes on no further
+-- behind a gap that was skipped no gap begins
 pub behind_gap-visible : (in_comment : Bool) (text : List ℕ) → begins_with in_gap (behind_gap in_comment text) ≡ false
 behind_gap-visible true [] = refl
 behind_gap-visible false [] = refl
@@ -119,7 +119,7 @@ behind_gap-visible false (b ∷ text) = ⊎_elim
     (which (is_space b)))
     (which (eqb b 59))
 
--- what stands before what is left
+-- what stands before the rest is a gap
 pub record Skipped (ahead rest : List ℕ) : Type 0 where
   pub gap : List ℕ
   pub is_gap : length rest ≢ 0 → IsGap gap
@@ -162,7 +162,7 @@ gap_to text place rest h e = found (subst (Skipped (drop place text)) (sym e) (s
 dropped : (text : List ℕ) (i : ℕ) → i < length text → drop i text ≡ get_or text i 0 ∷ drop (i + 1) text
 dropped text i h = rw add-one (drop-cons text i 0 h)
 
--- the step over the byte at a place, where the step over such a byte before any others is known
+-- one step of the loop, over the byte at place i, by what the step is over that byte alone
 step : (now later : Bool) (text : List ℕ) (i : ℕ) → i < length text → behind_gap now (get_or text i 0 ∷ drop (i + 1) text) ≡ behind_gap later (drop (i + 1) text) → behind_gap later (drop (i + 1) text) ≡ behind_gap now (drop i text)
 step now later text i h e = sym (ap (behind_gap now) (dropped text i h) ∙ e)
 

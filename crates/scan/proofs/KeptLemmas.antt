@@ -1,4 +1,4 @@
--- What closes a bracket, as a loop over the bytes finds it.
+-- The bracket that closes another, as a loop over the bytes finds it.
 use Rattle.std.proofs.Common.{◌≡◌, ℕ, zero, suc, cond, ◌+◌, ◌-◌, ◌<◌, ◌≤◌, Bool, true, false, not, eqb, List, [], ◌∷◌, ◌++◌, Option, Some, None, length, take, drop, refl, sym, ap, subst, ◌∙◌, ⊎_elim, append_assoc, add-one, sub-one, get_or, arith}
 use Rattle.std.specs.List.{list_all}
 use Rattle.std.proofs.lemmas.Bool.{eqb-true, false≢true}
@@ -11,8 +11,8 @@ use Rattle.scan.specs.Laws.{OneGroupAtAPlace}
 use Rattle.scan.proofs.Fronts.{which}
 use Rattle.scan.proofs.PlaceLemmas.{feeds_append, feeds_between, no_feeds}
 
--- what follows the bracket that closes the one before the text, where so many more are open, and a quoted text is or
--- not
+-- what follows the bracket that closes the one before the text, where `depth` more are open, and a quoted text is open
+-- or not
 abbrev pub closing : Bool → ℕ → List ℕ → Option (List ℕ)
 closing in_quotes depth [] = None
 closing in_quotes depth (b ∷ text) =
@@ -26,9 +26,9 @@ closing in_quotes depth (b ∷ text) =
 no_zero : (n : ℕ) → eqb (suc n) 0 ≡ false
 no_zero n = ⊎_elim (λ (e : eqb (suc n) 0 ≡ true). absurd (let is : suc n ≡ 0 = eqb-true (suc n) 0 e in omega arith)) (λ (e : eqb (suc n) 0 ≡ false). e) (which (eqb (suc n) 0))
 
--- ---- what is found closes it
+-- ---- what the loop finds closes the bracket
 
--- balanced bytes, the bracket that closes them, and what is so
+-- balanced bytes, the bracket that closes them, and a rest of which Behind holds
 record Closes (Behind : List ℕ → Type 0) (text : List ℕ) : Type 0 where
   pub content : List ℕ
   pub rest : List ℕ
@@ -36,7 +36,7 @@ record Closes (Behind : List ℕ → Type 0) (text : List ℕ) : Type 0 where
   pub text_is : text ≡ content ++ 41 ∷ rest
   pub behind : Behind rest
 
--- the rest stands behind so many more brackets
+-- the rest stands behind the closing bracket, with `depth` more to be closed before it
 abbrev Deep : List ℕ → ℕ → List ℕ → Type 0
 Deep rest zero text = text ≡ rest
 Deep rest (suc depth) text = Closes (Deep rest depth) text
@@ -60,7 +60,7 @@ closes_group P text h = record {
   behind = h.behind.behind;
 }
 
--- a quoted text that was opened before the text, and what closes the bracket behind it
+-- a quoted text that is open at the start, and behind it what P says
 record ClosesQuoted (P : List ℕ → Type 0) (text : List ℕ) : Type 0 where
   pub inner : List ℕ
   pub rest : List ℕ
@@ -125,7 +125,7 @@ found false depth (b ∷ text) rest e = ⊎_elim
     bracket more zero e = record { content = []; rest = text; balanced = nothing; text_is = refl; behind = cc }
     bracket more (suc depth) e = record { content = []; rest = text; balanced = nothing; text_is = refl; behind = more depth (rw (no_zero depth, sub-one) at e) }
 
--- ---- what closes it is found
+-- ---- what closes the bracket is found by the loop
 
 quoted_skipped : (depth : ℕ) (inner rest : List ℕ) → list_all is_quotable inner ≡ true → closing true depth (inner ++ 34 ∷ rest) ≡ closing false depth rest
 unfolding is_quotable
@@ -193,7 +193,7 @@ group_fits text place content rest h e =
     let total : length text - place ≡ length content + length (41 ∷ rest) = sym (length-drop place text) ∙ ap length e ∙ length-append content (41 ∷ rest) in
     omega arith
 
--- what follows a group
+-- the text behind a group
 behind : (text : List ℕ) (place : ℕ) (span : Span) (h : IsGroup text place span) → drop place text ≡ h.content ++ 41 ∷ drop (span.end - place) (drop place text)
 behind text place span h =
     sym (take-append-drop (span.end - place) (drop place text)) ∙ ap (λ (bytes : List ℕ). bytes ++ drop (span.end - place) (drop place text)) h.bytes
@@ -261,7 +261,7 @@ closed text rest e =
 pub not_closed : (text content rest : List ℕ) → closing false 0 text ≡ None → IsBalanced content → text ≡ content ++ 41 ∷ rest → ⊥
 not_closed text content rest e h is = let some : closing false 0 text ≡ Some rest = ap (closing false 0) is ∙ closes content rest h in cc
 
--- at a line feed, and at a bracket where no more are open
+-- at a line feed, and at a closing bracket where no more are open
 pub closing-feed : (in_quotes : Bool) (depth : ℕ) (text : List ℕ) (i d : ℕ) → i < length text → get_or text i d ≡ 10 → closing in_quotes depth (drop i text) ≡ None
 closing-feed in_quotes depth text i d h e = at_drop_more (closing in_quotes depth) text i d h ∙ ap (λ (b : ℕ). closing in_quotes depth (b ∷ drop (i + 1) text)) e
 

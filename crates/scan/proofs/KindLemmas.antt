@@ -1,4 +1,4 @@
--- Which kind of token the longest front is.
+-- Which kind of token the longest prefix is.
 use Rattle.std.proofs.Common.{◌≡◌, ◌≢◌, ℕ, zero, suc, ◌<◌, ◌≤◌, Bool, true, false, cond, ltb, ◌||◌, not, List, [], ◌∷◌, Option, Some, None, length, take, drop, refl, sym, ap, subst, ◌∙◌, ⊎_elim, arith}
 use Rattle.std.proofs.lemmas.Bool.{ltb-true, ltb-false}
 use Rattle.scan.specs.declared.rule_token.RuleKind.{RuleKind}
@@ -12,7 +12,7 @@ use Rattle.scan.proofs.Fronts.{which}
 abbrev Kinds : Type 0
 Kinds = List ℕ → List ℕ → Option RuleKind
 
--- the fronts of one kind alone
+-- the longest prefix where only one kind is tested for
 pub kind_last : (f : List ℕ → List ℕ → Bool) (kind : RuleKind) (text : List ℕ) (n : ℕ) → IsLongest f text n → IsLongestOf (λ bytes rest. cond (f bytes rest) (Some kind) None) text kind n
 kind_last f kind text n h = record {
   within = h.within;
@@ -23,7 +23,7 @@ kind_last f kind text n h = record {
       (which (f (take m text) (drop m text)));
 }
 
--- the fronts of one kind before those of others
+-- the longest prefix where one kind is tested for before others
 pub kind_first : (f : List ℕ → List ℕ → Bool) (g : Kinds) (kind : RuleKind) (text : List ℕ) (n : ℕ) (second r : RuleKind × ℕ) → IsLongest f text n → IsLongestOf g text second.0 second.1 → r ≡ cond (ltb n second.1) second (kind, n) → IsLongestOf (λ bytes rest. cond (f bytes rest) (Some kind) (g bytes rest)) text r.0 r.1
 kind_first f g kind text n second r a b is = subst (λ (x : RuleKind × ℕ). IsLongestOf (λ bytes rest. cond (f bytes rest) (Some kind) (g bytes rest)) text x.0 x.1) (sym is) (⊎_elim
     (λ (e : ltb n second.1 ≡ true). rw e (record {
@@ -50,7 +50,7 @@ kind_first f g kind text n second r a b is = subst (λ (x : RuleKind × ℕ). Is
         (λ (t : f (take second.1 text) (drop second.1 text) ≡ false). t)
         (which (f (take second.1 text) (drop second.1 text)))
 
--- no byte is no token
+-- the empty prefix is no token
 pub kind_of-empty : (operator : Bool) (rest : List ℕ) → kind_of operator [] rest ≡ None
 unfolding kind_of is_mark is_placed_operator is_unsigned_operator is_remainder is_register is_rule_word is_literal is_negative
 kind_of-empty true rest = refl
@@ -58,7 +58,7 @@ kind_of-empty false rest = refl
 
 -- ---- the kinds of tokens
 
--- neither the end nor another byte
+-- a kind of proper tokens: neither the end nor a byte that begins none
 abbrev pub IsProper : RuleKind → Type 0
 IsProper End = ⊥
 IsProper Other = ⊥

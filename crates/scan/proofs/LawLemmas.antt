@@ -1,4 +1,4 @@
--- One thing stands behind the gap at a place.
+-- There is at most one token, or one fault, behind the gap at a place.
 use Rattle.std.proofs.Common.{◌≡◌, ◌≢◌, ℕ, zero, suc, ◌+◌, ◌-◌, ◌<◌, ◌≤◌, Bool, true, false, cond, eqb, leb, not, ◌&&◌, ◌||◌, List, [], ◌∷◌, ◌++◌, Option, Some, None, Ok, Err, length, take, drop, refl, sym, ap, subst, ◌∙◌, ⊎_elim, ◌⊎◌, inl, inr, arith}
 use Rattle.std.specs.Prelude.{codes}
 use Rattle.std.specs.Str.{bytes_eq}
@@ -20,7 +20,7 @@ use Rattle.scan.proofs.Fronts.{which, and_left, and_right, or_true}
 use Rattle.scan.proofs.GapLemmas.{gap_skipped, last_gap_skipped}
 use Rattle.scan.proofs.PlaceLemmas.{end_or_not}
 
--- ---- a token begins with a byte that may stand and is in no gap
+-- ---- the first byte of a token is valid and in no gap
 
 unfoldable pub is_good : ℕ → Bool
 is_good b = not (is_bad b || in_gap b)
@@ -136,7 +136,7 @@ some_kind (Some k) kind e = λ none. cc
 longest_good : (operator : Bool) (text : List ℕ) (kind : RuleKind) (n : ℕ) → IsLongestToken operator text kind n → begins_with is_good text ≡ true
 longest_good operator text kind n h = good_front is_good text n (token_good operator (take n text) (drop n text) (some_kind (kind_of operator (take n text) (drop n text)) kind h.of_kind))
 
--- a start behind the gap is the one that the text has there
+-- the end of a gap from the place on, behind which no gap begins, is the one that the text determines
 pub starts : (text : List ℕ) (place start : ℕ) → place ≤ start → start ≤ length text → begins_with in_gap (drop start text) ≡ false → (IsGap (between text place start) ⊎ (IsLastGap (between text place start) × (drop start text ≡ []))) → behind_gap false (drop place text) ≡ drop start text
 starts text place start order within whole gap =
     let there : start ≡ place + (start - place) = omega arith in
@@ -158,11 +158,11 @@ starts text place start order within whole gap =
         (which (eqb b 59)))
         (which (is_space b))
 
--- places before which as much is left are one
+-- two places with the same text behind them are the same
 same_place : (text : List ℕ) (a b : ℕ) → a ≤ length text → b ≤ length text → drop a text ≡ drop b text → a ≡ b
 same_place text a b h k e = omega (arith, ap length e, length-drop a text, length-drop b text)
 
--- a text has what stands behind its gap from one place on
+-- start is the place behind the gap from the place on
 pub record Stood (text : List ℕ) (place start : ℕ) : Type 0 where
   pub within : start ≤ length text
   pub behind : behind_gap false (drop place text) ≡ drop start text
@@ -260,7 +260,7 @@ one_kind : (o : Option RuleKind) (a b : RuleKind) → o ≡ Some a → o ≡ Som
 one_kind None a b e f = absurd cc
 one_kind (Some k) a b e f = cc
 
--- a text begins with one thing
+-- there is only one thing that a text begins with
 begins_one : (operator : Bool) (text : List ℕ) (a b : RuleKind) (n m : ℕ) → Begins operator text a n → Begins operator text b m → (a ≡ b) × (n ≡ m)
 begins_one operator text a b n m h k = ⊎_elim
     (λ (s : IsLongestToken operator text a n). ⊎_elim
@@ -301,7 +301,7 @@ same_token t u k l s e =
     ap (λ (x : RuleKind). token_of x t.line t.span.start t.span.end) k ∙ ap (λ (x : ℕ). token_of u.kind x t.span.start t.span.end) l
     ∙ ap (λ (x : ℕ). token_of u.kind u.line x t.span.end) s ∙ ap (λ (x : ℕ). token_of u.kind u.line u.span.start x) e
 
--- a token and a byte that may not stand don't both
+-- a token and an invalid byte can't both stand there
 not_both : (operator : Bool) (text : List ℕ) (place : ℕ) (t : RuleToken) (line : ℕ) → IsNextRuleToken operator text place t → IsBadNext text place line → ⊥
 not_both operator text place t line h k =
     let start : t.span.start ≡ k.start = one_start text place t.span.start k.start (stood_token operator text place t h) (stood_bad text place line k) in

@@ -1,4 +1,4 @@
--- The longest front of a text that is a token of a module, for each kind.
+-- For each kind of token of a module, the longest prefix of a text that is one.
 use Rattle.std.proofs.Common.{◌≡◌, ◌≢◌, ℕ, zero, suc, ◌+◌, ◌-◌, ◌<◌, ◌≤◌, Bool, true, false, not, eqb, ◌&&◌, List, [], ◌∷◌, length, take, drop, get_or, refl, sym, ap, subst, ◌∙◌, ⊎_elim, ◌⊎◌, add-one, eq-eqb, arith}
 use Rattle.std.specs.List.{list_all, prefix_len}
 use Rattle.std.proofs.lemmas.Bool.{false≢true, eqb-true, cases_lt}
@@ -13,7 +13,7 @@ use Rattle.scan.proofs.Fronts.{which, and_left, and_right, and_both, or_true, lo
 use Rattle.scan.proofs.PlaceLemmas.{begins_some}
 use Rattle.scan.proofs.NameLemmas.{is_name-empty, shorter_name}
 
--- ---- a byte, and a form behind it
+-- ---- a byte, and bytes of a form behind it
 
 pub behind_fails : (c : ℕ) (test : List ℕ → Bool) (text : List ℕ) → begins_with (λ b. eqb b c) text ≡ false → IsLongest (λ bytes _. is_behind c test bytes) text 0
 behind_fails c test text e = longest_none (λ bytes _. is_behind c test bytes) text (none text e)
@@ -31,7 +31,7 @@ behind_short c test text rest n e none nothing h = subst (λ (t : List ℕ). IsL
     (behind_none (λ bytes _. is_behind c test bytes) (λ bytes _. test bytes) c rest (λ _. nothing) (λ bytes _. behind_is c test bytes)
     (subst (λ (m : ℕ). IsLongest (λ bytes _. test bytes) rest m) none h))
 
--- bytes that pass, or none
+-- the byte c, and any number of bytes that pass behind it
 pub behind_any : (c : ℕ) (p : ℕ → Bool) (text rest : List ℕ) (n : ℕ) → text ≡ c ∷ rest → n ≡ prefix_len p rest → IsLongest (λ bytes _. is_behind c (list_all p) bytes) text (n + 1)
 behind_any c p text rest n e run = subst (λ (t : List ℕ). IsLongest (λ bytes _. is_behind c (list_all p) bytes) t (n + 1)) (sym e) (rw add-one (record {
   within = let le : prefix_len p rest ≤ length rest = prefix_len-le-length p rest in omega arith;

@@ -1,4 +1,4 @@
--- No bytes are tokens of two kinds, and a token begins with a byte that may stand and is in no gap.
+-- No bytes are tokens of two kinds, and the first byte of a token is valid and in no gap.
 use Rattle.std.proofs.Common.{◌≡◌, ℕ, suc, ◌-◌, ◌≤◌, Bool, true, false, cond, eqb, leb, not, ◌&&◌, ◌||◌, List, [], ◌∷◌, ◌++◌, length, take, get_or, refl, sym, ap, ◌∙◌, ⊎_elim, ◌⊎◌, arith}
 use Rattle.std.specs.Str.{bytes_eq}
 use Rattle.std.specs.List.{list_all, AllByRecursion}
@@ -208,7 +208,7 @@ kind_is Mark bytes rest e = words_are Mark marks bytes (refl, (refl, (refl, (ref
 pub one_kind : (a b : TokenKind) (bytes rest : List ℕ) → spells a bytes rest ≡ true → spells b bytes rest ≡ true → a ≡ b
 one_kind a b bytes rest h k = sym (kind_is a bytes rest h) ∙ kind_is b bytes rest k
 
--- ---- a token begins with a byte that may stand and is in no gap
+-- ---- the first byte of a token is valid and in no gap
 
 pub name_byte_good : (b : ℕ) → begins_name b ≡ true → is_good b ≡ true
 unfolding begins_name is_good is_bad is_printable is_space is_blank

@@ -1,4 +1,4 @@
--- One token stands behind the gap at a place of a module.
+-- There is at most one token, or one fault, behind the gap at a place of a module.
 use Rattle.std.proofs.Common.{◌≡◌, ℕ, ◌-◌, ◌<◌, ◌≤◌, true, false, List, [], Ok, Err, length, take, drop, refl, sym, ap, subst, ◌∙◌, ⊎_elim, ◌⊎◌, inl, inr, arith}
 use Rattle.std.proofs.lemmas.Bool.{false≢true}
 use Rattle.std.proofs.lemmas.List.{length-drop}
@@ -16,7 +16,7 @@ use Rattle.scan.proofs.ModuleTokens.{begins_token}
 use Rattle.scan.proofs.ModulePlaces.{seen, longest_some, bad_some}
 use Rattle.scan.proofs.LawLemmas.{is_good, good_front, good_is, bad_no_gap, bad_on, Stood, starts, one_start}
 
--- ---- what stands there begins with a byte that may stand and is in no gap
+-- ---- the first byte of what stands there is valid and in no gap
 
 longest_good : (text : List ℕ) (kind : TokenKind) (n : ℕ) → IsLongestToken text kind n → begins_with is_good text ≡ true
 longest_good text kind n h = good_front is_good text n (token_good kind (take n text) (drop n text) h.of_kind)
@@ -112,7 +112,7 @@ same_token t u k l s e =
     ap (λ (x : TokenKind). token_of x t.line t.span.start t.span.end) k ∙ ap (λ (x : ℕ). token_of u.kind x t.span.start t.span.end) l
     ∙ ap (λ (x : ℕ). token_of u.kind u.line x t.span.end) s ∙ ap (λ (x : ℕ). token_of u.kind u.line u.span.start x) e
 
--- what begins badly begins with no token without a byte 0
+-- a text can't begin badly and also with a token that holds no byte 0 in quotes
 begins_not_both : (text : List ℕ) (kind : TokenKind) (n : ℕ) → Begins text kind n → (HoldsZero (take n text) → ⊥) → BeginsBadly text → ⊥
 begins_not_both text kind n h no_zero (inl bad) = ⊎_elim
     (λ (g : begins_with is_good text ≡ true). false≢true (sym (good_is text g).1 ∙ bad))

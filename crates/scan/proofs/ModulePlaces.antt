@@ -30,7 +30,7 @@ seen text Metadata n h = inl h
 seen text Quoted n h = inl h
 seen text Mark n h = inl h
 
--- a token is not the end, and has a byte
+-- a token is not the end of the text, and has at least one byte
 pub no_end : (text : List ℕ) (kind : TokenKind) (n : ℕ) → IsLongestToken text kind n → kind ≢ End
 no_end text kind n h e = false≢true (ap (λ (k : TokenKind). spells k (take n text) (drop n text)) (sym e) ∙ h.of_kind)
 
@@ -64,7 +64,7 @@ gap_before Mark gap g l = g (λ e. cc)
 
 -- ---- at a place
 
--- what stands there is within the text, and is its end or not
+-- what stands there is within the text, and is the end of the text or not
 pub ends_or_not : (text : List ℕ) (start : ℕ) (kind : TokenKind) (n : ℕ) → start ≤ length text → Begins (drop start text) kind n → (start + n ≤ length text) × (((kind ≢ End) × (start < length text)) ⊎ ((kind ≡ End) × (start ≡ length text)))
 ends_or_not text start kind n l h =
     let e = end_or_not (drop start text) kind n h in (
@@ -75,7 +75,7 @@ ends_or_not text start kind n l h =
           e.1,
     )
 
--- what begins badly has a byte
+-- a text that begins badly has at least one byte
 pub bad_some : (text : List ℕ) → BeginsBadly text → 0 < length text
 bad_some text (inl e) = begins_some is_bad text e
 bad_some text (inr t) = omega (arith, t.2.within, longest_some text t.0 t.1 t.2)

@@ -1,4 +1,4 @@
--- What a module begins with, where it begins with no gap.
+-- What a module's text that does not begin with a gap begins with.
 use Rattle.std.proofs.Common.{◌≡◌, ◌≢◌, ℕ, zero, suc, ◌<◌, ◌≤◌, Bool, true, false, eqb, not, ◌||◌, List, [], ◌∷◌, length, take, drop, refl, sym, subst, ⊎_elim, ◌⊎◌, inl, inr, arith}
 use Rattle.std.specs.List.{Contains}
 use Rattle.std.proofs.lemmas.Bool.{false≢true}
@@ -14,7 +14,7 @@ use Rattle.scan.proofs.Fronts.{which}
 
 -- ---- the longest of all kinds
 
--- the first bytes are of the kind, if there are any
+-- the prefix of this length is a token of the kind, unless the length is 0
 pub record IsFound (text : List ℕ) (t : TokenKind × ℕ) : Type 0 where
   pub within : t.1 ≤ length text
   pub found : 0 < t.1 → spells t.0 (take t.1 text) (drop t.1 text) ≡ true
@@ -26,7 +26,7 @@ pub found_longer : (text : List ℕ) (a b t : TokenKind × ℕ) → (t ≡ a) �
 found_longer text a b t (inl e) h k = subst (IsFound text) (sym e) h
 found_longer text a b t (inr e) h k = subst (IsFound text) (sym e) k
 
--- no front that passes is longer
+-- no prefix that passes is longer
 pub record AtMost (passes : List ℕ → List ℕ → Bool) (text : List ℕ) (most : ℕ) : Type 0 where
   pub length_of : ℕ
   pub longest : IsLongest passes text length_of
@@ -64,7 +64,7 @@ longest_front text t h all = record { within = h.within; found = h.found; longes
 
 -- ---- what a text begins with
 
--- no byte is no token
+-- the empty prefix is no token
 pub spells-empty : (kind : TokenKind) (rest : List ℕ) → spells kind [] rest ≡ false
 unfolding is_label is_name is_plain_name is_word is_number is_negative is_register is_function is_group is_metadata is_quoted
 spells-empty End rest = refl

@@ -13,7 +13,7 @@ use Rattle.scan.proofs.Fronts.{which, and_left, and_right, and_both, or_true, lo
 
 -- ---- quoted texts
 
--- a run of bytes that pass ends at one that doesn't
+-- a prefix of bytes that pass ends at the first byte that doesn't
 prefix_end : (p : ℕ → Bool) (front : List ℕ) (b : ℕ) (rest : List ℕ) → list_all p front ≡ true → p b ≡ false → prefix_len p (front ++ b ∷ rest) ≡ length front
 prefix_end p [] b rest all fails = rw fails refl
 prefix_end p (c ∷ front) b rest all fails = rw (and_left (p c) (list_all p front) all) (let more : prefix_len p (front ++ b ∷ rest) ≡ length front = prefix_end p front b rest (and_right (p c) (list_all p front) all) fails in omega arith)
@@ -38,7 +38,7 @@ quoted_from inner all =
     ((bytes_eq-Decides (34 ∷ (inner ++ 34 ∷ [])) (34 ∷ (in_quotes (34 ∷ (inner ++ 34 ∷ [])) ++ 34 ∷ []))).1 (ap (λ (bytes : List ℕ). 34 ∷ (bytes ++ 34 ∷ [])) (sym same)))
     (ap (list_all is_quotable) same ∙ all)
 
--- what a quoted text is
+-- the form of a quoted text
 pub quoted_is : (text : List ℕ) → is_quoted text ≡ true → (text ≡ 34 ∷ (in_quotes text ++ 34 ∷ [])) × (list_all is_quotable (in_quotes text) ≡ true)
 unfolding is_quoted
 quoted_is text e = (
@@ -46,7 +46,7 @@ quoted_is text e = (
   and_right (bytes_eq text (34 ∷ (in_quotes text ++ 34 ∷ []))) _ e,
 )
 
--- a front that is a quoted text ends at the first quote behind the one that opens it
+-- a prefix that is a quoted text ends at the first quote behind the one that opens it
 record Closed (rest : List ℕ) (m : ℕ) : Type 0 where
   pub length_is : m ≡ prefix_len is_quotable rest + 2
   pub closed : begins_with (λ b. eqb b 34) (drop (prefix_len is_quotable rest) rest) ≡ true
@@ -129,7 +129,7 @@ pub is_name-empty : is_name [] ≡ false
 unfolding is_name is_plain_name is_quoted
 is_name-empty = refl
 
--- what a name is
+-- the three forms of a name
 pub name_cases : (bytes : List ℕ) → is_name bytes ≡ true → ((begins_with begins_name bytes && list_all is_name_byte bytes) ≡ true) ⊎ ((is_run is_digit bytes ≡ true) ⊎ (is_quoted bytes ≡ true))
 unfolding is_name is_plain_name
 name_cases bytes e = ⊎_elim
@@ -142,7 +142,7 @@ name_cases bytes e = ⊎_elim
 
 -- ---- the byte behind a shorter name
 
--- a byte of a front that passes
+-- each byte of a prefix that passes does so
 pub inside : (p : ℕ → Bool) (text : List ℕ) (n m : ℕ) → n ≤ length text → m < n → list_all p (take n text) ≡ true → begins_with p (drop m text) ≡ true
 inside p text zero m h k all = absurd (omega arith)
 inside p [] (suc n) m h k all = absurd (omega arith)
@@ -157,7 +157,7 @@ begins_other p c (b ∷ text) fails e = ⊎_elim
     (λ (h : eqb b c ≡ false). h)
     (which (eqb b c))
 
--- a quoted text has no shorter name at its front
+-- no proper prefix of a quoted text is a name
 no_shorter : (text : List ℕ) (n m : ℕ) → n ≤ length text → m < n → is_quoted (take n text) ≡ true → is_name (take m text) ≡ true → ⊥
 unfolding begins_name is_letter is_digit
 no_shorter text n zero h k q e = false≢true (sym is_name-empty ∙ e)

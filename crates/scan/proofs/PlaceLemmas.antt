@@ -32,7 +32,7 @@ pub begins_some : (p : ℕ → Bool) (text : List ℕ) → begins_with p text �
 begins_some p [] e = absurd cc
 begins_some p (b ∷ text) e = omega arith
 
--- a token has a byte
+-- a token has at least one byte
 longest_some : (operator : Bool) (text : List ℕ) (kind : RuleKind) (n : ℕ) → IsLongestToken operator text kind n → 0 < length text
 longest_some operator [] kind n h = absurd (none n (subst (λ (m : ℕ). m ≤ 0) refl h.within) h.of_kind)
   where
@@ -41,7 +41,7 @@ longest_some operator [] kind n h = absurd (none n (subst (λ (m : ℕ). m ≤ 0
     none (suc n) l e = absurd (omega arith)
 longest_some operator (b ∷ text) kind n h = omega arith
 
--- the end or not
+-- what a text begins with is its end or not
 pub end_or_not : (operator : Bool) (text : List ℕ) (kind : RuleKind) (n : ℕ) → Begins operator text kind n → ((kind ≢ End) × (0 < length text)) ⊎ ((kind ≡ End) × (length text ≡ 0))
 end_or_not operator text End n h = inr (refl, ap length h.0)
 end_or_not operator text Other n h = inl (λ e. cc, begins_some _ text h.0.visible)
@@ -74,7 +74,7 @@ gap_before Mark gap g l = g (λ e. cc)
 
 -- ---- at a place
 
--- a gap goes from one place to another, and at the end of the text it is the last one
+-- the text between the two places is a gap, and one that may end the text where the second is its end
 pub record Behind (text : List ℕ) (place start : ℕ) : Type 0 where
   pub order : (place ≤ start) × (start ≤ length text)
   pub gap : start < length text → IsGap (between text place start)
@@ -114,14 +114,14 @@ next_token operator front text place start n line kind b e h l = record {
     count : n ≡ start + n - start
     count = omega arith
 
--- whether it is in an operator's place
+-- whether the token is in an operator's place
 pub in_place : (operator front : Bool) (gap : List ℕ) (passed : ℕ) → operator ≡ true → passed ≡ feeds gap → front ≡ eqb passed 0 → front ≡ in_operator_place operator gap
 in_place operator front gap passed o p f = rw o (f ∙ ap (λ (n : ℕ). eqb n 0) p)
 
 pub in_no_place : (operator front : Bool) (gap : List ℕ) → operator ≡ false → front ≡ operator → front ≡ in_operator_place operator gap
 in_no_place operator front gap o f = rw o (f ∙ o)
 
--- ---- a part of a line, as far as bytes pass a test that a line feed doesn't pass
+-- ---- a part of a line: bytes that pass a test which a line feed doesn't pass
 
 pub no_feeds : (p : ℕ → Bool) (xs : List ℕ) → p 10 ≡ false → list_all p xs ≡ true → feeds xs ≡ 0
 no_feeds p [] fails e = refl

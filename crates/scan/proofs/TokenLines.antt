@@ -1,4 +1,4 @@
--- A token of a module stands on one line.
+-- A token of a module has no line feed.
 use Rattle.std.proofs.Common.{◌≡◌, ℕ, suc, ◌+◌, ◌-◌, Bool, true, false, eqb, not, ◌&&◌, ◌||◌, List, [], ◌∷◌, length, take, drop, get_or, refl, sym, ap, ◌∙◌, ⊎_elim, ◌⊎◌, arith}
 use Rattle.std.specs.Str.{bytes_eq}
 use Rattle.std.specs.List.{list_all}
@@ -30,7 +30,7 @@ no_feeds (b ∷ bytes) e = ⊎_elim
     (λ (h : eqb b 10 ≡ false). rw h (no_feeds bytes (rw h at e)))
     (which (eqb b 10))
 
--- bytes that pass, where a line feed doesn't
+-- bytes that pass a test which a line feed doesn't pass
 passing : (p : ℕ → Bool) (bytes : List ℕ) → p 10 ≡ false → list_all p bytes ≡ true → on_line bytes ≡ true
 passing p bytes fails all = list_all-along p (λ b. not (eqb b 10)) bytes (λ b e. ap not (other_than p b 10 fails e)) all
 
@@ -49,7 +49,7 @@ name_on_line bytes e = ⊎_elim
     o)
     (name_cases bytes e)
 
--- the bytes before the last, and the last
+-- a line without its last byte, and a `:` as the last byte
 last_on_line : (bytes : List ℕ) → on_line (take (length bytes - 1) bytes) ≡ true → eqb (get_or bytes (length bytes - 1) 0) 58 ≡ true → on_line bytes ≡ true
 last_on_line [] all e = refl
 last_on_line (b ∷ []) all e = ap (λ (c : ℕ). not (eqb c 10) && true) (eqb-true b 58 e)
@@ -62,7 +62,7 @@ last_on_line (b ∷ c ∷ rest) all e =
     (ap (λ (n : ℕ). on_line (take n (c ∷ rest))) less ∙ and_right (not (eqb b 10)) (on_line (take (length rest) (c ∷ rest))) front)
     (ap (λ (n : ℕ). eqb (get_or (c ∷ rest) n 0) 58) less ∙ sym (ap (λ (n : ℕ). eqb (get_or (b ∷ c ∷ rest) n 0) 58) long) ∙ e))
 
--- a byte that is no line feed, and a form behind it
+-- a byte that is no line feed, and bytes of a form without line feeds behind it
 behind_on_line : (c : ℕ) (test : List ℕ → Bool) (bytes : List ℕ) → eqb c 10 ≡ false → ((rest : List ℕ) → test rest ≡ true → on_line rest ≡ true) → is_behind c test bytes ≡ true → on_line bytes ≡ true
 behind_on_line c test [] differs along e = absurd (false≢true e)
 behind_on_line c test (b ∷ rest) differs along e = and_both (not (eqb b 10)) (on_line rest)

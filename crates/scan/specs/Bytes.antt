@@ -14,7 +14,7 @@ is_space b = is_blank b || (b == 10)
 unfoldable pub is_printable : ℕ → Bool
 is_printable b = nat_le 32 b && nat_le b 126
 
--- no printable ASCII, no blank and no line feed: outside comments it may not stand
+-- neither printable ASCII, nor a blank, nor a line feed: invalid outside comments
 unfoldable pub is_bad : ℕ → Bool
 is_bad b = not (is_printable b || is_space b)
 
@@ -26,11 +26,11 @@ is_digit b = nat_le 48 b && nat_le b 57
 unfoldable pub is_letter : ℕ → Bool
 is_letter b = (nat_le 65 b && nat_le b 90) || (nat_le 97 b && nat_le b 122)
 
--- a plain name may begin so: a letter, `-`, `$`, `.` or `_`
+-- a plain name may begin with it: a letter, `-`, `$`, `.` or `_`
 unfoldable pub begins_name : ℕ → Bool
 begins_name b = is_letter b || (b == 45) || (b == 36) || (b == 46) || (b == 95)
 
--- a word of a module may begin so: as a plain name, but for `-`
+-- a word of a module may begin with it: a plain name may, and it is no `-`
 unfoldable pub begins_word : ℕ → Bool
 begins_word b = begins_name b && not (b == 45)
 
@@ -59,7 +59,7 @@ is_run p text = begins_with p text && list_all p text
 abbrev pub are_digits : List ℕ → Bool
 are_digits text = is_run is_digit text
 
--- the byte c, and a run behind it
+-- the byte c, and a run of such bytes behind it
 abbrev pub is_run_behind : ℕ → (ℕ → Bool) → List ℕ → Bool
 is_run_behind c p [] = false
 is_run_behind c p (b ∷ text) = (b == c) && is_run p text

@@ -1,9 +1,9 @@
--- What stands between tokens, in modules and in rule files alike.
+-- The gaps between tokens, in modules and in rule files alike.
 use Rattle.std.specs.Prelude.{◌≡◌, ◌≢◌, ℕ, true, ◌⊎◌, List, [], ◌∷◌, ◌++◌}
 use Rattle.std.specs.List.{AllByRecursion}
 use Rattle.scan.specs.Bytes.{is_space}
 
--- no byte of the text ends a line
+-- the text has no line feed
 abbrev pub IsInLine : List ℕ → Type 0
 IsInLine text = AllByRecursion (λ b. b ≢ 10) text
 

@@ -21,12 +21,12 @@ is_plain_name text = begins_with begins_name text && list_all is_name_byte text
 unfoldable pub is_name : List ℕ → Bool
 is_name text = is_plain_name text || are_digits text || is_quoted text
 
--- the byte c, and such bytes behind it
+-- the byte c, and behind it bytes that pass the test
 abbrev pub is_behind : ℕ → (List ℕ → Bool) → List ℕ → Bool
 is_behind c test [] = false
 is_behind c test (b ∷ text) = (b == c) && test text
 
--- the byte c, and such bytes before it
+-- bytes that pass the test, and the byte c behind them
 abbrev pub is_before : ℕ → (List ℕ → Bool) → List ℕ → Bool
 is_before c test text = test (take (length text - 1) text) && (slice_index text (length text - 1) == c)
 
@@ -40,7 +40,7 @@ is_label text = is_before 58 is_name text
 unfoldable pub is_word : List ℕ → Bool
 is_word text = begins_with begins_word text && list_all is_name_byte text
 
--- a number: digits, maybe a `-` before them, and no byte of names behind them
+-- a number: digits, maybe a `-` before them, where no byte of names follows
 unfoldable pub is_number : List ℕ → List ℕ → Bool
 is_number text rest = (are_digits text || is_negative text) && not (begins_with is_name_byte rest)
 
@@ -56,16 +56,16 @@ is_function text = is_behind 64 is_name text
 unfoldable pub is_group : List ℕ → Bool
 is_group text = is_run_behind 35 is_digit text
 
--- metadata: `!`, and bytes of names or none
+-- metadata: `!`, and any number of bytes of names
 unfoldable pub is_metadata : List ℕ → Bool
 is_metadata text = is_behind 33 (list_all is_name_byte) text
 
--- the marks; before a digit `#` is none, since a group of attributes is longer
+-- the marks; `#` before a digit is none, since a group of attributes is longer
 abbrev pub marks : List (List ℕ)
 marks =
     codes "=" ∷ codes "," ∷ codes "(" ∷ codes ")" ∷ codes "{" ∷ codes "}" ∷ codes "[" ∷ codes "]" ∷ codes "<" ∷ codes "#" ∷ []
 
--- the bytes are a token of the kind before the rest; no bytes are of two kinds
+-- the bytes, with this rest behind them, are a token of the kind; no bytes are tokens of two kinds
 abbrev pub spells : TokenKind → List ℕ → List ℕ → Bool
 spells End text rest = false
 spells Other text rest = false
@@ -81,49 +81,49 @@ spells Mark text rest = is_among marks text
 
 -- ---- what a text begins with
 
--- the first n bytes are a token of the kind, and no more first bytes are a token
+-- the first n bytes are a token of the kind, and no longer prefix is a token
 pub record IsLongestToken (text : List ℕ) (kind : TokenKind) (n : ℕ) : Type 0 where
   pub within : n ≤ length text
   pub of_kind : spells kind (take n text) (drop n text) ≡ true
   pub longest : (other : TokenKind) (m : ℕ) → m ≤ length text → spells other (take m text) (drop m text) ≡ true → m ≤ n
 
--- the same, where n is 0 if no first bytes are a token
+-- the same, where n is 0 if no prefix is a token
 pub record IsLongestFront (text : List ℕ) (kind : TokenKind) (n : ℕ) : Type 0 where
   pub within : n ≤ length text
   pub found : 0 < n → spells kind (take n text) (drop n text) ≡ true
   pub longest : (other : TokenKind) (m : ℕ) → m ≤ length text → spells other (take m text) (drop m text) ≡ true → m ≤ n
 
--- a byte that may stand begins no token
+-- the first byte is neither invalid nor in a gap, and no prefix is a token
 pub record BeginsNoToken (text : List ℕ) : Type 0 where
   pub visible : begins_with (λ b. not (is_bad b || in_gap b)) text ≡ true
   pub no_token : (kind : TokenKind) (m : ℕ) → m ≤ length text → spells kind (take m text) (drop m text) ≡ false
 
--- The text begins with this, of n bytes: the longest token, the end, or one byte that begins no token. It begins with
--- no gap.
+-- What the text begins with, of n bytes: the longest token, the end of the text, or one byte that begins no token. A
+-- text that begins with a gap begins with none of these.
 abbrev pub Begins : List ℕ → TokenKind → ℕ → Type 0
 Begins text End n = (text ≡ []) × (n ≡ 0)
 Begins text Other n = BeginsNoToken text × (n ≡ 1)
 Begins text kind n = IsLongestToken text kind n
 
--- a quoted text among the bytes stands for a byte 0
+-- one of the bytes that the first quoted text among these bytes stands for is 0
 abbrev pub HoldsZero : List ℕ → Type 0
 HoldsZero text = Contains (unquoted (in_quotes text)) 0
 
--- the text begins with a byte that may not stand, or with a token that has a byte 0 in quotes
+-- the text begins with an invalid byte, or with a token that has a byte 0 in quotes
 abbrev pub BeginsBadly : List ℕ → Type 0
 BeginsBadly text = (begins_with is_bad text ≡ true) ⊎ ((kind : TokenKind) × (n : ℕ) × IsLongestToken text kind n × HoldsZero (take n text))
 
--- what may stand before it
+-- the gap may stand before a token of the kind
 abbrev pub IsGapBefore : TokenKind → List ℕ → Type 0
 IsGapBefore End gap = IsLastGap gap
 IsGapBefore kind gap = IsGap gap
 
--- its line
+-- the line of a token of the kind that begins at `start`
 abbrev pub line_at : TokenKind → List ℕ → ℕ → ℕ
 line_at End text start = last_line text
 line_at kind text start = line_of text start
 
--- t is the next token of the text behind a gap at the place
+-- t is the next token of the text from the place on, behind a gap
 pub record IsNextToken (text : List ℕ) (place : ℕ) (t : Token) : Type 0 where
   pub order : (place ≤ t.span.start) × (t.span.start ≤ t.span.end) × (t.span.end ≤ length text)
   pub gap : IsGapBefore t.kind (between text place t.span.start)
@@ -131,7 +131,7 @@ pub record IsNextToken (text : List ℕ) (place : ℕ) (t : Token) : Type 0 wher
   pub no_zero : ¬ HoldsZero (between text t.span.start t.span.end)
   pub line : t.line ≡ line_at t.kind text t.span.start
 
--- behind a gap at the place a byte or a token stands that may not, on this line
+-- from the place on stands, behind a gap, an invalid byte or an invalid token, on this line
 pub record IsBadToken (text : List ℕ) (place line : ℕ) : Type 0 where
   pub start : ℕ
   pub order : place ≤ start

@@ -1,4 +1,4 @@
--- What is kept as it is written: the rest of a line, and what brackets hold.
+-- Text that is kept as it is written: the rest of a line, and what brackets hold.
 use Rattle.std.specs.Prelude.{◌≡◌, ℕ, ◌+◌, ◌-◌, ◌≤◌, ◌==◌, Bool, true, not, ◌||◌, List, [], ◌∷◌, ◌++◌, length, drop, take_while}
 use Rattle.std.specs.List.{list_all}
 use Rattle.scan.specs.declared.span.Span.{Span}
@@ -12,7 +12,7 @@ use Rattle.scan.specs.Quoted.{is_quotable}
 abbrev pub rest_to_feed : List ℕ → ℕ → List ℕ
 rest_to_feed text place = take_while (λ b. not (b == 10)) (drop place text)
 
--- The kept line goes from the place to the last byte of the line that is no blank. Where there is none it is empty.
+-- The kept line goes from the place to the last byte of the line that is no blank. If all are blanks it is empty.
 pub record IsKeptLine (text : List ℕ) (place : ℕ) (line : Span) : Type 0 where
   pub start : line.start ≡ place
   pub end : line.end ≡ place + (length (rest_to_feed text place) - blanks_behind (rest_to_feed text place))
@@ -39,6 +39,6 @@ pub record IsGroup (text : List ℕ) (place : ℕ) (span : Span) : Type 0 where
   pub balanced : IsBalanced content
   pub bytes : between text place span.end ≡ content ++ 41 ∷ []
 
--- no `)` on the line closes it
+-- no `)` on the line closes the `(` before the place
 abbrev pub HasNoGroup : List ℕ → ℕ → Type 0
 HasNoGroup text place = (span : Span) → ¬ IsGroup text place span

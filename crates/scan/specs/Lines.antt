@@ -1,4 +1,4 @@
--- Parts of a text, and its lines. A place is the number of bytes before it.
+-- Parts of a text, and its lines. A place is a byte offset: the number of bytes before it.
 use Rattle.std.specs.Prelude.{ℕ, ◌==◌, ◌+◌, ◌-◌, Bool, if◌then◌else◌, List, length, take, drop, slice_index}
 use Rattle.std.specs.List.{count_by}
 
@@ -10,7 +10,7 @@ between text start end = take (end - start) (drop start text)
 abbrev pub feeds : List ℕ → ℕ
 feeds text = count_by (λ b. b == 10) text
 
--- the line of a place: the line feeds before it, and one
+-- the line of a place: the number of line feeds before it, and one
 abbrev pub line_of : List ℕ → ℕ → ℕ
 line_of text place = feeds (take place text) + 1
 

@@ -4,11 +4,11 @@ use Rattle.std.specs.Str.{bytes_eq}
 use Rattle.std.specs.List.{list_all, before_first, after_first}
 use Rattle.scan.specs.Bytes.{is_digit}
 
--- it may stand between the quotes: neither `"` nor a line feed
+-- the byte may stand between quotes: it is neither `"` nor a line feed
 unfoldable pub is_quotable : ℕ → Bool
 is_quotable b = not ((b == 34) || (b == 10))
 
--- what stands between the first two quotes of a text; nothing where it has none
+-- the bytes between the first two quotes of a text; none where there are no two
 abbrev pub in_quotes : List ℕ → List ℕ
 in_quotes text = before_first (λ b. b == 34) (after_first (λ b. b == 34) text)
 
@@ -24,7 +24,7 @@ is_hex b = is_digit b || (nat_le 65 b && nat_le b 70) || (nat_le 97 b && nat_le 
 unfoldable pub hex_value : ℕ → ℕ
 hex_value b = if nat_le b 57 then b - 48 else (if nat_le b 70 then b - 55 else b - 87)
 
--- The bytes that stand for these between quotes. Escapes are read from left to right: `\\` is a backslash, and `\`
+-- The bytes that these, between quotes, stand for. Escapes are read from left to right: `\\` is a backslash, and `\`
 -- before two hexadecimal digits is the byte of that number. Any other backslash stands for itself.
 unfoldable pub unquoted : List ℕ → List ℕ
 unquoted [] = []

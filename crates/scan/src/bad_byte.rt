@@ -1,4 +1,4 @@
-//! Bytes that may not stand in a text.
+//! Invalid bytes of a text.
 
 /// A byte that is no printable ASCII, no blank (space, tab, carriage return) and no line feed, outside comments and
 /// quoted texts; or a byte 0 in a quoted text of a module, written or escaped.

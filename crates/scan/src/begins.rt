@@ -1,4 +1,4 @@
-//! What a text begins with.
+//! Tests of the first byte of a text.
 
 ghost use Rattle.std.specs.Prelude.{◌≡◌, ◌==◌, ◌∷◌, false, IfSome, IfNone};
 ghost use Rattle.scan.specs.Bytes as bytes;
@@ -9,7 +9,7 @@ use crate::bytes::{
     begins_name, is_bad, is_blank, is_digit, is_letter, is_name_byte, is_word_start,
 };
 
-/// What follows the byte, where the text begins with it.
+/// The text behind its first byte, if that is this byte.
 pub(crate) fn behind(text: &[u8], byte: u8) -> Option<&[u8]>
     ensures some { IfSome result (λ rest. text.now ≡ byte ∷ rest.now) }
     ensures none { IfNone result (begins_with (λ b. b == byte) text.now ≡ false) }
@@ -30,7 +30,7 @@ pub(crate) fn begins_byte(text: &[u8], byte: u8) -> bool
     }
 }
 
-/// Whether the text begins with a byte that may not stand there.
+/// Whether the text begins with a byte that is invalid outside comments and quotes.
 pub(crate) fn begins_bad(text: &[u8]) -> bool
     ensures { result ≡ begins_with bytes.is_bad text.now }
 {
@@ -40,7 +40,7 @@ pub(crate) fn begins_bad(text: &[u8]) -> bool
     }
 }
 
-/// Whether the text begins as a word of a rule does.
+/// Whether the text begins with a byte with which a word of a rule file may begin.
 pub(crate) fn begins_word(text: &[u8]) -> bool
     ensures { result ≡ begins_with bytes.is_letter text.now }
 {
@@ -70,7 +70,7 @@ pub(crate) fn begins_name_byte(text: &[u8]) -> bool
     }
 }
 
-/// Whether the text begins as a plain name does.
+/// Whether the text begins with a byte with which a name may begin that is written without quotes and is no number.
 pub(crate) fn begins_plain_name(text: &[u8]) -> bool
     ensures { result ≡ begins_with bytes.begins_name text.now }
 {
@@ -80,7 +80,7 @@ pub(crate) fn begins_plain_name(text: &[u8]) -> bool
     }
 }
 
-/// Whether the text begins as a word of a module does.
+/// Whether the text begins with a byte with which a word of a module may begin.
 pub(crate) fn begins_module_word(text: &[u8]) -> bool
     ensures { result ≡ begins_with bytes.begins_word text.now }
 {
@@ -90,7 +90,7 @@ pub(crate) fn begins_module_word(text: &[u8]) -> bool
     }
 }
 
-/// Whether the text begins with a blank or `(`.
+/// Whether the text begins with a blank or `(`, which make a `%` before them an operator.
 pub(crate) fn begins_argument(text: &[u8]) -> bool
     ensures { result ≡ begins_with tokens.begins_argument text.now }
 {

@@ -27,7 +27,7 @@ fn is_printable(byte: u8) -> bool
     b' ' <= byte && byte <= b'~'
 }
 
-/// Whether a byte may not stand outside comments.
+/// Whether a byte is invalid outside comments and quotes.
 #[tactic(auto, unfolding(crate::specs::Bytes::is_bad))]
 pub(crate) fn is_bad(byte: u8) -> bool
     ensures { result ≡ bytes.is_bad byte }
@@ -49,7 +49,7 @@ pub(crate) fn is_letter(byte: u8) -> bool
     byte.is_ascii_alphabetic()
 }
 
-/// Whether a name may begin with the byte and be written plainly.
+/// Whether a name that is written without quotes may begin with the byte, if it is no number.
 #[tactic(auto, unfolding(crate::specs::Bytes::begins_name))]
 pub(crate) fn begins_name(byte: u8) -> bool
     ensures { result ≡ bytes.begins_name byte }
@@ -65,7 +65,7 @@ pub(crate) fn is_word_start(byte: u8) -> bool
     begins_name(byte) && byte != b'-'
 }
 
-/// Whether a byte may stand in a name. Lower-case letters are asked for first, since most bytes of names are such.
+/// Whether a byte may stand in a name. Lower-case letters are tested for first, since most bytes of names are such.
 #[tactic(auto, unfolding(crate::specs::Bytes::is_name_byte, crate::specs::Bytes::begins_name, crate::specs::Bytes::is_letter))]
 pub(crate) fn is_name_byte(byte: u8) -> bool
     ensures { result ≡ bytes.is_name_byte byte }

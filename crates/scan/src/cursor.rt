@@ -1,4 +1,4 @@
-//! A place in a text that goes forward token by token.
+//! A cursor that moves over a text token by token.
 
 ghost use Rattle.std.specs.Prelude.{◌≡◌, ◌+◌, ◌≤◌, length, take, IfOk, IfErr, OnErr};
 ghost use Rattle.scan.specs.RuleTokens.{IsNextRuleToken, IsBadNext};
@@ -15,12 +15,12 @@ use crate::rule_token::RuleToken;
 use crate::span::Span;
 use std::marker::Model;
 
-/// A text, and a place in it: the number of bytes before it, at most all.
+/// A text, and a place in it: a byte offset, at most the text's length.
 #[derive(Drop)]
 pub struct Cursor<'a> {
     text: &'a [u8],
     at: usize,
-    /// How many line feeds stand before the place.
+    /// How many line feeds there are before the place.
     feeds: usize,
 }
 
@@ -37,7 +37,7 @@ impl<'a> Model for Cursor<'a> {
 }
 
 impl<'a> Cursor<'a> {
-    /// The place before the first byte.
+    /// The cursor at the start of the text.
     pub fn new(text: &'a [u8]) -> Cursor<'a>
         ensures { result ≡ record { text = text.now; at = 0 } }
     {
@@ -48,11 +48,12 @@ impl<'a> Cursor<'a> {
         }
     }
 
-    /// The next token of a rule file, behind blanks, line feeds and comments, and goes behind it. It is the longest
-    /// that begins where it does. `operator` says whether the token before it ends a primary (`ends_primary`); where
-    /// this one stands on the same line it is then in an operator's place.
+    /// Reads the next token of a rule file, behind blanks, line feeds and comments, and moves behind it. It is the
+    /// longest token that begins there. `operator` says whether the token before it ends a primary (`ends_primary`); if
+    /// it does and this one stands on the same line, this one is read in an operator's place: there `%u` is an
+    /// operator, and `-5` two tokens.
     ///
-    /// The error is a byte there that may not stand outside comments; the place stays.
+    /// The error is an invalid byte in that place; the cursor then stays where it was.
     pub fn next_rule_token(&mut self, operator: bool) -> Result<RuleToken, BadByte>
         ensures text { self.new.text ≡ self.old.text }
         ensures token { IfOk result (IsNextRuleToken operator self.old.text self.old.at) }
@@ -76,10 +77,10 @@ impl<'a> Cursor<'a> {
         })
     }
 
-    /// The rest of the line up to a comment, without the blanks at its ends, and goes behind it: the name of a rule,
-    /// where its head was taken. Where nothing is there the span is empty.
+    /// Reads the rest of the line up to a comment, without the blanks at its ends, and moves behind it: the name of a
+    /// rule, where its head was read. Where nothing is there the span is empty.
     ///
-    /// The error is a byte of it that may not stand there; the place stays.
+    /// The error is an invalid byte in it; the cursor then stays where it was.
     pub fn take_name(&mut self) -> Result<Span, BadByte>
         ensures text { self.new.text ≡ self.old.text }
         ensures name { IfOk result (IsNameNext self.old.text self.old.at) }

@@ -1,4 +1,4 @@
-//! What a text begins with, where it begins with no gap.
+//! What a text that does not begin with a gap begins with: a token, its end, or a byte that begins no token.
 
 ghost use Rattle.std.specs.Prelude.{◌≡◌, true, false, nat_lt, if◌then◌else◌, MatchOption};
 ghost use Rattle.scan.specs.Bytes as bytes;
@@ -11,7 +11,7 @@ use crate::begins::begins_bad;
 use crate::length::{arrow, head, mark, number, register, word};
 use crate::rule_token::RuleKind;
 
-/// The longer of two fronts of a text, the first where they are equally long.
+/// The longer of two prefixes of a text, the first one where they are equally long.
 fn longer(first: (RuleKind, usize), second: (RuleKind, usize)) -> (RuleKind, usize)
     ensures { result ≡ (if nat_lt first.1 second.1 then second else first) }
 {
@@ -30,7 +30,7 @@ fn longest_token(text: &[u8], operator: bool) -> (RuleKind, usize)
     longer((RuleKind::Mark, mark(text, operator)), found)
 }
 
-/// What the text begins with, and how many bytes it has; none where the first byte may not stand.
+/// The kind and the length of what the text begins with; `None` where the first byte is invalid.
 pub(crate) fn front(text: &[u8], operator: bool) -> Option<(RuleKind, usize)>
     requires { begins_with in_gap text.now ≡ false }
     ensures { MatchOption result (begins_with bytes.is_bad text.now ≡ true) (λ t. Begins operator text.now t.0 t.1) }

@@ -1,4 +1,4 @@
-//! What stands between tokens.
+//! Gaps: the blanks, line feeds and comments between tokens.
 
 ghost use Rattle.std.specs.Prelude.{◌≡◌, ◌+◌, ◌<◌, ◌≤◌, false, length, take, drop};
 ghost use Rattle.scan.specs.Bytes.{begins_with};
@@ -33,7 +33,7 @@ fn gap_run(text: &[u8]) -> (usize, usize)
     (text.len(), feeds)
 }
 
-/// The place behind the gap that stands at a place, and how many line feeds the gap has.
+/// The place behind the gap that begins at a place, and how many line feeds the gap has.
 pub(crate) fn gap_end(text: &[u8], place: usize) -> (usize, usize)
     requires { place ≤ length text.now }
     ensures order { (place ≤ result.0) × (result.0 ≤ length text.now) }

@@ -1,4 +1,4 @@
-//! What is kept as it is written: the rest of a line, and what brackets hold.
+//! Text that is kept as it is written: the rest of a line, and what brackets hold.
 
 ghost use Rattle.std.specs.Prelude.{◌≡◌, ◌≤◌, ◌++◌, ◌∷◌, ℕ, List, ◌==◌, not, length, MatchOption};
 ghost use Rattle.std.specs.List.{prefix_len};
@@ -12,7 +12,7 @@ fn feed_run(text: &[u8]) -> usize
     text.iter().take_while(|byte| **byte != b'\n').count()
 }
 
-/// What stands from the place on up to the end of its line, its comment with it.
+/// The text from the place up to the end of its line, with a comment that is in it.
 pub(crate) fn rest_to_feed(text: &[u8], place: usize) -> &[u8]
     requires { place ≤ length text.now }
     ensures { result.now ≡ kept.rest_to_feed text.now place }
@@ -21,8 +21,8 @@ pub(crate) fn rest_to_feed(text: &[u8], place: usize) -> &[u8]
     &ahead[..feed_run(ahead)]
 }
 
-/// What follows the `)` that closes a `(` before the text; none where it isn't closed on its line. Brackets in quoted
-/// texts don't count.
+/// The text behind the `)` that closes a `(` before the text; `None` where none on the line closes it. Brackets in
+/// quoted texts don't count.
 pub(crate) fn behind_group(text: &[u8]) -> Option<&[u8]>
     ensures { MatchOption result
         ((content rest : List ℕ) → IsBalanced content → ¬ (text.now ≡ content ++ 41 ∷ rest))

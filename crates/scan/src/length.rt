@@ -1,4 +1,4 @@
-//! How many of the first bytes of a text are the longest token of each kind: 0 where none begins there.
+//! For each kind of token, the length of the longest one that a text begins with: 0 where it begins with none.
 
 ghost use Rattle.std.specs.Prelude.{ℕ, List, [], ◌∷◌, ◌++◌, map};
 ghost use Rattle.scan.specs.Longest.{IsLongest};
@@ -16,7 +16,8 @@ const MARKS: [&str; 28] = [
     "<=", ">", ">=", "u<", "u<=", "u>", "u>=", "!", "&&", "||",
 ];
 
-/// The length of the longest word that the text begins with, where it was `longest` without this word.
+/// The length of the longest word that the text begins with when this word is added to those for which it was
+/// `longest`.
 fn with_word(text: &[u8], word: &str, longest: usize) -> usize
     ensures { (words : List (List ℕ)) → IsLongest (λ bytes _. tokens.is_among words bytes) text.now longest
         → IsLongest (λ bytes _. tokens.is_among (words ++ word.now ∷ []) bytes) text.now result }
@@ -74,7 +75,7 @@ fn remainder(text: &[u8]) -> usize
     }
 }
 
-/// A mark; `operator` is whether it is in an operator's place.
+/// A mark; `operator` says whether it is read in an operator's place.
 pub(crate) fn mark(text: &[u8], operator: bool) -> usize
     ensures { IsLongest (tokens.is_mark operator) text.now result }
 {
@@ -102,7 +103,7 @@ pub(crate) fn word(text: &[u8]) -> usize
     if begins_word(text) { word_run(text) } else { 0 }
 }
 
-/// Digits behind a `-`.
+/// `-`, and digits behind it.
 fn negative(text: &[u8]) -> usize
     ensures { IsLongest (λ bytes _. tokens.is_negative bytes) text.now result }
 {
@@ -113,7 +114,7 @@ fn negative(text: &[u8]) -> usize
     if run == 0 { 0 } else { run + 1 }
 }
 
-/// Digits; in unary place a `-` directly before them belongs to them.
+/// Digits, and, unless they are read in an operator's place, a `-` directly before them.
 pub(crate) fn number(text: &[u8], operator: bool) -> usize
     ensures { IsLongest (λ bytes _. tokens.is_literal operator bytes) text.now result }
 {

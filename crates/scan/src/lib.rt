@@ -1,4 +1,4 @@
-//! The tokens of texts, from left to right, with their lines: of rule files, and of modules of LLVM IR.
+//! Lexing: the tokens of a text from left to right, with their lines, of rule files and of modules of LLVM IR.
 #![tactic(auto)]
 
 mod bad_byte;

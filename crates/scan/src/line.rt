@@ -1,4 +1,4 @@
-//! Lines.
+//! Line numbers.
 
 ghost use Rattle.std.specs.Prelude.{◌≡◌, ◌≢◌, ◌<◌, ◌⊎◌, length, take};
 ghost use Rattle.scan.specs.declared.rule_token.RuleKind.TheVariants as kinds;

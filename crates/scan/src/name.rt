@@ -17,7 +17,7 @@ fn rest_run(text: &[u8]) -> usize
         .count()
 }
 
-/// What stands from the place on up to the end of its line or a comment.
+/// The text from the place up to the end of its line or a comment.
 pub(crate) fn rest_of_line(text: &[u8], place: usize) -> &[u8]
     requires { place ≤ length text.now }
     ensures value { result.now ≡ names.rest_of_line text.now place }
@@ -26,7 +26,7 @@ pub(crate) fn rest_of_line(text: &[u8], place: usize) -> &[u8]
     &ahead[..rest_run(ahead)]
 }
 
-/// Whether a byte of the text may not stand there.
+/// Whether the text has a byte that is invalid outside comments.
 pub(crate) fn has_bad(text: &[u8]) -> bool
     ensures { result ≡ list_any bytes.is_bad text.now }
 {

@@ -15,7 +15,7 @@ fn all_digits(text: &[u8]) -> bool
     text.iter().all(|byte| is_digit(*byte))
 }
 
-/// Whether a word is a constant of a rule: `C`, and digits or none.
+/// Whether a word is a constant of a rule: `C`, and any number of digits.
 fn is_constant(word: &[u8]) -> bool
     ensures { result ≡ tokens.is_constant word.now }
 {
@@ -25,7 +25,7 @@ fn is_constant(word: &[u8]) -> bool
     }
 }
 
-/// Whether a word is a choice of the target, as a witness names it: `t` and digits.
+/// Whether a word is the name of a choice of the target, as `Wit:` uses it: `t` and digits.
 fn is_choice(word: &[u8]) -> bool
     ensures { result ≡ tokens.is_choice word.now }
 {
@@ -35,8 +35,8 @@ fn is_choice(word: &[u8]) -> bool
     }
 }
 
-/// Whether a token of the kind and bytes ends a primary of a term: a register, a number, `)`, a constant, or a choice
-/// of the target. What follows it on its line is in an operator's place.
+/// Whether a token of this kind with these bytes ends a primary of a term: a register, a number, `)`, a constant, or a
+/// choice of the target. A token behind it on its line is in an operator's place.
 #[tactic(auto, unfolding(crate::specs::RuleTokens::ends_primary))]
 pub fn ends_primary(kind: RuleKind, bytes: &[u8]) -> bool
     ensures { result ≡ tokens.ends_primary kind bytes.now }

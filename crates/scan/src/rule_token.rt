@@ -2,7 +2,7 @@
 
 use crate::span::Span;
 
-/// What kind of token stands in a rule file.
+/// The kinds of tokens of a rule file.
 #[derive(Clone, Copy, Debug, PartialEq, Eq)]
 pub enum RuleKind {
     /// The end of the text.
@@ -15,7 +15,7 @@ pub enum RuleKind {
     Register,
     /// A letter, then letters, digits and `_`.
     Word,
-    /// Digits, in unary place maybe behind a `-`.
+    /// Digits, and, unless they are in an operator's place, maybe a `-` before them.
     Number,
     /// `=>`, between source and target.
     Arrow,

@@ -1,4 +1,4 @@
-//! Runs: how many of the first bytes of a text are of one sort.
+//! Runs: how many bytes at the start of a text are of one sort.
 
 ghost use Rattle.std.specs.Prelude.{◌≡◌, ◌≤◌, length};
 ghost use Rattle.std.specs.List.{prefix_len};

@@ -1,4 +1,4 @@
--- Where the registers that are read hold values that allow others, what comes of them allows what comes of those.
+-- Instructions and terminators are monotone in the registers that they read.
 use Rattle.std.proofs.Common.{◌≡◌, ℕ, Bool, true, false, List, Some, refl, sym, ap, subst, ◌∙◌}
 use Rattle.std.specs.Prelude.{slice_get}
 use Rattle.ops.specs.Value.{AllowsValue, AllowsEffect, IsValueOf}
@@ -25,7 +25,7 @@ use Rattle.ir_meaning.specs.Laws.{HoldWidths}
 use Rattle.substitution.specs.Allows.{ReadsAllow, AllowsEnding}
 use Rattle.substitution.specs.Laws.{InstructionsAreMonotoneInReads, TerminatorsAreMonotoneInReads}
 
--- what the register holds allows what it holds there
+-- the register's value in the first registers allows that in the second
 abbrev pub RegisterAllows : Registers → Registers → Register → Type 0
 RegisterAllows held held' r = (v' : Value) → held' r ≡ Some v' → (v : Value) × (held r ≡ Some v) × AllowsValue v v'
 
@@ -70,7 +70,7 @@ freeze_allows f held held' widths w (operands.Number n) has x' v' more h freezes
 freeze_allows f held held' widths w operands.Undef has x' v' more h freezes = (x', v', h, freezes, AllowsValue-refl v')
 freeze_allows f held held' widths w operands.Poison has x' v' more h freezes = (x', v', h, freezes, AllowsValue-refl v')
 
--- an effect that allows another one, and what is equal to that
+-- an effect that allows another one allows what is equal to that
 allows_same : (d e e' : Effect) → AllowsEffect d e → e' ≡ e → AllowsEffect d e'
 allows_same d e e' h is = subst (λ x. AllowsEffect d x) (sym is) h
 

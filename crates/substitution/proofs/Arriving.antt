@@ -1,4 +1,4 @@
--- Where runs come to, told with the blocks that they passed.
+-- The places to which runs come, with the blocks that they have passed.
 use Rattle.std.proofs.Common.{◌≡◌, ℕ, suc, Bool, true, false, ◌&&◌, ◌⊎◌, inl, inr, List, [], ◌∷◌, length, Option, None, Some, refl, sym, ap, subst, ◌∙◌}
 use Rattle.std.proofs.lemmas.Bool.{cases_eq}
 use Rattle.ops.specs.declared.value.Value.{Value}
@@ -40,7 +40,7 @@ comes_to f args before b k entered held run = (moment before b k entered held, r
 pub is_reached : (f : Function) (args : List Value) (before : List ℕ) (b k : ℕ) (entered held : Registers) → Arrives f args before b k entered held → IsReached f b
 is_reached f args before b k entered held run = (before, run.is_walk)
 
--- the block where a terminator goes on is one that it names, and registers stay
+-- a terminator goes on at a block that it names, and leaves the registers as they are
 pub goes_by_names : (f : Function) (b : ℕ) (block : Block) (held next : Registers) (c : ℕ) → IsBlock f b block → EndGives AnyNumber held f block.end (Goes c next) → Names f b c
 goes_by_names f b block held next c at h = (block, at, (end_among held f block.end (Goes c next) h).0)
 
@@ -95,7 +95,7 @@ pub and_left : (x y : Bool) → x ≡ false → (x && y) ≡ false
 and_left true y e = absurd cc
 and_left false y e = refl
 
--- the two places are one, or not
+-- two places are the same, or are not
 pub same_or_other : (d j b k : ℕ) → ((d ≡ b) × (j ≡ k)) ⊎ ¬ ((d ≡ b) × (j ≡ k))
 same_or_other d j b k =
     elim (cases_eq d b) [
@@ -103,6 +103,6 @@ same_or_other d j b k =
       | inl same ↦ elim (cases_eq j k) [ inr ne ↦ inr (λ h. ne h.1) | inl e ↦ inl (same, e) ]
     ]
 
--- what instruction k of block b reads
+-- the reads of instruction k of block b
 pub inst_reads : (f : Function) (b k : ℕ) (inst : Inst) → IsInst f b k inst → reads_at f b k ≡ reads_of f b k inst.width inst.op
 inst_reads f b k inst h = ap (reads_in f b k) h.is_block ∙ ap (reads_by f b k h.block) h.is_inst

@@ -22,7 +22,7 @@ use Rattle.std.proofs.lemmas.Option.{same_Some}
 use Rattle.ir_meaning.proofs.PathLemmas.{end_of-is}
 use Rattle.substitution.proofs.Arriving.{same_or_other}
 
--- what is assigned behind an instruction is its register, or was assigned before it
+-- a register that is assigned right behind an instruction is its result, or was assigned before it
 pub assigned_next : (f : Function) (r : Register) (b k : ℕ) → IsAssigned f r b (suc k) → (r ≡ registers.Result b k) ⊎ ((r ≢ registers.Result b k) × IsAssigned f r b k)
 assigned_next f (registers.Parameter p) b k h = inr (λ e. cc, h)
 assigned_next f (registers.Result d j) b k h =
@@ -35,7 +35,7 @@ assigned_next f (registers.Result d j) b k h =
     by before other (inl c) = inl c
     by before other (inr (same, lt)) = inr (same, let ne : j ≢ k = λ e. other (same, e) in omega arith)
 
--- what is assigned where a block begins is assigned at the end of each that names it
+-- a register that is assigned at the head of a block is assigned at the end of each predecessor
 pub assigned_edge : (f : Function) (r : Register) (c b : ℕ) → Names f c b → IsAssigned f r b 0 → IsAssigned f r c (end_of f c)
 assigned_edge f (registers.Parameter p) c b names h = h
 assigned_edge f (registers.Result d j) c b names h = (h.0, λ before walk. by before (h.1 (c ∷ before) (names, walk)))
@@ -47,7 +47,7 @@ assigned_edge f (registers.Result d j) c b names h = (h.0, λ before walk. by be
     by before (inl passed) = elim (cases_in c before d passed) [ inl same ↦ inr (sym same, inside same) | inr earlier ↦ inl earlier ]
     by before (inr (same, lt)) = absurd (omega arith)
 
--- where a run begins no result is assigned
+-- at the function's entry no result is assigned
 pub none_assigned : (f : Function) (d j : ℕ) → ¬ IsAssigned f (registers.Result d j) 0 0
 none_assigned f d j h = elim (h.1 [] refl) [ inl passed ↦ not_in_empty d passed | inr here ↦ absurd (let lt : j < 0 = here.1 in omega arith) ]
 
@@ -75,7 +75,7 @@ one_there b k w x = each_first (IsThere b k) (read b k w x) [] (refl, refl) (eac
 two_there : (b k w : ℕ) (x y : Operand) → (i : ℕ) (r : Read) → slice_get (read b k w x ∷ read b k w y ∷ []) i ≡ Some r → IsThere b k r
 two_there b k w x y = each_first (IsThere b k) (read b k w x) (read b k w y ∷ []) (refl, refl) (one_there b k w y)
 
--- all but a phi reads where it stands
+-- an instruction that is no phi reads its operands at its own place
 pub own_place : (f : Function) (b k w : ℕ) (op : Op) → ¬ IsPhi op → (i : ℕ) (r : Read) → slice_get (reads_of f b k w op) i ≡ Some r → IsThere b k r
 own_place f b k w (Binary op flags x y) other = two_there b k w x y
 own_place f b k w (Compare pred samesign compared x y) other = two_there b k compared x y

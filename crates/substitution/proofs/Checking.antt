@@ -1,4 +1,4 @@
--- A function that is rewritten meets the checks that the old one meets.
+-- A rewritten function meets the checks that the old one meets.
 use Rattle.std.proofs.Common.{◌≡◌, ℕ, suc, ◌^◌, ◌+◌, ◌<◌, ◌≤◌, ◌==◌, Bool, true, false, cond, ◌⊎◌, inl, inr, List, [], ◌∷◌, length, Option, None, Some, refl, sym, ap, subst, ◌∙◌, arith, Contains, map}
 use Rattle.std.specs.Prelude.{slice_get, option_map, unwrap_or, IsSome}
 use Rattle.std.proofs.lemmas.Bool.{cases_lt, eqb-true}
@@ -76,7 +76,7 @@ entries_back w (Unary op truth x) new e = absurd cc
 entries_back w (Freeze x) new e = absurd cc
 entries_back w (Phi entries) new e = (entries, refl, cc)
 
--- all but a phi reads the same at another place of another function
+-- the reads of an instruction that is no phi are the same at another place of another function
 reads_elsewhere : (f g : Function) (b k c n width : ℕ) (op : Op) → ¬ IsPhi op → reads_of f b k width op ≡ map (λ (r : Read). read b k r.width r.operand) (reads_of g c n width op)
 reads_elsewhere f g b k c n width (Binary op flags x y) other = refl
 reads_elsewhere f g b k c n width (Compare pred samesign compared x y) other = refl
@@ -92,7 +92,7 @@ of_its_width (operands.Register r) h = tt
 of_its_width operands.Undef h = tt
 of_its_width operands.Poison h = tt
 
--- what has a width is known
+-- an operand that has a width is known
 known : (f : Function) (width : ℕ) (a : Operand) → OperandHasWidth f width a → IsKnown f a
 known f width (operands.Register r) h = subst IsSome (sym h) refl
 known f width (operands.Number n) h = tt
@@ -112,7 +112,7 @@ module _ (f : Function) (w : Rewrite) where
 
   -- ---- reads
 
-  -- a read of the old function, in the new one
+  -- a read of the old function, as it is in the new one
   abbrev moved_read : Read → Read
   moved_read r = read r.block (moved_place w r.block r.place) r.width (substituted_operand to r.operand)
 
@@ -145,14 +145,14 @@ module _ (f : Function) (w : Rewrite) where
   reads_at_end-moved b k (terminators.Switch a width other cases) = refl
   reads_at_end-moved b k terminators.Unreachable = refl
 
-  -- what the new function reads is what the old one does, moved
+  -- a read of the new function is one of the old function, moved
   record ReadStayed (b i : ℕ) (r : Read) : Type 0 where
     place : ℕ
     old : Read
     is_read : IsRead f b place i old
     moved : moved_read old ≡ r
 
-  -- or what something that is put does
+  -- or it is one of an instruction that is put
   record ReadPut (i : ℕ) (r : Read) : Type 0 where
     place : ℕ
     inst : Inst
@@ -230,7 +230,7 @@ module _ (f : Function) (w : Rewrite) where
       now a c h = map_in (λ (e : Operand × ℕ). (substituted_operand to e.0, e.1)) entries (a, c) h
 
   module _ (root : Inst) (fits : Fits f w root) where
-    -- what is put may read what it does
+    -- an instruction that is put may read what it reads
     put_may : (i : ℕ) (r : Read) (p : ReadPut i r) → MayBeRead f w p.place r.width r.operand
     put_may i r p =
         let inst : Inst = p.inst in
@@ -243,7 +243,7 @@ module _ (f : Function) (w : Rewrite) where
     put_there : (i : ℕ) (r : Read) (p : ReadPut i r) → IsThere w.block (w.place + p.place) r
     put_there i r p = let inst : Inst = p.inst in own_place new w.block (w.place + p.place) inst.width inst.op (fits.no_phis_put p.place inst p.is_put) i r p.reads
 
-    -- ---- numbers
+    -- ---- literal numbers
 
     read_numbers : NumbersFit f → (b n i : ℕ) (r : Read) → IsRead new b n i r → IsOfItsWidth r.operand
     read_numbers numbers b n i r h =

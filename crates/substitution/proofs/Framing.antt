@@ -1,4 +1,4 @@
--- Each pass of a rewritten function is allowed by one of the old.
+-- Each pass of a rewritten function is allowed by one of the old function.
 use Rattle.std.proofs.Common.{◌≡◌, ℕ, zero, suc, ◌+◌, inl, inr, List, [], ◌∷◌, ◌++◌, length, Option, None, Some, refl, sym, ap, subst, ◌∙◌, arith}
 use Rattle.std.specs.Prelude.{slice_get}
 use Rattle.std.proofs.lemmas.Option.{same_Some}
@@ -51,13 +51,13 @@ module _ (f : Function) (w : Rewrite) (root : Inst) (m : MeetsChecks f) (fits : 
   abbrev Pulled : Registers → Registers
   Pulled held = pulled_back (stands_for w) held
 
-  -- runs of both functions come to place k of block b
+  -- a run of the old function comes to place k of block b, and one of the new function to the place where that is then
   pub record At (before : List ℕ) (b k : ℕ) (entered held entered' held' : Registers) : Type 0 where
     arrives : Arrives f args before b k entered held
     arrives' : Arrives new args before b (moved_place w b k) entered' held'
     allows : AssignedAllow f w b k held held'
 
-  -- both enter block b
+  -- runs of both enter block b
   pub record Entering (before : List ℕ) (b : ℕ) (held held' : Registers) : Type 0 where
     arrives : Arrives f args before b 0 held held
     arrives' : Arrives new args before b 0 held' held'
@@ -85,7 +85,7 @@ module _ (f : Function) (w : Rewrite) (root : Inst) (m : MeetsChecks f) (fits : 
   abbrev pub Related : Relation
   Related before b held held' = Entering before b held held'
 
-  -- the pass of the new function through block b, which ends so, is allowed by one of the old
+  -- the new function's pass through block b, which ends so, is allowed by one of the old function
   abbrev Matched : ℕ → List ℕ → Ending → (Ending → Type 0) → Type 0
   Matched b before end' P = (end : Ending) × P end × Allowed Related (b ∷ before) end end'
 
@@ -96,7 +96,7 @@ module _ (f : Function) (w : Rewrite) (root : Inst) (m : MeetsChecks f) (fits : 
     inst_at : (k : ℕ) (i : Inst) (insts : List Inst) → ((j : ℕ) → slice_get block.insts (k + j) ≡ slice_get (i ∷ insts) j) → IsInst f b k i
     inst_at k i insts is = record { block = block; is_block = at; is_inst = rest_here block.insts k i insts is }
 
-    -- how the terminator ends the pass
+    -- the endings that the two terminators give are related
     end_related : (k : ℕ) (entered held entered' held' : Registers) (end end' : Ending) → At before b k entered held entered' held' → k ≡ length block.insts
         → EndGives AnyNumber held f block.end end → EndGives AnyNumber held' new End end' → AllowsEnding (Same held (Pulled held')) end (ending_back (stands_for w) end') → Allowed Related (b ∷ before) end end'
     end_related k entered held entered' held' Undefines end' here is gives gives' allows = tt
@@ -137,7 +137,7 @@ module _ (f : Function) (w : Rewrite) (root : Inst) (m : MeetsChecks f) (fits : 
         terminators_monotone f held (Pulled held') b (length block.insts) block.end (ending_back (stands_for w) end') (reads_allow f w m b (length block.insts) held held' (reads_at_end f b (length block.insts) block.end) allows (end_reads_there f w m b block at)) back in
         (end.0, end.1, end_related k entered held entered' held' end.0 end' here is end.1 gives end.2)
 
-    -- from place k on, whatever is held
+    -- the rest of the pass from place k on is allowed, whatever registers hold
     abbrev Rest : ℕ → List Inst → Ending → Type 0
     Rest k insts end' = (entered held entered' held' : Registers) → At before b k entered held entered' held'
         → Follows AnyNumber new b (moved_place w b k) (rewritten_insts w b k insts) End held' end' → Matched b before end' (λ end. Follows AnyNumber f b k insts block.end held end)
@@ -163,7 +163,7 @@ module _ (f : Function) (w : Rewrite) (root : Inst) (m : MeetsChecks f) (fits : 
         rest entered (holding held b k v) entered' held2 there (subst (λ (n : ℕ). Follows AnyNumber new b n (rewritten_insts w b (suc k) insts) End held2 end') (sym next) on) in
         (r.0, (effects.Gives v, gives, r.1), r.2)
 
-    -- how the pass goes on behind the root
+    -- the rest of the pass behind the root is allowed
     root_related : (k : ℕ) (i : Inst) (insts : List Inst) (entered held entered' held' : Registers) (end' : Ending) → IsInst f b k i → IsTheRoot w b k → At before b k entered held entered' held' → Rest (suc k) insts end'
         → (after : Option Registers) → RunsThrough b k w.put held' after → GoesAfter (λ next. Follows AnyNumber new b (k + length w.put) (rewritten_insts w b (suc k) insts) End next end') end' after
         → (e : Effect) → OpGives AnyNumber held i.width i.op e → AllowsPut w e after
@@ -212,9 +212,9 @@ module _ (f : Function) (w : Rewrite) (root : Inst) (m : MeetsChecks f) (fits : 
               follows_other k i insts entered held entered' held' end' at_k none.0 other here rest e.0 g'.0 e.1 g'.1 e.2 g'.2
         ]
 
-    -- ---- the phis, where the block is entered
+    -- ---- the phis, as the block is entered
 
-    -- no phi stands behind an instruction that is none
+    -- behind an instruction that is no phi none is
     none_behind : (k : ℕ) (i : Inst) (insts : List Inst) → ((j : ℕ) → slice_get block.insts (k + j) ≡ slice_get (i ∷ insts) j) → ¬ IsPhi i.op → NoPhis (i ∷ insts)
     none_behind k i insts is other = no_phis_at (i ∷ insts) by
       where
@@ -225,7 +225,7 @@ module _ (f : Function) (w : Rewrite) (root : Inst) (m : MeetsChecks f) (fits : 
             let later : IsInst f b (k + suc j) inst = record { block = block; is_block = at; is_inst = is (suc j) ∙ e } in
             λ phi. other (m.formed.phis_first b k (k + suc j) i inst first later (omega arith) phi)
 
-    -- nor then among what is there of these in the new function
+    -- if none of these is a phi, none is after they are rewritten
     none_rewritten : (k : ℕ) (insts : List Inst) → NoPhis insts → NoPhis (rewritten_insts w b k insts)
     none_rewritten k [] none = tt
     none_rewritten k (i ∷ insts) none =

@@ -1,4 +1,4 @@
--- How passes go through the instructions of a block, and what they write.
+-- Passes through the instructions of a block, and the registers that they write.
 use Rattle.std.proofs.Common.{◌≡◌, ◌≢◌, ℕ, suc, ◌+◌, ◌<◌, ◌⊎◌, inl, inr, List, [], ◌∷◌, ◌++◌, length, Option, None, Some, refl, ap, subst, ◌∙◌, arith}
 use Rattle.std.specs.Prelude.{slice_get}
 use Rattle.std.proofs.lemmas.Option.{same_Some}
@@ -70,21 +70,21 @@ pub no_phis_joined : (xs ys : List Inst) → NoPhis xs → NoPhis ys → NoPhis 
 no_phis_joined [] ys p q = q
 no_phis_joined (x ∷ xs) ys p q = (p.0, no_phis_joined xs ys p.1 q)
 
--- where no phi stands, entering is going on
+-- where the next instruction is no phi, a pass that enters the block follows its instructions
 pub enters_follows : (g : Function) (from : Option ℕ) (entered : Registers) (b k : ℕ) (insts : List Inst) (t : Terminator) (held : Registers) (end : Ending) → NoPhis insts
     → Enters AnyNumber g from entered b k insts t held end → Follows AnyNumber g b k insts t held end
 enters_follows g from entered b k [] t held end none h = h
 enters_follows g from entered b k (i ∷ insts) t held end none h =
     no_phi_from (λ entries. (v : Value) × PhiGives AnyNumber entered from i.width entries v × Enters AnyNumber g from entered b (suc k) insts t (holding held b k v) end) (Follows AnyNumber g b k (i ∷ insts) t held end) i.op none.0 h
 
--- ---- what is put
+-- ---- the instructions that are put
 
--- how the pass goes on after these instructions
+-- how the pass ends behind these instructions
 abbrev pub GoesAfter : (Registers → Type 0) → Ending → Option Registers → Type 0
 GoesAfter next end None = end ≡ Undefines
 GoesAfter next end (Some held) = next held
 
--- a pass through two lists of instructions goes through the first, and then through the second
+-- a pass through two lists of instructions goes through the first and then through the second
 pub through : (g : Function) (b n : ℕ) (insts rest : List Inst) (t : Terminator) (held : Registers) (end : Ending) → Follows AnyNumber g b n (insts ++ rest) t held end
     → (after : Option Registers) × RunsThrough b n insts held after × GoesAfter (λ next. Follows AnyNumber g b (n + length insts) rest t next end) end after
 through g b n [] rest t held end h = let same : n ≡ n + 0 = omega arith in (Some held, refl, subst (λ p. Follows AnyNumber g b p rest t held end) same h)
@@ -100,7 +100,7 @@ through g b n (i ∷ insts) rest t held end h = by (λ v. through g b (suc n) in
         let same : suc n + length insts ≡ n + suc (length insts) = omega arith in
         (r.0, (effects.Gives v, gives, r.1), subst (λ p. GoesAfter (λ next. Follows AnyNumber g b p rest t next end) end r.0) same r.2)
 
--- an operand other than the register that is written holds what it did
+-- an operand other than the register that is written has the value that it had
 pub unwritten : (held : Registers) (b n : ℕ) (v : Value) (a : Operand) → a ≢ operands.Register (registers.Result b n) → value_of (holding held b n v) a ≡ value_of held a
 unwritten held b n v (operands.Register (registers.Parameter p)) ne = refl
 unwritten held b n v (operands.Register (registers.Result d j)) ne = held_elsewhere held b n v d j (λ h. ne (let p = h.0 in let q = h.1 in cc))
@@ -108,7 +108,7 @@ unwritten held b n v (operands.Number x) ne = refl
 unwritten held b n v operands.Undef ne = refl
 unwritten held b n v operands.Poison ne = refl
 
--- and so does one that these instructions don't write
+-- so has one that is none of these instructions' registers
 pub unwritten_by : (b n : ℕ) (insts : List Inst) (held next : Registers) (a : Operand) → ((l : ℕ) → l < length insts → a ≢ operands.Register (registers.Result b (n + l))) → RunsThrough b n insts held (Some next) → value_of next a ≡ value_of held a
 unwritten_by b n [] held next a apart h = ap (λ (x : Registers). value_of x a) (same_Some next held h)
 unwritten_by b n (i ∷ insts) held next a apart h =

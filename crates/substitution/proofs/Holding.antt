@@ -1,4 +1,4 @@
--- What registers hold where a run comes to, and what that says of the old function's.
+-- What registers hold where a run comes to, and what follows for those of the old function.
 use Rattle.std.proofs.Common.{◌≡◌, ℕ, zero, suc, ◌<◌, List, [], ◌∷◌, length, Some, refl, ap, subst, ◌∙◌, arith}
 use Rattle.std.specs.Prelude.{slice_get}
 use Rattle.ops.specs.declared.value.Value.{Value}
@@ -66,7 +66,7 @@ runs_hold f args b k held checks numbers are run =
     subst (λ (x : Registers). MayHold f b k x) run.4
     (subst (λ (p : ℕ × ℕ). MayHold f p.0 p.1 m.held) run.3 (hold_at f args m run.1 checks numbers are run.2))
 
--- ---- told of the old function's registers
+-- ---- the old function's registers by the new function's
 
 module _ (f : Function) (w : Rewrite) (root : Inst) (fits : Fits f w root) (held : Registers) (h : MayHold (rewritten_function w f) w.block w.place held) where
   abbrev new : Function
@@ -75,7 +75,7 @@ module _ (f : Function) (w : Rewrite) (root : Inst) (fits : Fits f w root) (held
   abbrev Pulled : Registers
   Pulled = pulled_back (stands_for w) held
 
-  -- the root isn't assigned where it stands
+  -- the root isn't assigned at its own place
   not_the_root : (d j : ℕ) → IsAssigned f (registers.Result d j) w.block w.place → ¬ IsTheRoot w d j
   not_the_root d j a here =
       let is : registers.Result d j ≡ root_of w = (let p = here.0 in let q = here.1 in cc) in

@@ -11,7 +11,7 @@ pub record Mapped {A : Type 0} (f : A → A) (all : List A) (i : ℕ) (items : L
   pub rest : drop i items ≡ drop i all
   pub size : length items ≡ length all
 
--- the next item is the old one
+-- the next item is still the old one
 pub next_unmapped : {A : Type 0} (f : A → A) (all : List A) (i : ℕ) (items : List A) (x : A) → Mapped f all i items → i < length items → x ≡ get_or items i x → x ≡ get_or all i x
 next_unmapped f all i items x m within here =
     let size = m.size in
@@ -37,7 +37,7 @@ map_more f all i items x y m within here is =
       size = length-set items i y ∙ size;
     }
 
--- and what holds of each old item holds of it
+-- and a predicate that holds of all old items holds of it
 pub next_holds : {A : Type 0} (P : A → Type 0) (f : A → A) (all : List A) (i : ℕ) (items : List A) (x : A) → All P all → Mapped f all i items → i < length items → x ≡ get_or items i x → P (get_or items i x)
 next_holds P f all i items x holds m within here =
     let size = m.size in

@@ -1,4 +1,4 @@
--- The names of a function that is rewritten differ where those of the old one do.
+-- If no name is given twice in the old function, none is in the rewritten one.
 use Rattle.std.proofs.Common.{◌≡◌, ◌≢◌, ℕ, zero, suc, ◌+◌, ◌<◌, inl, inr, List, [], ◌∷◌, ◌++◌, length, Option, Some, refl, sym, ap, subst, ◌∙◌, arith, append_assoc, map}
 use Rattle.std.specs.Prelude.{slice_get}
 use Rattle.std.specs.List.{flat_map}
@@ -16,7 +16,7 @@ use Rattle.substitution.proofs.Placing.{IsTheRoot, insts_root, insts_other}
 abbrev Given : Type 0
 Given = Option (List ℕ)
 
--- in a list these stand in the place of one
+-- the second list is the first with ys in the place of one item, x
 data Replaced (x : Given) (ys : List Given) : List Given → List Given → Type 0 where
   here : (zs : List Given) → Replaced x ys (x ∷ zs) (ys ++ zs)
   later : (z : Given) (old new : List Given) → Replaced x ys old new → Replaced x ys (z ∷ old) (z ∷ new)
@@ -56,7 +56,7 @@ differ_with x xs ys among h d (suc i) zero n a b =
     absurd (omega arith)
 differ_with x xs ys among h d (suc i) (suc j) n a b = ap suc (h i j n a b)
 
--- these names in front of those
+-- the names ys in front of zs, none given twice
 differ_joined : (x : Given) (ys zs : List Given) → ((i : ℕ) (name : List ℕ) → slice_get ys i ≡ Some (Some name) → x ≡ Some name) → NamesDiffer ys → NamesDiffer (x ∷ zs) → NamesDiffer (ys ++ zs)
 differ_joined x ys zs named p q i j n a b =
     elim (get_cases ys zs i (Some n) a) [
@@ -87,7 +87,7 @@ names-joined : (xs ys : List Inst) → inst_names (xs ++ ys) ≡ inst_names xs +
 names-joined [] ys = refl
 names-joined (x ∷ xs) ys = ap (λ (l : List Given). x.name ∷ l) (names-joined xs ys)
 
--- where the root isn't among them the names stay
+-- instructions among which the root isn't keep their names
 names-other : (w : Rewrite) (b k : ℕ) (insts : List Inst) → ((j : ℕ) → ¬ IsTheRoot w b (k + j)) → inst_names (rewritten_insts w b k insts) ≡ inst_names insts
 names-other w b k [] other = refl
 names-other w b k (i ∷ insts) other =

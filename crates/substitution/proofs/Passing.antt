@@ -1,4 +1,4 @@
--- What is assigned in the old function is assigned in the new one, where it is then.
+-- What is assigned in the old function is assigned in the new one, at its new place.
 use Rattle.std.proofs.Common.{◌≡◌, ◌≢◌, ℕ, ◌+◌, ◌<◌, ◌≤◌, inl, inr, List, [], ◌∷◌, length, Some, refl, sym, subst, ◌∙◌, arith, Contains}
 use Rattle.std.specs.Prelude.{slice_get}
 use Rattle.ir_core.specs.Assigned.{IsAssigned}
@@ -30,7 +30,7 @@ pub assigned_later : (f : Function) (r : Register) (b j k : ℕ) → j ≤ k →
 assigned_later f (registers.Parameter p) b j k le h = h
 assigned_later f (registers.Result d i) b j k le h = (h.0, λ before walk. elim (h.1 before walk) [ inl passed ↦ inl passed | inr here ↦ inr (here.0, let lt : i < j = here.1 in omega arith) ])
 
--- an instruction is there
+-- the instruction at a place that has one
 inst_there : (f : Function) (b k : ℕ) → HasInst f b k → (inst : Inst) × IsInst f b k inst
 inst_there f b k h = let at : (x : Inst) × (slice_get h.0.insts k ≡ Some x) = some_at h.0.insts k h.2 in (at.0, record { block = h.0; is_block = h.1; is_inst = at.1 })
 
@@ -74,7 +74,7 @@ module _ (f : Function) (w : Rewrite) (root : Inst) (fits : Fits f w root) where
         ],
       )
 
-  -- what stands for an old register other than the root's is assigned where that is
+  -- the substitute for a register other than the root's is assigned where that register is
   old_assigned : (a : Operand) (register : Register) (c k : ℕ) → a ≢ operands.Register (root_of w) → substituted_operand (stands_for w) a ≡ operands.Register register
       → ((r : Register) → a ≡ operands.Register r → IsAssigned f r c k) → IsAssigned new register c (moved_place w c k)
   old_assigned (operands.Register (registers.Parameter p)) register c k ne e h = subst (λ (x : Register). IsAssigned new x c (moved_place w c k)) (same_register (registers.Parameter p) register e) (h (registers.Parameter p) refl)
@@ -86,7 +86,7 @@ module _ (f : Function) (w : Rewrite) (root : Inst) (fits : Fits f w root) where
   old_assigned operands.Undef register c k ne e h = absurd cc
   old_assigned operands.Poison register c k ne e h = absurd cc
 
-  -- what is put is assigned where the root was
+  -- an instruction that is put has its result assigned where the root was assigned
   put_assigned : (l : ℕ) (inst : Inst) (c k : ℕ) → l < length w.put → slice_get w.put l ≡ Some inst → IsAssigned f (root_of w) c k → IsAssigned new (registers.Result w.block (w.place + l)) c (moved_place w c k)
   put_assigned l inst c k lt at h = (
     has_inst new w.block (w.place + l) inst (put_on w f root l inst fits.is_root at),
@@ -105,7 +105,7 @@ module _ (f : Function) (w : Rewrite) (root : Inst) (fits : Fits f w root) where
             subst (λ (x : Register). IsAssigned new x c (moved_place w c k)) (same_register (registers.Result w.block (w.place + p.place)) register is) (put_assigned p.place p.inst c k p.before p.is_put h)
       ]
 
-  -- what stands for a register is assigned where that is
+  -- the substitute for a register is assigned where that register is
   pub assigned_on : (a : Operand) (register : Register) (c k : ℕ) → substituted_operand (stands_for w) a ≡ operands.Register register → ((r : Register) → a ≡ operands.Register r → IsAssigned f r c k)
       → IsAssigned new register c (moved_place w c k)
   assigned_on (operands.Register (registers.Parameter p)) register c k e h = subst (λ (x : Register). IsAssigned new x c (moved_place w c k)) (same_register (registers.Parameter p) register e) (h (registers.Parameter p) refl)
@@ -122,7 +122,7 @@ module _ (f : Function) (w : Rewrite) (root : Inst) (fits : Fits f w root) where
   assigned_on operands.Undef register c k e h = absurd cc
   assigned_on operands.Poison register c k e h = absurd cc
 
-  -- and what is put may read
+  -- and so are the registers that the instructions which are put may read
   pub read_assigned : (i width : ℕ) (a : Operand) (register : Register) → MayBeRead f w i width a → a ≡ operands.Register register → IsAssigned new register w.block (w.place + i)
   read_assigned i width a register (inl o) e =
       let at_root : IsAssigned new register w.block (moved_place w w.block w.place) = old_assigned o.old register w.block w.place (old_other f w root fits width a o) (sym o.stands ∙ e) o.assigned in

@@ -4,7 +4,7 @@ use Rattle.std.specs.Prelude.{slice_get, option_map, option_and_then}
 use Rattle.std.proofs.lemmas.Option.{slice_get-map, same_Some}
 use Rattle.ir_meaning.proofs.Pieces.{place_in, contains_at}
 
--- an option that a map makes a value of is a value
+-- if mapping an option gives a value, the option has one
 pub mapped : {A B : Type 0} (f : A → B) (o : Option A) (y : B) → option_map f o ≡ Some y → (x : A) × (o ≡ Some x) × (f x ≡ y)
 mapped f None y h = absurd cc
 mapped f (Some x) y h = (x, refl, same_Some (f x) y h)
@@ -24,7 +24,7 @@ map_in {A = A} {B = B} f xs x h =
     let at : (i : ℕ) × (slice_get xs i ≡ Some x) = place_in xs x h in
     contains_at (map f xs) at.0 (f x) (slice_get-map f xs at.0 ∙ ap (option_map f) at.1)
 
--- two lists in a row
+-- two lists, one behind the other
 pub get_left : {A : Type 0} (xs ys : List A) (n : ℕ) (x : A) → slice_get xs n ≡ Some x → slice_get (xs ++ ys) n ≡ Some x
 get_left [] ys n x h = absurd cc
 get_left (y ∷ xs) ys zero x h = h

@@ -1,4 +1,4 @@
--- Where instructions stand in a function that is rewritten.
+-- The indices of instructions in a rewritten function.
 use Rattle.std.proofs.Common.{◌≡◌, ◌≢◌, ℕ, zero, suc, ◌+◌, ◌-◌, ◌<◌, ◌≤◌, ◌==◌, Bool, true, false, cond, ◌⊎◌, inl, inr, List, [], ◌∷◌, ◌++◌, length, Some, refl, sym, ap, subst, ◌∙◌, arith}
 use Rattle.std.specs.Prelude.{slice_get, option_map, nat_lt}
 use Rattle.std.proofs.lemmas.Bool.{cases_eq, cases_lt, eq-eqb, ne_eqb, lt-ltb, le-ltb, and_from, and_right}
@@ -33,7 +33,7 @@ other_is w b k other =
       ]
     ]
 
--- ---- where places are then
+-- ---- the new indices of places
 
 abbrev IsBehind : Rewrite → ℕ → ℕ → Type 0
 IsBehind w b k = (b ≡ w.block) × (w.place < k) × (moved_place w b k ≡ k - 1 + length w.put)
@@ -51,7 +51,7 @@ behind_or w b k =
       ]
     ]
 
--- what holds of the moved place in both cases, told of a variable
+-- what the new index m of a place is, by whether it is behind the root
 pub record IsMoved (w : Rewrite) (b k m : ℕ) : Type 0 where
   pub behind : (b ≡ w.block) → w.place < k → m ≡ k - 1 + length w.put
   pub unmoved : (b ≡ w.block) → k ≤ w.place → m ≡ k
@@ -64,7 +64,7 @@ is_moved w b k =
       | inr h ↦ record { behind = λ same low. let le : k ≤ w.place = h.0 same in absurd (omega arith); unmoved = λ same le. h.1; elsewhere = λ ne. h.1 }
     ]
 
--- the next place of an instruction other than the root
+-- the next place behind an instruction other than the root
 next_of : (w : Rewrite) (b k m n : ℕ) → ¬ IsTheRoot w b k → IsMoved w b k m → IsMoved w b (suc k) n → n ≡ suc m
 next_of w b k m n other p q =
     elim (cases_eq b w.block) [
@@ -97,7 +97,7 @@ moved_behind_root w b k h =
     let y : suc k - 1 + length w.put ≡ k + length w.put = omega arith in
     x ∙ y
 
--- what stands first stays first
+-- instructions keep their order
 below : (w : Rewrite) (b j k m n : ℕ) → j < k → ¬ IsTheRoot w b j → IsMoved w b j m → IsMoved w b k n → m < n
 below w b j k m n lt other p q =
     elim (cases_eq b w.block) [
@@ -135,14 +135,14 @@ moved_up w b j k le = by (moved_place w b j) (moved_place w b k) (is_moved w b j
           ]
         ]
 
--- and what is put stands before what is behind the root
+-- what is put comes before what was behind the root
 pub put_below : (w : Rewrite) (b k l : ℕ) → b ≡ w.block → w.place < k → l < length w.put → w.place + l < moved_place w b k
 put_below w b k l same behind within = let y : moved_place w b k ≡ k - 1 + length w.put = (is_moved w b k).behind same behind in by (moved_place w b k) y
   where
     by : (m : ℕ) → m ≡ k - 1 + length w.put → w.place + l < m
     by m y = omega arith
 
--- two instructions other than the root stand at different places
+-- two instructions other than the root have different new indices
 pub moved_apart : (w : Rewrite) (b j k : ℕ) → ¬ IsTheRoot w b j → ¬ IsTheRoot w b k → moved_place w b j ≡ moved_place w b k → j ≡ k
 moved_apart w b j k at_j at_k same =
     elim (cases_lt j k) [
@@ -156,7 +156,7 @@ moved_apart w b j k at_j at_k same =
     by : (m n : ℕ) → m < n → m ≡ n → ⊥
     by m n lt e = omega arith
 
--- none of them stands where something is put
+-- no instruction other than the root has the new index of one that is put
 pub moved_no_put : (w : Rewrite) (b k l : ℕ) → ¬ IsTheRoot w b k → b ≡ w.block → l < length w.put → moved_place w b k ≡ w.place + l → ⊥
 moved_no_put w b k l other same within e = by (moved_place w b k) (is_moved w b k) e
   where
@@ -168,7 +168,7 @@ moved_no_put w b k l other same within e = by (moved_place w b k) (is_moved w b 
           | inr low ↦ let x : m ≡ k = p.unmoved same low in omega arith
         ]
 
--- ---- what stands for registers
+-- ---- substitutes for registers
 
 pub stands_root : (w : Rewrite) (b k : ℕ) → IsTheRoot w b k → stands_for w (registers.Result b k) ≡ w.result
 stands_root w b k h = ap (λ c. cond c w.result (operands.Register (registers.Result b (moved_place w b k)))) (root_is w b k h)
@@ -187,14 +187,14 @@ insts_root w b k inst insts h = ap (λ c. all_stand w b k c inst insts) (root_is
 pub insts_other : (w : Rewrite) (b k : ℕ) (inst : Inst) (insts : List Inst) → ¬ IsTheRoot w b k → rewritten_insts w b k (inst ∷ insts) ≡ substituted_inst (stands_for w) inst ∷ rewritten_insts w b (suc k) insts
 insts_other w b k inst insts h = ap (λ c. all_stand w b k c inst insts) (other_is w b k h)
 
--- the place of the i-th of these instructions, which block b has from place k on
+-- the place of an instruction in the rest of a list
 step : (k j : ℕ) → suc k + j ≡ k + suc j
 step k j = omega arith
 
 none_more : (m : ℕ) → 0 + m ≡ m
 none_more m = omega arith
 
--- Where these instructions begin at place m, they end at this one.
+-- Rewritten instructions that begin at the new index of their first place end at that of the place behind them.
 pub length-rewritten : (w : Rewrite) (b k : ℕ) (insts : List Inst) → length (rewritten_insts w b k insts) + moved_place w b k ≡ moved_place w b (k + length insts)
 length-rewritten w b k [] = let e : k ≡ k + 0 = omega arith in none_more (moved_place w b k) ∙ ap (moved_place w b) e
 length-rewritten w b k (i ∷ insts) =
@@ -215,7 +215,7 @@ length-rewritten w b k (i ∷ insts) =
     steps : (all more m n end last : ℕ) → all ≡ suc more → n ≡ suc m → more + n ≡ end → end ≡ last → all + m ≡ last
     steps all more m n end last p r s t = omega arith
 
--- an instruction other than the root stands where its place is then
+-- an instruction other than the root stands at its new index
 pub stays_at : (w : Rewrite) (b k : ℕ) (insts : List Inst) (j n : ℕ) (i : Inst) → slice_get insts j ≡ Some i → ¬ IsTheRoot w b (k + j) → n + moved_place w b k ≡ moved_place w b (k + j)
     → slice_get (rewritten_insts w b k insts) n ≡ Some (substituted_inst (stands_for w) i)
 stays_at w b k [] j n i h other at = absurd cc
@@ -248,7 +248,7 @@ stays_at w b k (x ∷ insts) (suc j) n i h other at =
     later : (m p q r : ℕ) → p ≡ suc m → p ≤ q → q ≡ r → n + m ≡ r → (d : ℕ) × (d + p ≡ q) × (n ≡ 1 + d)
     later m p q r a c e g = (n - 1, omega arith, omega arith)
 
--- and so does what is put
+-- and so does each instruction that is put
 pub put_at : (w : Rewrite) (b k : ℕ) (insts : List Inst) (l n : ℕ) (i : Inst) → b ≡ w.block → k ≤ w.place → w.place < k + length insts → slice_get w.put l ≡ Some i → n + k ≡ w.place + l
     → slice_get (rewritten_insts w b k insts) n ≡ Some i
 put_at w b k [] l n i same low high h at = absurd (omega arith)
@@ -262,7 +262,7 @@ put_at w b k (x ∷ insts) l n i same low high h at =
           ∙ get_right (substituted_inst (stands_for w) x ∷ []) (rewritten_insts w b (suc k) insts) (n - 1) n i (put_at w b (suc k) insts l (n - 1) i same (omega arith) (omega arith) h (omega arith)) (omega arith)
     ]
 
--- an instruction of the new function is one of the old, with what stands for its registers
+-- an instruction of the new function is one of the old function with its operands substituted
 pub record Stayed (w : Rewrite) (b k : ℕ) (insts : List Inst) (n : ℕ) (new : Inst) : Type 0 where
   pub place : ℕ
   pub inst : Inst
@@ -271,7 +271,7 @@ pub record Stayed (w : Rewrite) (b k : ℕ) (insts : List Inst) (n : ℕ) (new :
   pub count : n + moved_place w b k ≡ moved_place w b (k + place)
   pub is : substituted_inst (stands_for w) inst ≡ new
 
--- or one that is put
+-- or it is one that is put
 pub record WasPut (w : Rewrite) (b k n : ℕ) (new : Inst) : Type 0 where
   pub place : ℕ
   pub block : b ≡ w.block
@@ -340,7 +340,7 @@ block_at w f b block h = get_block w f b ∙ ap (option_map (rewritten_block w b
 pub block_back : (w : Rewrite) (f : Function) (b : ℕ) (new : Block) → IsBlock (rewritten_function w f) b new → (block : Block) × IsBlock f b block × (rewritten_block w b block ≡ new)
 block_back w f b new h = mapped (rewritten_block w b) (slice_get f.blocks b) new (sym (get_block w f b) ∙ h)
 
--- the place of a block's terminator
+-- the terminator of a block stands at its new index
 pub length-block : (w : Rewrite) (b : ℕ) (block : Block) → length (rewritten_insts w b 0 block.insts) ≡ moved_place w b (length block.insts)
 length-block w b block = by (moved_place w b 0) (moved_place w b (0 + length block.insts)) (moved_first w b) (length-rewritten w b 0 block.insts) ∙ ap (moved_place w b) none
   where
@@ -373,7 +373,7 @@ put_on w f root l inst h is_put =
       is_inst = put_at w w.block 0 h.block.insts l (w.place + l) inst refl (omega arith) (omega arith) is_put (omega arith);
     }
 
--- an instruction of the new function
+-- an instruction of the new function that is one of the old function with its operands substituted
 pub record InstStayed (f : Function) (w : Rewrite) (b n : ℕ) (new : Inst) : Type 0 where
   pub place : ℕ
   pub inst : Inst

@@ -1,4 +1,4 @@
--- Lists in which others stand in the place of an item.
+-- Lists in which others replace an item.
 use Rattle.std.proofs.Common.{◌≡◌, ℕ, ◌+◌, ◌-◌, ◌<◌, List, ◌++◌, length, take, drop, sym, ap, ◌∙◌, arith, append_assoc}
 use Rattle.std.proofs.Math.Seq.{drop-append_seam, take-append_seam, drop-append-add}
 use Rattle.std.proofs.lemmas.List.{length-append, drop-drop, length-append, length-take}
@@ -11,8 +11,8 @@ module _ {A : Type 0} where
   without : (xs ys : List A) (n : ℕ) → n ≡ length xs → take n (xs ++ ys) ++ drop (n + 1) (xs ++ ys) ≡ xs ++ drop 1 ys
   without xs ys n is = ap (λ k. take k (xs ++ ys) ++ drop (k + 1) (xs ++ ys)) is ∙ ap (λ l. l ++ drop (length xs + 1) (xs ++ ys)) (take-append_seam xs ys) ∙ ap (λ l. xs ++ l) (drop-append-add xs ys 1)
 
-  -- Where the items before a place go behind the others, all of them behind those that are put, and those before the
-  -- place to the front, and then the item at the place is removed.
+  -- The result of the rotations and appends: those from the place on come first, then those before it; all of them go
+  -- behind what is put, those before the place to the front, and the item at the place is removed.
   pub put_in : (all put first room last : List A) (p count n : ℕ) → p < length all → first ≡ drop p all ++ take p all → room ≡ put ++ first → n ≡ length room - p
       → last ≡ drop n room ++ take n room → count ≡ length put → take (p + count) last ++ drop (p + count + 1) last ≡ take p all ++ put ++ drop (p + 1) all
   put_in all put first room last p count n within rotates joins long moves counts =

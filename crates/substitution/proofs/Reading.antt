@@ -1,4 +1,4 @@
--- What is read in the old function allows what is read in its place.
+-- The registers that the old function reads hold values that allow those of their substitutes.
 use Rattle.std.proofs.Common.{◌≡◌, ℕ, List, [], ◌∷◌, length, None, Some, sym, ap, subst, ◌∙◌}
 use Rattle.std.specs.Prelude.{slice_get, option_map}
 use Rattle.std.proofs.lemmas.Option.{slice_get-map, same_Some}
@@ -31,7 +31,7 @@ module _ (f : Function) (w : Rewrite) (m : MeetsChecks f) where
   abbrev Pulled : Registers → Registers
   Pulled held = pulled_back (stands_for w) held
 
-  -- what is read at the place allows
+  -- the registers that are read at the place hold such values
   pub reads_allow : (b k : ℕ) (held held' : Registers) (reads : List Read) → AssignedAllow f w b k held held' → ((i : ℕ) (r : Read) → slice_get reads i ≡ Some r → IsThere b k r × ReadIsAssigned f r) → ReadsAllow held (Pulled held') reads
   reads_allow b k held held' reads h there i r register v' at is holds =
       let here : IsThere b k r × ReadIsAssigned f r = there i r at in
@@ -44,19 +44,19 @@ module _ (f : Function) (w : Rewrite) (m : MeetsChecks f) where
   pub end_reads_there : (b : ℕ) (block : Block) → IsBlock f b block → (i : ℕ) (r : Read) → slice_get (reads_at_end f b (length block.insts) block.end) i ≡ Some r → IsThere b (length block.insts) r × ReadIsAssigned f r
   end_reads_there b block at i r h = (end_place f b (length block.insts) block.end i r h, m.assigned b (length block.insts) i r (ap (λ l. slice_get l i) (end_reads f b block at) ∙ h))
 
-  -- an instruction has an effect that allows what it gives where each register holds what stands for it
+  -- an instruction has an effect that allows what it gives where each register holds its substitute's value
   pub op_allowed : (b k : ℕ) (inst : Inst) (held held' : Registers) (e' : Effect) → IsInst f b k inst → ¬ IsPhi inst.op → AssignedAllow f w b k held held' → HoldWidths f (Pulled held')
       → OpGives AnyNumber (Pulled held') inst.width inst.op e' → (e : Effect) × OpGives AnyNumber held inst.width inst.op e × AllowsEffect e e'
   op_allowed b k inst held held' e' at other h widths gives =
       instructions_monotone f held (Pulled held') b k inst.width inst.op e' (inst_widths f m.formed b k inst at other) widths
       (reads_allow b k held held' (reads_of f b k inst.width inst.op) h (inst_reads_there b k inst at other)) gives
 
-  -- what is assigned at the end of the block before allows
+  -- so did the registers that are assigned at the end of the block before
   abbrev pub Edge : List ℕ → Registers → Registers → Type 0
   Edge [] held held' = Unit {0}
   Edge (c ∷ before) held held' = AssignedAllow f w c (end_of f c) held held'
 
-  -- and a phi may take a value that allows that of the new function
+  -- and a phi may take a value that allows that of the new function's phi
   pub phi_matched : IsDefinite (stands_for w) → (before : List ℕ) (b k : ℕ) (inst : Inst) (entries : List (Operand × ℕ)) (entered entered' : Registers) (v' : Value) → IsInst f b k inst → inst.op ≡ Phi entries → Edge before entered entered'
       → PhiGives AnyNumber entered' (last_of before) inst.width (substituted_entries (stands_for w) entries) v' → (v : Value) × PhiGives AnyNumber entered (last_of before) inst.width entries v × AllowsValue v v'
   phi_matched definite [] b k inst entries entered entered' v' at phi edge gives = let none : None ≡ Some gives.0 = gives.2 in absurd cc

@@ -1,4 +1,4 @@
--- A function that is rewritten, as all that it reads substituted, and what is put in the root's place.
+-- A rewritten function is the old one with all reads substituted and then the new instructions in the root's place.
 use Rattle.std.proofs.Common.{◌≡◌, ◌≢◌, ℕ, zero, suc, ◌+◌, ◌<◌, ◌≤◌, ◌^◌, List, [], ◌∷◌, ◌++◌, length, take, drop, map, Option, None, Some, refl, sym, ap, subst, ◌∙◌, arith, get_or, All}
 use Rattle.std.specs.Prelude.{slice_get, slice_set, option_map, option_and_then, IsSome}
 use Rattle.std.proofs.lemmas.Option.{slice_get-map, slice_get-get_or, same_Some}

@@ -40,7 +40,7 @@ rewritten_refines f w root m fits m' numbers' matched =
 pub functions_refine : RewrittenFunctionsRefine
 functions_refine f w root m numbers fits matched = rewritten_refines f w root m fits (meets_checks f w root m fits) (numbers_fit f w root numbers fits) matched
 
--- ---- told of the new function alone
+-- ---- in terms of the new function's registers alone
 
 puts_allowed : (w : Rewrite) (d e : Effect) (after : Option Registers) → AllowsEffect d e → AllowsPut w e after → AllowsPut w d after
 puts_allowed w effects.Undefined e after h g = tt

@@ -1,5 +1,5 @@
--- Where runs of two functions go through the same blocks, each pass of the second's allowed by one of the first's, the
--- second may stand in the place of the first.
+-- If runs of two functions go through the same blocks, and each pass of the second is allowed by one of the first, the
+-- second function refines the first.
 use Rattle.std.proofs.Common.{◌≡◌, ℕ, zero, suc, Bool, true, false, List, [], ◌∷◌, Some, refl, sym, subst, map}
 use Rattle.ops.specs.Value.{AllowsValue}
 use Rattle.ops.specs.declared.value.Value.{Value}
@@ -19,17 +19,17 @@ pub record SameHeader (old new : Function) : Type 0 where
   pub after : new.after ≡ old.after
   pub blocks : map (λ b. b.name) new.blocks ≡ map (λ b. b.name) old.blocks
 
--- where both runs have passed these blocks and enter block b with these registers held
+-- a relation of two runs that have passed the same blocks and enter block b with these registers
 abbrev pub Relation : Type 1
 Relation = (before : List ℕ) (b : ℕ) (held new : Registers) → Type 0
 
--- where control goes on to block c both runs are related again, which have passed these blocks
+-- the one ending allows the other, and if control goes on to a block the runs are related there again
 abbrev pub Allowed : Relation → List ℕ → Ending → Ending → Type 0
 Allowed R before Undefines end' = Unit {0}
 Allowed R before (Returns v) end' = (v' : Value) × (end' ≡ Returns v') × AllowsValue v v'
 Allowed R before (Goes c held) end' = (new : Registers) × (end' ≡ Goes c new) × R before c held new
 
--- each pass of g through a block where both are related is allowed by one of f
+-- each pass of g through a block at which both are related is allowed by one of f
 abbrev pub IsSimulation : Function → Function → Relation → Type 0
 IsSimulation f g R = (before : List ℕ) (b : ℕ) (held new : Registers) (end' : Ending) → R before b held new → Passes AnyNumber g (last_of before) b new end'
     → (end : Ending) × Passes AnyNumber f (last_of before) b held end × Allowed R (b ∷ before) end end'

@@ -1,4 +1,4 @@
--- What stands for an operand has its width, and numbers stay of theirs.
+-- Substitutes have the widths of the operands that they replace, and literal numbers stay of theirs.
 use Rattle.std.proofs.Common.{◌≡◌, ◌≢◌, ℕ, ◌+◌, ◌^◌, ◌<◌, inl, inr, length, Some, sym, ap, subst, ◌∙◌}
 use Rattle.std.specs.Prelude.{slice_get, option_map, option_and_then}
 use Rattle.std.proofs.lemmas.Option.{same_Some}
@@ -28,7 +28,7 @@ use Rattle.substitution.proofs.Placing.{IsTheRoot, stands_root, stands_other, in
 pub width_at : (f : Function) (b k : ℕ) (inst : Inst) → IsInst f b k inst → width_of f (registers.Result b k) ≡ Some inst.width
 width_at f b k inst at = ap (option_and_then (λ (block : Block). option_map (λ (i : Inst). i.width) (slice_get block.insts k))) at.is_block ∙ ap (option_map (λ (i : Inst). i.width)) at.is_inst
 
--- a register with a width is that of an instruction
+-- a result that has a width is that of an instruction of the function
 pub inst_of_width : (f : Function) (b k width : ℕ) → width_of f (registers.Result b k) ≡ Some width → (inst : Inst) × IsInst f b k inst × (inst.width ≡ width)
 inst_of_width f b k width e =
     let block : (block : Block) × (slice_get f.blocks b ≡ Some block) × (option_map (λ (i : Inst). i.width) (slice_get block.insts k) ≡ Some width) = chained (λ (block : Block). option_map (λ (i : Inst). i.width) (slice_get block.insts k)) (slice_get f.blocks b) width e in
@@ -45,7 +45,7 @@ module _ (f : Function) (w : Rewrite) (root : Inst) (fits : Fits f w root) where
   abbrev new : Function
   new = rewritten_function w f
 
-  -- an old operand that is read isn't the root's register, which isn't assigned at the root
+  -- an old operand that may be read isn't the root's register, since that isn't assigned at the root
   pub old_other : (width : ℕ) (a : Operand) (o : IsOld f w width a) → o.old ≢ operands.Register (root_of w)
   old_other width a o e = let there : IsAssigned f (root_of w) w.block w.place = o.assigned (root_of w) e in not_both_assigned f w.block w.place w.block w.place fits.reached there there
 
@@ -69,7 +69,7 @@ module _ (f : Function) (w : Rewrite) (root : Inst) (fits : Fits f w root) where
   other_width width operands.Undef other h = h
   other_width width operands.Poison other h = h
 
-  -- what may be read has its width
+  -- an operand that may be read at a width has it
   pub read_width : (i width : ℕ) (a : Operand) → MayBeRead f w i width a → OperandHasWidth new width a
   read_width i width a (inl o) = subst (λ (x : Operand). OperandHasWidth new width x) (sym o.stands) (other_width width o.old (old_other width a o) o.fits)
   read_width i width a (inr p) =
@@ -92,7 +92,7 @@ module _ (f : Function) (w : Rewrite) (root : Inst) (fits : Fits f w root) where
   width_on width operands.Undef h = h
   width_on width operands.Poison h = h
 
-  -- ---- numbers
+  -- ---- literal numbers
 
   other_number : (a : Operand) → a ≢ operands.Register (root_of w) → IsOfItsWidth a → IsOfItsWidth (substituted_operand (stands_for w) a)
   other_number (operands.Register (registers.Parameter p)) other h = tt
@@ -124,6 +124,6 @@ module _ (f : Function) (w : Rewrite) (root : Inst) (fits : Fits f w root) where
   value_keeps held width operands.Undef v widths has number h = absurd cc
   value_keeps held width operands.Poison v widths has number h = subst (IsValueOf width) (same_Some values.Poison v h) tt
 
-  -- registers that hold values of their widths in the new function do so as the old one's
+  -- if the new function's registers hold values of their widths, so do the old function's, pulled back
   pub widths_back : (held : Registers) → HoldWidths new held → HoldWidths f (pulled_back (stands_for w) held)
   widths_back held widths r width v has h = value_keeps held width (stands_for w r) v widths (width_on width (operands.Register r) has) (number_on (operands.Register r) tt) h

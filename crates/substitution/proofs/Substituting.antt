@@ -1,4 +1,4 @@
--- What operations give where operands stand for registers.
+-- What operations give once operands are substituted for registers.
 use Rattle.std.proofs.Common.{◌≡◌, ◌≢◌, ℕ, Bool, true, false, ◌&&◌, cond, List, Option, Some, refl, sym, ap, subst, ◌∙◌, Contains}
 use Rattle.std.proofs.lemmas.Option.{same_Some}
 use Rattle.ops.specs.declared.value.Value.{Value}

@@ -1,4 +1,4 @@
--- Once an instruction, or all that is put, has run, what is assigned still allows.
+-- After an instruction, or all that is put in the root's place, the assigned registers still allow their substitutes.
 use Rattle.std.proofs.Common.{◌≡◌, ◌≢◌, ℕ, suc, ◌+◌, ◌<◌, inl, inr, List, [], ◌∷◌, length, Some, refl, sym, ap, subst, ◌∙◌, arith}
 use Rattle.std.specs.Prelude.{slice_get}
 use Rattle.std.proofs.lemmas.Option.{same_Some}
@@ -31,7 +31,7 @@ use Rattle.substitution.proofs.Placing.{IsTheRoot, moved_apart, moved_no_put, st
 use Rattle.substitution.proofs.Standing.{other_register}
 
 module _ (f : Function) (w : Rewrite) (root : Inst) (fits : Fits f w root) where
-  -- ---- what stands for a register isn't written where another instruction stands
+  -- ---- no instruction writes the substitute for another's register
 
   old_apart : (b k : ℕ) (a : Operand) → IsReached f b → ¬ IsTheRoot w b k → IsAssigned f (root_of w) b k → a ≢ operands.Register (root_of w) → ((r : Register) → a ≡ operands.Register r → IsAssigned f r w.block w.place)
       → substituted_operand (stands_for w) a ≢ operands.Register (registers.Result b (moved_place w b k))
@@ -74,7 +74,7 @@ module _ (f : Function) (w : Rewrite) (root : Inst) (fits : Fits f w root) where
 
   -- ---- one instruction
 
-  -- the register of an instruction isn't another
+  -- writing an instruction's register leaves the others as they were
   other_held : (b k : ℕ) (held : Registers) (v : Value) (r : Register) → r ≢ registers.Result b k → holding held b k v r ≡ held r
   other_held b k held v (registers.Parameter p) ne = refl
   other_held b k held v (registers.Result d j) ne = held_elsewhere held b k v d j (λ h. ne (let p = h.0 in let q = h.1 in cc))
@@ -94,7 +94,7 @@ module _ (f : Function) (w : Rewrite) (root : Inst) (fits : Fits f w root) where
             (was.0, other_held b k held v r before.0 ∙ was.1, was.2)
       ]
 
-  -- what stands for a register other than the root's isn't put
+  -- the substitute for a register other than the root's is no result of what is put
   stand_not_put : (r : Register) → r ≢ root_of w → (l : ℕ) → l < length w.put → stands_for w r ≢ operands.Register (registers.Result w.block (w.place + l))
   stand_not_put (registers.Parameter p) ne l lt e = absurd cc
   stand_not_put (registers.Result d j) ne l lt e =
@@ -113,7 +113,7 @@ module _ (f : Function) (w : Rewrite) (root : Inst) (fits : Fits f w root) where
             (was.0, other_held w.block w.place held v r before.0 ∙ was.1, was.2)
       ]
 
-  -- the same of a place that is the root's
+  -- behind the root's place the assigned registers allow their substitutes
   pub allows_behind : (b k : ℕ) (held held' next : Registers) (v : Value) → b ≡ w.block → k ≡ w.place → AssignedAllow f w b k held held' → RunsThrough b k w.put held' (Some next) → AllowsPut w (effects.Gives v) (Some next)
       → AssignedAllow f w b (suc k) (holding held b k v) next
   allows_behind b k held held' next v p q h runs allowed =
@@ -126,7 +126,7 @@ module _ (f : Function) (w : Rewrite) (root : Inst) (fits : Fits f w root) (args
   abbrev new : Function
   new = rewritten_function w f
 
-  -- a run of the new function comes through what is put
+  -- a run of the new function comes to the place behind the first instructions that are put
   put_arrives : (before : List ℕ) (n l : ℕ) (insts : List Inst) (entered held next : Registers) → n ≡ w.place + l → ((i : ℕ) → slice_get w.put (l + i) ≡ slice_get insts i)
       → Arrives new args before w.block n entered held → RunsThrough w.block n insts held (Some next) → Arrives new args before w.block (n + length insts) entered next
   put_arrives before n l [] entered held next at is run h =
@@ -146,7 +146,7 @@ module _ (f : Function) (w : Rewrite) (root : Inst) (fits : Fits f w root) (args
           let same : suc n + length insts ≡ n + suc (length insts) = omega arith in
           subst (λ (p : ℕ). Arrives new args before w.block p entered next) same rest
 
-  -- the same of a place that is the root's
+  -- and so behind all of them
   pub put_through : (k b : ℕ) (before : List ℕ) (entered held next : Registers) → b ≡ w.block → k ≡ w.place → Arrives new args before b k entered held → RunsThrough b k w.put held (Some next) → Arrives new args before b (k + length w.put) entered next
   put_through k b before entered held next p q run h =
       subst (λ (c : ℕ). Arrives new args before c (k + length w.put) entered next) (sym p)

@@ -1,5 +1,4 @@
--- What may stand in the place of what: of registers that are read or assigned, of ends of a pass, and of what is put in
--- the root's place.
+-- What allows what: registers that are read or assigned, endings of a pass, and what is put in the root's place.
 use Rattle.std.specs.Prelude.{◌≡◌, ℕ, List, Option, None, Some, slice_get}
 use Rattle.ops.specs.Value.{AllowsValue}
 use Rattle.ops.specs.declared.value.Value.{Value}
@@ -14,13 +13,13 @@ use Rattle.ir_core.specs.declared.operand.Register.{Register}
 use Rattle.substitution.specs.Substitution.{pulled_back}
 use Rattle.substitution.specs.Rewritten.{Rewrite, root_of, stands_for}
 
--- for each register that is read: where the second registers hold a value there, the first hold one that allows it
+-- where a register that is read holds a value in the second registers, it holds one in the first that allows it
 abbrev pub ReadsAllow : Registers → Registers → List Read → Type 0
 ReadsAllow held held' reads = (i : ℕ) (r : Read) (register : Register) (v' : Value)
     → slice_get reads i ≡ Some r → r.operand ≡ operands.Register register → held' register ≡ Some v' → (v : Value) × (held register ≡ Some v) × AllowsValue v v'
 
--- a pass through a block that ends so may stand in the place of one that ends as the other: registers held where it
--- goes on are related as R says
+-- the one ending of a pass through a block allows the other; if the passes go on, what registers hold then is related
+-- as R says
 abbrev pub AllowsEnding : (Registers → Registers → Type 0) → Ending → Ending → Type 0
 AllowsEnding R Undefines end' = Unit {0}
 AllowsEnding R (Returns v) (Returns v') = AllowsValue v v'
@@ -30,13 +29,14 @@ AllowsEnding R (Returns v) (Goes b' held') = ⊥
 AllowsEnding R (Goes b held) Undefines = ⊥
 AllowsEnding R (Goes b held) (Returns v') = ⊥
 
--- for each register that is assigned in f at place k of block b: where what stands for it in the new function holds a
--- value, it holds one that allows it
+-- for each register that is assigned in f at place k of block b: where its substitute holds a value in the new
+-- function, the register holds one that allows it
 abbrev pub AssignedAllow : Function → Rewrite → ℕ → ℕ → Registers → Registers → Type 0
 AssignedAllow f w b k held new = (r : Register) (v' : Value)
     → IsAssigned f r b k → pulled_back (stands_for w) new r ≡ Some v' → (v : Value) × (held r ≡ Some v) × AllowsValue v v'
 
--- the root's effect allows what comes of the instructions that are put in its place
+-- the root's effect allows what comes of the instructions in its place: the registers behind them, or undefined
+-- behaviour (None)
 abbrev pub AllowsPut : Rewrite → Effect → Option Registers → Type 0
 AllowsPut w effects.Undefined after = Unit {0}
 AllowsPut w (effects.Gives v) None = ⊥

@@ -1,4 +1,4 @@
--- When what is put in the root's place fits the function, so that the new one meets the checks too.
+-- When the instructions that are put in the root's place fit the function, so that the new one meets the checks too.
 use Rattle.std.specs.Prelude.{◌≡◌, ◌≢◌, ℕ, ◌+◌, ◌<◌, ◌^◌, ◌⊎◌, List, length, map, Some, slice_get}
 use Rattle.ir_core.specs.Assigned.{IsAssigned}
 use Rattle.ir_core.specs.Checks.{IsInst, IsPhi, IsTyped, NamesDiffer, OperandHasWidth}
@@ -13,14 +13,14 @@ use Rattle.ir_core.specs.declared.operand.Register.TheVariants as registers
 use Rattle.substitution.specs.Substitution.{substituted_operand}
 use Rattle.substitution.specs.Rewritten.{Rewrite, stands_for}
 
--- the number is one of its width
+-- if the operand is a literal number, it is one of its width
 abbrev pub IsOfItsWidth : Operand → Type 0
 IsOfItsWidth (operands.Number n) = n.number < 2 ^ n.width
 IsOfItsWidth (operands.Register r) = Unit {0}
 IsOfItsWidth operands.Undef = Unit {0}
 IsOfItsWidth operands.Poison = Unit {0}
 
--- a literal of the width, or what stands for a register of it that is assigned at the root
+-- the operand is a literal of the width, or the substitute for a register of that width that is assigned at the root
 pub record IsOld (f : Function) (w : Rewrite) (width : ℕ) (a : Operand) : Type 0 where
   pub old : Operand
   pub stands : a ≡ substituted_operand (stands_for w) old
@@ -28,7 +28,7 @@ pub record IsOld (f : Function) (w : Rewrite) (width : ℕ) (a : Operand) : Type
   pub number : IsOfItsWidth old
   pub assigned : (r : Register) → old ≡ operands.Register r → IsAssigned f r w.block w.place
 
--- the result, of the width, of one of the first i instructions that are put
+-- the operand is the result, of this width, of one of the first i instructions that are put
 pub record IsPutBefore (w : Rewrite) (i width : ℕ) (a : Operand) : Type 0 where
   pub place : ℕ
   pub inst : Inst
@@ -37,7 +37,7 @@ pub record IsPutBefore (w : Rewrite) (i width : ℕ) (a : Operand) : Type 0 wher
   pub fits : inst.width ≡ width
   pub stands : a ≡ operands.Register (registers.Result w.block (w.place + place))
 
--- the operand may be read at this width by the i-th instruction that is put
+-- the i-th instruction that is put may read the operand at this width
 abbrev pub MayBeRead : Function → Rewrite → ℕ → ℕ → Operand → Type 0
 MayBeRead f w i width a = IsOld f w width a ⊎ IsPutBefore w i width a
 
@@ -47,7 +47,7 @@ pub record Fits (f : Function) (w : Rewrite) (root : Inst) : Type 0 where
   pub reached : IsReached f w.block
   pub no_phis_put : (i : ℕ) (inst : Inst) → slice_get w.put i ≡ Some inst → ¬ IsPhi inst.op
   pub typed : (i : ℕ) (inst : Inst) → slice_get w.put i ≡ Some inst → IsTyped inst.width inst.op
-  -- what is put has no name, or one of them the root's
+  -- each instruction that is put has no name or the root's, and no two of them have one name
   pub named_once : NamesDiffer (map (λ i. i.name) w.put)
   pub names : (i : ℕ) (inst : Inst) (name : List ℕ) → slice_get w.put i ≡ Some inst → inst.name ≡ Some name → root.name ≡ Some name
   pub reads : (i j : ℕ) (inst : Inst) (r : Read) → slice_get w.put i ≡ Some inst → slice_get (reads_of f w.block w.place inst.width inst.op) j ≡ Some r → MayBeRead f w i r.width r.operand

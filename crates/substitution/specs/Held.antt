@@ -1,4 +1,4 @@
--- What registers may hold where a run comes to a place.
+-- What registers may hold when a run comes to a place.
 use Rattle.std.specs.Prelude.{◌≡◌, ℕ, List, ◌∷◌, Some}
 use Rattle.ops.specs.declared.value.Value.{Value}
 use Rattle.ir_core.specs.Assigned.{IsAssigned}
@@ -12,12 +12,12 @@ use Rattle.ir_meaning.specs.Laws.{HoldWidths}
 use Rattle.ir_meaning.specs.Histories.{Moment, place_of, IsHistory}
 use Rattle.ir_meaning.specs.HistoryLaws.{EquationHolds}
 
--- a run at these arguments comes to place k of block b with these registers held
+-- some run at these arguments comes to place k of block b, and its registers hold this there
 abbrev pub ComesTo : Function → List Value → ℕ → ℕ → Registers → Type 0
 ComesTo f args b k held = (m : Moment) × (before : List Moment) × IsHistory f args (m ∷ before) × (place_of m ≡ (b, k)) × (m.held ≡ held)
 
--- The registers may be held at place k of block b: each has its width, each that is assigned there holds a value, and,
--- if it isn't a phi's, one that its instruction gives on what its operands hold now.
+-- Registers may hold this at place k of block b: each value has its register's width, each register that is assigned
+-- there holds one, and the result of an instruction other than a phi one that it gives on what its operands hold now.
 pub record MayHold (f : Function) (b k : ℕ) (held : Registers) : Type 0 where
   pub widths : HoldWidths f held
   pub assigned : (r : Register) → IsAssigned f r b k → (v : Value) × (held r ≡ Some v)

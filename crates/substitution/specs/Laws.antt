@@ -22,8 +22,8 @@ use Rattle.substitution.specs.Held.{ComesTo, MayHold}
 
 -- ---- substitution
 
--- what an instruction gives once what stands for its registers is read is what it gave where each register held what
--- stands for it
+-- an instruction in which operands are substituted for registers gives what it gave where each register held the value
+-- of its substitute
 abbrev pub SubstitutedInstructionsGive : Type 0
 SubstitutedInstructionsGive = (to : Substitution) (held : Registers) (width : ℕ) (op : Op) (e : Effect)
     → IsDefinite to → OpGives AnyNumber held width (substituted_op to op) e ↔ OpGives AnyNumber (pulled_back to held) width op e
@@ -40,40 +40,40 @@ SubstitutedTerminatorsEnd = (to : Substitution) (f : Function) (held : Registers
 
 -- ---- registers that are read hold values that allow others
 
--- Where what is read in the first registers allows what is read in the second, an instruction may have an effect that
--- allows each that it has on the second.
+-- Where the registers that are read hold values that allow those of the second registers, an instruction may have an
+-- effect that allows each that it has on the second.
 abbrev pub InstructionsAreMonotoneInReads : Type 0
 InstructionsAreMonotoneInReads = (f : Function) (held held' : Registers) (b k width : ℕ) (op : Op) (e' : Effect)
     → OperandsHaveWidths f width op → HoldWidths f held' → ReadsAllow held held' (reads_of f b k width op)
     → OpGives AnyNumber held' width op e'
     → (e : Effect) × OpGives AnyNumber held width op e × AllowsEffect e e'
 
--- and a terminator may end the pass in a way that allows each in which it ends it there; registers stay as they are
+-- and a terminator may end the pass in a way that allows each in which it ends it there, leaving registers as they are
 abbrev pub TerminatorsAreMonotoneInReads : Type 0
 TerminatorsAreMonotoneInReads = (f : Function) (held held' : Registers) (b k : ℕ) (t : Terminator) (end' : Ending)
     → ReadsAllow held held' (reads_at_end f b k t)
     → EndGives AnyNumber held' f t end'
     → (end : Ending) × EndGives AnyNumber held f t end × AllowsEnding (λ x x'. (x ≡ held) × (x' ≡ held')) end end'
 
--- ---- where runs come to
+-- ---- places to which runs come
 
--- registers hold what they may wherever a run comes to
+-- wherever a run comes to, registers hold only what they may hold there
 abbrev pub RunsHoldWhatIsAssigned : Type 0
 RunsHoldWhatIsAssigned = (f : Function) (args : List Value) (b k : ℕ) (held : Registers)
     → MeetsChecks f → NumbersFit f → AreArguments f.parameters args → ComesTo f args b k held → MayHold f b k held
 
 -- ---- rewriting
 
--- a function that is rewritten by what fits it meets the checks too
+-- a function that is rewritten by instructions that fit it meets the checks too
 abbrev pub RewrittenFunctionsMeetChecks : Type 0
 RewrittenFunctionsMeetChecks = (f : Function) (w : Rewrite) (root : Inst) → MeetsChecks f → Fits f w root → MeetsChecks (rewritten_function w f)
 
--- and its numbers are of their widths
+-- and its literal numbers are of their widths
 abbrev pub RewrittenNumbersFit : Type 0
 RewrittenNumbersFit = (f : Function) (w : Rewrite) (root : Inst) → NumbersFit f → Fits f w root → NumbersFit (rewritten_function w f)
 
--- Wherever runs of both functions come to the root, with registers that allow the others': each way through what is put
--- is allowed by an effect of the root.
+-- Wherever runs of both functions come to the root, with registers that allow those of the new function, each execution
+-- of the instructions that are put is allowed by an effect of the root.
 abbrev pub RootAllowsPut : Function → Rewrite → Inst → Type 0
 RootAllowsPut f w root = (args : List Value) (held held' : Registers) (after : Option Registers)
     → AreArguments f.parameters args
@@ -83,21 +83,22 @@ RootAllowsPut f w root = (args : List Value) (held held' : Registers) (after : O
     → RunsThrough w.block w.place w.put held' after
     → (e : Effect) × OpGives AnyNumber held root.width root.op e × AllowsPut w e after
 
--- then the new function may stand in the place of the old one
+-- if so, the new function refines the old one
 abbrev pub RewrittenFunctionsRefine : Type 0
 RewrittenFunctionsRefine = (f : Function) (w : Rewrite) (root : Inst)
     → MeetsChecks f → NumbersFit f → Fits f w root → RootAllowsPut f w root
     → Refines f (rewritten_function w f)
 
--- The same told of one list of registers: whatever the new function may hold where what is put stands, told as the old
--- one's, each way through what is put is allowed by an effect that the root has on these.
+-- The same for one choice of registers: for whatever registers of the new function hold, if each register of the old
+-- one may hold its substitute's value there, each execution of the instructions that are put is allowed by an effect
+-- that the root has on these values.
 abbrev pub PutIsAllowed : Function → Rewrite → Inst → Type 0
 PutIsAllowed f w root = (held : Registers) (after : Option Registers)
     → MayHold f w.block w.place (pulled_back (stands_for w) held)
     → RunsThrough w.block w.place w.put held after
     → (e : Effect) × OpGives AnyNumber (pulled_back (stands_for w) held) root.width root.op e × AllowsPut w e after
 
--- This is enough, since the root is monotone in what it reads, which is assigned.
+-- This is enough, since the root is monotone in the registers that it reads, and these are assigned.
 abbrev pub RewrittenFunctionsRefineWherePutIsAllowed : Type 0
 RewrittenFunctionsRefineWherePutIsAllowed = (f : Function) (w : Rewrite) (root : Inst)
     → MeetsChecks f → NumbersFit f → Fits f w root → PutIsAllowed f w root

@@ -1,4 +1,4 @@
--- Registers whose places are counted in 32 bits where other instructions stand in the place of one.
+-- Indices of registers fit 32 bits also where other instructions have replaced one.
 use Rattle.std.specs.Prelude.{◌≡◌, ℕ, ◌+◌, ◌≤◌, ◌^◌, length, All}
 use Rattle.ir_core.specs.declared.function.Block.{Block}
 use Rattle.ir_core.specs.declared.instruction.Inst.{Inst}
@@ -11,7 +11,7 @@ use Rattle.ir_core.specs.declared.terminator.Terminator.{Terminator}
 use Rattle.ir_core.specs.declared.terminator.Terminator.TheVariants as terminators
 use Rattle.substitution.specs.Rewritten.{Rewrite}
 
--- a register of the root's block has such a place, behind all that is put
+-- if the operand is a result of the root's block, its index does so with all that is put before it
 abbrev pub HasRoom : Rewrite → Operand → Type 0
 HasRoom w (operands.Register (registers.Result b k)) = b ≡ w.block → k + length w.put ≤ 2 ^ 32
 HasRoom w (operands.Register (registers.Parameter p)) = Unit {0}
@@ -19,7 +19,7 @@ HasRoom w (operands.Number n) = Unit {0}
 HasRoom w operands.Undef = Unit {0}
 HasRoom w operands.Poison = Unit {0}
 
--- so has each register that an operation, a terminator or a block reads
+-- so does that of each register that an operation, a terminator or a block reads
 abbrev pub OpHasRoom : Rewrite → Op → Type 0
 OpHasRoom w (Binary op flags x y) = HasRoom w x × HasRoom w y
 OpHasRoom w (Compare pred samesign width x y) = HasRoom w x × HasRoom w y

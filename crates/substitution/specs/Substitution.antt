@@ -1,4 +1,5 @@
--- Operations and terminators in which each register that is read is replaced by an operand, and what they read then.
+-- Operations and terminators in which an operand is substituted for each register that they read, and what they give
+-- then.
 use Rattle.std.specs.Prelude.{◌≢◌, ℕ, List, map, Option, None, Some}
 use Rattle.ops.specs.declared.value.Value.{Value}
 use Rattle.ops.specs.declared.value.Value.TheVariants as values
@@ -13,12 +14,12 @@ use Rattle.ir_core.specs.declared.operand.Register.{Register}
 use Rattle.ir_core.specs.declared.terminator.Terminator.{Terminator}
 use Rattle.ir_core.specs.declared.terminator.Terminator.TheVariants as terminators
 
--- for each register the operand that stands for it
+-- for each register the operand that is substituted for it
 abbrev pub Substitution : Type 0
 Substitution = Register → Operand
 
--- an operand, the entries of a phi, an operation, an instruction, a terminator and a block, with what stands for each
--- register that is read
+-- an operand, the entries of a phi, an operation, an instruction, a terminator and a block, with the substitute for
+-- each register that is read
 abbrev pub substituted_operand : Substitution → Operand → Operand
 substituted_operand to (operands.Register r) = to r
 substituted_operand to (operands.Number n) = operands.Number n
@@ -50,18 +51,18 @@ substituted_end to terminators.Unreachable = terminators.Unreachable
 abbrev pub substituted_block : Substitution → Block → Block
 substituted_block to block = record { name = block.name; insts = map (substituted_inst to) block.insts; end = substituted_end to block.end }
 
--- `undef` stands for no register, since each read of it may give another number
+-- no substitute is `undef`, since each read of that may give another number
 abbrev pub IsDefinite : Substitution → Type 0
 IsDefinite to = (r : Register) → to r ≢ operands.Undef
 
--- what an operand other than `undef` holds
+-- the value that an operand other than `undef` has
 abbrev pub value_of : Registers → Operand → Option Value
 value_of held (operands.Register r) = held r
 value_of held (operands.Number n) = Some (values.Bits n)
 value_of held operands.Undef = None
 value_of held operands.Poison = Some values.Poison
 
--- each register as holding what stands for it holds, and the end of a pass with registers so
+-- each register holds the value of its substitute; and the ending of a pass with registers that do so
 abbrev pub pulled_back : Substitution → Registers → Registers
 pulled_back to held r = value_of held (to r)
 

@@ -1,10 +1,11 @@
-//! Functions in which other instructions stand in the place of one.
+//! Rewriting a function in one place: other instructions replace one, the root, and an operand is substituted for its
+//! register.
 //!
-//! In `specs/`, `Substitution` says what operations are where operands stand for registers, `Rewritten` what a function
-//! is with other instructions in the place of one, `Fits` when those fit it, `Held` what registers may hold where a run
-//! comes to, `Allows` what may stand in whose place, and `Laws` what holds of all these: what is left to show of a
-//! rewrite is that the root's effect allows what comes of the instructions that are put. `Room` and `Put` serve the
-//! private functions.
+//! In `specs/`, `Substitution` says what operations are once operands are substituted for registers, `Rewritten` what a
+//! function is once an instruction in it is replaced, `Fits` when the new instructions fit it, `Held` what registers
+//! may hold where a run comes to, `Allows` what may stand in whose place, and `Laws` what holds of all these: what is
+//! left to show of a rewrite is that the root's effect allows what comes of the instructions that are put. `Room` and
+//! `Put` serve private functions alone.
 #![tactic(auto)]
 
 mod laws;

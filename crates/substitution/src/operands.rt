@@ -1,4 +1,4 @@
-//! Operands that stand for registers, written in place.
+//! Substitution of operands for registers, in place.
 
 ghost use Rattle.std.specs.Prelude.{◌≡◌, All, map};
 ghost use Rattle.substitution.specs.Substitution as written;
@@ -11,7 +11,7 @@ use lists::List;
 use std::alloc::Global;
 use std::mem;
 
-/// What stands for an operand.
+/// The operand, with the substitute for its register.
 fn substituted_operand(rewrite: &Rewrite, operand: Operand) -> Operand
     requires { HasRoom rewrite.now operand }
     ensures { result ≡ written.substituted_operand (stands_for rewrite.now) operand }
@@ -22,7 +22,7 @@ fn substituted_operand(rewrite: &Rewrite, operand: Operand) -> Operand
     }
 }
 
-/// The entries of a phi, with what stands for their operands. It takes no memory.
+/// The entries of a phi, with the substitutes for the registers of their operands. It takes no memory.
 fn substituted_entries(rewrite: &Rewrite, entries: List<(Operand, u32)>) -> List<(Operand, u32)>
     requires { All (λ e. HasRoom rewrite.now e.0) entries }
     ensures { result ≡ written.substituted_entries (stands_for rewrite.now) entries }
@@ -34,7 +34,7 @@ fn substituted_entries(rewrite: &Rewrite, entries: List<(Operand, u32)>) -> List
     List::from_vec(entries)
 }
 
-/// An operation with what stands for its operands.
+/// An operation, with the substitutes for the registers of its operands.
 fn substituted_op(rewrite: &Rewrite, op: Op) -> Op
     requires { OpHasRoom rewrite.now op }
     ensures { result ≡ written.substituted_op (stands_for rewrite.now) op }
@@ -65,7 +65,7 @@ fn substituted_op(rewrite: &Rewrite, op: Op) -> Op
     }
 }
 
-/// The terminator with what stands for its operand.
+/// The terminator, with the substitute for the register of its operand.
 fn substituted_end(rewrite: &Rewrite, end: Terminator) -> Terminator
     requires { EndHasRoom rewrite.now end }
     ensures { result ≡ written.substituted_end (stands_for rewrite.now) end }
@@ -83,7 +83,7 @@ fn substituted_end(rewrite: &Rewrite, end: Terminator) -> Terminator
     }
 }
 
-/// Writes what stands for an instruction's operands.
+/// Substitutes for the registers of an instruction's operands.
 fn substitute_inst(rewrite: &Rewrite, inst: &mut Inst)
     requires { OpHasRoom rewrite.now inst.old.op }
     ensures { inst.new ≡ written.substituted_inst (stands_for rewrite.now) inst.old }
@@ -92,7 +92,7 @@ fn substitute_inst(rewrite: &Rewrite, inst: &mut Inst)
     inst.op = substituted_op(rewrite, op);
 }
 
-/// The instructions with what stands for their operands. It takes no memory.
+/// The instructions, with the substitutes for the registers of their operands. It takes no memory.
 fn substituted_insts(rewrite: &Rewrite, insts: List<Inst>) -> List<Inst>
     requires { All (λ i. OpHasRoom rewrite.now i.op) insts }
     ensures { result ≡ map (written.substituted_inst (stands_for rewrite.now)) insts }
@@ -104,7 +104,7 @@ fn substituted_insts(rewrite: &Rewrite, insts: List<Inst>) -> List<Inst>
     List::from_vec(insts)
 }
 
-/// Writes what stands for the operands of a block's instructions and of its terminator. It takes no memory.
+/// Substitutes for the registers of the operands of a block's instructions and terminator. It takes no memory.
 pub(crate) fn substitute_block(alloc: Global, rewrite: &Rewrite, block: &mut Block)
     requires { BlockHasRoom rewrite.now block.old }
     ensures { block.new ≡ written.substituted_block (stands_for rewrite.now) block.old }

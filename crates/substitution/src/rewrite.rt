@@ -1,4 +1,4 @@
-//! Which instructions stand in the place of one, and where each register is then.
+//! An edit of a function that replaces one instruction, and the operand that it substitutes for each register.
 
 ghost use Rattle.std.specs.Prelude.{◌≡◌};
 ghost use Rattle.substitution.specs.Rewritten.{stands_for};
@@ -7,22 +7,22 @@ ghost use Rattle.substitution.specs.Room.{HasRoom};
 use ir_core::{Inst, Operand, Register};
 use lists::List;
 
-/// In the place of one instruction, the root, others stand, and wherever its register was read an operand is. Both name
-/// the registers of the new function.
+/// Other instructions replace one instruction, the root, and an operand replaces each use of its register. The new
+/// instructions and the operand name registers of the new function.
 #[derive(Drop)]
 pub struct Rewrite {
-    /// The root's block.
+    /// The index of the root's block.
     pub block: u32,
-    /// The root's place there.
+    /// The root's index there.
     pub place: u32,
-    /// The instructions that stand in its place, in order.
+    /// The instructions that are put in the root's place, in order.
     pub put: List<Inst>,
-    /// What stands for its register. Where the root keeps that, `put` ends with its new instruction, of which this is
-    /// the register.
+    /// The operand that replaces the uses of the root's register. If the root is computed anew, its new instruction is
+    /// the last of `put`, and this is that instruction's register.
     pub result: Operand,
 }
 
-/// What stands for a register: the result for the root's, and for any other itself, where it is then.
+/// The substitute for a register: the result for the root's, and for any other the register itself, at its new index.
 pub(crate) fn stands_for(rewrite: &Rewrite, register: Register) -> Operand
     requires { HasRoom rewrite.now (Operand.Register register) }
     ensures { result ≡ stands_for rewrite.now register }

@@ -17,7 +17,7 @@ use lists::List;
 use std::alloc::{AllocError, Global};
 use std::mem;
 
-/// The instructions of a block with others in the place of one. It takes no memory: there is room for all.
+/// The instructions of a block with others in the place of one. It takes no memory: `room` has capacity for all.
 fn with_put(insts: List<Inst>, place: usize, put: List<Inst>, room: Vec<Inst>) -> List<Inst>
     requires place { place < length insts }
     requires empty { vec_len room ≡ 0 }
@@ -29,7 +29,8 @@ fn with_put(insts: List<Inst>, place: usize, put: List<Inst>, room: Vec<Inst>) -
     let mut room = room;
     let count = put.len();
 
-    // Those before the place go behind the others, then all behind what is put, and then they go to the front.
+    // Rotations and appends alone, so that no memory is taken: those from the place on come first, then those before
+    // it; all of them go behind what is put, and those before the place to the front.
     insts.rotate_left(place);
     let _ = room.append(&mut put);
     let _ = room.append(&mut insts);
@@ -38,7 +39,7 @@ fn with_put(insts: List<Inst>, place: usize, put: List<Inst>, room: Vec<Inst>) -
     List::from_vec(room)
 }
 
-/// The blocks with what stands for each operand. It takes no memory.
+/// The blocks with the substitutes for all registers that they read. It takes no memory.
 fn substituted_blocks(alloc: Global, rewrite: &Rewrite, blocks: List<Block>) -> List<Block>
     requires { All (BlockHasRoom rewrite.now) blocks }
     ensures { result ≡ map (substituted_block (stands_for rewrite.now)) blocks }
@@ -50,7 +51,7 @@ fn substituted_blocks(alloc: Global, rewrite: &Rewrite, blocks: List<Block>) -> 
     List::from_vec(blocks)
 }
 
-/// Puts instructions in the place of one of a block. It takes no memory: there is room for all.
+/// Puts instructions in the place of one of a block. It takes no memory: `room` has capacity for all.
 fn put_in_block(alloc: Global, block: &mut Block, place: usize, put: List<Inst>, room: Vec<Inst>)
     requires place { place < length block.old.insts }
     requires empty { vec_len room ≡ 0 }
@@ -61,8 +62,8 @@ fn put_in_block(alloc: Global, block: &mut Block, place: usize, put: List<Inst>,
     block.insts = with_put(insts, place, put, room);
 }
 
-/// The blocks with the instructions that are put in the root's place. It takes no memory: there is room for those of
-/// the root's block.
+/// The blocks with the instructions that are put in the root's place. It takes no memory: `room` has capacity for those
+/// of the root's block.
 fn blocks_with_put(
     alloc: Global,
     rewrite: Rewrite,
@@ -92,11 +93,11 @@ fn blocks_with_put(
     List::from_vec(blocks)
 }
 
-/// Rewrites a function: other instructions stand in the place of one, the root, and what stands for a register is read
-/// in its place, in unreached blocks, phis and terminators too.
+/// Rewrites a function: other instructions replace one, the root, and the substitutes replace the registers that are
+/// read, in unreached blocks, phis and terminators too.
 ///
-/// It takes its memory before it changes the function, which stays as it was where that is refused. It takes as many
-/// steps as the function is long, since the places behind the root change.
+/// It takes its memory before it changes the function, which stays as it was where that is refused. It takes time
+/// linear in the function's length, since the registers behind the root get new indices.
 pub fn rewrite_function(alloc: Global, f: &mut Function, rewrite: Rewrite) -> Result<(), AllocError>
     requires root { HasInst f.old rewrite.block rewrite.place }
 

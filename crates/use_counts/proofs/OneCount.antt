@@ -1,4 +1,4 @@
--- A register has one count, and a count of 1 is one use.
+-- A register has one use count, and a count of 1 means a single use.
 use Rattle.std.proofs.Common.{◌≡◌, ◌⊎◌, inl, inr, zero, suc, List, [], ◌∷◌, length, refl, sym, ap, subst, ◌∙◌, arith}
 use Rattle.std.specs.Prelude.{AllPairs, Contains}
 use Rattle.ir_core.specs.declared.function.Function.{Function}
@@ -36,7 +36,7 @@ first_before x xs y in_order (k, within, is) = subst (λ (z : UsePlace). StandsB
 tail_in_order : (x : UsePlace) (xs : List UsePlace) → AllPairs StandsBefore (x ∷ xs) → AllPairs StandsBefore xs
 tail_in_order x xs in_order = λ i j d less within. in_order (suc i) (suc j) d (omega arith) (omega arith)
 
--- lists in order with the same places are equally long
+-- ordered lists that contain the same places have the same length
 module _ (x y : UsePlace) (xs ys : List UsePlace) (xs_in_order : AllPairs StandsBefore (x ∷ xs)) (ys_in_order : AllPairs StandsBefore (y ∷ ys)) where
   same_first : Contains (y ∷ ys) x → Contains (x ∷ xs) y → x ≡ y
   same_first x_there y_there = elim (first_or_later y ys x x_there) [
@@ -65,7 +65,7 @@ same_length (x ∷ xs) (y ∷ ys) p q to back =
     (λ z behind. same_later x y xs ys p q same z (to z) behind)
     (λ z behind. same_later y x ys xs q p (sym same) z (back z) behind))
 
--- what is among the uses of a register in one list is among them in another
+-- two lists of the uses of one register contain the same places
 moved : (f : Function) (register : Register) (xs ys : List UsePlace) → AreUsesOf f register xs → AreUsesOf f register ys → (z : UsePlace) → Contains xs z → Contains ys z
 moved f register xs ys uses too (b, k, i) there = (too.each b k i).1 ((uses.each b k i).0 there)
 

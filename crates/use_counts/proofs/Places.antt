@@ -20,7 +20,7 @@ use Rattle.use_counts.specs.declared.uses.Uses.{Uses}
 
 -- ---- one operand more
 
--- P is what was looked at, and Q what is with operand i at place k of block b
+-- P holds of the operands counted so far, and Q of those and of operand i at place k of block b
 record Goes (P Q : ℕ → ℕ → ℕ → Type 0) (b k i : ℕ) : Type 0 where
   older : (c l j : ℕ) → P c l j → IsBefore c l j b k i
   still : (c l j : ℕ) → P c l j → Q c l j
@@ -30,7 +30,7 @@ record Goes (P Q : ℕ → ℕ → ℕ → Type 0) (b k i : ℕ) : Type 0 where
 same_read : (f : Function) (b k i : ℕ) (r r' : Read) → IsRead f b k i r → IsRead f b k i r' → r ≡ r'
 same_read f b k i r r' at at' = same_Some r r' (sym at ∙ at')
 
--- what is named at the new place is what is read there
+-- the register that is named at the new place is the one that is read there
 named_here : (f : Function) (register : Register) (b k i c l j : ℕ) (r : Read) → IsRead f b k i r → c ≡ b → l ≡ k → j ≡ i → IsNamedAt f register c l j → r.operand ≡ operands.Register register
 named_here f register b k i c l j r at eb ek ei (r', at', is) =
     let moved : IsRead f b k i r' = subst (λ (x : ℕ). IsRead f b k x r') ei (subst (λ (x : ℕ). IsRead f b x j r') ek (subst (λ (x : ℕ). IsRead f x l j r') eb at')) in
@@ -115,7 +115,7 @@ is_it (operands.Register (registers.Result b k)) (registers.Result d p) = elim (
   | inr apart ↦ inr (λ e. apart cc)
 ]
 
--- the counts after an operand
+-- the counts after one more operand was counted
 pub counts_more : (f : Function) (old new : Uses) (b k i : ℕ) (r : Read) → AreCountsAmong f (λ c l j. IsBefore c l j b k i) old → IsRead f b k i r → IsCounted r.operand old new
     → AreCountsAmong f (λ c l j. IsBefore c l j b k (i + 1)) new
 counts_more f old new b k i r are at counted = record {
@@ -132,7 +132,7 @@ counts_more f old new b k i r are at counted = record {
 
 -- ---- the same operands
 
--- what is named at a place of one is named at a place of the other
+-- where P and Q hold of the same operands, the counts are the same
 same_counts : (f : Function) (uses : Uses) (P Q : ℕ → ℕ → ℕ → Type 0) → ((c l j : ℕ) → P c l j → Q c l j) → ((c l j : ℕ) (r : Read) → IsRead f c l j r → Q c l j → P c l j)
     → AreCountsAmong f P uses → AreCountsAmong f Q uses
 same_counts f uses P Q still back are = record {
@@ -150,7 +150,7 @@ same_counts f uses P Q still back are = record {
   );
 }
 
--- an operand that is read stands within its place, the place within its block, and that in the function
+-- the indices of an operand that is read are within their lists: the operand's, the place's and the block's
 operand_within : (f : Function) (b k i : ℕ) (r : Read) → IsRead f b k i r → i < length (reads_at f b k)
 operand_within f b k i r at = slice_get_within (reads_at f b k) i r at
 
@@ -183,7 +183,7 @@ place_past f b k place uses is are = same_counts f uses (λ c l j. IsBefore c l 
     ])
     are
 
--- behind the terminator nothing is read
+-- there are no reads at places behind the terminator's
 place_in : (f : Function) (b k i : ℕ) (r : Read) (block : Block) → slice_get f.blocks b ≡ Some block → IsRead f b k i r → k ≤ length block.insts
 place_in f b k i r block at_b at = elim (slice_get_cases block.insts k).1 [
   | inl (inst, within, at_k, is) ↦ omega arith
@@ -222,7 +222,7 @@ block_past f b end uses is are = same_counts f uses (λ c l j. IsBefore c l j b 
     ])
     are
 
--- behind the last block all are counted
+-- once the last block is passed, all operands are counted
 pub all_past : (f : Function) (b : ℕ) (uses : Uses) → length f.blocks ≤ b → AreCountsAmong f (λ c l j. IsBefore c l j b 0 0) uses → AreCounts f uses
 all_past f b uses past are = record {
   there = are.there;
@@ -240,7 +240,7 @@ all_past f b uses past are = record {
   );
 }
 
--- there is a read at each place below their number
+-- there is a read at each index below their number
 pub read_there : (f : Function) (b k i n : ℕ) → n ≡ length (reads_at f b k) → i < n → (r : Read) × IsRead f b k i r
 read_there f b k i n count less = elim (slice_get_cases (reads_at f b k) i).1 [
   | inl (r, within, at, is) ↦ (r, at)

@@ -20,7 +20,7 @@ use Rattle.use_counts.specs.Tables.{AreCounts, HasNumber, count_of}
 use Rattle.use_counts.specs.Uses.{StandsBefore, IsUseCount}
 use Rattle.use_counts.specs.declared.uses.Uses.{Uses}
 
--- the number of a table of counts is the register's
+-- the number in a table of use counts is the register's count
 pub exact_at : (f : Function) (uses : Uses) (register : Register) (n : ℕ) → n ≡ count_of uses register → AreCounts f uses → IsUseCount f register n
 exact_at f uses register n is counts = subst (λ (m : ℕ). IsUseCount f register m) (sym is) (counts.exact register)
 
@@ -122,7 +122,7 @@ map_some : {X Y : Type 0} (o : Option X) (g : X → Y) → IsSome (option_map g 
 map_some None g some = absurd cc
 map_some (Some x) g some = (x, refl)
 
--- at the start there is no place
+-- no operand comes before the first place
 nothing_before : (b k i : ℕ) → IsBefore b k i 0 0 0 → ⊥
 nothing_before b k i (inl less) = omega arith
 nothing_before b k i (inr (same, inl less)) = omega arith

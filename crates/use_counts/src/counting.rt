@@ -13,8 +13,8 @@ use ir_core::{Block, Function, Operand, Register, end_of, read_at, read_count};
 use lists::List;
 use std::alloc::{AllocError, Global};
 
-/// How often each register of a function is used; it reads each operand once. The only error is want of memory. A count
-/// that no `usize` holds is answered as that, and comes of no function that fits in memory.
+/// How often each register of a function is used, in one pass over its operands. The only error is want of memory. A
+/// count that no `usize` holds ends with that error too; no function that fits in memory has one.
 pub fn count_uses(alloc: Global, f: &Function) -> Result<Uses, AllocError>
     // Blocks, and the instructions of each, are counted in 32 bits.
     requires blocks { length f.now.blocks < 2 ^ 32 }
@@ -30,7 +30,7 @@ pub fn count_uses(alloc: Global, f: &Function) -> Result<Uses, AllocError>
 }
 
 impl Uses {
-    /// A number for each register, none of which is used yet.
+    /// A table with a zero for each register of the function.
     fn none(alloc: Global, f: &Function) -> Result<Uses, AllocError>
         ensures { IfOk result (AreCountsAmong f.now (λ b k i. IsBefore b k i 0 0 0)) }
     {
@@ -57,7 +57,7 @@ impl Uses {
         Ok(())
     }
 
-    /// Counts the operands that are written at a place.
+    /// Counts the operands of the instruction or the terminator at a place.
     fn count_place(&mut self, f: &Function, block: u32, place: u32) -> Result<(), AllocError>
         requires insts { All (λ b. length b.insts < 2 ^ 32) f.now.blocks }
         requires registers { (b k i : ℕ) (r : Read) → IsRead f.now b k i r → IsKnown f.now r.operand }
@@ -96,7 +96,7 @@ fn count_at(rows: &mut Vec<List<usize>>, block: u32, place: u32) -> Result<(), A
     count_in(&mut rows[block as usize], place)
 }
 
-/// Counts a use in a row.
+/// Counts a use in a row of the table.
 fn count_in(row: &mut List<usize>, place: u32) -> Result<(), AllocError>
     requires { place < length row.old }
     ensures { OnOk result (row.new ≡ one_more row.old place) }
@@ -113,7 +113,7 @@ fn next(number: usize) -> Result<usize, AllocError>
     number.checked_add(1).ok_or(AllocError)
 }
 
-/// A zero for each instruction of these blocks.
+/// A row of zeros for each of these blocks, with one for each of its instructions.
 fn rows_of_zeros(alloc: Global, blocks: &[Block]) -> Result<Vec<List<usize>>, AllocError>
     ensures { IfOk result (λ rows. rows.items ≡ map (λ b. replicate (length b.insts) 0) blocks.now) }
 {

@@ -1,7 +1,7 @@
 //! How often each register of a function is used (LangRef, "Identifiers").
 //!
 //! The definitions stand in `specs/`: `Uses` says which operands name a register and how many they are, `Tables` when a
-//! table has these numbers, and `Laws` what holds of them. `Counting` serves the private functions.
+//! table has the use counts of a function, and `Laws` what holds of them. `Counting` serves private functions alone.
 #![tactic(auto)]
 
 mod counting;

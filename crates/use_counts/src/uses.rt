@@ -8,8 +8,8 @@ ghost use Rattle.use_counts.specs.Uses.{IsUseCount};
 use ir_core::Register;
 use lists::List;
 
-/// For each parameter of a function and each result of an instruction a number: how many operands of the whole function
-/// name it.
+/// Use counts: for each parameter of a function and each result of an instruction, how many operands of the whole
+/// function name it.
 #[derive(Drop)]
 pub struct Uses {
     pub parameters: List<usize>,
@@ -32,7 +32,7 @@ pub fn uses_of(uses: &Uses, register: Register) -> usize
     }
 }
 
-/// The number at a place of a row, and 0 where there is none.
+/// The number at an index of a row, and 0 where there is none.
 fn number_in(row: &[usize], place: u32) -> usize
     ensures { result ≡ slice_index_or row.now place 0 }
 {

@@ -1,4 +1,4 @@
-//! Functions.
+//! Building functions.
 
 ghost use Rattle.std.specs.Prelude.{IfOk};
 ghost use Rattle.std.specs.List.{AllZip, AllByRecursion};
@@ -15,7 +15,7 @@ use ir_tokens::{RawBlock, RawFunction, RawParameter};
 use lists::List;
 use std::alloc::{AllocError, Global};
 
-/// The parameters.
+/// Builds the parameters.
 fn parameters(alloc: Global, written: &[RawParameter]) -> Result<List<Parameter>, AllocError>
     ensures { IfOk result (AllZip ParameterMeans written.now) }
 {
@@ -30,7 +30,7 @@ fn parameters(alloc: Global, written: &[RawParameter]) -> Result<List<Parameter>
     Ok(parameters)
 }
 
-/// The blocks.
+/// Builds the blocks.
 fn blocks(alloc: Global, names: &Names<'_>, written: &[RawBlock]) -> Result<List<Block>, AllocError>
     requires { AllByRecursion (IsReadyBlock (known_by names.now)) written.now }
     ensures { IfOk result (AllZip (BlockIsOf (CallsIn (known_by names.now))) written.now) }
@@ -46,7 +46,7 @@ fn blocks(alloc: Global, names: &Names<'_>, written: &[RawBlock]) -> Result<List
     Ok(blocks)
 }
 
-/// The function that is meant.
+/// Builds the function that the syntax tree means.
 pub(crate) fn build(
     alloc: Global,
     names: &Names<'_>,

@@ -1,4 +1,4 @@
-//! Instructions.
+//! Building instructions.
 
 ghost use Rattle.std.specs.Prelude.{◌≡◌, map, IfOk};
 ghost use Rattle.std.specs.List.{AllZip, AllByRecursion};
@@ -18,7 +18,7 @@ use lists::List;
 use ops::Flags;
 use std::alloc::{AllocError, Global};
 
-/// The entries of a `phi`.
+/// Builds the entries of a `phi`.
 fn entries(
     alloc: Global,
     names: &Names<'_>,
@@ -52,7 +52,7 @@ fn truth(written: &Option<TypedOperand>) -> bool
     }
 }
 
-/// What a call computes.
+/// Builds the operation of a call.
 fn called(names: &Names<'_>, written: &RawArguments) -> Op
     requires { ReadsAreKnown (known_by names.now) (read_by_call written.now) }
     ensures { ArgumentsMean (CallsIn (known_by names.now)) written.now result }
@@ -72,7 +72,7 @@ fn called(names: &Names<'_>, written: &RawArguments) -> Op
     }
 }
 
-/// What an instruction computes.
+/// Builds the operation of an instruction.
 fn op(alloc: Global, names: &Names<'_>, written: &RawOp) -> Result<Op, AllocError>
     requires reads { ReadsAreKnown (known_by names.now) (read_by written.now) }
     requires targets { TargetsAreKnown (known_by names.now) (named_by written.now) }
@@ -109,7 +109,7 @@ fn op(alloc: Global, names: &Names<'_>, written: &RawOp) -> Result<Op, AllocErro
     }
 }
 
-/// The instructions of a block.
+/// Builds the instructions of a block.
 pub(crate) fn insts(
     alloc: Global,
     names: &Names<'_>,

@@ -1,4 +1,4 @@
-//! Operands and the names of blocks, which are there.
+//! Operands and targets, whose registers and blocks are known to be defined.
 
 ghost use Rattle.ir_resolve.specs.FaultKinds.{IsUnknownValue, IsUnknownBlock};
 ghost use Rattle.ir_resolve.specs.Means.{ValueMeans, BlockMeans};
@@ -9,7 +9,7 @@ use ir_core::Operand;
 use ir_tokens::{Identifier, RawValue};
 use ops::Word;
 
-/// What a value is.
+/// The operand that a value means.
 pub(crate) fn operand(names: &Names<'_>, value: &RawValue) -> Operand
     requires { ¬ IsUnknownValue (CallsIn (known_by names.now)) value.now }
     ensures { ValueMeans (CallsIn (known_by names.now)) value.now result }
@@ -27,7 +27,7 @@ pub(crate) fn operand(names: &Names<'_>, value: &RawValue) -> Operand
     }
 }
 
-/// The place of a block.
+/// The index of the block that an identifier names.
 pub(crate) fn target(names: &Names<'_>, identifier: &Identifier) -> u32
     requires { ¬ IsUnknownBlock (CallsIn (known_by names.now)) identifier.now }
     ensures { BlockMeans (CallsIn (known_by names.now)) identifier.now result }

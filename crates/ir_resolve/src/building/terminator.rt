@@ -1,4 +1,4 @@
-//! Terminators.
+//! Building terminators.
 
 ghost use Rattle.std.specs.Prelude.{◌≡◌, ◌≢◌, None, map, IfOk};
 ghost use Rattle.std.specs.List.{AllZip, AllByRecursion};
@@ -16,7 +16,7 @@ use lists::List;
 use ops::Word;
 use std::alloc::{AllocError, Global};
 
-/// The number of a case.
+/// The number of a case's value.
 fn number(value: &RawValue) -> Word
     requires { literal_of value.now ≢ None }
     ensures { literal_of value.now ≡ Some result }
@@ -27,7 +27,7 @@ fn number(value: &RawValue) -> Word
     }
 }
 
-/// The cases of a `switch`.
+/// Builds the cases of a `switch`.
 fn cases(
     alloc: Global,
     names: &Names<'_>,
@@ -47,7 +47,7 @@ fn cases(
     Ok(cases)
 }
 
-/// How a block ends.
+/// Builds a terminator.
 pub(crate) fn terminator(
     alloc: Global,
     names: &Names<'_>,

@@ -15,7 +15,7 @@ pub(crate) fn text(alloc: Global, text: &Text) -> Result<Text, AllocError>
     Ok(Text::from_vec(Vec::from_slice(alloc, text.as_slice())?))
 }
 
-/// A copy of each.
+/// Copies of these texts.
 pub(crate) fn texts(alloc: Global, written: &[Text]) -> Result<List<Text>, AllocError>
     ensures { IfOk result (λ copies. copies ≡ written.now) }
 {
@@ -26,7 +26,7 @@ pub(crate) fn texts(alloc: Global, written: &[Text]) -> Result<List<Text>, Alloc
     Ok(copies)
 }
 
-/// The name that is given by a name or a number: none by a number.
+/// A copy of the name that an identifier is; `None` for a number.
 pub(crate) fn name(alloc: Global, identifier: &Identifier) -> Result<Option<Text>, AllocError>
     ensures { IfOk result (λ name. name ≡ name_in identifier.now) }
 {
@@ -36,7 +36,7 @@ pub(crate) fn name(alloc: Global, identifier: &Identifier) -> Result<Option<Text
     }
 }
 
-/// The name that is given, if there is one.
+/// A copy of the name that is written, if there is one.
 pub(crate) fn name_given(
     alloc: Global,
     written: Option<&RawIdentifier>,

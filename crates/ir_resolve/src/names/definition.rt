@@ -1,4 +1,4 @@
-//! The parameters, blocks and results of a function as written.
+//! The definitions of a function as written: its parameters, blocks and results.
 
 ghost use Rattle.std.specs.Prelude.{◌≡◌, ◌↔◌, ◌^◌, ◌≤◌, ◌++◌, map, IfOk, OnOk, IfSome, IsNone};
 ghost use Rattle.ir_resolve.specs.FaultKinds.{result_width as width_of_result};
@@ -10,23 +10,23 @@ use ir_tokens::{RawBlock, RawFunction, RawIdentifier, RawInst, RawOp, RawParamet
 use ops::Width;
 use std::alloc::{AllocError, Global};
 
-/// What a name or a number calls.
+/// What a name or a number refers to.
 #[derive(Clone, Copy)]
 pub(crate) enum Entity {
-    /// A register of this many bits.
+    /// A register, of this many bits.
     Register(Register, u32),
-    /// A block, by its place.
+    /// A block, by its index.
     Block(u32),
 }
 
-/// A parameter, a block or a result, with what is written where it is defined.
+/// The definition of a parameter, a block or a result, with the identifier that is written there.
 #[derive(Clone, Copy)]
 pub(crate) struct Definition<'a> {
     pub(crate) written: Option<&'a RawIdentifier>,
     pub(crate) entity: Entity,
 }
 
-/// A place, where it is less than 2^32.
+/// An index as a `u32`, if it fits.
 fn place(index: usize) -> Option<u32>
     ensures some { IfSome result (λ place. place ≡ index) }
     ensures none { IsNone result ↔ 2 ^ 32 ≤ index }
@@ -34,7 +34,7 @@ fn place(index: usize) -> Option<u32>
     u32::try_from(index).ok()
 }
 
-/// The width of what an instruction gives.
+/// The width of an instruction's result.
 pub(crate) fn result_width(op: &RawOp) -> Width
     ensures { result ≡ width_of_result op.now }
 {
@@ -49,7 +49,7 @@ pub(crate) fn result_width(op: &RawOp) -> Width
     }
 }
 
-/// Adds the parameters.
+/// Adds the definitions of the parameters.
 fn add_parameters<'a>(
     definitions: &mut Vec<Definition<'a>>,
     parameters: &'a [RawParameter],
@@ -67,7 +67,7 @@ fn add_parameters<'a>(
     Ok(())
 }
 
-/// Adds the results of a block.
+/// Adds the definitions of a block's results.
 fn add_results<'a>(
     definitions: &mut Vec<Definition<'a>>,
     block: u32,
@@ -87,7 +87,7 @@ fn add_results<'a>(
     Ok(())
 }
 
-/// Adds the blocks, each with its results behind it.
+/// Adds the definitions of the blocks, each with those of its results behind it.
 fn add_blocks<'a>(
     definitions: &mut Vec<Definition<'a>>,
     blocks: &'a [RawBlock],
@@ -106,10 +106,10 @@ fn add_blocks<'a>(
     Ok(())
 }
 
-/// How many parameters, blocks and results there is room for at first. Most functions have no more.
+/// For how many definitions memory is reserved at first. Most functions have no more.
 const USUAL_ROOM: usize = 64;
 
-/// The parameters, blocks and results of a function, in text order. There is no memory for 2^32 or more of one kind.
+/// All definitions of a function, in text order. With 2^32 or more of one kind it answers that there is no memory.
 pub(crate) fn definitions(
     alloc: Global,
     raw: &RawFunction,

@@ -1,11 +1,11 @@
-//! What parameters, blocks and results are called.
+//! The identifiers by which definitions are looked up.
 
 ghost use Rattle.std.specs.Prelude.{◌≡◌};
 ghost use Rattle.ir_resolve.specs.Views.{seen};
 
 use ir_tokens::Identifier;
 
-/// How a parameter, a block or a result is called: by its name, or by its number in the series of those without a name.
+/// The identifier of a parameter, a block or a result: its name, or its number in the series of those without a name.
 #[derive(Clone, Copy, PartialEq, Eq, Hash)]
 pub(crate) enum Key<'a> {
     Named(&'a [u8]),
@@ -13,7 +13,7 @@ pub(crate) enum Key<'a> {
 }
 
 impl<'a> Key<'a> {
-    /// The key of a name or a number.
+    /// The key of an identifier.
     pub(crate) fn of(identifier: &'a Identifier) -> Self
         ensures { seen result ≡ identifier.now }
     {

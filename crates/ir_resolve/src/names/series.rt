@@ -1,4 +1,4 @@
-//! The series of numbers of those parameters, blocks and results that have no name.
+//! The series of numbers for those parameters, blocks and results that have no name.
 
 ghost use Rattle.std.specs.Prelude.{◌≡◌, ℕ, [], ◌∷◌, map, IfOk};
 ghost use Rattle.std.specs.Option.{option_copied};
@@ -14,7 +14,7 @@ use crate::names::key::Key;
 use ir_tokens::{Identifier, RawIdentifier};
 use std::alloc::{AllocError, Global};
 
-/// How it is called for which this is written, where the next number of the series is this one.
+/// The key of a definition where this is written, if the series goes on with this number.
 fn key_of<'a>(written: Option<&'a RawIdentifier>, next_number: u64) -> Key<'a>
     ensures { seen result ∷ []
         ≡ identifiers_from next_number (given (option_copied written.entry) ∷ []) }
@@ -30,7 +30,7 @@ fn key_of<'a>(written: Option<&'a RawIdentifier>, next_number: u64) -> Key<'a>
     }
 }
 
-/// How each is called, where those without a name take one series of numbers from 0.
+/// The keys of all definitions: those without a name take one series of numbers from 0.
 pub(crate) fn keys<'a>(
     alloc: Global,
     definitions: &[Definition<'a>],
@@ -49,7 +49,7 @@ pub(crate) fn keys<'a>(
     Ok(keys)
 }
 
-/// The line, where a number is written that is not the one in the series.
+/// The line of what is written, if it is a number other than the one in the series.
 fn number_fault(written: Option<&RawIdentifier>, key: Key<'_>) -> Option<usize>
     ensures { IsFirst (IsMisnumbered (option_copied written.entry) (seen key.entry)) result }
 {
@@ -76,7 +76,7 @@ fn number_fault(written: Option<&RawIdentifier>, key: Key<'_>) -> Option<usize>
     }
 }
 
-/// The first line at which a number is written that is not the one in the series.
+/// The first line on which a number is written that is not the one in the series.
 pub(crate) fn misnumbered(definitions: &[Definition<'_>], keys: &[Key<'_>]) -> Option<usize>
     requires { AreKeysOf definitions.now keys.now }
     ensures { IsFirst

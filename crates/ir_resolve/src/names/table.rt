@@ -1,4 +1,4 @@
-//! The table of what names and numbers call.
+//! The symbol table of a function.
 
 ghost use Rattle.std.specs.Prelude.{◌≡◌, [], ◌∷◌, ◌++◌, ◌||◌, false, None, map, if◌then◌else◌, option_map, IfOk, OnOk};
 ghost use Rattle.std.specs.List.{zip};
@@ -16,10 +16,10 @@ use ir_core::Register;
 use ir_tokens::{Identifier, RawIdentifier};
 use std::alloc::{AllocError, Global};
 
-/// What each name and number calls.
+/// The symbol table: what each key refers to.
 pub(crate) type Names<'a> = IndexMap<Key<'a>, Entity>;
 
-/// The line of what is written, if its key was there before.
+/// The line of what is written, if its key was in the table before.
 fn repeated(written: Option<&RawIdentifier>, was_there: bool) -> Option<usize>
     ensures { result ≡
         (if was_there then option_map (λ w. w.line) (option_copied written.entry) else None) }
@@ -27,7 +27,7 @@ fn repeated(written: Option<&RawIdentifier>, was_there: bool) -> Option<usize>
     if was_there { Some(written?.line) } else { None }
 }
 
-/// From now on the key calls the entity. Answers whether it was there before.
+/// Enters a key into the table, and says whether it was there before.
 fn define<'a>(names: &mut Names<'a>, key: Key<'a>, entity: Entity) -> Result<bool, AllocError>
     ensures was_there { IfOk result (λ was_there.
         was_there ≡ knows (known_by names.old) (seen key.entry)) }
@@ -39,7 +39,7 @@ fn define<'a>(names: &mut Names<'a>, key: Key<'a>, entity: Entity) -> Result<boo
     Ok(names.insert(key, entity)?.is_some())
 }
 
-/// What each key calls, and the first line at which a name is given that was there before.
+/// The table of these definitions, and the first line on which a name is given that was given before.
 pub(crate) fn names<'a>(
     alloc: Global,
     definitions: &[Definition<'a>],
@@ -60,14 +60,14 @@ pub(crate) fn names<'a>(
     Ok((names, found))
 }
 
-/// What a name or a number calls.
+/// What an identifier refers to.
 fn entity(names: &Names<'_>, identifier: &Identifier) -> Option<Entity>
     ensures { result ≡ entity_in (known_by names.now) identifier.now }
 {
     names.get(&Key::of(identifier)).copied()
 }
 
-/// The register of a name or a number, and of how many bits it is.
+/// The register that an identifier refers to, and how many bits it has.
 pub(crate) fn register(names: &Names<'_>, identifier: &Identifier) -> Option<(Register, u32)>
     ensures { result ≡ register_of (entity_in (known_by names.now) identifier.now) }
 {
@@ -77,7 +77,7 @@ pub(crate) fn register(names: &Names<'_>, identifier: &Identifier) -> Option<(Re
     }
 }
 
-/// The block of a name or a number, by its place.
+/// The block that an identifier refers to, by its index.
 pub(crate) fn block(names: &Names<'_>, identifier: &Identifier) -> Option<u32>
     ensures { result ≡ block_of (entity_in (known_by names.now) identifier.now) }
 {

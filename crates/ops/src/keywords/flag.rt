@@ -31,7 +31,7 @@ pub fn flag_name(flag: Flag) -> &'static str
     }
 }
 
-/// Whether a flag stands among these.
+/// Whether these flags have this one.
 pub fn has_flag(flags: Flags, flag: Flag) -> bool
     ensures { result ≡ keywords.has_flag flags flag }
 {
@@ -45,7 +45,7 @@ pub fn has_flag(flags: Flags, flag: Flag) -> bool
     }
 }
 
-/// The flags, and this one.
+/// These flags, with this one added.
 pub fn with_flag(flags: Flags, flag: Flag) -> Flags
     ensures { result ≡ keywords.with_flag flags flag }
 {
@@ -71,7 +71,7 @@ pub fn with_flag(flags: Flags, flag: Flag) -> Flags
     }
 }
 
-/// Every flag, in the order in which those of an instruction are written.
+/// Every flag, in the order in which an instruction's flags are written.
 pub const EVERY_FLAG: [Flag; 6] = [
     Flag::Nuw,
     Flag::Nsw,
@@ -81,7 +81,7 @@ pub const EVERY_FLAG: [Flag; 6] = [
     Flag::SameSign,
 ];
 
-/// The flag that a keyword is, among those that an instruction takes.
+/// The flag that a keyword spells, if it is among those that an instruction takes.
 #[tactic(auto, unfolding(crate::specs::FlagKeywords::flag_in))]
 pub fn flag_of(taken: Flags, word: &[u8]) -> Option<Flag>
     ensures { result ≡ keywords.flag_in taken word.now }

@@ -36,7 +36,7 @@ const PREDICATES: [Pred; 10] = [
     Pred::Sle,
 ];
 
-/// The predicate that a keyword is.
+/// The predicate that a keyword spells.
 #[tactic(auto, unfolding(crate::specs::Keywords::pred_in))]
 pub fn predicate_of(word: &[u8]) -> Option<Pred>
     ensures { result ≡ pred_in word.now }

@@ -3,7 +3,7 @@
 ghost use Rattle.std.specs.Prelude.{◌≡◌};
 ghost use Rattle.std.specs.Str.{bytes_eq};
 
-/// Whether a keyword is the wanted one. Most have another length, so that is asked first.
+/// Whether a keyword is the wanted one. Most differ in length, so that is compared first.
 pub fn is(word: &[u8], wanted: &str) -> bool
     ensures { result ≡ bytes_eq word.now wanted.now }
 {

@@ -1,4 +1,4 @@
-//! The tokens of modules of LLVM IR behind a place, and what is kept there as it is written.
+//! The next token of a module of LLVM IR, and the parts of its text that are kept as they are written.
 
 ghost use Rattle.std.specs.Prelude.{◌≡◌, ◌+◌, length, IfOk, IfErr, OnErr, IfSome, IfNone};
 ghost use Rattle.scan.specs.IrTokens.{IsNextToken, IsBadToken};
@@ -15,15 +15,15 @@ use crate::name::blanks_behind;
 use crate::span::Span;
 
 impl<'a> Cursor<'a> {
-    /// The next token of a module, behind blanks, line feeds and comments, and goes behind it. It is the longest that
-    /// begins where it does.
+    /// Reads the next token of a module, behind blanks, line feeds and comments, and moves behind it. It is the longest
+    /// token that begins there.
     ///
-    /// The error is a byte there that may not stand outside comments and quotes, or a quoted text that is the token or
-    /// part of it and holds a byte 0, written or escaped; the place stays.
+    /// The error is a byte there that is invalid outside comments and quotes, or a token that is or has a quoted text
+    /// with a byte 0, written or escaped; the cursor then stays where it was.
     ///
-    /// A call looks at the gap, and at the run or the rest of the line behind it a few times. So a text is gone through
-    /// in time linear in its length, except for runs that are no token: each `Other` of `---` costs what is left of the
-    /// run, since a `:` behind it would make it a label.
+    /// A call scans the gap, and the run of name bytes or the rest of the line behind it, a few times. So a text is
+    /// read in time linear in its length, except for runs that are no token: each `Other` of `---` costs what is left
+    /// of the run, since a `:` behind it would make it a label.
     pub fn next_token(&mut self) -> Result<Token, BadByte>
         ensures text { self.new.text ≡ self.old.text }
         ensures token { IfOk result (IsNextToken self.old.text self.old.at) }
@@ -48,9 +48,9 @@ impl<'a> Cursor<'a> {
         })
     }
 
-    /// The rest of the line, with its comment and without the blanks at its end, and goes to the end of the line,
-    /// before the line feed. Every byte may stand in it. Where nothing but blanks is there the span is empty and begins
-    /// at the place.
+    /// Reads the rest of the line, with its comment and without the blanks at its end, and moves to the end of the
+    /// line, before the line feed. No byte of it is invalid. Where only blanks are there the span is empty and begins
+    /// at the cursor.
     pub fn take_line(&mut self) -> Span
         ensures text { self.new.text ≡ self.old.text }
         ensures line { IsKeptLine self.old.text self.old.at result }
@@ -63,10 +63,10 @@ impl<'a> Cursor<'a> {
         Span { start, end }
     }
 
-    /// The bytes up to and with the `)` that closes a `(` before the place, and goes behind them. Brackets in quoted
-    /// texts don't count, a `;` begins no comment, and every byte but a line feed may stand there.
+    /// Reads the bytes up to and with the `)` that closes a `(` before the cursor, and moves behind them. Brackets in
+    /// quoted texts don't count, a `;` begins no comment, and every byte but a line feed is valid.
     ///
-    /// None where no `)` on the line closes it; the place stays.
+    /// `None` where no `)` on the line closes it; the cursor then stays where it was.
     pub fn take_group(&mut self) -> Option<Span>
         ensures text { self.new.text ≡ self.old.text }
         ensures group { IfSome result (IsGroup self.old.text self.old.at) }

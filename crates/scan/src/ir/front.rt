@@ -1,4 +1,4 @@
-//! What a module begins with, where it begins with no gap.
+//! What a module's text that does not begin with a gap begins with: a token, its end, or a byte that begins no token.
 
 ghost use Rattle.std.specs.Prelude.{◌≡◌, ◌⊎◌, ◌≤◌, ◌==◌, ◌||◌, true, false, take, drop, IfSome, IfNone, OnSome};
 ghost use Rattle.std.specs.List.{list_all};
@@ -14,7 +14,7 @@ use crate::ir::name::{name, quoted};
 use crate::ir::quoted::holds_zero;
 use crate::ir::token::TokenKind;
 
-/// The longer of two fronts of a text, the first where they are equally long.
+/// The longer of two prefixes of a text, the first one where they are equally long.
 fn longer(first: (TokenKind, usize), second: (TokenKind, usize)) -> (TokenKind, usize)
     ensures one { (result ≡ first) ⊎ (result ≡ second) }
     ensures first { first.1 ≤ result.1 }
@@ -23,8 +23,8 @@ fn longer(first: (TokenKind, usize), second: (TokenKind, usize)) -> (TokenKind, 
     if first.1 < second.1 { second } else { first }
 }
 
-/// The longest label, word or number that a text begins with whose first byte is one of names, of 0 bytes where it
-/// begins with none. It is as long as the longest name, but for the `:` of a label.
+/// The longest label, word or number at the start of a text whose first byte may stand in a name, of 0 bytes where
+/// there is none. It is as long as the longest name there, but for the `:` of a label.
 fn plain_token(text: &[u8]) -> (TokenKind, usize)
     requires { begins_with bytes.is_name_byte text.now ≡ true }
     ensures longest { IsLongestFront text.now result.0 result.1 }
@@ -40,8 +40,7 @@ fn plain_token(text: &[u8]) -> (TokenKind, usize)
     }
 }
 
-/// The longest label or quoted text that a text begins with whose first byte is a quote, of 0 bytes where it begins
-/// with none.
+/// The longest label or quoted text at the start of a text whose first byte is a quote, of 0 bytes where there is none.
 fn quoted_token(text: &[u8]) -> (TokenKind, usize)
     requires { begins_with (λ b. b == 34) text.now ≡ true }
     ensures { IsLongestFront text.now result.0 result.1 }
@@ -52,8 +51,8 @@ fn quoted_token(text: &[u8]) -> (TokenKind, usize)
     )
 }
 
-/// The longest token that a text begins with whose first byte is neither one of names nor a quote, of 0 bytes where it
-/// begins with none.
+/// The longest token at the start of a text whose first byte is no quote and may not stand in a name, of 0 bytes where
+/// there is none.
 fn marked_token(text: &[u8]) -> (TokenKind, usize)
     requires no_name { begins_with bytes.is_name_byte text.now ≡ false }
     requires no_quote { begins_with (λ b. b == 34) text.now ≡ false }
@@ -75,7 +74,7 @@ fn marked_token(text: &[u8]) -> (TokenKind, usize)
     }
 }
 
-/// The longest token that a text begins with whose first byte is none of names, of 0 bytes where it begins with none.
+/// The longest token at the start of a text whose first byte may not stand in a name, of 0 bytes where there is none.
 fn other_token(text: &[u8]) -> (TokenKind, usize)
     requires { begins_with bytes.is_name_byte text.now ≡ false }
     ensures { IsLongestFront text.now result.0 result.1 }
@@ -87,7 +86,8 @@ fn other_token(text: &[u8]) -> (TokenKind, usize)
     }
 }
 
-/// Whether one of the first two bytes is a quote. A token whose first byte is none of names has quotes only then.
+/// Whether one of the first two bytes is a quote. Only then can a token have quotes whose first byte may not stand in a
+/// name.
 fn has_early_quote(text: &[u8]) -> bool
     ensures { result ≡ (begins_with (λ b. b == 34) text.now || begins_with (λ b. b == 34) (drop 1 text.now)) }
 {
@@ -97,8 +97,8 @@ fn has_early_quote(text: &[u8]) -> bool
     }
 }
 
-/// The longest token that the text begins with, of 0 bytes where it begins with none; none where the first byte may not
-/// stand, or quotes of the token hold a byte 0.
+/// The longest token at the start of the text, of 0 bytes where there is none; `None` where the first byte is invalid,
+/// or the token has a quoted text with a byte 0.
 fn longest_token(text: &[u8]) -> Option<(TokenKind, usize)>
     ensures bad { IfNone result (BeginsBadly text.now) }
     ensures good { OnSome result (begins_with bytes.is_bad text.now ≡ false) }
@@ -119,8 +119,8 @@ fn longest_token(text: &[u8]) -> Option<(TokenKind, usize)>
     }
 }
 
-/// What the text begins with, and how many bytes it has; none where the first byte may not stand, or quotes of the
-/// token hold a byte 0.
+/// The kind and the length of what the text begins with; `None` where the first byte is invalid, or the token has a
+/// quoted text with a byte 0.
 pub(crate) fn front(text: &[u8]) -> Option<(TokenKind, usize)>
     requires { begins_with in_gap text.now ≡ false }
     ensures bad { IfNone result (BeginsBadly text.now) }

@@ -1,4 +1,4 @@
-//! How many of the first bytes of a text are the longest token of each kind: 0 where none begins there.
+//! For each kind of token, the length of the longest one that a text begins with: 0 where it begins with none.
 
 ghost use Rattle.std.specs.Prelude.{◌≡◌, [], ◌∷◌};
 ghost use Rattle.scan.specs.IrTokens as tokens;
@@ -66,7 +66,7 @@ pub(crate) fn group(text: &[u8]) -> usize
     if run == 0 { 0 } else { run + 1 }
 }
 
-/// `!`, and bytes of names or none.
+/// `!`, and any number of bytes of names.
 pub(crate) fn metadata(text: &[u8]) -> usize
     ensures { IsLongest (λ bytes _. tokens.is_metadata bytes) text.now result }
 {
@@ -86,7 +86,7 @@ fn is_mark(byte: u8) -> bool
     )
 }
 
-/// A mark; a `#` before digits is longer.
+/// A mark; `#` before digits is one, but a longer token begins with it.
 pub(crate) fn mark(text: &[u8]) -> usize
     ensures { IsLongest (λ bytes _. is_among tokens.marks bytes) text.now result }
 {

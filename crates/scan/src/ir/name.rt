@@ -1,4 +1,4 @@
-//! How many of the first bytes of a text are the longest name: 0 where none begins there.
+//! The length of the longest name that a text begins with: 0 where it begins with none.
 
 ghost use Rattle.scan.specs.IrTokens as tokens;
 ghost use Rattle.scan.specs.Longest.{IsLongest};
@@ -22,7 +22,7 @@ pub(crate) fn quoted(text: &[u8]) -> usize
     }
 }
 
-/// A name as labels, registers and functions have it: plain, digits or quoted.
+/// A name of a label, a register or a function: plain, digits or quoted.
 pub(crate) fn name(text: &[u8]) -> usize
     ensures { IsLongest (λ bytes _. tokens.is_name bytes) text.now result }
 {

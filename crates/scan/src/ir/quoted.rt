@@ -15,7 +15,7 @@ fn before_quote(text: &[u8]) -> usize
     text.iter().take_while(|byte| **byte != b'"').count()
 }
 
-/// What stands between the first two quotes; nothing where there are none.
+/// The bytes between the first two quotes; none where there are no two.
 fn in_quotes(text: &[u8]) -> &[u8]
     ensures value { result.now ≡ quoted.in_quotes text.now }
 {
@@ -41,8 +41,8 @@ fn hex_digit(byte: u8) -> Option<u8>
     }
 }
 
-/// The byte that two hexadecimal digits spell at the front, and what is behind them; none where the text doesn't begin
-/// so.
+/// The byte that two hexadecimal digits at the start of the text spell, and what follows them; `None` where the text
+/// begins otherwise.
 fn hex_byte(text: &[u8]) -> Option<(u8, &[u8])>
     ensures some { IfSome result (λ x. (b : ℕ) × (c : ℕ) × (quoted.is_hex b ≡ true) × (quoted.is_hex c ≡ true)
         × (text.now ≡ b ∷ c ∷ x.1.now) × (x.0 ≡ 16 * quoted.hex_value b + quoted.hex_value c)) }
@@ -56,7 +56,8 @@ fn hex_byte(text: &[u8]) -> Option<(u8, &[u8])>
     Some((16 * high + low, rest))
 }
 
-/// The first byte that the bytes between quotes stand for, and those behind it; none where there are none.
+/// The first byte that the bytes between quotes stand for, and the bytes whose meaning follows; `None` where there are
+/// none.
 pub fn unescaped(text: &[u8]) -> Option<(u8, &[u8])>
     ensures some { IfSome result (λ x. (quoted.unquoted text.now ≡ x.0 ∷ quoted.unquoted x.1.now) × (length x.1.now < length text.now)) }
     ensures none { IfNone result (text.now ≡ []) }
@@ -76,7 +77,7 @@ pub fn unescaped(text: &[u8]) -> Option<(u8, &[u8])>
     }
 }
 
-/// Whether the bytes between quotes stand for a byte 0 among others.
+/// Whether one of the bytes that these bytes between quotes stand for is 0.
 fn has_zero(inner: &[u8]) -> bool
     ensures { result ≡ list_any (λ b. b == 0) (quoted.unquoted inner.now) }
 {
@@ -90,7 +91,7 @@ fn has_zero(inner: &[u8]) -> bool
     false
 }
 
-/// Whether the first quoted text of a token stands for a byte 0 among others.
+/// Whether one of the bytes that the first quoted text of a token stands for is 0.
 pub(crate) fn holds_zero(token: &[u8]) -> bool
     ensures { IsTrue result ↔ HoldsZero token.now }
 {

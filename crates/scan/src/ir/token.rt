@@ -2,8 +2,7 @@
 
 use crate::span::Span;
 
-/// What kind of token stands in a module. The names and the literals are those of the language reference,
-/// "Identifiers".
+/// The kinds of tokens of a module. Names and literals are those of the Language Reference, "Identifiers".
 #[derive(Clone, Copy, Debug, PartialEq, Eq)]
 pub enum TokenKind {
     /// The end of the text.
@@ -14,7 +13,7 @@ pub enum TokenKind {
     Label,
     /// A letter, `$`, `.` or `_`, then bytes of names.
     Word,
-    /// Digits, maybe behind a `-`, before a byte that is none of names.
+    /// Digits, maybe behind a `-`, with no byte of names behind them.
     Number,
     /// `%`, and directly behind it a plain name, digits or a quoted text.
     Register,

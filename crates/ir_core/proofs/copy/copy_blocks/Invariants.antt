@@ -1,4 +1,4 @@
--- the copies so far are of the first ones
+-- the copies so far are those of the first blocks
 use Rattle.std.proofs.Common.{◌≡◌, take}
 use Rattle.ir_core.proofs.copy.copy_blocks.Given as goal
 

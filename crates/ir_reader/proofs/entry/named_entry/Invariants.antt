@@ -1,4 +1,4 @@
--- the first line of a terminator so far
+-- the first line of such a terminator so far
 use Rattle.ir_core.specs.declared.function.Function.{Function}
 use Rattle.ir_resolve.specs.FirstLines.{IsFirst}
 use Rattle.ir_resolve.proofs.Firsts.{Before}

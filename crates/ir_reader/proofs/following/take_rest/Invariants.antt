@@ -1,4 +1,4 @@
--- the tokens are those that the reader has passed since
+-- the tokens are those that the reader has passed since the call
 use Rattle.std.proofs.Common.{ℕ, ◌-◌, List, ◌++◌, length}
 use Rattle.ir_tokens.specs.ReaderPlaces.{StandsIn, HasPassed}
 use Rattle.ir_tokens.specs.SeenTokens.{seen}

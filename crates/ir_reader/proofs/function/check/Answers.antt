@@ -1,4 +1,4 @@
--- Check by check: what none has failed so far, and the fault of the one that fails.
+-- The checks one by one: what holds if none has failed so far, and the fault of the one that fails.
 use Rattle.std.proofs.Common.{◌∙◌, length, ap, sym, subst, arith}
 use Rattle.std.proofs.lemmas.Result.{on_ok_weaker, IfErr-weaker}
 use Rattle.ir_reader.specs.Predecessors.{ArePredecessors}

@@ -1,4 +1,4 @@
--- What is meant is read where the checks of it pass.
+-- The function that is meant is returned if all checks of it pass.
 use Rattle.std.proofs.lemmas.Result.{err_from_is_err_and}
 use Rattle.ir_reader.proofs.Checking.{names_fault, checked_fault}
 use Rattle.ir_reader.proofs.function.function.Goals as goal

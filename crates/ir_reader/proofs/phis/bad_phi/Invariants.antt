@@ -1,4 +1,4 @@
--- the first line of a phi of the blocks so far
+-- the line of the first such phi in the blocks so far
 use Rattle.std.proofs.Common.{ℕ}
 use Rattle.ir_resolve.specs.FirstLines.{IsFirst}
 use Rattle.ir_resolve.proofs.Firsts.{Before}

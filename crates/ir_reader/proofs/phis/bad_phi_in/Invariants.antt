@@ -1,4 +1,4 @@
--- the first line of a phi so far, and whether the instructions so far are phis
+-- the line of the first such phi so far, and whether all instructions so far are phis
 use Rattle.std.proofs.Common.{◌↔◌, IsTrue}
 use Rattle.ir_resolve.specs.FirstLines.{IsFirst}
 use Rattle.ir_resolve.proofs.Firsts.{Before}

@@ -1,4 +1,4 @@
--- the sets have the blocks so far
+-- the blocks so far are added to the sets
 use Rattle.std.proofs.Common.{take}
 use Rattle.ir_reader.specs.Predecessors.{AddsOf}
 use Rattle.ir_reader.proofs.predecessors.add_blocks.Given as goal

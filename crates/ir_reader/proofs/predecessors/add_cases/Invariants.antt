@@ -1,4 +1,4 @@
--- the sets of the targets so far have the block
+-- the block is added to the sets of the targets so far
 use Rattle.std.proofs.Common.{take, map}
 use Rattle.ir_reader.specs.Predecessors.{AddsTo}
 use Rattle.ir_reader.proofs.predecessors.add_cases.Given as goal

@@ -1,4 +1,4 @@
--- the entries so far are read
+-- the entries so far are parsed and checked
 use Rattle.std.proofs.Common.{◌-◌, List, length}
 use Rattle.ir_tokens.specs.declared.raw.RawEntry.{RawEntry}
 use Rattle.ir_reader.specs.EntriesRead.{HasRead, IsReadingOf}

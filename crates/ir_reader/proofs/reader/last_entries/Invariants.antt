@@ -1,4 +1,4 @@
--- the entries so far are read, and these tokens are left
+-- the entries so far are parsed and checked, and these tokens are left
 use Rattle.std.proofs.Common.{ℕ, List, length}
 use Rattle.ir_tokens.specs.SeenTokens.{seen}
 use Rattle.ir_tokens.specs.declared.raw.RawEntry.{RawEntry}

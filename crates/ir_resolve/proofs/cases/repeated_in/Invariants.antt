@@ -1,4 +1,4 @@
--- the numbers so far, and the first line of a case that has an earlier one's
+-- the numbers of the cases so far, and the first line of a case that has an earlier one's
 use Rattle.std.proofs.Common.{◌↔◌, ℕ, take, nat_eq, IsTrue}
 use Rattle.indexmap.specs.IndexSet.{contains}
 use Rattle.ir_resolve.specs.FirstLines.{IsFirst}

@@ -1,4 +1,4 @@
--- so many are added, and three numbers are drawn for each
+-- the instructions so far are the first drawn ones, by three draws each
 use Rattle.std.proofs.Common.{◌≡◌, ◌++◌}
 use Rattle.load_gen.specs.Generated.{drawn_insts, state_after}
 use Rattle.load_gen.proofs.drawn.push_drawn.Given as goal

@@ -1,4 +1,4 @@
--- the functions so far are the first ones, and the numbers for them are drawn
+-- the functions so far are the first ones, and the state is the one behind their draws
 use Rattle.std.proofs.Common.{◌≡◌}
 use Rattle.load_gen.specs.Generated.{functions, state_before}
 use Rattle.load_gen.proofs.generation.generate.Given as goal

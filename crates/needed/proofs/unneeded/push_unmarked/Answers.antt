@@ -6,7 +6,7 @@ use Rattle.needed.specs.InstNumbers.{marks_by}
 use Rattle.needed.proofs.unneeded.push_unmarked.Goals as goal
 use Rattle.needed.proofs.unneeded.push_unmarked.Goals.{then-not-marks-first+in_ok-push, else-not-marks-first}
 
--- the unmarked of the first places of a block, behind others
+-- the unmarked ones among the first instructions of a block, behind what was there before
 abbrev AreFirst : (ℕ → ℕ → Bool) → ℕ → List (ℕ × ℕ) → List (ℕ × ℕ) → ℕ → Type 0
 AreFirst marks block first now count = (b k : ℕ) → Contains now (b, k) ↔ (Contains first (b, k) ⊎ ((b ≡ block) × (k < count) × (marks b k ≡ false)))
 

@@ -2,6 +2,6 @@ use Rattle.std.proofs.Common.{◌≡◌, ◌<◌, ◌⊎◌, ◌↔◌, ℕ, fal
 use Rattle.needed.specs.InstNumbers.{marks_by}
 use Rattle.needed.proofs.unneeded.push_unmarked.Given as goal
 
--- the unmarked of the first places were put
+-- the unmarked ones among the block's first instructions were appended
 abbrev pub invariant-loop-place : goal.invariant-loop-place
 invariant-loop-place l = (b k : ℕ) → Contains l.places.items (b, k) ↔ (Contains l.initial.places.items (b, k) ⊎ ((b ≡ l.block) × (k < l.place) × (marks_by l.numbers.firsts.items l.marks b k ≡ false)))

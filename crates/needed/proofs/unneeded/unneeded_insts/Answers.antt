@@ -9,7 +9,7 @@ use Rattle.needed.specs.InstNumbers.{marks_by}
 use Rattle.needed.proofs.NumberLemmas.{block_within, item_read}
 use Rattle.needed.proofs.unneeded.unneeded_insts.Goals as goal
 
--- the unmarked of the first blocks
+-- the unmarked instructions of the first blocks
 abbrev AreFirst : Function → List ℕ → List Bool → List (ℕ × ℕ) → ℕ → Type 0
 AreFirst f firsts marks places i = (b k : ℕ) → Contains places (b, k) ↔ ((b < i) × HasInst f b k × (marks_by firsts marks b k ≡ false))
 

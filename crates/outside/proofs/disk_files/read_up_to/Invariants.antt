@@ -2,7 +2,7 @@ use Rattle.std.proofs.Common.{◌-◌, ◌≤◌, vec_len}
 use Rattle.std.specs.Io.KnownBytes.{Keeps, prepend_known}
 use Rattle.outside.proofs.disk_files.read_up_to.Given as goal
 
--- what was read, and then what the reader has left, is what it had left at first
+-- what was read so far, with what the reader has left behind it, is what it had left at first
 abbrev pub invariant-loop-chunk : goal.invariant-loop-chunk
 invariant-loop-chunk g l =
     let remaining = g.F.Read.remaining in

@@ -4,7 +4,7 @@ use Rattle.scan.proofs.Fronts.{among_longer, among_no_longer}
 use Rattle.scan.proofs.length.with_word.Goals as goal
 use Rattle.scan.proofs.length.with_word.Goals.{else-word-longest-via-then-word-longest+else-starts_with, else-word-longest-via-else-word-longest}
 
--- whether the text begins with the word's bytes
+-- a comparison with the word's bytes as they were read is one with the word
 begun : (text word bytes : List ℕ) (starts : Bool) → bytes ≡ word → bytes_eq bytes (take (length bytes) text) ≡ starts → bytes_eq word (take (length word) text) ≡ starts
 begun text word bytes starts e h = subst (λ (b : List ℕ). bytes_eq b (take (length b) text) ≡ starts) e h
 

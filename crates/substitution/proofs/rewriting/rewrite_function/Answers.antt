@@ -15,13 +15,13 @@ pub substituted_blocks-blocks-requires : goal.substituted_blocks-blocks-requires
 substituted_blocks-blocks-requires c =
     subst (All (BlockHasRoom c.args.rewrite)) (sym c.replace-blocks.ensures.value) (blocks_have_room c.args.rewrite c.args.f.now c.requires.registers c.requires.places)
 
--- the root's block, with what stands for its operands
+-- the root's block, with its operands substituted
 block_substituted : (w : Rewrite) (old blocks new : List Block) (b : ℕ) (block : Block) → slice_get old b ≡ Some block → blocks ≡ old → new ≡ map (substituted_block (stands_for w)) blocks
     → slice_get new b ≡ Some (substituted_block (stands_for w) block)
 block_substituted w old blocks new b block at same is =
     ap (λ l. slice_get l b) (is ∙ ap (map (substituted_block (stands_for w))) same) ∙ slice_get-map (substituted_block (stands_for w)) old b ∙ ap (option_map (substituted_block (stands_for w))) at
 
--- the block that is read
+-- the block that is looked up
 block_read : (old blocks : List Block) (b : ℕ) (block read : Block) → slice_get old b ≡ Some block → blocks ≡ old → read ≡ get_or blocks b read → read ≡ block
 block_read old blocks b block read at same is = is ∙ ap (λ l. get_or l b read) same ∙ get_or_from_slice_get old b block read at
 

@@ -12,13 +12,13 @@ use Rattle.ir_meaning.proofs.table.Table.get.Goals as goal
 known : (f : Function) (r s : Register) → r ≡ s → IsSome (width_of f r) → IsSome (width_of f s)
 known f r s is h = subst (λ x. IsSome (width_of f x)) is h
 
--- what is read at a parameter's place is held
+-- the value at a parameter's index is the one that it holds
 parameter_read : (f : Function) (firsts : List ℕ) (vs : List Value) (r : Register) (k : ℕ) (v : Value) → IsTable f firsts vs → IsSome (width_of f r) → r ≡ registers.Parameter k → v ≡ get_or vs k v → held_of f vs r ≡ Some v
 parameter_read f firsts vs r k v table some is at =
     let here = known f r (registers.Parameter k) is some in
     subst (λ x. held_of f vs x ≡ Some v) (sym is) (parameter_held f vs k v here (slice_get_read vs (length vs) k v refl (parameter_within_some f firsts vs k table here) at))
 
--- and at a result's
+-- and that at a result's index
 result_read : (f : Function) (firsts : List ℕ) (vs : List Value) (r : Register) (b k place : ℕ) (v : Value) → IsTable f firsts vs → IsSome (width_of f r) → r ≡ registers.Result b k → place ≡ first_of f b + k → v ≡ get_or vs place v → held_of f vs r ≡ Some v
 result_read f firsts vs r b k place v table some is stands at =
     let here = known f r (registers.Result b k) is some in

@@ -1,4 +1,4 @@
--- the keys so far, and the next number
+-- the keys so far, and the next number of the series
 use Rattle.std.proofs.Common.{◌≡◌, map, take}
 use Rattle.ir_resolve.specs.Identifiers.{identifiers_from}
 use Rattle.ir_resolve.specs.Written.{given}

@@ -1,4 +1,4 @@
--- what is known so far, the first line of a name that is there again, and the table where there is none
+-- the keys so far, the first line of a name that was given before, and the table if there is none
 use Rattle.std.proofs.Common.{◌≡◌, ◌↔◌, map, take, None, IsTrue}
 use Rattle.std.specs.List.{zip}
 use Rattle.ir_tokens.specs.declared.called.Identifier.{Identifier}

@@ -24,14 +24,14 @@ next-placed-requires-clause-text c = c.loop-text.invariant.cursor
 pub next-placed-requires-clause-within : goal.next-placed-requires-clause-within
 next-placed-requires-clause-within c = c.loop-text.invariant.within
 
--- what was taken is cut off again
+-- the tokens that were appended are cut off again
 pub returns-then-is_err-clause-unmoved : goal.returns-then-is_err-clause-unmoved
 returns-then-is_err-clause-unmoved c =
     let (taken, are, within) = c.loop-text.invariant.entry in
     let same = kept c.loop-text.tokens.items c.push.new.self.items c.next-placed.result c.is_err.ensures.negation c.if-is_err.true c.push.ensures.items in
     cut c.args.tokens.now.items taken c.push.new.self.items c.truncate.new.self.items (length c.as_slice-count.result.now) (ap length c.as_slice-count.ensures.value) (same ∙ are) c.truncate.ensures.items
 
--- where the reader stands behind a token
+-- the reader is behind the token
 pub returns-then-is_last-clause-stands : goal.returns-then-is_last-clause-stands
 returns-then-is_last-clause-stands c = record {
   of_text = refl;

@@ -1,4 +1,4 @@
--- the tokens that were taken stand behind those that were there, and behind none of them an entry may begin
+-- the tokens read so far are appended to those that were there, and behind none of them an entry may begin
 use Rattle.std.proofs.Common.{◌≡◌, ◌≤◌, ℕ, List, ◌++◌, ◌-◌, length}
 use Rattle.ir_tokens.specs.declared.token.Placed.{Placed as ScannedPlaced}
 use Rattle.ir_tokens.specs.ReaderPlaces.{HasPassed}

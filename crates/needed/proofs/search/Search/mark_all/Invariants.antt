@@ -2,6 +2,6 @@ use Rattle.std.proofs.Common.{take}
 use Rattle.needed.specs.NeededMarks.{Marked}
 use Rattle.needed.proofs.search.Search.mark_all.Given as goal
 
--- what the operands before the index read is marked
+-- the instructions that define the operands before the index are marked
 abbrev pub invariant-loop-operand : goal.invariant-loop-operand
 invariant-loop-operand l = Marked l.numbers.firsts.items (take l.operand-index l.operands) l.initial.self l.self

@@ -3,6 +3,6 @@ use Rattle.needed.specs.NeededMarks.{Marked}
 use Rattle.needed.proofs.MarkLemmas.{values_of}
 use Rattle.needed.proofs.search.Search.mark_entries.Given as goal
 
--- what the entries before the index read is marked
+-- the instructions that define the operands of the entries before the index are marked
 abbrev pub invariant-loop-entry : goal.invariant-loop-entry
 invariant-loop-entry l = Marked l.numbers.firsts.items (values_of (take l.entry-index l.entries)) l.initial.self l.self
