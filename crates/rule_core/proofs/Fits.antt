@@ -36,7 +36,7 @@ pub number_or_zero_fits : (N : ℕ) (v : Value) → IsValueOf N v → number_or_
 number_or_zero_fits N Poison is = pow_pos N
 number_or_zero_fits N (Bits a) is = is.1
 
-value_fits : (N : ℕ) (e : Effect) → IsEffectOf N e → IsValueOf N (value_given e)
+pub value_fits : (N : ℕ) (e : Effect) → IsEffectOf N e → IsValueOf N (value_given e)
 value_fits N effects.Undefined is = tt
 value_fits N (effects.Gives v) is = is
 

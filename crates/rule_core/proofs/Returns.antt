@@ -4,10 +4,11 @@ use Rattle.std.proofs.lemmas.List.{take_all}
 use Rattle.std.proofs.lemmas.Option.{slice_get_read}
 use Rattle.ops.specs.Number.{Number}
 use Rattle.ops.specs.declared.value.Value.{Value}
+use Rattle.ops.specs.declared.value.Effect.{Effect}
 use Rattle.ops.specs.declared.value.Effect.TheVariants as effects
 use Rattle.rule_core.specs.declared.rule.Rule.{Rule}
 use Rattle.rule_core.specs.Terms.{constant_values}
-use Rattle.rule_core.specs.Run.{Undefines, Holds, GivesLast, given_by, SourceGives, TargetGives}
+use Rattle.rule_core.specs.Run.{Undefines, Holds, GivesLast, given_by, SourceGives, TargetGives, TargetGoesOn}
 use Rattle.rule_core.specs.Readiness.{SourceRan, TargetRan}
 
 -- the values of the terms, for parts that are equal to these
@@ -21,10 +22,6 @@ module _ (rule : Rule) (typing classes : List ℕ) (constants numbers choices ch
       → SourceRan typing (given_by typing constants choices rule) rule inputs count values
   SourceRan-at count values ran = rw (s, p, q, r, t) at ran
 
-  pub TargetRan-at : (lent source : List Value) (values : Option (List Value)) → lent ≡ source → TargetRan classes (record { constants = numbers; choices = chosen; terms = terms }) rule read lent values
-      → TargetRan typing (given_by typing constants choices rule) rule inputs source values
-  TargetRan-at lent source values same ran = rw (s, p, q, r, t, same) at ran
-
 module _ (rule : Rule) (typing : List ℕ) (constants choices : List Number) (inputs : List Value) where
   last : (values : List Value) (count : ℕ) (v : Value) → length values ≡ count → 0 < count → v ≡ get_or values (count - 1) v → GivesLast values (effects.Gives v)
   last values count v long some is = (v, slice_get_read values (length values) (length values - 1) v refl (omega arith) (rw (sym long) at is), refl)
@@ -37,14 +34,20 @@ module _ (rule : Rule) (typing : List ℕ) (constants choices : List Number) (in
   source_returns count values v whole some ran is =
       (Holds (record { inputs = inputs; source = values; target = [] }), rw (take_all count rule.source (omega arith)) at ran.2, last values count v ran.0 (omega arith) is)
 
-  module _ (count : ℕ) (source : List Value) (before : count ≡ length rule.source) (ran : SourceRan typing (given_by typing constants [] rule) rule inputs (count - 1) (Some source)) where
-    pub target_ends : TargetRan typing (given_by typing constants choices rule) rule inputs source None → TargetGives typing constants choices rule inputs effects.Undefined
-    target_ends follows = (Holds (record { inputs = inputs; source = source; target = [] }), rw before at ran.2, (Undefines, follows, refl))
+  -- the target, from what the source's temporaries do
+  pub target_ends : SourceRan typing (given_by typing constants [] rule) rule inputs (length rule.source - 1) None → TargetGives typing constants choices rule inputs effects.Undefined
+  target_ends ran = (Undefines, ran, refl)
 
-    pub target_returns : (values : List Value) (v : Value) → 0 < length rule.target → TargetRan typing (given_by typing constants choices rule) rule inputs source (Some values)
-        → v ≡ get_or values (length values - 1) v → TargetGives typing constants choices rule inputs (effects.Gives v)
-    target_returns values v some follows is = (
-      Holds (record { inputs = inputs; source = source; target = [] }),
-      rw before at ran.2,
-      (Holds (record { inputs = inputs; source = source; target = values }), follows.1, last values (length values) v refl (omega (arith, follows.0)) is),
-    )
+  pub target_follows : (source : List Value) → SourceRan typing (given_by typing constants [] rule) rule inputs (length rule.source - 1) (Some source)
+      → (e : Effect) → TargetGoesOn typing constants choices rule (record { inputs = inputs; source = source; target = [] }) e → TargetGives typing constants choices rule inputs e
+  target_follows source ran e goes = (Holds (record { inputs = inputs; source = source; target = [] }), ran.2, goes)
+
+  -- and from its own statements
+  module _ (source : List Value) where
+    pub after_ends : TargetRan typing (given_by typing constants choices rule) rule inputs source None → TargetGoesOn typing constants choices rule (record { inputs = inputs; source = source; target = [] }) effects.Undefined
+    after_ends ran = (Undefines, ran, refl)
+
+    pub after_returns : (values : List Value) (v : Value) → 0 < length rule.target → TargetRan typing (given_by typing constants choices rule) rule inputs source (Some values)
+        → v ≡ get_or values (length values - 1) v → TargetGoesOn typing constants choices rule (record { inputs = inputs; source = source; target = [] }) (effects.Gives v)
+    after_returns values v some ran is =
+        (Holds (record { inputs = inputs; source = source; target = values }), ran.1, last values (length values) v refl (omega (arith, ran.0)) is)

@@ -1,10 +1,11 @@
 //! Runs of the two halves of a rule.
 
-ghost use Rattle.std.specs.Prelude.{◌≡◌, ◌+◌, ◌≤◌, ℕ, length, take, slice_get, IsSome, IfOk, option_map, Some};
+ghost use Rattle.std.specs.Prelude.{◌≡◌, ◌+◌, ◌≤◌, ℕ, [], length, take, slice_get, IsSome, IfOk, option_map, Some};
 ghost use Rattle.ops.specs.Value.{IsValueOf, IsEffectOf};
 ghost use Rattle.rule_core.specs.Checks.{IsRule};
 ghost use Rattle.rule_core.specs.Typing.{IsTyping};
-ghost use Rattle.rule_core.specs.Run.{frozen, value_of, OperandGives, StatementGives, SourceGives, TargetGives};
+ghost use Rattle.rule_core.specs.Run.{frozen, value_of, OperandGives, StatementGives};
+ghost use Rattle.rule_core.specs.Run.{SourceGives, TargetGives, TargetGoesOn};
 ghost use Rattle.rule_core.specs.Terms.{constant_values, number_or_zero, value_at};
 ghost use Rattle.rule_core.specs.Valid.{InputsFit, ConstantsFit, SourceChoicesFit, TargetChoicesFit};
 ghost use Rattle.rule_core.specs.Readiness.{seen, shown, OperandIsReady, StatementIsReady, ValuesFit, GivenFits, SourceRan, TargetRan};
@@ -83,23 +84,65 @@ pub fn run_target(
     requires choices { TargetChoicesFit rule.now typing.now choices.now }
     ensures { IfOk result (λ effect. TargetGives typing.now constants.now choices.now rule.now inputs.now effect) }
 {
-    let terms = constant_values(alloc, rule, typing.as_slice(), constants.as_slice())?;
-    let inputs = inputs.as_slice();
-    let before = Given {
-        typing: typing.as_slice(),
-        constants: constants.as_slice(),
-        choices: &[],
+    let typing = typing.as_slice();
+    let constants = constants.as_slice();
+    let terms = constant_values(alloc, rule, typing, constants)?;
+    let given = Given {
+        typing,
+        constants,
+        choices: choices.as_slice(),
         terms: &terms,
+    };
+    target_effect(alloc, rule, given, inputs.as_slice())
+}
+
+/// What the target does on what is given: first the source's temporaries, in which no choice stands.
+fn target_effect(
+    alloc: Global,
+    rule: &Rule,
+    given: Given,
+    inputs: &[Value],
+) -> Result<Effect, AllocError>
+    requires rule { IsRule rule.now }
+    requires typing { IsTyping rule.now given.typing.now }
+    requires constants { ConstantsFit rule.now given.typing.now given.constants.now }
+    requires choices { TargetChoicesFit rule.now given.typing.now given.choices.now }
+    requires terms { given.terms.now ≡ constant_values given.typing.now given.constants.now rule.now }
+    requires inputs { InputsFit rule.now given.typing.now inputs.now }
+    ensures { IfOk result (λ effect.
+        TargetGives given.entry.typing.now given.entry.constants.now given.entry.choices.now rule.now inputs.now effect) }
+{
+    let before = Given {
+        choices: &[],
+        ..given
     };
     let count = rule.source.len() - 1;
     let Some(source) = source_values(alloc, rule, before, inputs, count)? else {
         return Ok(Effect::Undefined);
     };
-    let given = Given {
-        choices: choices.as_slice(),
-        ..before
-    };
-    let Some(values) = target_values(alloc, rule, given, inputs, &source)? else {
+    effect_after(alloc, rule, given, inputs, &source)
+}
+
+/// What the target does after the source's temporaries have these values.
+fn effect_after(
+    alloc: Global,
+    rule: &Rule,
+    given: Given,
+    inputs: &[Value],
+    source: &[Value],
+) -> Result<Effect, AllocError>
+    requires rule { IsRule rule.now }
+    requires typing { IsTyping rule.now given.typing.now }
+    requires given { GivenFits rule.now given.typing.now rule.now.target (shown given) }
+    requires terms { given.terms.now ≡ constant_values given.typing.now given.constants.now rule.now }
+    requires inputs { InputsFit rule.now given.typing.now inputs.now }
+    requires count { length source.now + 1 ≡ length rule.now.source }
+    requires source { ValuesFit given.typing.now rule.now.source source.now }
+    ensures { IfOk result (λ effect.
+        TargetGoesOn given.entry.typing.now given.entry.constants.now given.entry.choices.now rule.now
+        (record { inputs = inputs.now; source = source.now; target = [] }) effect) }
+{
+    let Some(values) = target_values(alloc, rule, given, inputs, source)? else {
         return Ok(Effect::Undefined);
     };
     Ok(Effect::Gives(values[values.len() - 1]))

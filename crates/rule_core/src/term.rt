@@ -5,7 +5,7 @@ ghost use Rattle.std.specs.Option.{option_map_or};
 ghost use Rattle.ops.specs.Integer.{bits, residue, least};
 ghost use Rattle.ops.specs.Value.{IsValueOf};
 ghost use Rattle.ops.specs.declared.value.Value.TheVariants.{Poison};
-ghost use Rattle.rule_core.specs.Terms.{of_constants, value_given, within, exponent, function_at, term_value, number_or_zero};
+ghost use Rattle.rule_core.specs.Terms.{function_value, of_constants, value_given, within, exponent, function_at, term_value, number_or_zero};
 ghost use Rattle.rule_core.specs.Readiness.{TermIsReady};
 
 use crate::rule::{Function, Node, Term};
@@ -22,23 +22,29 @@ pub fn term_value(typing: &[Width], constants: &[Word], before: &[Value], term: 
         Node::Literal(literal) => Value::Bits(Word::fitting(width, residue(width, literal))),
         Node::Constant(k) => Value::Bits(constants[k as usize]),
         Node::Width(_, class) => within(width, typing[class as usize].bits()),
-        Node::Unary(function, operand) => match before[operand as usize] {
-            Value::Poison => Value::Poison,
-            Value::Bits(a) => function_value(function, width, a),
-        },
-        Node::Binary(opcode, left, right) => value_given(evaluate(
-            opcode,
-            Flags::NONE,
-            width,
-            before[left as usize],
-            before[right as usize],
-        )),
+        Node::Unary(function, operand) => function_value(function, width, before[operand as usize]),
+        Node::Binary(opcode, left, right) => {
+            let (left, right) = (before[left as usize], before[right as usize]);
+            value_given(evaluate(opcode, Flags::NONE, width, left, right))
+        }
         Node::Register(_) | Node::Choice(_) => unreachable!(),
     }
 }
 
+/// What a function gives at a value of `iN`.
+fn function_value(function: Function, width: Width, value: Value) -> Value
+    requires { IsValueOf width value }
+    ensures value { result ≡ function_value function width value }
+    ensures width { IsValueOf width result }
+{
+    match value {
+        Value::Poison => Value::Poison,
+        Value::Bits(a) => function_at(function, width, a),
+    }
+}
+
 /// What a function gives at a number of `iN`.
-fn function_value(function: Function, width: Width, a: Word) -> Value
+fn function_at(function: Function, width: Width, a: Word) -> Value
     requires { a.width ≡ width }
     ensures value { result ≡ function_at function width a.number }
     ensures width { IsValueOf width result }
