@@ -32,9 +32,17 @@ pub(crate) enum Failure {
 
 /// The words that the program takes.
 const USAGE: &str =
-    "usage: bench_parts [read MODULE | search (random INPUTS CLAUSES SEED | pigeonhole PIGEONS | parity INPUTS SEED) [untimed] | verify RULES CONFLICTS [untimed | --dimacs FOLDER]]";
+    "usage: bench_parts [read MODULE | search (random INPUTS CLAUSES SEED | pigeonhole PIGEONS | parity INPUTS SEED) [untimed] | verify RULES CONFLICTS [untimed | --dimacs FOLDER] | command WORD ..]";
 
 impl Failure {
+    /// The exit status, which no command has: 11 where memory is wanting, else 10.
+    pub(crate) fn status(self) -> u8 {
+        match self {
+            Failure::NoMemory => 11,
+            _ => 10,
+        }
+    }
+
     /// What is said of it, without its line.
     fn text(self) -> &'static str {
         match self {

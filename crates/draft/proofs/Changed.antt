@@ -12,7 +12,7 @@ use Rattle.ir_core.specs.declared.operand.Operand.{Operand}
 use Rattle.ir_core.specs.declared.operand.Operand.TheVariants as operands
 use Rattle.needed.specs.Operands.{operands_of}
 use Rattle.use_counts.specs.declared.uses.Uses.{Uses}
-use Rattle.readers.specs.Changes.{gone, inst_changed, taken_out, with_block}
+use Rattle.readers.specs.Changes.{gone, inst_changed, with_inst_removed, with_block}
 use Rattle.readers.specs.Counts.{AreCounted, operands_at}
 use Rattle.draft.specs.Whole.{AreRowsOf, HasNoPhi, IsWhole}
 use Rattle.draft.specs.declared.draft.Draft.{Draft}
@@ -78,7 +78,7 @@ module _ (old new : Draft) (b n : ℕ) (change : Inst → Inst) (whole : IsWhole
 
 -- an instruction that is removed
 pub whole_taken_out : (old new : Draft) (b n : ℕ) (block : Block) (was : Inst) → IsWhole old → IsBlock old.arena b block → slice_get block.insts n ≡ Some was
-    → new.arena ≡ taken_out old.arena b n → new.orders.items ≡ old.orders.items → new.stand.items ≡ slice_set old.stand.items b (slice_set (get_or old.stand.items b []) n false)
+    → new.arena ≡ with_inst_removed old.arena b n → new.orders.items ≡ old.orders.items → new.stand.items ≡ slice_set old.stand.items b (slice_set (get_or old.stand.items b []) n false)
     → IsRecounted old new (record { block = b; number = n }) → IsWhole new
 whole_taken_out old new b n block was whole at here arena orders stand recounted =
     let row : List Bool = slice_set (get_or old.stand.items b []) n false in

@@ -17,7 +17,7 @@ use Rattle.draft.proofs.Wholeness.{all_known, few_insts}
 
 -- a draft with other blocks in its arena
 abbrev pub with_blocks : Draft → List Block → Draft
-with_blocks d blocks = record { arena = record { name = d.arena.name; before = d.arena.before; width = d.arena.width; parameters = d.arena.parameters; after = d.arena.after; blocks = blocks }; facts = d.facts; orders = d.orders; stand = d.stand; readers = d.readers; fallen = d.fallen; has_cycles = d.has_cycles }
+with_blocks d blocks = record { arena = record { name = d.arena.name; before = d.arena.before; width = d.arena.width; parameters = d.arena.parameters; after = d.arena.after; blocks = blocks }; facts = d.facts; orders = d.orders; stand = d.stand; readers = d.readers; dead_candidates = d.dead_candidates; has_cycles = d.has_cycles }
 
 -- an instruction of the arena has a place there
 pub inside : (f : Function) (p : Place) → HasInst f p.block p.number → IsPlaceIn f p

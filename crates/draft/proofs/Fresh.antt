@@ -186,7 +186,7 @@ module _ (d : Draft) (checks : MeetsChecks d.arena) (few : length d.arena.blocks
       ap (λ (l : List Block). let f : Function = record { name = d.arena.name; before = d.arena.before; width = d.arena.width; parameters = d.arena.parameters; after = d.arena.after; blocks = l } in f)
       (ap (λ (rows : List (List ℕ)). blocks_of (placed rows) rows d.arena.blocks) all_numbers ∙ placed_itself d.arena known few_insts)
 
-  pub settled_at_first : AreFactsOf d.arena d.facts → AreReadersOf d.arena d.readers → (IsFalse d.has_cycles → HasNoCycles d.arena) → d.fallen.items ≡ [] → IsSettled d
+  pub settled_at_first : AreFactsOf d.arena d.facts → AreReadersOf d.arena d.readers → (IsFalse d.has_cycles → HasNoCycles d.arena) → d.dead_candidates.items ≡ [] → IsSettled d
   settled_at_first facts readers cycles none_fell = record {
     whole = record {
       few = few;

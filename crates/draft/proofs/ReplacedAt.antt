@@ -121,7 +121,7 @@ pub record IsReplacing (old now : Draft) (from : Register) (to : Operand) (left 
   pub arena : replaced now.arena from to ≡ replaced old.arena from to
   pub numbers : numbers_of now ≡ numbers_of old
   pub orders : orders_of now ≡ orders_of old
-  pub fallen : now.fallen.items ≡ old.fallen.items
+  pub dead_candidates : now.dead_candidates.items ≡ old.dead_candidates.items
   pub known : IsKnown now.arena to
   pub places : (p : Place) → IsPlaceIn old.arena p → IsPlaceIn now.arena p
   pub rest : (p : Place) (a : Operand) → IsPlaceIn now.arena p → Contains (operands_at now.arena p) a → (substituted_operand (instead from to) a ≡ a) ⊎ Contains left p
@@ -135,14 +135,14 @@ stays_or_read from to (operands.Number n) = inl refl
 stays_or_read from to operands.Undef = inl refl
 stays_or_read from to operands.Poison = inl refl
 
-pub replacing_begins : (old now : Draft) (from : Register) (to : Operand) (all : List Place) → IsWhole now → now.arena ≡ old.arena → numbers_of now ≡ numbers_of old → orders_of now ≡ orders_of old → now.fallen.items ≡ old.fallen.items
+pub replacing_begins : (old now : Draft) (from : Register) (to : Operand) (all : List Place) → IsWhole now → now.arena ≡ old.arena → numbers_of now ≡ numbers_of old → orders_of now ≡ orders_of old → now.dead_candidates.items ≡ old.dead_candidates.items
     → IsKnown old.arena to → ((p : Place) → IsPlaceIn now.arena p → IsReader now.arena from p → Contains all p) → IsReplacing old now from to all
-replacing_begins old now from to all whole arena numbers orders fallen known complete = record {
+replacing_begins old now from to all whole arena numbers orders dead_candidates known complete = record {
   whole = whole;
   arena = ap (λ (f : Function). replaced f from to) arena;
   numbers = numbers;
   orders = orders;
-  fallen = fallen;
+  dead_candidates = dead_candidates;
   known = subst (λ (f : Function). IsKnown f to) (sym arena) known;
   places = λ p inside. subst (λ (f : Function). IsPlaceIn f p) (sym arena) inside;
   rest = λ p a inside reads. elim (stays_or_read from to a) [
@@ -152,9 +152,9 @@ replacing_begins old now from to all whole arena numbers orders fallen known com
 }
 
 pub replacing_goes : (old now new : Draft) (from : Register) (to : Operand) (p : Place) (left : List Place) → IsReplacing old now from to (p ∷ left) → IsPlaceIn now.arena p
-    → IsWhole new → new.arena ≡ replaced_at now.arena p from to → numbers_of new ≡ numbers_of now → orders_of new ≡ orders_of now → new.fallen.items ≡ now.fallen.items
+    → IsWhole new → new.arena ≡ replaced_at now.arena p from to → numbers_of new ≡ numbers_of now → orders_of new ≡ orders_of now → new.dead_candidates.items ≡ now.dead_candidates.items
     → IsReplacing old new from to left
-replacing_goes old now new from to p left so_far inside whole arena numbers orders fallen =
+replacing_goes old now new from to p left so_far inside whole arena numbers orders dead_candidates =
     let differs = differs_after now new from to p so_far.whole inside arena in
     let reads = reads_after now new from to p so_far.whole inside arena in
     record {
@@ -162,7 +162,7 @@ replacing_goes old now new from to p left so_far inside whole arena numbers orde
       arena = ap (λ (f : Function). replaced f from to) arena ∙ replaced_first from to now.arena p ∙ so_far.arena;
       numbers = numbers ∙ so_far.numbers;
       orders = orders ∙ so_far.orders;
-      fallen = fallen ∙ so_far.fallen;
+      dead_candidates = dead_candidates ∙ so_far.dead_candidates;
       known = known_kept now.arena new.arena differs.to to so_far.known;
       places = λ q was. (differs.places q).1 (so_far.places q was);
       rest = λ q a is read. elim (is_same_place q p) [

@@ -54,4 +54,4 @@ pub record IsWhole (d : Draft) : Type 0 where
 pub record IsSettled (d : Draft) : Type 0 where
   pub whole : IsWhole d
   pub read_stands : (b n : ℕ) (p : Place) → IsPlaceIn d.arena p → IsReader d.arena (registers.Result b n) p → Stands d b n
-  pub none_fell : d.fallen.items ≡ []
+  pub none_fell : d.dead_candidates.items ≡ []

@@ -37,7 +37,7 @@ pub struct Draft {
     /// The use list of each register: all places that read it, and perhaps some that ceased to.
     pub readers: Readers,
     /// The worklist of dead code elimination: registers that a removed instruction read, and results of inserted ones.
-    pub fallen: Vec<Register>,
+    pub dead_candidates: Vec<Register>,
     /// Whether def-use chains may have cycles. Where it is false there is no phi, and each block is reached.
     pub has_cycles: bool,
 }
@@ -60,7 +60,7 @@ impl Draft {
             orders: tables.orders,
             stand: tables.stand,
             readers: tables.readers,
-            fallen: Vec::new(alloc),
+            dead_candidates: Vec::new(alloc),
             has_cycles: tables.has_cycles,
         })
     }

@@ -32,7 +32,7 @@ impl Draft {
         ensures arena { self.new.arena ≡ self.old.arena }
         ensures orders { self.new.orders.items ≡ self.old.orders.items }
         ensures stand { self.new.stand.items ≡ self.old.stand.items }
-        ensures fallen { self.new.fallen.items ≡ self.old.fallen.items }
+        ensures dead_candidates { self.new.dead_candidates.items ≡ self.old.dead_candidates.items }
         ensures facts { self.new.facts ≡ self.old.facts }
         ensures others { (r : Named) → ¬ (r ≡ register) → listed_for self.new.readers r ≡ listed_for self.old.readers r }
         ensures exact { (p : Spot) → Contains (listed_for self.new.readers register) p

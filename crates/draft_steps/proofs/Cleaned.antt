@@ -9,14 +9,14 @@ use Rattle.ir_core.specs.declared.operand.Register.TheVariants as registers
 use Rattle.needed.specs.Cleaned.{IsCleaned}
 use Rattle.needed.specs.Needed.{IsNeeded, by_end, by_inst, ReadsRegister}
 use Rattle.needed.specs.Operands.{operands_of, operands_at_end}
-use Rattle.draft_steps.specs.Cleaning.{IsCleaning}
+use Rattle.draft_steps.specs.DeadCode.{IsEliminating}
 use Rattle.draft_steps.proofs.Leaving.{ReadsStay, StaysIn, function_at, left_is, left_row, marks_of}
 use Rattle.draft_steps.proofs.Living.{needed_alone}
 use Rattle.draft_steps.proofs.Needing.{AreRows, keeps_needed, row_is}
 use Rattle.draft_steps.proofs.WhoReads.{end_reads_it, inst_reads_it}
 use Rattle.draft_steps.proofs.RowPlaces.{kept_in}
 
-module _ (f : Function) (rows : List (List ℕ)) (g : Function) (left : List (List ℕ)) (good : AreRows f rows) (is : IsCleaning f rows g left []) where
+module _ (f : Function) (rows : List (List ℕ)) (g : Function) (left : List (List ℕ)) (good : AreRows f rows) (is : IsEliminating f rows g left []) where
   keeps : (b n : ℕ) → Contains (slice_index_or rows b []) n → (is.keep b n ≡ true) ↔ IsNeeded f (registers.Result b n)
   keeps b n has = (
     λ kept.

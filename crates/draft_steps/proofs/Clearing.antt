@@ -17,7 +17,7 @@ use Rattle.ir_meaning.proofs.Equations.{one_inst}
 use Rattle.ir_meaning.proofs.Pieces.{not_in_empty}
 use Rattle.needed.specs.Needed.{IsNeeded, by_end, by_inst, ReadsRegister}
 use Rattle.needed.specs.Operands.{operands_of}
-use Rattle.draft_steps.specs.Cleaning.{AreLeft, AreRead, HaveInsts, IsBlockLeft, IsCleaning, IsNeededWith, KeepsUses, ReadsStand}
+use Rattle.draft_steps.specs.DeadCode.{AreLeft, AreRead, HaveInsts, IsBlockLeft, IsEliminating, IsNeededWith, KeepsUses, ReadsStand}
 use Rattle.draft.specs.Drafts.{Stands, function_of, numbers_in, numbers_of, orders_of}
 use Rattle.places.specs.Orders.{none}
 use Rattle.readers.specs.Readers.{IsReader}
@@ -50,12 +50,12 @@ read_needed f p r h need = elim (cases_eq p.number none) [
 ]
 
 -- dead code elimination may begin with a worklist with which each instruction that stands would be live
-pub cleaning_starts : (d : Draft) (waits : List Register) → ((b n : ℕ) → Stands d b n → IsNeededWith d.arena waits (registers.Result b n)) → IsCleaning d.arena (numbers_of d) d.arena (numbers_of d) (waits ++ [])
+pub cleaning_starts : (d : Draft) (waits : List Register) → ((b n : ℕ) → Stands d b n → IsNeededWith d.arena waits (registers.Result b n)) → IsEliminating d.arena (numbers_of d) d.arena (numbers_of d) (waits ++ [])
 cleaning_starts d waits all =
-    subst (λ (l : List Register). IsCleaning d.arena (numbers_of d) d.arena (numbers_of d) l) (sym (append_none waits))
+    subst (λ (l : List Register). IsEliminating d.arena (numbers_of d) d.arena (numbers_of d) l) (sym (append_none waits))
     (cleaning_begins d.arena (numbers_of d) waits all)
 
-module _ (old new : Draft) (whole : IsWhole old) (whole_now : IsWhole new) (roots : List Register) (is : IsCleaning old.arena (numbers_of old) new.arena (numbers_of new) roots) where
+module _ (old new : Draft) (whole : IsWhole old) (whole_now : IsWhole new) (roots : List Register) (is : IsEliminating old.arena (numbers_of old) new.arena (numbers_of new) roots) where
   was_kept : (b n : ℕ) → Stands new b n → Stands old b n × (is.keep b n ≡ true)
   was_kept b n stands =
       kept_of (is.keep b) (numbers_in old b) n (subst (λ (l : List ℕ). Contains l n) (left_row is.keep old.arena (numbers_of old) new.arena (numbers_of new) is.is_left b) stands)
@@ -117,13 +117,13 @@ module _ (old new : Draft) (whole : IsWhole old) (whole_now : IsWhole new) (root
       read
 
 -- a draft without dead code has none once it is cleaned again
-module _ (f : Function) (rows : List (List ℕ)) (old new : Draft) (whole : IsWhole old) (whole_now : IsWhole new) (waits used : List Register) (clean : IsCleaning f rows old.arena (numbers_of old) [])
-    (again : (f : Function) (rows : List (List ℕ)) → IsCleaning f rows old.arena (numbers_of old) waits → IsCleaning f rows new.arena (numbers_of new) used) where
-  own : IsCleaning old.arena (numbers_of old) new.arena (numbers_of new) used
+module _ (f : Function) (rows : List (List ℕ)) (old new : Draft) (whole : IsWhole old) (whole_now : IsWhole new) (waits used : List Register) (clean : IsEliminating f rows old.arena (numbers_of old) [])
+    (again : (f : Function) (rows : List (List ℕ)) → IsEliminating f rows old.arena (numbers_of old) waits → IsEliminating f rows new.arena (numbers_of new) used) where
+  own : IsEliminating old.arena (numbers_of old) new.arena (numbers_of new) used
   own = again old.arena (numbers_of old) (cleaning_begins old.arena (numbers_of old) waits (λ b n stands.
       needed_through old.arena [] waits (λ r none. absurd (not_in_empty r none)) (registers.Result b n) (clean.waits b n stands)))
 
-  pub cleaned_again : IsCleaning f rows new.arena (numbers_of new) []
+  pub cleaned_again : IsEliminating f rows new.arena (numbers_of new) []
   cleaned_again =
       cleaning_done new whole_now f rows used
       (λ b n among stands. own.needed (registers.Result b n) (needed_alone old.arena (registers.Result b n) (clean.waits b n (stood_first old new whole whole_now used own b n stands))))
@@ -132,21 +132,21 @@ module _ (f : Function) (rows : List (List ℕ)) (old new : Draft) (whole : IsWh
 -- ---- a draft from which the instructions without uses were removed
 
 module _ (old mid : Draft) (whole : IsWhole old) (whole_mid : IsWhole mid) (used : List Register)
-    (is : IsCleaning old.arena (numbers_of old) mid.arena (numbers_of mid) used) where
+    (is : IsEliminating old.arena (numbers_of old) mid.arena (numbers_of mid) used) where
   -- has no dead code where its def-use chains have no cycles
-  pub clean_without_cycles : ReadsStand old → MeetsChecks (function_of old) → HasNoCycles mid.arena → AreRead mid [] → IsCleaning old.arena (numbers_of old) mid.arena (numbers_of mid) []
+  pub clean_without_cycles : ReadsStand old → MeetsChecks (function_of old) → HasNoCycles mid.arena → AreRead mid [] → IsEliminating old.arena (numbers_of old) mid.arena (numbers_of mid) []
   clean_without_cycles stand checks none read =
       cleaning_done mid whole_mid old.arena (numbers_of old) used (λ b n among stands. needed_without_cycles old mid whole whole_mid used is (whole_rows old whole stand) checks none read b n stands) is
 
   -- and where the registers that lost a use and still have one are live
-  pub clean_by_uses : ((b n : ℕ) → Contains used (registers.Result b n) → Stands mid b n → IsNeeded mid.arena (registers.Result b n)) → IsCleaning old.arena (numbers_of old) mid.arena (numbers_of mid) []
+  pub clean_by_uses : ((b n : ℕ) → Contains used (registers.Result b n) → Stands mid b n → IsNeeded mid.arena (registers.Result b n)) → IsEliminating old.arena (numbers_of old) mid.arena (numbers_of mid) []
   clean_by_uses all = cleaning_done mid whole_mid old.arena (numbers_of old) used all is
 
 -- what is said of a draft from which dead code was removed
 pub record IsMadeClean (old new : Draft) (used : List Register) : Type 0 where
   pub whole : IsWhole new
   pub orders : orders_of new ≡ orders_of old
-  pub none_fell : new.fallen.items ≡ []
-  pub cleaned : IsCleaning old.arena (numbers_of old) new.arena (numbers_of new) []
+  pub none_fell : new.dead_candidates.items ≡ []
+  pub cleaned : IsEliminating old.arena (numbers_of old) new.arena (numbers_of new) []
   pub have : HaveInsts new used
-  pub reads : (was : Draft) → KeepsUses was old old.fallen.items → KeepsUses was new used
+  pub reads : (was : Draft) → KeepsUses was old old.dead_candidates.items → KeepsUses was new used

@@ -17,8 +17,8 @@ use Rattle.needed.specs.Needed.{IsNeeded, by_end, by_inst, ReadsRegister}
 use Rattle.needed.specs.Operands.{operands_of, operands_at_end}
 use Rattle.substitution.specs.Substitution.{Substitution, substituted_block, substituted_inst, substituted_operand}
 use Rattle.substitution.proofs.Pieces.{get_left, in_map, map_in, mapped}
-use Rattle.readers.specs.Changes.{changed_at, instead, replaced, taken_out}
-use Rattle.draft_steps.specs.Cleaning.{IsNeededWith, ends, reads, is_one}
+use Rattle.readers.specs.Changes.{changed_at, instead, replaced, with_inst_removed}
+use Rattle.draft_steps.specs.DeadCode.{IsNeededWith, ends, reads, is_one}
 use Rattle.draft_steps.specs.Rewriting.{with_put}
 use Rattle.draft_steps.proofs.Living.{needed_stays}
 use Rattle.draft_steps.proofs.Mapping.{end_substituted, operands_substituted}
@@ -168,9 +168,9 @@ module _ (f : Function) (b n : ℕ) (put : List Inst) (result : Operand) (no_roo
           ]
         ]
 
-    pub result_needed : HasInst g b n → IsNeeded f root → IsNeeded (taken_out g b n) s
+    pub result_needed : HasInst g b n → IsNeeded f root → IsNeeded (with_inst_removed g b n) s
     result_needed has need =
         elim (result_or root need) [
           | inl rest ↦ absurd (rest.1 refl)
-          | inr found ↦ needed_stays g (taken_out g b n) b n (taken_out_is_silenced g b n has) root_unneeded s found
+          | inr found ↦ needed_stays g (with_inst_removed g b n) b n (taken_out_is_silenced g b n has) root_unneeded s found
         ]

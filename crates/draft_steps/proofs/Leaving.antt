@@ -15,7 +15,7 @@ use Rattle.needed.specs.KeptFunction.{KeptMarks, kept_before, kept_block, kept_b
 use Rattle.needed.specs.Operands.{operands_of, operands_at_end}
 use Rattle.needed.proofs.Counting.{get-block}
 use Rattle.substitution.specs.Substitution.{substituted_end, substituted_inst, substituted_operand}
-use Rattle.draft_steps.specs.Cleaning.{AreLeft, IsBlockLeft, IsLeft}
+use Rattle.draft_steps.specs.DeadCode.{AreLeft, IsBlockLeft, IsLeft}
 use Rattle.draft.specs.Drafts.{block_of, blocks_of, insts_of, placed}
 use Rattle.places.specs.Orders.{place_in}
 use Rattle.draft_steps.proofs.OneChange.{same_items}

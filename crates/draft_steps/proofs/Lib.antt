@@ -14,7 +14,7 @@ pub mod Instead
 pub mod PutFor
 pub mod Taking
 pub mod Using
-pub mod Fallen
+pub mod DeadCandidates
 pub mod Lessening
 pub mod Clearing
 pub mod ToEnds
@@ -33,10 +33,10 @@ pub mod Room
 pub mod PutAll
 pub mod PutInstead
 pub mod Arranged
-pub mod QueueSteps
+pub mod WorklistSteps
 pub mod WalkSteps
 pub mod Walking
-pub mod QueueLaws
+pub mod WorklistLaws
 pub mod WalkDrafts
 pub mod SameDrafts
 pub mod Same

@@ -7,7 +7,7 @@ use Rattle.ir_core.specs.declared.operand.Register.{Register}
 use Rattle.ir_core.specs.declared.operand.Register.TheVariants as registers
 use Rattle.ir_meaning.proofs.Pieces.{not_in_empty}
 use Rattle.needed.specs.Needed.{IsNeeded, by_end, by_inst, ReadsRegister}
-use Rattle.draft_steps.specs.Cleaning.{IsNeededWith, ends, reads, is_one}
+use Rattle.draft_steps.specs.DeadCode.{IsNeededWith, ends, reads, is_one}
 
 pub needed_alone : (f : Function) (r : Register) → IsNeededWith f [] r → IsNeeded f r
 needed_alone f r (ends b h) = by_end b h

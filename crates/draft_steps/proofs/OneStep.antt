@@ -38,7 +38,7 @@ use Rattle.substitution.specs.Substitution.{Substitution, substituted_block, sub
 use Rattle.substitution.specs.declared.rewrite.Rewrite.{Rewrite}
 use Rattle.substitution.proofs.Pieces.{map_in}
 use Rattle.readers.specs.Changes.{gone, inst_changed, instead, replaced}
-use Rattle.draft_steps.specs.Cleaning.{AreRead, IsClean, IsCleaning, IsNeededWith, KeepsUses, ends, reads, is_one}
+use Rattle.draft_steps.specs.DeadCode.{AreRead, HasNoDeadCode, IsEliminating, IsNeededWith, KeepsUses, ends, reads, is_one}
 use Rattle.readers.specs.Counts.{operands_at, register_of, times_in_function}
 use Rattle.draft.specs.Drafts.{AreTouched, HasRoomFor, Stands, function_of, numbers_of, orders_of, placed, placed_binding}
 use Rattle.places.specs.Orders.{none}
@@ -172,36 +172,36 @@ module _ (stands_before : ReadsStandBefore) (old : Draft) (settled : IsSettled o
     checks_then meets typed fit = meets (function_of old) (function_of mid) m.block (placed_binding old m).place rule (placed_binding old m) is_rule typed checks fit matches is_rewritten
 
     fell_then : (r : Register) → Contains (map (λ number. registers.Result m.block number) (put_numbers old.arena w)
-        ++ filter_map register_of (operands_at g (record { block = m.block; number = m.place }))) r → Contains mid.fallen.items r
+        ++ filter_map register_of (operands_at g (record { block = m.block; number = m.place }))) r → Contains mid.dead_candidates.items r
     fell_then r has =
         subst (λ (l : List Register). Contains l r) (sym put.fell)
         (elim (Contains-append_cases (map (λ number. registers.Result m.block number) (put_numbers old.arena w)) (filter_map register_of (operands_at g (record { block = m.block; number = m.place }))) r has) [
-          | inl early ↦ Contains-append_left (old.fallen.items ++ map (λ number. registers.Result m.block number) (put_numbers old.arena w)) (filter_map register_of (operands_at g (record { block = m.block; number = m.place }))) r
-              (Contains-append_right old.fallen.items (map (λ number. registers.Result m.block number) (put_numbers old.arena w)) r early)
-          | inr late ↦ Contains-append_right (old.fallen.items ++ map (λ number. registers.Result m.block number) (put_numbers old.arena w)) (filter_map register_of (operands_at g (record { block = m.block; number = m.place }))) r late
+          | inl early ↦ Contains-append_left (old.dead_candidates.items ++ map (λ number. registers.Result m.block number) (put_numbers old.arena w)) (filter_map register_of (operands_at g (record { block = m.block; number = m.place }))) r
+              (Contains-append_right old.dead_candidates.items (map (λ number. registers.Result m.block number) (put_numbers old.arena w)) r early)
+          | inr late ↦ Contains-append_right (old.dead_candidates.items ++ map (λ number. registers.Result m.block number) (put_numbers old.arena w)) (filter_map register_of (operands_at g (record { block = m.block; number = m.place }))) r late
         ])
 
-    module _ (clean : IsClean old) where
+    module _ (clean : HasNoDeadCode old) where
       -- each instruction that stands then is live, or would be if the registers on the worklist were
-      pub waits : (b n : ℕ) → Stands mid b n → IsNeededWith mid.arena mid.fallen.items (registers.Result b n)
+      pub waits : (b n : ℕ) → Stands mid b n → IsNeededWith mid.arena mid.dead_candidates.items (registers.Result b n)
       waits b n stands =
           let few : length root.block.insts ≤ none = (settled.whole.rows m.block root.block root.is_block).few in
           let lt : m.place < length root.block.insts = slice_get_within root.block.insts m.place root.inst root.is_inst in
           let start = begins old.arena (numbers_of old) good m.block m.place w.put w.result root.block root.is_block root.stands
           (put_stand stands_before rule old.arena (numbers_of old) good m checks is_rule matches root.inst.name root)
           (result_stands stands_before rule old.arena (numbers_of old) good m checks is_rule matches root.inst.name root)
-          has_root clean mid.fallen.items
+          has_root clean mid.dead_candidates.items
           (λ n has. fell_then (registers.Result m.block n) (Contains-append_left (map (λ number. registers.Result m.block number) (put_numbers old.arena w)) (filter_map register_of (operands_at g (record { block = m.block; number = m.place })))
           (registers.Result m.block n) (map_in (λ number. registers.Result m.block number) (put_numbers old.arena w) n has)))
           (λ r h. fell_then r (Contains-append_right (map (λ number. registers.Result m.block number) (put_numbers old.arena w)) (filter_map register_of (operands_at g (record { block = m.block; number = m.place }))) r
           (reads_fall g (record { block = m.block; number = m.place }) r (omega (arith, lt, few)) h))) in
-          subst (λ (h : Function). IsNeededWith h mid.fallen.items (registers.Result b n)) (sym put.arena)
+          subst (λ (h : Function). IsNeededWith h mid.dead_candidates.items (registers.Result b n)) (sym put.arena)
           (start.waits b n (subst (λ (l : List (List ℕ)). Contains (slice_index_or l b []) n) put.numbers stands))
 
-      pub are_read : AreRead mid mid.fallen.items
+      pub are_read : AreRead mid mid.dead_candidates.items
       are_read = λ b n stands. by (registers.Result b n) (waits b n stands)
         where
-          by : (r : Register) → IsNeededWith mid.arena mid.fallen.items r → ((c : ℕ) × (k : ℕ) × ReadsRegister mid.arena c k r) ⊎ Contains mid.fallen.items r
+          by : (r : Register) → IsNeededWith mid.arena mid.dead_candidates.items r → ((c : ℕ) × (k : ℕ) × ReadsRegister mid.arena c k r) ⊎ Contains mid.dead_candidates.items r
           by r (ends c h) = inl (c, end_of mid.arena c, h)
           by r (reads c k need h) = inl (c, k, h)
           by r (is_one has) = inr has
@@ -228,7 +228,7 @@ module _ (stands_before : ReadsStandBefore) (old : Draft) (settled : IsSettled o
         omega arith
 
     -- its register has as many uses as before, or more, or is on the worklist
-    pub keeps_then : KeepsUses old mid mid.fallen.items
+    pub keeps_then : KeepsUses old mid mid.dead_candidates.items
     keeps_then = λ b n stands. elim (stood_or_put b n stands) [
       | inr (same, came) ↦ inr (fell_then (registers.Result b n) (Contains-append_left (map (λ number. registers.Result m.block number) (put_numbers old.arena w)) (filter_map register_of (operands_at g (record { block = m.block; number = m.place })))
           (registers.Result b n) (subst (λ (c : ℕ). Contains (map (λ number. registers.Result m.block number) (put_numbers old.arena w)) (registers.Result c n)) (sym same) (map_in (λ number. registers.Result m.block number) (put_numbers old.arena w) n came))))
@@ -312,7 +312,7 @@ module _ (stands_before : ReadsStandBefore) (old : Draft) (settled : IsSettled o
           inst_place_in : HasInst (with_put old.arena m.block w.put) m.block m.place → IsPlaceIn (with_put old.arena m.block w.put) (record { block = m.block; number = m.place })
           inst_place_in (block, is, lt) = (block, is, inl lt)
 
-    module _ (clean : IsClean old) (new : Draft) (whole_now : IsWhole new) (is : IsCleaning mid.arena (numbers_of mid) new.arena (numbers_of new) []) (used : List Register) (keeps : KeepsUses old new used)
+    module _ (clean : HasNoDeadCode old) (new : Draft) (whole_now : IsWhole new) (is : IsEliminating mid.arena (numbers_of mid) new.arena (numbers_of new) []) (used : List Register) (keeps : KeepsUses old new used)
         (places : List Place) (has_put : (p : Place) → Contains told.put.items p → Contains places p) (has_replaced : (p : Place) → Contains told.replaced.items p → Contains places p)
         (has_used : (b n : ℕ) → Contains used (registers.Result b n) → IsUseCount new.arena (registers.Result b n) 1 → Contains places (record { block = b; number = n })) where
       -- a register with exactly one use had exactly one before

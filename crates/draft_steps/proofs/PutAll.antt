@@ -142,7 +142,7 @@ pub record ArePut (old new : Draft) (at : Place) (done : List Inst) (given : Lis
   pub whole : IsWhole new
   pub arena : new.arena ≡ with_put old.arena at.block done
   pub numbers : numbers_of new ≡ rows_with (numbers_of old) at.block at.number (range_with_len (end_of old.arena at.block) (length done))
-  pub fell : new.fallen.items ≡ old.fallen.items ++ map (λ number. registers.Result at.block number) (range_with_len (end_of old.arena at.block) (length done))
+  pub fell : new.dead_candidates.items ≡ old.dead_candidates.items ++ map (λ number. registers.Result at.block number) (range_with_len (end_of old.arena at.block) (length done))
   pub orders : KeepsOrders (orders_of old) (orders_of new)
   pub told : given ≡ map (λ number. record { block = at.block; number = number }) (range_with_len (end_of old.arena at.block) (length done))
 
@@ -151,7 +151,7 @@ none_put old at whole = record {
   whole = whole;
   arena = sym (with_none old.arena at.block);
   numbers = sym (changed_none at.block (λ row. row) (numbers_of old) (λ row. refl));
-  fell = sym (append_none old.fallen.items);
+  fell = sym (append_none old.dead_candidates.items);
   orders = keeps-itself (orders_of old);
   told = refl;
 }
@@ -186,7 +186,7 @@ module _ (old mid : Draft) (at : Place) (done : List Inst) (given : List Place) 
       → (place.block ≡ at.block) × (place.number ≡ end_of mid.arena at.block)
       → numbers_of new ≡ changed_at at.block (λ row. put_before row at.number (end_of mid.arena at.block)) (numbers_of mid)
       → KeepsOrders (orders_of mid) (orders_of new)
-      → new.fallen.items ≡ mid.fallen.items ++ registers.Result at.block (end_of mid.arena at.block) ∷ []
+      → new.dead_candidates.items ≡ mid.dead_candidates.items ++ registers.Result at.block (end_of mid.arena at.block) ∷ []
       → ArePut old new at (done ++ inst ∷ []) (given ++ place ∷ [])
   put_more new inst place is_whole arena (block_is, number_is) numbers orders fell =
       let (block, is_block, within) = stands_there old whole at.block at.number stands in
@@ -203,10 +203,10 @@ module _ (old mid : Draft) (at : Place) (done : List Inst) (given : List Place) 
             (λ row. before_more row at.number (range_with_len (end_of old.arena at.block) (length done)) (end_of old.arena at.block + length done))
             ∙ ap (rows_with (numbers_of old) at.block at.number) (sym range))));
         fell =
-            fell ∙ (ap (λ (n : ℕ). mid.fallen.items ++ registers.Result at.block n ∷ []) end
+            fell ∙ (ap (λ (n : ℕ). mid.dead_candidates.items ++ registers.Result at.block n ∷ []) end
             ∙ (ap (λ (l : List Register). l ++ registers.Result at.block (end_of old.arena at.block + length done) ∷ []) put.fell
-            ∙ (append_assoc old.fallen.items (map (λ number. registers.Result at.block number) (range_with_len (end_of old.arena at.block) (length done))) (registers.Result at.block (end_of old.arena at.block + length done) ∷ [])
-            ∙ ap (λ (l : List Register). old.fallen.items ++ l)
+            ∙ (append_assoc old.dead_candidates.items (map (λ number. registers.Result at.block number) (range_with_len (end_of old.arena at.block) (length done))) (registers.Result at.block (end_of old.arena at.block + length done) ∷ [])
+            ∙ ap (λ (l : List Register). old.dead_candidates.items ++ l)
             (sym (map_append (λ number. registers.Result at.block number) (range_with_len (end_of old.arena at.block) (length done)) ((end_of old.arena at.block + length done) ∷ []))
             ∙ ap (map (λ number. registers.Result at.block number)) (sym range)))));
         orders = keeps-twice (orders_of old) (orders_of mid) (orders_of new) put.orders orders;

@@ -7,7 +7,7 @@ use Rattle.ir_core.specs.declared.function.Function.{Function}
 use Rattle.ir_core.specs.declared.operand.Register.{Register}
 use Rattle.ir_core.specs.declared.operand.Register.TheVariants as registers
 use Rattle.substitution.specs.declared.rewrite.Rewrite.{Rewrite}
-use Rattle.readers.specs.Changes.{changed_at, replaced, taken_out, without}
+use Rattle.readers.specs.Changes.{changed_at, replaced, with_inst_removed, without}
 use Rattle.readers.specs.Counts.{operands_at, register_of}
 use Rattle.draft.specs.Drafts.{numbers_of}
 use Rattle.readers.specs.Readers.{IsPlaceIn, IsReader}
@@ -21,23 +21,23 @@ module _ (old mid new : Draft) (w : Rewrite) (n : ℕ) (told : Rewritten) where
   pub record IsPutInstead (b : ℕ) : Type 0 where
     pub arena_then : mid.arena ≡ with_put old.arena b w.put
     pub numbers_then : numbers_of mid ≡ rows_with (numbers_of old) b n (range_with_len (end_of old.arena b) (length w.put))
-    pub fell_then : mid.fallen.items ≡ old.fallen.items ++ map (λ number. registers.Result b number) (range_with_len (end_of old.arena b) (length w.put))
-    pub arena : new.arena ≡ taken_out (replaced mid.arena (registers.Result b n) w.result) b n
+    pub fell_then : mid.dead_candidates.items ≡ old.dead_candidates.items ++ map (λ number. registers.Result b number) (range_with_len (end_of old.arena b) (length w.put))
+    pub arena : new.arena ≡ with_inst_removed (replaced mid.arena (registers.Result b n) w.result) b n
     pub numbers : numbers_of new ≡ changed_at b (without n) (numbers_of mid)
-    pub fell : new.fallen.items ≡ mid.fallen.items ++ filter_map register_of (operands_at (replaced mid.arena (registers.Result b n) w.result) (record { block = b; number = n }))
+    pub fell : new.dead_candidates.items ≡ mid.dead_candidates.items ++ filter_map register_of (operands_at (replaced mid.arena (registers.Result b n) w.result) (record { block = b; number = n }))
     pub put : told.put.items ≡ map (λ number. record { block = b; number = number }) (range_with_len (end_of old.arena b) (length w.put))
     pub places : (p : Place) → Contains told.replaced.items p ↔ (IsPlaceIn mid.arena p × IsReader mid.arena (registers.Result b n) p)
     pub result : told.result ≡ w.result
 
   in_its_block : IsPutInstead w.block → IsPutFor old new w n told
   in_its_block is = record {
-    arena = is.arena ∙ ap (λ (f : Function). taken_out (replaced f (registers.Result w.block n) w.result) w.block n) is.arena_then;
+    arena = is.arena ∙ ap (λ (f : Function). with_inst_removed (replaced f (registers.Result w.block n) w.result) w.block n) is.arena_then;
     numbers = is.numbers ∙ ap (changed_at w.block (without n)) is.numbers_then;
     put = is.put;
     places = subst (λ (f : Function). (p : Place) → Contains told.replaced.items p ↔ (IsPlaceIn f p × IsReader f (registers.Result w.block n) p)) is.arena_then is.places;
     result = is.result;
     fell =
-        subst (λ (f : Function). new.fallen.items ≡ mid.fallen.items ++ filter_map register_of (operands_at (replaced f (registers.Result w.block n) w.result) (record { block = w.block; number = n }))) is.arena_then is.fell
+        subst (λ (f : Function). new.dead_candidates.items ≡ mid.dead_candidates.items ++ filter_map register_of (operands_at (replaced f (registers.Result w.block n) w.result) (record { block = w.block; number = n }))) is.arena_then is.fell
         ∙ ap (λ (l : List Register). l ++ filter_map register_of (operands_at (replaced (with_put old.arena w.block w.put) (registers.Result w.block n) w.result) (record { block = w.block; number = n }))) is.fell_then;
   }
 

@@ -5,7 +5,7 @@ use Rattle.std.specs.Prelude.{Contains, slice_index_or}
 use Rattle.ir_core.specs.declared.operand.Register.TheVariants as registers
 use Rattle.needed.specs.Cleaned.{IsCleaned}
 use Rattle.needed.specs.Needed.{IsNeeded, by_end, by_inst}
-use Rattle.draft_steps.specs.Cleaning.{IsClean, IsCleaning}
+use Rattle.draft_steps.specs.DeadCode.{HasNoDeadCode, IsEliminating}
 use Rattle.draft.specs.Drafts.{Stands, function_of, numbers_of}
 use Rattle.readers.specs.Readers.{arena_place}
 use Rattle.draft.specs.Whole.{IsSettled, IsWhole}
@@ -18,8 +18,8 @@ use Rattle.draft_steps.proofs.RowPlaces.{kept_in}
 use Rattle.draft_steps.proofs.Taking.{end_reads_there, gone_reads_nothing, stands_or}
 use Rattle.draft_steps.proofs.WhoReads.{who}
 
-module _ (old new : Draft) (whole : IsWhole new) (good : AreRows old.arena (numbers_of old)) (is : IsCleaning old.arena (numbers_of old) new.arena (numbers_of new) []) where
-  pub is_clean : IsClean new
+module _ (old new : Draft) (whole : IsWhole new) (good : AreRows old.arena (numbers_of old)) (is : IsEliminating old.arena (numbers_of old) new.arena (numbers_of new) []) where
+  pub is_clean : HasNoDeadCode new
   is_clean b n stands = needed_alone new.arena (registers.Result b n) (is.waits b n stands)
 
   -- a live instruction stands
@@ -31,7 +31,7 @@ module _ (old new : Draft) (whole : IsWhole new) (good : AreRows old.arena (numb
       subst (λ (l : List ℕ). Contains l n) (sym (left_row is.keep old.arena (numbers_of old) new.arena (numbers_of new) is.is_left b))
       (kept_in (is.keep b) (slice_index_or (numbers_of old) b []) n stood (is.keeps b n was))
 
-  pub is_settled : new.fallen.items ≡ [] → IsSettled new
+  pub is_settled : new.dead_candidates.items ≡ [] → IsSettled new
   is_settled none = record {
     whole = whole;
     read_stands = λ b n p there h. needed_stands b n (elim (who new.arena p.block (arena_place new.arena p) (registers.Result b n) h) [

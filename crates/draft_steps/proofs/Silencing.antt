@@ -17,15 +17,15 @@ use Rattle.ir_meaning.proofs.Pieces.{cases_in, first_in, later_in, not_in_empty}
 use Rattle.needed.specs.Needed.{IsNeeded, ReadsRegister}
 use Rattle.needed.specs.Operands.{operands_of, operands_at_end}
 use Rattle.substitution.proofs.Pieces.{mapped}
-use Rattle.readers.specs.Changes.{changed_at, gone, taken_out, without}
-use Rattle.draft_steps.specs.Cleaning.{AreLeft, IsCleaning, IsLeft}
+use Rattle.readers.specs.Changes.{changed_at, gone, with_inst_removed, without}
+use Rattle.draft_steps.specs.DeadCode.{AreLeft, IsEliminating, IsLeft}
 use Rattle.draft_steps.proofs.OneChange.{changed_here, changed_other, length-changed}
 use Rattle.draft_steps.proofs.Living.{IsSilenced, needed_less, needed_stays, needed_was}
 use Rattle.draft_steps.proofs.WhoReads.{end_of-is, end_reads_it, inst_reads_it, who}
 
 module _ (f : Function) (b n : ℕ) where
   abbrev g : Function
-  g = taken_out f b n
+  g = with_inst_removed f b n
 
   -- the block with the instruction removed
   abbrev less_block : Block → Block
@@ -186,7 +186,7 @@ module _ (keep : ℕ → ℕ → Bool) (old : Function) (rows : List (List ℕ))
   rows_here c same None = refl
   rows_here c same (Some row) = ap (λ (l : List ℕ). Some l) (without_kept keep b n c row same)
 
-  pub left_less : IsLeft keep_less old rows (taken_out new b n) (changed_at b (without n) left)
+  pub left_less : IsLeft keep_less old rows (with_inst_removed new b n) (changed_at b (without n) left)
   left_less = record {
     name = is.name;
     before = is.before;
@@ -237,11 +237,11 @@ row_here left b n c same =
 
 module _ (old : Function) (rows : List (List ℕ)) (new : Function) (left : List (List ℕ)) (b n : ℕ) (roots others : List Register) where
   -- a dead instruction is removed, and the registers that it read go on the worklist
-  pub cleaning_less : IsCleaning old rows new left roots → HasInst new b n → ¬ IsNeeded new (registers.Result b n)
+  pub cleaning_less : IsEliminating old rows new left roots → HasInst new b n → ¬ IsNeeded new (registers.Result b n)
       → ((r : Register) → Contains roots r → Contains others r ⊎ (r ≡ registers.Result b n)) → ((r : Register) → ReadsRegister new b n r → Contains others r)
-      → IsCleaning old rows (taken_out new b n) (changed_at b (without n) left) others
+      → IsEliminating old rows (with_inst_removed new b n) (changed_at b (without n) left) others
   cleaning_less is has un all read =
-      let silent : IsSilenced new (taken_out new b n) b n = taken_out_is_silenced new b n has in
+      let silent : IsSilenced new (with_inst_removed new b n) b n = taken_out_is_silenced new b n has in
       let is_less = left_less is.keep old rows new left b n is.is_left in
       record {
         keep = less is.keep b n;
@@ -253,9 +253,9 @@ module _ (old : Function) (rows : List (List ℕ)) (new : Function) (left : List
             | inl it ↦ absurd (un (subst (λ (k : ℕ). IsNeeded new (registers.Result b k)) it (subst (λ (d : ℕ). IsNeeded new (registers.Result d m)) same (is.needed (registers.Result c m) need))))
           ]
         ];
-        needed = λ r need. needed_stays new (taken_out new b n) b n silent un r (is.needed r need);
-        was_needed = λ r need. is.was_needed r (needed_was new (taken_out new b n) b n silent r need);
-        waits = λ c m stands. elim (needed_less new (taken_out new b n) b n silent roots others all read (registers.Result c m) (is.waits c m (stood c m stands))) [
+        needed = λ r need. needed_stays new (with_inst_removed new b n) b n silent un r (is.needed r need);
+        was_needed = λ r need. is.was_needed r (needed_was new (with_inst_removed new b n) b n silent r need);
+        waits = λ c m stands. elim (needed_less new (with_inst_removed new b n) b n silent roots others all read (registers.Result c m) (is.waits c m (stood c m stands))) [
           | inl need ↦ need
           | inr it ↦ absurd (not_it c m stands it)
         ];

@@ -20,8 +20,8 @@ use Rattle.needed.specs.Needed.{IsNeeded, ReadsRegister}
 use Rattle.needed.specs.Operands.{operands_of, operands_at_end}
 use Rattle.substitution.specs.Substitution.{Substitution, substituted_inst, substituted_operand}
 use Rattle.substitution.proofs.Pieces.{get_cases, in_map, mapped}
-use Rattle.readers.specs.Changes.{changed_at, instead, replaced, taken_out}
-use Rattle.draft_steps.specs.Cleaning.{AreLeft, IsCleaning, IsNeededWith}
+use Rattle.readers.specs.Changes.{changed_at, instead, replaced, with_inst_removed}
+use Rattle.draft_steps.specs.DeadCode.{AreLeft, IsEliminating, IsNeededWith}
 use Rattle.places.specs.Orders.{place_in}
 use Rattle.draft_steps.specs.Rewriting.{with_put}
 use Rattle.draft_steps.proofs.Instead.{block_back, instead_it, instead_other, needed_with_root}
@@ -42,7 +42,7 @@ filter_all [] = refl
 filter_all (n ∷ row) = ap (λ (l : List ℕ). n ∷ l) (filter_all row)
 
 -- dead code elimination may begin with a worklist with which each instruction that stands would be live
-pub cleaning_begins : (f : Function) (rows : List (List ℕ)) (waits : List Register) → ((b n : ℕ) → Contains (slice_index_or rows b []) n → IsNeededWith f waits (registers.Result b n)) → IsCleaning f rows f rows waits
+pub cleaning_begins : (f : Function) (rows : List (List ℕ)) (waits : List Register) → ((b n : ℕ) → Contains (slice_index_or rows b []) n → IsNeededWith f waits (registers.Result b n)) → IsEliminating f rows f rows waits
 cleaning_begins f rows waits all = record {
   keep = λ b n. true;
   is_left = record {
@@ -241,21 +241,21 @@ module _ (f : Function) (rows : List (List ℕ)) (good : AreRows f rows) (b n : 
         ]
 
     module _ (has_root : HasInst g b n) where
-      silent : IsSilenced g (taken_out g b n) b n
+      silent : IsSilenced g (with_inst_removed g b n) b n
       silent = taken_out_is_silenced g b n has_root
 
-      pub read_stands_then : (c k d q : ℕ) → ReadsRegister (taken_out g b n) c k (registers.Result d q) → Contains (slice_index_or left d []) q
+      pub read_stands_then : (c k d q : ℕ) → ReadsRegister (with_inst_removed g b n) c k (registers.Result d q) → Contains (slice_index_or left d []) q
       read_stands_then c k d q h = read_stands c k d q (silent.back c k (registers.Result d q) h)
 
       -- all was live before, and the worklist has the results of the inserted instructions and the registers that the
       -- root read
       module _ (clean : (c m : ℕ) → Contains (slice_index_or rows c []) m → IsNeeded f (registers.Result c m)) (fell : List Register)
           (came : (m : ℕ) → Contains news m → Contains fell (registers.Result b m)) (read : (r : Register) → ReadsRegister g b n r → Contains fell r) where
-        pub begins : IsCleaning (taken_out g b n) left (taken_out g b n) left fell
-        begins = cleaning_begins (taken_out g b n) left fell (λ c m has. elim (stood_or_came c m has) [
-          | inr (same, new) ↦ subst (λ (d : ℕ). IsNeededWith (taken_out g b n) fell (registers.Result d m)) (sym same) (is_one_of (came m new))
+        pub begins : IsEliminating (with_inst_removed g b n) left (with_inst_removed g b n) left fell
+        begins = cleaning_begins (with_inst_removed g b n) left fell (λ c m has. elim (stood_or_came c m has) [
+          | inr (same, new) ↦ subst (λ (d : ℕ). IsNeededWith (with_inst_removed g b n) fell (registers.Result d m)) (sym same) (is_one_of (came m new))
           | inl (old, other) ↦
-              elim (needed_less g (taken_out g b n) b n silent (root ∷ fell) fell (λ r in_roots. by r in_roots) read (registers.Result c m) (needed_with_root f b n put result no_root fell (registers.Result c m) (clean c m old))) [
+              elim (needed_less g (with_inst_removed g b n) b n silent (root ∷ fell) fell (λ r in_roots. by r in_roots) read (registers.Result c m) (needed_with_root f b n put result no_root fell (registers.Result c m) (clean c m old))) [
                 | inl need ↦ need
                 | inr it ↦ absurd (other it)
               ]
@@ -264,5 +264,5 @@ module _ (f : Function) (rows : List (List ℕ)) (good : AreRows f rows) (b n : 
             by : (r : Register) → Contains (root ∷ fell) r → Contains fell r ⊎ (r ≡ root)
             by r has = elim (cases_in root fell r has) [ inl same ↦ inr (sym same) | inr later ↦ inl later ]
 
-            is_one_of : {r : Register} → Contains fell r → IsNeededWith (taken_out g b n) fell r
+            is_one_of : {r : Register} → Contains fell r → IsNeededWith (with_inst_removed g b n) fell r
             is_one_of has = IsNeededWith.is_one has

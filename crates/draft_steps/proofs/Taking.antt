@@ -18,8 +18,8 @@ use Rattle.needed.specs.Needed.{IsNeeded, by_end, by_inst, ReadsRegister}
 use Rattle.needed.specs.Operands.{operands_of}
 use Rattle.substitution.proofs.Pieces.{map_in}
 use Rattle.use_counts.specs.Uses.{IsNamedAt, IsUseCount}
-use Rattle.readers.specs.Changes.{changed_at, taken_out, without}
-use Rattle.draft_steps.specs.Cleaning.{AreRead, IsCleaning, IsNeededWith, ends, reads, is_one}
+use Rattle.readers.specs.Changes.{changed_at, with_inst_removed, without}
+use Rattle.draft_steps.specs.DeadCode.{AreRead, IsEliminating, IsNeededWith, ends, reads, is_one}
 use Rattle.readers.specs.Counts.{operands_at, register_of}
 use Rattle.draft.specs.Drafts.{Stands, numbers_in, numbers_of}
 use Rattle.places.specs.Orders.{none, place_in}
@@ -115,7 +115,7 @@ module _ (d : Draft) (whole : IsWhole d) where
       with_none r (by_inst b k need h) = reads b k (with_none (registers.Result b k) need) h
 
   pub cleaning_dropping : (f : Function) (rows : List (List ℕ)) (roots others : List Register) → ((r : Register) → Contains roots r → Contains others r ⊎ (IsNeeded d.arena r ⊎ IsGone d r))
-      → IsCleaning f rows d.arena (numbers_of d) roots → IsCleaning f rows d.arena (numbers_of d) others
+      → IsEliminating f rows d.arena (numbers_of d) roots → IsEliminating f rows d.arena (numbers_of d) others
   cleaning_dropping f rows roots others all is = record {
     keep = is.keep;
     is_left = is.is_left;
@@ -130,7 +130,7 @@ module _ (d : Draft) (whole : IsWhole d) where
 
   -- where each register of the worklist whose instruction stands is live, all that stands is
   pub cleaning_done : (f : Function) (rows : List (List ℕ)) (roots : List Register) → ((b n : ℕ) → Contains roots (registers.Result b n) → Stands d b n → IsNeeded d.arena (registers.Result b n))
-      → IsCleaning f rows d.arena (numbers_of d) roots → IsCleaning f rows d.arena (numbers_of d) []
+      → IsEliminating f rows d.arena (numbers_of d) roots → IsEliminating f rows d.arena (numbers_of d) []
   cleaning_done f rows roots all is = cleaning_dropping f rows roots [] (λ r has. inr (by r has)) is
     where
       by : (r : Register) → Contains roots r → IsNeeded d.arena r ⊎ IsGone d r
@@ -202,26 +202,26 @@ unused f r (places, are, none_of) need =
     omega (arith, lt, none_of)
 
 module _ (d d' : Draft) (whole : IsWhole d) (b n : ℕ) (stands : Stands d b n) (un : ¬ IsNeeded d.arena (registers.Result b n))
-    (arena : d'.arena ≡ taken_out d.arena b n) (numbers : numbers_of d' ≡ changed_at b (without n) (numbers_of d))
-    (fell : d'.fallen.items ≡ d.fallen.items ++ filter_map register_of (operands_at d.arena (record { block = b; number = n }))) where
+    (arena : d'.arena ≡ with_inst_removed d.arena b n) (numbers : numbers_of d' ≡ changed_at b (without n) (numbers_of d))
+    (fell : d'.dead_candidates.items ≡ d.dead_candidates.items ++ filter_map register_of (operands_at d.arena (record { block = b; number = n }))) where
   abbrev read : List Register
   read = filter_map register_of (operands_at d.arena (record { block = b; number = n }))
 
-  pub take_step : (f : Function) (rows : List (List ℕ)) (roots used : List Register) → ((r : Register) → Contains roots r → Contains (d.fallen.items ++ used) r ⊎ (r ≡ registers.Result b n))
-      → IsCleaning f rows d.arena (numbers_of d) roots → IsCleaning f rows d'.arena (numbers_of d') (d'.fallen.items ++ used)
+  pub take_step : (f : Function) (rows : List (List ℕ)) (roots used : List Register) → ((r : Register) → Contains roots r → Contains (d.dead_candidates.items ++ used) r ⊎ (r ≡ registers.Result b n))
+      → IsEliminating f rows d.arena (numbers_of d) roots → IsEliminating f rows d'.arena (numbers_of d') (d'.dead_candidates.items ++ used)
   take_step f rows roots used all is =
       let (block, is_block, lt) = stands_there d whole b n stands in
       let few : length block.insts ≤ none = (whole.rows b block is_block).few in
-      let then : IsCleaning f rows (taken_out d.arena b n) (changed_at b (without n) (numbers_of d)) (d'.fallen.items ++ used) =
-      cleaning_less f rows d.arena (numbers_of d) b n roots (d'.fallen.items ++ used) is (block, is_block, lt) un
+      let then : IsEliminating f rows (with_inst_removed d.arena b n) (changed_at b (without n) (numbers_of d)) (d'.dead_candidates.items ++ used) =
+      cleaning_less f rows d.arena (numbers_of d) b n roots (d'.dead_candidates.items ++ used) is (block, is_block, lt) un
       (λ r has. elim (all r has) [ inl old ↦ inl (kept r old) | inr it ↦ inr it ])
-      (λ r h. subst (λ (l : List Register). Contains (l ++ used) r) (sym fell) (Contains-append_left (d.fallen.items ++ read) used r (Contains-append_right d.fallen.items read r (reads_fall d.arena (record { block = b; number = n }) r (omega (arith, lt, few)) h)))) in
-      subst (λ (g : Function). IsCleaning f rows g (numbers_of d') (d'.fallen.items ++ used)) (sym arena)
-      (subst (λ (l : List (List ℕ)). IsCleaning f rows (taken_out d.arena b n) l (d'.fallen.items ++ used)) (sym numbers) then)
+      (λ r h. subst (λ (l : List Register). Contains (l ++ used) r) (sym fell) (Contains-append_left (d.dead_candidates.items ++ read) used r (Contains-append_right d.dead_candidates.items read r (reads_fall d.arena (record { block = b; number = n }) r (omega (arith, lt, few)) h)))) in
+      subst (λ (g : Function). IsEliminating f rows g (numbers_of d') (d'.dead_candidates.items ++ used)) (sym arena)
+      (subst (λ (l : List (List ℕ)). IsEliminating f rows (with_inst_removed d.arena b n) l (d'.dead_candidates.items ++ used)) (sym numbers) then)
     where
-      kept : (r : Register) → Contains (d.fallen.items ++ used) r → Contains (d'.fallen.items ++ used) r
+      kept : (r : Register) → Contains (d.dead_candidates.items ++ used) r → Contains (d'.dead_candidates.items ++ used) r
       kept r has =
-          elim (Contains-append_cases d.fallen.items used r has) [
-            | inl early ↦ subst (λ (l : List Register). Contains (l ++ used) r) (sym fell) (Contains-append_left (d.fallen.items ++ read) used r (Contains-append_left d.fallen.items read r early))
-            | inr late ↦ Contains-append_right d'.fallen.items used r late
+          elim (Contains-append_cases d.dead_candidates.items used r has) [
+            | inl early ↦ subst (λ (l : List Register). Contains (l ++ used) r) (sym fell) (Contains-append_left (d.dead_candidates.items ++ read) used r (Contains-append_left d.dead_candidates.items read r early))
+            | inr late ↦ Contains-append_right d'.dead_candidates.items used r late
           ]

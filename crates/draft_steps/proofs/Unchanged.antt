@@ -3,7 +3,7 @@ use Rattle.std.proofs.Common.{sym, subst, ◌∙◌}
 use Rattle.ir_core.specs.declared.function.Function.{Function}
 use Rattle.ir_core.specs.declared.operand.Register.TheVariants as registers
 use Rattle.needed.specs.Needed.{IsNeeded}
-use Rattle.draft_steps.specs.Cleaning.{IsClean}
+use Rattle.draft_steps.specs.DeadCode.{HasNoDeadCode}
 use Rattle.readers.specs.Readers.{IsPlaceIn, IsReader}
 use Rattle.draft_steps.specs.Walks.{IsSameDraft}
 use Rattle.draft.specs.Whole.{IsSettled}
@@ -16,8 +16,8 @@ module _ (old new : Draft) (same : IsSameDraft old new) where
     whole = same.whole;
     read_stands = λ b n p inside reads. stays old new same b n (settled.read_stands b n p (subst (λ (f : Function). IsPlaceIn f p) same.arena inside)
         (subst (λ (f : Function). IsReader f (registers.Result b n) p) same.arena reads));
-    none_fell = same.fallen ∙ settled.none_fell;
+    none_fell = same.dead_candidates ∙ settled.none_fell;
   }
 
-  pub still_clean : IsClean old → IsClean new
+  pub still_clean : HasNoDeadCode old → HasNoDeadCode new
   still_clean clean b n stands = subst (λ (f : Function). IsNeeded f (registers.Result b n)) (sym same.arena) (clean b n (stood old new same b n stands))

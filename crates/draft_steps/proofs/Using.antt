@@ -20,8 +20,8 @@ use Rattle.ir_meaning.proofs.Pieces.{contains_at, first_in, later_in, not_in_emp
 use Rattle.needed.specs.Needed.{ReadsRegister}
 use Rattle.needed.specs.Operands.{operands_of}
 use Rattle.use_counts.specs.Uses.{IsUseCount}
-use Rattle.readers.specs.Changes.{changed_at, gone, inst_changed, taken_out, without}
-use Rattle.draft_steps.specs.Cleaning.{AreRead, KeepsUses, registers_read}
+use Rattle.readers.specs.Changes.{changed_at, gone, inst_changed, with_inst_removed, without}
+use Rattle.draft_steps.specs.DeadCode.{AreRead, KeepsUses, registers_read}
 use Rattle.readers.specs.Counts.{names, operands_at, register_of, times, times_in_function}
 use Rattle.draft.specs.Drafts.{Stands, numbers_of}
 use Rattle.places.specs.Orders.{none}
@@ -51,12 +51,12 @@ counted_contains r (x ∷ xs) some =
 
 -- where an instruction is removed, a register has as many uses as before, or the instruction read it
 pub less_often : (f : Function) → AreFew f → (b n : ℕ) → HasInst f b n → (r : Register)
-    → (times_in_function r f ≤ times_in_function r (taken_out f b n)) ⊎ Contains (filter_map register_of (operands_at f (record { block = b; number = n }))) r
+    → (times_in_function r f ≤ times_in_function r (with_inst_removed f b n)) ⊎ Contains (filter_map register_of (operands_at f (record { block = b; number = n }))) r
 less_often f few b n has r =
     let (block, inst, is_block, here) = inst_there f b n has in
     let less : n < length block.insts = slice_get_within block.insts n inst here in
     let low : length block.insts ≤ none = few b block is_block in
-    let differs : DiffersAt f (taken_out f b n) (record { block = b; number = n }) = inst_differs f few b n gone block inst is_block here in
+    let differs : DiffersAt f (with_inst_removed f b n) (record { block = b; number = n }) = inst_differs f few b n gone block inst is_block here in
     let counted = differs.times_differ r in
     elim (cases_eq (times r (operands_at f (record { block = b; number = n }))) 0) [
       | inl nowhere ↦ inl (omega arith)
@@ -95,24 +95,24 @@ read_dropping d roots others all are = λ b n stands. elim (are b n stands) [
 ]
 
 module _ (d d' : Draft) (whole : IsWhole d) (b n : ℕ) (has : HasInst d.arena b n)
-    (arena : d'.arena ≡ taken_out d.arena b n) (numbers : numbers_of d' ≡ changed_at b (without n) (numbers_of d))
-    (fell : d'.fallen.items ≡ d.fallen.items ++ filter_map register_of (operands_at d.arena (record { block = b; number = n }))) where
+    (arena : d'.arena ≡ with_inst_removed d.arena b n) (numbers : numbers_of d' ≡ changed_at b (without n) (numbers_of d))
+    (fell : d'.dead_candidates.items ≡ d.dead_candidates.items ++ filter_map register_of (operands_at d.arena (record { block = b; number = n }))) where
   pub stood : (c m : ℕ) → Stands d' c m → Stands d c m × ((c ≡ b) × (m ≡ n) → ⊥)
   stood c m stands = less_in (numbers_of d) b n c m (subst (λ (rows : List (List ℕ)). Contains (slice_index_or rows c []) m) numbers stands)
 
   -- a register that the instruction read is on the worklist
-  falls : (r : Register) → ReadsRegister d.arena b n r → Contains d'.fallen.items r
+  falls : (r : Register) → ReadsRegister d.arena b n r → Contains d'.dead_candidates.items r
   falls r h =
       let (block, is_block, lt) = has in
       let few : length block.insts ≤ none = (whole.rows b block is_block).few in
       subst (λ (l : List Register). Contains l r) (sym fell)
-      (Contains-append_right d.fallen.items (filter_map register_of (operands_at d.arena (record { block = b; number = n }))) r (reads_fall d.arena (record { block = b; number = n }) r (omega (arith, lt, few)) h))
+      (Contains-append_right d.dead_candidates.items (filter_map register_of (operands_at d.arena (record { block = b; number = n }))) r (reads_fall d.arena (record { block = b; number = n }) r (omega (arith, lt, few)) h))
 
-  still_falls : (r : Register) → Contains d.fallen.items r → Contains d'.fallen.items r
-  still_falls r old = subst (λ (l : List Register). Contains l r) (sym fell) (Contains-append_left d.fallen.items (filter_map register_of (operands_at d.arena (record { block = b; number = n }))) r old)
+  still_falls : (r : Register) → Contains d.dead_candidates.items r → Contains d'.dead_candidates.items r
+  still_falls r old = subst (λ (l : List Register). Contains l r) (sym fell) (Contains-append_left d.dead_candidates.items (filter_map register_of (operands_at d.arena (record { block = b; number = n }))) r old)
 
   -- what read a register still does, or the register is on the worklist
-  read_stays : (c k : ℕ) (r : Register) → ReadsRegister d.arena c k r → ReadsRegister d'.arena c k r ⊎ Contains d'.fallen.items r
+  read_stays : (c k : ℕ) (r : Register) → ReadsRegister d.arena c k r → ReadsRegister d'.arena c k r ⊎ Contains d'.dead_candidates.items r
   read_stays c k r h =
       elim ((taken_out_is_silenced d.arena b n has).stay c k r h) [
         | inl here ↦ inl (subst (λ (f : Function). ReadsRegister f c k r) (sym arena) here)
@@ -120,24 +120,24 @@ module _ (d d' : Draft) (whole : IsWhole d) (b n : ℕ) (has : HasInst d.arena b
       ]
 
   -- it has as many uses, or is on the worklist
-  as_often : (r : Register) → (times_in_function r d.arena ≤ times_in_function r d'.arena) ⊎ Contains d'.fallen.items r
+  as_often : (r : Register) → (times_in_function r d.arena ≤ times_in_function r d'.arena) ⊎ Contains d'.dead_candidates.items r
   as_often r = elim (less_often d.arena (few_insts d whole) b n has r) [
     | inl enough ↦ inl (let arenas = ap (times_in_function r) arena in omega arith)
-    | inr among ↦ inr (subst (λ (l : List Register). Contains l r) (sym fell) (Contains-append_right d.fallen.items (filter_map register_of (operands_at d.arena (record { block = b; number = n }))) r among))
+    | inr among ↦ inr (subst (λ (l : List Register). Contains l r) (sym fell) (Contains-append_right d.dead_candidates.items (filter_map register_of (operands_at d.arena (record { block = b; number = n }))) r among))
   ]
 
-  pub uses_less : (was : Draft) (roots used : List Register) → ((r : Register) → Contains roots r → Contains (d.fallen.items ++ used) r ⊎ (r ≡ registers.Result b n)) → KeepsUses was d roots → KeepsUses was d' (d'.fallen.items ++ used)
+  pub uses_less : (was : Draft) (roots used : List Register) → ((r : Register) → Contains roots r → Contains (d.dead_candidates.items ++ used) r ⊎ (r ≡ registers.Result b n)) → KeepsUses was d roots → KeepsUses was d' (d'.dead_candidates.items ++ used)
   uses_less was roots used all keeps = λ c m stands.
       let (had, other) = stood c m stands in
       elim (keeps c m had) [
         | inl enough ↦ elim (as_often (registers.Result c m)) [
           | inl as_many ↦ inl (omega arith)
-          | inr fallen ↦ inr (Contains-append_left d'.fallen.items used (registers.Result c m) fallen)
+          | inr dead_candidates ↦ inr (Contains-append_left d'.dead_candidates.items used (registers.Result c m) dead_candidates)
         ]
         | inr waits ↦ elim (all (registers.Result c m) waits) [
-          | inl old ↦ inr (elim (Contains-append_cases d.fallen.items used (registers.Result c m) old) [
-            | inl early ↦ Contains-append_left d'.fallen.items used (registers.Result c m) (still_falls (registers.Result c m) early)
-            | inr late ↦ Contains-append_right d'.fallen.items used (registers.Result c m) late
+          | inl old ↦ inr (elim (Contains-append_cases d.dead_candidates.items used (registers.Result c m) old) [
+            | inl early ↦ Contains-append_left d'.dead_candidates.items used (registers.Result c m) (still_falls (registers.Result c m) early)
+            | inr late ↦ Contains-append_right d'.dead_candidates.items used (registers.Result c m) late
           ])
           | inr it ↦
               let block : c ≡ b = cc in
@@ -146,11 +146,11 @@ module _ (d d' : Draft) (whole : IsWhole d) (b n : ℕ) (has : HasInst d.arena b
         ]
       ]
 
-  pub read_less : (roots : List Register) → ((r : Register) → Contains roots r → Contains d.fallen.items r ⊎ (r ≡ registers.Result b n)) → AreRead d roots → AreRead d' d'.fallen.items
+  pub read_less : (roots : List Register) → ((r : Register) → Contains roots r → Contains d.dead_candidates.items r ⊎ (r ≡ registers.Result b n)) → AreRead d roots → AreRead d' d'.dead_candidates.items
   read_less roots all are = λ c m stands.
       let (had, other) = stood c m stands in
       elim (are c m had) [
-        | inl (x, k, h) ↦ elim (read_stays x k (registers.Result c m) h) [ inl here ↦ inl (x, k, here) | inr fallen ↦ inr fallen ]
+        | inl (x, k, h) ↦ elim (read_stays x k (registers.Result c m) h) [ inl here ↦ inl (x, k, here) | inr dead_candidates ↦ inr dead_candidates ]
         | inr waits ↦ elim (all (registers.Result c m) waits) [
           | inl old ↦ inr (still_falls (registers.Result c m) old)
           | inr it ↦
@@ -161,7 +161,7 @@ module _ (d d' : Draft) (whole : IsWhole d) (b n : ℕ) (has : HasInst d.arena b
       ]
 
   -- operands that are registers, and registers on the worklist, are as many as before
-  pub as_many_read : registers_read d'.arena + length d'.fallen.items ≡ registers_read d.arena + length d.fallen.items
+  pub as_many_read : registers_read d'.arena + length d'.dead_candidates.items ≡ registers_read d.arena + length d.dead_candidates.items
   as_many_read =
       let (block, inst, is_block, here) = inst_there d.arena b n has in
       let few : length block.insts ≤ none = (whole.rows b block is_block).few in
@@ -169,9 +169,9 @@ module _ (d d' : Draft) (whole : IsWhole d) (b n : ℕ) (has : HasInst d.arena b
       let reads : operands_at d.arena (record { block = b; number = n }) ≡ operands_of inst.op = operands_at_inst d.arena (record { block = b; number = n }) block inst is_block here (omega (arith, lt, few)) in
       let insts = changed_sum (λ (i : Inst). length (filter_map register_of (operands_of i.op))) n gone block.insts inst here in
       let blocks = changed_sum (λ (x : Block). sum_by (λ (i : Inst). length (filter_map register_of (operands_of i.op))) x.insts) b (inst_changed n gone) d.arena.blocks block is_block in
-      let arenas : registers_read d'.arena ≡ registers_read (taken_out d.arena b n) = ap registers_read arena in
-      let falling : length d'.fallen.items ≡ length d.fallen.items + length (filter_map register_of (operands_of inst.op)) =
-      ap length fell ∙ (length-append d.fallen.items (filter_map register_of (operands_at d.arena (record { block = b; number = n }))) ∙ ap (λ (l : List Operand). length d.fallen.items + length (filter_map register_of l)) reads) in
+      let arenas : registers_read d'.arena ≡ registers_read (with_inst_removed d.arena b n) = ap registers_read arena in
+      let falling : length d'.dead_candidates.items ≡ length d.dead_candidates.items + length (filter_map register_of (operands_of inst.op)) =
+      ap length fell ∙ (length-append d.dead_candidates.items (filter_map register_of (operands_at d.arena (record { block = b; number = n }))) ∙ ap (λ (l : List Operand). length d.dead_candidates.items + length (filter_map register_of l)) reads) in
       omega arith
 
 -- a register with a use is read somewhere

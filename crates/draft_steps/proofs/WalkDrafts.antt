@@ -17,7 +17,7 @@ use Rattle.draft_steps.specs.declared.walk.Walk.{Walk}
 use Rattle.draft_steps.proofs.SameDrafts.{stays, stood}
 
 pub same-itself : (d : Draft) → IsWhole d → IsSameDraft d d
-same-itself d whole = record { whole = whole; arena = refl; orders = refl; stand = refl; fallen = refl }
+same-itself d whole = record { whole = whole; arena = refl; orders = refl; stand = refl; dead_candidates = refl }
 
 pub same-twice : (a b c : Draft) → IsSameDraft a b → IsSameDraft b c → IsSameDraft a c
 same-twice a b c one two = record {
@@ -25,7 +25,7 @@ same-twice a b c one two = record {
   arena = two.arena ∙ one.arena;
   orders = two.orders ∙ one.orders;
   stand = two.stand ∙ one.stand;
-  fallen = two.fallen ∙ one.fallen;
+  dead_candidates = two.dead_candidates ∙ one.dead_candidates;
 }
 
 pub walk-by : (old new : Draft) (w : Walk) → new.arena ≡ old.arena → IsWalk old w → IsWalk new w

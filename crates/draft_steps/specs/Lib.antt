@@ -1,9 +1,9 @@
 pub use Rattle.bindings.specs.Match
 pub use Rattle.rewriter.specs.Applied
 pub use Rattle.needed.specs.Cleaned
-pub mod Cleaning
+pub mod DeadCode
 pub mod Rewriting
 pub mod Arranged
 pub mod Walks
-pub mod Queues
+pub mod DraftWorklists
 pub mod MatchLaws

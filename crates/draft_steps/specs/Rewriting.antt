@@ -13,7 +13,7 @@ use Rattle.ir_core.specs.declared.operand.Register.TheVariants as registers
 use Rattle.needed.specs.Operands.{operands_of}
 use Rattle.substitution.specs.declared.rewrite.Rewrite.{Rewrite}
 use Rattle.bindings.specs.declared.binding.Binding.{Binding}
-use Rattle.readers.specs.Changes.{changed_at, replaced, taken_out, without}
+use Rattle.readers.specs.Changes.{changed_at, replaced, with_inst_removed, without}
 use Rattle.readers.specs.Counts.{operands_at, register_of}
 use Rattle.draft.specs.Drafts.{numbers_of}
 use Rattle.places.specs.Orders.{put_before}
@@ -55,7 +55,7 @@ MayPut f b put = (j : ℕ) (inst : Inst) → slice_get put j ≡ Some inst → A
 -- the arena once instruction n of the block is rewritten: instructions are inserted, its uses replaced, and it is
 -- removed
 abbrev pub put_for : Function → Rewrite → ℕ → Function
-put_for f w n = taken_out (replaced (with_put f w.block w.put) (registers.Result w.block n) w.result) w.block n
+put_for f w n = with_inst_removed (replaced (with_put f w.block w.put) (registers.Result w.block n) w.result) w.block n
 
 -- and the numbers of its blocks
 abbrev pub rows_put_for : Function → List (List ℕ) → Rewrite → ℕ → List (List ℕ)
@@ -70,5 +70,5 @@ pub record IsPutFor (old new : Draft) (w : Rewrite) (n : ℕ) (told : Rewritten)
       ↔ (IsPlaceIn (with_put old.arena w.block w.put) p × IsReader (with_put old.arena w.block w.put) (registers.Result w.block n) p)
   pub result : told.result ≡ w.result
   -- the results of the inserted instructions, and the registers that the root read
-  pub fell : new.fallen.items ≡ old.fallen.items ++ map (λ number. registers.Result w.block number) (put_numbers old.arena w)
+  pub fell : new.dead_candidates.items ≡ old.dead_candidates.items ++ map (λ number. registers.Result w.block number) (put_numbers old.arena w)
       ++ filter_map register_of (operands_at (replaced (with_put old.arena w.block w.put) (registers.Result w.block n) w.result) (record { block = w.block; number = n }))

@@ -37,7 +37,7 @@ pub record IsSameDraft (old new : Draft) : Type 0 where
   pub arena : new.arena ≡ old.arena
   pub orders : new.orders.items ≡ old.orders.items
   pub stand : new.stand.items ≡ old.stand.items
-  pub fallen : new.fallen.items ≡ old.fallen.items
+  pub dead_candidates : new.dead_candidates.items ≡ old.dead_candidates.items
 
 -- it found the users of an instruction that stand in its block
 abbrev pub ReadersCame : Draft → Walk → Place → Type 0

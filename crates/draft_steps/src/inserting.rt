@@ -39,8 +39,8 @@ pub(crate) fn put_before(
     ensures numbers { OnOk result (numbers_of draft.new
         ≡ changed_at at.block (λ row. numbers.put_before row at.number (end_of draft.old.arena at.block)) (numbers_of draft.old)) }
     ensures orders { OnOk result (KeepsOrders (orders_of draft.old) (orders_of draft.new)) }
-    ensures fallen { OnOk result (draft.new.fallen.items
-        ≡ draft.old.fallen.items ++ Register.Result at.block (end_of draft.old.arena at.block) ∷ []) }
+    ensures dead_candidates { OnOk result (draft.new.dead_candidates.items
+        ≡ draft.old.dead_candidates.items ++ Register.Result at.block (end_of draft.old.arena at.block) ∷ []) }
 {
     note_phi(&mut draft.has_cycles, &inst);
     push_inst(&mut draft.arena.blocks, at.block, inst)?;
@@ -54,7 +54,9 @@ pub(crate) fn put_before(
     draft.readers.push_list(alloc, at.block)?;
     count_reads(&draft.arena, &mut draft.facts.uses, place)?;
     list_reads(&draft.arena, &mut draft.readers, place)?;
-    draft.fallen.push(Register::Result(at.block, number))?;
+    draft
+        .dead_candidates
+        .push(Register::Result(at.block, number))?;
     Ok(place)
 }
 

@@ -1,7 +1,7 @@
 //! The laws of orders, and of matches in drafts, each the contract of a function that does nothing.
 
 ghost use Rattle.draft.specs.KeptOrders.{PutsKeepOrders, KeepingIsTransitive};
-ghost use Rattle.draft_steps.specs.Queues.{QueuesStay};
+ghost use Rattle.draft_steps.specs.DraftWorklists.{WorklistsStay};
 ghost use Rattle.draft_steps.specs.MatchLaws.{MatchesOfTheArena, MatchesOfTheUntouched};
 
 use bindings::temporaries_stand_before_roots;
@@ -10,7 +10,7 @@ use bindings::temporaries_stand_before_roots;
 pub fn orders_are_kept()
     ensures put { PutsKeepOrders }
     ensures twice { KeepingIsTransitive }
-    ensures queues { QueuesStay }
+    ensures queues { WorklistsStay }
 {}
 
 /// The matches at an instruction of a draft's arena are those at its position in the function.

@@ -8,17 +8,17 @@
 //! `specs/MatchLaws`.
 #![tactic(auto)]
 
-mod cleaning;
+mod dead_code;
 mod inserting;
 mod laws;
 mod leading;
-mod queue;
 mod removing;
 mod replacing;
 mod rewriting;
 mod stepping;
 mod walk;
+mod worklist;
 
 pub use laws::{matches_of_the_arena, matches_of_the_untouched, orders_are_kept};
-pub use queue::Queue;
 pub use stepping::step;
+pub use worklist::DraftWorklist;

@@ -4,7 +4,7 @@ ghost use Rattle.std.specs.Prelude.{◌≡◌, ◌<◌, ◌++◌, [], false, len
 ghost use Rattle.std.specs.List.{filter_map};
 ghost use Rattle.ir_core.specs.Blocks.{HasInst};
 ghost use Rattle.ir_core.specs.declared.function.Block.{Block as Written};
-ghost use Rattle.readers.specs.Changes.{changed_at, gone, inst_changed, taken_out, without};
+ghost use Rattle.readers.specs.Changes.{changed_at, gone, inst_changed, with_inst_removed, without};
 ghost use Rattle.readers.specs.Counts.{operands_at, register_of};
 ghost use Rattle.draft.specs.Drafts.{numbers_of, orders_of};
 ghost use Rattle.draft.specs.Whole.{IsWhole};
@@ -17,17 +17,17 @@ use readers::{forget_reads, push_reads};
 use std::alloc::AllocError;
 
 /// Removes an instruction. The registers that it read go on the worklist of dead code elimination.
-pub(crate) fn take_out(draft: &mut Draft, at: Place) -> Result<(), AllocError>
+pub(crate) fn remove_inst(draft: &mut Draft, at: Place) -> Result<(), AllocError>
     requires whole { IsWhole draft.old }
     requires at { HasInst draft.old.arena at.block at.number }
     ensures whole { OnOk result (IsWhole draft.new) }
-    ensures arena { OnOk result (draft.new.arena ≡ taken_out draft.old.arena at.block at.number) }
+    ensures arena { OnOk result (draft.new.arena ≡ with_inst_removed draft.old.arena at.block at.number) }
     ensures numbers { OnOk result (numbers_of draft.new ≡ changed_at at.block (without at.number) (numbers_of draft.old)) }
     ensures orders { OnOk result (orders_of draft.new ≡ orders_of draft.old) }
-    ensures fallen { OnOk result (draft.new.fallen.items
-        ≡ draft.old.fallen.items ++ filter_map register_of (operands_at draft.old.arena at)) }
+    ensures dead_candidates { OnOk result (draft.new.dead_candidates.items
+        ≡ draft.old.dead_candidates.items ++ filter_map register_of (operands_at draft.old.arena at)) }
 {
-    push_reads(&draft.arena, &mut draft.fallen, at)?;
+    push_reads(&draft.arena, &mut draft.dead_candidates, at)?;
     forget_reads(&draft.arena, &mut draft.facts.uses, at);
     empty_inst(&mut draft.arena.blocks, at);
     clear_mark(&mut draft.stand, at);

@@ -52,7 +52,7 @@ pub(crate) fn replace(
     ensures arena { OnOk result (draft.new.arena ≡ replaced draft.old.arena swap.now.from swap.now.to) }
     ensures numbers { OnOk result (numbers_of draft.new ≡ numbers_of draft.old) }
     ensures orders { OnOk result (orders_of draft.new ≡ orders_of draft.old) }
-    ensures fallen { OnOk result (draft.new.fallen.items ≡ draft.old.fallen.items) }
+    ensures dead_candidates { OnOk result (draft.new.dead_candidates.items ≡ draft.old.dead_candidates.items) }
     ensures places { IfOk result (λ places. (p : Spot) → Contains places.items p
         ↔ (IsPlaceIn draft.old.arena p × IsReader draft.old.arena swap.now.from p)) }
 {
@@ -73,7 +73,7 @@ fn replace_at(draft: &mut Draft, place: Place, swap: &Swap) -> Result<(), AllocE
     ensures arena { OnOk result (draft.new.arena ≡ replaced_at draft.old.arena place swap.now.from swap.now.to) }
     ensures numbers { OnOk result (numbers_of draft.new ≡ numbers_of draft.old) }
     ensures orders { OnOk result (orders_of draft.new ≡ orders_of draft.old) }
-    ensures fallen { OnOk result (draft.new.fallen.items ≡ draft.old.fallen.items) }
+    ensures dead_candidates { OnOk result (draft.new.dead_candidates.items ≡ draft.old.dead_candidates.items) }
 {
     forget_reads(&draft.arena, &mut draft.facts.uses, place);
     swap_at(&mut draft.arena.blocks, place, swap);

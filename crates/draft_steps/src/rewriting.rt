@@ -10,7 +10,7 @@ ghost use Rattle.ir_core.specs.declared.instruction.Inst.{Inst as Instruction};
 ghost use Rattle.rule_core.specs.Checks.{IsRule};
 ghost use Rattle.rewriter.specs.Put as target;
 ghost use Rattle.rewriter.specs.Ready.{IsBound};
-ghost use Rattle.readers.specs.Changes.{changed_at, replaced, taken_out, without};
+ghost use Rattle.readers.specs.Changes.{changed_at, replaced, with_inst_removed, without};
 ghost use Rattle.readers.specs.Counts.{operands_at, register_of};
 ghost use Rattle.draft.specs.Drafts.{HasRoomFor, Stands, numbers_of, orders_of};
 ghost use Rattle.draft.specs.KeptOrders.{KeepsOrders};
@@ -21,7 +21,7 @@ ghost use Rattle.draft.specs.Whole.{IsWhole};
 ghost use Rattle.places.specs.declared.place.Place.{Place as Spot};
 
 use crate::inserting::put_before;
-use crate::removing::take_out;
+use crate::removing::remove_inst;
 use crate::replacing::{Swap, replace};
 use bindings::Binding;
 use draft::Draft;
@@ -119,10 +119,10 @@ fn replace_root(
     requires operand { IsKnown draft.old.arena operand }
     ensures whole { OnOk result (IsWhole draft.new) }
     ensures arena { OnOk result (draft.new.arena
-        ≡ taken_out (replaced draft.old.arena (Register.Result root.block root.number) operand) root.block root.number) }
+        ≡ with_inst_removed (replaced draft.old.arena (Register.Result root.block root.number) operand) root.block root.number) }
     ensures orders { OnOk result (orders_of draft.new ≡ orders_of draft.old) }
     ensures numbers { OnOk result (numbers_of draft.new ≡ changed_at root.block (without root.number) (numbers_of draft.old)) }
-    ensures fell { OnOk result (draft.new.fallen.items ≡ draft.old.fallen.items
+    ensures fell { OnOk result (draft.new.dead_candidates.items ≡ draft.old.dead_candidates.items
         ++ filter_map register_of (operands_at (replaced draft.old.arena (Register.Result root.block root.number) operand) root)) }
     ensures places { IfOk result (λ places. (p : Spot) → Contains places.items p
         ↔ (IsPlaceIn draft.old.arena p × IsReader draft.old.arena (Register.Result root.block root.number) p)) }
@@ -132,7 +132,7 @@ fn replace_root(
         to: operand,
     };
     let replaced = replace(alloc, draft, &swap)?;
-    take_out(draft, root)?;
+    remove_inst(draft, root)?;
     Ok(replaced)
 }
 
@@ -162,7 +162,7 @@ fn put_all(
     ensures whole { OnOk result (IsWhole draft.new) }
     ensures put { IfOk result (λ put. put.items ≡ map (λ number. record { block = at.block; number = number })
         (range_with_len (end_of draft.old.arena at.block) (length insts.items))) }
-    ensures fell { OnOk result (draft.new.fallen.items ≡ draft.old.fallen.items ++ map (λ number. Register.Result at.block number)
+    ensures fell { OnOk result (draft.new.dead_candidates.items ≡ draft.old.dead_candidates.items ++ map (λ number. Register.Result at.block number)
         (range_with_len (end_of draft.old.arena at.block) (length insts.items))) }
     ensures orders { OnOk result (KeepsOrders (orders_of draft.old) (orders_of draft.new)) }
     ensures arena { OnOk result (draft.new.arena ≡ with_put draft.old.arena at.block insts.items) }

@@ -10,14 +10,14 @@ ghost use Rattle.rewriter.specs.Applied.{IsRewritten};
 ghost use Rattle.needed.specs.Cleaned.{IsCleaned};
 ghost use Rattle.ir_meaning.specs.HistoryLaws.{NumbersFit};
 ghost use Rattle.use_counts.specs.Uses.{IsUseCount};
-ghost use Rattle.draft_steps.specs.Cleaning.{HaveInsts, IsClean};
+ghost use Rattle.draft_steps.specs.DeadCode.{HaveInsts, HasNoDeadCode};
 ghost use Rattle.draft.specs.Drafts.{AreTouched, HasRoomFor, arena_of, function_of, orders_of, placed_binding};
 ghost use Rattle.draft.specs.KeptOrders.{KeepsOrders};
 ghost use Rattle.readers.specs.Readers.{IsPlaceIn};
 ghost use Rattle.draft.specs.Whole.{IsSettled, IsWhole};
 ghost use Rattle.places.specs.declared.place.Place.{Place as Spot};
 
-use crate::cleaning::clean_draft;
+use crate::dead_code::eliminate_dead_code;
 use crate::rewriting::{Rewritten, rewrite_draft};
 use bindings::{Binding, reads_of_a_block_stand_before};
 use draft::Draft;
@@ -42,7 +42,7 @@ pub fn step(
     rule: &Rule,
 ) -> Result<(Draft, Vec<Place>), AllocError>
     requires settled { IsSettled draft }
-    requires clean { IsClean draft }
+    requires clean { HasNoDeadCode draft }
     requires checks { MeetsChecks (function_of draft) }
     requires numbers { NumbersFit (function_of draft) }
     requires rule { IsRule rule.now }
@@ -50,7 +50,7 @@ pub fn step(
     requires matches { let m = placed_binding draft binding.now in IsMatch (function_of draft) m.block m.place rule.now m }
     requires room { HasRoomFor 1 draft }
     ensures settled { IfOk result (λ stepped. IsSettled stepped.0) }
-    ensures clean { IfOk result (λ stepped. IsClean stepped.0) }
+    ensures clean { IfOk result (λ stepped. HasNoDeadCode stepped.0) }
     ensures steps { IfOk result (λ stepped. (f : Function) × IsRewritten (function_of draft) (placed_binding draft binding.now) rule.now f
         × IsCleaned f (function_of stepped.0)) }
     ensures room { IfOk result (λ stepped. (steps : ℕ) → HasRoomFor (suc steps) draft → HasRoomFor steps stepped.0) }
@@ -72,7 +72,7 @@ fn step_in(
     rule: &Rule,
 ) -> Result<Vec<Place>, AllocError>
     requires settled { IsSettled draft.old }
-    requires clean { IsClean draft.old }
+    requires clean { HasNoDeadCode draft.old }
     requires checks { MeetsChecks (function_of draft.old) }
     requires numbers { NumbersFit (function_of draft.old) }
     requires rule { IsRule rule.now }
@@ -80,7 +80,7 @@ fn step_in(
     requires matches { let m = placed_binding draft.old binding.now in IsMatch (function_of draft.old) m.block m.place rule.now m }
     requires room { HasRoomFor 1 draft.old }
     ensures settled { OnOk result (IsSettled draft.new) }
-    ensures clean { OnOk result (IsClean draft.new) }
+    ensures clean { OnOk result (HasNoDeadCode draft.new) }
     ensures steps { OnOk result ((f : Function) × IsRewritten (function_of draft.old) (placed_binding draft.old binding.now) rule.now f
         × IsCleaned f (function_of draft.new)) }
     ensures room { OnOk result ((steps : ℕ) → HasRoomFor (suc steps) draft.old → HasRoomFor steps draft.new) }
@@ -92,7 +92,7 @@ fn step_in(
     reads_of_a_block_stand_before();
     rewritten_functions_meet_checks();
     let rewritten = rewrite_draft(alloc, draft, binding, rule)?;
-    let used = clean_draft(alloc, draft, &rewritten)?;
+    let used = eliminate_dead_code(alloc, draft, &rewritten)?;
     let Rewritten { put, replaced, .. } = rewritten;
     let mut touched = put;
     touched.push(Place {

@@ -21,7 +21,7 @@ use Rattle.ir_tokens.specs.declared.raw.RawValue.{RawValue}
 use Rattle.ir_tokens.specs.declared.raw.TypedOperand.{TypedOperand}
 use Rattle.ir_instructions.specs.declared.intrinsic.Intrinsic.{Intrinsic}
 use Rattle.ir_instructions.specs.declared.intrinsic.Intrinsic.TheVariants as intrinsics
-use Rattle.ir_instructions.specs.declared.place.Place.TheVariants as places
+use Rattle.ir_instructions.specs.declared.place.Expected.TheVariants as places
 use Rattle.ir_instructions.specs.Intrinsics.{intrinsic_in}
 use Rattle.ir_instructions.specs.ItemReaders.{begins_item, item_at, items_at}
 use Rattle.ir_instructions.specs.Keywords.{truth_in}

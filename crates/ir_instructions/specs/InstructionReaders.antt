@@ -13,7 +13,7 @@ use Rattle.ir_tokens.specs.Tokens.{Placed, Word, Mark}
 use Rattle.ir_tokens.specs.declared.fault.IrFaultKind.TheVariants.{Syntax}
 use Rattle.ir_tokens.specs.declared.fault.IrFaultKind.TheVariants as misfits
 use Rattle.ir_tokens.specs.declared.fault.IrFaultKind.{IrFaultKind}
-use Rattle.ir_instructions.specs.declared.place.Place.TheVariants as places
+use Rattle.ir_instructions.specs.declared.place.Expected.TheVariants as places
 use Rattle.ir_tokens.specs.declared.raw.RawInst.{RawInst}
 use Rattle.ir_tokens.specs.declared.raw.RawOp.{RawOp}
 use Rattle.ir_tokens.specs.declared.raw.RawOp.TheVariants.{Binary, Compare, Select, Convert, Freeze, Phi}

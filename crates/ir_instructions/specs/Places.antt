@@ -3,8 +3,8 @@
 use Rattle.std.specs.Prelude.{ℕ, ◌==◌, Bool, true, false, ◌||◌, if◌then◌else◌, List, [], ◌∷◌, take, codes}
 use Rattle.ir_tokens.specs.declared.fault.IrFaultKind.{IrFaultKind}
 use Rattle.ir_tokens.specs.declared.fault.IrFaultKind.TheVariants.{BadByte, Syntax, LeftOut}
-use Rattle.ir_instructions.specs.declared.place.Place.{Place}
-use Rattle.ir_instructions.specs.declared.place.Place.TheVariants as places
+use Rattle.ir_instructions.specs.declared.place.Expected.{Expected}
+use Rattle.ir_instructions.specs.declared.place.Expected.TheVariants as places
 use Rattle.ir_instructions.specs.Punctuation as marks
 use Rattle.ir_tokens.specs.Tokens.{Token, End, Other, Bad, Kept, KeptGroup, Label, Word, Number, Register, Function, Group, Metadata, Quoted, Mark}
 
@@ -24,7 +24,7 @@ begins_record (Mark mark) = mark == marks.hash
 begins_record token = false
 
 -- the token is taken for an unsupported part of LLVM IR there
-unfoldable pub leaves_out : Place → Token → Bool
+unfoldable pub leaves_out : Expected → Token → Bool
 leaves_out places.Entry token = true
 leaves_out places.Type token = is_word token || begins_type token
 leaves_out places.Instruction token = is_word token || begins_record token
@@ -47,7 +47,7 @@ shown (Mark mark) = mark ∷ []
 shown token = []
 
 -- the kind of fault of a token that does not fit
-unfoldable pub misfit : Place → Token → IrFaultKind
+unfoldable pub misfit : Expected → Token → IrFaultKind
 misfit place Bad = BadByte
 misfit place Other = Syntax
 misfit place End = Syntax

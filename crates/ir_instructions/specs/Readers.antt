@@ -5,7 +5,7 @@ use Rattle.ir_tokens.specs.Tokens.{Placed}
 use Rattle.ir_tokens.specs.declared.fault.IrFaultKind.{IrFaultKind}
 use Rattle.ir_tokens.specs.declared.fault.IrFaultKind.TheVariants.{Syntax, LeftOut}
 use Rattle.refusal.specs.declared.fault.Fault.{Fault}
-use Rattle.ir_instructions.specs.declared.place.Place.{Place}
+use Rattle.ir_instructions.specs.declared.place.Expected.{Expected}
 use Rattle.ir_instructions.specs.Places.{misfit}
 
 -- the result of a parser: what was read, and the tokens behind it
@@ -20,7 +20,7 @@ fault line kind = record { line = line; kind = kind }
 
 -- The fault of the first token, which does not fit where this is expected. The tokens of a text end with one behind
 -- which nothing is read, so that there is a first one.
-unfoldable pub unexpected : Place → List Placed → Fault IrFaultKind
+unfoldable pub unexpected : Expected → List Placed → Fault IrFaultKind
 unexpected place [] = fault 0 Syntax
 unexpected place ((line, token) ∷ rest) = fault line (misfit place token)
 

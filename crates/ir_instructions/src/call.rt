@@ -11,7 +11,7 @@ use crate::intrinsic::{Intrinsic, intrinsic_of};
 use crate::item::items;
 use crate::late_items::late_items;
 use crate::operand::integer_type;
-use crate::place::{Place, fault, left_out, misplaced, unexpected};
+use crate::place::{Expected, fault, left_out, misplaced, unexpected};
 use crate::token::mark;
 use ir_tokens::{
     Identifier, IrError, IrFault, IrFaultKind, Placed, RawArguments, RawCall, RawOp, Token,
@@ -169,9 +169,9 @@ fn call_word(alloc: Global, tokens: &mut &[Placed<'_>]) -> Result<usize, IrError
                     Err(left_out(alloc, *line, word))
                 }
             }
-            _ => Err(unexpected(alloc, Place::Choice, *tokens)),
+            _ => Err(unexpected(alloc, Expected::Choice, *tokens)),
         },
-        [] => Err(unexpected(alloc, Place::Choice, *tokens)),
+        [] => Err(unexpected(alloc, Expected::Choice, *tokens)),
     }
 }
 

@@ -8,7 +8,7 @@ ghost use Rattle.ir_instructions.specs.ItemReaders as parsing;
 
 use crate::item_word::is_item_word;
 use crate::part::{Part, each};
-use crate::place::{Place, copied, left_out, misplaced, unexpected};
+use crate::place::{Expected, copied, left_out, misplaced, unexpected};
 use crate::token::{is_mark, mark};
 use ir_tokens::{IrError, Placed, Token};
 use lists::{List, Text};
@@ -113,9 +113,9 @@ pub(crate) fn item(alloc: Global, tokens: &mut &[Placed<'_>]) -> Result<Text, Ir
                 *tokens = rest;
                 quoted_item(alloc, key, tokens)
             }
-            _ => Err(unexpected(alloc, Place::Choice, *tokens)),
+            _ => Err(unexpected(alloc, Expected::Choice, *tokens)),
         },
-        [] => Err(unexpected(alloc, Place::Choice, *tokens)),
+        [] => Err(unexpected(alloc, Expected::Choice, *tokens)),
     }
 }
 

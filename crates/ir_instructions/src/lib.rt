@@ -29,7 +29,7 @@ pub use laws::parts_are_read_as_they_are_spelled;
 pub use op::insts;
 pub use operand::integer_type;
 pub use part::{Part, each};
-pub use place::{Place, copied, left_out, misplaced, unexpected};
+pub use place::{Expected, copied, left_out, misplaced, unexpected};
 pub use terminators::terminator;
 pub use token::{is_mark, mark};
 pub use word::{Ending, Operation, TypeWord, type_of};

@@ -10,7 +10,7 @@ use crate::attachment::{is_metadata, tail};
 use crate::call::{call, marked_call};
 use crate::operand::{integer_type, operand, typed};
 use crate::part::{Part, each};
-use crate::place::{Place, fault, left_out, misplaced, unexpected};
+use crate::place::{Expected, fault, left_out, misplaced, unexpected};
 use crate::token::{keyword, mark, register};
 use crate::word::{Operation, operation_of};
 use ir_tokens::{IrError, IrFault, IrFaultKind, Placed, RawIncoming, RawInst, RawOp, Token};
@@ -95,9 +95,9 @@ fn predicate(alloc: Global, tokens: &mut &[Placed<'_>]) -> Result<Pred, IrError>
                 }
                 None => Err(left_out(alloc, *line, word)),
             },
-            _ => Err(unexpected(alloc, Place::Choice, *tokens)),
+            _ => Err(unexpected(alloc, Expected::Choice, *tokens)),
         },
-        [] => Err(unexpected(alloc, Place::Choice, *tokens)),
+        [] => Err(unexpected(alloc, Expected::Choice, *tokens)),
     }
 }
 
@@ -251,9 +251,9 @@ fn op(alloc: Global, tokens: &mut &[Placed<'_>]) -> Result<RawOp, IrError>
                 }
                 None => Err(left_out(alloc, *line, word)),
             },
-            _ => Err(unexpected(alloc, Place::Choice, *tokens)),
+            _ => Err(unexpected(alloc, Expected::Choice, *tokens)),
         },
-        [] => Err(unexpected(alloc, Place::Choice, *tokens)),
+        [] => Err(unexpected(alloc, Expected::Choice, *tokens)),
     }
 }
 

@@ -6,7 +6,7 @@ ghost use Rattle.ir_tokens.specs.SeenTokens.{seen};
 ghost use Rattle.refusal.specs.Refusals.{Gives};
 ghost use Rattle.ir_instructions.specs.InstructionReaders as parsing;
 
-use crate::place::{Place, fault, left_out, unexpected};
+use crate::place::{Expected, fault, left_out, unexpected};
 use crate::word::{TypeWord, truth_of, type_of, value_of};
 use ir_tokens::{
     IrError, IrFault, IrFaultKind, Placed, RawOperand, RawValue, Token, TypedOperand, constant,
@@ -32,9 +32,9 @@ pub fn integer_type(alloc: Global, tokens: &mut &[Placed<'_>]) -> Result<Width, 
                 TypeWord::OutOfRange => Err(refused(*line, IrFaultKind::Width)),
                 TypeWord::Other => Err(left_out(alloc, *line, word)),
             },
-            _ => Err(unexpected(alloc, Place::Type, *tokens)),
+            _ => Err(unexpected(alloc, Expected::Type, *tokens)),
         },
-        [] => Err(unexpected(alloc, Place::Type, *tokens)),
+        [] => Err(unexpected(alloc, Expected::Type, *tokens)),
     }
 }
 
@@ -78,9 +78,9 @@ pub(crate) fn operand(
                 }
                 None => Err(left_out(alloc, *line, word)),
             },
-            _ => Err(unexpected(alloc, Place::Choice, *tokens)),
+            _ => Err(unexpected(alloc, Expected::Choice, *tokens)),
         },
-        [] => Err(unexpected(alloc, Place::Choice, *tokens)),
+        [] => Err(unexpected(alloc, Expected::Choice, *tokens)),
     }
 }
 
@@ -106,9 +106,9 @@ pub(crate) fn case_value(
                 }
                 None => Err(left_out(alloc, *line, word)),
             },
-            _ => Err(unexpected(alloc, Place::Choice, *tokens)),
+            _ => Err(unexpected(alloc, Expected::Choice, *tokens)),
         },
-        [] => Err(unexpected(alloc, Place::Choice, *tokens)),
+        [] => Err(unexpected(alloc, Expected::Choice, *tokens)),
     }
 }
 

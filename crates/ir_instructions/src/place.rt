@@ -3,7 +3,7 @@
 ghost use Rattle.std.specs.Prelude.{◌≡◌, IfOk, take};
 ghost use Rattle.ir_tokens.specs.SeenTokens.{seen, seen_token};
 ghost use Rattle.ir_tokens.specs.declared.fault.IrFaultKind.TheVariants as misfits;
-ghost use Rattle.ir_instructions.specs.declared.place.Place.TheVariants as variants;
+ghost use Rattle.ir_instructions.specs.declared.place.Expected.TheVariants as variants;
 ghost use Rattle.refusal.specs.Refusals.{Refuses};
 ghost use Rattle.ir_instructions.specs.Places as places;
 ghost use Rattle.ir_instructions.specs.Readers as readers;
@@ -15,7 +15,7 @@ use std::alloc::{AllocError, Global};
 
 /// What is expected where a token stands.
 #[derive(Clone, Copy)]
-pub enum Place {
+pub enum Expected {
     /// An entry of the module.
     Entry,
     /// A type.
@@ -85,21 +85,21 @@ fn shown(alloc: Global, token: Token<'_>) -> Result<Text, AllocError>
 
 /// Whether such a token, where it does not fit, is taken for an unsupported part of LLVM IR.
 #[tactic(auto, unfolding(crate::specs::Places::leaves_out))]
-fn leaves_out(place: Place, token: Token<'_>) -> bool
+fn leaves_out(place: Expected, token: Token<'_>) -> bool
     ensures { result ≡ places.leaves_out place (seen_token token.entry) }
 {
     match place {
-        Place::Entry => true,
-        Place::Type => matches!(token, Token::Word(_) | Token::Mark(b'<' | b'{' | b'[')),
-        Place::Instruction => matches!(token, Token::Word(_) | Token::Mark(b'#')),
-        Place::Choice => matches!(token, Token::Word(_)),
-        Place::Fixed => false,
+        Expected::Entry => true,
+        Expected::Type => matches!(token, Token::Word(_) | Token::Mark(b'<' | b'{' | b'[')),
+        Expected::Instruction => matches!(token, Token::Word(_) | Token::Mark(b'#')),
+        Expected::Choice => matches!(token, Token::Word(_)),
+        Expected::Fixed => false,
     }
 }
 
 /// The kind of fault of a token that does not fit.
 #[tactic(auto, unfolding(crate::specs::Places::misfit))]
-fn misfit(alloc: Global, place: Place, token: Token<'_>) -> Result<IrFaultKind, AllocError>
+fn misfit(alloc: Global, place: Expected, token: Token<'_>) -> Result<IrFaultKind, AllocError>
     ensures { IfOk result (λ kind. kind ≡ places.misfit place (seen_token token.entry)) }
 {
     match token {
@@ -117,7 +117,7 @@ fn misfit(alloc: Global, place: Place, token: Token<'_>) -> Result<IrFaultKind, 
 
 /// The fault of the first token, which does not fit where this is expected.
 #[tactic(auto, unfolding(crate::specs::Readers::unexpected))]
-pub fn unexpected(alloc: Global, place: Place, tokens: &[Placed<'_>]) -> IrError
+pub fn unexpected(alloc: Global, place: Expected, tokens: &[Placed<'_>]) -> IrError
     ensures { Refuses result (readers.unexpected place (seen tokens.now)) }
 {
     match tokens {

@@ -7,7 +7,7 @@ ghost use Rattle.ir_instructions.specs.InstructionReaders as parsing;
 
 use crate::operand::{case_value, integer_type, typed};
 use crate::part::{Part, each};
-use crate::place::{Place, left_out, unexpected};
+use crate::place::{Expected, left_out, unexpected};
 use crate::token::{is_keyword, is_mark, mark, target};
 use crate::word::{Ending, ending_of};
 use ir_tokens::{IrError, Placed, RawCase, RawTerminator, Token};
@@ -138,8 +138,8 @@ pub fn terminator(
                 }
                 None => Err(left_out(alloc, *line, word)),
             },
-            _ => Err(unexpected(alloc, Place::Instruction, *tokens)),
+            _ => Err(unexpected(alloc, Expected::Instruction, *tokens)),
         },
-        [] => Err(unexpected(alloc, Place::Instruction, *tokens)),
+        [] => Err(unexpected(alloc, Expected::Instruction, *tokens)),
     }
 }

@@ -9,7 +9,7 @@ use Rattle.ir_tokens.specs.Tokens.{Placed, End, Kept, Label, Word, Register, Fun
 use Rattle.ir_tokens.specs.declared.fault.IrFaultKind.TheVariants.{LeftOut}
 use Rattle.refusal.specs.declared.fault.Fault.{Fault}
 use Rattle.ir_tokens.specs.declared.fault.IrFaultKind.{IrFaultKind}
-use Rattle.ir_instructions.specs.declared.place.Place.TheVariants as places
+use Rattle.ir_instructions.specs.declared.place.Expected.TheVariants as places
 use Rattle.ir_tokens.specs.declared.raw.RawModule.{RawModule}
 use Rattle.ir_tokens.specs.declared.raw.RawEntry.{RawEntry}
 use Rattle.ir_tokens.specs.declared.raw.RawEntry.TheVariants as entries

@@ -6,7 +6,7 @@ ghost use Rattle.refusal.specs.Refusals.{Gives};
 ghost use Rattle.ir_parse.specs.ModuleReaders as parsing;
 
 use crate::function::function;
-use ir_instructions::{Part, Place, copied, each, left_out, unexpected};
+use ir_instructions::{Expected, Part, copied, each, left_out, unexpected};
 use ir_tokens::{IrError, Placed, RawEntry, RawModule, Token};
 use lists::List;
 use ops::keywords::is;
@@ -47,9 +47,9 @@ impl Part for ModuleEntry {
                         Err(left_out(alloc, *line, word))
                     }
                 }
-                _ => Err(unexpected(alloc, Place::Entry, *tokens)),
+                _ => Err(unexpected(alloc, Expected::Entry, *tokens)),
             },
-            [] => Err(unexpected(alloc, Place::Entry, *tokens)),
+            [] => Err(unexpected(alloc, Expected::Entry, *tokens)),
         }
     }
 }

@@ -7,7 +7,7 @@ use Rattle.scan.specs.Bytes.{begins_with, begins_name, is_digit, is_letter, is_n
 use Rattle.scan.specs.Gaps.{nothing}
 use Rattle.scan.specs.IrTokens.{is_word}
 use Rattle.scan.specs.Lines.{last_line}
-use Rattle.ir_tokens.specs.declared.place.Place.TheVariants.{InHeader}
+use Rattle.ir_tokens.specs.declared.place.Section.TheVariants.{InHeader}
 use Rattle.ir_tokens.specs.declared.place.Extent.TheVariants as extents
 use Rattle.ir_tokens.specs.Order.{TokensFrom}
 use Rattle.ir_tokens.specs.Places.{extent_of}

@@ -21,8 +21,8 @@ use Rattle.scan.specs.RuleTokens.{is_negative}
 use Rattle.scan.proofs.Fronts.{and_left, or_true}
 use Rattle.scan.proofs.ModulePlaces.{longest_some}
 use Rattle.scan.proofs.PlaceLemmas.{feeds_append}
-use Rattle.ir_tokens.specs.declared.place.Place.{Place}
-use Rattle.ir_tokens.specs.declared.place.Place.TheVariants.{AtEntry, InHeader, InBody}
+use Rattle.ir_tokens.specs.declared.place.Section.{Section}
+use Rattle.ir_tokens.specs.declared.place.Section.TheVariants.{AtEntry, InHeader, InBody}
 use Rattle.ir_tokens.specs.declared.place.Extent.TheVariants as extents
 use Rattle.ir_tokens.specs.Order.{HasExtent, IsTokenAt, itself, last, token}
 use Rattle.ir_tokens.specs.Places.{begins_kept, extent_of, is_on, kept_words}
@@ -175,7 +175,7 @@ kept_of (b ∷ s) kind (suc m) more t begins no_zero is =
     }
 
 -- a kept line begins as one, wherever it stands
-line_begins : (place : Place) (line : ℕ) (bytes : List ℕ) → extent_of place line bytes ≡ extents.Line → begins_kept bytes ≡ true
+line_begins : (place : Section) (line : ℕ) (bytes : List ℕ) → extent_of place line bytes ≡ extents.Line → begins_kept bytes ≡ true
 unfolding extent_of
 line_begins (AtEntry before) line bytes e = by (begins_kept bytes) (not (is_on line before)) e
   where
@@ -193,7 +193,7 @@ line_begins (InBody word) line bytes e = by (bytes_eq bytes (codes "(") && is_on
     by true h = absurd cc
     by false h = absurd cc
 
-pub kept_alone : (text : List ℕ) (place : Place) (at : ℕ) (t : Scanned) (rest : Span) → IsNextToken text at t → HasExtent text place t extents.Line → IsKeptLine text t.span.end rest
+pub kept_alone : (text : List ℕ) (place : Section) (at : ℕ) (t : Scanned) (rest : Span) → IsNextToken text at t → HasExtent text place t extents.Line → IsKeptLine text t.span.end rest
     → IsKeptAlone (between text t.span.start rest.end)
 kept_alone text place at t rest next extent kept =
     let start : ℕ = t.span.start in

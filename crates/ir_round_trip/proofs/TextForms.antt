@@ -5,7 +5,7 @@ use Rattle.std.proofs.lemmas.List.{take-append-drop}
 use Rattle.scan.specs.declared.ir.token.TokenKind.{TokenKind}
 use Rattle.scan.specs.declared.ir.token.TokenKind.TheVariants as kinds
 use Rattle.scan.specs.Lines.{between}
-use Rattle.ir_tokens.specs.declared.place.Place.{Place}
+use Rattle.ir_tokens.specs.declared.place.Section.{Section}
 use Rattle.ir_tokens.specs.Order.{IsTokenAt, itself, kept_line, kept_group, unclosed, bad_byte, TokensFrom, last, token}
 use Rattle.ir_tokens.specs.Tokens.{Placed, Token, End, Other, Bad, Kept, KeptGroup, Label, Word, Number, Register, Function, Group, Metadata, Quoted, Mark, mark_of, token_of}
 use Rattle.ir_text.specs.Lexemes.{bytes_of}
@@ -44,7 +44,7 @@ token_bytes kinds.Metadata bytes all = (omega arith, drop_bytes 1 bytes all)
 token_bytes kinds.Quoted bytes all = all
 token_bytes kinds.Mark bytes all = mark_bytes bytes all
 
-pub bytes_at : {text : List ℕ} {place : Place} {at end : ℕ} {t : Placed} → AreBytes text → IsTokenAt text place at t end → AreBytes (bytes_of t.1)
+pub bytes_at : {text : List ℕ} {place : Section} {at end : ℕ} {t : Placed} → AreBytes text → IsTokenAt text place at t end → AreBytes (bytes_of t.1)
 bytes_at {text} all (itself t next extent) = token_bytes t.kind (between text t.span.start t.span.end) (between_bytes text t.span.start t.span.end all)
 bytes_at {text} all (kept_line t rest next extent kept) = between_bytes text t.span.start rest.end all
 bytes_at {text} all (kept_group t rest next extent kept) = between_bytes text t.span.start rest.end all
@@ -69,7 +69,7 @@ token_by (Metadata name) form other bytes = tt
 token_by (Quoted text) form other bytes = form refl refl
 token_by (Mark byte) form other bytes = tt
 
-token_formed : {text : List ℕ} {place : Place} {at end : ℕ} {t : Placed} → AreBytes text → IsTokenAt text place at t end → TokenFormed t.1
+token_formed : {text : List ℕ} {place : Section} {at end : ℕ} {t : Placed} → AreBytes text → IsTokenAt text place at t end → TokenFormed t.1
 token_formed {text} all (itself t next extent) =
     let bytes : List ℕ = between text t.span.start t.span.end in
     token_by (token_of t.kind bytes) (token_form (itself t next extent)) (none_kept t.kind bytes) (bytes_at all (itself t next extent))
@@ -78,6 +78,6 @@ token_formed all (kept_group t rest next extent kept) = token_form (kept_group t
 token_formed all (unclosed t next extent none) = tt
 token_formed all (bad_byte line is) = tt
 
-pub tokens_formed : {text : List ℕ} {place : Place} {at : ℕ} {tokens : List Placed} → AreBytes text → TokensFrom text place at tokens → Formed tokens
+pub tokens_formed : {text : List ℕ} {place : Section} {at : ℕ} {tokens : List Placed} → AreBytes text → TokensFrom text place at tokens → Formed tokens
 tokens_formed all (last h is) = (token_formed all h, tt)
 tokens_formed all (token h more behind) = (token_formed all h, tokens_formed all behind)

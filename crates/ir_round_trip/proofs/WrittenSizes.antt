@@ -1,7 +1,7 @@
 -- What is written has no more parts than the text has bytes.
 use Rattle.std.proofs.Common.{ℕ, suc, ◌+◌, ◌<◌, ◌≤◌, List, [], ◌∷◌, length, Option, ap, refl, arith}
 use Rattle.std.specs.List.{AllByRecursion}
-use Rattle.ir_tokens.specs.declared.place.Place.{Place}
+use Rattle.ir_tokens.specs.declared.place.Section.{Section}
 use Rattle.ir_tokens.specs.Order.{TokensFrom, last, token}
 use Rattle.ir_tokens.specs.Tokens.{Placed, Mark}
 use Rattle.ir_tokens.proofs.Moving.{token_moves, token_within}
@@ -26,7 +26,7 @@ use Rattle.ir_parse.proofs.ShorterParts.{block-shorter, further_parameter-shorte
 -- ---- tokens
 
 -- each token but the last takes a byte
-pub few_tokens : {text : List ℕ} {place : Place} {at : ℕ} {tokens : List Placed} → TokensFrom text place at tokens → at ≤ length text → at + length tokens ≤ length text + 1
+pub few_tokens : {text : List ℕ} {place : Section} {at : ℕ} {tokens : List Placed} → TokensFrom text place at tokens → at ≤ length text → at + length tokens ≤ length text + 1
 few_tokens (last is ends) within = omega arith
 few_tokens {text} {place} {at} (token {end = end} is more behind) within =
     let moves : at < end = token_moves is more in

@@ -14,8 +14,8 @@ use Rattle.ops.specs.Intrinsics.{is_intrinsic}
 use Rattle.ops.specs.Keywords.{opcode_keyword, unary_keyword}
 use Rattle.ops.specs.Number.{Number}
 use Rattle.ops.specs.Truths.{TruthFits, has_truth}
-use Rattle.ir_tokens.specs.declared.place.Place.{Place}
-use Rattle.ir_tokens.specs.declared.place.Place.TheVariants.{InBody}
+use Rattle.ir_tokens.specs.declared.place.Section.{Section}
+use Rattle.ir_tokens.specs.declared.place.Section.TheVariants.{InBody}
 use Rattle.ir_tokens.specs.Places.{place_behind}
 use Rattle.ir_tokens.specs.Tokens.{Placed, End, Word, Mark}
 use Rattle.ir_tokens.specs.declared.raw.RawArguments.TheVariants as arguments
@@ -109,7 +109,7 @@ stops_later line next last [] less = none (eqb last line)
     none false = refl
 stops_later line next last (l ∷ lexemes) less = rw (ne_eqb (next + feeds l.gap) line (λ same. omega arith)) refl
 
-stops_behind : {last : ℕ} {place : Place} {text : List ℕ} {tokens : List Placed} (line next : ℕ) → line < next → Streams last place next text tokens → StopsOn line tokens
+stops_behind : {last : ℕ} {place : Section} {text : List ℕ} {tokens : List Placed} (line next : ℕ) → line < next → Streams last place next text tokens → StopsOn line tokens
 stops_behind {last} line next less s = rw s.tokens_are (stops_later line next last s.lexemes less)
 
 -- `)` and a line feed: no item stands between
@@ -123,7 +123,7 @@ close_prints = record {
     streams = λ last rest tokens stop k.
         let behind : place_behind place (line, Mark 41) ≡ InBody None = rw is refl in
         let fed : Streams last (InBody None) line (codes "\n" ++ rest) tokens = behind_gap (codes "\n") refl k in
-        let all = with_token {place = place} (Mark 41) refl (rw is (itself_in_body before line (codes ")") (no_bracket 41 [] refl)), refl) (subst (λ (p : Place). Streams last p line (codes "\n" ++ rest) tokens) (sym behind) fed) in
+        let all = with_token {place = place} (Mark 41) refl (rw is (itself_in_body before line (codes ")") (no_bracket 41 [] refl)), refl) (subst (λ (p : Section). Streams last p line (codes "\n" ++ rest) tokens) (sym behind) fed) in
         ((line, Mark 41) ∷ tokens, streams_as (append_assoc (codes ")") (codes "\n") rest) all, (line, stops_behind line (line + 1) (omega arith) k, (tokens, refl, ([], [], refl, refl, tt))));
   };
 }

@@ -16,8 +16,8 @@ use Rattle.scan.specs.Quoted.{in_quotes}
 use Rattle.scan.specs.RuleTokens.{is_negative}
 use Rattle.scan.proofs.Fronts.{and_left, and_right, which}
 use Rattle.scan.proofs.ModulePlaces.{seen}
-use Rattle.ir_tokens.specs.declared.place.Place.{Place}
-use Rattle.ir_tokens.specs.declared.place.Place.TheVariants.{AtEntry, InHeader, InBody}
+use Rattle.ir_tokens.specs.declared.place.Section.{Section}
+use Rattle.ir_tokens.specs.declared.place.Section.TheVariants.{AtEntry, InHeader, InBody}
 use Rattle.ir_tokens.specs.declared.place.Extent.TheVariants as extents
 use Rattle.ir_tokens.specs.Numbers.{is_number}
 use Rattle.ir_tokens.specs.Order.{IsTokenAt, TokensFrom, bad_byte, itself, kept_group, kept_line, last, token, unclosed}
@@ -66,7 +66,7 @@ begun_form text kind n h none more = ⊎_elim
 
 -- ---- kept groups
 
-bracket_is : (place : Place) (line : ℕ) (bytes : List ℕ) → extent_of place line bytes ≡ extents.Group → bytes ≡ 40 ∷ []
+bracket_is : (place : Section) (line : ℕ) (bytes : List ℕ) → extent_of place line bytes ≡ extents.Group → bytes ≡ 40 ∷ []
 unfolding extent_of
 bracket_is (AtEntry before) line bytes e = ⊎_elim
     (λ (h : (begins_kept bytes && not (is_on line before)) ≡ true). absurd (let other : extents.Line ≡ extents.Group = rw h at e in cc))
@@ -100,13 +100,13 @@ group_form text start end rest le bracket g =
 abbrev pub HasItsForm : Token → Type 0
 HasItsForm t = is_last t ≡ false → is_kept t ≡ false → HasForm t
 
-pub token_form : {text : List ℕ} {place : Place} {at end : ℕ} {t : Placed} → IsTokenAt text place at t end → HasItsForm t.1
+pub token_form : {text : List ℕ} {place : Section} {at end : ℕ} {t : Placed} → IsTokenAt text place at t end → HasItsForm t.1
 token_form {text} (itself t next extent) more other = begun_form (drop t.span.start text) t.kind (t.span.end - t.span.start) next.token next.no_zero more
 token_form (kept_line t rest next extent kept) more other = absurd (false≢true (sym other))
 token_form {text} {place} (kept_group t rest next extent kept) more other = group_form text t.span.start t.span.end rest next.order.1 (bracket_is place t.line _ extent) kept
 token_form (unclosed t next extent none) more other = absurd (false≢true (sym more))
 token_form (bad_byte line is) more other = absurd (false≢true (sym more))
 
-pub forms_of : {text : List ℕ} {place : Place} {at : ℕ} {tokens : List Placed} → TokensFrom text place at tokens → AllByRecursion (λ t. HasItsForm t.1) tokens
+pub forms_of : {text : List ℕ} {place : Section} {at : ℕ} {tokens : List Placed} → TokensFrom text place at tokens → AllByRecursion (λ t. HasItsForm t.1) tokens
 forms_of (last h e) = (token_form h, tt)
 forms_of (token h e behind) = (token_form h, forms_of behind)

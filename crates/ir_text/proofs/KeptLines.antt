@@ -19,8 +19,8 @@ use Rattle.scan.proofs.Fronts.{and_both, and_left, or_true, which}
 use Rattle.scan.proofs.LawLemmas.{among_begins}
 use Rattle.scan.proofs.ModulePlaces.{seen}
 use Rattle.scan.proofs.PlaceLemmas.{begins_some as has_byte, run_within}
-use Rattle.ir_tokens.specs.declared.place.Place.{Place}
-use Rattle.ir_tokens.specs.declared.place.Place.TheVariants.{AtEntry, InHeader, InBody}
+use Rattle.ir_tokens.specs.declared.place.Section.{Section}
+use Rattle.ir_tokens.specs.declared.place.Section.TheVariants.{AtEntry, InHeader, InBody}
 use Rattle.ir_tokens.specs.declared.place.Extent.TheVariants as extents
 use Rattle.ir_tokens.specs.Order.{AreTokens, HasExtent, IsTokenAt, TokensFrom, bad_byte, itself, kept_group, kept_line, last, token, unclosed}
 use Rattle.ir_tokens.specs.Places.{begins_kept, extent_of, kept_words}
@@ -48,7 +48,7 @@ pub record IsKeptAlone (bytes : List ℕ) : Type 0 where
   pub no_blanks : length (drop n bytes) - blanks_behind (drop n bytes) ≡ length (drop n bytes)
 
 -- the first token of a text
-first_is : {text : List ℕ} {place : Place} {at : ℕ} {tokens : List Placed} → TokensFrom text place at tokens → (t : Placed) (others : List Placed) → tokens ≡ t ∷ others → (end : ℕ) × IsTokenAt text place at t end
+first_is : {text : List ℕ} {place : Section} {at : ℕ} {tokens : List Placed} → TokensFrom text place at tokens → (t : Placed) (others : List Placed) → tokens ≡ t ∷ others → (end : ℕ) × IsTokenAt text place at t end
 first_is {text} {place} {at} (last {end = end} {t = u} h e) t others same = (end, subst (λ (x : Placed). IsTokenAt text place at x end) (heads u t _ _ same) h)
   where
     heads : (a b : Placed) (xs ys : List Placed) → a ∷ xs ≡ b ∷ ys → a ≡ b
@@ -82,7 +82,7 @@ none_kept kinds.Mark [] = refl
 none_kept kinds.Mark (b ∷ bytes) = refl
 
 -- a kept line at a place, by the token that begins it
-record KeptFrom (text : List ℕ) (place : Place) (at : ℕ) (bytes : List ℕ) : Type 0 where
+record KeptFrom (text : List ℕ) (place : Section) (at : ℕ) (bytes : List ℕ) : Type 0 where
   t : Scanned
   rest : Span
   next : IsNextToken text at t
@@ -90,7 +90,7 @@ record KeptFrom (text : List ℕ) (place : Place) (at : ℕ) (bytes : List ℕ) 
   kept : IsKeptLine text t.span.end rest
   bytes_are : bytes ≡ between text t.span.start rest.end
 
-kept_from : {text : List ℕ} {place : Place} {at end : ℕ} {t : Placed} → IsTokenAt text place at t end → is_kept t.1 ≡ true → KeptFrom text place at (kept_bytes t.1)
+kept_from : {text : List ℕ} {place : Section} {at end : ℕ} {t : Placed} → IsTokenAt text place at t end → is_kept t.1 ≡ true → KeptFrom text place at (kept_bytes t.1)
 kept_from {text} {place} {at} (itself t next extent) e = absurd (false≢true (sym (none_kept t.kind (between text t.span.start t.span.end)) ∙ e))
 kept_from {text} {place} {at} (kept_line t rest next extent kept) e = record { t = t; rest = rest; next = next; extent = extent; kept = kept; bytes_are = refl }
 kept_from {text} {place} {at} (kept_group t rest next extent kept) e = absurd (false≢true e)
@@ -182,7 +182,7 @@ alone bytes h =
 
 -- ---- a kept line within a text
 
-line_extent : (place : Place) (line : ℕ) (bytes : List ℕ) → takes_line place line ≡ true → begins_kept bytes ≡ true → extent_of place line bytes ≡ extents.Line
+line_extent : (place : Section) (line : ℕ) (bytes : List ℕ) → takes_line place line ≡ true → begins_kept bytes ≡ true → extent_of place line bytes ≡ extents.Line
 unfolding extent_of
 line_extent (AtEntry before) line bytes takes begins = rw (begins, takes) refl
 line_extent (InHeader word) line bytes takes begins = absurd (false≢true takes)
@@ -205,7 +205,7 @@ not_going_on : (rest : List ℕ) → is_at_line_end rest ≡ true → begins_wit
 not_going_on [] ends = refl
 not_going_on (b ∷ rest) ends = ap goes_on (eqb-true b 10 ends) ∙ feed_goes_not_on
 
-pub line_stands : (text before gap rest bytes : List ℕ) (place : Place) (line : ℕ) → IsKeptAlone bytes → text ≡ before ++ (gap ++ (bytes ++ rest)) → IsGap gap
+pub line_stands : (text before gap rest bytes : List ℕ) (place : Section) (line : ℕ) → IsKeptAlone bytes → text ≡ before ++ (gap ++ (bytes ++ rest)) → IsGap gap
     → takes_line place (line + feeds gap) ≡ true → is_at_line_end rest ≡ true → line ≡ feeds before + 1
     → IsTokenAt text place (length before) (line + feeds gap, Kept bytes) (length before + length gap + length bytes)
 line_stands text before gap rest bytes place line k e h takes ends l =

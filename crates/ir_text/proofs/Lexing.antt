@@ -9,8 +9,8 @@ use Rattle.scan.specs.Bytes.{is_space}
 use Rattle.scan.specs.Gaps.{IsLastGap}
 use Rattle.scan.specs.Lines.{feeds, last_line}
 use Rattle.scan.proofs.PlaceLemmas.{feeds_append}
-use Rattle.ir_tokens.specs.declared.place.Place.{Place}
-use Rattle.ir_tokens.specs.declared.place.Place.TheVariants.{AtEntry, InHeader, InBody}
+use Rattle.ir_tokens.specs.declared.place.Section.{Section}
+use Rattle.ir_tokens.specs.declared.place.Section.TheVariants.{AtEntry, InHeader, InBody}
 use Rattle.ir_tokens.specs.declared.place.Extent.TheVariants as extents
 use Rattle.ir_tokens.specs.Order.{IsTokenAt, TokensFrom, itself, last, token}
 use Rattle.ir_tokens.specs.Places.{begins_kept, extent_of, place_behind}
@@ -27,7 +27,7 @@ not_true true e = absurd (false≢true e)
 not_true false e = refl
 
 -- a lexeme stands in a text
-lexeme_stands : (text before gap rest : List ℕ) (place : Place) (line : ℕ) (t : Token) → text ≡ before ++ (gap ++ (bytes_of t ++ rest)) → list_all is_space gap ≡ true → HasForm t
+lexeme_stands : (text before gap rest : List ℕ) (place : Section) (line : ℕ) (t : Token) → text ≡ before ++ (gap ++ (bytes_of t ++ rest)) → list_all is_space gap ≡ true → HasForm t
     → MayStand place (line + feeds gap) t rest → line ≡ feeds before + 1 → IsTokenAt text place (length before) (line + feeds gap, t) (length before + length gap + length (bytes_of t))
 lexeme_stands text before gap rest place line (Kept bytes) e h form may l = line_stands text before gap rest bytes place line (alone bytes form) e (gap_is gap h) may.0 may.1 l
 lexeme_stands text before gap rest place line (KeptGroup bytes) e h form may l = group_stands text before gap rest bytes form.0 place line form.1 form.2 e (gap_is gap h) may l
@@ -61,13 +61,13 @@ not_last End form = absurd form
 not_last Other form = absurd form
 not_last Bad form = absurd form
 
-pub none_extends : (place : Place) (line : ℕ) → extent_of place line [] ≡ extents.Itself
+pub none_extends : (place : Section) (line : ℕ) → extent_of place line [] ≡ extents.Itself
 unfolding extent_of begins_kept
 none_extends (AtEntry before) line = refl
 none_extends (InHeader word) line = refl
 none_extends (InBody word) line = refl
 
-tokens_from : (lexemes : List Lexeme) (text before gap : List ℕ) (place : Place) (line : ℕ) → text ≡ before ++ (spelled lexemes ++ gap) → AreLexemes place line lexemes gap → IsLastGap gap
+tokens_from : (lexemes : List Lexeme) (text before gap : List ℕ) (place : Section) (line : ℕ) → text ≡ before ++ (spelled lexemes ++ gap) → AreLexemes place line lexemes gap → IsLastGap gap
     → line ≡ feeds before + 1 → TokensFrom text place (length before) (placed_from line lexemes ++ (last_line text, End) ∷ [])
 tokens_from [] text before gap place line e all h l =
     last (itself _ (end_is_next text before gap e h) (ap (λ (t : List ℕ). extent_of place (last_line text) (take (length text + 0 - length text) t)) (drop-length text) ∙ ap (extent_of place (last_line text)) (take_all (length text + 0 - length text) [] (omega arith)) ∙ none_extends place (last_line text))) refl

@@ -5,7 +5,7 @@ use Rattle.std.specs.List.{list_all, AllZip}
 use Rattle.std.proofs.lemmas.List.{append-nil}
 use Rattle.scan.specs.Bytes.{is_blank, is_space}
 use Rattle.scan.specs.Lines.{last_line}
-use Rattle.ir_tokens.specs.declared.place.Place.TheVariants.{AtEntry}
+use Rattle.ir_tokens.specs.declared.place.Section.TheVariants.{AtEntry}
 use Rattle.ir_tokens.specs.Order.{TokensFrom, AreTokens}
 use Rattle.ir_tokens.specs.Tokens.{Placed, End}
 use Rattle.ir_core.specs.declared.module.Module.{Module}

@@ -4,7 +4,7 @@ use Rattle.std.specs.Str.{bytes_eq}
 use Rattle.std.proofs.lemmas.Slice.Eq.{bytes_eq-Decides}
 use Rattle.scan.specs.Bytes.{begins_name, is_digit, is_letter, is_name_byte}
 use Rattle.scan.proofs.Fronts.{which}
-use Rattle.ir_tokens.specs.declared.place.Place.TheVariants.{AtEntry, InHeader, InBody}
+use Rattle.ir_tokens.specs.declared.place.Section.TheVariants.{AtEntry, InHeader, InBody}
 use Rattle.ir_tokens.specs.declared.place.Extent.TheVariants as extents
 use Rattle.ir_tokens.specs.Places.{begins_kept, extent_of}
 use Rattle.ir_text.specs.Lexemes.{goes_on, takes_group, takes_line}

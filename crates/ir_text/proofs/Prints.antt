@@ -5,8 +5,8 @@ use Rattle.std.specs.List.{list_all, flat_map, AllZip}
 use Rattle.std.proofs.Math.Nat.{add_assoc}
 use Rattle.scan.specs.Bytes.{begins_with, is_space}
 use Rattle.scan.specs.Lines.{feeds}
-use Rattle.ir_tokens.specs.declared.place.Place.{Place}
-use Rattle.ir_tokens.specs.declared.place.Place.TheVariants.{AtEntry, InHeader, InBody}
+use Rattle.ir_tokens.specs.declared.place.Section.{Section}
+use Rattle.ir_tokens.specs.declared.place.Section.TheVariants.{AtEntry, InHeader, InBody}
 use Rattle.ir_tokens.specs.Places.{place_behind}
 use Rattle.ir_tokens.specs.Tokens.{Placed, Token}
 use Rattle.ir_instructions.specs.Parts.{Part, Is, Nothing, ◌⨾◌, Each}
@@ -25,7 +25,7 @@ pub data Mode : Type 0 where
   Body : Mode
   Callee : Mode
 
-abbrev pub Stands : Mode → Place → ℕ → Type 0
+abbrev pub Stands : Mode → Section → ℕ → Type 0
 Stands Fresh place line = (n : ℕ) → takes_line place (line + n) ≡ true
 Stands Used place line = place ≡ AtEntry (Some line)
 Stands Header place line = (word : Option ℕ) × (place ≡ InHeader word)
@@ -38,7 +38,7 @@ abbrev pub TakesGap : Mode → Type 0
 TakesGap Used = ⊥
 TakesGap mode = Unit {0}
 
-stands_later : (mode : Mode) (place : Place) (line n : ℕ) → TakesGap mode → Stands mode place line → Stands mode place (line + n)
+stands_later : (mode : Mode) (place : Section) (line n : ℕ) → TakesGap mode → Stands mode place line → Stands mode place (line + n)
 stands_later Fresh place line n takes stands = λ k. rw (add_assoc line n k) (stands (n + k))
 stands_later Used place line n takes stands = absurd takes
 stands_later Header place line n takes stands = stands
@@ -77,15 +77,15 @@ opens_each text each (x ∷ xs) = opens_first (text x) (flat_map text xs) (each 
 -- ---- texts that are read as parts
 
 -- from this place on, the text is read as the part, and what follows it goes on at a place
-pub record Leads (to : Mode) (lone : Bool) (P : Part) (text : List ℕ) (place : Place) (line : ℕ) : Type 0 where
-  pub next_place : Place
+pub record Leads (to : Mode) (lone : Bool) (P : Part) (text : List ℕ) (place : Section) (line : ℕ) : Type 0 where
+  pub next_place : Section
   pub next_line : ℕ
   pub stands : Stands to next_place next_line
   pub streams : (last : ℕ) (rest : List ℕ) (tokens : List Placed) → Follows lone rest → Streams last next_place next_line rest tokens
       → (all : List Placed) × Streams last place line (text ++ rest) all × P all tokens
 
 pub record Prints (from to : Mode) (lone : Bool) (P : Part) (text : List ℕ) : Type 0 where
-  pub leads : (place : Place) (line : ℕ) → Stands from place line → Leads to lone P text place line
+  pub leads : (place : Section) (line : ℕ) → Stands from place line → Leads to lone P text place line
 
 -- an equal text, and a part that follows from the part
 pub prints_as : {from to : Mode} {lone : Bool} {P : Part} {text other : List ℕ} → other ≡ text → Prints from to lone P text → Prints from to lone P other
@@ -172,8 +172,8 @@ before_space {from} {to} {lone} {P} {text} g all ends takes p = record {
 
 -- a token
 pub prints_token : (from to : Mode) (lone : Bool) (token : Token) → HasForm token
-    → ((place : Place) (line : ℕ) → Stands from place line → Stands to (place_behind place (line, token)) line)
-    → ((place : Place) (line : ℕ) (rest : List ℕ) → Stands from place line → Follows lone rest → MayStand place line token rest)
+    → ((place : Section) (line : ℕ) → Stands from place line → Stands to (place_behind place (line, token)) line)
+    → ((place : Section) (line : ℕ) (rest : List ℕ) → Stands from place line → Follows lone rest → MayStand place line token rest)
     → Prints from to lone (Is token) (bytes_of token)
 prints_token from to lone token form goes may = record {
   leads = λ place line stands. record {

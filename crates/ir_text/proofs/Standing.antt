@@ -19,8 +19,8 @@ use Rattle.scan.proofs.LawLemmas.{among_begins}
 use Rattle.scan.proofs.ModulePlaces.{next_token, no_end}
 use Rattle.scan.proofs.ModuleTokens.{begins_token, short_holds_none}
 use Rattle.scan.proofs.PlaceLemmas.{Behind, feeds_append}
-use Rattle.ir_tokens.specs.declared.place.Place.{Place}
-use Rattle.ir_tokens.specs.declared.place.Place.TheVariants.{AtEntry, InHeader, InBody}
+use Rattle.ir_tokens.specs.declared.place.Section.{Section}
+use Rattle.ir_tokens.specs.declared.place.Section.TheVariants.{AtEntry, InHeader, InBody}
 use Rattle.ir_tokens.specs.declared.place.Extent.TheVariants as extents
 use Rattle.ir_tokens.specs.Order.{IsTokenAt, itself, kept_group}
 use Rattle.ir_tokens.specs.Places.{extent_of}
@@ -103,7 +103,7 @@ end_is_next text before gap e h =
 
 -- ---- tokens by themselves
 
-pub itself_stands : (text before gap rest : List ℕ) (place : Place) (line : ℕ) (token : Token) (kind : TokenKind) → IsSpelled token kind → text ≡ before ++ (gap ++ (bytes_of token ++ rest)) → IsGap gap
+pub itself_stands : (text before gap rest : List ℕ) (place : Section) (line : ℕ) (token : Token) (kind : TokenKind) → IsSpelled token kind → text ≡ before ++ (gap ++ (bytes_of token ++ rest)) → IsGap gap
     → IsLongestToken (bytes_of token ++ rest) kind (length (bytes_of token)) → extent_of place (line + feeds gap) (bytes_of token) ≡ extents.Itself → line ≡ feeds before + 1
     → IsTokenAt text place (length before) (line + feeds gap, token) (length before + length gap + length (bytes_of token))
 itself_stands text before gap rest place line token kind s e h longest extent l =
@@ -117,7 +117,7 @@ itself_stands text before gap rest place line token kind s e h longest extent l 
     (itself _ next (ap (extent_of place (line + feeds gap)) is ∙ extent))
 
 -- a token that ends before the rest
-pub ended_stands : (text before gap rest : List ℕ) (place : Place) (line : ℕ) (token : Token) (kind : TokenKind) → IsSpelled token kind → text ≡ before ++ (gap ++ (bytes_of token ++ rest)) → IsGap gap
+pub ended_stands : (text before gap rest : List ℕ) (place : Section) (line : ℕ) (token : Token) (kind : TokenKind) → IsSpelled token kind → text ≡ before ++ (gap ++ (bytes_of token ++ rest)) → IsGap gap
     → begins_with goes_on rest ≡ false → extent_of place (line + feeds gap) (bytes_of token) ≡ extents.Itself → line ≡ feeds before + 1
     → IsTokenAt text place (length before) (line + feeds gap, token) (length before + length gap + length (bytes_of token))
 ended_stands text before gap rest place line token kind s e h ends extent l =
@@ -129,7 +129,7 @@ ended_stands text before gap rest place line token kind s e h ends extent l =
 mark_is : (b : ℕ) → is_among marks (b ∷ []) ≡ true → (is_lone b ≡ true) ⊎ (eqb b 35 ≡ true)
 mark_is b e = or_true (is_lone b) (eqb b 35) (among_begins (λ c. is_lone c || eqb c 35) marks (b ∷ []) refl e)
 
-pub mark_stands : (text before gap rest : List ℕ) (place : Place) (line byte : ℕ) → is_among marks (byte ∷ []) ≡ true → text ≡ before ++ (gap ++ (byte ∷ rest)) → IsGap gap
+pub mark_stands : (text before gap rest : List ℕ) (place : Section) (line byte : ℕ) → is_among marks (byte ∷ []) ≡ true → text ≡ before ++ (gap ++ (byte ∷ rest)) → IsGap gap
     → (not (eqb byte 35) || not (begins_with goes_on rest)) ≡ true → extent_of place (line + feeds gap) (byte ∷ []) ≡ extents.Itself → line ≡ feeds before + 1
     → IsTokenAt text place (length before) (line + feeds gap, Mark byte) (length before + length gap + 1)
 mark_stands text before gap rest place line byte mark e h ends extent l = ⊎_elim
@@ -145,13 +145,13 @@ mark_stands text before gap rest place line byte mark e h ends extent l = ⊎_el
 
 -- ---- kept groups
 
-takes_is : (place : Place) (line : ℕ) → takes_group place line ≡ true → extent_of place line (40 ∷ []) ≡ extents.Group
+takes_is : (place : Section) (line : ℕ) → takes_group place line ≡ true → extent_of place line (40 ∷ []) ≡ extents.Group
 unfolding extent_of
 takes_is (AtEntry before) line e = absurd (false≢true e)
 takes_is (InHeader word) line e = rw e refl
 takes_is (InBody word) line e = rw e refl
 
-pub group_stands : (text before gap rest bytes content : List ℕ) (place : Place) (line : ℕ) → IsBalanced content → bytes ≡ 40 ∷ (content ++ 41 ∷ []) → text ≡ before ++ (gap ++ (bytes ++ rest)) → IsGap gap
+pub group_stands : (text before gap rest bytes content : List ℕ) (place : Section) (line : ℕ) → IsBalanced content → bytes ≡ 40 ∷ (content ++ 41 ∷ []) → text ≡ before ++ (gap ++ (bytes ++ rest)) → IsGap gap
     → takes_group place (line + feeds gap) ≡ true → line ≡ feeds before + 1
     → IsTokenAt text place (length before) (line + feeds gap, KeptGroup bytes) (length before + length gap + length bytes)
 group_stands text before gap rest bytes content place line balanced is e h takes l =

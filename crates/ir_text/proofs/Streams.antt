@@ -6,14 +6,14 @@ use Rattle.std.proofs.lemmas.List.Folds.{list_all-append}
 use Rattle.std.proofs.lemmas.List.Sums.{sum_by-append}
 use Rattle.scan.specs.Bytes.{is_space}
 use Rattle.scan.specs.Lines.{feeds}
-use Rattle.ir_tokens.specs.declared.place.Place.{Place}
+use Rattle.ir_tokens.specs.declared.place.Section.{Section}
 use Rattle.ir_tokens.specs.Places.{place_behind}
 use Rattle.ir_tokens.specs.Tokens.{Placed, Token, End}
 use Rattle.ir_text.specs.Lexemes.{Lexeme, bytes_of, spelled, placed_from, HasForm, MayStand, AreLexemes}
 
 -- From a place on, where the text goes on on this line, it is read as these tokens. The last is the end, on the line
 -- `last`.
-pub record Streams (last : ℕ) (place : Place) (line : ℕ) (text : List ℕ) (tokens : List Placed) : Type 0 where
+pub record Streams (last : ℕ) (place : Section) (line : ℕ) (text : List ℕ) (tokens : List Placed) : Type 0 where
   pub lexemes : List Lexeme
   pub gap : List ℕ
   pub are : AreLexemes place line lexemes gap
@@ -22,11 +22,11 @@ pub record Streams (last : ℕ) (place : Place) (line : ℕ) (text : List ℕ) (
   pub tokens_are : tokens ≡ placed_from line lexemes ++ (last, End) ∷ []
 
 -- the same of an equal text
-pub streams_as : {last : ℕ} {place : Place} {line : ℕ} {text other : List ℕ} {tokens : List Placed} → other ≡ text → Streams last place line text tokens → Streams last place line other tokens
+pub streams_as : {last : ℕ} {place : Section} {line : ℕ} {text other : List ℕ} {tokens : List Placed} → other ≡ text → Streams last place line text tokens → Streams last place line other tokens
 streams_as same s = record { lexemes = s.lexemes; gap = s.gap; are = s.are; spaces = s.spaces; text_is = same ∙ s.text_is; tokens_are = s.tokens_are }
 
 -- nothing more
-pub streams_end : (last : ℕ) (place : Place) (line : ℕ) → Streams last place line [] ((last, End) ∷ [])
+pub streams_end : (last : ℕ) (place : Section) (line : ℕ) → Streams last place line [] ((last, End) ∷ [])
 streams_end last place line = record { lexemes = []; gap = []; are = tt; spaces = refl; text_is = refl; tokens_are = refl }
 
 -- spaces before spaces
@@ -37,7 +37,7 @@ all_spaces xs ys all others = rw (list_all-append is_space xs ys, all) others
 line_behind_gap : (line : ℕ) (xs ys : List ℕ) → (line + feeds xs) + feeds ys ≡ line + feeds (xs ++ ys)
 line_behind_gap line xs ys = add_assoc line (feeds xs) (feeds ys) ∙ ap (λ (n : ℕ). line + n) (sym (sum_by-append _ xs ys))
 
-behind_gap_of : (last : ℕ) (place : Place) (line : ℕ) (g : List ℕ) (lexemes : List Lexeme) (gap : List ℕ) → list_all is_space g ≡ true → AreLexemes place (line + feeds g) lexemes gap → list_all is_space gap ≡ true
+behind_gap_of : (last : ℕ) (place : Section) (line : ℕ) (g : List ℕ) (lexemes : List Lexeme) (gap : List ℕ) → list_all is_space g ≡ true → AreLexemes place (line + feeds g) lexemes gap → list_all is_space gap ≡ true
     → Streams last place line (g ++ (spelled lexemes ++ gap)) (placed_from (line + feeds g) lexemes ++ (last, End) ∷ [])
 behind_gap_of last place line g [] gap all are spaces = record { lexemes = []; gap = g ++ gap; are = tt; spaces = all_spaces g gap all spaces; text_is = refl; tokens_are = refl }
 behind_gap_of last place line g (l ∷ lexemes) gap all are spaces =
@@ -57,14 +57,14 @@ behind_gap_of last place line g (l ∷ lexemes) gap all are spaces =
     }
 
 -- a gap before a text
-pub behind_gap : {last : ℕ} {place : Place} {line : ℕ} {text : List ℕ} {tokens : List Placed} (g : List ℕ) → list_all is_space g ≡ true → Streams last place (line + feeds g) text tokens → Streams last place line (g ++ text) tokens
+pub behind_gap : {last : ℕ} {place : Section} {line : ℕ} {text : List ℕ} {tokens : List Placed} (g : List ℕ) → list_all is_space g ≡ true → Streams last place (line + feeds g) text tokens → Streams last place line (g ++ text) tokens
 behind_gap {last} {place} {line} {text} {tokens} g all s =
     let of_lexemes = behind_gap_of last place line g s.lexemes s.gap all s.are s.spaces in
     let here : Streams last place line (g ++ (spelled s.lexemes ++ s.gap)) tokens = subst (λ (ts : List Placed). Streams last place line (g ++ (spelled s.lexemes ++ s.gap)) ts) (sym s.tokens_are) of_lexemes in
     streams_as (ap (λ (t : List ℕ). g ++ t) s.text_is) here
 
 -- a token before a text
-pub with_token : {last : ℕ} {place : Place} {line : ℕ} {text : List ℕ} {tokens : List Placed} (token : Token) → HasForm token → MayStand place line token text → Streams last (place_behind place (line, token)) line text tokens
+pub with_token : {last : ℕ} {place : Section} {line : ℕ} {text : List ℕ} {tokens : List Placed} (token : Token) → HasForm token → MayStand place line token text → Streams last (place_behind place (line, token)) line text tokens
     → Streams last place line (bytes_of token ++ text) ((line, token) ∷ tokens)
 with_token {last} {place} {line} {text} {tokens} token form stands s =
     let same : line ≡ line + 0 = sym (add-zero line) in

@@ -5,8 +5,8 @@ use Rattle.scan.specs.Bytes.{begins_name, begins_word, is_blank, is_digit, is_le
 use Rattle.scan.specs.IrTokens.{is_word, is_group}
 use Rattle.scan.specs.Quoted.{is_quoted}
 use Rattle.scan.specs.Lines.{feeds}
-use Rattle.ir_tokens.specs.declared.place.Place.{Place}
-use Rattle.ir_tokens.specs.declared.place.Place.TheVariants.{AtEntry, InHeader, InBody}
+use Rattle.ir_tokens.specs.declared.place.Section.{Section}
+use Rattle.ir_tokens.specs.declared.place.Section.TheVariants.{AtEntry, InHeader, InBody}
 use Rattle.ir_tokens.specs.Numbers.{is_number}
 use Rattle.ir_tokens.specs.Order.{AreTokens}
 use Rattle.ir_tokens.specs.Places.{place_behind}
@@ -98,7 +98,7 @@ word_and_group word group form (content, balanced, is_group) = record {
         let here : Streams last (InHeader (Some line)) line (group ++ rest) ((line, KeptGroup group) ∷ tokens) = with_token (KeptGroup group) (content, balanced, is_group) (same_line line line refl) k in
         let behind : place_behind place (line, Word word) ≡ InHeader (Some line) = rw is refl in
         let stops : Stop (group ++ rest) = rw is_group refl in
-        let all = with_token {place = place} (Word word) form (rw is (itself_in_header before line word (word_no_bracket word form)), rw stops refl) (subst (λ (p : Place). Streams last p line (group ++ rest) ((line, KeptGroup group) ∷ tokens)) (sym behind) here) in
+        let all = with_token {place = place} (Word word) form (rw is (itself_in_header before line word (word_no_bracket word form)), rw stops refl) (subst (λ (p : Section). Streams last p line (group ++ rest) ((line, KeptGroup group) ∷ tokens)) (sym behind) here) in
         ((line, Word word) ∷ (line, KeptGroup group) ∷ tokens, streams_as (append_assoc word group rest) all, ((line, KeptGroup group) ∷ tokens, (line, refl), (line, refl)));
   };
 }
@@ -163,7 +163,7 @@ body_ends = prints_token Body Used true (Mark 125) refl (λ place line (before, 
 
 -- ---- tokens between entries
 
-fresh_place : (P : Place → Type 0) (place : Place) (line : ℕ) → Stands Fresh place line → ((before : Option ℕ) → P (AtEntry before)) → P place
+fresh_place : (P : Section → Type 0) (place : Section) (line : ℕ) → Stands Fresh place line → ((before : Option ℕ) → P (AtEntry before)) → P place
 fresh_place P (AtEntry before) line stands at = at before
 fresh_place P (InHeader word) line stands at = absurd (let no : false ≡ true = stands 0 in cc)
 fresh_place P (InBody word) line stands at = absurd (let no : false ≡ true = stands 0 in cc)
@@ -171,8 +171,8 @@ fresh_place P (InBody word) line stands at = absurd (let no : false ≡ true = s
 pub define_begins : Prints Fresh Header false (Is (Word (codes "define"))) (codes "define")
 unfolding is_word begins_word begins_name is_letter is_name_byte
 define_begins = prints_token Fresh Header false (Word (codes "define")) refl
-    (λ place line stands. fresh_place (λ (p : Place). Stands Header (place_behind p (line, Word (codes "define"))) line) place line stands (λ before. (Some line, refl)))
-    (λ place line rest stands stop. fresh_place (λ (p : Place). MayStand p line (Word (codes "define")) rest) place line stands (λ before. (itself_at_entry before line (codes "define") define_begins_none, rw stop refl)))
+    (λ place line stands. fresh_place (λ (p : Section). Stands Header (place_behind p (line, Word (codes "define"))) line) place line stands (λ before. (Some line, refl)))
+    (λ place line rest stands stop. fresh_place (λ (p : Section). MayStand p line (Word (codes "define")) rest) place line stands (λ before. (itself_at_entry before line (codes "define") define_begins_none, rw stop refl)))
 
 -- the line feed behind the last token of an entry
 later : (line n : ℕ) (g : List ℕ) → feeds g ≡ suc n → Stands Fresh (AtEntry (Some line)) (line + feeds g)
@@ -201,7 +201,7 @@ kept_prints text form = record {
       record {
         next_place = place_behind place (line, Kept text);
         next_line = line + 1;
-        stands = fresh_place (λ (p : Place). Stands Fresh (place_behind p (line, Kept text)) (line + 1)) place line stands (λ before. later line 0 (codes "\n") refl);
+        stands = fresh_place (λ (p : Section). Stands Fresh (place_behind p (line, Kept text)) (line + 1)) place line stands (λ before. later line 0 (codes "\n") refl);
         streams = λ last rest tokens stop k.
             let all = with_token {place = place} (Kept text) form (at_line, refl) (behind_gap (codes "\n") refl k) in
             ((line, Kept text) ∷ tokens, streams_as (append_assoc text (codes "\n") rest) all, (line, refl));

@@ -17,7 +17,7 @@ use Rattle.ir_core.specs.Blocks.{IsBlock}
 use Rattle.ir_core.specs.Checks.{IsInst}
 use Rattle.ir_core.specs.Names.{names_of}
 use Rattle.ir_core.specs.Reads.{Read, IsRead}
-use Rattle.ir_tokens.specs.declared.place.Place.TheVariants.{InHeader}
+use Rattle.ir_tokens.specs.declared.place.Section.TheVariants.{InHeader}
 use Rattle.ir_tokens.specs.Order.{AreTokens, TokensFrom}
 use Rattle.ir_tokens.specs.Tokens.{Placed, End, Kept}
 use Rattle.ir_instructions.specs.Parts.{Is, ◌⨾◌}

@@ -2,7 +2,7 @@
 use Rattle.std.specs.Prelude.{◌≡◌, ℕ, ◌<◌, ◌^◌, List, [], ◌∷◌, ◌++◌, length, Some, slice_get}
 use Rattle.scan.specs.Gaps.{IsLastGap}
 use Rattle.scan.specs.Lines.{last_line}
-use Rattle.ir_tokens.specs.declared.place.Place.{Place}
+use Rattle.ir_tokens.specs.declared.place.Section.{Section}
 use Rattle.ir_tokens.specs.Order.{TokensFrom}
 use Rattle.ir_tokens.specs.Tokens.{End}
 use Rattle.ir_text.specs.Lexemes.{Lexeme, AreLexemes, placed_from, spelled}
@@ -20,7 +20,7 @@ use Rattle.ir_text.specs.CanonicalModule.{WritesModule}
 -- lexemes that are read as their tokens, and a gap behind them, are a text of these tokens
 abbrev pub LexemesAreTokens : Type 0
 LexemesAreTokens =
-    (place : Place) (lexemes : List Lexeme) (gap : List ℕ) → AreLexemes place 1 lexemes gap → IsLastGap gap
+    (place : Section) (lexemes : List Lexeme) (gap : List ℕ) → AreLexemes place 1 lexemes gap → IsLastGap gap
     → TokensFrom (spelled lexemes ++ gap) place 0 (placed_from 1 lexemes ++ (last_line (spelled lexemes ++ gap), End) ∷ [])
 
 -- each function of the module has fewer than 2 ^ 64 parameters, blocks and results

@@ -8,8 +8,8 @@ use Rattle.scan.specs.Kept.{IsBalanced}
 use Rattle.scan.specs.Lines.{feeds}
 use Rattle.scan.specs.Quoted.{is_quoted}
 use Rattle.scan.specs.RuleTokens.{is_among}
-use Rattle.ir_tokens.specs.declared.place.Place.{Place}
-use Rattle.ir_tokens.specs.declared.place.Place.TheVariants.{AtEntry, InHeader, InBody}
+use Rattle.ir_tokens.specs.declared.place.Section.{Section}
+use Rattle.ir_tokens.specs.declared.place.Section.TheVariants.{AtEntry, InHeader, InBody}
 use Rattle.ir_tokens.specs.declared.place.Extent.TheVariants as extents
 use Rattle.ir_tokens.specs.Numbers.{is_number}
 use Rattle.ir_tokens.specs.Order.{AreTokens}
@@ -100,25 +100,25 @@ is_at_line_end [] = true
 is_at_line_end (b ∷ rest) = b == 10
 
 -- a kept line may stand in the place on this line: between entries, where no token before is on the line
-abbrev pub takes_line : Place → ℕ → Bool
+abbrev pub takes_line : Section → ℕ → Bool
 takes_line (AtEntry before) line = not (is_on line before)
 takes_line (InHeader word) line = false
 takes_line (InBody word) line = false
 
 -- a kept group may: in a function, behind a word on the line
-abbrev pub takes_group : Place → ℕ → Bool
+abbrev pub takes_group : Section → ℕ → Bool
 takes_group (AtEntry before) line = false
 takes_group (InHeader word) line = is_on line word
 takes_group (InBody word) line = is_on line word
 
 -- the token may stand in the place on this line and before the rest
-abbrev pub MayStand : Place → ℕ → Token → List ℕ → Type 0
+abbrev pub MayStand : Section → ℕ → Token → List ℕ → Type 0
 MayStand place line (Kept text) rest = (takes_line place line ≡ true) × (is_at_line_end rest ≡ true)
 MayStand place line (KeptGroup text) rest = takes_group place line ≡ true
 MayStand place line token rest = (extent_of place line (bytes_of token) ≡ extents.Itself) × (is_ended token rest ≡ true)
 
 -- The lexemes are read as their tokens, from a place on, where the text goes on on this line, and before the rest.
-abbrev pub AreLexemes : Place → ℕ → List Lexeme → List ℕ → Type 0
+abbrev pub AreLexemes : Section → ℕ → List Lexeme → List ℕ → Type 0
 AreLexemes place line [] rest = Unit {0}
 AreLexemes place line (l ∷ lexemes) rest =
     (list_all is_space l.gap ≡ true)

@@ -12,8 +12,8 @@ use Rattle.scan.specs.IrTokens.{Begins, BeginsNoToken, IsLongestToken}
 use Rattle.scan.specs.Kept.{IsGroup, rest_to_feed}
 use Rattle.scan.specs.Lines.{between}
 use Rattle.scan.proofs.ModulePlaces.{longest_some, seen}
-use Rattle.ir_tokens.specs.declared.place.Place.{Place}
-use Rattle.ir_tokens.specs.declared.place.Place.TheVariants.{AtEntry, InHeader, InBody}
+use Rattle.ir_tokens.specs.declared.place.Section.{Section}
+use Rattle.ir_tokens.specs.declared.place.Section.TheVariants.{AtEntry, InHeader, InBody}
 use Rattle.ir_tokens.specs.declared.place.Extent.{Extent}
 use Rattle.ir_tokens.specs.declared.place.Extent.TheVariants as extents
 use Rattle.ir_tokens.specs.Order.{HasExtent, IsTokenAt, itself, kept_line, kept_group, unclosed, bad_byte}
@@ -36,14 +36,14 @@ begins_some text bytes kind n more h = ⊎_elim
 between_some : (text : List ℕ) (start end : ℕ) → 0 < length (between text start end) → start < end
 between_some text start end some = omega (arith, length-take (end - start) (drop start text))
 
-goes_on : (place : Place) (number : ℕ) (bytes : List ℕ) (extent : Extent) → extent_of place number bytes ≡ extent → extent ≢ extents.Itself → 0 < length bytes
+goes_on : (place : Section) (number : ℕ) (bytes : List ℕ) (extent : Extent) → extent_of place number bytes ≡ extent → extent ≢ extents.Itself → 0 < length bytes
 unfolding extent_of begins_kept
 goes_on (AtEntry before) number [] extent e other = absurd (other (sym e))
 goes_on (InHeader word) number [] extent e other = absurd (other (sym e))
 goes_on (InBody word) number [] extent e other = absurd (other (sym e))
 goes_on place number (b ∷ bytes) extent e other = omega arith
 
-extent_moves : (text : List ℕ) (place : Place) (t : Scanned) (extent : Extent) → HasExtent text place t extent → extent ≢ extents.Itself → t.span.start < t.span.end
+extent_moves : (text : List ℕ) (place : Section) (t : Scanned) (extent : Extent) → HasExtent text place t extent → extent ≢ extents.Itself → t.span.start < t.span.end
 extent_moves text place t extent h other = between_some text t.span.start t.span.end (goes_on place t.line (between text t.span.start t.span.end) extent h other)
 
 line_within : (text : List ℕ) (at : ℕ) → at ≤ length text → at + length (rest_to_feed text at) ≤ length text
@@ -55,14 +55,14 @@ group_moves text at rest h = between_some text at rest.end (omega (arith, ap len
 
 -- ---- a token
 
-pub token_within : {text : List ℕ} {place : Place} {at end : ℕ} {t : Placed} → at ≤ length text → IsTokenAt text place at t end → end ≤ length text
+pub token_within : {text : List ℕ} {place : Section} {at end : ℕ} {t : Placed} → at ≤ length text → IsTokenAt text place at t end → end ≤ length text
 token_within le (itself t next extent) = next.order.2
 token_within {text} le (kept_line t rest next extent kept) = line_within text t.span.end next.order.2
 token_within le (kept_group t rest next extent kept) = kept.within
 token_within le (unclosed t next extent none) = next.order.2
 token_within le (bad_byte line is) = le
 
-pub token_moves : {text : List ℕ} {place : Place} {at end : ℕ} {t : Placed} → IsTokenAt text place at t end → is_last t.1 ≡ false → at < end
+pub token_moves : {text : List ℕ} {place : Section} {at end : ℕ} {t : Placed} → IsTokenAt text place at t end → is_last t.1 ≡ false → at < end
 token_moves {text} (itself t next extent) more = let some : 0 < t.span.end - t.span.start = begins_some _ _ t.kind _ more next.token in omega (arith, next.order.0)
 token_moves {text} {place} (kept_line t rest next extent kept) more = let some = extent_moves text place t extents.Line extent (λ e. cc) in omega (arith, next.order.0)
 token_moves {text} {place} (kept_group t rest next extent kept) more =

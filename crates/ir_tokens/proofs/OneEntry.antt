@@ -3,29 +3,29 @@ use Rattle.std.proofs.Common.{◌≡◌, ℕ, ◌<◌, ◌≤◌, Bool, false, L
 use Rattle.std.proofs.lemmas.Bool.{cases_lt}
 use Rattle.std.proofs.lemmas.List.{take_all, take-append-le, length-append}
 use Rattle.std.proofs.lemmas.List.Sums.{fold-append}
-use Rattle.ir_tokens.specs.declared.place.Place.{Place}
-use Rattle.ir_tokens.specs.declared.place.Place.TheVariants.{AtEntry, InHeader, InBody}
+use Rattle.ir_tokens.specs.declared.place.Section.{Section}
+use Rattle.ir_tokens.specs.declared.place.Section.TheVariants.{AtEntry, InHeader, InBody}
 use Rattle.ir_tokens.specs.Places.{place_behind}
 use Rattle.ir_tokens.specs.ReaderPlaces.{place_behind_all, MayBegin, IsOneEntry}
 use Rattle.ir_tokens.specs.Tokens.{Placed}
 
 -- no entry may begin behind any of these tokens, and `behind` is the context behind them all
-pub record Within (place : Place) (tokens : List Placed) (behind : Place) : Type 0 where
+pub record Within (place : Section) (tokens : List Placed) (behind : Section) : Type 0 where
   pub is_behind : behind ≡ place_behind_all place tokens
   pub within : (k : ℕ) → 0 < k → k ≤ length tokens → ¬ MayBegin (place_behind_all place (take k tokens))
 
-pub none_taken : (place : Place) → Within place [] place
+pub none_taken : (place : Section) → Within place [] place
 none_taken place = record { is_behind = refl; within = λ k some le. absurd (omega arith) }
 
-more_behind : (place behind : Place) (tokens : List Placed) (t : Placed) → behind ≡ place_behind_all place tokens → place_behind behind t ≡ place_behind_all place (tokens ++ t ∷ [])
+more_behind : (place behind : Section) (tokens : List Placed) (t : Placed) → behind ≡ place_behind_all place tokens → place_behind behind t ≡ place_behind_all place (tokens ++ t ∷ [])
 more_behind place behind tokens t is = ap (λ p. place_behind p t) is ∙ sym (fold-append place_behind place tokens (t ∷ []))
 
-before_last : (place : Place) (tokens : List Placed) (t : Placed) (behind : Place) → Within place tokens behind
+before_last : (place : Section) (tokens : List Placed) (t : Placed) (behind : Section) → Within place tokens behind
     → (k : ℕ) → 0 < k → k ≤ length tokens → ¬ MayBegin (place_behind_all place (take k (tokens ++ t ∷ [])))
 before_last place tokens t behind h k some le = subst (λ l. ¬ MayBegin (place_behind_all place l)) (sym (take-append-le k tokens (t ∷ []) le)) (h.within k some le)
 
 -- one more token, behind which an entry may begin or the text ends
-pub ends_with : (place behind : Place) (tokens new : List Placed) (t : Placed) (ends : Bool) → Within place tokens behind → new ≡ tokens ++ t ∷ [] → (ends ≡ false → MayBegin (place_behind behind t)) → IsOneEntry place new ends
+pub ends_with : (place behind : Section) (tokens new : List Placed) (t : Placed) (ends : Bool) → Within place tokens behind → new ≡ tokens ++ t ∷ [] → (ends ≡ false → MayBegin (place_behind behind t)) → IsOneEntry place new ends
 ends_with place behind tokens new t ends h is may = subst (λ l. IsOneEntry place l ends) (sym is) (
     record {
       some = omega (arith, length-append tokens (t ∷ []));
@@ -34,13 +34,13 @@ ends_with place behind tokens new t ends h is may = subst (λ l. IsOneEntry plac
     }
     )
 
-pub none_begins : (place : Place) → ((before : Option ℕ) → place ≡ AtEntry before → ⊥) → ¬ MayBegin place
+pub none_begins : (place : Section) → ((before : Option ℕ) → place ≡ AtEntry before → ⊥) → ¬ MayBegin place
 none_begins (AtEntry before) not_there may = not_there before refl
 none_begins (InHeader word) not_there may = may
 none_begins (InBody word) not_there may = may
 
 -- one more token, behind which no entry may begin
-pub goes_on_with : (place behind : Place) (tokens new : List Placed) (t : Placed) → Within place tokens behind → new ≡ tokens ++ t ∷ [] → ¬ MayBegin (place_behind behind t) → Within place new (place_behind behind t)
+pub goes_on_with : (place behind : Section) (tokens new : List Placed) (t : Placed) → Within place tokens behind → new ≡ tokens ++ t ∷ [] → ¬ MayBegin (place_behind behind t) → Within place new (place_behind behind t)
 goes_on_with place behind tokens new t h is none = subst (λ l. Within place l (place_behind behind t)) (sym is) (
     record {
       is_behind = more_behind place behind tokens t h.is_behind;

@@ -7,7 +7,7 @@ use Rattle.scan.specs.declared.span.Span.{Span}
 use Rattle.scan.specs.Kept.{IsKeptLine, IsGroup, HasNoGroup, rest_to_feed}
 use Rattle.scan.specs.Laws.{IsNextOfModule, OneModuleTokenAtAPlace, OneGroupAtAPlace}
 use Rattle.scan.specs.Lines.{between}
-use Rattle.ir_tokens.specs.declared.place.Place.{Place}
+use Rattle.ir_tokens.specs.declared.place.Section.{Section}
 use Rattle.ir_tokens.specs.declared.place.Extent.{Extent}
 use Rattle.ir_tokens.specs.declared.place.Extent.TheVariants as extents
 use Rattle.ir_tokens.specs.Order.{IsTokenAt, itself, kept_line, kept_group, unclosed, bad_byte, TokensFrom, last, token}
@@ -27,19 +27,19 @@ IsReadAs extents.Group text s t end =
     ⊎ (HasNoGroup text s.span.end × (t ≡ (s.line, Other)) × (end ≡ s.span.end))
 
 -- the token that the result of the scan is read as
-abbrev IsRead : List ℕ → Place → ℕ → Result Scanned BadByte → Placed → ℕ → Type 0
+abbrev IsRead : List ℕ → Section → ℕ → Result Scanned BadByte → Placed → ℕ → Type 0
 IsRead text place at (Ok s) t end = IsReadAs (extent_of place s.line (between text s.span.start s.span.end)) text s t end
 IsRead text place at (Err e) t end = (t ≡ (e.line, Bad)) × (end ≡ at)
 
-record Found (text : List ℕ) (place : Place) (at : ℕ) (t : Placed) (end : ℕ) : Type 0 where
+record Found (text : List ℕ) (place : Section) (at : ℕ) (t : Placed) (end : ℕ) : Type 0 where
   next : Result Scanned BadByte
   is_next : IsNextOfModule text at next
   read : IsRead text place at next t end
 
-abbrev read_so : (text : List ℕ) (place : Place) (at : ℕ) (s : Scanned) (t : Placed) (end : ℕ) (extent : Extent) → IsNextOfModule text at (Ok s) → extent_of place s.line (between text s.span.start s.span.end) ≡ extent → IsReadAs extent text s t end → Found text place at t end
+abbrev read_so : (text : List ℕ) (place : Section) (at : ℕ) (s : Scanned) (t : Placed) (end : ℕ) (extent : Extent) → IsNextOfModule text at (Ok s) → extent_of place s.line (between text s.span.start s.span.end) ≡ extent → IsReadAs extent text s t end → Found text place at t end
 read_so text place at s t end extent next e read = record { next = Ok s; is_next = next; read = subst (λ (x : Extent). IsReadAs x text s t end) (sym e) read }
 
-found : {text : List ℕ} {place : Place} {at end : ℕ} {t : Placed} → IsTokenAt text place at t end → Found text place at t end
+found : {text : List ℕ} {place : Section} {at end : ℕ} {t : Placed} → IsTokenAt text place at t end → Found text place at t end
 found {text} {place} {at} (itself s next extent) = read_so text place at s _ _ extents.Itself next extent (refl, refl)
 found {text} {place} {at} (kept_line s rest next extent kept) = read_so text place at s _ _ extents.Line next extent (rest, kept, refl, refl)
 found {text} {place} {at} (kept_group s rest next extent kept) = read_so text place at s _ _ extents.Group next extent (inl (rest, kept, refl, refl))
@@ -58,11 +58,11 @@ read_once one extents.Group text s t u end other le (inl h) (inr k) = absurd (k.
 read_once one extents.Group text s t u end other le (inr h) (inl k) = absurd (h.0 k.0 k.1)
 read_once one extents.Group text s t u end other le (inr h) (inr k) = (h.1 ∙ sym k.1, h.2 ∙ sym k.2)
 
-next_once : OneGroupAtAPlace → (text : List ℕ) (place : Place) (at : ℕ) (next : Result Scanned BadByte) (t u : Placed) (end other : ℕ) → IsNextOfModule text at next → IsRead text place at next t end → IsRead text place at next u other → (t ≡ u) × (end ≡ other)
+next_once : OneGroupAtAPlace → (text : List ℕ) (place : Section) (at : ℕ) (next : Result Scanned BadByte) (t u : Placed) (end other : ℕ) → IsNextOfModule text at next → IsRead text place at next t end → IsRead text place at next u other → (t ≡ u) × (end ≡ other)
 next_once one text place at (Ok s) t u end other is h k = read_once one _ text s t u end other is.order.2 h k
 next_once one text place at (Err e) t u end other is h k = (h.0 ∙ sym k.0, h.1 ∙ sym k.1)
 
-one_token : OneModuleTokenAtAPlace → OneGroupAtAPlace → (text : List ℕ) (place : Place) (at : ℕ) (t u : Placed) (end other : ℕ) → at ≤ length text → IsTokenAt text place at t end → IsTokenAt text place at u other → (t ≡ u) × (end ≡ other)
+one_token : OneModuleTokenAtAPlace → OneGroupAtAPlace → (text : List ℕ) (place : Section) (at : ℕ) (t u : Placed) (end other : ℕ) → at ≤ length text → IsTokenAt text place at t end → IsTokenAt text place at u other → (t ≡ u) × (end ≡ other)
 one_token one_next one_group text place at t u end other le h k =
     let a : Found text place at t end = found h in
     let b : Found text place at u other = found k in
@@ -74,7 +74,7 @@ one_token one_next one_group text place at t u end other le h k =
 not_last : (t u : Placed) → t ≡ u → is_last t.1 ≡ true → is_last u.1 ≡ false → ⊥
 not_last t u same h k = false≢true (sym k ∙ ap (λ (x : Placed). is_last x.1) (sym same) ∙ h)
 
-pub one_list : OneModuleTokenAtAPlace → OneGroupAtAPlace → {text : List ℕ} {place : Place} {at : ℕ} {tokens : List Placed} → at ≤ length text → TokensFrom text place at tokens → (others : List Placed) → TokensFrom text place at others → tokens ≡ others
+pub one_list : OneModuleTokenAtAPlace → OneGroupAtAPlace → {text : List ℕ} {place : Section} {at : ℕ} {tokens : List Placed} → at ≤ length text → TokensFrom text place at tokens → (others : List Placed) → TokensFrom text place at others → tokens ≡ others
 one_list one_next one_group {text} le (last {place} {at} {end} {t} h is) others (last {end = other} {t = u} k is') =
     ap (λ (x : Placed). x ∷ []) (one_token one_next one_group text place at t u end other le h k).0
 one_list one_next one_group {text} le (last {place} {at} {end} {t} h is) others (token {end = other} {t = u} k more behind) =

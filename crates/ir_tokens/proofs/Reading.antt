@@ -1,13 +1,13 @@
 -- Reading one more token of a text.
 use Rattle.std.proofs.Common.{◌≡◌, ℕ, false, List, [], ◌∷◌, ◌++◌, sym, subst, append_assoc}
-use Rattle.ir_tokens.specs.declared.place.Place.{Place}
+use Rattle.ir_tokens.specs.declared.place.Section.{Section}
 use Rattle.ir_tokens.specs.Order.{IsTokenAt, TokensFrom, AreTokens, token}
 use Rattle.ir_tokens.specs.Places.{place_behind}
 use Rattle.ir_tokens.specs.Tokens.{Placed, is_last}
 
 -- the tokens in front, and then any tokens of the text from this offset on, are tokens of the whole text
-abbrev pub SoFar : List ℕ → Place → ℕ → List Placed → Type 0
+abbrev pub SoFar : List ℕ → Section → ℕ → List Placed → Type 0
 SoFar text place at front = (tokens : List Placed) → TokensFrom text place at tokens → AreTokens text (front ++ tokens)
 
-pub token_read : (text : List ℕ) (place : Place) (at end : ℕ) (front : List Placed) (t : Placed) → SoFar text place at front → IsTokenAt text place at t end → is_last t.1 ≡ false → SoFar text (place_behind place t) end (front ++ t ∷ [])
+pub token_read : (text : List ℕ) (place : Section) (at end : ℕ) (front : List Placed) (t : Placed) → SoFar text place at front → IsTokenAt text place at t end → is_last t.1 ≡ false → SoFar text (place_behind place t) end (front ++ t ∷ [])
 token_read text place at end front t so_far is more tokens h = subst (AreTokens text) (sym (append_assoc front (t ∷ []) tokens)) (so_far (t ∷ tokens) (token is more h))

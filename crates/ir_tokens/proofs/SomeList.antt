@@ -9,7 +9,7 @@ use Rattle.scan.specs.Laws.{IsNextOfModule}
 use Rattle.scan.specs.Names.{blanks_behind}
 use Rattle.scan.proofs.Fronts.{which}
 use Rattle.scan.proofs.KeptLemmas.{closing, closed, not_closed, group_at, no_group_at}
-use Rattle.ir_tokens.specs.declared.place.Place.{Place}
+use Rattle.ir_tokens.specs.declared.place.Section.{Section}
 use Rattle.ir_tokens.specs.declared.place.Extent.{Extent}
 use Rattle.ir_tokens.specs.declared.place.Extent.TheVariants as extents
 use Rattle.ir_tokens.specs.Order.{HasExtent, IsTokenAt, itself, kept_line, kept_group, unclosed, bad_byte, TokensFrom, last, token}
@@ -28,12 +28,12 @@ group_or_none text at le = answered (closing false 0 (drop at text)) refl
     answered (Some rest) e = let h = closed (drop at text) rest e in inl (_, group_at text at h.0 rest le h.1 h.2)
     answered None e = inr (no_group_at text at (λ content rest balanced is. not_closed (drop at text) content rest e balanced is))
 
-record Reading (text : List ℕ) (place : Place) (at : ℕ) : Type 0 where
+record Reading (text : List ℕ) (place : Section) (at : ℕ) : Type 0 where
   token : Placed
   end : ℕ
   is : IsTokenAt text place at token end
 
-reading : (text : List ℕ) (place : Place) (at : ℕ) (t : Scanned) → IsNextToken text at t → (extent : Extent) → HasExtent text place t extent → Reading text place at
+reading : (text : List ℕ) (place : Section) (at : ℕ) (t : Scanned) → IsNextToken text at t → (extent : Extent) → HasExtent text place t extent → Reading text place at
 reading text place at t next extents.Itself e = record { token = _; end = _; is = itself t next e }
 reading text place at t next extents.Line e =
     let rest : Span = record { start = t.span.end; end = t.span.end + (length (rest_to_feed text t.span.end) - blanks_behind (rest_to_feed text t.span.end)) } in
@@ -43,13 +43,13 @@ reading text place at t next extents.Group e = ⊎_elim
     (λ (none : HasNoGroup text t.span.end). record { token = _; end = _; is = unclosed t next e none })
     (group_or_none text t.span.end next.order.2)
 
-some_token : (text : List ℕ) (place : Place) (at : ℕ) (next : Result Scanned BadByte) → IsNextOfModule text at next → Reading text place at
+some_token : (text : List ℕ) (place : Section) (at : ℕ) (next : Result Scanned BadByte) → IsNextOfModule text at next → Reading text place at
 some_token text place at (Ok t) next = reading text place at t next _ refl
 some_token text place at (Err e) next = record { token = _; end = _; is = bad_byte e.line next }
 
 -- ---- a list
 
-pub some_list : (n : ℕ) (text : List ℕ) (place : Place) (at : ℕ) → length text - at < n → at ≤ length text → (tokens : List Placed) × TokensFrom text place at tokens
+pub some_list : (n : ℕ) (text : List ℕ) (place : Section) (at : ℕ) → length text - at < n → at ≤ length text → (tokens : List Placed) × TokensFrom text place at tokens
 some_list zero text place at short le = absurd (omega arith)
 some_list (suc n) text place at short le =
     let next : (next : Result Scanned BadByte) × IsNextOfModule text at next = next_exists text at le in

@@ -5,19 +5,19 @@ use Rattle.scan.specs.declared.span.Span.{Span}
 use Rattle.scan.specs.IrTokens.{IsNextToken, IsBadToken}
 use Rattle.scan.specs.Kept.{IsKeptLine, IsGroup, HasNoGroup, rest_to_feed}
 use Rattle.scan.specs.Lines.{between}
-use Rattle.ir_tokens.specs.declared.place.Place.{Place}
-use Rattle.ir_tokens.specs.declared.place.Place.TheVariants.{AtEntry}
+use Rattle.ir_tokens.specs.declared.place.Section.{Section}
+use Rattle.ir_tokens.specs.declared.place.Section.TheVariants.{AtEntry}
 use Rattle.ir_tokens.specs.declared.place.Extent.{Extent}
 use Rattle.ir_tokens.specs.declared.place.Extent.TheVariants as extents
 use Rattle.ir_tokens.specs.Places.{extent_of, place_behind}
 use Rattle.ir_tokens.specs.Tokens.{Placed, Kept, KeptGroup, Other, Bad, token_of, is_last}
 
 -- the token that the scan finds next in the text extends so far
-abbrev pub HasExtent : List ℕ → Place → Scanned → Extent → Type 0
+abbrev pub HasExtent : List ℕ → Section → Scanned → Extent → Type 0
 HasExtent text place t extent = extent_of place t.line (between text t.span.start t.span.end) ≡ extent
 
 -- A token of a text in a context, read from byte offset `at` on, where a gap may come first; and the offset behind it.
-pub data IsTokenAt (text : List ℕ) (place : Place) (at : ℕ) : Placed → ℕ → Type 0 where
+pub data IsTokenAt (text : List ℕ) (place : Section) (at : ℕ) : Placed → ℕ → Type 0 where
   -- a token by itself
   itself : (t : Scanned) → IsNextToken text at t → HasExtent text place t extents.Itself
       → IsTokenAt text place at (t.line, token_of t.kind (between text t.span.start t.span.end)) t.span.end
@@ -34,9 +34,9 @@ pub data IsTokenAt (text : List ℕ) (place : Place) (at : ℕ) : Placed → ℕ
   bad_byte : (line : ℕ) → IsBadToken text at line → IsTokenAt text place at (line, Bad) at
 
 -- the tokens of a text from byte offset `at` on, in a context
-pub data TokensFrom (text : List ℕ) : Place → ℕ → List Placed → Type 0 where
-  last : {place : Place} {at end : ℕ} {t : Placed} → IsTokenAt text place at t end → is_last t.1 ≡ true → TokensFrom text place at (t ∷ [])
-  token : {place : Place} {at end : ℕ} {t : Placed} {tokens : List Placed} → IsTokenAt text place at t end → is_last t.1 ≡ false
+pub data TokensFrom (text : List ℕ) : Section → ℕ → List Placed → Type 0 where
+  last : {place : Section} {at end : ℕ} {t : Placed} → IsTokenAt text place at t end → is_last t.1 ≡ true → TokensFrom text place at (t ∷ [])
+  token : {place : Section} {at end : ℕ} {t : Placed} {tokens : List Placed} → IsTokenAt text place at t end → is_last t.1 ≡ false
       → TokensFrom text (place_behind place t) end tokens → TokensFrom text place at (t ∷ tokens)
 
 -- the tokens of a text, up to its end or to the first that the grammar allows nowhere

@@ -3,8 +3,8 @@ use Rattle.std.specs.Prelude.{ℕ, ◌==◌, Bool, false, not, ◌&&◌, ◌||�
 use Rattle.std.specs.List.{list_any}
 use Rattle.std.specs.Str.{bytes_eq}
 use Rattle.scan.specs.Bytes.{begins_with}
-use Rattle.ir_tokens.specs.declared.place.Place.{Place}
-use Rattle.ir_tokens.specs.declared.place.Place.TheVariants.{AtEntry, InHeader, InBody}
+use Rattle.ir_tokens.specs.declared.place.Section.{Section}
+use Rattle.ir_tokens.specs.declared.place.Section.TheVariants.{AtEntry, InHeader, InBody}
 use Rattle.ir_tokens.specs.declared.place.Extent.{Extent}
 use Rattle.ir_tokens.specs.declared.place.Extent.TheVariants.{Itself, Line, Group}
 use Rattle.ir_tokens.specs.Tokens.{Placed, Word, Mark}
@@ -25,14 +25,14 @@ is_on line (Some before) = before == line
 -- How far the token extends that stands on a line and has these bytes by itself. Between entries, a token that is the
 -- first on its line and may begin a kept line is that whole line. In a function, a `(` behind a word on the same line
 -- is the group in these brackets.
-unfoldable pub extent_of : Place → ℕ → List ℕ → Extent
+unfoldable pub extent_of : Section → ℕ → List ℕ → Extent
 extent_of (AtEntry before) line bytes = if begins_kept bytes && not (is_on line before) then Line else Itself
 extent_of (InHeader word) line bytes = if bytes_eq bytes (codes "(") && is_on line word then Group else Itself
 extent_of (InBody word) line bytes = if bytes_eq bytes (codes "(") && is_on line word then Group else Itself
 
 -- The context behind a token. The word `define` between entries begins a header, `{` ends the header and begins the
 -- body, and `}` ends the body.
-abbrev pub place_behind : Place → Placed → Place
+abbrev pub place_behind : Section → Placed → Section
 place_behind (AtEntry before) (line, Word text) = if bytes_eq text (codes "define") then InHeader (Some line) else AtEntry (Some line)
 place_behind (AtEntry before) (line, token) = AtEntry (Some line)
 place_behind (InHeader word) (line, Word text) = InHeader (Some line)

@@ -20,7 +20,7 @@ pub use fault::{IrError, IrFault, IrFaultKind};
 pub use laws::every_text_has_one_list_of_tokens;
 pub use naming::identifier;
 pub use number::constant;
-pub use place::{Extent, Place};
+pub use place::{Extent, Section};
 pub use raw::{
     RawArguments, RawBlock, RawCall, RawCase, RawEntry, RawFunction, RawIdentifier, RawIncoming,
     RawInst, RawModule, RawOp, RawOperand, RawParameter, RawTerminator, RawValue, TypedOperand,

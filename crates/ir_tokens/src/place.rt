@@ -9,7 +9,7 @@ use crate::token::{Placed, Token};
 
 /// The lexical context of the next token in a module.
 #[derive(Clone, Copy, PartialEq, Eq)]
-pub enum Place {
+pub enum Section {
     /// Between the entries of the module; with the line of the token before, if there is one.
     AtEntry(Option<usize>),
     /// In the header of a function, from the word `define` to the body; with the line of the token before, if that is a
@@ -43,31 +43,33 @@ fn begins_kept(bytes: &[u8]) -> bool
 
 /// How far the token extends that stands on a line and has these bytes by itself.
 #[tactic(auto, unfolding(crate::specs::Places::extent_of))]
-pub(crate) fn extent_of(place: Place, line: usize, bytes: &[u8]) -> Extent
+pub(crate) fn extent_of(place: Section, line: usize, bytes: &[u8]) -> Extent
     ensures { result ≡ places.extent_of place line bytes.now }
 {
     match place {
-        Place::AtEntry(before) if begins_kept(bytes) && before != Some(line) => Extent::Line,
-        Place::InHeader(word) | Place::InBody(word) if is(bytes, "(") && word == Some(line) => {
+        Section::AtEntry(before) if begins_kept(bytes) && before != Some(line) => Extent::Line,
+        Section::InHeader(word) | Section::InBody(word) if is(bytes, "(") && word == Some(line) => {
             Extent::Group
         }
-        Place::AtEntry(_) | Place::InHeader(_) | Place::InBody(_) => Extent::Itself,
+        Section::AtEntry(_) | Section::InHeader(_) | Section::InBody(_) => Extent::Itself,
     }
 }
 
 /// The lexical context behind a token.
-pub(crate) fn place_behind(place: Place, placed: Placed<'_>) -> Place
+pub(crate) fn place_behind(place: Section, placed: Placed<'_>) -> Section
     ensures { result ≡ places.place_behind place (seen_placed placed.entry) }
 {
     let line = placed.line;
     match (place, placed.token) {
-        (Place::AtEntry(_), Token::Word(word)) if is(word, "define") => Place::InHeader(Some(line)),
-        (Place::AtEntry(_), _) => Place::AtEntry(Some(line)),
-        (Place::InHeader(_), Token::Word(_)) => Place::InHeader(Some(line)),
-        (Place::InHeader(_), Token::Mark(b'{')) => Place::InBody(None),
-        (Place::InHeader(_), _) => Place::InHeader(None),
-        (Place::InBody(_), Token::Word(_)) => Place::InBody(Some(line)),
-        (Place::InBody(_), Token::Mark(b'}')) => Place::AtEntry(Some(line)),
-        (Place::InBody(_), _) => Place::InBody(None),
+        (Section::AtEntry(_), Token::Word(word)) if is(word, "define") => Section::InHeader(Some(
+            line,
+        )),
+        (Section::AtEntry(_), _) => Section::AtEntry(Some(line)),
+        (Section::InHeader(_), Token::Word(_)) => Section::InHeader(Some(line)),
+        (Section::InHeader(_), Token::Mark(b'{')) => Section::InBody(None),
+        (Section::InHeader(_), _) => Section::InHeader(None),
+        (Section::InBody(_), Token::Word(_)) => Section::InBody(Some(line)),
+        (Section::InBody(_), Token::Mark(b'}')) => Section::AtEntry(Some(line)),
+        (Section::InBody(_), _) => Section::InBody(None),
     }
 }

@@ -6,7 +6,7 @@ ghost use Rattle.ir_tokens.specs.SeenTokens.{seen};
 ghost use Rattle.ir_tokens.specs.declared.token.Placed.{Placed as placed};
 ghost use Rattle.ir_tokens.specs.Tokens.{Placed as PlacedToken};
 
-use crate::place::{Place, place_behind};
+use crate::place::{Section, place_behind};
 use crate::token::{Placed, is_last};
 use crate::tokens::next;
 use scan::Cursor;
@@ -17,7 +17,7 @@ use std::alloc::AllocError;
 pub struct TokenReader<'a> {
     text: &'a [u8],
     cursor: Cursor<'a>,
-    place: Place,
+    place: Section,
 }
 
 impl<'a> TokenReader<'a> {
@@ -28,7 +28,7 @@ impl<'a> TokenReader<'a> {
         TokenReader {
             text,
             cursor: Cursor::new(text),
-            place: Place::AtEntry(None),
+            place: Section::AtEntry(None),
         }
     }
 
@@ -72,7 +72,7 @@ impl<'a> TokenReader<'a> {
                 ));
             }
             place = place_behind(place, placed);
-            if let Place::AtEntry(_) = place {
+            if let Section::AtEntry(_) = place {
                 return Ok((
                     TokenReader {
                         text,

@@ -4,13 +4,13 @@ ghost use Rattle.std.specs.Prelude.{◌≡◌, ◌≤◌, length, IfOk};
 ghost use Rattle.ir_tokens.specs.Order.{IsTokenAt, AreTokens};
 ghost use Rattle.ir_tokens.specs.SeenTokens.{seen, seen_placed};
 
-use crate::place::{Extent, Place, extent_of, place_behind};
+use crate::place::{Extent, Section, extent_of, place_behind};
 use crate::token::{Placed, Token, is_last, token_of};
 use scan::{BadByte, Cursor};
 use std::alloc::{AllocError, Global};
 
 /// Reads the token behind the cursor, which moves behind it; at an invalid byte the cursor stays where it was.
-pub(crate) fn next<'a>(cursor: &mut Cursor<'a>, text: &'a [u8], place: Place) -> Placed<'a>
+pub(crate) fn next<'a>(cursor: &mut Cursor<'a>, text: &'a [u8], place: Section) -> Placed<'a>
     requires text { cursor.old.text ≡ text.now }
     requires within { cursor.old.at ≤ length text.now }
     ensures text { cursor.new.text ≡ text.now }
@@ -60,7 +60,7 @@ pub fn tokens_of(alloc: Global, text: &[u8]) -> Result<Vec<Placed<'_>>, AllocErr
 {
     let mut tokens = Vec::new(alloc);
     let mut cursor = Cursor::new(text);
-    let mut place = Place::AtEntry(None);
+    let mut place = Section::AtEntry(None);
     loop {
         let placed = next(&mut cursor, text, place);
         tokens.push(placed)?;

@@ -18,7 +18,7 @@ use Rattle.refusal.specs.declared.fault.Fault.{Fault}
 use Rattle.ir_tokens.specs.declared.fault.IrFaultKind.{IrFaultKind}
 use Rattle.ir_instructions.specs.declared.intrinsic.Intrinsic.{Intrinsic}
 use Rattle.ir_instructions.specs.declared.intrinsic.Intrinsic.TheVariants as intrinsics
-use Rattle.ir_instructions.specs.declared.place.Place.TheVariants as places
+use Rattle.ir_instructions.specs.declared.place.Expected.TheVariants as places
 use Rattle.ir_instructions.specs.declared.word.Operation.{Operation}
 use Rattle.ir_instructions.specs.declared.word.Operation.TheVariants as operations
 use Rattle.ir_instructions.specs.CallReaders.{begins_inner_item, ends_argument, inner_items_at, argument_at, truth_value_at, truth_argument_at, further_truth_at, truth_at, two_arguments_at, one_argument_at, arguments_at, callee_named, or_no_callee, callee_at, late_items_at, close_at, call_word_at}

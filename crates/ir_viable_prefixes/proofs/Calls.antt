@@ -16,7 +16,7 @@ use Rattle.refusal.specs.declared.fault.Fault.{Fault}
 use Rattle.ir_tokens.specs.declared.fault.IrFaultKind.{IrFaultKind}
 use Rattle.ir_tokens.specs.declared.fault.IrFaultKind.TheVariants.{LeftOut}
 use Rattle.ir_instructions.specs.declared.intrinsic.Intrinsic.{Intrinsic}
-use Rattle.ir_instructions.specs.declared.place.Place.TheVariants as places
+use Rattle.ir_instructions.specs.declared.place.Expected.TheVariants as places
 use Rattle.ir_instructions.specs.declared.word.Ending.{Ending as Word_ending}
 use Rattle.ir_instructions.specs.declared.word.Ending.TheVariants as endings
 use Rattle.ir_instructions.specs.declared.word.Operation.TheVariants as operations

@@ -9,7 +9,7 @@ use Rattle.ir_tokens.specs.Tokens.{Token, Placed, KeptGroup, Word, Number, Funct
 use Rattle.refusal.specs.declared.fault.Fault.{Fault}
 use Rattle.ir_tokens.specs.declared.fault.IrFaultKind.{IrFaultKind}
 use Rattle.ir_tokens.specs.declared.fault.IrFaultKind.TheVariants.{Syntax}
-use Rattle.ir_instructions.specs.declared.place.Place.TheVariants as places
+use Rattle.ir_instructions.specs.declared.place.Expected.TheVariants as places
 use Rattle.ir_instructions.specs.CallReaders.{is_on_line, begins_late_item, late_value_at, late_quoted_at, late_group_at, late_item_at, each_late_item_at, some_token_at, late_items_at, close_at}
 use Rattle.ir_instructions.specs.ItemReaders.{begins_item}
 use Rattle.ir_instructions.specs.declared.word.Ending.{Ending as Word_ending}

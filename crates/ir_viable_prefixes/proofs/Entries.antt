@@ -8,7 +8,7 @@ use Rattle.ir_tokens.specs.declared.raw.RawEntry.TheVariants as entries
 use Rattle.refusal.specs.declared.fault.Fault.{Fault}
 use Rattle.ir_tokens.specs.declared.fault.IrFaultKind.{IrFaultKind}
 use Rattle.ir_tokens.specs.declared.fault.IrFaultKind.TheVariants.{LeftOut}
-use Rattle.ir_instructions.specs.declared.place.Place.TheVariants as places
+use Rattle.ir_instructions.specs.declared.place.Expected.TheVariants as places
 use Rattle.ir_instructions.specs.Places.{leaves_out, misfit, shown}
 use Rattle.ir_instructions.specs.Readers.{Read, Reader, fault, unexpected, ◌>>=◌, done, repeat_at, another_at}
 use Rattle.ir_instructions.proofs.Loops.{repeat-done}

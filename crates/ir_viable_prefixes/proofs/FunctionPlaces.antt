@@ -17,7 +17,7 @@ use Rattle.ir_tokens.specs.declared.raw.RawTerminator.{RawTerminator}
 use Rattle.refusal.specs.declared.fault.Fault.{Fault}
 use Rattle.ir_tokens.specs.declared.fault.IrFaultKind.{IrFaultKind}
 use Rattle.ir_tokens.specs.declared.fault.IrFaultKind.TheVariants.{Syntax, LeftOut}
-use Rattle.ir_instructions.specs.declared.place.Place.TheVariants as places
+use Rattle.ir_instructions.specs.declared.place.Expected.TheVariants as places
 use Rattle.ir_instructions.specs.InstructionReaders.{attachment_at, attachments_at, identified, insts_at, inst_at, is_mark, is_metadata, is_register, mark_at, tail_at, terminator_at, type_at}
 use Rattle.ir_instructions.specs.Places.{misfit}
 use Rattle.ir_instructions.specs.Punctuation as marks

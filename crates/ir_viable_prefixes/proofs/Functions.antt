@@ -13,7 +13,7 @@ use Rattle.ir_tokens.specs.declared.raw.RawParameter.{RawParameter}
 use Rattle.refusal.specs.declared.fault.Fault.{Fault}
 use Rattle.ir_tokens.specs.declared.fault.IrFaultKind.{IrFaultKind}
 use Rattle.ir_tokens.specs.declared.fault.IrFaultKind.TheVariants.{LeftOut}
-use Rattle.ir_instructions.specs.declared.place.Place.TheVariants as places
+use Rattle.ir_instructions.specs.declared.place.Expected.TheVariants as places
 use Rattle.ir_instructions.specs.CallReaders.{callee_named}
 use Rattle.ir_instructions.specs.Intrinsics.{intrinsic_in}
 use Rattle.ir_instructions.specs.InstructionReaders.{attachments_at, identified, insts_at, is_mark, is_metadata, is_register, tail_at, terminator_at}

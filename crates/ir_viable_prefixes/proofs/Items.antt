@@ -6,7 +6,7 @@ use Rattle.ir_tokens.specs.Tokens.{Token, Placed, End, Other, Bad as Bad_token, 
 use Rattle.ir_tokens.specs.declared.raw.RawValue.TheVariants as values
 use Rattle.ir_tokens.specs.declared.fault.IrFaultKind.{IrFaultKind}
 use Rattle.ir_tokens.specs.declared.fault.IrFaultKind.TheVariants.{Syntax, LeftOut}
-use Rattle.ir_instructions.specs.declared.place.Place.TheVariants as places
+use Rattle.ir_instructions.specs.declared.place.Expected.TheVariants as places
 use Rattle.ir_instructions.specs.InstructionReaders.{is_mark, mark_at}
 use Rattle.ir_instructions.specs.Parts.{Part, Each}
 use Rattle.ir_instructions.specs.Places.{is_word, leaves_out, misfit}

@@ -7,7 +7,7 @@ use Rattle.ir_tokens.specs.declared.called.Identifier.{Identifier}
 use Rattle.ir_tokens.specs.declared.called.Identifier.TheVariants.{Named, Numbered}
 use Rattle.ir_tokens.specs.Identifiers.{identifier_of}
 use Rattle.ir_tokens.specs.Numbers.{constant_of}
-use Rattle.ir_tokens.specs.declared.place.Place.{Place}
+use Rattle.ir_tokens.specs.declared.place.Section.{Section}
 use Rattle.ir_tokens.specs.Laws.{TextsHaveOneListOfTokens}
 use Rattle.scan.specs.IrTokens.{line_at}
 use Rattle.scan.specs.Lines.{between}
@@ -20,7 +20,7 @@ use Rattle.ir_tokens.specs.declared.raw.RawModule.{RawModule}
 use Rattle.ir_tokens.specs.declared.fault.IrFaultKind.{IrFaultKind}
 use Rattle.ir_tokens.specs.declared.fault.IrFaultKind.TheVariants.{BadByte, Syntax, LeftOut, Width, ConstRange}
 use Rattle.refusal.specs.declared.fault.Fault.{Fault}
-use Rattle.ir_instructions.specs.declared.place.Place.TheVariants as places
+use Rattle.ir_instructions.specs.declared.place.Expected.TheVariants as places
 use Rattle.ir_instructions.specs.declared.word.Ending.TheVariants.{Unreachable}
 use Rattle.ir_instructions.specs.declared.intrinsic.Intrinsic.{Intrinsic}
 use Rattle.ir_instructions.specs.CallReaders.{callee_named}
@@ -58,7 +58,7 @@ mark_line : (kind : TokenKind) (bytes text : List ℕ) (start mark : ℕ) → to
 mark_line kinds.End bytes text start mark is = absurd cc
 mark_line kind bytes text start mark is = λ none. omega arith
 
-on_some_line : {text : List ℕ} {place : Place} {at end : ℕ} {t : Placed} → IsTokenAt text place at t end → (mark : ℕ) → t.1 ≡ Mark mark → t.0 ≢ 0
+on_some_line : {text : List ℕ} {place : Section} {at end : ℕ} {t : Placed} → IsTokenAt text place at t end → (mark : ℕ) → t.1 ≡ Mark mark → t.0 ≢ 0
 on_some_line {text = text} (itself t next extent) mark is = λ none. mark_line t.kind (between text t.span.start t.span.end) text t.span.start mark is (sym next.line ∙ none)
 on_some_line (kept_line t rest next extent kept) mark is = absurd cc
 on_some_line (kept_group t rest next extent group) mark is = absurd cc
@@ -66,7 +66,7 @@ on_some_line (unclosed t next extent none) mark is = absurd cc
 on_some_line (bad_byte line bad) mark is = absurd cc
 
 -- the last token of a text is its end, or one that the grammar allows nowhere
-tokens_end : {text : List ℕ} {place : Place} {at : ℕ} {tokens : List Placed} → TokensFrom text place at tokens → Ended tokens
+tokens_end : {text : List ℕ} {place : Section} {at : ℕ} {tokens : List Placed} → TokensFrom text place at tokens → Ended tokens
 tokens_end (last one end) = end
 tokens_end (token one going (last next end)) = (going, end, on_some_line one)
 tokens_end (token one going (token next goes more)) = (going, tokens_end (token next goes more), on_some_line one)

@@ -13,7 +13,7 @@ use Rattle.ir_tokens.specs.declared.fault.IrFaultKind.{IrFaultKind}
 use Rattle.ir_tokens.specs.declared.fault.IrFaultKind.TheVariants.{Syntax, LeftOut, ConstRange}
 use Rattle.ir_instructions.specs.CallReaders.{begins_inner_item, ends_argument, no_truth_kind}
 use Rattle.ir_instructions.specs.ItemReaders.{begins_item, item_at, word_item_at, quoted_item_at, quoted_value_at}
-use Rattle.ir_instructions.specs.declared.place.Place.TheVariants as places
+use Rattle.ir_instructions.specs.declared.place.Expected.TheVariants as places
 use Rattle.ir_instructions.specs.Keywords.{ending_word}
 use Rattle.ir_instructions.specs.Places.{begins_record, begins_type, misfit}
 use Rattle.ir_instructions.specs.Readers.{Read, Reader, fault, unexpected, goes_on, ◌>>=◌, done, another_at, each_at}

@@ -9,7 +9,7 @@ use Rattle.std.proofs.lemmas.List.Sums.{sum_by-cons}
 use Rattle.std.proofs.lemmas.List.Sorted.{sum_by_pushed, sum_by_popped, Contains-permutation, IsPermutation-sym}
 use Rattle.places.specs.declared.place.Place.{Place}
 use Rattle.places.specs.Heaps.{ComesBefore}
-use Rattle.places.specs.Waiting.{tally, AreMarked, IsFirst}
+use Rattle.places.specs.Worklist.{tally, AreMarked, IsFirst}
 use Rattle.places.specs.Sets.{Rows, Has, IsPlace, IsAdded, IsRemoved, IsSameSet}
 use Rattle.places.proofs.Members.{contains_first, contains_later, contains_tail, contains_none}
 

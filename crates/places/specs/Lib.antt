@@ -3,4 +3,4 @@ pub mod Links
 pub mod Numbers
 pub mod Sets
 pub mod Heaps
-pub mod Waiting
+pub mod Worklist

@@ -7,9 +7,9 @@ mod links;
 mod marks;
 mod order;
 mod place;
-mod waiting;
+mod worklist;
 
 pub use marks::Marks;
 pub use order::Order;
 pub use place::{END, Place};
-pub use waiting::Waiting;
+pub use worklist::Worklist;

@@ -44,8 +44,8 @@ abbrev pub gone : Inst → Inst
 gone inst = record { name = None; width = inst.width; op = Freeze operands.Poison }
 
 -- with instruction n of block b removed
-abbrev pub taken_out : Function → ℕ → ℕ → Function
-taken_out f b n = with_block f b (inst_changed n gone)
+abbrev pub with_inst_removed : Function → ℕ → ℕ → Function
+with_inst_removed f b n = with_block f b (inst_changed n gone)
 
 abbrev pub same_register : Register → Register → Bool
 same_register (registers.Parameter p) (registers.Parameter q) = p == q

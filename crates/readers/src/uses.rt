@@ -330,18 +330,18 @@ pub fn list_reads(arena: &Function, readers: &mut Readers, place: Place) -> Resu
 /// others are as they were.
 pub fn push_reads(
     arena: &Function,
-    fallen: &mut Vec<Register>,
+    dead_candidates: &mut Vec<Register>,
     place: Place,
 ) -> Result<(), AllocError>
     requires { All (λ b. length b.insts < 2 ^ 32) arena.now.blocks }
-    ensures pushed { OnOk result (fallen.new.items ≡ fallen.old.items ++ filter_map register_of (operands_at arena.now place)) }
-    ensures refused { OnErr result (fallen.new.items ≡ fallen.old.items) }
+    ensures pushed { OnOk result (dead_candidates.new.items ≡ dead_candidates.old.items ++ filter_map register_of (operands_at arena.now place)) }
+    ensures refused { OnErr result (dead_candidates.new.items ≡ dead_candidates.old.items) }
 {
     let count = count_at(arena, place);
-    fallen.reserve(count)?;
+    dead_candidates.reserve(count)?;
     for index in 0..count {
         if let Operand::Register(register) = operand_at(arena, place, index) {
-            fallen.push_reserved(register);
+            dead_candidates.push_reserved(register);
         }
     }
     Ok(())

@@ -15,8 +15,8 @@ use Rattle.rule_core.specs.declared.rule.Term.{Term as Meant}
 use Rattle.rule_core.proofs.Members.{Contains-from_get, Contains-flat_map}
 use Rattle.rule_reader.specs.declared.names.Names.{Names}
 use Rattle.rule_reader.specs.declared.counts.Counts.{Counts}
-use Rattle.rule_reader.specs.declared.place.Place.{Place}
-use Rattle.rule_reader.specs.declared.place.Place.TheVariants as places
+use Rattle.rule_reader.specs.declared.place.UseSite.{UseSite}
+use Rattle.rule_reader.specs.declared.place.UseSite.TheVariants as places
 use Rattle.rule_reader.specs.declared.place.Half.{Half}
 use Rattle.rule_reader.specs.declared.place.Half.TheVariants as halves
 use Rattle.rule_parse.specs.Contents.{arguments_of, arguments_among, terms_of_argument, terms_of_formula, formula_of, target_terms, terms_of}
@@ -75,7 +75,7 @@ module _ (raw : RawRule) (well : IsWellFormed raw) where
   pub few_past : (half : Half) (ws : List RawStatement) (k : ℕ) (s : RawStatement) (c : Counts) → ws ≡ half_of half raw → k < length ws → s ≡ get_or ws k s → c ≡ past_all no_counts (counted_among (take k ws)) → AreFew (past_all c (counted_of s.op))
   few_past half ws k s c is within item before = few_at ws k s c (subst (λ l. AreFew (in_half l)) (sym is) (few_half half)) within item before
 
-  ready_term : (place : Place) (a : RawArgument) → ArgumentIsBound raw place a → IsWhole a → HasReadyTerm raw place a
+  ready_term : (place : UseSite) (a : RawArgument) → ArgumentIsBound raw place a → IsWhole a → HasReadyTerm raw place a
   ready_term place (Register name) bound whole = tt
   ready_term place (Literal z) bound whole = tt
   ready_term place (Truth b) bound whole = tt
@@ -83,7 +83,7 @@ module _ (raw : RawRule) (well : IsWellFormed raw) where
   ready_term place Undef bound whole = tt
   ready_term place (Term t) bound whole = (bound, whole)
 
-  ready_terms : (place : Place) (xs : List RawArgument) → Each (ArgumentIsBound raw place) xs → Each IsWhole xs → Each (HasReadyTerm raw place) xs
+  ready_terms : (place : UseSite) (xs : List RawArgument) → Each (ArgumentIsBound raw place) xs → Each IsWhole xs → Each (HasReadyTerm raw place) xs
   ready_terms place [] bound whole = tt
   ready_terms place (a ∷ xs) bound whole = (ready_term place a bound.0 whole.0, ready_terms place xs bound.1 whole.1)
 
@@ -139,7 +139,7 @@ node_fits before k t node is few within item = fits node (is.each k node (read_a
     fits (raw_nodes.Unary f a) behind = omega arith
     fits (raw_nodes.Binary op a b) behind = (omega (arith, behind.0), omega (arith, behind.1))
 
-pub node_bound : (raw : RawRule) (place : Place) (k : ℕ) (t : List RawNode) (node : RawNode) → TermIsBound raw place t → k < length t → node ≡ get_or t k node → NodeIsBound raw place node
+pub node_bound : (raw : RawRule) (place : UseSite) (k : ℕ) (t : List RawNode) (node : RawNode) → TermIsBound raw place t → k < length t → node ≡ get_or t k node → NodeIsBound raw place node
 node_bound raw place k t node bound within item = each_at (NodeIsBound raw place) t k node bound (read_at t k node within item)
 
 -- a half is in the order of its lines

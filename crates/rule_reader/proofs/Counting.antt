@@ -14,7 +14,7 @@ use Rattle.rule_parse.specs.declared.raw.RawArgument.TheVariants.{Register, Lite
 use Rattle.rule_core.specs.declared.rule.Statement.{Statement}
 use Rattle.rule_reader.specs.declared.names.Names.{Names}
 use Rattle.rule_reader.specs.declared.counts.Counts.{Counts}
-use Rattle.rule_reader.specs.declared.place.Place.{Place}
+use Rattle.rule_reader.specs.declared.place.UseSite.{UseSite}
 use Rattle.rule_parse.specs.Contents.{arguments_of, arguments_among}
 use Rattle.rule_reader.specs.Meaning.{past, past_all, counted_of, counted_among, no_counts, in_half, with_counts, StatementMeans, HalfMeans}
 use Rattle.rule_reader.specs.FaultKinds.{Each, ArgumentIsBound}
@@ -72,7 +72,7 @@ few_read c (raw_ops.Freeze a) few = few_one (past c a.value) Undef few
 few_read c (raw_ops.Copy a) few = few
 
 -- operands can be resolved whose names may be used, whose terms are in order, and which are few
-pub ready : (raw : RawRule) (place : Place) (c : Counts) (os : List RawArgument) → Each (ArgumentIsBound raw place) os → Each IsWhole os → AreFew (past_all c os) → AreReady raw place c os
+pub ready : (raw : RawRule) (place : UseSite) (c : Counts) (os : List RawArgument) → Each (ArgumentIsBound raw place) os → Each IsWhole os → AreFew (past_all c os) → AreReady raw place c os
 ready raw place c [] bound whole few = tt
 ready raw place c (a ∷ os) bound whole few = ((bound.0, whole.0, few_before (past c a) os few), ready raw place (past c a) os bound.1 whole.1 few)
 

@@ -4,7 +4,7 @@ use Rattle.std.proofs.lemmas.Bool.{cases_lt}
 use Rattle.rule_parse.specs.declared.raw.RawRule.{RawRule}
 use Rattle.rule_parse.specs.declared.raw.RawStatement.{RawStatement}
 use Rattle.rule_typing.proofs.Deciding.{dec_both, dec_either, dec_not, dec_number, dec_place}
-use Rattle.rule_reader.specs.declared.place.Place.TheVariants as places
+use Rattle.rule_reader.specs.declared.place.UseSite.TheVariants as places
 use Rattle.rule_reader.specs.WellFormed.{AreInLineOrder, IsWellFormed}
 use Rattle.rule_reader.specs.FaultKinds.{FormulaIsBound, TermIsBound, StandsAt, HasNameOf, AssignsAgain, DuplicateAt, StatementUnbound, PreconditionUnbound, WitnessUnbound, UnboundAt, MissesRoot, RootMissingAt, Redefines, RedefinesAt, IsUnused, UnusedTempAt, HasUndefInside, ReadsUndefAlone, UndefInsideAt, WitnessCountAt, witness_line}
 use Rattle.rule_reader.specs.Faults.{IsFirst}

@@ -8,7 +8,7 @@ use Rattle.rule_core.specs.declared.rule.Register.{Register}
 use Rattle.rule_core.specs.declared.rule.Register.TheVariants as registers
 use Rattle.rule_core.proofs.Members.{Contains-from_get}
 use Rattle.rule_reader.specs.declared.names.Names.{Names}
-use Rattle.rule_reader.specs.declared.place.Place.TheVariants as places
+use Rattle.rule_reader.specs.declared.place.UseSite.TheVariants as places
 use Rattle.rule_reader.specs.Meaning.{AssignsAt, AreInputs, IsInput, IsConstant, IsRoot, AreNames, HasName}
 use Rattle.rule_reader.specs.KnownRules.{Finds}
 

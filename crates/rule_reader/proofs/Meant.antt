@@ -32,8 +32,8 @@ use Rattle.rule_core.proofs.Members.{Contains-from_get}
 use Rattle.rule_typing.proofs.Deciding.{dec_one}
 use Rattle.rule_reader.specs.declared.names.Names.{Names}
 use Rattle.rule_reader.specs.declared.counts.Counts.{Counts}
-use Rattle.rule_reader.specs.declared.place.Place.{Place}
-use Rattle.rule_reader.specs.declared.place.Place.TheVariants as places
+use Rattle.rule_reader.specs.declared.place.UseSite.{UseSite}
+use Rattle.rule_reader.specs.declared.place.UseSite.TheVariants as places
 use Rattle.rule_reader.specs.declared.place.Half.TheVariants as halves
 use Rattle.rule_parse.specs.Contents.{arguments_of, arguments_among, terms_of, terms_of_formula, expressions_of, formula_of, target_terms}
 use Rattle.rule_reader.specs.Meaning.{nodes_in, past, past_all, counted_of, no_counts, with_counts, with_nodes, with_terms, last_nodes, AssignsAt, IsConstant, AreNames, HasName, ArgumentMeans, OperandMeans, OpMeans, StatementMeans, NodeMeans, FormulaMeans, Means}
@@ -82,7 +82,7 @@ some_names source = let (names, uses) = with_arguments source [] _ (arguments_am
 -- ---- statements
 
 module _ (raw : RawRule) (names : Names) (are : AreNames raw.source names) where
-  some_register : (place : Place) (name : List ℕ) → MayUse raw place name → (r : Register) × HasName raw names r name
+  some_register : (place : UseSite) (name : List ℕ) → MayUse raw place name → (r : Register) × HasName raw names r name
   some_register (places.Source k) name (inl input) = let (i, at) = somewhere names.inputs name (of_input raw.source names are name input) in (registers.Input i, at)
   some_register (places.Source k) name (inr (j, lt, at)) = (registers.Source j, at)
   some_register (places.Target k) name (not_root, inl input) = let (i, at) = somewhere names.inputs name (of_input raw.source names are name input) in (registers.Input i, at)
@@ -94,7 +94,7 @@ module _ (raw : RawRule) (names : Names) (are : AreNames raw.source names) where
   some_constant : (name : List ℕ) → IsConstant raw.source name → (k : ℕ) × (slice_get names.constants k ≡ Some name)
   some_constant name is = somewhere names.constants name (of_constant raw.source names are name is)
 
-  some_argument : (place : Place) (u : Counts) (w : RawArgument) → ArgumentIsBound raw place w → IsWhole w → (a : Argument) × ArgumentMeans raw names u w a
+  some_argument : (place : UseSite) (u : Counts) (w : RawArgument) → ArgumentIsBound raw place w → IsWhole w → (a : Argument) × ArgumentMeans raw names u w a
   some_argument place u (raw_arguments.Register name) bound whole = let (r, is) = some_register place name bound in (arguments.Register r, is)
   some_argument place u (raw_arguments.Literal z) bound whole = (arguments.Literal z, refl)
   some_argument place u (raw_arguments.Truth b) bound whole = (arguments.Truth b, refl)
@@ -102,10 +102,10 @@ module _ (raw : RawRule) (names : Names) (are : AreNames raw.source names) where
   some_argument place u raw_arguments.Undef bound whole = (arguments.Undef u.choices, refl)
   some_argument place u (raw_arguments.Term t) bound whole = (arguments.Term (u.nodes + length t - 1), omega (arith, whole.some))
 
-  some_operand : (place : Place) (u : Counts) (w : RawOperand) → ArgumentIsBound raw place w.value → IsWhole w.value → (o : Operand) × OperandMeans raw names u w o
+  some_operand : (place : UseSite) (u : Counts) (w : RawOperand) → ArgumentIsBound raw place w.value → IsWhole w.value → (o : Operand) × OperandMeans raw names u w o
   some_operand place u w bound whole = let (a, means) = some_argument place u w.value bound whole in (record { value = a; written = w.written; class = 0 }, (refl, means))
 
-  some_op : (place : Place) (u : Counts) (w : RawOp) → Each (ArgumentIsBound raw place) (arguments_of w) → Each IsWhole (arguments_of w) → (op : Op) × OpMeans raw names u w op
+  some_op : (place : UseSite) (u : Counts) (w : RawOp) → Each (ArgumentIsBound raw place) (arguments_of w) → Each IsWhole (arguments_of w) → (op : Op) × OpMeans raw names u w op
   some_op place u (raw_ops.Binary op flags a b) bound whole =
       let (x, left) = some_operand place u a bound.0 whole.0 in
       let (y, right) = some_operand place (past u a.value) b bound.1.0 whole.1.0 in
@@ -133,7 +133,7 @@ module _ (raw : RawRule) (names : Names) (are : AreNames raw.source names) where
 
   -- ---- terms and the formula
 
-  some_node : (place : Place) (b : ℕ) (w : RawNode) → NodeIsBound raw place w → (x : Node) × NodeMeans raw names b w x
+  some_node : (place : UseSite) (b : ℕ) (w : RawNode) → NodeIsBound raw place w → (x : Node) × NodeMeans raw names b w x
   some_node place b (raw_nodes.Literal z) bound = (nodes.Literal z, refl)
   some_node place b (raw_nodes.Constant name) bound = let (k, is) = some_constant name bound in (nodes.Constant k, is)
   some_node place b (raw_nodes.Register name) bound = let (r, is) = some_register place name bound in (nodes.Register r, is)

@@ -13,8 +13,8 @@ use Rattle.rule_terms.specs.declared.raw.RawNode.TheVariants as nodes
 use Rattle.rule_terms.specs.declared.raw.RawFormula.{RawFormula}
 use Rattle.rule_terms.specs.declared.raw.RawFormula.TheVariants as formulas
 use Rattle.rule_typing.proofs.Deciding.{dec_both, dec_either, dec_not, dec_number, dec_place, dec_one}
-use Rattle.rule_reader.specs.declared.place.Place.{Place}
-use Rattle.rule_reader.specs.declared.place.Place.TheVariants as places
+use Rattle.rule_reader.specs.declared.place.UseSite.{UseSite}
+use Rattle.rule_reader.specs.declared.place.UseSite.TheVariants as places
 use Rattle.rule_parse.specs.Contents.{arguments_of, arguments_among}
 use Rattle.rule_reader.specs.Meaning.{in_half, Uses, UsesAt, AssignsAt, IsInput, IsTemporary, IsRoot, IsConstant}
 use Rattle.rule_reader.specs.FaultKinds.{Each, MayUse, NodeIsBound, TermIsBound, ArgumentIsBound, OpIsBound, FormulaIsBound, IsFreeze, LeavesOpen, ReadsUndefAlone, HasUndefInside, IsUnused}
@@ -79,7 +79,7 @@ pub dec_constant : (source : List RawStatement) (name : List ℕ) → Dec (IsCon
 dec_constant source name =
     map_dec (λ (q, o, at, is). (q, at ∙ ap (λ x. Some x) is)) (λ (q, at). (q, Constant name, at, refl)) (dec_place (λ q o. o ≡ Constant name) (arguments_among source) (λ q o. dec_constant_argument o name))
 
-pub dec_may_use : (raw : RawRule) (place : Place) (name : List ℕ) → Dec (MayUse raw place name)
+pub dec_may_use : (raw : RawRule) (place : UseSite) (name : List ℕ) → Dec (MayUse raw place name)
 dec_may_use raw (places.Source k) name = dec_either (dec_input raw.source name) (dec_assigned_before raw.source k name)
 dec_may_use raw (places.Target k) name =
     dec_both (dec_not (dec_root raw.source name)) (dec_either (dec_input raw.source name) (dec_either (dec_temporary raw.source name) (dec_assigned_before raw.target k name)))
@@ -89,7 +89,7 @@ pub dec_each : {X : Type 0} (P : X → Type 0) → ((x : X) → Dec (P x)) → (
 dec_each P each [] = yes tt
 dec_each P each (x ∷ xs) = dec_both (each x) (dec_each P each xs)
 
-dec_node : (raw : RawRule) (place : Place) (node : RawNode) → Dec (NodeIsBound raw place node)
+dec_node : (raw : RawRule) (place : UseSite) (node : RawNode) → Dec (NodeIsBound raw place node)
 dec_node raw place (nodes.Literal z) = yes tt
 dec_node raw place (nodes.Constant name) = dec_constant raw.source name
 dec_node raw place (nodes.Register name) = dec_may_use raw place name
@@ -98,10 +98,10 @@ dec_node raw place (nodes.Width name) = dec_may_use raw place name
 dec_node raw place (nodes.Unary f a) = yes tt
 dec_node raw place (nodes.Binary op a b) = yes tt
 
-pub dec_term : (raw : RawRule) (place : Place) (t : List RawNode) → Dec (TermIsBound raw place t)
+pub dec_term : (raw : RawRule) (place : UseSite) (t : List RawNode) → Dec (TermIsBound raw place t)
 dec_term raw place t = dec_each (NodeIsBound raw place) (dec_node raw place) t
 
-dec_read : (raw : RawRule) (place : Place) (a : RawArgument) → Dec (ArgumentIsBound raw place a)
+dec_read : (raw : RawRule) (place : UseSite) (a : RawArgument) → Dec (ArgumentIsBound raw place a)
 dec_read raw place (Register name) = dec_may_use raw place name
 dec_read raw place (Literal z) = yes tt
 dec_read raw place (Truth b) = yes tt
@@ -109,7 +109,7 @@ dec_read raw place (Constant name) = dec_constant raw.source name
 dec_read raw place Undef = yes tt
 dec_read raw place (Term t) = dec_term raw place t
 
-pub dec_op : (raw : RawRule) (place : Place) (op : RawOp) → Dec (OpIsBound raw place op)
+pub dec_op : (raw : RawRule) (place : UseSite) (op : RawOp) → Dec (OpIsBound raw place op)
 dec_op raw place op = dec_each (ArgumentIsBound raw place) (dec_read raw place) (arguments_of op)
 
 pub dec_formula : (raw : RawRule) (f : RawFormula) → Dec (FormulaIsBound raw f)

@@ -34,8 +34,8 @@ use Rattle.rule_typing.specs.Classes.{Joined, SameClass, IsClassified}
 use Rattle.rule_typing.specs.Relabelled.{numbered_op, numbered_statement, numbered_statements, numbered_node, numbered_term, numbered_terms, numbered}
 use Rattle.rule_reader.specs.declared.names.Names.{Names}
 use Rattle.rule_reader.specs.declared.counts.Counts.{Counts}
-use Rattle.rule_reader.specs.declared.place.Place.{Place}
-use Rattle.rule_reader.specs.declared.place.Place.TheVariants as places
+use Rattle.rule_reader.specs.declared.place.UseSite.{UseSite}
+use Rattle.rule_reader.specs.declared.place.UseSite.TheVariants as places
 use Rattle.rule_parse.specs.Contents.{arguments_of, terms_of, expressions_of, formula_of, target_terms, terms_of_formula}
 use Rattle.rule_reader.specs.Meaning.{nodes_in, past, past_all, counted_of, no_counts, with_counts, with_nodes, with_terms, GivenAt, AreFirstGiven, GivesInput, GivesConstant, IsRoot, AreNames, ArgumentMeans, OperandMeans, OpMeans, StatementMeans, NodeMeans, FormulaMeans, HalfMeans, TermsMean, PreconditionMeans, Means, names_of_rule}
 use Rattle.rule_reader.specs.FaultKinds.{Each, MayUse, ArgumentIsBound, NodeIsBound, TermIsBound}
@@ -283,7 +283,7 @@ module _ (raw : RawRule) (names : Names) (plain : IsPlain raw) (are : AreNames r
 
 -- ---- the root may not be used
 
-rootless : (raw : RawRule) (place : Place) (w : RawArgument) → ((name : List ℕ) → MayUse raw place name → ¬ IsRoot raw.source name) → ArgumentIsBound raw place w → Rootless raw w
+rootless : (raw : RawRule) (place : UseSite) (w : RawArgument) → ((name : List ℕ) → MayUse raw place name → ¬ IsRoot raw.source name) → ArgumentIsBound raw place w → Rootless raw w
 rootless raw place (raw_arguments.Register other) free bound name e root = let same : other ≡ name = cc in free other bound (subst (IsRoot raw.source) (sym same) root)
 rootless raw place (raw_arguments.Literal z) free bound name e root = cc
 rootless raw place (raw_arguments.Truth b) free bound name e root = cc
@@ -291,11 +291,11 @@ rootless raw place (raw_arguments.Constant other) free bound name e root = cc
 rootless raw place raw_arguments.Undef free bound name e root = cc
 rootless raw place (raw_arguments.Term t) free bound name e root = cc
 
-all_rootless : (raw : RawRule) (place : Place) (ws : List RawArgument) → ((name : List ℕ) → MayUse raw place name → ¬ IsRoot raw.source name) → Each (ArgumentIsBound raw place) ws → Each (Rootless raw) ws
+all_rootless : (raw : RawRule) (place : UseSite) (ws : List RawArgument) → ((name : List ℕ) → MayUse raw place name → ¬ IsRoot raw.source name) → Each (ArgumentIsBound raw place) ws → Each (Rootless raw) ws
 all_rootless raw place [] free bound = tt
 all_rootless raw place (w ∷ ws) free bound = (rootless raw place w free bound.0, all_rootless raw place ws free bound.1)
 
-node_rootless : (raw : RawRule) (place : Place) (w : RawNode) → ((name : List ℕ) → MayUse raw place name → ¬ IsRoot raw.source name) → NodeIsBound raw place w → NodeRootless raw w
+node_rootless : (raw : RawRule) (place : UseSite) (w : RawNode) → ((name : List ℕ) → MayUse raw place name → ¬ IsRoot raw.source name) → NodeIsBound raw place w → NodeRootless raw w
 node_rootless raw place (raw_nodes.Register other) free bound name e root = elim e [
   | inl same ↦ let is : other ≡ name = cc in free other bound (subst (IsRoot raw.source) (sym is) root)
   | inr other ↦ cc

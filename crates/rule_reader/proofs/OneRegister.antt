@@ -9,7 +9,7 @@ use Rattle.rule_core.specs.declared.rule.Register.{Register}
 use Rattle.rule_core.specs.declared.rule.Register.TheVariants as registers
 use Rattle.rule_core.proofs.Members.{Contains-from_get}
 use Rattle.rule_reader.specs.declared.names.Names.{Names}
-use Rattle.rule_reader.specs.declared.place.Place.TheVariants as places
+use Rattle.rule_reader.specs.declared.place.UseSite.TheVariants as places
 use Rattle.rule_reader.specs.Meaning.{AssignsAt, IsInput, IsTemporary, IsRoot, AreNames, HasName}
 use Rattle.rule_reader.specs.FaultKinds.{StandsAt, AssignsAgain, MayUse, RedefinesAt}
 use Rattle.rule_reader.proofs.Places.{order}

@@ -8,7 +8,7 @@ use Rattle.rule_terms.specs.declared.raw.RawNode.{RawNode}
 use Rattle.rule_terms.specs.declared.raw.RawFormula.{RawFormula}
 use Rattle.rule_core.specs.declared.rule.Term.{Term}
 use Rattle.rule_reader.specs.declared.names.Names.{Names}
-use Rattle.rule_reader.specs.declared.place.Place.TheVariants as places
+use Rattle.rule_reader.specs.declared.place.UseSite.TheVariants as places
 use Rattle.rule_parse.specs.Contents.{terms_of_formula, formula_of, target_terms, terms_of, expressions_of}
 use Rattle.rule_reader.specs.Meaning.{nodes_in, last_nodes, TermsMean}
 use Rattle.rule_reader.specs.WellFormed.{IsTerm, IsWellFormed}

@@ -13,7 +13,7 @@ use Rattle.rule_terms.specs.declared.raw.RawFormula.TheVariants as raw_formulas
 use Rattle.rule_parse.specs.declared.raw.RawPrecondition.{RawPrecondition}
 use Rattle.rule_parse.specs.declared.raw.RawWitness.{RawWitness}
 use Rattle.rule_typing.proofs.Deciding.{stable}
-use Rattle.rule_reader.specs.declared.place.Place.TheVariants as places
+use Rattle.rule_reader.specs.declared.place.UseSite.TheVariants as places
 use Rattle.rule_core.proofs.Members.{Contains-from_get}
 use Rattle.rule_parse.specs.Contents.{arguments_of, arguments_among, formula_of, target_terms, terms_of, terms_of_argument, terms_of_formula}
 use Rattle.rule_reader.specs.FaultKinds.{Each, NodeIsBound, ArgumentIsBound, FormulaIsBound, TermIsBound, UnboundAt}

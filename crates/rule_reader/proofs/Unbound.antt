@@ -7,7 +7,7 @@ use Rattle.rule_parse.specs.declared.raw.RawRule.{RawRule}
 use Rattle.rule_parse.specs.declared.raw.RawStatement.{RawStatement}
 use Rattle.rule_parse.specs.declared.raw.RawPrecondition.{RawPrecondition}
 use Rattle.rule_parse.specs.declared.raw.RawWitness.{RawWitness}
-use Rattle.rule_reader.specs.declared.place.Place.TheVariants as places
+use Rattle.rule_reader.specs.declared.place.UseSite.TheVariants as places
 use Rattle.rule_reader.specs.WellFormed.{IsWellFormed}
 use Rattle.rule_reader.specs.FaultKinds.{Each, FormulaIsBound, TermIsBound, StandsAt, StatementUnbound, PreconditionUnbound, WitnessUnbound, UnboundAt, HasUndefInside, ReadsUndefAlone, UndefInsideAt}
 use Rattle.rule_reader.specs.Faults.{IsFirst, IsFirstLine}

@@ -15,8 +15,8 @@ use Rattle.rule_terms.specs.declared.raw.RawFormula.{RawFormula}
 use Rattle.rule_terms.specs.declared.raw.RawFormula.TheVariants as raw_formulas
 use Rattle.rule_core.specs.declared.rule.Rule.{Rule}
 use Rattle.rule_typing.specs.Classes.{IsClassified}
-use Rattle.rule_reader.specs.declared.place.Place.{Place}
-use Rattle.rule_reader.specs.declared.place.Place.TheVariants as places
+use Rattle.rule_reader.specs.declared.place.UseSite.{UseSite}
+use Rattle.rule_reader.specs.declared.place.UseSite.TheVariants as places
 use Rattle.rule_parse.specs.Contents.{arguments_of, expressions_of}
 use Rattle.rule_reader.specs.Meaning.{in_half, Uses, AssignsAt, IsInput, IsTemporary, IsRoot, IsConstant, Means}
 
@@ -46,7 +46,7 @@ DuplicateAt earlier raw line =
 -- The register may be used at a place. In a source statement it is an input, or an earlier statement assigns it. In a
 -- target statement it is not the root, and it is an input, a temporary of the source, or what an earlier target
 -- statement assigns. In `Pre:` and `Wit:` it is an input or a temporary of the source.
-abbrev pub MayUse : RawRule → Place → List ℕ → Type 0
+abbrev pub MayUse : RawRule → UseSite → List ℕ → Type 0
 MayUse raw (places.Source k) name = IsInput raw.source name ⊎ ((j : ℕ) × (j < k) × AssignsAt raw.source j name)
 MayUse raw (places.Target k) name =
     ¬ IsRoot raw.source name
@@ -55,18 +55,18 @@ MayUse raw places.Heading name = IsInput raw.source name ⊎ IsTemporary raw.sou
 
 -- What a node of a term names may be used at the place: a register, also one whose width is asked for, a constant, or a
 -- choice of the target.
-abbrev pub NodeIsBound : RawRule → Place → RawNode → Type 0
+abbrev pub NodeIsBound : RawRule → UseSite → RawNode → Type 0
 NodeIsBound raw place (raw_nodes.Constant name) = IsConstant raw.source name
 NodeIsBound raw place (raw_nodes.Register name) = MayUse raw place name
 NodeIsBound raw place (raw_nodes.Choice k) = k < (in_half raw.target).choices
 NodeIsBound raw place (raw_nodes.Width name) = MayUse raw place name
 NodeIsBound raw place node = Unit {0}
 
-abbrev pub TermIsBound : RawRule → Place → List RawNode → Type 0
+abbrev pub TermIsBound : RawRule → UseSite → List RawNode → Type 0
 TermIsBound raw place term = Each (NodeIsBound raw place) term
 
 -- what an operand names may be used at the place
-abbrev pub ArgumentIsBound : RawRule → Place → RawArgument → Type 0
+abbrev pub ArgumentIsBound : RawRule → UseSite → RawArgument → Type 0
 ArgumentIsBound raw place (raw_arguments.Register name) = MayUse raw place name
 ArgumentIsBound raw place (raw_arguments.Constant name) = IsConstant raw.source name
 ArgumentIsBound raw place (raw_arguments.Term t) = TermIsBound raw place t
@@ -81,7 +81,7 @@ FormulaIsBound raw (raw_formulas.HasOneUse name) = IsTemporary raw.source name
 FormulaIsBound raw formula = Unit {0}
 
 -- all that a statement names may be used at its place
-abbrev pub OpIsBound : RawRule → Place → RawOp → Type 0
+abbrev pub OpIsBound : RawRule → UseSite → RawOp → Type 0
 OpIsBound raw place op = Each (ArgumentIsBound raw place) (arguments_of op)
 
 -- `Pre:`, on this line, names what may not be used there
@@ -93,7 +93,7 @@ abbrev pub WitnessUnbound : RawRule → ℕ → Type 0
 WitnessUnbound raw line = (w : RawWitness) × (raw.witness ≡ Some w) × ¬ Each (TermIsBound raw places.Heading) w.expressions × (w.line ≡ line)
 
 -- statement k names what may not be used at its place, which is `At k`
-abbrev pub StatementUnbound : RawRule → (ℕ → Place) → ℕ → RawStatement → Type 0
+abbrev pub StatementUnbound : RawRule → (ℕ → UseSite) → ℕ → RawStatement → Type 0
 StatementUnbound raw At k s = ¬ OpIsBound raw (At k) s.op
 
 -- Unbound: `Pre:`, `Wit:` or a statement on this line names what may not be used there

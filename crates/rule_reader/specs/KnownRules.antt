@@ -11,8 +11,8 @@ use Rattle.rule_core.specs.declared.rule.Register.{Register}
 use Rattle.rule_core.specs.declared.rule.Term.{Term}
 use Rattle.rule_reader.specs.declared.names.Names.{Names}
 use Rattle.rule_reader.specs.declared.counts.Counts.{Counts}
-use Rattle.rule_reader.specs.declared.place.Place.{Place}
-use Rattle.rule_reader.specs.declared.place.Place.TheVariants as places
+use Rattle.rule_reader.specs.declared.place.UseSite.{UseSite}
+use Rattle.rule_reader.specs.declared.place.UseSite.TheVariants as places
 use Rattle.rule_reader.specs.declared.place.Half.{Half}
 use Rattle.rule_reader.specs.declared.place.Half.TheVariants as halves
 use Rattle.rule_parse.specs.Contents.{formula_of, terms_of_formula, expressions_of}
@@ -26,12 +26,12 @@ half_of halves.Source raw = raw.source
 half_of halves.Target raw = raw.target
 
 -- statement k of a half, as the place of a use
-abbrev pub place_in : Half → ℕ → Place
+abbrev pub place_in : Half → ℕ → UseSite
 place_in halves.Source k = places.Source k
 place_in halves.Target k = places.Target k
 
 -- the register of the name that may be used at the place, or none where none may
-abbrev pub Finds : RawRule → Names → Place → List ℕ → Option Register → Type 0
+abbrev pub Finds : RawRule → Names → UseSite → List ℕ → Option Register → Type 0
 Finds raw names place name None = ¬ MayUse raw place name
 Finds raw names place name (Some r) = MayUse raw place name × HasName raw names r name
 
@@ -56,7 +56,7 @@ IsWhole (raw_arguments.Term t) = IsTerm t
 IsWhole argument = Unit {0}
 
 -- operands at a place can be resolved, with these counts before the first
-abbrev pub AreReady : RawRule → Place → Counts → List RawArgument → Type 0
+abbrev pub AreReady : RawRule → UseSite → Counts → List RawArgument → Type 0
 AreReady raw place before [] = Unit {0}
 AreReady raw place before (a ∷ arguments) = (ArgumentIsBound raw place a × IsWhole a × AreFew (past before a)) × AreReady raw place (past before a) arguments
 
@@ -71,16 +71,16 @@ abbrev pub AddsTerms : RawRule → Names → List Term → List (List RawNode) �
 AddsTerms raw names before more after = (written : List (List RawNode)) → TermsMean raw names written before → TermsMean raw names (written ++ more) after
 
 -- the place is one of the rule, or the one behind the last statement of a half
-abbrev pub IsPlaceOf : RawRule → Place → Type 0
+abbrev pub IsPlaceOf : RawRule → UseSite → Type 0
 IsPlaceOf raw (places.Source k) = k ≤ length raw.source
 IsPlaceOf raw (places.Target k) = k ≤ length raw.target
 IsPlaceOf raw places.Heading = Unit {0}
 
 -- a term can be resolved at the place: its names may be used there, and its nodes are in order
-abbrev pub TermIsReady : RawRule → Place → List RawNode → Type 0
+abbrev pub TermIsReady : RawRule → UseSite → List RawNode → Type 0
 TermIsReady raw place t = TermIsBound raw place t × IsTerm t
 
-abbrev pub HasReadyTerm : RawRule → Place → RawArgument → Type 0
+abbrev pub HasReadyTerm : RawRule → UseSite → RawArgument → Type 0
 HasReadyTerm raw place (raw_arguments.Term t) = TermIsReady raw place t
 HasReadyTerm raw place argument = Unit {0}
 

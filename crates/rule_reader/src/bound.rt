@@ -9,7 +9,7 @@ ghost use Rattle.rule_reader.specs.Faults.{IsFirst};
 
 use crate::counts::choices_in;
 use crate::names::Names;
-use crate::place::{Half, Place};
+use crate::place::{Half, UseSite};
 use crate::registers::{is_among, is_assigned};
 use crate::resolve::found;
 use rule_parse::{RawArgument, RawFormula, RawNode, RawOp, RawRule, RawTerm};
@@ -23,7 +23,7 @@ fn is_constant(rule: &RawRule, names: &Names, name: &[u8]) -> bool
 }
 
 /// Whether what a node of a term names may be used at the place.
-fn node_is_bound(rule: &RawRule, names: &Names, place: Place, node: &RawNode) -> bool
+fn node_is_bound(rule: &RawRule, names: &Names, place: UseSite, node: &RawNode) -> bool
     requires rule { IsWellFormed rule.now }
     requires names { AreNames rule.now.source names.now }
     requires place { IsPlaceOf rule.now place }
@@ -40,7 +40,7 @@ fn node_is_bound(rule: &RawRule, names: &Names, place: Place, node: &RawNode) ->
 }
 
 /// Whether what a term names may be used at the place.
-fn term_is_bound(rule: &RawRule, names: &Names, place: Place, term: &[RawNode]) -> bool
+fn term_is_bound(rule: &RawRule, names: &Names, place: UseSite, term: &[RawNode]) -> bool
     requires rule { IsWellFormed rule.now }
     requires names { AreNames rule.now.source names.now }
     requires place { IsPlaceOf rule.now place }
@@ -55,7 +55,7 @@ fn term_is_bound(rule: &RawRule, names: &Names, place: Place, term: &[RawNode]) 
 }
 
 /// Whether what an operand names may be used at the place.
-fn argument_is_bound(rule: &RawRule, names: &Names, place: Place, read: &RawArgument) -> bool
+fn argument_is_bound(rule: &RawRule, names: &Names, place: UseSite, read: &RawArgument) -> bool
     requires rule { IsWellFormed rule.now }
     requires names { AreNames rule.now.source names.now }
     requires place { IsPlaceOf rule.now place }
@@ -70,7 +70,7 @@ fn argument_is_bound(rule: &RawRule, names: &Names, place: Place, read: &RawArgu
 }
 
 /// Whether what a statement reads may be used at the place.
-fn op_is_bound(rule: &RawRule, names: &Names, place: Place, op: &RawOp) -> bool
+fn op_is_bound(rule: &RawRule, names: &Names, place: UseSite, op: &RawOp) -> bool
     requires rule { IsWellFormed rule.now }
     requires names { AreNames rule.now.source names.now }
     requires place { IsPlaceOf rule.now place }
@@ -116,11 +116,11 @@ fn formula_node_is_bound(rule: &RawRule, names: &Names, node: &RawFormula) -> bo
 {
     match node {
         RawFormula::Compare(_, left, right) => {
-            term_is_bound(rule, names, Place::Heading, left.as_slice())
-                && term_is_bound(rule, names, Place::Heading, right.as_slice())
+            term_is_bound(rule, names, UseSite::Heading, left.as_slice())
+                && term_is_bound(rule, names, UseSite::Heading, right.as_slice())
         }
         RawFormula::IsPowerOfTwo(term) | RawFormula::IsSignBit(term) => {
-            term_is_bound(rule, names, Place::Heading, term.as_slice())
+            term_is_bound(rule, names, UseSite::Heading, term.as_slice())
         }
         RawFormula::HasOneUse(name) => {
             let source = rule.source.as_slice();
@@ -148,10 +148,10 @@ fn formula_is_bound(rule: &RawRule, names: &Names, formula: &[RawFormula]) -> bo
 fn expressions_are_bound(rule: &RawRule, names: &Names, expressions: &[RawTerm]) -> bool
     requires rule { IsWellFormed rule.now }
     requires names { AreNames rule.now.source names.now }
-    ensures { IsTrue result ↔ Each (TermIsBound rule.now Place.Heading) expressions.now }
+    ensures { IsTrue result ↔ Each (TermIsBound rule.now UseSite.Heading) expressions.now }
 {
     for expression in expressions {
-        if !term_is_bound(rule, names, Place::Heading, expression.as_slice()) {
+        if !term_is_bound(rule, names, UseSite::Heading, expression.as_slice()) {
             return false;
         }
     }

@@ -14,7 +14,7 @@ pub(crate) enum Half {
 
 /// Where a name is used, which decides what it may be.
 #[derive(Clone, Copy, PartialEq, Eq)]
-pub(crate) enum Place {
+pub(crate) enum UseSite {
     /// In a statement of the source, by its place.
     Source(usize),
     /// In a statement of the target, by its place.
@@ -25,12 +25,12 @@ pub(crate) enum Place {
 
 impl Half {
     /// A use in this statement of the half.
-    pub(crate) fn place(self, statement: usize) -> Place
+    pub(crate) fn place(self, statement: usize) -> UseSite
         ensures { result ≡ place_in self statement }
     {
         match self {
-            Half::Source => Place::Source(statement),
-            Half::Target => Place::Target(statement),
+            Half::Source => UseSite::Source(statement),
+            Half::Target => UseSite::Target(statement),
         }
     }
 

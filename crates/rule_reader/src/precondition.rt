@@ -8,7 +8,7 @@ ghost use Rattle.rule_reader.specs.FaultKinds.{Each, FormulaIsBound};
 ghost use Rattle.rule_reader.specs.KnownRules.{TermIsReady, HasReadyTerms, AddsTerms};
 
 use crate::names::Names;
-use crate::place::Place;
+use crate::place::UseSite;
 use crate::registers::assigning;
 use crate::terms::add_term;
 use lists::List;
@@ -26,13 +26,13 @@ fn place_of_term(
 ) -> Result<u32, AllocError>
     requires rule { IsWellFormed rule.now }
     requires names { AreNames rule.now.source names.now }
-    requires ready { TermIsReady rule.now Place.Heading written.now }
+    requires ready { TermIsReady rule.now UseSite.Heading written.now }
     requires few { length terms.old + length written.now ≤ 256 }
     ensures means { OnOk result (AddsTerms rule.now names.now terms.old (written.now ∷ []) terms.new) }
     ensures count { OnOk result (length terms.new ≡ length terms.old + length written.now) }
     ensures place { IfOk result (λ n. suc n ≡ length terms.old + length written.now) }
 {
-    add_term(alloc, terms, rule, names, Place::Heading, written)?;
+    add_term(alloc, terms, rule, names, UseSite::Heading, written)?;
     Ok(terms.len() as u32 - 1)
 }
 

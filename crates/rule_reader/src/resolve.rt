@@ -9,7 +9,7 @@ ghost use Rattle.rule_reader.specs.KnownRules.{half_of, IsPlaceOf, Finds, HalfIs
 
 use crate::counts::Counts;
 use crate::names::Names;
-use crate::place::{Half, Place};
+use crate::place::{Half, UseSite};
 use crate::precondition::precondition;
 use crate::registers::{assigning, is_root, place_of};
 use crate::terms::target_terms;
@@ -34,7 +34,7 @@ fn in_source(rule: &RawRule, names: &Names, place: usize, name: &[u8]) -> Option
     requires rule { IsWellFormed rule.now }
     requires names { AreNames rule.now.source names.now }
     requires place { place ≤ length rule.now.source }
-    ensures { Finds rule.now names.now (Place.Source place) name.now result }
+    ensures { Finds rule.now names.now (UseSite.Source place) name.now result }
 {
     match assigning(rule.source.as_slice(), place, name) {
         Some(before) => Some(Register::Source(before as u32)),
@@ -46,7 +46,7 @@ fn in_source(rule: &RawRule, names: &Names, place: usize, name: &[u8]) -> Option
 fn before_root(rule: &RawRule, names: &Names, name: &[u8]) -> Option<Register>
     requires rule { IsWellFormed rule.now }
     requires names { AreNames rule.now.source names.now }
-    ensures { Finds rule.now names.now Place.Heading name.now result }
+    ensures { Finds rule.now names.now UseSite.Heading name.now result }
 {
     let source = rule.source.as_slice();
     match assigning(source, source.len() - 1, name) {
@@ -61,7 +61,7 @@ fn in_target(rule: &RawRule, names: &Names, place: usize, name: &[u8]) -> Option
     requires rule { IsWellFormed rule.now }
     requires names { AreNames rule.now.source names.now }
     requires place { place ≤ length rule.now.target }
-    ensures { Finds rule.now names.now (Place.Target place) name.now result }
+    ensures { Finds rule.now names.now (UseSite.Target place) name.now result }
 {
     if is_root(rule.source.as_slice(), name) {
         return None;
@@ -73,21 +73,21 @@ fn in_target(rule: &RawRule, names: &Names, place: usize, name: &[u8]) -> Option
 }
 
 /// The register that a name is at the place, if one may be used there.
-pub(crate) fn found(rule: &RawRule, names: &Names, place: Place, name: &[u8]) -> Option<Register>
+pub(crate) fn found(rule: &RawRule, names: &Names, place: UseSite, name: &[u8]) -> Option<Register>
     requires rule { IsWellFormed rule.now }
     requires names { AreNames rule.now.source names.now }
     requires place { IsPlaceOf rule.now place }
     ensures { Finds rule.now names.now place name.now result }
 {
     match place {
-        Place::Source(statement) => in_source(rule, names, statement, name),
-        Place::Target(statement) => in_target(rule, names, statement, name),
-        Place::Heading => before_root(rule, names, name),
+        UseSite::Source(statement) => in_source(rule, names, statement, name),
+        UseSite::Target(statement) => in_target(rule, names, statement, name),
+        UseSite::Heading => before_root(rule, names, name),
     }
 }
 
 /// The register that a name is at the place, where one may be used.
-pub(crate) fn register(rule: &RawRule, names: &Names, place: Place, name: &[u8]) -> Register
+pub(crate) fn register(rule: &RawRule, names: &Names, place: UseSite, name: &[u8]) -> Register
     requires rule { IsWellFormed rule.now }
     requires names { AreNames rule.now.source names.now }
     requires place { IsPlaceOf rule.now place }
@@ -117,7 +117,7 @@ pub(crate) fn constant(rule: &RawRule, names: &Names, name: &[u8]) -> u32
 fn argument(
     rule: &RawRule,
     names: &Names,
-    place: Place,
+    place: UseSite,
     before: Counts,
     written: &RawArgument,
 ) -> Argument
@@ -145,7 +145,7 @@ fn argument(
 fn operand(
     rule: &RawRule,
     names: &Names,
-    place: Place,
+    place: UseSite,
     before: Counts,
     written: &RawOperand,
 ) -> Operand
@@ -163,7 +163,7 @@ fn operand(
 }
 
 /// Resolves what a statement computes, with these counts before it.
-fn op(rule: &RawRule, names: &Names, place: Place, before: Counts, written: &RawOp) -> Op
+fn op(rule: &RawRule, names: &Names, place: UseSite, before: Counts, written: &RawOp) -> Op
     requires rule { IsWellFormed rule.now }
     requires names { AreNames rule.now.source names.now }
     requires place { IsPlaceOf rule.now place }

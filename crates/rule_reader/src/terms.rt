@@ -8,7 +8,7 @@ ghost use Rattle.rule_reader.specs.FaultKinds.{Each, NodeIsBound};
 ghost use Rattle.rule_reader.specs.KnownRules.{HalfIsBound, IsPlaceOf, NodeFits, TermIsReady, HasReadyTerm, AddsTerms};
 
 use crate::names::Names;
-use crate::place::{Half, Place};
+use crate::place::{Half, UseSite};
 use crate::resolve::{constant, register};
 use lists::List;
 use rule_core::{Node, Term};
@@ -16,7 +16,7 @@ use rule_parse::{RawArgument, RawNode, RawOp, RawRule};
 use std::alloc::{AllocError, Global};
 
 /// Resolves a node of a term, before which there are `before` nodes of other terms.
-fn node(rule: &RawRule, names: &Names, place: Place, before: u32, written: &RawNode) -> Node
+fn node(rule: &RawRule, names: &Names, place: UseSite, before: u32, written: &RawNode) -> Node
     requires rule { IsWellFormed rule.now }
     requires names { AreNames rule.now.source names.now }
     requires place { IsPlaceOf rule.now place }
@@ -43,7 +43,7 @@ pub(crate) fn add_term(
     terms: &mut List<Term>,
     rule: &RawRule,
     names: &Names,
-    place: Place,
+    place: UseSite,
     written: &[RawNode],
 ) -> Result<(), AllocError>
     requires rule { IsWellFormed rule.now }
@@ -70,7 +70,7 @@ fn add_argument(
     terms: &mut List<Term>,
     rule: &RawRule,
     names: &Names,
-    place: Place,
+    place: UseSite,
     read: &RawArgument,
 ) -> Result<(), AllocError>
     requires rule { IsWellFormed rule.now }
@@ -93,7 +93,7 @@ fn add_op(
     terms: &mut List<Term>,
     rule: &RawRule,
     names: &Names,
-    place: Place,
+    place: UseSite,
     op: &RawOp,
 ) -> Result<(), AllocError>
     requires rule { IsWellFormed rule.now }
@@ -140,7 +140,7 @@ pub(crate) fn target_terms(
             &mut terms,
             rule,
             names,
-            Place::Target(place),
+            UseSite::Target(place),
             &statement.op,
         )?;
     }

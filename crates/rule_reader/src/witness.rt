@@ -7,7 +7,7 @@ ghost use Rattle.rule_reader.specs.WellFormed.{IsWellFormed};
 ghost use Rattle.rule_reader.specs.FaultKinds.{Each, TermIsBound};
 
 use crate::names::Names;
-use crate::place::Place;
+use crate::place::UseSite;
 use crate::terms::add_term;
 use lists::List;
 use rule_core::Term;
@@ -32,7 +32,7 @@ fn expressions(
 ) -> Result<Choices, AllocError>
     requires rule { IsWellFormed rule.now }
     requires names { AreNames rule.now.source names.now }
-    requires bound { Each (TermIsBound rule.now Place.Heading) written.now }
+    requires bound { Each (TermIsBound rule.now UseSite.Heading) written.now }
     requires written { written.now ≡ expressions_of rule.now }
     ensures terms { IfOk result (λ w. TermsMean rule.now names.now (expressions_of rule.now) w.terms) }
     ensures places { IfOk result (λ w. w.places ≡ last_nodes 0 (expressions_of rule.now)) }
@@ -45,7 +45,7 @@ fn expressions(
             &mut terms,
             rule,
             names,
-            Place::Heading,
+            UseSite::Heading,
             written.as_slice(),
         )?;
         places.push(terms.len() as u32 - 1)?;
@@ -57,7 +57,7 @@ fn expressions(
 pub(crate) fn witness(alloc: Global, rule: &RawRule, names: &Names) -> Result<Choices, AllocError>
     requires rule { IsWellFormed rule.now }
     requires names { AreNames rule.now.source names.now }
-    requires bound { Each (TermIsBound rule.now Place.Heading) (expressions_of rule.now) }
+    requires bound { Each (TermIsBound rule.now UseSite.Heading) (expressions_of rule.now) }
     ensures terms { IfOk result (λ w. TermsMean rule.now names.now (expressions_of rule.now) w.terms) }
     ensures places { IfOk result (λ w. w.places ≡ last_nodes 0 (expressions_of rule.now)) }
 {

@@ -23,7 +23,7 @@ use Rattle.needed.proofs.Counting.{IsKept, block_at, block_back, kept_at, kept_b
 use Rattle.needed.proofs.Reading.{has_inst}
 use Rattle.needed.proofs.SearchLemmas.{end_reads, inst_reads}
 use Rattle.rule_typing.proofs.Images.{Contains-map}
-use Rattle.draft_steps.specs.Cleaning.{AllNeeded}
+use Rattle.draft_steps.specs.DeadCode.{AllNeeded}
 use Rattle.readers.proofs.Changing.{inst_there, known_has}
 use Rattle.readers.proofs.Reading.{read_in_block, reads_written, written, written_reads}
 

@@ -11,9 +11,9 @@ use Rattle.bindings.specs.declared.rule_match.Match.{Match}
 use Rattle.bindings.specs.Matches.{AreMatchesInAnyOrder, IsAt}
 use Rattle.draft.specs.declared.draft.Draft.{Draft}
 use Rattle.places.specs.declared.place.Place.{Place}
-use Rattle.draft_steps.specs.Cleaning.{IsClean}
+use Rattle.draft_steps.specs.DeadCode.{HasNoDeadCode}
 use Rattle.draft.specs.Drafts.{Stands, function_of, arena_of}
-use Rattle.draft_steps.specs.Queues.{IsQueueOf, waiting_in}
+use Rattle.draft_steps.specs.DraftWorklists.{IsWorklistOf, members_of}
 use Rattle.places.specs.Sets.{Rows, Has}
 use Rattle.draft.specs.Whole.{IsSettled}
 use Rattle.draft_steps.specs.MatchLaws.{AreSourcesWithin, placed_match}
@@ -44,10 +44,10 @@ PlaceOf m b n = (m.binding.block ≡ b) × (m.binding.place ≡ n)
 -- between steps: at every place that is not on the worklist all matches are turned down
 pub record IsFrontier (rules : List Rule) (table : List Row) (frontier : Frontier) : Type 0 where
   pub draft : IsSettled frontier.draft
-  pub clean : IsClean frontier.draft
-  pub queue : IsQueueOf frontier.draft frontier.queue
+  pub clean : HasNoDeadCode frontier.draft
+  pub worklist : IsWorklistOf frontier.draft frontier.worklist
   pub depth : AreSourcesWithin frontier.depth rules
-  pub turned_down : AreTurnedDownBut rules table Nowhere frontier.draft (waiting_in frontier.queue)
+  pub turned_down : AreTurnedDownBut rules table Nowhere frontier.draft (members_of frontier.worklist)
 
 -- of the matches at an instruction of the arena the verdicts up to the first that is admitted are asked, or all, if
 -- none is

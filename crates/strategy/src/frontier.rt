@@ -7,11 +7,11 @@ ghost use Rattle.ir_meaning.specs.HistoryLaws.{NumbersFit};
 ghost use Rattle.verdict_core.specs.declared.verdicts.Row.{Row as VerdictRow};
 ghost use Rattle.bindings.specs.Matches.{IsMatchAmong};
 ghost use Rattle.bindings.specs.Ready.{AreReady};
-ghost use Rattle.draft_steps.specs.Cleaning.{AllNeeded, IsClean};
+ghost use Rattle.draft_steps.specs.DeadCode.{AllNeeded, HasNoDeadCode};
 ghost use Rattle.draft.specs.Drafts.{AreTouched, HasRoomFor, arena_of, function_of, orders_of};
 ghost use Rattle.draft.specs.KeptOrders.{KeepsOrders};
 ghost use Rattle.places.specs.Orders.{none};
-ghost use Rattle.draft_steps.specs.Queues.{IsQueueOf, waiting_in};
+ghost use Rattle.draft_steps.specs.DraftWorklists.{IsWorklistOf, members_of};
 ghost use Rattle.readers.specs.Readers.{IsPlaceIn};
 ghost use Rattle.draft.specs.Whole.{IsSettled};
 ghost use Rattle.draft_steps.specs.MatchLaws.{AreSourcesWithin, placed_match};
@@ -24,7 +24,7 @@ ghost use Rattle.strategy.specs.Searches.{OptimisesCleaned, OptimisesFunction, S
 use crate::steps::{Bounds, Turns, clean_checked};
 use bindings::Match;
 use draft::Draft;
-use draft_steps::{Queue, matches_of_the_arena, matches_of_the_untouched, orders_are_kept};
+use draft_steps::{DraftWorklist, matches_of_the_arena, matches_of_the_untouched, orders_are_kept};
 use ir_core::Function;
 use needed::{every_cleaned_function_refines_the_old, every_cleaned_number_was_there};
 use places::Place;
@@ -39,7 +39,7 @@ use verdict::{Verdicts, any_admitted, first_admitted};
 pub(crate) struct Frontier {
     draft: Draft,
     /// The worklist: at every other place all matches are known to be turned down.
-    queue: Queue,
+    worklist: DraftWorklist,
     /// The most steps from a root to an operand of a match, over all rules.
     depth: usize,
 }
@@ -164,7 +164,7 @@ impl Frontier {
     {
         let draft = Draft::of(alloc, f)?;
         Ok(Frontier {
-            queue: Queue::all(alloc, &draft)?,
+            worklist: DraftWorklist::all(alloc, &draft)?,
             depth: depth_of(rules),
             draft,
         })
@@ -208,7 +208,7 @@ fn step(
     let found = next_admitted(
         alloc,
         &frontier.draft,
-        &mut frontier.queue,
+        &mut frontier.worklist,
         rules,
         verdicts,
         conflicts,
@@ -227,21 +227,21 @@ fn step(
 fn next_admitted(
     alloc: Global,
     draft: &Draft,
-    queue: &mut Queue,
+    worklist: &mut DraftWorklist,
     rules: &Rules<'_>,
     verdicts: &mut Verdicts,
     conflicts: u32,
 ) -> Result<Option<Match>, AllocError>
     requires settled { IsSettled draft.now }
-    requires queue { IsQueueOf draft.now queue.old }
-    requires turned_down { AreTurnedDownBut rules.now.all.now verdicts.old.table Nowhere draft.now (waiting_in queue.old) }
+    requires worklist { IsWorklistOf draft.now worklist.old }
+    requires turned_down { AreTurnedDownBut rules.now.all.now verdicts.old.table Nowhere draft.now (members_of worklist.old) }
     requires checks { MeetsChecks (function_of draft.now) }
     requires asks { MayAsk rules.now conflicts verdicts.old }
-    ensures queue { OnOk result (IsQueueOf draft.now queue.new) }
-    ensures found { IfOk result (SearchesTo rules.now.all.now conflicts draft.now (waiting_in queue.new) verdicts.old verdicts.new) }
+    ensures worklist { OnOk result (IsWorklistOf draft.now worklist.new) }
+    ensures found { IfOk result (SearchesTo rules.now.all.now conflicts draft.now (members_of worklist.new) verdicts.old verdicts.new) }
 {
     matches_of_the_arena();
-    while let Some(place) = queue.take_first(draft) {
+    while let Some(place) = worklist.take_first(draft) {
         let found = look_at(alloc, draft, rules, place, verdicts, conflicts)?;
         if let Some(chosen) = found {
             return Ok(Some(chosen));
@@ -312,8 +312,8 @@ fn rewrite_at(
 ) -> Result<Frontier, AllocError>
     requires ready { AreReady rules.now }
     requires settled { IsSettled frontier.draft }
-    requires clean { IsClean frontier.draft }
-    requires queue { IsQueueOf frontier.draft frontier.queue }
+    requires clean { HasNoDeadCode frontier.draft }
+    requires worklist { IsWorklistOf frontier.draft frontier.worklist }
     requires depth { AreSourcesWithin frontier.depth rules.now }
     requires matches { IsMatchAmong rules.now (function_of frontier.draft) (placed_match frontier.draft chosen.now) }
     requires checks { MeetsChecks (function_of frontier.draft) }
@@ -322,7 +322,7 @@ fn rewrite_at(
     ensures stepped { IfOk result (λ made. IsSteppedAt rules.now frontier.draft made.draft chosen.now) }
 
     // At places that are not on the new worklist matches stay turned down, whatever the table is.
-    ensures frontier { IfOk result (λ made. (table : Seq VerdictRow) → AreTurnedDownBut rules.now table (PlaceOf chosen.now) frontier.draft (waiting_in frontier.queue)
+    ensures frontier { IfOk result (λ made. (table : Seq VerdictRow) → AreTurnedDownBut rules.now table (PlaceOf chosen.now) frontier.draft (members_of frontier.worklist)
         → IsFrontier rules.now table made) }
     ensures checks { IfOk result (λ made. MeetsChecks (function_of made.draft)) }
     ensures numbers { IfOk result (λ made. NumbersFit (function_of made.draft)) }
@@ -332,14 +332,14 @@ fn rewrite_at(
     orders_are_kept();
     let Frontier {
         draft,
-        queue,
+        worklist,
         depth,
     } = frontier;
     let (rewritten, touched) = rewrite_draft(alloc, draft, rules, chosen)?;
-    let (waiting, last) = queue.insert_reaching(alloc, rewritten, touched.as_slice(), depth)?;
+    let (waiting, last) = worklist.insert_reaching(alloc, rewritten, touched.as_slice(), depth)?;
     Ok(Frontier {
         draft: last,
-        queue: waiting,
+        worklist: waiting,
         depth,
     })
 }
@@ -353,13 +353,13 @@ fn rewrite_draft(
 ) -> Result<(Draft, Vec<Place>), AllocError>
     requires ready { AreReady rules.now }
     requires settled { IsSettled draft }
-    requires clean { IsClean draft }
+    requires clean { HasNoDeadCode draft }
     requires matches { IsMatchAmong rules.now (function_of draft) (placed_match draft chosen.now) }
     requires checks { MeetsChecks (function_of draft) }
     requires numbers { NumbersFit (function_of draft) }
     requires room { HasRoomFor 1 draft }
     ensures settled { IfOk result (λ made. IsSettled made.0) }
-    ensures clean { IfOk result (λ made. IsClean made.0) }
+    ensures clean { IfOk result (λ made. HasNoDeadCode made.0) }
     ensures stepped { IfOk result (λ made. IsSteppedAt rules.now draft made.0 chosen.now) }
     ensures checks { IfOk result (λ made. MeetsChecks (function_of made.0)) }
     ensures numbers { IfOk result (λ made. NumbersFit (function_of made.0)) }

@@ -154,7 +154,7 @@ returns-clause-whole c =
     let n : ℕ = c.in_ok-number.number in
     let number_is : c.in_ok-number.number ≡ length block.insts = c.in_ok-number.ensures.number ∙ (c.requires.whole.rows b block at).ordered in
     let arena : Function = (with_blocks old c.push_inst.new.blocks).arena in
-    let new : Draft = record { arena = arena; facts = record { flow = old.facts.flow; uses = c.count_reads.new.uses }; orders = c.put_in_order.new.orders; stand = c.push_mark.new.stand; readers = c.list_reads.new.readers; fallen = c.push.new.self; has_cycles = c.note_phi.new.has_cycles } in
+    let new : Draft = record { arena = arena; facts = record { flow = old.facts.flow; uses = c.count_reads.new.uses }; orders = c.put_in_order.new.orders; stand = c.push_mark.new.stand; readers = c.list_reads.new.readers; dead_candidates = c.push.new.self; has_cycles = c.note_phi.new.has_cycles } in
     whole_put old new b c.args.at.number block c.args.inst c.requires.whole at (stands_marked old c.requires.whole b block at c.args.at.number c.requires.at).0 inside (c.requires.room block at) c.requires.known
     (record {
       arena = ap (λ (l : List Block). (with_blocks old l).arena) c.in_ok-push_inst.ensures;
@@ -207,9 +207,9 @@ returns-clause-orders c =
     (sym (c.in_ok-number.ensures.orders ∙ ap (λ (m : ℕ). slice_set old.orders.items c.args.at.block (put_before order c.args.at.number m)) c.in_ok-number.ensures.number))
     (next-keeps old c.args.at c.requires.whole c.requires.at)
 
-pub returns-clause-fallen : goal.returns-clause-fallen
-returns-clause-fallen c =
+pub returns-clause-dead_candidates : goal.returns-clause-dead_candidates
+returns-clause-dead_candidates c =
     let old = c.args.draft.now in
     let (block, at, inside) = stands_there old c.requires.whole c.args.at.block c.args.at.number c.requires.at in
     c.in_ok-push.ensures.items
-    ∙ ap (λ (m : ℕ). old.fallen.items ++ registers.Result c.args.at.block m ∷ []) (c.in_ok-number.ensures.number ∙ (c.requires.whole.rows c.args.at.block block at).ordered ∙ sym (end_of-is old.arena c.args.at.block block at))
+    ∙ ap (λ (m : ℕ). old.dead_candidates.items ++ registers.Result c.args.at.block m ∷ []) (c.in_ok-number.ensures.number ∙ (c.requires.whole.rows c.args.at.block block at).ordered ∙ sym (end_of-is old.arena c.args.at.block block at))

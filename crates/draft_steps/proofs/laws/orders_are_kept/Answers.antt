@@ -1,5 +1,5 @@
 use Rattle.draft.proofs.Keeping.{put-keeps, keeps-twice}
-use Rattle.draft_steps.proofs.QueueLaws.{queue-stays}
+use Rattle.draft_steps.proofs.WorklistLaws.{worklist-stays}
 use Rattle.draft_steps.proofs.laws.orders_are_kept.Goals as goal
 
 pub returns-clause-put : goal.returns-clause-put
@@ -9,4 +9,4 @@ pub returns-clause-twice : goal.returns-clause-twice
 returns-clause-twice c = keeps-twice
 
 pub returns-clause-queues : goal.returns-clause-queues
-returns-clause-queues c = queue-stays
+returns-clause-queues c = worklist-stays

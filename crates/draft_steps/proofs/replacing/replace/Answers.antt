@@ -27,7 +27,7 @@ loop-place-init c =
     let old = c.args.draft.now in
     let now = c.trim_readers.new.self in
     let same : numbers_of now ≡ numbers_of old = ap (λ (s : List (List Bool)). standing s now.orders.items) c.trim_readers.ensures.stand ∙ ap (standing old.stand.items) c.trim_readers.ensures.orders in
-    replacing_begins old now c.args.swap.now.from c.args.swap.now.to c.deref-place-items.result.now c.trim_readers.ensures.whole c.trim_readers.ensures.arena same c.trim_readers.ensures.orders c.trim_readers.ensures.fallen c.requires.to
+    replacing_begins old now c.args.swap.now.from c.args.swap.now.to c.deref-place-items.result.now c.trim_readers.ensures.whole c.trim_readers.ensures.arena same c.trim_readers.ensures.orders c.trim_readers.ensures.dead_candidates c.requires.to
     (λ p inside reads. subst (λ (l : List Place). Contains l p) (sym (c.deref-place-items.ensures.value ∙ c.in_ok-places.ensures.items)) (c.readers_of.ensures.readers p inside reads))
 
 pub replace_at-requires-clause-place : goal.replace_at-requires-clause-place
@@ -50,7 +50,7 @@ loop-place-preserved c =
     let inside = l.invariant.places p (subst (λ (f : Function). IsPlaceIn f p) c.trim_readers.ensures.arena ((c.trim_readers.ensures.exact p).0 listed).0) in
     let so_far = subst (IsReplacing old l.draft c.args.swap.now.from c.args.swap.now.to) (split places l.place-index within) l.invariant in
     let done = c.in_ok-replace_at.ensures in
-    replacing_goes old l.draft c.replace_at.new.draft c.args.swap.now.from c.args.swap.now.to p (drop (l.place-index + 1) places) so_far inside done.whole done.arena done.numbers done.orders done.fallen
+    replacing_goes old l.draft c.replace_at.new.draft c.args.swap.now.from c.args.swap.now.to p (drop (l.place-index + 1) places) so_far inside done.whole done.arena done.numbers done.orders done.dead_candidates
 
 pub returns-clause-arena : goal.returns-clause-arena
 returns-clause-arena c =

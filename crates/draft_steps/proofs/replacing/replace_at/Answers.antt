@@ -69,7 +69,7 @@ returns-in-Register-clause-whole c =
     let from = c.args.swap.now.from in
     let to = c.args.swap.now.to in
     let mid : Draft = with_blocks old c.swap_at.new.blocks in
-    let new : Draft = record { arena = mid.arena; facts = record { flow = old.facts.flow; uses = c.count_reads.new.uses }; orders = old.orders; stand = old.stand; readers = c.list.new.self; fallen = old.fallen; has_cycles = old.has_cycles } in
+    let new : Draft = record { arena = mid.arena; facts = record { flow = old.facts.flow; uses = c.count_reads.new.uses }; orders = old.orders; stand = old.stand; readers = c.list.new.self; dead_candidates = old.dead_candidates; has_cycles = old.has_cycles } in
     let arena = swapped_arena old.arena c.swap_at.new.blocks p from to c.swap_at.ensures.end c.swap_at.ensures.inst in
     on_ok_weaker c.list.result (λ listed. whole_after old new from to p c.requires.whole c.requires.place arena c.requires.to refl refl (record {
       mid = c.forget_reads.new.uses;
@@ -91,7 +91,7 @@ returns-in_default-clause-whole c =
     let from = c.args.swap.now.from in
     let to = c.args.swap.now.to in
     let mid : Draft = with_blocks old c.swap_at.new.blocks in
-    let new : Draft = record { arena = mid.arena; facts = record { flow = old.facts.flow; uses = c.count_reads.new.uses }; orders = old.orders; stand = old.stand; readers = old.readers; fallen = old.fallen; has_cycles = old.has_cycles } in
+    let new : Draft = record { arena = mid.arena; facts = record { flow = old.facts.flow; uses = c.count_reads.new.uses }; orders = old.orders; stand = old.stand; readers = old.readers; dead_candidates = old.dead_candidates; has_cycles = old.has_cycles } in
     let arena = swapped_arena old.arena c.swap_at.new.blocks p from to c.swap_at.ensures.end c.swap_at.ensures.inst in
     whole_after old new from to p c.requires.whole c.requires.place arena c.requires.to refl refl (record {
       mid = c.forget_reads.new.uses;

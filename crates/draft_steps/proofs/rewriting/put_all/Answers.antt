@@ -36,7 +36,7 @@ loop-inst-preserved c =
     record {
       so_far = subst (λ (p : List Place). ArePut c.args.draft.now c.put_before.new.draft c.args.at (l.yielded ++ c.in-Some.inst ∷ []) p) (sym c.in_ok-push.ensures.items)
           (put_more c.args.draft.now l.draft c.args.at l.yielded l.put.items c.requires.whole c.requires.at l.invariant.so_far c.put_before.new.draft c.in-Some.inst c.in_ok-put_before.field-0
-          e.whole e.arena e.place e.numbers e.orders e.fallen);
+          e.whole e.arena e.place e.numbers e.orders e.dead_candidates);
       left = append_assoc l.yielded (c.in-Some.inst ∷ []) (into_iter_items c.next.new.self) ∙ rw (← c.in-Some.ensures.steps.0) l.invariant.left;
     }
 

@@ -52,7 +52,7 @@ returns-clause-put c =
     put_instead old mid new c.args.rewrite n (record { put = c.in_ok-places.places; replaced = c.in_ok-replaced.replaced; result = c.args.rewrite.result }) b c.requires.block (record {
       arena_then = subst (λ (l : List Inst). mid.arena ≡ with_put old.arena b l) c.into_vec.ensures e.arena;
       numbers_then = subst (λ (l : List Inst). numbers_of mid ≡ rows_with (numbers_of old) b n (range_with_len (end_of old.arena b) (length l))) c.into_vec.ensures e.numbers;
-      fell_then = subst (λ (l : List Inst). mid.fallen.items ≡ old.fallen.items ++ map (λ number. registers.Result b number) (range_with_len (end_of old.arena b) (length l))) c.into_vec.ensures e.fell;
+      fell_then = subst (λ (l : List Inst). mid.dead_candidates.items ≡ old.dead_candidates.items ++ map (λ number. registers.Result b number) (range_with_len (end_of old.arena b) (length l))) c.into_vec.ensures e.fell;
       arena = r.arena;
       numbers = r.numbers;
       fell = r.fell;

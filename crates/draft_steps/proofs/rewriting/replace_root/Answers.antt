@@ -1,7 +1,7 @@
 use Rattle.draft.proofs.NumberedInsts.{insts-stay}
 use Rattle.draft_steps.proofs.rewriting.replace_root.Goals as goal
 
-pub take_out-requires-clause-at : goal.take_out-requires-clause-at
-take_out-requires-clause-at c =
+pub remove_inst-requires-clause-at : goal.remove_inst-requires-clause-at
+remove_inst-requires-clause-at c =
     let e = c.in_ok-replaced.ensures in
     insts-stay c.args.draft.now c.replace.new.draft c.requires.whole e.whole e.orders c.args.root.block c.args.root.number c.requires.root

@@ -27,32 +27,32 @@ pub rewrite_draft-requires-clause-result : goal.rewrite_draft-requires-clause-re
 rewrite_draft-requires-clause-result c =
     result_readable c.reads_of_a_block_stand_before.ensures c.args.draft.now c.requires.settled c.args.rule.now c.args.binding.now c.requires.checks c.requires.rule c.requires.matches
 
-pub clean_draft-requires-clause-waits : goal.clean_draft-requires-clause-waits
-clean_draft-requires-clause-waits c =
+pub eliminate_dead_code-requires-clause-waits : goal.eliminate_dead_code-requires-clause-waits
+eliminate_dead_code-requires-clause-waits c =
     let r = root_is c.reads_of_a_block_stand_before.ensures c.args.draft.now c.requires.settled c.args.rule.now c.args.binding.now c.requires.checks c.requires.rule c.requires.matches in
     let p = c.in_ok-rewritten.ensures.rewritten (root_inst c.reads_of_a_block_stand_before.ensures c.args.draft.now c.requires.settled c.args.rule.now c.args.binding.now c.requires.checks c.requires.rule c.requires.matches) r in
     waits c.reads_of_a_block_stand_before.ensures c.args.draft.now c.requires.settled c.args.rule.now c.args.binding.now c.requires.checks c.requires.rule c.requires.matches c.rewrite_draft.new.draft c.in_ok-rewritten.ensures.whole c.in_ok-rewritten.rewritten p c.requires.clean
 
-pub clean_draft-requires-clause-result : goal.clean_draft-requires-clause-result
-clean_draft-requires-clause-result c =
+pub eliminate_dead_code-requires-clause-result : goal.eliminate_dead_code-requires-clause-result
+eliminate_dead_code-requires-clause-result c =
     let r = root_is c.reads_of_a_block_stand_before.ensures c.args.draft.now c.requires.settled c.args.rule.now c.args.binding.now c.requires.checks c.requires.rule c.requires.matches in
     let p = c.in_ok-rewritten.ensures.rewritten (root_inst c.reads_of_a_block_stand_before.ensures c.args.draft.now c.requires.settled c.args.rule.now c.args.binding.now c.requires.checks c.requires.rule c.requires.matches) r in
     result_is_needed c.reads_of_a_block_stand_before.ensures c.args.draft.now c.requires.settled c.args.rule.now c.args.binding.now c.requires.checks c.requires.rule c.requires.matches c.rewrite_draft.new.draft c.in_ok-rewritten.ensures.whole c.in_ok-rewritten.rewritten p c.requires.clean
 
-pub clean_draft-requires-clause-read : goal.clean_draft-requires-clause-read
-clean_draft-requires-clause-read c =
+pub eliminate_dead_code-requires-clause-read : goal.eliminate_dead_code-requires-clause-read
+eliminate_dead_code-requires-clause-read c =
     let r = root_is c.reads_of_a_block_stand_before.ensures c.args.draft.now c.requires.settled c.args.rule.now c.args.binding.now c.requires.checks c.requires.rule c.requires.matches in
     let p = c.in_ok-rewritten.ensures.rewritten (root_inst c.reads_of_a_block_stand_before.ensures c.args.draft.now c.requires.settled c.args.rule.now c.args.binding.now c.requires.checks c.requires.rule c.requires.matches) r in
     are_read c.reads_of_a_block_stand_before.ensures c.args.draft.now c.requires.settled c.args.rule.now c.args.binding.now c.requires.checks c.requires.rule c.requires.matches c.rewrite_draft.new.draft c.in_ok-rewritten.ensures.whole c.in_ok-rewritten.rewritten p c.requires.clean
 
-pub clean_draft-requires-clause-reads_stand : goal.clean_draft-requires-clause-reads_stand
-clean_draft-requires-clause-reads_stand c =
+pub eliminate_dead_code-requires-clause-reads_stand : goal.eliminate_dead_code-requires-clause-reads_stand
+eliminate_dead_code-requires-clause-reads_stand c =
     let r = root_is c.reads_of_a_block_stand_before.ensures c.args.draft.now c.requires.settled c.args.rule.now c.args.binding.now c.requires.checks c.requires.rule c.requires.matches in
     let p = c.in_ok-rewritten.ensures.rewritten (root_inst c.reads_of_a_block_stand_before.ensures c.args.draft.now c.requires.settled c.args.rule.now c.args.binding.now c.requires.checks c.requires.rule c.requires.matches) r in
     (good_then c.reads_of_a_block_stand_before.ensures c.args.draft.now c.requires.settled c.args.rule.now c.args.binding.now c.requires.checks c.requires.rule c.requires.matches c.rewrite_draft.new.draft c.in_ok-rewritten.ensures.whole c.in_ok-rewritten.rewritten p).read
 
-pub clean_draft-requires-clause-checks : goal.clean_draft-requires-clause-checks
-clean_draft-requires-clause-checks c =
+pub eliminate_dead_code-requires-clause-checks : goal.eliminate_dead_code-requires-clause-checks
+eliminate_dead_code-requires-clause-checks c =
     let r = root_is c.reads_of_a_block_stand_before.ensures c.args.draft.now c.requires.settled c.args.rule.now c.args.binding.now c.requires.checks c.requires.rule c.requires.matches in
     let p = c.in_ok-rewritten.ensures.rewritten (root_inst c.reads_of_a_block_stand_before.ensures c.args.draft.now c.requires.settled c.args.rule.now c.args.binding.now c.requires.checks c.requires.rule c.requires.matches) r in
     checks_then c.reads_of_a_block_stand_before.ensures c.args.draft.now c.requires.settled c.args.rule.now c.args.binding.now c.requires.checks c.requires.rule c.requires.matches c.rewrite_draft.new.draft c.in_ok-rewritten.ensures.whole c.in_ok-rewritten.rewritten p c.rewritten_functions_meet_checks.ensures.checks c.requires.typed c.requires.numbers
@@ -61,25 +61,25 @@ pub returns-clause-settled : goal.returns-clause-settled
 returns-clause-settled c =
     let r = root_is c.reads_of_a_block_stand_before.ensures c.args.draft.now c.requires.settled c.args.rule.now c.args.binding.now c.requires.checks c.requires.rule c.requires.matches in
     let p = c.in_ok-rewritten.ensures.rewritten (root_inst c.reads_of_a_block_stand_before.ensures c.args.draft.now c.requires.settled c.args.rule.now c.args.binding.now c.requires.checks c.requires.rule c.requires.matches) r in
-    is_settled c.rewrite_draft.new.draft c.clean_draft.new.draft c.in_ok-used.ensures.whole (good_then c.reads_of_a_block_stand_before.ensures c.args.draft.now c.requires.settled c.args.rule.now c.args.binding.now c.requires.checks c.requires.rule c.requires.matches c.rewrite_draft.new.draft c.in_ok-rewritten.ensures.whole c.in_ok-rewritten.rewritten p) c.in_ok-used.ensures.cleaned c.in_ok-used.ensures.none_fell
+    is_settled c.rewrite_draft.new.draft c.eliminate_dead_code.new.draft c.in_ok-used.ensures.whole (good_then c.reads_of_a_block_stand_before.ensures c.args.draft.now c.requires.settled c.args.rule.now c.args.binding.now c.requires.checks c.requires.rule c.requires.matches c.rewrite_draft.new.draft c.in_ok-rewritten.ensures.whole c.in_ok-rewritten.rewritten p) c.in_ok-used.ensures.cleaned c.in_ok-used.ensures.none_fell
 
 pub returns-clause-clean : goal.returns-clause-clean
 returns-clause-clean c =
     let r = root_is c.reads_of_a_block_stand_before.ensures c.args.draft.now c.requires.settled c.args.rule.now c.args.binding.now c.requires.checks c.requires.rule c.requires.matches in
     let p = c.in_ok-rewritten.ensures.rewritten (root_inst c.reads_of_a_block_stand_before.ensures c.args.draft.now c.requires.settled c.args.rule.now c.args.binding.now c.requires.checks c.requires.rule c.requires.matches) r in
-    is_clean c.rewrite_draft.new.draft c.clean_draft.new.draft c.in_ok-used.ensures.whole (good_then c.reads_of_a_block_stand_before.ensures c.args.draft.now c.requires.settled c.args.rule.now c.args.binding.now c.requires.checks c.requires.rule c.requires.matches c.rewrite_draft.new.draft c.in_ok-rewritten.ensures.whole c.in_ok-rewritten.rewritten p) c.in_ok-used.ensures.cleaned
+    is_clean c.rewrite_draft.new.draft c.eliminate_dead_code.new.draft c.in_ok-used.ensures.whole (good_then c.reads_of_a_block_stand_before.ensures c.args.draft.now c.requires.settled c.args.rule.now c.args.binding.now c.requires.checks c.requires.rule c.requires.matches c.rewrite_draft.new.draft c.in_ok-rewritten.ensures.whole c.in_ok-rewritten.rewritten p) c.in_ok-used.ensures.cleaned
 
 pub returns-clause-steps : goal.returns-clause-steps
 returns-clause-steps c =
     let r = root_is c.reads_of_a_block_stand_before.ensures c.args.draft.now c.requires.settled c.args.rule.now c.args.binding.now c.requires.checks c.requires.rule c.requires.matches in
     let p = c.in_ok-rewritten.ensures.rewritten (root_inst c.reads_of_a_block_stand_before.ensures c.args.draft.now c.requires.settled c.args.rule.now c.args.binding.now c.requires.checks c.requires.rule c.requires.matches) r in
-    (function_of c.rewrite_draft.new.draft, is_rewritten c.reads_of_a_block_stand_before.ensures c.args.draft.now c.requires.settled c.args.rule.now c.args.binding.now c.requires.checks c.requires.rule c.requires.matches c.rewrite_draft.new.draft c.in_ok-rewritten.ensures.whole c.in_ok-rewritten.rewritten p, is_cleaned c.rewrite_draft.new.draft c.clean_draft.new.draft c.in_ok-used.ensures.whole (good_then c.reads_of_a_block_stand_before.ensures c.args.draft.now c.requires.settled c.args.rule.now c.args.binding.now c.requires.checks c.requires.rule c.requires.matches c.rewrite_draft.new.draft c.in_ok-rewritten.ensures.whole c.in_ok-rewritten.rewritten p) c.in_ok-used.ensures.cleaned)
+    (function_of c.rewrite_draft.new.draft, is_rewritten c.reads_of_a_block_stand_before.ensures c.args.draft.now c.requires.settled c.args.rule.now c.args.binding.now c.requires.checks c.requires.rule c.requires.matches c.rewrite_draft.new.draft c.in_ok-rewritten.ensures.whole c.in_ok-rewritten.rewritten p, is_cleaned c.rewrite_draft.new.draft c.eliminate_dead_code.new.draft c.in_ok-used.ensures.whole (good_then c.reads_of_a_block_stand_before.ensures c.args.draft.now c.requires.settled c.args.rule.now c.args.binding.now c.requires.checks c.requires.rule c.requires.matches c.rewrite_draft.new.draft c.in_ok-rewritten.ensures.whole c.in_ok-rewritten.rewritten p) c.in_ok-used.ensures.cleaned)
 
 pub returns-clause-room : goal.returns-clause-room
 returns-clause-room c =
     let r = root_is c.reads_of_a_block_stand_before.ensures c.args.draft.now c.requires.settled c.args.rule.now c.args.binding.now c.requires.checks c.requires.rule c.requires.matches in
     let p = c.in_ok-rewritten.ensures.rewritten (root_inst c.reads_of_a_block_stand_before.ensures c.args.draft.now c.requires.settled c.args.rule.now c.args.binding.now c.requires.checks c.requires.rule c.requires.matches) r in
-    λ steps room. room_stays steps c.rewrite_draft.new.draft c.clean_draft.new.draft c.in_ok-rewritten.ensures.whole c.in_ok-used.ensures.whole c.in_ok-used.ensures.orders
+    λ steps room. room_stays steps c.rewrite_draft.new.draft c.eliminate_dead_code.new.draft c.in_ok-rewritten.ensures.whole c.in_ok-used.ensures.whole c.in_ok-used.ensures.orders
     (room_then c.reads_of_a_block_stand_before.ensures c.args.draft.now c.requires.settled c.args.rule.now c.args.binding.now c.requires.checks c.requires.rule c.requires.matches c.rewrite_draft.new.draft c.in_ok-rewritten.ensures.whole c.in_ok-rewritten.rewritten p steps room)
 
 pub returns-clause-orders : goal.returns-clause-orders
@@ -94,7 +94,7 @@ returns-clause-touched c =
     let root : Place = record { block = c.args.binding.now.block; number = c.args.binding.now.place } in
     let r = root_is c.reads_of_a_block_stand_before.ensures c.args.draft.now c.requires.settled c.args.rule.now c.args.binding.now c.requires.checks c.requires.rule c.requires.matches in
     let p = c.in_ok-rewritten.ensures.rewritten (root_inst c.reads_of_a_block_stand_before.ensures c.args.draft.now c.requires.settled c.args.rule.now c.args.binding.now c.requires.checks c.requires.rule c.requires.matches) r in
-    are_touched c.reads_of_a_block_stand_before.ensures c.args.draft.now c.requires.settled c.args.rule.now c.args.binding.now c.requires.checks c.requires.rule c.requires.matches c.rewrite_draft.new.draft c.in_ok-rewritten.ensures.whole c.in_ok-rewritten.rewritten p c.requires.clean c.clean_draft.new.draft c.in_ok-used.ensures.whole c.in_ok-used.ensures.cleaned c.in_ok-used.used.items
+    are_touched c.reads_of_a_block_stand_before.ensures c.args.draft.now c.requires.settled c.args.rule.now c.args.binding.now c.requires.checks c.requires.rule c.requires.matches c.rewrite_draft.new.draft c.in_ok-rewritten.ensures.whole c.in_ok-rewritten.rewritten p c.requires.clean c.eliminate_dead_code.new.draft c.in_ok-used.ensures.whole c.in_ok-used.ensures.cleaned c.in_ok-used.used.items
     (c.in_ok-used.ensures.reads c.args.draft.now (keeps_then c.reads_of_a_block_stand_before.ensures c.args.draft.now c.requires.settled c.args.rule.now c.args.binding.now c.requires.checks c.requires.rule c.requires.matches c.rewrite_draft.new.draft c.in_ok-rewritten.ensures.whole c.in_ok-rewritten.rewritten p)) c.push_used.new.places.items
     (put_among c.in_ok-rewritten.rewritten.put.items c.in_ok-rewritten.rewritten.replaced.items c.as_slice.result.now c.push.new.self.items c.extend_from_slice.new.self.items c.push_used.new.places.items root c.in_ok-push.ensures.items c.in_ok-extend_from_slice.ensures.items c.as_slice.ensures.value c.in_ok-push_used.ensures.others)
     (replaced_among c.in_ok-rewritten.rewritten.put.items c.in_ok-rewritten.rewritten.replaced.items c.as_slice.result.now c.push.new.self.items c.extend_from_slice.new.self.items c.push_used.new.places.items root c.in_ok-push.ensures.items c.in_ok-extend_from_slice.ensures.items c.as_slice.ensures.value c.in_ok-push_used.ensures.others)
@@ -110,7 +110,7 @@ returns-clause-places c =
     let root : Place = record { block = c.args.binding.now.block; number = c.args.binding.now.place } in
     let r = root_is c.reads_of_a_block_stand_before.ensures c.args.draft.now c.requires.settled c.args.rule.now c.args.binding.now c.requires.checks c.requires.rule c.requires.matches in
     let p = c.in_ok-rewritten.ensures.rewritten (root_inst c.reads_of_a_block_stand_before.ensures c.args.draft.now c.requires.settled c.args.rule.now c.args.binding.now c.requires.checks c.requires.rule c.requires.matches) r in
-    c.in_ok-push_used.ensures.places (all_among c.in_ok-rewritten.rewritten.put.items c.in_ok-rewritten.rewritten.replaced.items c.as_slice.result.now c.push.new.self.items c.extend_from_slice.new.self.items c.push_used.new.places.items root c.in_ok-push.ensures.items c.in_ok-extend_from_slice.ensures.items c.as_slice.ensures.value c.in_ok-push_used.ensures.others (IsPlaceIn c.clean_draft.new.draft.arena)
-    (put_places c.reads_of_a_block_stand_before.ensures c.args.draft.now c.requires.settled c.args.rule.now c.args.binding.now c.requires.checks c.requires.rule c.requires.matches c.rewrite_draft.new.draft c.in_ok-rewritten.ensures.whole c.in_ok-rewritten.rewritten p c.clean_draft.new.draft c.in_ok-used.ensures.whole c.in_ok-used.ensures.orders)
-    (root_place c.reads_of_a_block_stand_before.ensures c.args.draft.now c.requires.settled c.args.rule.now c.args.binding.now c.requires.checks c.requires.rule c.requires.matches c.rewrite_draft.new.draft c.in_ok-rewritten.ensures.whole c.in_ok-rewritten.rewritten p c.clean_draft.new.draft c.in_ok-used.ensures.whole c.in_ok-used.ensures.orders)
-    (replaced_places c.reads_of_a_block_stand_before.ensures c.args.draft.now c.requires.settled c.args.rule.now c.args.binding.now c.requires.checks c.requires.rule c.requires.matches c.rewrite_draft.new.draft c.in_ok-rewritten.ensures.whole c.in_ok-rewritten.rewritten p c.clean_draft.new.draft c.in_ok-used.ensures.whole c.in_ok-used.ensures.orders))
+    c.in_ok-push_used.ensures.places (all_among c.in_ok-rewritten.rewritten.put.items c.in_ok-rewritten.rewritten.replaced.items c.as_slice.result.now c.push.new.self.items c.extend_from_slice.new.self.items c.push_used.new.places.items root c.in_ok-push.ensures.items c.in_ok-extend_from_slice.ensures.items c.as_slice.ensures.value c.in_ok-push_used.ensures.others (IsPlaceIn c.eliminate_dead_code.new.draft.arena)
+    (put_places c.reads_of_a_block_stand_before.ensures c.args.draft.now c.requires.settled c.args.rule.now c.args.binding.now c.requires.checks c.requires.rule c.requires.matches c.rewrite_draft.new.draft c.in_ok-rewritten.ensures.whole c.in_ok-rewritten.rewritten p c.eliminate_dead_code.new.draft c.in_ok-used.ensures.whole c.in_ok-used.ensures.orders)
+    (root_place c.reads_of_a_block_stand_before.ensures c.args.draft.now c.requires.settled c.args.rule.now c.args.binding.now c.requires.checks c.requires.rule c.requires.matches c.rewrite_draft.new.draft c.in_ok-rewritten.ensures.whole c.in_ok-rewritten.rewritten p c.eliminate_dead_code.new.draft c.in_ok-used.ensures.whole c.in_ok-used.ensures.orders)
+    (replaced_places c.reads_of_a_block_stand_before.ensures c.args.draft.now c.requires.settled c.args.rule.now c.args.binding.now c.requires.checks c.requires.rule c.requires.matches c.rewrite_draft.new.draft c.in_ok-rewritten.ensures.whole c.in_ok-rewritten.rewritten p c.eliminate_dead_code.new.draft c.in_ok-used.ensures.whole c.in_ok-used.ensures.orders))

@@ -6,6 +6,6 @@ use Rattle.readers.proofs.uses.push_reads.Given as goal
 
 abbrev pub invariant-loop-index : goal.invariant-loop-index
 invariant-loop-index l = record {
-  items : l.fallen.items ≡ l.fn.fallen.items ++ filter_map register_of (take l.index (operands_at l.arena l.place));
-  room : vec_len l.fallen + length (operands_at l.arena l.place) ≤ vec_capacity l.fallen + l.index;
+  items : l.dead_candidates.items ≡ l.fn.dead_candidates.items ++ filter_map register_of (take l.index (operands_at l.arena l.place));
+  room : vec_len l.dead_candidates + length (operands_at l.arena l.place) ≤ vec_capacity l.dead_candidates + l.index;
 }

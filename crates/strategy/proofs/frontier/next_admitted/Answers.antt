@@ -1,6 +1,6 @@
 use Rattle.std.proofs.Common.{map, subst}
 use Rattle.draft.specs.Drafts.{Stands}
-use Rattle.draft_steps.specs.Queues.{ComesNext, waiting_in}
+use Rattle.draft_steps.specs.DraftWorklists.{ComesNext, members_of}
 use Rattle.places.specs.Sets.{IsRemoved}
 use Rattle.strategy_core.specs.Asked.{pair_of}
 use Rattle.strategy.specs.Frontiers.{LooksAt}
@@ -10,9 +10,9 @@ use Rattle.strategy.proofs.frontier.next_admitted.Goals as goal
 
 pub loop-place-init : goal.loop-place-init
 loop-place-init c = record {
-  queue = c.requires.queue;
+  worklist = c.requires.worklist;
   others = c.requires.turned_down;
-  gone = not_gone c.matches_of_the_arena.ensures c.args.rules.now.all.now c.args.conflicts c.requires.asks.ready c.args.draft.now c.requires.settled c.requires.checks c.args.verdicts.now (waiting_in c.args.queue.now);
+  gone = not_gone c.matches_of_the_arena.ensures c.args.rules.now.all.now c.args.conflicts c.requires.asks.ready c.args.draft.now c.requires.settled c.requires.checks c.args.verdicts.now (members_of c.args.worklist.now);
 }
 
 pub take_first-requires-clause-whole : goal.take_first-requires-clause-whole
@@ -29,24 +29,24 @@ pub returns-in-Some-found-clause-found : goal.returns-in-Some-found-clause-found
 returns-in-Some-found-clause-found c =
     let rules = c.args.rules.now.all.now in
     let p = c.in-Some.place in
-    let removed : IsRemoved (waiting_in c.loop-place.queue) (waiting_in c.take_first.new.self) p = rw c.in-Some.is at c.take_first.ensures.removed in
-    let first : ComesNext c.args.draft.now c.loop-place.queue p = rw c.in-Some.is at c.take_first.ensures.first in
-    let next : Stands c.args.draft.now p.block p.number → IsNext c.args.draft.now (waiting_in c.loop-place.queue) p = λ stands. record { there = first.waits; none_before = first.none_before stands } in
+    let removed : IsRemoved (members_of c.loop-place.worklist) (members_of c.take_first.new.self) p = rw c.in-Some.is at c.take_first.ensures.removed in
+    let first : ComesNext c.args.draft.now c.loop-place.worklist p = rw c.in-Some.is at c.take_first.ensures.first in
+    let next : Stands c.args.draft.now p.block p.number → IsNext c.args.draft.now (members_of c.loop-place.worklist) p = λ stands. record { there = first.waits; none_before = first.none_before stands } in
     looked_found c.matches_of_the_arena.ensures rules c.args.conflicts c.requires.asks.ready c.args.draft.now c.requires.settled c.requires.checks c.args.verdicts.now
-    c.loop-place.verdicts (waiting_in c.loop-place.queue) (waiting_in c.take_first.new.self) p c.loop-place.invariant.gone c.loop-place.invariant.others removed next c.look_at.new.verdicts c.in-Some-found.chosen
+    c.loop-place.verdicts (members_of c.loop-place.worklist) (members_of c.take_first.new.self) p c.loop-place.invariant.gone c.loop-place.invariant.others removed next c.look_at.new.verdicts c.in-Some-found.chosen
     (subst (LooksAt rules c.args.conflicts c.args.draft.now p c.loop-place.verdicts c.look_at.new.verdicts) c.in-Some-found.is c.in_ok-found.ensures)
 
 pub loop-place-preserved : goal.loop-place-preserved
 loop-place-preserved c =
     let rules = c.args.rules.now.all.now in
     let p = c.in-Some.place in
-    let removed : IsRemoved (waiting_in c.loop-place.queue) (waiting_in c.take_first.new.self) p = rw c.in-Some.is at c.take_first.ensures.removed in
-    let first : ComesNext c.args.draft.now c.loop-place.queue p = rw c.in-Some.is at c.take_first.ensures.first in
-    let next : Stands c.args.draft.now p.block p.number → IsNext c.args.draft.now (waiting_in c.loop-place.queue) p = λ stands. record { there = first.waits; none_before = first.none_before stands } in
+    let removed : IsRemoved (members_of c.loop-place.worklist) (members_of c.take_first.new.self) p = rw c.in-Some.is at c.take_first.ensures.removed in
+    let first : ComesNext c.args.draft.now c.loop-place.worklist p = rw c.in-Some.is at c.take_first.ensures.first in
+    let next : Stands c.args.draft.now p.block p.number → IsNext c.args.draft.now (members_of c.loop-place.worklist) p = λ stands. record { there = first.waits; none_before = first.none_before stands } in
     let on = looked_past c.matches_of_the_arena.ensures rules c.args.conflicts c.requires.asks.ready c.args.draft.now c.requires.settled c.requires.checks c.args.verdicts.now
-    c.loop-place.verdicts (waiting_in c.loop-place.queue) (waiting_in c.take_first.new.self) p c.loop-place.invariant.gone c.loop-place.invariant.others removed next c.look_at.new.verdicts
+    c.loop-place.verdicts (members_of c.loop-place.worklist) (members_of c.take_first.new.self) p c.loop-place.invariant.gone c.loop-place.invariant.others removed next c.look_at.new.verdicts
     (subst (LooksAt rules c.args.conflicts c.args.draft.now p c.loop-place.verdicts c.look_at.new.verdicts) c.in_default-found.is c.in_ok-found.ensures) in
-    record { queue = c.take_first.ensures.queue; others = on.1; gone = on.0 }
+    record { worklist = c.take_first.ensures.worklist; others = on.1; gone = on.0 }
 
 pub loop-place-smaller : goal.loop-place-smaller
 loop-place-smaller c = rw c.in-Some.is at c.take_first.ensures.fewer
@@ -54,4 +54,4 @@ loop-place-smaller c = rw c.in-Some.is at c.take_first.ensures.fewer
 pub returns-clause-found : goal.returns-clause-found
 returns-clause-found c =
     searched c.matches_of_the_arena.ensures c.args.rules.now.all.now c.args.conflicts c.requires.asks.ready c.args.draft.now c.requires.settled c.requires.checks c.args.verdicts.now
-    c.loop-place.verdicts (waiting_in c.loop-place.queue) (waiting_in c.take_first.new.self) c.loop-place.invariant.gone c.loop-place.invariant.others (rw c.in_default.is at c.take_first.ensures.none)
+    c.loop-place.verdicts (members_of c.loop-place.worklist) (members_of c.take_first.new.self) c.loop-place.invariant.gone c.loop-place.invariant.others (rw c.in_default.is at c.take_first.ensures.none)

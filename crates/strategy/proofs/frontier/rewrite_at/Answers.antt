@@ -8,7 +8,7 @@ use Rattle.needed.specs.Cleaned.{IsCleaned}
 use Rattle.places.specs.declared.place.Place.{Place}
 use Rattle.draft.specs.Drafts.{arena_of, function_of, orders_of}
 use Rattle.places.specs.Orders.{none}
-use Rattle.draft_steps.specs.Queues.{waiting_in}
+use Rattle.draft_steps.specs.DraftWorklists.{members_of}
 use Rattle.readers.specs.Readers.{IsPlaceIn}
 use Rattle.draft_steps.proofs.SameDrafts.{same_numbers}
 use Rattle.draft_steps.proofs.Unchanged.{still_clean, still_settled}
@@ -18,9 +18,9 @@ use Rattle.strategy.proofs.Reaching.{reached_as_before}
 use Rattle.strategy.proofs.Requeueing.{same_function, still_down}
 use Rattle.strategy.proofs.frontier.rewrite_at.Goals as goal
 
-pub insert_reaching-requires-clause-queue : goal.insert_reaching-requires-clause-queue
-insert_reaching-requires-clause-queue c =
-    c.orders_are_kept.ensures.queues (orders_of c.args.frontier.draft) (orders_of c.in_ok-rewritten.rewritten) c.args.frontier.queue c.in_ok-rewritten.ensures.orders c.requires.queue
+pub insert_reaching-requires-clause-worklist : goal.insert_reaching-requires-clause-worklist
+insert_reaching-requires-clause-worklist c =
+    c.orders_are_kept.ensures.queues (orders_of c.args.frontier.draft) (orders_of c.in_ok-rewritten.rewritten) c.args.frontier.worklist c.in_ok-rewritten.ensures.orders c.requires.worklist
 
 pub insert_reaching-requires-clause-places : goal.insert_reaching-requires-clause-places
 insert_reaching-requires-clause-places c = subst (All (IsPlaceIn (arena_of c.in_ok-rewritten.rewritten))) (sym c.as_slice.ensures.value) c.in_ok-rewritten.ensures.places
@@ -45,12 +45,12 @@ returns-clause-frontier c table others =
     record {
       draft = still_settled new last c.in_ok-waiting.ensures.draft c.in_ok-rewritten.ensures.settled;
       clean = still_clean new last c.in_ok-waiting.ensures.draft c.in_ok-rewritten.ensures.clean;
-      queue = c.in_ok-waiting.ensures.queue;
+      worklist = c.in_ok-waiting.ensures.worklist;
       depth = c.requires.depth;
       turned_down = still_down c.matches_of_the_untouched.ensures rules c.requires.ready old new last touched c.args.frontier.depth c.requires.depth c.in_ok-rewritten.ensures.settled
           c.in_ok-rewritten.ensures.touched
           (reached_as_before old new stepped.0 is.rule (placed_match old chosen).binding c.requires.settled c.in_ok-rewritten.ensures.settled (stepped.2 is.rule is.is_rule) stepped.1)
-          c.in_ok-waiting.ensures.draft.arena (same_numbers c.in_ok-rewritten.rewritten c.in_ok-waiting.last c.in_ok-waiting.ensures.draft) (waiting_in c.args.frontier.queue) (waiting_in c.in_ok-waiting.waiting) c.in_ok-waiting.ensures.stay
+          c.in_ok-waiting.ensures.draft.arena (same_numbers c.in_ok-rewritten.rewritten c.in_ok-waiting.last c.in_ok-waiting.ensures.draft) (members_of c.args.frontier.worklist) (members_of c.in_ok-waiting.waiting) c.in_ok-waiting.ensures.stay
           (λ b n m has. c.in_ok-waiting.ensures.reaching (record { block = b; number = m }) n (subst (λ (l : List Place). Contains l (record { block = b; number = m })) (sym c.as_slice.ensures.value) has))
           (PlaceOf chosen)
           (λ b n of. subst (λ (x : ℕ). Contains touched (record { block = b; number = x })) of.1 (subst (λ (x : ℕ). Contains touched (record { block = x; number = chosen.binding.place })) of.0 c.in_ok-rewritten.ensures.root))

@@ -1,6 +1,6 @@
 use Rattle.std.proofs.Common.{Some, None, suc, subst, arith}
 use Rattle.draft.specs.Drafts.{function_of}
-use Rattle.draft_steps.specs.Queues.{waiting_in}
+use Rattle.draft_steps.specs.DraftWorklists.{members_of}
 use Rattle.draft_steps.specs.MatchLaws.{placed_match}
 use Rattle.strategy.specs.Frontiers.{SearchesTo}
 use Rattle.strategy.proofs.Requeueing.{room_for_fewer}
@@ -9,11 +9,11 @@ use Rattle.strategy.proofs.frontier.step.Goals as goal
 use Rattle.strategy.proofs.frontier.step.Goals.{In-Some, In_default}
 
 -- a match was found; and below, none was
-found : (c : In-Some) → SearchesTo c.args.rules.now.all.now c.args.conflicts c.args.frontier.draft (waiting_in c.next_admitted.new.queue) c.args.verdicts.now c.next_admitted.new.verdicts (Some c.in-Some.chosen)
-found c = subst (SearchesTo c.args.rules.now.all.now c.args.conflicts c.args.frontier.draft (waiting_in c.next_admitted.new.queue) c.args.verdicts.now c.next_admitted.new.verdicts) c.in-Some.is c.in_ok-found.ensures.found
+found : (c : In-Some) → SearchesTo c.args.rules.now.all.now c.args.conflicts c.args.frontier.draft (members_of c.next_admitted.new.worklist) c.args.verdicts.now c.next_admitted.new.verdicts (Some c.in-Some.chosen)
+found c = subst (SearchesTo c.args.rules.now.all.now c.args.conflicts c.args.frontier.draft (members_of c.next_admitted.new.worklist) c.args.verdicts.now c.next_admitted.new.verdicts) c.in-Some.is c.in_ok-found.ensures.found
 
-none_found : (c : In_default) → SearchesTo c.args.rules.now.all.now c.args.conflicts c.args.frontier.draft (waiting_in c.next_admitted.new.queue) c.args.verdicts.now c.next_admitted.new.verdicts None
-none_found c = subst (SearchesTo c.args.rules.now.all.now c.args.conflicts c.args.frontier.draft (waiting_in c.next_admitted.new.queue) c.args.verdicts.now c.next_admitted.new.verdicts) c.in_default.is c.in_ok-found.ensures.found
+none_found : (c : In_default) → SearchesTo c.args.rules.now.all.now c.args.conflicts c.args.frontier.draft (members_of c.next_admitted.new.worklist) c.args.verdicts.now c.next_admitted.new.verdicts None
+none_found c = subst (SearchesTo c.args.rules.now.all.now c.args.conflicts c.args.frontier.draft (members_of c.next_admitted.new.worklist) c.args.verdicts.now c.next_admitted.new.verdicts) c.in_default.is c.in_ok-found.ensures.found
 
 pub returns-in_default-clause-steps : goal.returns-in_default-clause-steps
 returns-in_default-clause-steps c =
@@ -24,7 +24,7 @@ pub returns-in_default-clause-frontier : goal.returns-in_default-clause-frontier
 returns-in_default-clause-frontier c = record {
   draft = c.requires.frontier.draft;
   clean = c.requires.frontier.clean;
-  queue = c.in_ok-found.ensures.queue;
+  worklist = c.in_ok-found.ensures.worklist;
   depth = c.requires.frontier.depth;
   turned_down = (none_found (goal.at.returns-in_default-clause-frontier c).In_default).1;
 }

@@ -62,7 +62,7 @@ loop-reader-preserved c =
     let old = c.args.draft.now in
     let new = c.trim_readers.new.self in
     let trimmed = c.trim_readers.ensures in
-    let same : IsSameDraft old new = record { whole = trimmed.whole; arena = trimmed.arena; orders = trimmed.orders; stand = trimmed.stand; fallen = trimmed.fallen } in
+    let same : IsSameDraft old new = record { whole = trimmed.whole; arena = trimmed.arena; orders = trimmed.orders; stand = trimmed.stand; dead_candidates = trimmed.dead_candidates } in
     let l = c.loop-reader in
     let places : List Place = c.readers_of-reader-items.result.now in
     let p : Place = place_at places l.reader-index in
@@ -94,7 +94,7 @@ loop-reader-preserved c =
 pub returns-clause-draft : goal.returns-clause-draft
 returns-clause-draft c =
     let trimmed = c.trim_readers.ensures in
-    record { whole = trimmed.whole; arena = trimmed.arena; orders = trimmed.orders; stand = trimmed.stand; fallen = trimmed.fallen }
+    record { whole = trimmed.whole; arena = trimmed.arena; orders = trimmed.orders; stand = trimmed.stand; dead_candidates = trimmed.dead_candidates }
 
 pub returns-clause-further : goal.returns-clause-further
 returns-clause-further c = c.loop-reader.invariant.further

@@ -1,5 +1,5 @@
 use Rattle.std.proofs.Common.{sym, subst}
-use Rattle.draft_steps.specs.Cleaning.{AllNeeded}
+use Rattle.draft_steps.specs.DeadCode.{AllNeeded}
 use Rattle.draft.specs.Drafts.{arena_of}
 use Rattle.draft.proofs.Wholeness.{stands_there}
 use Rattle.strategy.proofs.Searching.{unreached_down}
@@ -9,7 +9,7 @@ pub returns-clause-frontier : goal.returns-clause-frontier
 returns-clause-frontier c table = record {
   draft = c.in_ok-draft.ensures.settled;
   clean = λ b n stands. subst AllNeeded (sym c.in_ok-draft.ensures.arena) c.requires.needed b n (stands_there c.in_ok-draft.draft c.in_ok-draft.ensures.settled.whole b n stands);
-  queue = c.in_ok-all.ensures.queue;
+  worklist = c.in_ok-all.ensures.worklist;
   depth = c.depth_of.ensures;
   turned_down = λ b n stands away nowhere.
       unreached_down c.args.rules.now table (arena_of c.in_ok-draft.draft) b n (λ reached. away ((c.in_ok-all.ensures.all b n).1 (reached, stands)));
