@@ -11,7 +11,7 @@ use Rattle.ir_text.specs.PrintedText.{between_text, entry_text, entries_text}
 use Rattle.ir_printer.specs.FewNames.{EntryHasFewNames}
 use Rattle.ir_printer.specs.Gaps.{gap_before}
 
--- one entry more, and what stands before it
+-- one more entry, with what is printed before it
 push : (es : List Entry) (i : ℕ) (x : Entry) → slice_get es i ≡ Some x → entries_text (take (suc i) es) ≡ entries_text (take i es) ++ (gap_before es i ++ entry_text x)
 push [] i x at = cc
 push (e ∷ es) zero x at = let same : e ≡ x = cc in ap entry_text same

@@ -1,4 +1,4 @@
--- The identifiers of names that come one after the other.
+-- The identifiers of lists of names, one behind the other.
 use Rattle.std.proofs.Common.{◌≡◌, ℕ, suc, ◌+◌, ◌<◌, ◌≤◌, ◌^◌, List, [], ◌∷◌, ◌++◌, length, map, take, get_or, slice_get, None, Some, refl, sym, ap, ◌∙◌, append_assoc, arith, inl, inr}
 use Rattle.std.specs.List.{flat_map}
 use Rattle.std.proofs.lemmas.Bool.{cases_lt}
@@ -18,7 +18,7 @@ use Rattle.ir_printer.specs.declared.identifier.Identifier.{Identifier as Stored
 use Rattle.ir_printer.specs.FewNames.{HasFewNames}
 use Rattle.ir_printer.specs.Series.{seen, next_after, Adds, AreBlockStarts}
 
--- the identifiers of names, and then of further ones
+-- the identifiers of a concatenation of names
 pub identifiers_from-append : (next : ℕ) (xs ys : List Name) → identifiers_from next (xs ++ ys) ≡ identifiers_from next xs ++ identifiers_from (next_after next xs) ys
 identifiers_from-append next [] ys = refl
 identifiers_from-append next (None ∷ xs) ys = ap (λ (l : List Identifier). Numbered next ∷ l) (identifiers_from-append (suc next) xs ys)
@@ -35,7 +35,7 @@ length-identifiers_from next [] = refl
 length-identifiers_from next (None ∷ xs) = ap suc (length-identifiers_from (suc next) xs)
 length-identifiers_from next (Some text ∷ xs) = ap suc (length-identifiers_from next xs)
 
--- what adds names and then others adds both
+-- appending the identifiers of some names and then of others appends those of both
 pub Adds-append : (next : ℕ) (xs ys : List Name) (a b c : List Stored) (n m : ℕ) → Adds next xs a b n → Adds n ys b c m → Adds next (xs ++ ys) a c m
 Adds-append next xs ys a b c n m first second = record {
   identifiers =
@@ -46,22 +46,22 @@ Adds-append next xs ys a b c n m first second = record {
   goes_on = second.goes_on ∙ ap (λ (k : ℕ). next_after k ys) first.goes_on ∙ sym (next_after-append next xs ys);
 }
 
--- one more of a list of things with names
+-- the identifiers of one more item with a name
 pub Adds-more : {X : Type 0} (name : X → Name) (next : ℕ) (xs : List X) (i : ℕ) (x : X) (a b c : List Stored) (n m : ℕ) → i < length xs → x ≡ get_or xs i x → Adds next (map name (take i xs)) a b n → Adds n (name x ∷ []) b c m → Adds next (map name (take (i + 1) xs)) a c m
 Adds-more name next xs i x a b c n m within is first second = rw (map_more name xs i x within, ← is) (Adds-append next (map name (take i xs)) (name x ∷ []) a b c n m first second)
 
--- one more of a list of things with several names
+-- the identifiers of one more item with several names
 pub Adds-all_more : {X : Type 0} (names : X → List Name) (next : ℕ) (xs : List X) (i : ℕ) (x : X) (a b c : List Stored) (n m : ℕ) → i < length xs → x ≡ get_or xs i x → Adds next (flat_map names (take i xs)) a b n → Adds n (names x) b c m → Adds next (flat_map names (take (i + 1) xs)) a c m
 Adds-all_more names next xs i x a b c n m within is first second =
     let both = Adds-append next (flat_map names (take i xs)) (names x) a b c n m first second in
     let e : flat_map names (take (i + 1) xs) ≡ flat_map names (take i xs) ++ names x = rw (take_more xs i x within, ← is, flat_map-append names (take i xs) (x ∷ []), append-nil (names x)) refl in
     rw e both
 
--- how many identifiers there are then
+-- how many identifiers there are afterwards
 pub Adds-length : (next : ℕ) (names : List Name) (before after : List Stored) (n : ℕ) → Adds next names before after n → length after ≡ length before + length names
 Adds-length next names before after n adds = omega (arith, length-map before seen, length-map after seen, simp (length-append, length-identifiers_from) at (ap length adds.identifiers))
 
--- one more place
+-- the index of one more block
 pub AreBlockStarts-more : (first : ℕ) (blocks : List Block) (i : ℕ) (places : List ℕ) (place : ℕ) → i < length blocks → AreBlockStarts first (take i blocks) places → place ≡ first + length (flat_map block_names (take i blocks)) → AreBlockStarts first (take (i + 1) blocks) (places ++ place ∷ [])
 AreBlockStarts-more first blocks i places place within so_far is =
     let now : length (take i blocks) ≡ i = length-take-le i blocks (omega arith) in
@@ -84,7 +84,7 @@ all_identifiers f stored first second n none adds rest =
     ∙ ap (λ (k : ℕ). identifiers_from 0 (map (λ p. p.name) f.parameters) ++ identifiers_from k (flat_map block_names f.blocks)) adds.goes_on
     ∙ sym (identifiers_from-append 0 (map (λ p. p.name) f.parameters) (flat_map block_names f.blocks))
 
--- how many there are
+-- how many identifiers a function has
 pub length-identifiers_of : (f : Function) → length (identifiers_of f) ≡ length f.parameters + length (flat_map block_names f.blocks)
 length-identifiers_of f = length-identifiers_from 0 (names_of f) ∙ length-append (map (λ p. p.name) f.parameters) (flat_map block_names f.blocks) ∙ ap (λ (k : ℕ). k + length (flat_map block_names f.blocks)) (length-map f.parameters (λ p. p.name))
 
@@ -99,7 +99,7 @@ none_past xs i none = elim (cases_lt i (length xs)) [
   | inr le ↦ le
 ]
 
--- a block that the function has not, and what would be behind it
+-- a block that the function doesn't have, and its results
 pub past_blocks : (f : Function) (starts : List ℕ) (b : ℕ) → AreBlockStarts (length f.parameters) f.blocks starts → slice_get starts b ≡ None → length (identifiers_of f) ≤ block_place f b
 past_blocks f starts b places none =
     let past : length f.blocks ≤ b = omega (arith, places.all, none_past starts b none) in
@@ -114,16 +114,16 @@ no_result f starts b k places none =
     let past = past_blocks f starts b places none in
     slice_get_past (identifiers_of f) (block_place f b + 1 + k) (omega arith)
 
--- where a block begins
+-- the index of a block's own identifier
 pub start_is : (f : Function) (starts : List ℕ) (b start : ℕ) → AreBlockStarts (length f.parameters) f.blocks starts → slice_get starts b ≡ Some start → start ≡ block_place f b
 start_is f starts b start places some =
     let within : b < length starts = slice_get_within starts b start some in
     sym (get_or_from_slice_get starts b start 0 some) ∙ places.each b (omega (arith, places.all))
 
--- a place past all identifiers
+-- an index past all identifiers
 pub too_far : (f : Function) (stored : List Stored) (r : Register) → map seen stored ≡ identifiers_of f → length stored ≤ place_of f r → identifier_of f r ≡ None
 too_far f stored r all past = slice_get_past (identifiers_of f) (place_of f r) (omega (arith, ap length all, length-map stored seen))
 
--- the function has no more names than identifiers are kept
+-- the function has no more names than there are identifiers in memory
 pub few_names : (f : Function) (stored : List Stored) → map seen stored ≡ identifiers_of f → length stored < 2 ^ 64 → HasFewNames f
 few_names f stored all few = omega (arith, few, ap length all, length-map stored seen, length-identifiers_from 0 (names_of f))

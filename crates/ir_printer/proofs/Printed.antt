@@ -14,7 +14,7 @@ pub each_at : {X : Type 0} (text : X → List ℕ) (start before after : List �
     → after ≡ start ++ flat_map text (take (i + 1) xs)
 each_at text start before after xs i d within = each_more text start before after xs i (get_or xs i d) within (get_or_default xs i d (get_or xs i d) within)
 
--- the place of an item stands beside it
+-- an item and its index, as in the list with indices
 placed : {X : Type 0} (xs : List X) (i : ℕ) (x : X) → i < length xs → x ≡ get_or xs i x → (i, x) ≡ get_or (enumerate_from 0 xs) i (i, x)
 placed xs i x within is = sym (get_or-enumerate_from 0 xs i (i, x) within ∙ ap (λ n. (n, get_or xs i x)) (zero-add i) ∙ ap (λ y. (i, y)) (sym is))
 
@@ -22,7 +22,7 @@ pub each_placed_more : {X : Type 0} (text : ℕ × X → List ℕ) (start before
     → after ≡ start ++ flat_map text (take (i + 1) (enumerate_from 0 xs))
 each_placed_more text start before after xs i x within is = each_more text start before after (enumerate_from 0 xs) i (i, x) (omega (arith, length-enumerate_from 0 xs)) (placed xs i x within is)
 
--- an item behind others, with what separates them
+-- one more item behind others, with the separator
 join_by-push : {X : Type 0} (text : X → List ℕ) (separator : List ℕ) (xs : List X) (x : X) → join_by text separator (xs ++ x ∷ []) ≡ join_by text separator xs ++ (cond (eqb (length xs) 0) [] separator ++ text x)
 join_by-push text separator [] x = append-nil (text x)
 join_by-push text separator (y ∷ ys) x =
@@ -40,6 +40,6 @@ pub join_placed_more : {X : Type 0} (text : ℕ × X → List ℕ) (separator st
     → after ≡ before ++ (cond (eqb i 0) [] separator ++ text (i, x)) → after ≡ start ++ join_by text separator (take (i + 1) (enumerate_from 0 xs))
 join_placed_more text separator start before after xs i x within is = join_more text separator start before after (enumerate_from 0 xs) i (i, x) (omega (arith, length-enumerate_from 0 xs)) (placed xs i x within is)
 
--- all items, with their places
+-- all items, with their indices
 pub take_placed : {X : Type 0} (xs : List X) (i : ℕ) → length xs ≤ i → take i (enumerate_from 0 xs) ≡ enumerate_from 0 xs
 take_placed xs i past = take_all i (enumerate_from 0 xs) (omega (arith, length-enumerate_from 0 xs))

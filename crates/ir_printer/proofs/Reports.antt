@@ -1,4 +1,4 @@
--- The report on entries, as far as it is printed.
+-- The report on the entries printed so far.
 use Rattle.std.proofs.Common.{◌≡◌, ℕ, ◌≤◌, Bool, List, [], ◌∷◌, length, drop, None, Some, refl, sym, ap, ◌∙◌, Bor}
 use Rattle.std.specs.Prelude.{Option, MatchOption}
 use Rattle.std.specs.Option.{option_copied}
@@ -21,7 +21,7 @@ no_limits (entries.Kept line ∷ es) counts = no_limits es counts
 no_limits (entries.Function f ∷ es) [] = refl
 no_limits (entries.Function f ∷ es) (count ∷ counts) = refl
 
--- a function that has none has no line, and so have those behind it
+-- a function without a count has no line, and neither have those behind it
 pub no_more_counts : (f : Function) (es : List Entry) (counts : List ℕ) (limited : List Bool) (place : ℕ) → length counts ≤ place
     → rest_of_report es counts limited place ≡ rest_of_report (entries.Function f ∷ es) counts limited place
 no_more_counts f es counts limited place past =
@@ -36,7 +36,7 @@ no_more_limits f es counts limited place past =
     ap (λ ls. entries_report es (drop place counts) ls) gone ∙ no_limits es (drop place counts)
     ∙ sym (ap (λ ls. entries_report (entries.Function f ∷ es) (drop place counts) ls) gone ∙ no_limits (entries.Function f ∷ es) (drop place counts))
 
--- where no element was found, there is none
+-- where no item was found, there is none
 pub not_found : {X : Type 0} (found : Option (Bor X)) (Past : Type 0) (Here : Bor X → Type 0) → MatchOption found Past Here → option_copied found ≡ None → Past
 not_found None Past Here is none = is
 not_found (Some x) Past Here is none = let bad : Some x.now ≡ None = none in absurd cc

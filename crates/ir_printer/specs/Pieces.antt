@@ -1,4 +1,4 @@
--- What lines are made of.
+-- The pieces of lines.
 use Rattle.std.specs.Prelude.{List, [], ◌∷◌, ◌++◌, ℕ}
 use Rattle.ir_core.specs.declared.function.Function.{Function}
 use Rattle.ir_text.specs.PrintedText.{type_text, operand_text, typed_text, flags_text, block_name_text, target_text}

@@ -1,4 +1,4 @@
--- The identifiers of a function in text order, and where those of each block begin.
+-- The identifiers of a function in text order, and the index of each block's own.
 use Rattle.std.specs.Prelude.{◌≡◌, ℕ, suc, ◌+◌, ◌<◌, [], ◌∷◌, List, ◌++◌, length, map, take, slice_index, None, Some}
 use Rattle.std.specs.List.{flat_map}
 use Rattle.ir_core.specs.Names.{Name, block_names}
@@ -9,24 +9,24 @@ use Rattle.ir_core.specs.declared.function.Block.{Block}
 use Rattle.ir_printer.specs.declared.identifier.Identifier.{Identifier as Stored}
 use Rattle.ir_printer.specs.declared.identifier.Identifier.TheVariants as stored
 
--- the identifier that it is, without where its text lies
+-- the identifier in the code, without where its text lies in memory
 abbrev pub seen : Stored → Identifier
 seen (stored.Named text) = Named text.now
 seen (stored.Numbered number) = Numbered number
 
--- where the series of numbers goes on, behind things with these names
+-- the number with which the series goes on behind things with these names
 abbrev pub next_after : ℕ → List Name → ℕ
 next_after number [] = number
 next_after number (Some text ∷ names) = next_after number names
 next_after number (None ∷ names) = next_after (suc number) names
 
--- The identifiers of things with these names were added behind those before, from a number of the series on, which goes
--- on at the next number.
+-- The identifiers of things with these names were appended, where the series went on with this number; it goes on with
+-- `next`.
 pub record Adds (number : ℕ) (names : List Name) (before after : List Stored) (next : ℕ) : Type 0 where
   pub identifiers : map seen after ≡ map seen before ++ identifiers_from number names
   pub goes_on : next ≡ next_after number names
 
--- the places in text order of these blocks, of which the first stands at a place
+-- the indices of these blocks' own identifiers in text order, where `first` is that of the first block
 pub record AreBlockStarts (first : ℕ) (blocks : List Block) (places : List ℕ) : Type 0 where
   pub all : length places ≡ length blocks
   pub each : (b : ℕ) → b < length blocks → slice_index places b ≡ first + length (flat_map block_names (take b blocks))

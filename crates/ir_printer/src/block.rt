@@ -1,4 +1,4 @@
-//! Prints blocks.
+//! Printing blocks.
 
 ghost use Rattle.std.specs.Prelude.{◌≡◌, ◌++◌, codes, OnOk};
 ghost use Rattle.std.specs.List.{flat_map, enumerate_from};
@@ -13,7 +13,7 @@ use ir_core::{Block, Inst, Terminator};
 use lists::Text;
 use std::alloc::AllocError;
 
-/// Adds what stands before the first block: its label, if it has a name.
+/// Appends the head of the first block: its label, if it has a name.
 #[tactic(auto, unfolding(ir_text::specs::PrintedText::first_head_text))]
 fn push_first_head(out: &mut Vec<u8>, name: &Option<Text>) -> Result<(), AllocError>
     ensures { OnOk result (out.new.items ≡ out.old.items ++ first_head_text name.now) }
@@ -24,7 +24,7 @@ fn push_first_head(out: &mut Vec<u8>, name: &Option<Text>) -> Result<(), AllocEr
     }
 }
 
-/// Adds what stands before the block at a place.
+/// Appends the head of the block at an index: an empty line, if it is not the first, and its label.
 #[tactic(auto, unfolding(ir_text::specs::PrintedText::head_text))]
 fn push_head(
     out: &mut Vec<u8>,
@@ -42,7 +42,7 @@ fn push_head(
     push_label(out, called.block(place))
 }
 
-/// Adds the lines of a block's instructions.
+/// Appends the lines of a block's instructions.
 fn push_insts(
     out: &mut Vec<u8>,
     called: &Identifiers<'_>,
@@ -58,7 +58,7 @@ fn push_insts(
     Ok(())
 }
 
-/// Adds the line of how a block ends.
+/// Appends the line of a terminator.
 fn push_end_line(
     out: &mut Vec<u8>,
     called: &Identifiers<'_>,
@@ -72,7 +72,7 @@ fn push_end_line(
     out.extend_from_slice(b"\n")
 }
 
-/// Adds the lines of the block at a place.
+/// Appends the lines of the block at an index.
 #[tactic(auto, unfolding(ir_text::specs::PrintedText::block_text))]
 fn push_block(
     out: &mut Vec<u8>,
@@ -88,7 +88,7 @@ fn push_block(
     push_end_line(out, called, &block.end)
 }
 
-/// Adds the lines of all blocks.
+/// Appends the lines of all blocks.
 pub(crate) fn push_blocks(
     out: &mut Vec<u8>,
     called: &Identifiers<'_>,

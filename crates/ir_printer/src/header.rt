@@ -1,4 +1,4 @@
-//! Prints the headers of functions (LangRef, "Functions").
+//! Printing the headers of functions (LangRef, "Functions").
 
 ghost use Rattle.std.specs.Prelude.{◌≡◌, ◌==◌, if◌then◌else◌, [], ◌++◌, codes, OnOk};
 ghost use Rattle.std.specs.List.{flat_map, join_by, enumerate_from};
@@ -12,7 +12,7 @@ use ir_core::Parameter;
 use lists::Text;
 use std::alloc::AllocError;
 
-/// Adds an item of a header, behind a space.
+/// Appends a space and an item of a header.
 #[tactic(auto, unfolding(ir_text::specs::PrintedText::item_text))]
 fn push_item(out: &mut Vec<u8>, item: &Text) -> Result<(), AllocError>
     ensures { OnOk result (out.new.items ≡ out.old.items ++ item_text item.now) }
@@ -30,7 +30,7 @@ fn push_items(out: &mut Vec<u8>, items: &[Text]) -> Result<(), AllocError>
     Ok(())
 }
 
-/// Adds the parameter at a place, behind a comma where it is not the first.
+/// Appends the parameter at an index, with a comma before it if it is not the first.
 #[tactic(auto, unfolding(ir_text::specs::PrintedText::parameter_text))]
 fn push_parameter(
     out: &mut Vec<u8>,
@@ -48,7 +48,7 @@ fn push_parameter(
     push_parameter_name(out, called, place)
 }
 
-/// Adds the parameters between the parentheses.
+/// Appends the parameters, as they stand between the parentheses.
 fn push_parameters(
     out: &mut Vec<u8>,
     called: &Identifiers<'_>,
@@ -64,7 +64,7 @@ fn push_parameters(
     Ok(())
 }
 
-/// Adds what stands before the parameters.
+/// Appends the part of the header before the parameters.
 fn push_start(out: &mut Vec<u8>, called: &Identifiers<'_>) -> Result<(), AllocError>
     ensures { OnOk result (out.new.items ≡ out.old.items ++ (codes "define"
         ++ flat_map item_text called.now.function.now.before ++ codes " " ++ type_text called.now.function.now.width
@@ -77,7 +77,7 @@ fn push_start(out: &mut Vec<u8>, called: &Identifiers<'_>) -> Result<(), AllocEr
     push_function_name(out, called.function.name.as_slice())
 }
 
-/// Adds the first line of a function.
+/// Appends the first line of a function.
 #[tactic(auto, unfolding(ir_text::specs::PrintedText::header_text))]
 pub(crate) fn push_header(out: &mut Vec<u8>, called: &Identifiers<'_>) -> Result<(), AllocError>
     ensures { OnOk result (out.new.items ≡ out.old.items ++ header_text called.now.function.now) }

@@ -1,10 +1,10 @@
-//! What registers and blocks are called.
+//! Identifiers of registers and blocks.
 
-/// What a register or a block is called (LangRef, "Identifiers").
+/// The identifier of a register or a block (LangRef, "Identifiers").
 #[derive(Clone, Copy)]
 pub(crate) enum Identifier<'a> {
     /// A name, without the `%`.
     Named(&'a [u8]),
-    /// A number of the series of those without a name.
+    /// A number of the series for those without a name.
     Numbered(u64),
 }

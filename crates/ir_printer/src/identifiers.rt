@@ -1,4 +1,4 @@
-//! What all registers and blocks of a function are called, each found by its place.
+//! The identifiers of all registers and blocks of a function, found by index.
 
 ghost use Rattle.std.specs.Prelude.{◌≡◌, ◌≤◌, ◌∷◌, [], ◌++◌, length, map, slice_get, option_map, IfOk, OnOk};
 ghost use Rattle.std.specs.List.{flat_map};
@@ -12,7 +12,7 @@ use ir_core::{Block, Function, Inst, Parameter, Register};
 use lists::Text;
 use std::alloc::{AllocError, Global};
 
-/// A function with its identifiers in text order, and where those of each block begin.
+/// A function with its identifiers in text order, and the index of the first identifier of each block.
 #[derive(Drop)]
 pub(crate) struct Identifiers<'a> {
     pub(crate) function: &'a Function,
@@ -23,9 +23,9 @@ pub(crate) struct Identifiers<'a> {
         function.now.blocks starts.items },
 }
 
-/// Adds the identifier of a thing with this name: without one it takes the next number of the series.
+/// Appends the identifier of a thing with this name: without a name it takes the next number of the series.
 ///
-/// Gives where the series goes on.
+/// Returns the number with which the series goes on.
 fn add_name<'a>(
     in_order: &mut Vec<Identifier<'a>>,
     next_number: u64,
@@ -79,7 +79,7 @@ fn add_results<'a>(
     Ok(next_number)
 }
 
-/// Adds the identifiers of a block and of its results.
+/// Appends the identifiers of a block and of its results. Returns the number with which the series goes on.
 fn add_block<'a>(
     in_order: &mut Vec<Identifier<'a>>,
     next_number: u64,
@@ -94,7 +94,7 @@ fn add_block<'a>(
     add_results(in_order, next_number, block.insts.as_slice())
 }
 
-/// Adds the identifiers of blocks, and gives where those of each block begin.
+/// Appends the identifiers of blocks. Returns the index of each block's own identifier.
 fn add_blocks<'a>(
     alloc: Global,
     in_order: &mut Vec<Identifier<'a>>,
@@ -139,21 +139,21 @@ pub(crate) fn identifiers_in(
 }
 
 impl<'a> Identifiers<'a> {
-    /// What stands at a place in text order, if there is something.
+    /// The identifier at an index in text order, if there is one.
     fn at(&self, place: usize) -> Option<Identifier<'a>>
         ensures { option_map seen result ≡ slice_get (identifiers_of self.now.function.now) place }
     {
         self.in_order.get(place).copied()
     }
 
-    /// Where the identifiers of a block begin, if the function has it.
+    /// The index of a block's own identifier, if the function has the block.
     fn start(&self, block: usize) -> Option<usize>
         ensures { result ≡ slice_get self.now.starts.items block }
     {
         self.starts.get(block).copied()
     }
 
-    /// What a block is called, if the function has it.
+    /// The identifier of a block, if the function has it.
     pub(crate) fn block(&self, block: usize) -> Option<Identifier<'a>>
         ensures { option_map seen result ≡ block_identifier self.now.function.now block }
     {
@@ -161,7 +161,7 @@ impl<'a> Identifiers<'a> {
         self.at(start)
     }
 
-    /// What a parameter is called, if the function has it.
+    /// The identifier of a parameter, if the function has it.
     pub(crate) fn parameter(&self, parameter: usize) -> Option<Identifier<'a>>
         ensures { option_map seen result
             ≡ identifier_of self.now.function.now (Register.Parameter parameter) }
@@ -169,7 +169,7 @@ impl<'a> Identifiers<'a> {
         self.at(parameter)
     }
 
-    /// What the result of an instruction is called, by its block and its place there, if the function has it.
+    /// The identifier of an instruction's result, by the index of its block and its own there, if the function has it.
     pub(crate) fn result(&self, block: usize, inst: usize) -> Option<Identifier<'a>>
         ensures { option_map seen result
             ≡ identifier_of self.now.function.now (Register.Result block inst) }
@@ -179,7 +179,7 @@ impl<'a> Identifiers<'a> {
         self.at(place)
     }
 
-    /// What a register is called, if the function has it.
+    /// The identifier of a register, if the function has it.
     pub(crate) fn register(&self, register: Register) -> Option<Identifier<'a>>
         ensures { option_map seen result ≡ identifier_of self.now.function.now register }
     {

@@ -1,4 +1,4 @@
-//! Prints instructions (LangRef, "Instruction Reference").
+//! Printing instructions (LangRef, "Instruction Reference").
 
 ghost use Rattle.std.specs.Prelude.{◌≡◌, ◌==◌, if◌then◌else◌, [], ◌++◌, codes, OnOk};
 ghost use Rattle.std.specs.List.{join_by};
@@ -15,7 +15,7 @@ use ops::keywords::{cast_name, opcode_name, unary_name};
 use ops::{Cast, Flags, Opcode, Pred, Unary, Width};
 use std::alloc::AllocError;
 
-/// Adds an instruction with two operands, or a call of an intrinsic with two.
+/// Appends a binary operation, or a call of an intrinsic with two operands.
 #[tactic(auto, unfolding(ir_text::specs::PrintedText::op_text, ir_text::specs::PrintedText::binary_text))]
 fn push_binary(
     out: &mut Vec<u8>,
@@ -57,7 +57,7 @@ fn push_binary(
     )
 }
 
-/// Adds what stands before the arguments of a call of the intrinsic with this keyword.
+/// Appends a call of the intrinsic with this keyword, up to the arguments.
 #[tactic(auto, unfolding(ir_text::specs::PrintedText::callee_text))]
 fn push_callee(
     out: &mut Vec<u8>,
@@ -81,7 +81,7 @@ fn push_callee(
     )
 }
 
-/// The truth value behind the operand of an intrinsic that has one.
+/// What is printed behind the operand: the truth value, if the intrinsic takes one.
 #[tactic(auto, unfolding(ir_text::specs::PrintedText::truth_text))]
 fn behind_operand(op: Unary, truth: bool) -> &'static [u8]
     ensures { result.now ≡ truth_text op truth }
@@ -93,7 +93,7 @@ fn behind_operand(op: Unary, truth: bool) -> &'static [u8]
     }
 }
 
-/// Adds a call of an intrinsic with one operand.
+/// Appends a call of an intrinsic with one operand.
 #[tactic(auto, unfolding(ir_text::specs::PrintedText::op_text))]
 fn push_unary(
     out: &mut Vec<u8>,
@@ -119,7 +119,7 @@ fn push_unary(
     )
 }
 
-/// Adds a comparison of operands of the width.
+/// Appends a comparison of operands of the width.
 #[tactic(auto, unfolding(ir_text::specs::PrintedText::op_text))]
 fn push_compare(
     out: &mut Vec<u8>,
@@ -176,7 +176,7 @@ fn push_select(
     )
 }
 
-/// Adds a conversion from one width to another.
+/// Appends a conversion from one width to another.
 #[tactic(auto, unfolding(ir_text::specs::PrintedText::op_text))]
 fn push_convert(
     out: &mut Vec<u8>,
@@ -204,7 +204,7 @@ fn push_convert(
     )
 }
 
-/// Adds what a phi gives behind a block, behind a comma where it is not the first.
+/// Appends an incoming value of a phi with its block, and a comma before it if it is not the first.
 #[tactic(auto, unfolding(ir_text::specs::PrintedText::incoming_text))]
 fn push_incoming(
     out: &mut Vec<u8>,
@@ -230,7 +230,7 @@ fn push_incoming(
     )
 }
 
-/// Adds what a phi gives behind each block.
+/// Appends the incoming values of a phi with their blocks.
 fn push_all_incoming(
     out: &mut Vec<u8>,
     called: &Identifiers<'_>,
@@ -275,7 +275,7 @@ fn push_freeze(
     push_typed(out, called, width, operand)
 }
 
-/// Adds an operation whose result has the width.
+/// Appends an operation whose result has the width.
 fn push_op(
     out: &mut Vec<u8>,
     called: &Identifiers<'_>,
@@ -306,7 +306,7 @@ fn push_op(
     }
 }
 
-/// Adds the line of an instruction, by its block and its place there.
+/// Appends the line of an instruction, by the index of its block and its own there.
 #[tactic(auto, unfolding(ir_text::specs::PrintedText::inst_text))]
 pub(crate) fn push_inst(
     out: &mut Vec<u8>,

@@ -1,4 +1,4 @@
-//! Prints modules of LLVM IR, and the report on what became of one.
+//! Prints modules of LLVM IR, and the report on the rewriting of one.
 #![tactic(auto)]
 
 mod block;

@@ -1,4 +1,4 @@
-//! Prints modules (LangRef, "Module Structure").
+//! Printing modules (LangRef, "Module Structure").
 
 ghost use Rattle.std.specs.Prelude.{◌≡◌, ◌<◌, ◌++◌, length, IfOk, OnOk};
 ghost use Rattle.ir_core.specs.Checks.{ModuleMeetsChecks};
@@ -15,7 +15,7 @@ use crate::identifiers::{Identifiers, identifiers_in};
 use ir_core::{Entry, Function, Module};
 use std::alloc::{AllocError, Global};
 
-/// Adds the lines of a function whose identifiers these are.
+/// Appends the lines of a function whose identifiers these are.
 #[tactic(auto, unfolding(ir_text::specs::PrintedText::function_text))]
 fn push_lines(out: &mut Vec<u8>, called: &Identifiers<'_>) -> Result<(), AllocError>
     ensures { OnOk result (out.new.items ≡ out.old.items ++ function_text called.now.function.now) }
@@ -25,7 +25,7 @@ fn push_lines(out: &mut Vec<u8>, called: &Identifiers<'_>) -> Result<(), AllocEr
     out.extend_from_slice(b"}\n")
 }
 
-/// Adds the lines of a function.
+/// Appends the lines of a function.
 fn push_function(alloc: Global, out: &mut Vec<u8>, function: &Function) -> Result<(), AllocError>
     ensures text { OnOk result (out.new.items ≡ out.old.items ++ function_text function.now) }
     ensures few { OnOk result (HasFewNames function.now) }
@@ -34,7 +34,7 @@ fn push_function(alloc: Global, out: &mut Vec<u8>, function: &Function) -> Resul
     push_lines(out, &called)
 }
 
-/// Adds the lines of an entry.
+/// Appends the lines of an entry.
 #[tactic(auto, unfolding(ir_text::specs::PrintedText::entry_text))]
 fn push_entry(alloc: Global, out: &mut Vec<u8>, entry: &Entry) -> Result<(), AllocError>
     ensures text { OnOk result (out.new.items ≡ out.old.items ++ entry_text entry.now) }
@@ -49,7 +49,7 @@ fn push_entry(alloc: Global, out: &mut Vec<u8>, entry: &Entry) -> Result<(), All
     }
 }
 
-/// Adds what stands between two entries.
+/// Appends what is printed between two entries.
 #[tactic(auto, unfolding(ir_text::specs::PrintedText::between_text))]
 fn push_between(out: &mut Vec<u8>, entry: &Entry, next: &Entry) -> Result<(), AllocError>
     ensures { OnOk result (out.new.items ≡ out.old.items ++ between_text entry.now next.now) }
@@ -60,7 +60,7 @@ fn push_between(out: &mut Vec<u8>, entry: &Entry, next: &Entry) -> Result<(), Al
     }
 }
 
-/// Adds what stands between the entry at a place and the one before it, if there is one.
+/// Appends what is printed between the entry at an index and the one before it, if there is one.
 fn push_gap(out: &mut Vec<u8>, entries: &[Entry], place: usize) -> Result<(), AllocError>
     requires { place < length entries.now }
     ensures { OnOk result (out.new.items ≡ out.old.items ++ gap_before entries.now place) }
@@ -72,7 +72,7 @@ fn push_gap(out: &mut Vec<u8>, entries: &[Entry], place: usize) -> Result<(), Al
 }
 
 /// The text of a module: its entries in order, with an empty line between two of which one is a function. However long,
-/// it is the text of that module, where the module meets its checks and its parts have the forms of what is read.
+/// it is the text of that module, if the module meets its checks and its parts have the forms of what is read.
 ///
 /// The only error is want of memory.
 pub fn print_module(alloc: Global, m: &Module) -> Result<Vec<u8>, AllocError>

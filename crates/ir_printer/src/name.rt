@@ -1,4 +1,4 @@
-//! Prints names (LangRef, "Identifiers").
+//! Printing names (LangRef, "Identifiers").
 
 ghost use Rattle.std.specs.Prelude.{◌≡◌, ◌<◌, ◌==◌, ◌++◌, ◌||◌, ◌&&◌, not, codes, option_map, OnOk, OnErr};
 ghost use Rattle.scan.specs.Bytes.{is_printable};
@@ -13,8 +13,8 @@ use ir_core::Register;
 use ir_tokens::is_plain_name;
 use std::alloc::AllocError;
 
-/// Adds a name of a register, a block or a function as it is printed, without the mark before it: a plain one as it is,
-/// and every other between quotes.
+/// Appends a name of a register, a block or a function as it is printed, without the sigil before it: a plain name as
+/// it is, and every other between quotes.
 ///
 /// The only error is want of memory.
 #[tactic(auto, unfolding(ir_text::specs::NameText::name_text))]
@@ -30,7 +30,7 @@ pub fn push_name(out: &mut Vec<u8>, name: &[u8]) -> Result<(), AllocError>
     out.extend_from_slice(quoted.as_slice())
 }
 
-/// Adds a name between quotes.
+/// Appends a name between quotes.
 #[tactic(auto, unfolding(ir_text::specs::NameText::quoted_text))]
 fn push_quoted(out: &mut Vec<u8>, name: &[u8]) -> Result<(), AllocError>
     ensures { OnOk result (out.new.items ≡ out.old.items ++ quoted_text name.now) }
@@ -43,7 +43,7 @@ fn push_quoted(out: &mut Vec<u8>, name: &[u8]) -> Result<(), AllocError>
     Ok(())
 }
 
-/// Adds a byte of a name as it stands between quotes.
+/// Appends a byte of a name as it is written between quotes.
 #[tactic(auto, unfolding(ir_text::specs::NameText::escaped))]
 fn push_escaped(out: &mut Vec<u8>, byte: u8) -> Result<(), AllocError>
     ensures { OnOk result (out.new.items ≡ out.old.items ++ escaped byte) }
@@ -79,7 +79,7 @@ fn hex_digit(number: u8) -> u8
     }
 }
 
-/// Adds what a register or a block is called, without the `%`.
+/// Appends the identifier of a register or a block, without the `%`.
 #[tactic(auto, unfolding(ir_text::specs::PrintedText::identifier_text))]
 fn push_identifier(out: &mut Vec<u8>, identifier: Option<Identifier<'_>>) -> Result<(), AllocError>
     ensures { OnOk result (out.new.items
@@ -92,7 +92,7 @@ fn push_identifier(out: &mut Vec<u8>, identifier: Option<Identifier<'_>>) -> Res
     }
 }
 
-/// Adds a register.
+/// Appends a register.
 #[tactic(auto, unfolding(ir_text::specs::PrintedText::register_text))]
 pub(crate) fn push_register(
     out: &mut Vec<u8>,
@@ -106,7 +106,8 @@ pub(crate) fn push_register(
     push_identifier(out, called.register(register))
 }
 
-/// Adds what stands before an operation: the register of its result, by its block and its place there.
+/// Appends the start of an instruction's line: the indent, its result, by the index of its block and its own there, and
+/// ` = `.
 #[tactic(auto, unfolding(ir_text::specs::PrintedText::register_text))]
 pub(crate) fn push_assigned(
     out: &mut Vec<u8>,
@@ -122,7 +123,7 @@ pub(crate) fn push_assigned(
     out.extend_from_slice(b" = ")
 }
 
-/// Adds the register of a parameter, by its place, behind a space.
+/// Appends a space and the register of a parameter, by its index.
 #[tactic(auto, unfolding(ir_text::specs::PrintedText::register_text))]
 pub(crate) fn push_parameter_name(
     out: &mut Vec<u8>,
@@ -136,7 +137,7 @@ pub(crate) fn push_parameter_name(
     push_identifier(out, called.parameter(parameter))
 }
 
-/// Adds a block where it is named.
+/// Appends a block where it is named.
 #[tactic(auto, unfolding(ir_text::specs::PrintedText::block_name_text))]
 pub(crate) fn push_block_name(
     out: &mut Vec<u8>,
@@ -150,7 +151,7 @@ pub(crate) fn push_block_name(
     push_identifier(out, called.block(block as usize))
 }
 
-/// Adds a block to which control may go.
+/// Appends a block as the target of a terminator.
 #[tactic(auto, unfolding(ir_text::specs::PrintedText::target_text))]
 pub(crate) fn push_target(
     out: &mut Vec<u8>,
@@ -164,7 +165,7 @@ pub(crate) fn push_target(
     push_block_name(out, called, block)
 }
 
-/// Adds the line of a label.
+/// Appends the line of a label.
 #[tactic(auto, unfolding(ir_text::specs::PrintedText::label_text))]
 pub(crate) fn push_label(
     out: &mut Vec<u8>,
@@ -177,7 +178,7 @@ pub(crate) fn push_label(
     out.extend_from_slice(b":\n")
 }
 
-/// Adds the name of a function, behind its `@`.
+/// Appends the name of a function, with its `@`.
 #[tactic(auto, unfolding(ir_text::specs::PrintedText::function_name_text))]
 pub(crate) fn push_function_name(out: &mut Vec<u8>, name: &[u8]) -> Result<(), AllocError>
     ensures { OnOk result (out.new.items ≡ out.old.items ++ function_name_text name.now) }

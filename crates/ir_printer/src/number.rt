@@ -1,4 +1,4 @@
-//! Prints numbers and types (LangRef, "Simple Constants", "Integer Type").
+//! Printing numbers and types (LangRef, "Simple Constants", "Integer Type").
 
 ghost use Rattle.std.specs.Prelude.{◌≡◌, ◌++◌, OnOk, OnErr, decimal};
 ghost use Rattle.ir_text.specs.NumberText.{number_text};
@@ -8,7 +8,7 @@ use itoa::Buffer;
 use ops::{Width, Word};
 use std::alloc::AllocError;
 
-/// Adds a number in decimal.
+/// Appends a number in decimal.
 pub(crate) fn push_decimal(out: &mut Vec<u8>, number: u64) -> Result<(), AllocError>
     ensures ok { OnOk result (out.new.items ≡ out.old.items ++ decimal number) }
     ensures unmoved { OnErr result (out.new.items ≡ out.old.items) }
@@ -17,7 +17,7 @@ pub(crate) fn push_decimal(out: &mut Vec<u8>, number: u64) -> Result<(), AllocEr
     out.extend_from_slice(buffer.format(number).as_bytes())
 }
 
-/// Adds a type.
+/// Appends an integer type.
 #[tactic(auto, unfolding(ir_text::specs::PrintedText::type_text))]
 pub(crate) fn push_type(out: &mut Vec<u8>, width: Width) -> Result<(), AllocError>
     ensures { OnOk result (out.new.items ≡ out.old.items ++ type_text width) }
@@ -26,7 +26,7 @@ pub(crate) fn push_type(out: &mut Vec<u8>, width: Width) -> Result<(), AllocErro
     push_decimal(out, u64::from(width.bits()))
 }
 
-/// Adds a number of an integer type as it is printed: read in two's complement, and one bit as `true` or `false`.
+/// Appends a number of an integer type as it is printed: read in two's complement, and one bit as `true` or `false`.
 ///
 /// The only error is want of memory.
 #[tactic(auto, unfolding(ir_text::specs::NumberText::number_text))]

@@ -1,4 +1,4 @@
-//! Prints operands.
+//! Printing operands.
 
 ghost use Rattle.std.specs.Prelude.{◌≡◌, ◌++◌, OnOk};
 ghost use Rattle.ir_text.specs.PrintedText.{operand_text, typed_text};
@@ -10,7 +10,7 @@ use ir_core::Operand;
 use ops::Width;
 use std::alloc::AllocError;
 
-/// Adds an operand.
+/// Appends an operand.
 #[tactic(auto, unfolding(ir_text::specs::PrintedText::operand_text))]
 pub(crate) fn push_operand(
     out: &mut Vec<u8>,
@@ -28,7 +28,7 @@ pub(crate) fn push_operand(
     }
 }
 
-/// Adds an operand behind its type.
+/// Appends an operand with its type before it.
 #[tactic(auto, unfolding(ir_text::specs::PrintedText::typed_text))]
 pub(crate) fn push_typed(
     out: &mut Vec<u8>,

@@ -1,4 +1,4 @@
-//! Prints what lines are made of.
+//! Printing the pieces of lines.
 
 ghost use Rattle.std.specs.Prelude.{◌≡◌, ◌==◌, if◌then◌else◌, [], ◌++◌, codes, OnOk};
 ghost use Rattle.ir_printer.specs.Pieces.{piece_text, pieces_text};
@@ -23,17 +23,17 @@ pub(crate) enum Piece<'a> {
     Number(Word),
     /// An operand.
     Operand(Operand),
-    /// An operand behind its type.
+    /// An operand with its type before it.
     Typed(Width, Operand),
-    /// Flags, each behind a space.
+    /// Flags, each with a space before it.
     Flags(Flags),
     /// A block where it is named.
     Block(u32),
-    /// A block to which control may go.
+    /// A block as the target of a terminator.
     Target(u32),
 }
 
-/// Adds a piece.
+/// Appends a piece.
 fn push_piece(
     out: &mut Vec<u8>,
     called: &Identifiers<'_>,
@@ -54,7 +54,7 @@ fn push_piece(
     }
 }
 
-/// Adds pieces, one behind another.
+/// Appends pieces, one behind another.
 pub(crate) fn push_pieces(
     out: &mut Vec<u8>,
     called: &Identifiers<'_>,
@@ -69,7 +69,7 @@ pub(crate) fn push_pieces(
     Ok(())
 }
 
-/// Adds a comma before what stands at a place of a list, where it is not the first.
+/// Appends a comma, unless this is the index of the first item of a list.
 pub(crate) fn push_comma(out: &mut Vec<u8>, place: usize) -> Result<(), AllocError>
     ensures { OnOk result (out.new.items ≡ out.old.items ++ (if place == 0 then [] else codes ", ")) }
 {

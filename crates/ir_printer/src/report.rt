@@ -1,4 +1,4 @@
-//! Prints the report on a module.
+//! Printing the report on a module.
 
 ghost use Rattle.std.specs.Prelude.{◌≡◌, ◌++◌, [], ◌∷◌, if◌then◌else◌, codes, List as Seq, IfOk, OnOk};
 ghost use Rattle.ir_core.specs.declared.module.Entry.{Entry as any_entry};
@@ -10,7 +10,7 @@ use crate::number::push_decimal;
 use ir_core::{Entry, Function, Module};
 use std::alloc::{AllocError, Global};
 
-/// What stands behind the count in the line of a function.
+/// The part of a function's line behind the count.
 fn behind_count(is_limited: bool) -> &'static [u8]
     ensures { result.now ≡ codes " rewrites" ++ (if is_limited then codes ", limit" else []) ++ codes "\n" }
 {
@@ -21,7 +21,7 @@ fn behind_count(is_limited: bool) -> &'static [u8]
     }
 }
 
-/// Adds the line of a function.
+/// Appends the line of a function.
 #[tactic(auto, unfolding(ir_text::specs::Report::function_report))]
 fn push_line(
     out: &mut Vec<u8>,
@@ -37,8 +37,8 @@ fn push_line(
     out.extend_from_slice(behind_count(is_limited))
 }
 
-/// Adds the line of an entry, if it is a function, whose place among the functions this is; gives the place of the next
-/// one.
+/// Appends the line of an entry, if it is a function, whose index among the functions this is. Returns the index of the
+/// next function.
 fn push_entry(
     out: &mut Vec<u8>,
     entry: &Entry,

@@ -1,4 +1,4 @@
-//! Prints how blocks end (LangRef, "Terminator Instructions").
+//! Printing terminators (LangRef, "Terminator Instructions").
 
 ghost use Rattle.std.specs.Prelude.{◌≡◌, ◌++◌, OnOk};
 ghost use Rattle.std.specs.List.{flat_map};
@@ -35,7 +35,7 @@ fn push_branch(
     )
 }
 
-/// Adds the line of a case of a `switch`.
+/// Appends the line of a case of a `switch`.
 #[tactic(auto, unfolding(ir_text::specs::PrintedText::case_text))]
 fn push_case(
     out: &mut Vec<u8>,
@@ -74,7 +74,7 @@ fn push_cases(
     Ok(())
 }
 
-/// Adds a `switch` on an operand of the width.
+/// Appends a `switch` on an operand of the width.
 #[tactic(auto, unfolding(ir_text::specs::PrintedText::end_text))]
 fn push_switch(
     out: &mut Vec<u8>,
@@ -102,7 +102,7 @@ fn push_switch(
     out.extend_from_slice(b"  ]")
 }
 
-/// Adds a terminator, without the indent and the end of its line.
+/// Appends a terminator, without the indent and the end of its line.
 #[tactic(auto, unfolding(ir_text::specs::PrintedText::end_text))]
 pub(crate) fn push_end(
     out: &mut Vec<u8>,

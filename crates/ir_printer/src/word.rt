@@ -1,4 +1,4 @@
-//! Prints the words of instructions (LangRef, "Instruction Reference").
+//! Printing the words of instructions (LangRef, "Instruction Reference").
 
 ghost use Rattle.std.specs.Prelude.{◌≡◌, ◌++◌, OnOk};
 ghost use Rattle.ops.specs.Keywords.{predicate_keyword};
@@ -9,7 +9,7 @@ use ops::keywords::{EVERY_FLAG, Flag, flag_name, has_flag};
 use ops::{Flags, Pred};
 use std::alloc::AllocError;
 
-/// The word of a predicate.
+/// The keyword of a predicate.
 pub(crate) fn pred_name(pred: Pred) -> &'static [u8]
     ensures { result.now ≡ predicate_keyword pred }
 {
@@ -27,7 +27,7 @@ pub(crate) fn pred_name(pred: Pred) -> &'static [u8]
     }
 }
 
-/// Adds a flag behind a space, where it is among these.
+/// Appends a flag with a space before it, if it is among these.
 fn push_flag(out: &mut Vec<u8>, flags: Flags, flag: Flag) -> Result<(), AllocError>
     ensures { OnOk result (out.new.items ≡ out.old.items ++ flag_text flags flag) }
 {
@@ -38,7 +38,7 @@ fn push_flag(out: &mut Vec<u8>, flags: Flags, flag: Flag) -> Result<(), AllocErr
     Ok(())
 }
 
-/// Adds those that are among the flags, each behind a space.
+/// Appends those of `each` that are among the flags, each with a space before it.
 fn push_each_flag(out: &mut Vec<u8>, flags: Flags, each: &[Flag]) -> Result<(), AllocError>
     ensures { OnOk result (out.new.items ≡ out.old.items ++ flat_map (flag_text flags) each.now) }
 {
@@ -48,7 +48,7 @@ fn push_each_flag(out: &mut Vec<u8>, flags: Flags, each: &[Flag]) -> Result<(), 
     Ok(())
 }
 
-/// Adds flags, each behind a space.
+/// Appends flags, each with a space before it.
 #[tactic(auto, unfolding(ir_text::specs::PrintedText::flags_text))]
 pub(crate) fn push_flags(out: &mut Vec<u8>, flags: Flags) -> Result<(), AllocError>
     ensures { OnOk result (out.new.items ≡ out.old.items ++ flags_text flags) }

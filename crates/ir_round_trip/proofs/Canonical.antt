@@ -1,4 +1,4 @@
--- A function that meets its checks, and is written canonically, is meant.
+-- A function that meets its checks is what its canonical form means.
 use Rattle.std.proofs.Common.{◌≡◌, ℕ, ◌<◌, length, Option, None, Some, IsSome, refl, arith}
 use Rattle.std.specs.Prelude.{slice_get, option_map, option_and_then}
 use Rattle.std.proofs.lemmas.Option.{slice_get_within}
@@ -27,7 +27,7 @@ some_behind g None h = cc
 some_behind g (Some x) h = (x, refl, h)
 
 module _ (raw : RawFunction) (f : Function) (m : MeansBy (Identifies f) raw f) where
-  -- what the function has, it has as written
+  -- each thing of the function is one of the function as written
 
   has_register : (r : Register) → IsSome (width_of f r) → HasThing raw (Value r)
   has_register (registers.Parameter k) has =

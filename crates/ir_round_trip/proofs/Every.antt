@@ -1,4 +1,4 @@
--- What holds of every element of a list.
+-- Predicates that hold of every item of a list.
 use Rattle.std.proofs.Common.{◌≡◌, ℕ, zero, suc, List, [], ◌∷◌, ◌++◌, map, get_or, Some, subst, arith}
 use Rattle.std.specs.Prelude.{slice_get, All}
 use Rattle.std.specs.List.{AllByRecursion, AllZip}
@@ -29,7 +29,7 @@ module _ {X : Type 0} (P : X → Type 0) where
   every_right [] ys all = all
   every_right (x ∷ xs) ys all = every_right xs ys all.1
 
--- what goes together one by one with elements that have a form has another
+-- a predicate of related items, from one that holds of every item of the first list
 pub every_zip : {X Y : Type 0} (R : X → Y → Type 0) (P : X → Type 0) (Q : Y → Type 0) → ((x : X) (y : Y) → R x y → P x → Q y) → (xs : List X) (ys : List Y) → AllZip R xs ys → AllByRecursion P xs → AllByRecursion Q ys
 every_zip R P Q f [] [] all every = tt
 every_zip R P Q f [] (y ∷ ys) all every = absurd all

@@ -1,4 +1,4 @@
--- A function that meets its checks, and is written canonically, has no fault as it is written.
+-- The canonical form of a function that meets its checks has no fault as it is written.
 use Rattle.std.proofs.Common.{◌≡◌, inl, inr, ℕ, List, length, Some, sym, ap, subst, ◌∙◌, arith}
 use Rattle.std.specs.Prelude.{Contains, slice_get, option_map, option_and_then}
 use Rattle.std.proofs.lemmas.List.Elements.{All-contains}
@@ -71,7 +71,7 @@ module _ (raw : RawFunction) (f : Function) (writes : WritesFunction raw f) (for
         cases_differ (Calls raw) line w.end block.end means.2 (formed.cases b block is) again
   ]
 
-  -- ---- types that are written together
+  -- ---- types that are written in one instruction
 
   no_block_clash : (w : RawBlock) (line : ℕ) → Contains raw.blocks w → ¬ BlockClashesAt raw.width w line
   no_block_clash w line among clash =
@@ -87,7 +87,7 @@ module _ (raw : RawFunction) (f : Function) (writes : WritesFunction raw f) (for
         | inr end_clash ↦ end_fits (Calls raw) raw.width line w.end block.end means.2 types.1 (formed.cases b block is) end_clash
       ]
 
-  -- ---- what is read
+  -- ---- operands
 
   -- an operand that is written is one that is read
   abbrev IsOneRead : Typed → Type 0
@@ -113,7 +113,7 @@ module _ (raw : RawFunction) (f : Function) (writes : WritesFunction raw f) (for
   read_is : (t : Typed) → Contains (all_reads raw) t → IsOneRead t
   read_is t among = one_read t (stands_in read_by read_at_end raw t among)
 
-  -- a block that is named is one
+  -- a block that is named is a block of the function
   one_target : (w : RawIdentifier) → StandsIn named_by named_at_end raw w → (b : ℕ) × BlockMeans (Calls raw) w.identifier b
   one_target x (in_inst b k q w v at v_at x_at) =
       let (block, is, means) = pair_of_first (BlockIsOf (Calls raw)) raw.blocks f.blocks b w m.blocks at in
@@ -132,7 +132,7 @@ module _ (raw : RawFunction) (f : Function) (writes : WritesFunction raw f) (for
     | inr (w, among, (unknown, on)) ↦ let (b, calls) = one_target w (stands_in named_by named_at_end raw w among) in unknown b calls
   ]
 
-  -- ---- the widths of what is read
+  -- ---- the widths of operands
 
   width_is : (r : Register) (width : ℕ) → RegisterHasWidth raw r width → width_of f r ≡ Some width
   width_is (registers.Parameter k) width (p, at, is) =
@@ -143,7 +143,7 @@ module _ (raw : RawFunction) (f : Function) (writes : WritesFunction raw f) (for
       let (inst, inst_at, v_means) = pair_of_first (InstMeans (Calls raw)) w.insts block.insts k v means.1 v_at in
       ap (option_and_then (λ (x : CoreBlock). option_map (λ (i : Inst). i.width) (slice_get x.insts k))) is_block ∙ ap (option_map (λ (i : Inst). i.width)) inst_at ∙ ap Some (v_means.1 ∙ is)
 
-  -- a name calls one register
+  -- an identifier refers to one register only
   one_register : (x : Identifier) (r s : Register) → Calls raw x (Value r) → Calls raw x (Value s) → r ≡ s
   one_register x r s p q =
       let (n, r_found) = ((table raw no_repeat).things x (Value r)).1 p in

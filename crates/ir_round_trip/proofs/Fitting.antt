@@ -1,4 +1,4 @@
--- What is written canonically for a function that meets its checks fits its types, and names nothing that is not there.
+-- The canonical form of a function that meets its checks agrees in its types, and uses only what it defines.
 use Rattle.std.proofs.Common.{◌≡◌, inl, inr, ℕ, List, [], map, Some, refl, sym, ap, subst, ◌∙◌, arith}
 use Rattle.std.specs.Prelude.{slice_get}
 use Rattle.std.specs.List.{AllZip}
@@ -36,7 +36,7 @@ use Rattle.ir_text.specs.CanonicalModule.{TypesFit, EndTypesFit}
 module _ (C : Identifier → Thing → Type 0) where
   -- ---- values
 
-  -- a name that is read calls a register
+  -- an identifier that is read refers to a register
   pub register_meant : (x : Identifier) (a : Operand) → ValueMeans C (values.Register x) a → (r : Register) × (a ≡ operands.Register r) × C x (Value r)
   register_meant x (operands.Register r) h = (r, refl, h)
   register_meant x (operands.Number n) h = cc
@@ -85,7 +85,7 @@ module _ (C : Identifier → Thing → Type 0) where
   op_fits w width line o h wide fit typed clash = absurd h
 
   module _ (cases : List RawCase) (entries : List (Number × ℕ)) (all : AllZip (CaseMeans C) cases entries) where
-    -- the number of a case that is written
+    -- the number of a case as it is written
     case_entry : (k : ℕ) (c : RawCase) → slice_get cases k ≡ Some c → (e : Number × ℕ) × (slice_get entries k ≡ Some e) × (literal_of c.value.value ≡ Some e.0)
     case_entry k c at = let (e, e_at, means) = pair_of_first (CaseMeans C) cases entries k c all at in (e, e_at, means.0)
 
@@ -106,7 +106,7 @@ module _ (C : Identifier → Thing → Type 0) where
   end_fits returned line terminators.Unreachable t h fit differ clash = clash
   end_fits returned line w t h fit differ clash = absurd h
 
-  -- no two cases have one number
+  -- no two cases have the same number
   pub cases_differ : (line : ℕ) (w : RawTerminator) (t : Terminator) → EndMeans C w t → CasesFit t → ¬ Repeats HasNumber IsCaseOn (cases_of w) line
   cases_differ line (terminators.Switch n a other cases) (ends.Switch x m b entries) h differ (j, (c, number, at, (p, literal, is), (d, before, (q, literal', is')), on)) =
       let (i, lt, d_at) = place_before j cases d before in

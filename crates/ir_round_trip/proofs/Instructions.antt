@@ -1,4 +1,4 @@
--- What a cleaned function has, the old one has: its blocks, and of their instructions those that are kept.
+-- The blocks of a cleaned function are those of the old one, each with some of its instructions.
 use Rattle.std.proofs.Common.{◌≡◌, ℕ, ◌+◌, true, Some, sym, ap, subst, ◌∙◌, arith}
 use Rattle.std.specs.Prelude.{slice_get}
 use Rattle.ir_core.specs.declared.function.Function.{Function}
@@ -10,7 +10,7 @@ use Rattle.needed.specs.KeptFunction.{KeptMarks, moved_inst, kept_block}
 use Rattle.needed.specs.Cleaned.{IsCleaned}
 use Rattle.needed.proofs.Counting.{IsKept, kept_back, block_back}
 
--- block b of a cleaned function is the old one with its kept instructions
+-- block b of a cleaned function is the old one with its kept instructions alone
 pub block_of_old : (f g : Function) (c : IsCleaned f g) (b : ℕ) (new : Block) → IsBlock g b new → (block : Block) × IsBlock f b block × (kept_block c.0 b block ≡ new)
 block_of_old f g c b new h = block_back c.0 f b new (subst (λ (x : Function). IsBlock x b new) c.2 h)
 
@@ -22,7 +22,7 @@ pub record IsOld (f : Function) (kept : KeptMarks) (b : ℕ) (new : Inst) : Type
   pub keep : kept b place ≡ true
   pub moved : moved_inst kept inst ≡ new
 
--- it is one of the old that is kept, with its operands moved
+-- it is a kept one of the old instructions, with the registers of its operands renamed
 pub inst_of_old : (f g : Function) (c : IsCleaned f g) (b k : ℕ) (new : Inst) → IsInst g b k new → IsOld f c.0 b new
 inst_of_old f g c b k new h =
     let was : (block : Block) × IsBlock f b block × (kept_block c.0 b block ≡ h.block) = block_of_old f g c b h.block h.is_block in

@@ -1,4 +1,4 @@
--- An item that is read has the form of one: read alone, it is the same item.
+-- The text of an item that was read has the form of an item: read alone, it is the same item.
 use Rattle.std.proofs.Common.{◌≡◌, ℕ, Bool, true, false, not, List, [], ◌∷◌, ◌++◌, None, refl, sym, ap, subst, ◌∙◌, inl}
 use Rattle.std.specs.Prelude.{codes, IsTrue}
 use Rattle.std.specs.Str.{bytes_eq}
@@ -21,11 +21,11 @@ use Rattle.ir_instructions.specs.ItemGrammar.{SpellsItem, of_word, of_word_and_g
 use Rattle.ir_text.specs.Forms.{IsItem}
 use Rattle.ir_round_trip.proofs.StatementForms.{Yields, on_line}
 
--- a token with nothing before it
+-- a token with no gap before it
 abbrev alone : Token → Lexeme
 alone t = record { gap = []; token = t }
 
--- in a header a token is one by itself where no word is before it
+-- in a header, with no word before it, a token extends no further
 no_word : (line : ℕ) (bytes : List ℕ) → extent_of (InHeader None) line bytes ≡ extents.Itself
 unfolding extent_of
 no_word line bytes = by (bytes_eq bytes (codes "(")) refl
@@ -34,7 +34,7 @@ no_word line bytes = by (bytes_eq bytes (codes "(")) refl
     by true is = rw is refl
     by false is = rw is refl
 
--- no `(` or `=` goes on a token
+-- neither `(` nor `=` continues a token
 bracket_ends : (group : List ℕ) → IsGroupText group → not (begins_with goes_on ((group ++ []) ++ [])) ≡ true
 unfolding is_name_byte begins_name is_letter is_digit
 bracket_ends group (content, balanced, is) = subst (λ g. not (begins_with goes_on ((g ++ []) ++ [])) ≡ true) (sym is) refl
@@ -44,7 +44,7 @@ unfolding is_name_byte begins_name is_letter is_digit
 equals_ends rest = refl
 
 module _ (law : LexemesAreTokens) where
-  -- the tokens of a text that is spelled so
+  -- the tokens of a text that is written by these lexemes
   tokens_alone : (text : List ℕ) (lexemes : List Lexeme) → spelled lexemes ++ [] ≡ text → AreLexemes (InHeader None) 1 lexemes []
       → (line : ℕ) × TokensFrom text (InHeader None) 0 (placed_from 1 lexemes ++ (line, End) ∷ [])
   tokens_alone text lexemes is are =

@@ -1,4 +1,4 @@
--- A kept line of a text is a kept line where it stands alone.
+-- A kept line of a text is a kept line also as a text by itself.
 use Rattle.std.proofs.Common.{◌≡◌, inl, inr, ℕ, zero, suc, ◌+◌, ◌-◌, ◌<◌, ◌≤◌, Bool, true, false, cond, not, eqb, ◌&&◌, ◌||◌, List, [], ◌∷◌, None, Some, length, take, drop, get_or, refl, sym, ap, subst, ◌∙◌, arith}
 use Rattle.std.specs.Prelude.{codes}
 use Rattle.std.specs.List.{list_any, prefix_len, suffix_len, take_while}
@@ -35,7 +35,7 @@ use Rattle.ir_text.specs.Forms.{IsKeptText}
 
 -- ---- the blanks at the end of a line
 
--- one byte more, which is a blank or not
+-- one more byte, which is a blank or not
 trimmed_more : (p : ℕ → Bool) (xs : List ℕ) (n : ℕ) → suc n ≤ length xs → suffix_len p (take (n - suffix_len p (take n xs)) xs) ≡ 0
     → (b : Bool) → p (get_or xs (suc n - 1) 0) ≡ b → suffix_len p (take (suc n - suffix_len p (take (suc n) xs)) xs) ≡ 0
 trimmed_more p xs n within before true is =
@@ -49,7 +49,7 @@ trimmed_more p xs n within before false is =
     let all : suc n - suffix_len p (take (suc n) xs) ≡ suc n = omega arith in
     ap (λ (m : ℕ). suffix_len p (take m xs)) all ∙ none
 
--- without the blanks at its end a text has none there
+-- a text without the blanks at its end has none there
 trimmed : (p : ℕ → Bool) (xs : List ℕ) (n : ℕ) → n ≤ length xs → suffix_len p (take (n - suffix_len p (take n xs)) xs) ≡ 0
 trimmed p xs zero within = refl
 trimmed p xs (suc n) within = trimmed_more p xs n within (trimmed p xs n (omega arith)) (p (get_or xs (suc n - 1) 0)) refl
@@ -59,7 +59,7 @@ trimmed p xs (suc n) within = trimmed_more p xs n within (trimmed p xs n (omega 
 same_first : (b c : ℕ) (bs cs : List ℕ) → bytes_eq (b ∷ bs) (c ∷ cs) ≡ true → b ≡ c
 same_first b c bs cs e = eqb-true b c (and_left (eqb b c) _ e)
 
--- what holds of each byte that may begin a kept line holds of its first one
+-- a predicate that holds of each byte with which a kept line may begin holds of its first one
 first_byte : (P : ℕ → Type 0) → P 33 → P 36 → P 97 → P 100 → P 115 → P 116 → (b : ℕ) (bs : List ℕ) → begins_kept (b ∷ bs) ≡ true → P b
 unfolding begins_kept
 first_byte P bang dollar a d s t b bs e = elim (or_true (list_any (bytes_eq (b ∷ bs)) kept_words) (eqb b 33 || eqb b 36) e) [
@@ -82,14 +82,14 @@ first_byte P bang dollar a d s t b bs e = elim (or_true (list_any (bytes_eq (b �
   ]
 ]
 
--- it begins no number
+-- no number begins with it
 no_number : (b : ℕ) (bs : List ℕ) → begins_kept (b ∷ bs) ≡ true → (cs rest : List ℕ) → is_number (b ∷ cs) rest ≡ false
 unfolding is_number is_negative is_digit
 no_number b bs e = first_byte (λ c. (cs rest : List ℕ) → is_number (c ∷ cs) rest ≡ false) (λ cs rest. refl) (λ cs rest. refl) (λ cs rest. refl) (λ cs rest. refl) (λ cs rest. refl) (λ cs rest. refl) b bs e
 
 -- ---- the first token where the line is cut off
 
--- what stands behind a token is no matter, unless it is a number
+-- whether bytes are a token doesn't depend on what stands behind, unless they are a number
 any_rest : (kind : TokenKind) (b : ℕ) (bs rest other : List ℕ) → ((cs rest : List ℕ) → is_number (b ∷ cs) rest ≡ false) → spells kind (b ∷ bs) rest ≡ true → spells kind (b ∷ bs) other ≡ true
 any_rest kinds.End b bs rest other none e = e
 any_rest kinds.Other b bs rest other none e = e
@@ -104,7 +104,7 @@ any_rest kinds.Quoted b bs rest other none e = e
 any_rest kinds.Mark b bs rest other none e = e
 
 module _ (b : ℕ) (s : List ℕ) (none : (cs rest : List ℕ) → is_number (b ∷ cs) rest ≡ false) (most : ℕ) (most_within : most ≤ length (b ∷ s)) where
-  -- a front of a front
+  -- a prefix of a prefix
   front : (kind : TokenKind) (m : ℕ) (rest other : List ℕ) → m ≤ most → 0 < m → spells kind (take m (take most (b ∷ s))) rest ≡ true → spells kind (take m (b ∷ s)) other ≡ true
   front kind zero rest other within some e = absurd (omega arith)
   front kind (suc m) rest other within some e =
@@ -130,7 +130,7 @@ module _ (b : ℕ) (s : List ℕ) (none : (cs rest : List ℕ) → is_number (b 
 
 -- ---- the rest of the line
 
--- a shorter part of a run is a run
+-- a prefix of a run is a run
 run_within : (p : ℕ → Bool) (text : List ℕ) (n : ℕ) → n ≤ prefix_len p text → take_while p (take n text) ≡ take n text
 run_within p text n within =
     let some : prefix_len p text ≤ length text = prefix_len-le-length p text in
@@ -140,7 +140,7 @@ run_within p text n within =
     (λ k lt. ap p (get_or-take n text k 0 (omega arith)) ∙ prefix_len_passes p text k 0 (omega arith)) (λ lt. absurd (omega arith)) in
     take_all (prefix_len p (take n text)) (take n text) (omega arith)
 
--- ---- a kept line alone
+-- ---- a kept line as a text by itself
 
 none_begins : begins_kept [] ≡ false
 unfolding begins_kept
@@ -174,7 +174,7 @@ kept_of (b ∷ s) kind (suc m) more t begins no_zero is =
       no_blanks = subst (λ l. length l - blanks_behind l ≡ length l) (sym cut) (omega (arith, no_blank));
     }
 
--- a kept line begins as one, wherever it stands
+-- a kept line begins as one in every context
 line_begins : (place : Section) (line : ℕ) (bytes : List ℕ) → extent_of place line bytes ≡ extents.Line → begins_kept bytes ≡ true
 unfolding extent_of
 line_begins (AtEntry before) line bytes e = by (begins_kept bytes) (not (is_on line before)) e
@@ -208,7 +208,7 @@ kept_alone text place at t rest next extent kept =
     (ap (λ (l : List ℕ). length (take_while in_line l) - blanks_behind (take_while in_line l)) (sym behind)) in
     subst (λ (i : ℕ). IsKeptAlone (take i (drop start text))) (let long : n + more ≡ rest.end - start = omega (arith, kept.end, next.order.1) in long) alone
 
--- ---- its tokens
+-- ---- the tokens of a kept line
 
 -- bytes that are no line feeds are on one line
 not_a_feed : (bytes : List ℕ) (i : ℕ) → feeds bytes ≡ 0 → eqb (get_or bytes i 0) 10 ≡ false

@@ -1,4 +1,4 @@
--- What a cleaned function reads has the forms of what the old one reads.
+-- The reads of a cleaned function have the forms of those of the old one.
 use Rattle.std.proofs.Common.{◌≡◌, ℕ, ◌==◌, Bool, true, false, cond, List, [], ◌∷◌, length, Option, None, Some, refl, sym, ap, subst, ◌∙◌, map}
 use Rattle.std.specs.Prelude.{slice_get, option_map}
 use Rattle.std.proofs.lemmas.Option.{slice_get-map}
@@ -21,11 +21,11 @@ use Rattle.needed.proofs.Counting.{mapped}
 use Rattle.ir_round_trip.proofs.Instructions.{block_of_old, IsOld, inst_of_old}
 use Rattle.needed.proofs.Reading.{reads_at-inst, reads_at-end, each_none}
 
--- all that is read has its forms
+-- each of these reads has its form
 abbrev HaveForms : List Read → Type 0
 HaveForms reads = (i : ℕ) (r : Read) → slice_get reads i ≡ Some r → ReadHasForms r
 
--- what is read at which width, wherever that is
+-- a read without its place
 abbrev what : Read → Operand × ℕ
 what r = (r.operand, r.width)
 
@@ -33,7 +33,7 @@ module _ (kept : KeptMarks) where
   abbrev moved : Operand × ℕ → Operand × ℕ
   moved x = (moved_operand kept x.0, x.1)
 
-  -- the new reads are the old ones with each register where it stands then, at other places
+  -- the new reads are the old ones with their registers renamed, at other places
   abbrev AreMoved : List Read → List Read → Type 0
   AreMoved old new = map what new ≡ map moved (map what old)
 

@@ -1,5 +1,5 @@
--- Of a function that meets its checks, what means it by names that call the same registers and blocks of the function
--- means it.
+-- If identifiers refer to the same registers and blocks of a function, and one reading of them means a function that
+-- meets its checks, the other means it too.
 use Rattle.std.proofs.Common.{◌≡◌, ℕ, suc, ◌<◌, List, [], ◌∷◌, map, length, Some, IsSome, if◌then◌else◌, refl, ap, ◌∙◌, arith}
 use Rattle.std.specs.Prelude.{slice_get}
 use Rattle.std.specs.List.{AllZip, AllByRecursion}
@@ -37,7 +37,7 @@ use Rattle.ir_resolve.specs.Written.{Thing, Value, Block}
 use Rattle.ir_resolve.specs.Means.{ValueMeans, IncomingMeans, OpMeans, InstMeans, CaseMeans, EndMeans, BlockIsOf, MeansBy, ArgumentsMean}
 use Rattle.ir_reader.proofs.Places.{contained}
 
--- ---- what is read and named, where it stands
+-- ---- operands, and blocks that are named, by place
 
 pub inst_reads : (f : Function) (b k : ℕ) (block : CoreBlock) (inst : Inst) → IsBlock f b block → slice_get block.insts k ≡ Some inst → reads_at f b k ≡ reads_of f b k inst.width inst.op
 inst_reads f b k block inst is at = ap (reads_in f b k) is ∙ ap (reads_by f b k block) at
@@ -47,7 +47,7 @@ end_reads f b block is =
     let n = length block.insts in
     ap (reads_in f b n) is ∙ ap (reads_by f b n block) (slice_get_past block.insts n (omega arith)) ∙ ap (λ e. if e then reads_at_end f b n block.end else []) (eq-eqb n n refl)
 
--- what holds of what stands at each place, and of what is seen of each, holds of each
+-- a predicate that holds at each place holds of each item
 
 each_from : {X : Type 0} (P : X → Type 0) (xs : List X) → ((i : ℕ) (x : X) → slice_get xs i ≡ Some x → P x) → AllByRecursion P xs
 each_from P [] f = tt
@@ -57,14 +57,14 @@ seen_each : {X Y : Type 0} (f : X → Y) (P : Y → Type 0) (xs : List X) → Al
 seen_each f P [] all = tt
 seen_each f P (x ∷ xs) all = (all.0, seen_each f P xs all.1)
 
--- where things that agree at a place agree otherwise there, so do the lists
+-- if related items at each index are also related otherwise, so are the lists
 zip_each : {X Y : Type 0} (R S : X → Y → Type 0) (xs : List X) (ys : List Y) → ((k : ℕ) (x : X) (y : Y) → slice_get ys k ≡ Some y → R x y → S x y) → AllZip R xs ys → AllZip S xs ys
 zip_each R S [] [] f all = tt
 zip_each R S [] (y ∷ ys) f all = all
 zip_each R S (x ∷ xs) [] f all = all
 zip_each R S (x ∷ xs) (y ∷ ys) f all = (f 0 x y refl all.0, zip_each R S xs ys (λ k v w at r. f (suc k) v w at r) all.1)
 
--- the registers that are read are there, and the blocks
+-- the registers that are read, and the blocks that are named, are defined
 
 abbrev AllKnown : Function → List Read → Type 0
 AllKnown f reads = AllByRecursion (λ r. IsKnown f r.operand) reads

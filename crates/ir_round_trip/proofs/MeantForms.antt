@@ -1,4 +1,4 @@
--- The function that is meant has the forms of what is written.
+-- The function that is meant has the forms that what is written has.
 use Rattle.std.proofs.Common.{◌≡◌, ℕ, ◌<◌, ◌==◌, Bool, true, false, if◌then◌else◌, List, [], ◌∷◌, length, map, Option, None, Some, refl, sym, subst, arith}
 use Rattle.std.specs.Prelude.{slice_get, All}
 use Rattle.std.specs.List.{AllByRecursion, AllZip, flat_map}
@@ -67,7 +67,7 @@ result_wide (ops.Convert cast flags from a to) formed = formed.1.1
 result_wide (ops.Freeze width a) formed = formed.0
 result_wide (ops.Phi width incoming) formed = formed.0
 
--- ---- what is read
+-- ---- operands
 
 module _ (C : Identifier → Thing → Type 0) where
   operand_fits : (v : RawValue) (o : Operand) → ValueMeans C v o → ValueFormed v → OperandFits o
@@ -153,7 +153,7 @@ module _ (raw : RawFunction) (f : Function) (means : Means raw f) (formed : Func
       (every_append WrittenFormed (map (λ p. p.name) raw.parameters) (flat_map written_in raw.blocks)
       (every_map (λ (p : RawParameter). p.name) ParameterFormed WrittenFormed (λ p form. form.1.1) raw.parameters formed.parameters) (written_in_blocks raw.blocks formed.blocks)))
 
-  -- what is written for a block has its forms
+  -- the syntax tree of a block has its forms
   block_formed : (b : ℕ) (block : CoreBlock) → IsBlock f b block → (w : RawBlock) × BlockFormed w × BlockIsOf (Calls raw) w block
   block_formed b block at = let (w, w_at, is) = block_written raw f means b block at in (w, every_at BlockFormed raw.blocks b w formed.blocks w_at, is)
 

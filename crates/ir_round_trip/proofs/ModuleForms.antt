@@ -1,4 +1,4 @@
--- What is read of tokens that have their forms: the parts of functions, and modules.
+-- What the parser gives for tokens that have their forms has its forms: the parts of functions, and modules.
 use Rattle.std.proofs.Common.{ℕ, List, [], ◌∷◌, Option, Some, None, sym, subst}
 use Rattle.std.specs.List.{AllByRecursion}
 use Rattle.ir_tokens.specs.Tokens.{Kept}
@@ -20,7 +20,7 @@ use Rattle.ir_round_trip.proofs.ItemForms.{item}
 
 -- ---- blocks
 
--- what is written for a thing, if anything
+-- the identifier that is written for a thing, if any, has its form
 abbrev pub WrittenFormed : Option RawIdentifier → Type 0
 WrittenFormed None = Unit {0}
 WrittenFormed (Some w) = CalledFormed w.identifier

@@ -1,4 +1,4 @@
--- A module that meets its checks, and is written canonically, is read.
+-- The canonical form of a module that meets its checks is read as the module.
 use Rattle.std.proofs.Common.{◌≡◌, ℕ, zero, suc, List, [], ◌∷◌, take, Some, refl, sym, ap, subst, ◌∙◌, arith}
 use Rattle.std.specs.Prelude.{slice_get}
 use Rattle.std.proofs.lemmas.Slice.Zip.{AllZip-long}
@@ -21,14 +21,14 @@ use Rattle.ir_text.specs.CanonicalModule.{WritesEntry, WritesModule}
 use Rattle.ir_round_trip.specs.Laws.{CanonicalModulesRead, PrintedTextsRead}
 use Rattle.ir_round_trip.proofs.Functions.{functions_mean}
 
--- a function of the entries is one of them
+-- a function of the entries is one of the entries
 entry_of : (xs : List RawEntry) (i : ℕ) (g : RawFunction) → slice_get (functions_of xs) i ≡ Some g → (j : ℕ) × (slice_get xs j ≡ Some (raw_entries.Function g))
 entry_of [] i g at = cc
 entry_of (raw_entries.Kept text ∷ xs) i g at = let (j, there) = entry_of xs i g at in (suc j, there)
 entry_of (raw_entries.Function h ∷ xs) zero g at = (0, ap (λ r. Some (raw_entries.Function r)) (some_same at))
 entry_of (raw_entries.Function h ∷ xs) (suc i) g at = let (j, there) = entry_of xs i g at in (suc j, there)
 
--- what is written as a function is one of its name
+-- an entry for which a function is written is a function of its name
 function_of : (g : RawFunction) (e : Entry) → WritesEntry (raw_entries.Function g) e → (f : Function) × (e ≡ entries.Function f) × (f.name ≡ g.name)
 function_of g (entries.Kept line) h = absurd h
 function_of g (entries.Function f) h = (f, refl, h.means.name)

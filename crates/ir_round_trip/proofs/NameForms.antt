@@ -1,4 +1,4 @@
--- What is written for a name gives one: its bytes are from 1 to 255.
+-- The bytes of a name that is read are from 1 to 255.
 use Rattle.std.proofs.Common.{◌≡◌, ◌⊎◌, inl, inr, ℕ, zero, suc, ◌+◌, ◌-◌, ◌*◌, ◌≤◌, leb, Bool, true, false, ◌&&◌, ◌||◌, cond, eqb, List, [], ◌∷◌, ◌++◌, length, take, refl, sym, ap, subst, ◌∙◌, arith}
 use Rattle.std.specs.Prelude.{Contains}
 use Rattle.std.specs.List.{AllByRecursion, list_all}
@@ -16,11 +16,11 @@ use Rattle.ir_text.specs.Forms.{IsName}
 use Rattle.ir_round_trip.proofs.Every.{every_all, every_left}
 use Rattle.ir_round_trip.proofs.TokenForms.{CalledFormed}
 
--- bytes
+-- the numbers are bytes
 abbrev pub AreBytes : List ℕ → Type 0
 AreBytes text = AllByRecursion (λ b. b ≤ 255) text
 
--- ---- what quotes hold
+-- ---- the text between quotes
 
 -- a hexadecimal digit is at most 15
 small_digit : (b : ℕ) → (is_digit b ≡ true) ⊎ (((leb 65 b && leb b 70) ≡ true) ⊎ ((leb 97 b && leb b 102) ≡ true)) → (c d : Bool) → leb b 57 ≡ c → leb b 70 ≡ d → cond c (b - 48) (cond d (b - 55) (b - 87)) ≤ 15
@@ -38,7 +38,7 @@ hex_small b hex = small_digit b (elim (or_true (is_digit b || (leb 65 b && leb b
   | inr small ↦ inr (inr small)
 ]) (leb b 57) (leb b 70) refl refl
 
--- the bytes that stand for bytes are bytes
+-- bytes between quotes stand for bytes
 unquoted_bytes : (text : List ℕ) → AreBytes text → AreBytes (unquoted text)
 unfolding unquoted
 unquoted_bytes [] bytes = tt
@@ -87,7 +87,7 @@ plain_name (b ∷ rest) plain bytes = by (eqb b 34) refl
     by true is = absurd (false≢true (ap begins_name (sym (eqb-true b 34 is)) ∙ and_left (begins_name b) (list_all is_name_byte (b ∷ rest)) plain))
     by false is = name_bytes (b ∷ rest) (and_right (begins_name b) (list_all is_name_byte (b ∷ rest)) plain) bytes
 
--- what is between quotes, with its escapes read
+-- the name of a quoted text is the text between its quotes, with escapes read
 quoted_name : (inner : List ℕ) → name_of (34 ∷ (inner ++ 34 ∷ [])) ≡ unquoted inner
 unfolding name_of
 quoted_name inner =

@@ -1,4 +1,4 @@
--- Of a function that is written canonically, what things are called as written is what they are called.
+-- In the canonical form of a function, the identifiers that are written are those of the function's things.
 use Rattle.std.proofs.Common.{◌≡◌, ℕ, zero, suc, List, [], ◌∷◌, ◌++◌, map, take, length, refl, sym, ap, ◌∙◌, arith}
 use Rattle.std.specs.Prelude.{slice_get}
 use Rattle.std.specs.List.{AllZip, flat_map}
@@ -33,7 +33,7 @@ module _ (raw : RawFunction) (f : Function) (m : MeansBy (Identifies f) raw f) w
   pub identifiers_are : identifiers_of f ≡ written_identifiers raw
   identifiers_are = ap (identifiers_from 0) names_are
 
-  -- a thing stands at one place
+  -- a thing has one index
 
   block_stands : (b : ℕ) → block_place f b ≡ written_block_place raw b
   block_stands b =
@@ -45,7 +45,7 @@ module _ (raw : RawFunction) (f : Function) (m : MeansBy (Identifies f) raw f) w
   register_stands (registers.Parameter k) = refl
   register_stands (registers.Result b k) = let block = block_stands b in omega arith
 
-  -- what identifies a thing calls it, where the function as written has it
+  -- the identifier of a thing refers to it, if the function as written has it
   pub calls : (x : Identifier) (thing : Thing) → HasThing raw thing → Identifies f x thing → Calls raw x thing
   calls x (Value r) has is = (has, ap (slice_get (written_identifiers raw)) (sym (register_stands r)) ∙ ap (λ names. slice_get names (place_of f r)) (sym identifiers_are) ∙ is)
   calls x (Block b) has is = (has, ap (slice_get (written_identifiers raw)) (sym (block_stands b)) ∙ ap (λ names. slice_get names (block_place f b)) (sym identifiers_are) ∙ is)

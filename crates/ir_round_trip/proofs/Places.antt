@@ -1,4 +1,4 @@
--- What stands where in what is read and named in a function as written.
+-- The operands, and the blocks that are named, of a function as written, by place.
 use Rattle.std.proofs.Common.{◌≡◌, inl, inr, ℕ, suc, List, [], ◌∷◌, ◌++◌, Some, refl}
 use Rattle.std.specs.Prelude.{slice_get, Contains}
 use Rattle.std.specs.List.{flat_map}
@@ -9,7 +9,7 @@ use Rattle.ir_tokens.specs.declared.raw.RawOp.{RawOp}
 use Rattle.ir_tokens.specs.declared.raw.RawTerminator.{RawTerminator}
 use Rattle.ir_reader.proofs.Places.{at_append, somewhere}
 
--- what stands in the lists that are made of things, one behind the other, stands in one of them
+-- an item of concatenated lists, each made of one thing, is in the list of one of the things
 made_at : {X Y : Type 0} (g : X → List Y) (xs : List X) (p : ℕ) (y : Y) → slice_get (flat_map g xs) p ≡ Some y → (x : X) × ((k : ℕ) × (slice_get xs k ≡ Some x)) × ((q : ℕ) × (slice_get (g x) q ≡ Some y))
 made_at g [] p y at = cc
 made_at g (x ∷ xs) p y at = elim (at_append (g x) (flat_map g xs) p y at) [
@@ -17,7 +17,7 @@ made_at g (x ∷ xs) p y at = elim (at_append (g x) (flat_map g xs) p y at) [
   | inr (q, is, behind) ↦ let (z, (k, there), found) = made_at g xs q y behind in (z, (suc k, there), found)
 ]
 
--- what stands in one of the instructions of a block of the function, or in its terminator
+-- an item that is in an instruction or in the terminator of one of the function's blocks
 module _ {Y : Type 0} (by_op : RawOp → List Y) (at_end : RawTerminator → List Y) where
   pub data StandsIn (raw : RawFunction) (y : Y) : Type 0 where
     in_inst : (b k q : ℕ) (block : RawBlock) (inst : RawInst) → slice_get raw.blocks b ≡ Some block → slice_get block.insts k ≡ Some inst → slice_get (by_op inst.op) q ≡ Some y → StandsIn raw y

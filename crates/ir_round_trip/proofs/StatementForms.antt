@@ -1,4 +1,4 @@
--- What is read of tokens that have their forms: instructions and terminators.
+-- What the parser gives for tokens that have their forms has its forms: instructions and terminators.
 use Rattle.std.proofs.Common.{◌≡◌, ℕ, Bool, true, false, cond, List, [], ◌∷◌, Option, Some, None, sym, subst}
 use Rattle.std.specs.List.{AllByRecursion}
 use Rattle.ops.specs.Number.{Number as OpsNumber}
@@ -33,14 +33,14 @@ use Rattle.ir_instructions.specs.Parts.{Part, IsOn, Is, ◌⨾◌, Each, Comma, 
 use Rattle.ir_text.specs.Forms.{IsWidth, NumberFits}
 use Rattle.ir_round_trip.proofs.TokenForms.{CalledFormed, TokenFormed, Formed}
 
--- behind a part the tokens have their forms, and what is read has such a form
+-- the tokens behind a production have their forms, and so does what it spells
 abbrev pub Keeps : Part → Type 0
 Keeps P = (tokens rest : List Placed) → P tokens rest → Formed tokens → Formed rest
 
 abbrev pub Yields : Part → Type 0 → Type 0
 Yields P X = (tokens rest : List Placed) → P tokens rest → Formed tokens → Formed rest × X
 
--- ---- one part behind another
+-- ---- one production behind another
 
 module _ (P Q : Part) where
   pub keep_both : Keeps P → Keeps Q → Keeps (P ⨾ Q)
@@ -77,7 +77,7 @@ module _ {A : Type 0} (P : A → Part) where
     each [] tokens rest same formed = (subst Formed same formed, tt)
     each (x ∷ xs) tokens rest h formed = both (P x) (Each P xs) (G x) (AllByRecursion G xs) (p x) (each xs) tokens rest h formed
 
--- one or more, with a comma between them
+-- at least one, with a comma between them
 pub separated : {A : Type 0} (P : A → Part) (G : A → Type 0) → ((x : A) → Yields (P x) (G x)) → (xs : List A) → Yields (Separated P xs) (AllByRecursion G xs)
 separated P G p [] tokens rest h formed = absurd h
 separated P G p (x ∷ xs) tokens rest h formed =
@@ -100,7 +100,7 @@ target r = keep_both _ _ (token _) (a_register r)
 pub type : (width : ℕ) → Yields (SpellsType width) (IsWidth width)
 type width tokens rest (w, is, one) formed = (token _ tokens rest one formed, (is.4, is.5))
 
--- a number that is written fits its width
+-- if the value is a literal number, it is one of its width
 abbrev pub ValueFormed : RawValue → Type 0
 ValueFormed (values.Number n) = NumberFits n
 ValueFormed (values.Register x) = Unit {0}

@@ -16,7 +16,7 @@ use Rattle.ir_round_trip.proofs.KeptForms.{kept_alone, kept_text}
 use Rattle.ir_round_trip.proofs.NameForms.{AreBytes, called_formed}
 use Rattle.ir_round_trip.proofs.TokenForms.{Formed, TokenFormed}
 
--- ---- their bytes are among the text's
+-- ---- the bytes of tokens are among those of the text
 
 take_bytes : (n : ℕ) (text : List ℕ) → AreBytes text → AreBytes (take n text)
 take_bytes n text all = every_left (λ b. b ≤ 255) (take n text) (drop n text) (subst AreBytes (sym (take-append-drop n text)) all)

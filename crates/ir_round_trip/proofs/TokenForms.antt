@@ -1,4 +1,4 @@
--- What is known of each token of a text: its bytes are those of a token alone.
+-- What holds of each token of a text: its bytes have the form of its kind.
 use Rattle.std.proofs.Common.{◌≡◌, true, List, [], ◌∷◌}
 use Rattle.scan.specs.IrTokens.{HoldsZero, is_group, is_word}
 use Rattle.scan.specs.Quoted.{is_quoted}
@@ -10,7 +10,7 @@ use Rattle.ir_tokens.specs.Tokens.{Placed, Token, End, Other, Bad, Kept, KeptGro
 use Rattle.ir_text.specs.Lexemes.{IsGroupText}
 use Rattle.ir_text.specs.Forms.{IsName, IsKeptText}
 
--- a name has its form
+-- if the identifier is a name, it has its form
 abbrev pub CalledFormed : Identifier → Type 0
 CalledFormed (Named name) = IsName name
 CalledFormed (Numbered n) = Unit {0}
@@ -31,7 +31,7 @@ TokenFormed (Metadata text) = Unit {0}
 TokenFormed (Quoted text) = (is_quoted text ≡ true) × ¬ HoldsZero text
 TokenFormed (Mark byte) = Unit {0}
 
--- all of these tokens
+-- each of these tokens has its form
 abbrev pub Formed : List Placed → Type 0
 Formed [] = Unit {0}
 Formed (t ∷ tokens) = TokenFormed t.1 × Formed tokens

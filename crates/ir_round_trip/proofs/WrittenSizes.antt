@@ -1,4 +1,4 @@
--- What is written has no more parts than the text has bytes.
+-- The syntax tree of a text has no more parts than the text has bytes.
 use Rattle.std.proofs.Common.{ℕ, suc, ◌+◌, ◌<◌, ◌≤◌, List, [], ◌∷◌, length, Option, ap, refl, arith}
 use Rattle.std.specs.List.{AllByRecursion}
 use Rattle.ir_tokens.specs.declared.place.Section.{Section}
@@ -25,7 +25,7 @@ use Rattle.ir_parse.proofs.ShorterParts.{block-shorter, further_parameter-shorte
 
 -- ---- tokens
 
--- each token but the last takes a byte
+-- each token but the last takes at least one byte
 pub few_tokens : {text : List ℕ} {place : Section} {at : ℕ} {tokens : List Placed} → TokensFrom text place at tokens → at ≤ length text → at + length tokens ≤ length text + 1
 few_tokens (last is ends) within = omega arith
 few_tokens {text} {place} {at} (token {end = end} is more behind) within =
@@ -33,10 +33,10 @@ few_tokens {text} {place} {at} (token {end = end} is more behind) within =
     let rest = few_tokens behind (token_within within is) in
     omega arith
 
--- ---- lists of parts
+-- ---- lists of productions
 
 module _ {X : Type 0} (P : X → Part) where
-  -- each of some parts takes a token
+  -- each of these productions takes at least one token
   pub few_each : ((x : X) → Shorter (P x)) → (xs : List X) (tokens rest : List Placed) → Each P xs tokens rest → length xs + length rest ≤ length tokens
   few_each p [] tokens rest same = omega (arith, ap length same)
   few_each p (x ∷ xs) tokens rest (middle, one, more) =
@@ -58,7 +58,7 @@ module _ {X : Type 0} (P : X → Part) where
           let others = few_behind q xs middle rest more in
           omega arith
 
-  -- what holds of a part of so many tokens holds of each of them
+  -- what holds of a production on at most n tokens holds of each in a list on at most n tokens
   pub every_each : (n : ℕ) (Q : X → Type 0) → ((x : X) → NoLonger (P x)) → ((x : X) (tokens rest : List Placed) → P x tokens rest → length tokens ≤ n → Q x)
       → (xs : List X) (tokens rest : List Placed) → Each P xs tokens rest → length tokens ≤ n → AllByRecursion Q xs
   every_each n Q p q [] tokens rest same within = tt
@@ -66,13 +66,13 @@ module _ {X : Type 0} (P : X → Part) where
       let fewer : length middle ≤ length tokens = p x tokens middle one in
       (q x tokens middle one within, every_each n Q p q xs middle rest more (omega arith))
 
--- what takes a token behind a comma takes no less than none
+-- a production that takes a token together with a comma before it takes none or more by itself
 behind_comma : (P : Part) → Shorter (Comma ⨾ P) → NoLonger P
 behind_comma P p tokens rest h =
     let fewer : length rest < length ((0, Mark marks.comma) ∷ tokens) = p ((0, Mark marks.comma) ∷ tokens) rest (tokens, (0, refl), h) in
     omega arith
 
--- ---- what is written
+-- ---- syntax trees
 
 abbrev pub OpFew : ℕ → RawOp → Type 0
 OpFew n (Phi width incoming) = length incoming ≤ n

@@ -1,4 +1,4 @@
--- What is read where a function, a module or a text is written canonically, and which modules have the forms for it.
+-- What a function, a module or a text that is written canonically is read as, and which modules have the forms for it.
 use Rattle.std.specs.Prelude.{◌≡◌, ℕ, ◌≤◌, List, length, Some, slice_get, All}
 use Rattle.ir_core.specs.declared.module.Module.{Module}
 use Rattle.ir_core.specs.declared.module.Entry.TheVariants as entries
@@ -29,12 +29,11 @@ CanonicalFunctionsMean = (earlier : List RawFunction) (raw : RawFunction) (f : F
 abbrev pub CanonicalModulesRead : Type 0
 CanonicalModulesRead = (raw : RawModule) (m : Module) → WritesModule raw m → ModuleMeetsChecks m → AreEntriesOf raw.entries m.entries
 
--- The printed text of a module that meets its checks, and whose parts have their forms, is that of the module.
+-- The printed text of a module that meets its checks, and whose parts have their forms, is read as the module.
 abbrev pub PrintedTextsRead : Type 0
 PrintedTextsRead = (m : Module) → ModuleHasForms m → ModuleMeetsChecks m → HasFewThings m → IsModuleText (text_of m) m
 
--- The module of a text, which is made of bytes, has the forms that its printed text needs, so as to be read as the
--- module.
+-- The module of a text, which is made of bytes, has the forms that let its printed text be read as the module.
 abbrev pub ModuleTextsHaveForms : Type 0
 ModuleTextsHaveForms = (text : List ℕ) (m : Module) → All (λ b. b ≤ 255) text → IsModuleText text m → ModuleHasForms m
 
@@ -42,8 +41,8 @@ ModuleTextsHaveForms = (text : List ℕ) (m : Module) → All (λ b. b ≤ 255) 
 abbrev pub ModuleTextsMeetChecks : Type 0
 ModuleTextsMeetChecks = (text : List ℕ) (m : Module) → IsModuleText text m → ModuleMeetsChecks m
 
--- A cleaned function has the forms that the old one has, and no check is asked for: names, types and numbers stay as
--- they are.
+-- A cleaned function has the forms that the old one has, whether that meets its checks or not: names, types and numbers
+-- stay as they are.
 abbrev pub CleanedFunctionsHaveForms : Type 0
 CleanedFunctionsHaveForms = (f g : Function) → FunctionHasForms f → IsCleaned f g → FunctionHasForms g
 
@@ -51,14 +50,14 @@ CleanedFunctionsHaveForms = (f g : Function) → FunctionHasForms f → IsCleane
 abbrev pub CleanedModulesHaveForms : Type 0
 CleanedModulesHaveForms = (m n : Module) → ModuleHasForms m → ModuleCleaned m n → ModuleHasForms n
 
--- a function has at most so many parameters, blocks, instructions in each, and entries of each phi
+-- a function has at most n parameters, n blocks, n instructions in each, and n entries in each phi
 pub record HasAtMost (n : ℕ) (f : Function) : Type 0 where
   pub parameters : length f.parameters ≤ n
   pub blocks : length f.blocks ≤ n
   pub insts : (b : ℕ) (block : Block) → IsBlock f b block → length block.insts ≤ n
   pub entries : (b k : ℕ) (inst : Inst) (phi : List (Operand × ℕ)) → IsInst f b k inst → inst.op ≡ Phi phi → length phi ≤ n
 
--- each function of the module of a text has at most as many of each as the text has bytes
+-- for each function of the module of a text, this holds with the number of the text's bytes
 abbrev pub ModuleTextsAreSmall : Type 0
 ModuleTextsAreSmall = (text : List ℕ) (m : Module) → IsModuleText text m
     → (k : ℕ) (f : Function) → slice_get m.entries k ≡ Some (entries.Function f) → HasAtMost (length text) f

@@ -1,4 +1,4 @@
-//! The laws of what is written and read again, each the contract of a function that does nothing.
+//! The laws of printing and reading again. Each is the contract of a function with an empty body.
 
 ghost use Rattle.ir_round_trip.specs.Laws.{CanonicalFunctionsMean, CanonicalModulesRead, PrintedTextsRead, ModuleTextsHaveForms, ModuleTextsMeetChecks, CleanedFunctionsHaveForms, CleanedModulesHaveForms, ModuleTextsAreSmall};
 
@@ -32,7 +32,7 @@ pub fn module_texts_meet_checks()
     ensures { ModuleTextsMeetChecks }
 {}
 
-/// A cleaned function, and so a cleaned module, keeps the forms that the old one has.
+/// Dead code elimination (cleaning) of a function or of a module keeps its forms.
 pub fn cleaning_keeps_forms()
     ensures functions { CleanedFunctionsHaveForms }
     ensures modules { CleanedModulesHaveForms }

@@ -1,5 +1,5 @@
-//! What is printed is read again: a function, a module or a text that is written canonically is read as what it was
-//! written for. The modules of texts have the forms for it, and cleaning keeps them.
+//! The round trip: a function, a module or a text that is written canonically, as printed ones are, is read as what it
+//! was written for. The modules of texts have the forms for it, and dead code elimination keeps them.
 //!
 //! The laws stand in `specs/Laws`; what is written canonically, and which forms there are, in `ir_text`.
 #![tactic(auto)]

@@ -1,4 +1,4 @@
--- Blocks as they are printed and read.
+-- Blocks: their printed text is read as the block.
 use Rattle.std.proofs.Common.{◌≡◌, ℕ, suc, zero, ◌<◌, Bool, true, false, eqb, cond, [], ◌++◌, length, Option, None, Some, codes, refl, sym, ap, subst, ◌∙◌, append_assoc, arith, rules, tests, eq-eqb}
 use Rattle.std.specs.Prelude.{slice_get, IsSome}
 use Rattle.std.specs.List.{enumerate_from, AllZip}
@@ -45,14 +45,14 @@ label_prints f fits b name c =
     (prints_map (Reads SpellsLabel (Calls f name) (Block b)) (λ tokens rest (line, is). (record { line = line; identifier = c.written }, (text, c.reads, is), (c.is_written, c.name_is)))
     (line_ends tt (label_in_body text c.form)))
 
--- what is written before block b, whose name is this
+-- the label is the canonical one of block b, which has this name
 pub record MeansLabel (f : Function) (b : ℕ) (label : Option RawIdentifier) (name : Name) : Type 0 where
   pub name_is : name ≡ given label
   pub identifies : (w : RawIdentifier) → label ≡ Some w → Identifies f w.identifier (Block b)
   pub first : b ≡ 0 → IsSome label → IsSome (given label)
   pub further : 0 < b → IsSome label
 
--- a label that is there
+-- a label that is written
 some_label : (f : Function) (b : ℕ) (name : Name) (w : RawIdentifier) → Calls f name w (Block b) → (b ≡ 0 → IsSome name) → MeansLabel f b (Some w) name
 some_label f b name w calls first = record {
   name_is = calls.1;
@@ -88,9 +88,9 @@ head_prints f fits (suc b) name at =
     (prints_map (Reads (Maybe SpellsLabel) (MeansLabel f (suc b)) name) (λ tokens rest (w, spells, calls). (Some w, spells, some_label f (suc b) name w calls (λ zero. absurd (omega arith))))
     (label_prints f fits (suc b) name (is_called f fits (block_place f (suc b)) name at))))
 
--- ---- what a block reads
+-- ---- the operands of a block
 
--- what is read fits
+-- each operand that is read has its width and form
 fits_read : (f : Function) → IsPrintable f → (b k i : ℕ) (r : Read) → IsRead f b k i r → ReadFits f r
 fits_read f fits b k i r is = record { has = fits.formed.operands b k i r is; form = fits.forms.reads b k i r is }
 
@@ -132,7 +132,7 @@ end_of_block f fits b block at =
 
 -- ---- blocks
 
--- what is written for block b.0
+-- this is canonically written for block b.0
 pub record MeansBlock (f : Function) (raw : RawBlock) (b : ℕ × CoreBlock) : Type 0 where
   pub label : MeansLabel f b.0 raw.label b.1.name
   pub insts : AllZip (MeansInst f b.0) raw.insts (enumerate_from 0 b.1.insts)
@@ -154,7 +154,7 @@ block_prints f fits b block at =
     (prints_lines SpellsInst (MeansInst f b) Body (inst_text f b) (enumerate_from 0 block.insts) (λ i p here. inst_of f fits b p.0 block p.1 at (numbered_here block.insts i p here)))))
     (end_of_block f fits b block at)))
 
--- a block is meant, and its types fit
+-- what is written so means the block, and its types agree
 pub block_is_of : (f : Function) (raw : RawBlock) (b : ℕ × CoreBlock) → MeansBlock f raw b → BlockIsOf (Identifies f) raw b.1
 block_is_of f raw b m = (m.label.name_is, zip_plain (MeansInst f b.0) (InstMeans (Identifies f)) (λ i p means. means.0) 0 raw.insts b.1.insts m.insts, m.end)
 

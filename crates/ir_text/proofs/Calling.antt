@@ -1,4 +1,4 @@
--- What the parameters, blocks and results of a function are called, and how that is written and read.
+-- The identifiers of parameters, blocks and results, and how they are printed and read.
 use Rattle.std.proofs.Common.{◌≡◌, ℕ, zero, suc, ◌+◌, ◌<◌, ◌≤◌, ◌^◌, List, [], ◌∷◌, ◌++◌, Option, None, Some, map, take, length, refl, sym, ap, subst, ◌∙◌, zero-add, arith}
 use Rattle.std.specs.Prelude.{slice_get, option_map, option_and_then}
 use Rattle.std.specs.List.{flat_map}
@@ -26,15 +26,15 @@ use Rattle.ir_text.specs.Lexemes.{IsNameText}
 use Rattle.ir_text.proofs.NameForms.{AreNameBytes, name_text_form, name_text_calls, decimal_form, decimal_calls}
 use Rattle.ir_text.specs.PrintedText.{identifier_text}
 
--- what is known of a function that is printed
+-- what a function needs to be printed
 pub record IsPrintable (f : Function) : Type 0 where
   pub forms : FunctionHasForms f
   pub formed : IsFormed f
   pub few : length (names_of f) < 2 ^ 64
 
--- ---- what a thing is called
+-- ---- the identifier of a thing
 
--- a thing of this name is called so: the identifier is written as a name is, and read as this
+-- a thing with this name has an identifier, whose printed text is read as that identifier
 pub record IsCalled (identified : Option Identifier) (name : Name) : Type 0 where
   pub written : Identifier
   pub is_written : identified ≡ Some written
@@ -72,7 +72,7 @@ pub is_called : (f : Function) → IsPrintable f → (p : ℕ) (name : Name) →
 is_called f fits p name at =
     called_from 0 (names_of f) p name (let few = fits.few in omega arith) (λ i text is. fits.forms.names text (contained_at (names_of f) i (Some text) is)) at
 
--- ---- where the names stand
+-- ---- the indices of names
 
 flat_at : {X A : Type 0} (g : X → List A) (xs : List X) (b : ℕ) (x : X) (j : ℕ) (y : A) → slice_get xs b ≡ Some x → slice_get (g x) j ≡ Some y → slice_get (flat_map g xs) (length (flat_map g (take b xs)) + j) ≡ Some y
 flat_at g [] b x j y at here = absurd cc
@@ -87,7 +87,7 @@ flat_at g (x ∷ xs) (suc b) z j y at here =
 pub parameter_named : (f : Function) (k : ℕ) (p : Parameter) → slice_get f.parameters k ≡ Some p → slice_get (names_of f) k ≡ Some p.name
 parameter_named f k p at = get_left (map (λ q. q.name) f.parameters) (flat_map block_names f.blocks) k p.name (slice_get-map (λ q. q.name) f.parameters k ∙ ap (option_map (λ (q : Parameter). q.name)) at)
 
--- thing j of block b, of which the first is the block itself
+-- thing j of block b: the block itself for 0, and then its results
 in_block : (f : Function) (b : ℕ) (block : Block) (j : ℕ) (name : Name) → IsBlock f b block → slice_get (block_names block) j ≡ Some name → slice_get (names_of f) (block_place f b + j) ≡ Some name
 in_block f b block j name at here =
     let before = map (λ (q : Parameter). q.name) f.parameters in

@@ -1,5 +1,5 @@
--- Calls of intrinsics as they are printed and read. A call ends its line: what stands behind its `)` on the line would
--- be an item of it.
+-- Calls of intrinsics: their printed text is read as the call. A call ends its line, since what stood behind its `)` on
+-- the line would be an item of it.
 use Rattle.std.proofs.Common.{◌≡◌, ℕ, ◌+◌, ◌<◌, ◌^◌, Bool, true, false, ◌&&◌, eqb, ne_eqb, decimal, List, [], ◌∷◌, ◌++◌, Option, None, Some, codes, refl, sym, ap, subst, append_assoc, arith}
 use Rattle.scan.specs.Bytes.{begins_name, begins_word, is_blank, is_digit, is_letter, is_name_byte, is_space}
 use Rattle.scan.specs.IrTokens.{is_plain_name, is_word}
@@ -50,7 +50,7 @@ use Rattle.ir_text.proofs.Prints.{Body, Callee, Prints, Reads, prints_as, prints
 use Rattle.ir_text.proofs.Streams.{Streams, streams_as, behind_gap, with_token}
 use Rattle.ir_text.proofs.Tokens.{in_body, no_bracket, word_in_body, callee_in_body, bracket_behind_callee, blank, spaced, comma_space}
 
--- what is written for an operation of this width
+-- this is canonically written for an operation of this width
 abbrev pub MeansOp : Function → ℕ → RawOp → Op → Type 0
 MeansOp f width raw op = OpMeans (Identifies f) raw op × (width ≡ result_width raw) × TypesFit raw
 
@@ -100,7 +100,7 @@ call_begins what width called ok =
 
 -- ---- the end of a call
 
--- what stands on a later line is no item on this one
+-- a token on a later line is no item behind the call
 stops_later : (line next last : ℕ) (lexemes : List Lexeme) → line < next → StopsOn line (placed_from next lexemes ++ (last, End) ∷ [])
 stops_later line next last [] less = none (eqb last line)
   where
@@ -112,7 +112,7 @@ stops_later line next last (l ∷ lexemes) less = rw (ne_eqb (next + feeds l.gap
 stops_behind : {last : ℕ} {place : Section} {text : List ℕ} {tokens : List Placed} (line next : ℕ) → line < next → Streams last place next text tokens → StopsOn line tokens
 stops_behind {last} line next less s = rw s.tokens_are (stops_later line next last s.lexemes less)
 
--- `)` and a line feed: no item stands between
+-- `)` and a line feed, with no item between
 close_prints : Prints Body Body true SpellsClose (codes ")" ++ codes "\n")
 unfolding is_space is_blank
 close_prints = record {
@@ -131,9 +131,9 @@ close_prints = record {
 opens_close : Opens true (codes ")" ++ codes "\n")
 opens_close = opens_with 41 (codes "\n") close_paren_stops
 
--- ---- calls of two operands
+-- ---- calls with two operands
 
--- an operand behind its type
+-- an operand with its type before it
 abbrev pub Typed : Function → ℕ → Operand → Part
 Typed f width x = SpellsType width ⨾ Reads (SpellsOperand width) (MeansOperand f) x
 
@@ -155,7 +155,7 @@ call_of_two f width op flags x y own none ok left right =
 
 -- ---- truth values
 
--- what is written for a truth value
+-- this is written for a truth value
 abbrev MeansTruth : Option TypedOperand → Bool → Type 0
 MeansTruth written truth = (truth ≡ truth_of written) × TruthIsBit written
 
@@ -210,7 +210,7 @@ truth_opens Abs truth = opens_with 44 _ comma_stops
 truth_opens CtLz truth = opens_with 44 _ comma_stops
 truth_opens CtTz truth = opens_with 44 _ comma_stops
 
--- ---- calls of one operand
+-- ---- calls with one operand
 
 pub call_of_one : (f : Function) (width : ℕ) (op : Unary) (truth : Bool) (x : Operand) → TruthFits op truth → IsWidth width
     → Prints Body Body false (Typed f width x) (typed_text f width x)

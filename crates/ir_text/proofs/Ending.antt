@@ -1,4 +1,4 @@
--- A token that is the longest at the front of a text stays the longest before bytes that don't go it on.
+-- A token that is the longest prefix of a text stays so before bytes that don't continue it.
 use Rattle.std.proofs.Common.{◌≡◌, ℕ, zero, suc, ◌+◌, ◌-◌, ◌<◌, ◌≤◌, Bool, true, false, not, ◌&&◌, ◌||◌, List, [], ◌∷◌, ◌++◌, length, take, drop, refl, sym, ap, subst, ◌∙◌, ◌⊎◌, ⊎_elim, append_assoc, take-append-drop, length-append, arith}
 use Rattle.std.specs.List.{list_all}
 use Rattle.std.proofs.Math.Seq.{drop-length, take-append-add, take-length}
@@ -27,7 +27,7 @@ no_other_byte : (rest after : List ℕ) → begins_with goes_on after ≡ false 
 no_other_byte [] after e = no_name_byte after e
 no_other_byte (b ∷ rest) after e = refl
 
--- bytes are of a kind before a rest, or before that and such bytes
+-- whether bytes are a token of a kind doesn't depend on such bytes further behind
 spells_before : (kind : TokenKind) (bytes rest after : List ℕ) → begins_with goes_on after ≡ false → spells kind bytes (rest ++ after) ≡ spells kind bytes rest
 unfolding is_number
 spells_before kinds.End bytes rest after e = refl
@@ -49,7 +49,7 @@ spells_front kind text after m le e =
     ap (λ (front : List ℕ). spells kind front (drop m (text ++ after))) (take-append-le m text after le)
     ∙ ap (spells kind (take m text)) (drop-append-le m text after le) ∙ spells_before kind (take m text) (drop m text) after e
 
--- bytes behind that go it on would begin with one that goes on
+-- a prefix of bytes that would all continue a token is empty, if the first doesn't
 none_go_on : (front after : List ℕ) (k : ℕ) → 0 < k → k ≤ length after → begins_with goes_on after ≡ false → list_all goes_on (front ++ take k after) ≡ true → ⊥
 none_go_on front [] k some le e all = omega arith
 none_go_on front (b ∷ after) (suc k) some le e all =
@@ -79,7 +79,7 @@ longest_within text after kind n h e = record {
         none_go_on (drop n text) after (m - length text) (omega arith) (omega (arith, length-append text after)) e
         (longer_by (take n text) (drop n text ++ take (m - length text) after) (shape other _ (drop m (text ++ after)) (subst (λ (front : List ℕ). spells other front (drop m (text ++ after)) ≡ true) whole is)) (shape kind (take n text) (drop n text) h.of_kind))
 
--- bytes that are a token by themselves
+-- bytes that are a token by themselves, with nothing behind them
 pub whole_token : (kind : TokenKind) (bytes : List ℕ) → spells kind bytes [] ≡ true → IsLongestToken bytes kind (length bytes)
 whole_token kind bytes e = record {
   within = omega arith;

@@ -1,4 +1,4 @@
--- Terminators as they are printed and read.
+-- Terminators: their printed text is read as the terminator.
 use Rattle.std.proofs.Common.{◌≡◌, ℕ, suc, true, false, List, [], ◌∷◌, Some, codes, refl, sym, ap, subst, ◌∙◌}
 use Rattle.std.specs.Prelude.{slice_get, option_map}
 use Rattle.std.proofs.lemmas.Option.{slice_get-map}
@@ -35,7 +35,7 @@ wide_indent : list_all is_space (codes "    ") ≡ true
 unfolding is_space is_blank
 wide_indent = refl
 
--- what is written for a case of a switch on this width
+-- this is canonically written for a case of a switch on this width
 abbrev MeansCase : Function → ℕ → RawCase → Number × ℕ → Type 0
 MeansCase f width raw c = CaseMeans (Identifies f) raw c × (raw.width ≡ width)
 
@@ -53,7 +53,7 @@ case_prints f fits width c block ok same number at =
     comma_space opens_comma)
     (target_prints f fits c.1 block at)))
 
--- the cases mean theirs, and have the width
+-- what is written for the cases means them, at the width
 cases_mean : (f : Function) (width : ℕ) (raws : List RawCase) (cases : List (Number × ℕ)) → AllZip (MeansCase f width) raws cases → AllZip (CaseMeans (Identifies f)) raws cases × AllByRecursion (λ c. c.width ≡ width) raws
 cases_mean f width [] [] all = (tt, tt)
 cases_mean f width [] (c ∷ cases) all = absurd all
@@ -72,7 +72,7 @@ SpellsEnd end = SpellsTerminator end.0 end.1
 abbrev pub MeansEnd : Function → OnLine → Terminator → Type 0
 MeansEnd f raw end = EndMeans (Identifies f) raw.1 end × EndTypesFit f.width raw.1
 
--- the cases of a switch on the width are numbers of it
+-- the values of a switch's cases are numbers of its width
 abbrev pub CasesPrint : Terminator → Type 0
 CasesPrint (ends.Switch a width other cases) = (i : ℕ) (c : Number × ℕ) → slice_get cases i ≡ Some c → (c.0.width ≡ width) × NumberFits c.0
 CasesPrint end = Unit {0}

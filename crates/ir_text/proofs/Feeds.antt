@@ -1,4 +1,4 @@
--- The bytes of a token hold no line feed.
+-- The bytes of a token have no line feed.
 use Rattle.std.proofs.Common.{◌≡◌, ℕ, ◌-◌, Bool, true, false, List, [], ◌∷◌, ◌++◌, length, take, drop, refl, sym, ap, ◌∙◌, take-append-drop, arith}
 use Rattle.std.specs.List.{list_all}
 use Rattle.std.proofs.Math.Seq.{take-length}
@@ -16,7 +16,7 @@ use Rattle.ir_text.proofs.KeptLines.{IsKeptAlone, alone, in_line}
 use Rattle.ir_text.proofs.Shapes.{IsShaped, feed_goes_not_on, feed_no_lead, is_lead, is_lone, is_sigil, lone, quoted, run, shape, sigiled}
 use Rattle.ir_text.proofs.Spelled.{IsSpelled, function_spelled, group_spelled, label_spelled, mark_spelled, metadata_spelled, number_spelled, quoted_spelled, register_spelled, word_spelled}
 
--- one byte that passes where a line feed doesn't
+-- a byte that passes a test which a line feed doesn't pass
 one : (p : ℕ → Bool) (b : ℕ) → p 10 ≡ false → p b ≡ true → feeds (b ∷ []) ≡ 0
 one p b fails e = no_feeds p (b ∷ []) fails (and_both (p b) true e refl)
 

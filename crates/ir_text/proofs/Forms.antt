@@ -1,4 +1,4 @@
--- The tokens of a text have their forms, in whatever text and place they stand.
+-- The tokens of a text have the forms of their kinds, in every text and context.
 use Rattle.std.proofs.Common.{◌≡◌, ℕ, ◌+◌, ◌-◌, ◌<◌, ◌≤◌, true, false, not, eqb, ◌&&◌, ◌||◌, List, [], ◌∷◌, ◌++◌, codes, length, take, drop, refl, sym, ap, ◌∙◌, ◌⊎◌, ⊎_elim, length-append, length-take, take-add, drop-drop, eqb-true, arith}
 use Rattle.std.specs.List.{AllByRecursion, list_all}
 use Rattle.std.specs.Str.{bytes_eq}
@@ -96,7 +96,7 @@ group_form text start end rest le bracket g =
 
 -- ---- tokens of a text
 
--- a token has its form, but for what is no token and for kept lines
+-- the token has the form of its kind, if the grammar allows it somewhere and it is no kept line
 abbrev pub HasItsForm : Token → Type 0
 HasItsForm t = is_last t ≡ false → is_kept t ≡ false → HasForm t
 

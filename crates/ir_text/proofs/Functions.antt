@@ -1,4 +1,4 @@
--- Functions as they are printed and read.
+-- Functions: their printed text is read as the function.
 use Rattle.std.proofs.Common.{◌≡◌, inl, inr, ℕ, suc, zero, ◌+◌, ◌<◌, true, List, [], ◌∷◌, ◌++◌, length, map, take, Option, Some, codes, refl, sym, ap, subst, ◌∙◌, arith}
 use Rattle.std.specs.Prelude.{slice_get, IsSome}
 use Rattle.std.specs.List.{flat_map, enumerate_from, AllZip}
@@ -34,9 +34,9 @@ use Rattle.ir_text.proofs.Items.{MeansParameter, header_prints}
 use Rattle.ir_text.proofs.Blocks.{MeansBlock, block_prints, block_is_of, block_types}
 use Rattle.ir_text.proofs.Numbered.{numbered_at, numbered_here, zip_at, zip_plain, zip_each, zip_length}
 
--- ---- what is written for the things of a function, in text order
+-- ---- the identifiers that are written for the things of a function, in text order
 
--- what is written for these things, of which the first stands at a place, is what they are called
+-- what is written for these things, of which the first has this index, are their identifiers
 abbrev AreCalled : Function → ℕ → List (Option RawIdentifier) → Type 0
 AreCalled f place written = (q : ℕ) (w : RawIdentifier) → slice_get written q ≡ Some (Some w) → slice_get (identifiers_of f) (place + q) ≡ Some w.identifier
 
@@ -71,7 +71,7 @@ block_called f raw b means (suc q) w at =
     let index : block_place f b.0 + suc q ≡ block_place f b.0 + 1 + q = omega arith in
     rw index (results_called f b.0 b.1.insts raw.insts means.insts q w at)
 
--- the place of the next block
+-- the index of the next block's name
 next_place : (f : Function) (b : ℕ) (block : CoreBlock) → IsBlock f b block → block_place f (b + 1) ≡ block_place f b + (1 + length block.insts)
 next_place f b block at =
     let here : take (b + 1) f.blocks ≡ take b f.blocks ++ block ∷ [] = take_more f.blocks b block (slice_get_within f.blocks b block at) ∙ ap (λ (x : CoreBlock). take b f.blocks ++ x ∷ []) (get_or_from_slice_get f.blocks b block block at) in
@@ -79,7 +79,7 @@ next_place f b block at =
     let all : flat_map block_names (take (b + 1) f.blocks) ≡ before ++ (block_names block ++ []) = ap (λ (bs : List CoreBlock). flat_map block_names bs) here ∙ flat_map-append block_names (take b f.blocks) (block ∷ []) in
     omega (arith, ap length all, length-append before (block_names block ++ []), length-append (block_names block) [], length-map block.insts (λ (i : Inst). i.name))
 
--- as many are written for a block as it has
+-- for a block as many identifiers may be written as it has things
 written_count : (f : Function) (raw : RawBlock) (b : ℕ × CoreBlock) → MeansBlock f raw b → length (written_in raw) ≡ 1 + length b.1.insts
 written_count f raw b means =
     omega (arith, zip_length (MeansInst f b.0) raw.insts (enumerate_from 0 b.1.insts) means.insts, length-enumerate_from 0 b.1.insts, length-map raw.insts (λ (i : RawInst). Some i.result))
@@ -128,7 +128,7 @@ writes_function f raw name before width after parameters blocks = record {
   types = rw width (All-from_recursion (BlockTypesFit f.width) raw.blocks (zip_each (MeansBlock f) (BlockTypesFit f.width) (block_types f) raw.blocks (enumerate_from 0 f.blocks) blocks));
 }
 
--- blocks that are not the first have labels
+-- each block but the first has a label
 labelled : (f : Function) (b : ℕ) (raws : List RawBlock) (blocks : List CoreBlock) (tokens rest : List Placed) → 0 < b → AllZip (MeansBlock f) raws (enumerate_from b blocks) → Each SpellsBlock raws tokens rest → Each SpellsLabelledBlock raws tokens rest
 labelled f b [] blocks tokens rest more all spells = spells
 labelled f b (raw ∷ raws) [] tokens rest more all spells = absurd all

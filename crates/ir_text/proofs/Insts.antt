@@ -1,4 +1,4 @@
--- Instructions as they are printed and read.
+-- Instructions: their printed text is read as the instruction.
 use Rattle.std.proofs.Common.{◌≡◌, ℕ, suc, ◌<◌, Bool, true, false, cond, ◌&&◌, List, [], ◌∷◌, ◌++◌, Some, codes, length, refl, sym, ap, subst, ◌∙◌, append_assoc, arith}
 use Rattle.std.specs.Prelude.{slice_get, option_map, filter}
 use Rattle.std.specs.List.{flat_map, join_by, AllZip}
@@ -89,7 +89,7 @@ cast_is_word Trunc = refl
 cast_is_word ZExt = refl
 cast_is_word SExt = refl
 
--- a word of the language and a space
+-- a word with a space behind it
 pub word_spaced : (word : List ℕ) → is_word word ≡ true → Prints Body Body true (Is (Word word)) (word ++ codes " ")
 word_spaced word form = spaced tt (word_in_body word form)
 
@@ -98,7 +98,7 @@ opens_comma = opens_with 44 (codes " ") comma_stops
 
 -- ---- flags
 
--- the keyword of a flag is a word of the language
+-- the keyword of a flag has the form of a word
 flag_is_word : (flag : Flag) → is_word (flag_keyword flag) ≡ true
 unfolding is_word begins_word begins_name is_letter is_name_byte
 flag_is_word Nuw = refl
@@ -138,7 +138,7 @@ flags_open flags = flags_among_open flags every_flag
 
 -- ---- operations
 
--- what is read has its width, and its form
+-- the operand of the read has the width, and its form
 pub record ReadFits (f : Function) (r : Read) : Type 0 where
   pub has : OperandHasWidth f r.width r.operand
   pub form : ReadHasForms r
@@ -149,7 +149,7 @@ read_prints f fits r ok = operand_prints f fits r.width r.operand ok.has ok.form
 pub read_typed : (f : Function) → IsPrintable f → (r : Read) → ReadFits f r → Prints Body Body false (SpellsType r.width ⨾ Reads (SpellsOperand r.width) (MeansOperand f) r.operand) (typed_text f r.width r.operand)
 read_typed f fits r ok = typed_prints f fits r.width r.operand ok.has ok.form.width ok.form.operand
 
--- an intrinsic takes no flags
+-- intrinsics take no flags
 intrinsic_takes_none : (op : Opcode) → is_intrinsic op ≡ true → flags_of op ≡ no_flags
 intrinsic_takes_none UMin own = refl
 intrinsic_takes_none UMax own = refl
@@ -176,7 +176,7 @@ incoming_prints f fits b k width entry block ok at =
     (behind_space (codes " ") blank tt close_in_body)
     (opens_with 32 (codes "]") space_stops))
 
--- the entries behind the first
+-- the further entries of a phi
 incomings_print : (f : Function) → IsPrintable f → (b k width : ℕ) (entries : List (Operand × ℕ))
     → ((i : ℕ) (entry : Operand × ℕ) → slice_get entries i ≡ Some entry → ReadFits f (read entry.1 (end_of f entry.1) width entry.0) × ((block : CoreBlock) × IsBlock f entry.1 block))
     → 0 < length entries
@@ -190,7 +190,7 @@ incomings_print f fits b k width (first ∷ entries) each some =
     let there = each (suc i) entry at in
     prints_map _ (λ tokens rest (m2, comma, (a, spells, means)). (a, (m2, comma, spells), means)) (prints_next comma_space (incoming_prints f fits b k width entry there.1.0 there.0 there.1.1)))))
 
--- ---- operations of two operands
+-- ---- operations with two operands
 
 plain_text : (f : Function) (width : ℕ) (op : Opcode) (flags : Flags) (x y : Operand) → is_intrinsic op ≡ false
     → binary_text f width op flags x y ≡ opcode_keyword op ++ flags_text flags ++ codes " " ++ typed_text f width x ++ codes ", " ++ operand_text f y
@@ -222,8 +222,8 @@ binary_prints f fits b k width op flags x y ok typed left right = by (is_intrins
         comma_space opens_comma)
         (read_prints f fits (read b k width y) right))))
 
--- an operation up to the end of its line, where its operands fit, its flags are its own, and the blocks of a phi are
--- there
+-- an operation up to the end of its line, if its operands have their widths, its flags are ones that it takes, and the
+-- blocks of a phi are defined
 pub op_prints : (f : Function) → IsPrintable f → (b k width : ℕ) (op : Op) → IsWidth width → ((i : ℕ) (r : Read) → slice_get (reads_of f b k width op) i ≡ Some r → ReadFits f r) → IsTyped width op
     → ((entries : List (Operand × ℕ)) → op ≡ core.Phi entries → (0 < length entries) × ((i : ℕ) (entry : Operand × ℕ) → slice_get entries i ≡ Some entry → (block : CoreBlock) × IsBlock f entry.1 block))
     → Prints Body Body true (Reads SpellsOp (MeansOp f width) op) (op_text f width op ++ codes "\n")
@@ -277,7 +277,7 @@ op_prints f fits b k width (core.Phi entries) ok reads typed phi =
 
 -- ---- instructions
 
--- what is written for instruction i.0 of block b
+-- this is canonically written for instruction i.0 of block b
 abbrev pub MeansInst : Function → ℕ → RawInst → ℕ × Inst → Type 0
 MeansInst f b raw i = InstMeans (Identifies f) raw i.1 × Identifies f raw.result.identifier (Value (registers.Result b i.0)) × TypesFit raw.op
 

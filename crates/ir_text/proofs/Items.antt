@@ -1,4 +1,4 @@
--- Items, parameters and the line that begins a function, as they are printed and read.
+-- Items, parameters and headers of functions: their printed text is read as what they are.
 use Rattle.std.proofs.Common.{◌≡◌, ℕ, suc, true, false, List, [], ◌∷◌, ◌++◌, Some, codes, refl, subst}
 use Rattle.std.specs.Prelude.{slice_get}
 use Rattle.std.specs.List.{flat_map, enumerate_from, join_by, All, AllZip, AllByRecursion}
@@ -32,7 +32,7 @@ use Rattle.ir_text.proofs.Numbered.{numbered_here, all_get}
 
 -- ---- items
 
--- an item that is spelled by tokens with their forms
+-- an item is spelled by tokens that have the forms of their kinds
 item_of : (item : List ℕ) (tokens rest : List Placed) → SpellsItem item tokens rest → AllByRecursion (λ t. HasItsForm t.1) tokens → Prints Header Header false (SpellsItem item) item
 item_of item tokens rest (of_word is (line, one)) forms =
     let all = subst (λ (ts : List Placed). AllByRecursion (λ t. HasItsForm t.1) ts) one forms in
@@ -61,7 +61,7 @@ item_of item tokens rest (of_key_and_value key value same (middle, (line, one), 
 pub item_prints : (item : List ℕ) → IsItem item → Prints Header Header false (SpellsItem item) item
 item_prints item (tokens, rest, from, (between, spells, end)) = item_of item tokens between spells (forms_of from)
 
--- items, each behind a space
+-- items, each with a space before it
 pub items_open : (items : List (List ℕ)) → Opens false (flat_map item_text items)
 unfolding item_text
 items_open items = opens_each item_text (λ item. opens_with 32 item space_stops) items
@@ -76,7 +76,7 @@ items_print items all = each_item_prints items (recursion_from_All IsItem items 
 
 -- ---- parameters
 
--- what is written for parameter p.0
+-- this is canonically written for parameter p.0
 pub record MeansParameter (f : Function) (raw : RawParameter) (p : ℕ × Parameter) : Type 0 where
   pub means : ParameterMeans raw p.1
   pub name : RawIdentifier
@@ -96,7 +96,7 @@ parameter_prints f fits k p at forms =
     (spaced tt (prints_then (type_prints in_header p.width forms.width) (items_print p.items forms.items) (items_open p.items)))
     (register_called in_header f r p.name (is_called f fits (place_of f r) p.name (parameter_named f k p at))))
 
--- numbered parameters with a comma and a space between them
+-- parameters with their indices, with a comma and a space between them
 parameters_print : (f : Function) (ps : List (ℕ × Parameter)) → ((i : ℕ) (p : ℕ × Parameter) → slice_get ps i ≡ Some p → Prints Header Header false (Reads SpellsParameter (MeansParameter f) p) (parameter_text f p))
     → Prints Header Header false (Reads SpellsParameterList (AllZip (MeansParameter f)) ps) (join_by (parameter_text f) (codes ", ") ps)
 parameters_print f [] each = prints_map _ (λ tokens rest same. ([], same, tt)) (prints_nothing Header false)
@@ -107,9 +107,9 @@ parameters_print f (p ∷ ps) each =
     prints_map _ (λ tokens rest (m2, comma, (raw, spells, means)). (raw, (m2, comma, spells), means)) (prints_next (mark_spaced tt comma_in_header) (each (suc i) q at))))
     (opens_each (λ (q : ℕ × Parameter). codes ", " ++ parameter_text f q) (λ q. opens_with 44 (32 ∷ parameter_text f q) comma_stops) ps))
 
--- ---- the line that begins a function
+-- ---- the header of a function
 
--- its parts, in order
+-- the parts of a header, in order
 abbrev pub HeaderParts : Function → Part
 HeaderParts f =
     (((((((Is (Word (codes "define")) ⨾ Each SpellsItem f.before) ⨾ SpellsType f.width) ⨾ (λ tokens rest. (line : ℕ) × SpellsName line f.name tokens rest)) ⨾ Is (Mark marks.open_paren))

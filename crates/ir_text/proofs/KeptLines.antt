@@ -1,4 +1,4 @@
--- A kept line alone is a kept line within a text.
+-- A text that is exactly one kept line is a kept line also within another text.
 use Rattle.std.proofs.Common.{◌≡◌, ℕ, ◌+◌, ◌-◌, ◌<◌, ◌≤◌, Bool, true, false, cond, not, eqb, ◌&&◌, ◌||◌, List, [], ◌∷◌, ◌++◌, None, length, take, drop, take_while, refl, sym, ap, subst, ◌∙◌, ◌⊎◌, ⊎_elim, append_assoc, length-append, length-take, length-take-le, length-drop, take-append-drop, drop-drop, eqb-true, arith}
 use Rattle.std.specs.List.{prefix_len}
 use Rattle.std.proofs.lemmas.Bool.{false≢true}
@@ -30,14 +30,14 @@ use Rattle.ir_text.proofs.Ending.{longest_within}
 use Rattle.ir_text.proofs.Shapes.{feed_goes_not_on}
 use Rattle.ir_text.proofs.Standing.{ahead_is, between_is, scanned_at, token_is_next}
 
--- ---- what a kept line is read from
+-- ---- the bytes of a kept line
 
--- no line feed
+-- the byte is no line feed
 abbrev pub in_line : ℕ → Bool
 in_line b = not (eqb b 10)
 
--- the bytes of a kept line: its first token, which begins kept lines, and bytes up to the end that are no line feed and
--- end with no blank
+-- the bytes are exactly one kept line: a first token with which kept lines begin, then bytes without a line feed, and
+-- no blank at the end
 pub record IsKeptAlone (bytes : List ℕ) : Type 0 where
   pub kind : TokenKind
   pub n : ℕ
@@ -58,7 +58,7 @@ first_is {text} {place} {at} (token {end = end} {t = u} h e behind) t others sam
     heads : (a b : Placed) (xs ys : List Placed) → a ∷ xs ≡ b ∷ ys → a ≡ b
     heads a b xs ys e = cc
 
--- the bytes of a kept line, and that other tokens are none
+-- the bytes of a kept line, and none for another token
 abbrev kept_bytes : Token → List ℕ
 kept_bytes (Kept text) = text
 kept_bytes rest = []
@@ -81,7 +81,7 @@ none_kept kinds.Quoted bytes = refl
 none_kept kinds.Mark [] = refl
 none_kept kinds.Mark (b ∷ bytes) = refl
 
--- a kept line at a place, by the token that begins it
+-- a kept line from a place on, by its first token
 record KeptFrom (text : List ℕ) (place : Section) (at : ℕ) (bytes : List ℕ) : Type 0 where
   t : Scanned
   rest : Span
@@ -97,7 +97,7 @@ kept_from {text} {place} {at} (kept_group t rest next extent kept) e = absurd (f
 kept_from {text} {place} {at} (unclosed t next extent none) e = absurd (false≢true e)
 kept_from {text} {place} {at} (bad_byte line is) e = absurd (false≢true e)
 
--- ---- what begins a kept line
+-- ---- the first token of a kept line
 
 line_begins : (line : ℕ) (bytes : List ℕ) → extent_of (AtEntry None) line bytes ≡ extents.Line → begins_kept bytes ≡ true
 unfolding extent_of
@@ -106,7 +106,7 @@ line_begins line bytes e = ⊎_elim
     (λ (h : begins_kept bytes ≡ false). absurd (let other : extents.Itself ≡ extents.Line = rw h at e in cc))
     (which (begins_kept bytes))
 
--- the first byte of a kept line
+-- a kept line may begin with the byte
 abbrev begins_line : ℕ → Bool
 begins_line b = begins_word b || eqb b 33
 
@@ -124,7 +124,7 @@ begins_some bytes e = ⊎_elim
         (λ (k : eqb b 36 ≡ true). ap begins_line (eqb-true b 36 k))
         (or_true (eqb b 33) (eqb b 36) h)
 
--- it is a token
+-- such a text begins with a token
 no_other : (text : List ℕ) → BeginsNoToken text → begins_kept (take 1 text) ≡ true → ⊥
 unfolding is_word is_metadata begins_word is_name_byte
 no_other [] none e = false≢true none.visible
@@ -144,7 +144,7 @@ begun text kind n h e = ⊎_elim
     o))
     (seen text kind n h)
 
--- ---- a kept line alone
+-- ---- a kept line as a whole text
 
 whole_line : (p : ℕ → Bool) (text : List ℕ) → length text ≤ length (take_while p text) → take_while p text ≡ text
 whole_line p text le = take_all (prefix_len p text) text (omega (arith, length-take (prefix_len p text) text))
@@ -188,7 +188,7 @@ line_extent (AtEntry before) line bytes takes begins = rw (begins, takes) refl
 line_extent (InHeader word) line bytes takes begins = absurd (false≢true takes)
 line_extent (InBody word) line bytes takes begins = absurd (false≢true takes)
 
--- a line ends where the next begins
+-- the line ends where the next one begins
 line_stops : (line rest : List ℕ) → take_while in_line line ≡ line → is_at_line_end rest ≡ true → take_while in_line (line ++ rest) ≡ line
 line_stops [] [] whole ends = refl
 line_stops [] (b ∷ rest) whole ends = take_while-cons in_line b rest ∙ rw ends refl

@@ -1,4 +1,4 @@
--- The text of lexemes has their tokens.
+-- The text of lexemes is lexed as their tokens.
 use Rattle.std.proofs.Common.{◌≡◌, ℕ, ◌+◌, ◌-◌, Bool, true, false, not, List, [], ◌∷◌, ◌++◌, length, take, refl, sym, ap, subst, ◌∙◌, append_assoc, length-append, arith}
 use Rattle.std.specs.List.{list_all}
 use Rattle.std.proofs.Math.Seq.{drop-length}
@@ -26,7 +26,7 @@ not_true : (b : Bool) → not b ≡ true → b ≡ false
 not_true true e = absurd (false≢true e)
 not_true false e = refl
 
--- a lexeme stands in a text
+-- a lexeme in a text is lexed as its token
 lexeme_stands : (text before gap rest : List ℕ) (place : Section) (line : ℕ) (t : Token) → text ≡ before ++ (gap ++ (bytes_of t ++ rest)) → list_all is_space gap ≡ true → HasForm t
     → MayStand place (line + feeds gap) t rest → line ≡ feeds before + 1 → IsTokenAt text place (length before) (line + feeds gap, t) (length before + length gap + length (bytes_of t))
 lexeme_stands text before gap rest place line (Kept bytes) e h form may l = line_stands text before gap rest bytes place line (alone bytes form) e (gap_is gap h) may.0 may.1 l
@@ -44,7 +44,7 @@ lexeme_stands text before gap rest place line End e h form may l = absurd form
 lexeme_stands text before gap rest place line Other e h form may l = absurd form
 lexeme_stands text before gap rest place line Bad e h form may l = absurd form
 
--- more may follow it
+-- reading does not end with a token that has a form
 not_last : (t : Token) → HasForm t → is_last t ≡ false
 not_last (Kept text) form = refl
 not_last (KeptGroup text) form = refl

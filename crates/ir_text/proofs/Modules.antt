@@ -1,4 +1,4 @@
--- Modules as they are printed and read.
+-- Modules: their printed text is read as the module.
 use Rattle.std.proofs.Common.{◌≡◌, ℕ, suc, ◌+◌, true, List, [], ◌∷◌, ◌++◌, None, Some, refl, sym, subst, inl}
 use Rattle.std.specs.Prelude.{slice_get}
 use Rattle.std.specs.List.{list_all, AllZip}
@@ -32,7 +32,7 @@ use Rattle.ir_text.proofs.Numbered.{all_get}
 
 -- ---- entries
 
--- what is known of an entry that is printed
+-- what an entry needs to be printed
 abbrev pub IsPrintableEntry : Entry → Type 0
 IsPrintableEntry (entries.Kept line) = IsKeptText line
 IsPrintableEntry (entries.Function f) = IsPrintable f
@@ -42,7 +42,7 @@ unfolding entry_text
 entry_prints (entries.Kept line) form = prints_map _ (λ tokens rest is. (raw_entries.Kept line, is, refl)) (kept_prints line form)
 entry_prints (entries.Function f) fits = prints_map _ (λ tokens rest (raw, spells, writes). (raw_entries.Function raw, spells, writes)) (function_prints f fits)
 
--- between two entries there is a gap
+-- what is printed between two entries is a gap
 gap_between : (e d : Entry) → list_all is_space (between_text e d) ≡ true
 unfolding between_text is_space is_blank
 gap_between (entries.Kept line) (entries.Kept next) = refl
@@ -59,7 +59,7 @@ entries_print (e ∷ d ∷ es) each =
 
 -- ---- modules
 
--- a text that goes on with these tokens from its beginning has them
+-- if these are the tokens from the start of a text on, they are the tokens of the text
 has_tokens : (text : List ℕ) (tokens : List Placed) → Streams (last_line text) (AtEntry None) 1 text tokens → AreTokens text tokens
 has_tokens text tokens s =
     let all = lexemes_are_tokens (AtEntry None) s.lexemes s.gap s.are (inl (gap_is s.gap s.spaces)) in

@@ -1,4 +1,4 @@
--- Names as they are printed are read as themselves.
+-- Names: their printed text is read as the name.
 use Rattle.std.proofs.Common.{◌≡◌, ◌≢◌, ℕ, ◌+◌, ◌/◌, ◌%◌, ◌^◌, ◌<◌, ◌≤◌, ltb, leb, Bool, true, false, not, eqb, ◌&&◌, ◌||◌, decimal, List, [], ◌∷◌, ◌++◌, flat_map, refl, sym, ap, subst, ◌∙◌, ⊎_elim, eq-eqb, eqb-true, le-leb, leb-true, ltb-false, ltb-true, mod-lt, ne_eqb, arith}
 use Rattle.std.specs.List.{AllByRecursion, Contains, list_all, list_any}
 use Rattle.std.proofs.lemmas.Bool.{false≢true}
@@ -18,7 +18,7 @@ use Rattle.ir_text.proofs.NumberForms.{decimal_digits, decimal_value-decimal, di
 use Rattle.ir_text.proofs.Spelled.{before_last}
 use Rattle.ir_text.proofs.Zeros.{names_no_quote, plain_no_zero}
 
--- bytes that names may hold
+-- a name may have the byte
 abbrev pub IsNameByte : ℕ → Type 0
 IsNameByte b = (1 ≤ b) × (b ≤ 255)
 
@@ -90,7 +90,7 @@ a_digit d less = ⊎_elim
 
 -- ---- quoted names
 
--- what a byte is written as in quotes is read as that byte
+-- the text stands for the byte between quotes
 record IsEscape (b : ℕ) (text : List ℕ) : Type 0 where
   quotable : list_all is_quotable text ≡ true
   read : (rest : List ℕ) → unquoted (text ++ rest) ≡ b ∷ unquoted rest
@@ -128,7 +128,7 @@ escape b le = ⊎_elim
     (λ (h : (is_printable b && not (eqb b 34 || eqb b 92)) ≡ false). rw h (hidden b le))
     (which (is_printable b && not (eqb b 34 || eqb b 92)))
 
--- what stands in the quotes of a name
+-- the text between the quotes of a printed name
 abbrev inner_of : List ℕ → List ℕ
 inner_of name = flat_map escaped name
 
@@ -148,7 +148,7 @@ no_zero (b ∷ name) all = rw (ne_eqb b 0 (λ e. let some : 1 ≤ b = all.0.0 in
 
 -- ---- names
 
--- no digit begins a plain name
+-- no plain name begins with a digit
 digit_begins_none : (b : ℕ) → is_digit b ≡ true → begins_name b ≡ false
 unfolding is_digit begins_name is_letter
 digit_begins_none b e =
@@ -172,7 +172,7 @@ plain_itself (b ∷ name) e = ⊎_elim
     (λ (h : eqb b 34 ≡ false). rw h refl)
     (which (eqb b 34))
 
--- a name that is written so is a name's text and is read as the name
+-- the text has the form of a name and is read as this one
 pub record IsNamed (name text : List ℕ) : Type 0 where
   pub form : IsNameText text
   pub calls : identifier_of text ≡ Named name

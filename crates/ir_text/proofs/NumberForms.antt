@@ -1,4 +1,4 @@
--- Numbers as they are printed are read as themselves.
+-- Numbers: their printed text is read as the number.
 use Rattle.std.proofs.Common.{◌≡◌, ◌≢◌, ℕ, zero, suc, ◌+◌, ◌-◌, ◌*◌, ◌/◌, ◌%◌, ◌^◌, ◌<◌, ◌≤◌, ltb, leb, Bool, true, false, eqb, ◌&&◌, ℤ, pos, negsuc, neg_ℤ, decimal, List, [], ◌∷◌, ◌++◌, Some, refl, sym, ap, subst, ◌∙◌, ⊎_elim, eqb-true, le-leb, ltb-false, mod-lt, mod-eq_of_lt, ne_eqb, pow_mono, take, codes, arith}
 use Rattle.std.specs.List.{list_all}
 use Rattle.std.specs.Str.{bytes_eq}
@@ -58,12 +58,12 @@ decimal_value-decimal n less = (digits_of n less).value
 pub digits_names : (bytes : List ℕ) → are_digits bytes ≡ true → list_all is_name_byte bytes ≡ true
 digits_names bytes e = list_all-along is_digit is_name_byte bytes digit_name (and_right (begins_with is_digit bytes) (list_all is_digit bytes) e)
 
--- the word of an integer type
+-- the printed type has the form of a word
 pub type_form : (n : ℕ) → n < 2 ^ 64 → is_word (105 ∷ decimal n) ≡ true
 unfolding is_word begins_word begins_name is_letter is_name_byte is_digit
 type_form n less = digits_names (decimal n) (decimal_digits n less)
 
--- a number that is not 0 begins with no 0
+-- the digits of a number that is not 0 don't begin with a 0
 record NoZeroFirst (n : ℕ) (digits : List ℕ) : Type 0 where
   first : 1 ≤ n → (b : ℕ) × (rest : List ℕ) × (digits ≡ b ∷ rest) × (b ≢ 48)
 
@@ -115,7 +115,7 @@ residue-neg : (N k : ℕ) → suc k ≤ 2 ^ N → residue N (negsuc k) ≡ 2 ^ N
 unfolding residue
 residue-neg N k le = let small : k % 2 ^ N ≡ k = mod-eq_of_lt (omega arith) in omega arith
 
--- the text is a number, and that of iN
+-- the text has the form of a number and is read as n at iN
 record IsWritten (N n : ℕ) (text : List ℕ) : Type 0 where
   number : is_number text ≡ true
   constant : constant_of text N ≡ Some (record { width = N; number = n })

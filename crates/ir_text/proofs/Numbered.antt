@@ -1,11 +1,11 @@
--- Numbered lists, and lists that are joined place by place.
+-- Lists with indices, and lists whose items are related one by one.
 use Rattle.std.proofs.Common.{◌≡◌, ℕ, suc, zero, ◌+◌, ◌<◌, List, [], ◌∷◌, length, None, Some, refl, sym, ap, subst, ◌∙◌, arith}
 use Rattle.std.specs.Prelude.{slice_get}
 use Rattle.std.specs.List.{enumerate_from, All, AllZip, AllByRecursion}
 use Rattle.std.proofs.lemmas.Option.{get_or_from_slice_get, slice_get_within}
 use Rattle.ir_resolve.proofs.Standing.{get_numbered, mapped, some_same}
 
--- ---- what stands at a place
+-- ---- the item at an index
 
 pub numbered_at : {X : Type 0} (n : ℕ) (xs : List X) (i : ℕ) (p : ℕ × X) → slice_get (enumerate_from n xs) i ≡ Some p → (p.0 ≡ n + i) × (slice_get xs i ≡ Some p.1)
 numbered_at {X} n xs i p at =
@@ -30,7 +30,7 @@ pub get_past : {X : Type 0} (xs : List X) → slice_get xs (length xs) ≡ None
 get_past [] = refl
 get_past (x ∷ xs) = get_past xs
 
--- ---- lists that are joined
+-- ---- lists whose items are related
 
 pub zip_at : {A X : Type 0} (S : A → X → Type 0) (xs : List A) (ys : List X) (i : ℕ) (x : A) → AllZip S xs ys → slice_get xs i ≡ Some x → (y : X) × (slice_get ys i ≡ Some y) × S x y
 zip_at S [] ys i x all at = absurd cc
@@ -38,14 +38,14 @@ zip_at S (z ∷ xs) [] i x all at = absurd all
 zip_at {A} {X} S (z ∷ xs) (y ∷ ys) zero x all at = (y, refl, subst (λ (w : A). S w y) (some_same at) all.0)
 zip_at S (z ∷ xs) (y ∷ ys) (suc i) x all at = zip_at S xs ys i x all.1 at
 
--- without the numbers
+-- the same without the indices
 pub zip_plain : {A X : Type 0} (S : A → ℕ × X → Type 0) (R : A → X → Type 0) → ((a : A) (p : ℕ × X) → S a p → R a p.1) → (n : ℕ) (things : List A) (xs : List X) → AllZip S things (enumerate_from n xs) → AllZip R things xs
 zip_plain S R follows n [] [] all = tt
 zip_plain S R follows n [] (x ∷ xs) all = absurd all
 zip_plain S R follows n (a ∷ things) [] all = absurd all
 zip_plain S R follows n (a ∷ things) (x ∷ xs) all = (follows a (n, x) all.0, zip_plain S R follows (n + 1) things xs all.1)
 
--- of the first list alone
+-- what follows for the first list alone
 pub zip_each : {A X : Type 0} (S : A → X → Type 0) (P : A → Type 0) → ((a : A) (x : X) → S a x → P a) → (things : List A) (xs : List X) → AllZip S things xs → AllByRecursion P things
 zip_each S P follows [] [] all = tt
 zip_each S P follows [] (x ∷ xs) all = absurd all

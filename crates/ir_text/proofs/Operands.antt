@@ -1,4 +1,4 @@
--- Types, registers, blocks and operands, as they are printed and read.
+-- Types, registers, blocks and operands: their printed text is read as what they are.
 use Rattle.std.proofs.Common.{◌≡◌, inl, inr, ℕ, ◌<◌, ◌≤◌, ◌^◌, false, ◌∷◌, Some, codes, refl, sym, ap, subst, ◌∙◌, arith, decimal}
 use Rattle.std.proofs.lemmas.Bool.{cases_eq}
 use Rattle.scan.specs.Bytes.{begins_name, begins_word, is_letter, is_name_byte}
@@ -42,7 +42,7 @@ type_prints inside width ok =
 
 -- ---- registers and blocks
 
--- what is written for a thing is what it is called, and gives the name
+-- this is written for a thing: its identifier, which is the name if it has one
 abbrev pub Calls : Function → Name → RawIdentifier → Thing → Type 0
 Calls f name w thing = Identifies f w.identifier thing × (name ≡ name_in w.identifier)
 
@@ -58,7 +58,7 @@ block_called f b name c =
     prints_map (Reads SpellsRegister (Calls f name) (Block b)) (λ tokens rest (line, is). (record { line = line; identifier = c.written }, (identifier_text (block_identifier f b), c.reads, is), (c.is_written, c.name_is)))
     (register_inside in_body (identifier_text (block_identifier f b)) c.form)
 
--- a block that is named is called so
+-- this is written for a block where it is named
 abbrev pub IsBlockName : Function → RawIdentifier → ℕ → Type 0
 IsBlockName f w b = Identifies f w.identifier (Block b)
 
@@ -75,7 +75,7 @@ target_prints f fits b block at =
 
 -- ---- numbers
 
--- a literal as written is the number, and may stand in a case
+-- the literal as written is the number, and may be the value of a case
 abbrev pub IsLiteral : RawOperand → Number → Type 0
 IsLiteral a n = (literal_of a.value ≡ Some n) × IsCaseValue a.value
 
@@ -143,7 +143,7 @@ operand_prints f fits width operands.Undef has ok number =
 operand_prints f fits width operands.Poison has ok number =
     prints_map (Reads (SpellsOperand width) (MeansOperand f) operands.Poison) (λ tokens rest (line, is). (record { line = line; value = values.Poison }, (Word (codes "poison"), refl, is), tt)) (word_in_body (codes "poison") refl)
 
--- an operand behind its type
+-- an operand with its type before it
 pub typed_prints : (f : Function) → IsPrintable f → (width : ℕ) (a : Operand) → OperandHasWidth f width a → IsWidth width → OperandFits a
     → Prints Body Body false (SpellsType width ⨾ Reads (SpellsOperand width) (MeansOperand f) a) (typed_text f width a)
 unfolding typed_text

@@ -1,4 +1,4 @@
--- Where tokens may stand: what printers need of places and of the bytes behind a token.
+-- Where tokens may be written, by context and by the bytes behind them.
 use Rattle.std.proofs.Common.{◌≡◌, ◌≢◌, ℕ, ◌<◌, true, false, eqb, List, Option, Some, None, codes, refl, ⊎_elim, eq-eqb, eqb-true, arith}
 use Rattle.std.specs.Str.{bytes_eq}
 use Rattle.std.proofs.lemmas.Slice.Eq.{bytes_eq-Decides}
@@ -37,7 +37,7 @@ equals_stops = refl
 
 -- ---- gaps
 
--- ---- places
+-- ---- contexts
 
 pub itself_behind_no_word : (line : ℕ) (bytes : List ℕ) → extent_of (InHeader None) line bytes ≡ extents.Itself
 unfolding extent_of
@@ -71,12 +71,12 @@ pub itself_at_entry : (before : Option ℕ) (line : ℕ) (bytes : List ℕ) → 
 unfolding extent_of
 itself_at_entry before line bytes e = rw e refl
 
--- the word that begins a function begins no kept line
+-- the word `define` begins no kept line
 pub define_begins_none : begins_kept (codes "define") ≡ false
 unfolding begins_kept
 define_begins_none = refl
 
--- a kept line may stand first in a text, and on a line behind
+-- a kept line may be written first in a text, and on a line behind another token's
 pub first_line : (line : ℕ) → takes_line (AtEntry None) line ≡ true
 first_line line = refl
 
@@ -86,6 +86,6 @@ later_line before line less = ⊎_elim
     (λ (h : eqb before line ≡ false). rw h refl)
     (which (eqb before line))
 
--- a kept group may stand behind a word on its line
+-- a kept group may be written behind a word on its line
 pub same_line : (before line : ℕ) → before ≡ line → takes_group (InHeader (Some before)) line ≡ true
 same_line before line e = eq-eqb before line e

@@ -1,4 +1,4 @@
--- Texts that are read as parts of a module wherever they stand, and how they are joined.
+-- Texts that are read as parts of a module wherever they may be written, and how they are concatenated.
 use Rattle.std.proofs.Common.{◌≡◌, ℕ, suc, ◌+◌, Bool, true, false, List, [], ◌∷◌, ◌++◌, Option, Some, None, refl, sym, subst, append_assoc}
 use Rattle.std.specs.Prelude.{slice_get}
 use Rattle.std.specs.List.{list_all, flat_map, AllZip}
@@ -13,10 +13,10 @@ use Rattle.ir_instructions.specs.Parts.{Part, Is, Nothing, ◌⨾◌, Each}
 use Rattle.ir_text.specs.Lexemes.{goes_on, bytes_of, takes_line, HasForm, MayStand}
 use Rattle.ir_text.proofs.Streams.{Streams, streams_as, behind_gap, with_token}
 
--- ---- places
+-- ---- contexts
 
--- where a text goes on: between entries, on a line without a token or behind one; in a header or in a body, maybe
--- behind a function's name
+-- the context in which a text goes on: between entries, on a line without a token (Fresh) or behind one (Used); in the
+-- header of a function, or directly behind its name (Called); in a body, or directly behind the name of a callee
 pub data Mode : Type 0 where
   Fresh : Mode
   Used : Mode
@@ -48,16 +48,16 @@ stands_later Callee place line n takes stands = stands
 
 -- ---- what follows a text
 
--- the rest ends a name, a word or a number before it
+-- no byte at the start of the rest continues a name, a word or a number before it
 abbrev pub Stop : List ℕ → Type 0
 Stop rest = begins_with goes_on rest ≡ false
 
--- a text that is lone ends by itself; behind another text that has to be so
+-- what may follow a text: anything if it is lone, that is, ends by itself, and else what doesn't continue it
 abbrev pub Follows : Bool → List ℕ → Type 0
 Follows true rest = Unit {0}
 Follows false rest = Stop rest
 
--- the text ends what is before it
+-- the text may follow any other: it doesn't continue what is before it
 pub record Opens (lone : Bool) (text : List ℕ) : Type 0 where
   pub opens : (rest : List ℕ) → Follows lone rest → Stop (text ++ rest)
 
@@ -76,7 +76,7 @@ opens_each text each (x ∷ xs) = opens_first (text x) (flat_map text xs) (each 
 
 -- ---- texts that are read as parts
 
--- from this place on, the text is read as the part, and what follows it goes on at a place
+-- in this context the text is read as the part, and what follows it goes on in another context
 pub record Leads (to : Mode) (lone : Bool) (P : Part) (text : List ℕ) (place : Section) (line : ℕ) : Type 0 where
   pub next_place : Section
   pub next_line : ℕ
@@ -87,7 +87,7 @@ pub record Leads (to : Mode) (lone : Bool) (P : Part) (text : List ℕ) (place :
 pub record Prints (from to : Mode) (lone : Bool) (P : Part) (text : List ℕ) : Type 0 where
   pub leads : (place : Section) (line : ℕ) → Stands from place line → Leads to lone P text place line
 
--- an equal text, and a part that follows from the part
+-- the same for an equal text, and for a part that follows from the part
 pub prints_as : {from to : Mode} {lone : Bool} {P : Part} {text other : List ℕ} → other ≡ text → Prints from to lone P text → Prints from to lone P other
 prints_as {from} {to} {lone} {P} same p = subst (λ (t : List ℕ). Prints from to lone P t) (sym same) p
 
@@ -103,7 +103,7 @@ prints_map Q follows p = record {
       };
 }
 
--- a text that ends by itself may be followed by what ends a text
+-- what may follow a text that doesn't end by itself may follow one that does
 pub prints_weak : {from to : Mode} {P : Part} {text : List ℕ} → Prints from to true P text → Prints from to false P text
 prints_weak p = record {
   leads = λ place line stands.
@@ -111,11 +111,11 @@ prints_weak p = record {
       record { next_place = l.next_place; next_line = l.next_line; stands = l.stands; streams = λ last rest tokens stop s. l.streams last rest tokens tt s };
 }
 
--- nothing
+-- the empty text
 pub prints_nothing : (mode : Mode) (lone : Bool) → Prints mode mode lone Nothing []
 prints_nothing mode lone = record { leads = λ place line stands. record { next_place = place; next_line = line; stands = stands; streams = λ last rest tokens stop s. (tokens, s, refl) } }
 
--- a part behind another: what may follow the first does
+-- two texts in sequence, if the second may follow the first
 joined : {from between to : Mode} {before lone : Bool} {P Q : Part} {s t : List ℕ} → ((rest : List ℕ) → Follows lone rest → Follows before (t ++ rest)) → Prints from between before P s → Prints between to lone Q t
     → Prints from to lone (P ⨾ Q) (s ++ t)
 joined {from} {between} {to} {before} {lone} {P} {Q} {s} {t} may first second = record {
@@ -139,7 +139,7 @@ prints_then first second clear = joined (λ rest follows. clear.opens rest follo
 pub prints_next : {from between to : Mode} {lone : Bool} {P Q : Part} {s t : List ℕ} → Prints from between true P s → Prints between to lone Q t → Prints from to lone (P ⨾ Q) (s ++ t)
 prints_next first second = joined (λ rest follows. tt) first second
 
--- a gap before a part, and behind it
+-- a gap before a text, and behind it
 pub behind_space : {from to : Mode} {lone : Bool} {P : Part} {text : List ℕ} (g : List ℕ) → list_all is_space g ≡ true → TakesGap from → Prints from to lone P text → Prints from to lone P (g ++ text)
 behind_space {from} {to} {lone} {P} {text} g all takes p = record {
   leads = λ place line stands.
@@ -154,7 +154,7 @@ behind_space {from} {to} {lone} {P} {text} g all takes p = record {
       };
 }
 
--- the text ends by itself, or the gap ends it
+-- with a gap behind it, every text ends
 pub before_space : {from to : Mode} {lone : Bool} {P : Part} {text : List ℕ} (g : List ℕ) → list_all is_space g ≡ true → ((rest : List ℕ) → Follows lone (g ++ rest)) → TakesGap to → Prints from to lone P text
     → Prints from to true P (text ++ g)
 before_space {from} {to} {lone} {P} {text} g all ends takes p = record {
@@ -184,13 +184,13 @@ prints_token from to lone token form goes may = record {
   };
 }
 
--- ---- parts of things
+-- ---- texts of things
 
--- the tokens spell a part as written, which is that of the thing
+-- the tokens spell a syntax tree that is written for the thing
 abbrev pub Reads : {A X : Type 0} → (A → Part) → (A → X → Type 0) → X → Part
 Reads {A} {X} Spells Writes x tokens rest = (written : A) × Spells written tokens rest × Writes written x
 
--- a part for each thing of a list
+-- the texts of a list of things, one behind the other
 pub prints_each : {A X : Type 0} (Spells : A → Part) (Writes : A → X → Type 0) (mode : Mode) (text : X → List ℕ) → ((x : X) → Opens false (text x)) → (xs : List X)
     → ((k : ℕ) (x : X) → slice_get xs k ≡ Some x → Prints mode mode false (Reads Spells Writes x) (text x))
     → Prints mode mode false (Reads (Each Spells) (AllZip Writes) xs) (flat_map text xs)
@@ -199,7 +199,7 @@ prints_each Spells Writes mode text opens (x ∷ xs) each =
     prints_map _ (λ tokens rest (between, (written, spells, writes), (others, spell, write)). (written ∷ others, (between, spells, spell), (writes, write)))
     (prints_then (each 0 x refl) (prints_each Spells Writes mode text opens xs (λ k y is. each (suc k) y is)) (opens_each text opens xs))
 
--- the same of texts that end by themselves
+-- the same for texts that end by themselves
 pub prints_lines : {A X : Type 0} (Spells : A → Part) (Writes : A → X → Type 0) (mode : Mode) (text : X → List ℕ) → (xs : List X)
     → ((k : ℕ) (x : X) → slice_get xs k ≡ Some x → Prints mode mode true (Reads Spells Writes x) (text x))
     → Prints mode mode true (Reads (Each Spells) (AllZip Writes) xs) (flat_map text xs)

@@ -1,4 +1,4 @@
--- The shapes of tokens, and that what goes a token on is bytes of names and `:`.
+-- The shapes of tokens; only bytes of names and `:` can continue a token.
 use Rattle.std.proofs.Common.{◌≡◌, ◌≢◌, ℕ, suc, ◌-◌, Bool, true, false, not, eqb, ◌&&◌, ◌||◌, List, [], ◌∷◌, ◌++◌, length, get_or, take, refl, sym, ap, subst, ◌∙◌, ◌⊎◌, ⊎_elim, append_assoc, eqb-true, arith}
 use Rattle.std.specs.List.{AllByRecursion, list_all, list_any}
 use Rattle.std.specs.Str.{bytes_eq}
@@ -37,11 +37,11 @@ sigils = 37 ∷ 64 ∷ []
 abbrev pub is_sigil : ℕ → Bool
 is_sigil b = is_one_of sigils b
 
--- it leads a run: a byte of names, a sigil, `!` or `#`
+-- a run begins with it: a byte of names, a sigil, `!` or `#`
 abbrev pub is_lead : ℕ → Bool
 is_lead b = is_name_byte b || is_one_of (33 ∷ 35 ∷ 37 ∷ 64 ∷ []) b
 
--- what holds of each byte among some holds of one of them
+-- a predicate that holds of each of some bytes holds of one of them
 of_one_of : (P : ℕ → Type 0) (bytes : List ℕ) (b : ℕ) → AllByRecursion P bytes → is_one_of bytes b ≡ true → P b
 of_one_of P [] b all e = absurd (false≢true e)
 of_one_of P (c ∷ bytes) b all e = ⊎_elim
@@ -64,7 +64,7 @@ name_byte_no_sigil b e = ⊎_elim
     (λ (h : is_sigil b ≡ false). h)
     (which (is_sigil b))
 
--- two bytes differ of which one passes alone
+-- two bytes differ if only one of them passes a test
 pub differs : (p : ℕ → Bool) (b c : ℕ) → p b ≡ true → p c ≡ false → b ≢ c
 differs p b c e fails same = false≢true (sym fails ∙ ap p (sym same) ∙ e)
 
@@ -92,8 +92,8 @@ names_go_on bytes all = list_all-along is_name_byte goes_on bytes name_goes_on a
 
 -- ---- shapes
 
--- What the bytes of a token look like: a byte, and bytes of names and `:` behind it; one mark; or what is between
--- quotes, with a sigil before it or `:` behind it or neither.
+-- What the bytes of a token look like: a byte and then bytes of names and `:`; one mark; or a quoted text, with a sigil
+-- before it, with `:` behind it or with neither.
 pub data IsShaped (bytes : List ℕ) : Type 0 where
   run : (b : ℕ) (more : List ℕ) → bytes ≡ b ∷ more → is_lead b ≡ true → list_all goes_on more ≡ true → (more ≡ [] → is_sigil b ≡ false) → IsShaped bytes
   lone : (b : ℕ) → bytes ≡ b ∷ [] → is_lone b ≡ true → IsShaped bytes
@@ -106,7 +106,7 @@ head_is a b xs ys e = cc
 tail_is : (a b : ℕ) (xs ys : List ℕ) → a ∷ xs ≡ b ∷ ys → xs ≡ ys
 tail_is a b xs ys e = cc
 
--- what stands behind the first quote is the same
+-- what stands behind the first quote of equal texts is equal
 until_quote : (a b x y : List ℕ) → list_all is_quotable a ≡ true → list_all is_quotable b ≡ true → a ++ 34 ∷ x ≡ b ++ 34 ∷ y → x ≡ y
 unfolding is_quotable
 until_quote [] [] x y all every e = cc
@@ -115,7 +115,7 @@ until_quote (c ∷ a) [] x y all every e = absurd (differs is_quotable c 34 (and
 until_quote (c ∷ a) (d ∷ b) x y all every e =
     until_quote a b x y (and_right (is_quotable c) (list_all is_quotable a) all) (and_right (is_quotable d) (list_all is_quotable b) every) (tail_is c d _ _ e)
 
--- a token has a byte
+-- a token has at least one byte
 record HasByte (bytes : List ℕ) : Type 0 where
   first : ℕ
   others : List ℕ
@@ -130,7 +130,7 @@ has_byte (sigiled b inner e sigil all) = record { first = b; others = 34 ∷ (in
 behind_run : (bytes more others : List ℕ) → bytes ++ more ≡ others → list_all goes_on others ≡ true → list_all goes_on more ≡ true
 behind_run bytes more others e all = and_right (list_all goes_on bytes) (list_all goes_on more) (sym (list_all-append goes_on bytes more) ∙ ap (list_all goes_on) e ∙ all)
 
--- a quote begins no run, and ends no token but a quoted one
+-- no run begins with a quote, and a token that begins with one ends behind the next
 goes_on_quoted : (inner behind bytes more : List ℕ) → bytes ++ more ≡ 34 ∷ (inner ++ 34 ∷ behind) → list_all is_quotable inner ≡ true → list_all goes_on behind ≡ true → IsShaped bytes → list_all goes_on more ≡ true
 goes_on_quoted inner behind bytes more whole all on (run b others e lead goes single) =
     absurd (differs is_lead b 34 lead quote_no_lead (head_is b 34 _ _ (ap (λ (front : List ℕ). front ++ more) (sym e) ∙ whole)))
@@ -155,7 +155,7 @@ goes_on_sigiled c inner bytes more whole sigil all (sigiled b other e is every) 
     ap (list_all goes_on) (until_quote other inner more [] every all (tail_is 34 34 _ _ (tail_is b c _ _
     (ap (λ (front : List ℕ). b ∷ 34 ∷ front) (sym (append_assoc other (34 ∷ []) more)) ∙ ap (λ (front : List ℕ). front ++ more) (sym e) ∙ whole))))
 
--- what goes a token on so that it is a longer one are bytes of names and `:`
+-- bytes that make a token a longer token are bytes of names and `:`
 pub longer_by : (bytes more : List ℕ) → IsShaped (bytes ++ more) → IsShaped bytes → list_all goes_on more ≡ true
 longer_by bytes more (run b others e lead all single) front =
     let h : HasByte bytes = has_byte front in
@@ -166,7 +166,7 @@ longer_by bytes more (lone b e is) front =
 longer_by bytes more (quoted inner behind e all on) front = goes_on_quoted inner behind bytes more e all on front
 longer_by bytes more (sigiled b inner e sigil all) front = goes_on_sigiled b inner bytes more e sigil all front
 
--- a mark that ends by itself begins no longer token
+-- no longer token begins with a mark that ends by itself
 pub lone_ends : (b c : ℕ) (more : List ℕ) → is_lone b ≡ true → IsShaped (b ∷ c ∷ more) → ⊥
 lone_ends b c more is (run d others e lead all single) = false≢true (sym (lone_no_lead b is) ∙ ap is_lead (head_is b d _ _ e) ∙ lead)
 lone_ends b c more is (lone d e other) = absurd (cc)
@@ -216,7 +216,7 @@ named_shaped c (b ∷ name) sigil e = shaped (name_shape name (and_right (eqb b 
 led_shaped : (c b : ℕ) (bytes : List ℕ) → is_lead c ≡ true → is_sigil c ≡ false → eqb b c ≡ true → list_all is_name_byte bytes ≡ true → IsShaped (b ∷ bytes)
 led_shaped c b bytes lead sigil e all = run b bytes refl (ap is_lead (eqb-true b c e) ∙ lead) (names_go_on bytes all) (λ none. ap is_sigil (eqb-true b c e) ∙ sigil)
 
--- the last byte of a text behind the others
+-- a text is all its bytes but the last, and then that
 pub last_byte : (text : List ℕ) (c : ℕ) → eqb (get_or text (length text - 1) 0) c ≡ true → c ≢ 0 → text ≡ take (length text - 1) text ++ c ∷ []
 last_byte [] c e some = absurd (some (sym (eqb-true 0 c e)))
 last_byte (b ∷ []) c e some = ap (λ (d : ℕ). d ∷ []) (eqb-true b c e)
@@ -236,7 +236,7 @@ label_shaped (b ∷ name) bytes e (plain some all) =
     (λ none. name_byte_no_sigil b first)
 label_shaped name bytes e (in_pair inner q all) = quoted inner (58 ∷ []) (e ∙ ap (λ (text : List ℕ). text ++ 58 ∷ []) q ∙ ap (λ (text : List ℕ). 34 ∷ text) (append_assoc inner (34 ∷ []) (58 ∷ []))) all refl
 
--- what holds of each of the words
+-- a predicate that holds of each of some words holds of one of them
 pub of_among : (P : List ℕ → Type 0) (words : List (List ℕ)) (bytes : List ℕ) → AllByRecursion P words → is_among words bytes ≡ true → P bytes
 of_among P [] bytes all e = absurd (false≢true e)
 of_among P (word ∷ words) bytes all e = ⊎_elim

@@ -1,4 +1,4 @@
--- The bytes of a token of some form spell it.
+-- The bytes of a token that has a form are a token of its kind.
 use Rattle.std.proofs.Common.{◌≡◌, ℕ, ◌-◌, true, eqb, List, [], ◌∷◌, ◌++◌, length, get_or, take, refl, sym, ap, ◌∙◌, length-append, take_at, eqb-true, arith}
 use Rattle.std.specs.List.{list_all}
 use Rattle.std.proofs.Math.Seq.{get_or-append_seam}
@@ -17,7 +17,7 @@ use Rattle.ir_tokens.specs.Tokens.{Token, Label, Word, Number, Register, Functio
 use Rattle.ir_text.specs.Lexemes.{HasForm, IsNameText, bytes_of}
 use Rattle.ir_text.proofs.Zeros.{in_quotes-behind, in_quotes-label, is_no_quote, names_no_quote, plain_no_zero, same_zeros}
 
--- a token by itself, whose bytes spell this kind
+-- the token extends no further than its bytes, which are a token of this kind
 pub record IsSpelled (token : Token) (kind : TokenKind) : Type 0 where
   pub spelled : spells kind (bytes_of token) [] ≡ true
   pub is : token_of kind (bytes_of token) ≡ token

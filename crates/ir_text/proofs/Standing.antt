@@ -1,4 +1,4 @@
--- A token stands in a text where its bytes do.
+-- Where the bytes of a token are written in a text, that token is lexed.
 use Rattle.std.proofs.Common.{◌≡◌, ◌≢◌, ℕ, ◌+◌, ◌-◌, ◌≤◌, true, false, not, eqb, ◌||◌, List, [], ◌∷◌, ◌++◌, length, take, drop, refl, sym, ap, subst, ◌∙◌, ◌⊎◌, inl, ⊎_elim, append_assoc, append-nil, length-append, length-take, take_at, drop_at, drop-drop, arith}
 use Rattle.std.specs.List.{list_all}
 use Rattle.std.proofs.Math.Seq.{drop-append_seam, drop-length}
@@ -42,7 +42,7 @@ between_is text a b c e =
     ap (λ (t : List ℕ). between t (length a) (length a + length b)) e
     ∙ ap (take (length a + length b - length a)) (drop-append_seam a (b ++ c)) ∙ take_at b c (length a + length b - length a) long
 
--- behind the bytes before and a gap
+-- the text behind the bytes before and a gap
 pub ahead_is : (text before gap ahead : List ℕ) → text ≡ before ++ (gap ++ ahead) → drop (length before + length gap) text ≡ ahead
 ahead_is text before gap ahead e =
     ap (drop (length before + length gap)) (e ∙ sym (append_assoc before gap ahead)) ∙ drop_at (before ++ gap) ahead (length before + length gap) (length-append before gap)
@@ -79,7 +79,7 @@ line_of_token text start kinds.Metadata some = refl
 line_of_token text start kinds.Quoted some = refl
 line_of_token text start kinds.Mark some = refl
 
--- the token of n bytes behind a gap
+-- the token of this kind and of n bytes, from `start` on
 abbrev pub scanned_at : TokenKind → ℕ → ℕ → ℕ → Scanned
 scanned_at kind line start n = record { kind = kind; line = line; span = record { start = start; end = start + n } }
 
@@ -116,7 +116,7 @@ itself_stands text before gap rest place line token kind s e h longest extent l 
     subst (λ (t : Token). IsTokenAt text place (length before) (line + feeds gap, t) (start + length bytes)) (ap (token_of kind) is ∙ s.is)
     (itself _ next (ap (extent_of place (line + feeds gap)) is ∙ extent))
 
--- a token that ends before the rest
+-- a token that the rest doesn't continue
 pub ended_stands : (text before gap rest : List ℕ) (place : Section) (line : ℕ) (token : Token) (kind : TokenKind) → IsSpelled token kind → text ≡ before ++ (gap ++ (bytes_of token ++ rest)) → IsGap gap
     → begins_with goes_on rest ≡ false → extent_of place (line + feeds gap) (bytes_of token) ≡ extents.Itself → line ≡ feeds before + 1
     → IsTokenAt text place (length before) (line + feeds gap, token) (length before + length gap + length (bytes_of token))
@@ -125,7 +125,7 @@ ended_stands text before gap rest place line token kind s e h ends extent l =
 
 -- ---- marks
 
--- a mark ends by itself, but for `#`
+-- each mark but `#` ends by itself
 mark_is : (b : ℕ) → is_among marks (b ∷ []) ≡ true → (is_lone b ≡ true) ⊎ (eqb b 35 ≡ true)
 mark_is b e = or_true (is_lone b) (eqb b 35) (among_begins (λ c. is_lone c || eqb c 35) marks (b ∷ []) refl e)
 

@@ -1,4 +1,4 @@
--- Texts from a place on with the tokens that they are read as, and how a gap or a token is written before such a text.
+-- Texts in a context with the tokens that they are lexed as, and how a gap or a token is put in front of one.
 use Rattle.std.proofs.Common.{◌≡◌, ℕ, ◌+◌, true, List, [], ◌∷◌, ◌++◌, refl, sym, ap, subst, ◌∙◌, append_assoc, add-zero}
 use Rattle.std.specs.List.{list_all}
 use Rattle.std.proofs.Math.Nat.{add_assoc}
@@ -11,8 +11,8 @@ use Rattle.ir_tokens.specs.Places.{place_behind}
 use Rattle.ir_tokens.specs.Tokens.{Placed, Token, End}
 use Rattle.ir_text.specs.Lexemes.{Lexeme, bytes_of, spelled, placed_from, HasForm, MayStand, AreLexemes}
 
--- From a place on, where the text goes on on this line, it is read as these tokens. The last is the end, on the line
--- `last`.
+-- In this context, where the text before it ends on this line, the text is lexed as these tokens. The last is the end,
+-- on the line `last`.
 pub record Streams (last : ℕ) (place : Section) (line : ℕ) (text : List ℕ) (tokens : List Placed) : Type 0 where
   pub lexemes : List Lexeme
   pub gap : List ℕ
@@ -21,19 +21,19 @@ pub record Streams (last : ℕ) (place : Section) (line : ℕ) (text : List ℕ)
   pub text_is : text ≡ spelled lexemes ++ gap
   pub tokens_are : tokens ≡ placed_from line lexemes ++ (last, End) ∷ []
 
--- the same of an equal text
+-- the same for an equal text
 pub streams_as : {last : ℕ} {place : Section} {line : ℕ} {text other : List ℕ} {tokens : List Placed} → other ≡ text → Streams last place line text tokens → Streams last place line other tokens
 streams_as same s = record { lexemes = s.lexemes; gap = s.gap; are = s.are; spaces = s.spaces; text_is = same ∙ s.text_is; tokens_are = s.tokens_are }
 
--- nothing more
+-- the empty text
 pub streams_end : (last : ℕ) (place : Section) (line : ℕ) → Streams last place line [] ((last, End) ∷ [])
 streams_end last place line = record { lexemes = []; gap = []; are = tt; spaces = refl; text_is = refl; tokens_are = refl }
 
--- spaces before spaces
+-- spaces before spaces are spaces
 all_spaces : (xs ys : List ℕ) → list_all is_space xs ≡ true → list_all is_space ys ≡ true → list_all is_space (xs ++ ys) ≡ true
 all_spaces xs ys all others = rw (list_all-append is_space xs ys, all) others
 
--- the lines that a gap begins, in two parts
+-- the line behind a gap of two parts
 line_behind_gap : (line : ℕ) (xs ys : List ℕ) → (line + feeds xs) + feeds ys ≡ line + feeds (xs ++ ys)
 line_behind_gap line xs ys = add_assoc line (feeds xs) (feeds ys) ∙ ap (λ (n : ℕ). line + n) (sym (sum_by-append _ xs ys))
 
@@ -56,14 +56,14 @@ behind_gap_of last place line g (l ∷ lexemes) gap all are spaces =
       tokens_are = ap (λ (n : ℕ). (n, l.token) ∷ (placed_from n lexemes ++ (last, End) ∷ [])) same;
     }
 
--- a gap before a text
+-- a gap in front of a text
 pub behind_gap : {last : ℕ} {place : Section} {line : ℕ} {text : List ℕ} {tokens : List Placed} (g : List ℕ) → list_all is_space g ≡ true → Streams last place (line + feeds g) text tokens → Streams last place line (g ++ text) tokens
 behind_gap {last} {place} {line} {text} {tokens} g all s =
     let of_lexemes = behind_gap_of last place line g s.lexemes s.gap all s.are s.spaces in
     let here : Streams last place line (g ++ (spelled s.lexemes ++ s.gap)) tokens = subst (λ (ts : List Placed). Streams last place line (g ++ (spelled s.lexemes ++ s.gap)) ts) (sym s.tokens_are) of_lexemes in
     streams_as (ap (λ (t : List ℕ). g ++ t) s.text_is) here
 
--- a token before a text
+-- a token in front of a text
 pub with_token : {last : ℕ} {place : Section} {line : ℕ} {text : List ℕ} {tokens : List Placed} (token : Token) → HasForm token → MayStand place line token text → Streams last (place_behind place (line, token)) line text tokens
     → Streams last place line (bytes_of token ++ text) ((line, token) ∷ tokens)
 with_token {last} {place} {line} {text} {tokens} token form stands s =

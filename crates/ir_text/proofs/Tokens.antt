@@ -1,4 +1,4 @@
--- Tokens where they stand in a printed module.
+-- Tokens of a printed module, by context.
 use Rattle.std.proofs.Common.{◌≡◌, ◌≢◌, ℕ, suc, ◌+◌, eqb, true, false, List, [], ◌∷◌, ◌++◌, Option, Some, None, codes, refl, sym, subst, append_assoc, add-zero, arith}
 use Rattle.std.specs.List.{list_all}
 use Rattle.scan.specs.Bytes.{begins_name, begins_word, is_blank, is_digit, is_letter, is_name_byte, is_space}
@@ -18,7 +18,7 @@ use Rattle.ir_text.proofs.Placing.{itself_in_body, itself_behind_no_word_in_body
 use Rattle.ir_text.proofs.Streams.{Streams, streams_as, behind_gap, with_token}
 use Rattle.ir_text.proofs.Prints.{Mode, Fresh, Used, Header, Called, Body, Callee, Stands, TakesGap, Stop, Prints, prints_token, before_space}
 
--- ---- where what is printed goes on
+-- ---- the context behind what is printed
 
 pub data Inside : Mode → Type 0 where
   in_header : Inside Header
@@ -103,7 +103,7 @@ word_and_group word group form (content, balanced, is_group) = record {
   };
 }
 
--- a function's name, and the bracket behind it
+-- the name of a function in a header, and the bracket behind it
 pub function_in_header : (name : List ℕ) → IsNameText name → Prints Header Called false (Is (Function name)) (64 ∷ name)
 function_in_header name form = prints_token Header Called false (Function name) form (λ place line (before, is). rw is refl)
     (λ place line rest (before, is) stop. (rw is (itself_in_header before line (64 ∷ name) (no_bracket 64 name refl)), rw stop refl))
@@ -111,7 +111,7 @@ function_in_header name form = prints_token Header Called false (Function name) 
 pub bracket_behind_name : Prints Called Header true (Is (Mark marks.open_paren)) (codes "(")
 bracket_behind_name = prints_token Called Header true (Mark 40) refl (λ place line is. (None, rw is refl)) (λ place line rest is stop. (rw is (itself_behind_no_word line (codes "(")), refl))
 
--- the same in a body: what is called, and the brackets of its arguments
+-- the name of a callee in a body, and the brackets of its arguments
 pub callee_in_body : (name : List ℕ) → IsNameText name → Prints Body Callee false (Is (Function name)) (64 ∷ name)
 callee_in_body name form = prints_token Body Callee false (Function name) form (λ place line (before, is). rw is refl)
     (λ place line rest (before, is) stop. (rw is (itself_in_body before line (64 ∷ name) (no_bracket 64 name refl)), rw stop refl))
@@ -154,7 +154,7 @@ close_in_header = prints_token Header Header true (Mark 41) refl (λ place line 
 pub equals_in_header : Prints Header Header true (Is (Mark marks.equals)) (codes "=")
 equals_in_header = prints_token Header Header true (Mark 61) refl (λ place line (before, is). (None, rw is refl)) (λ place line rest (before, is) stop. (rw is (itself_in_header before line (codes "=") (no_bracket 61 [] refl)), refl))
 
--- the bracket that begins a body, and that which ends it
+-- the braces of a body
 pub body_begins : Prints Header Body true (Is (Mark marks.open_brace)) (codes "{")
 body_begins = prints_token Header Body true (Mark 123) refl (λ place line (before, is). (None, rw is refl)) (λ place line rest (before, is) stop. (rw is (itself_in_header before line (codes "{") (no_bracket 123 [] refl)), refl))
 
@@ -174,7 +174,7 @@ define_begins = prints_token Fresh Header false (Word (codes "define")) refl
     (λ place line stands. fresh_place (λ (p : Section). Stands Header (place_behind p (line, Word (codes "define"))) line) place line stands (λ before. (Some line, refl)))
     (λ place line rest stands stop. fresh_place (λ (p : Section). MayStand p line (Word (codes "define")) rest) place line stands (λ before. (itself_at_entry before line (codes "define") define_begins_none, rw stop refl)))
 
--- the line feed behind the last token of an entry
+-- behind the last token of an entry, with a line feed
 later : (line n : ℕ) (g : List ℕ) → feeds g ≡ suc n → Stands Fresh (AtEntry (Some line)) (line + feeds g)
 later line n g is = λ k. later_line line (line + feeds g + k) (omega (arith, is))
 

@@ -1,4 +1,4 @@
--- What stands in the quotes of a token.
+-- The text between the quotes of a token.
 use Rattle.std.proofs.Common.{◌≡◌, ℕ, suc, ◌+◌, Bool, true, false, not, eqb, List, [], ◌∷◌, ◌++◌, drop, refl, sym, ap, subst, ◌∙◌, ⊎_elim, append_assoc, add-one, one-add, eqb-true, arith}
 use Rattle.std.specs.List.{Contains, before_first, list_all, prefix_len}
 use Rattle.std.proofs.lemmas.Bool.{false≢true}
@@ -11,11 +11,11 @@ use Rattle.scan.proofs.ModuleFronts.{list_all-along}
 use Rattle.scan.proofs.NameLemmas.{in_quotes-quoted}
 use Rattle.ir_text.proofs.Shapes.{NameShape, differs, in_pair, name_shape, plain}
 
--- no quote
+-- the byte is no quote
 abbrev pub is_no_quote : ℕ → Bool
 is_no_quote b = not (eqb b 34)
 
--- a byte that is no quote stands before what stands in quotes
+-- a byte in front that is no quote changes nothing between the quotes
 pub in_quotes-behind : (b : ℕ) (bytes : List ℕ) → eqb b 34 ≡ false → in_quotes (b ∷ bytes) ≡ in_quotes bytes
 in_quotes-behind b bytes e = rw (e, one-add, add-one) (ap (λ (n : ℕ). before_first (λ c. eqb c 34) (drop n bytes)) next)
   where
@@ -25,13 +25,13 @@ in_quotes-behind b bytes e = rw (e, one-add, add-one) (ap (λ (n : ℕ). before_
 no_quote : (b : ℕ) → is_no_quote b ≡ true → eqb b 34 ≡ false
 no_quote b e = ⊎_elim (λ (h : eqb b 34 ≡ true). absurd (false≢true (rw h at e))) (λ (h : eqb b 34 ≡ false). h) (which (eqb b 34))
 
--- nothing stands in quotes where there are none
+-- nothing is between quotes where there are none
 pub in_quotes-plain : (bytes : List ℕ) → list_all is_no_quote bytes ≡ true → in_quotes bytes ≡ []
 in_quotes-plain [] all = refl
 in_quotes-plain (b ∷ bytes) all =
     in_quotes-behind b bytes (no_quote b (and_left (is_no_quote b) (list_all is_no_quote bytes) all)) ∙ in_quotes-plain bytes (and_right (is_no_quote b) (list_all is_no_quote bytes) all)
 
--- what holds no byte 0 is known by what stands in quotes
+-- whether bytes have a byte 0 in quotes depends on the text between the quotes alone
 pub same_zeros : (a b : List ℕ) → in_quotes a ≡ in_quotes b → ¬ HoldsZero a → ¬ HoldsZero b
 same_zeros a b e none holds = none (subst (λ (inner : List ℕ). Contains (unquoted inner) 0) (sym e) holds)
 
@@ -51,7 +51,7 @@ name_no_quote b e = ⊎_elim
 pub names_no_quote : (bytes : List ℕ) → list_all is_name_byte bytes ≡ true → list_all is_no_quote bytes ≡ true
 names_no_quote bytes all = list_all-along is_name_byte is_no_quote bytes name_no_quote all
 
--- a label has its name's quotes
+-- a label has the quoted text of its name
 pub in_quotes-label : (name : List ℕ) → is_name name ≡ true → in_quotes (name ++ 58 ∷ []) ≡ in_quotes name
 in_quotes-label name e = from name (name_shape name e)
   where

@@ -1,5 +1,6 @@
--- How a module is written canonically: each identifier is the name of what it names or its number in the series, each
--- operand stands at the width at which it is read, and everything else is as it is in the module. The lines are free.
+-- How a module is written canonically: each identifier is the name of what it refers to or its number in the series,
+-- each operand stands at the width at which it is read, and everything else is as it is in the module. The lines are
+-- free.
 use Rattle.std.specs.Prelude.{◌≡◌, ℕ, suc, Some, IsSome, All, slice_get}
 use Rattle.std.specs.List.{AllZip}
 use Rattle.ir_tokens.specs.declared.called.Identifier.{Identifier}
@@ -23,12 +24,12 @@ use Rattle.ir_resolve.specs.Means.{MeansBy}
 use Rattle.ir_resolve.specs.Written.{Thing, Value, Block, given, written_names}
 use Rattle.ir_text.specs.PrintedText.{block_identifier}
 
--- the identifier is what the thing is called in the function
+-- the identifier is that of the thing in the function
 abbrev pub Identifies : Function → Identifier → Thing → Type 0
 Identifies f x (Value r) = identifier_of f r ≡ Some x
 Identifies f x (Block b) = block_identifier f b ≡ Some x
 
--- the types in an instruction that stand for one are one
+-- types that are written in an instruction for one and the same type are equal
 abbrev pub TypesFit : RawOp → Type 0
 TypesFit (ops.Select c a b) = (c.width ≡ 1) × (b.width ≡ a.width)
 TypesFit (ops.Call call) = CallFits call
@@ -38,7 +39,7 @@ TypesFit (ops.Convert cast flags from a to) = Unit {0}
 TypesFit (ops.Freeze width a) = Unit {0}
 TypesFit (ops.Phi width incoming) = Unit {0}
 
--- the same of a terminator, in a function that returns this width
+-- the same for a terminator, in a function that returns this width
 abbrev pub EndTypesFit : ℕ → RawTerminator → Type 0
 EndTypesFit returned (terminators.Return width a) = width ≡ returned
 EndTypesFit returned (terminators.Branch width c to other) = width ≡ 1
@@ -49,10 +50,10 @@ EndTypesFit returned terminators.Unreachable = Unit {0}
 abbrev pub BlockTypesFit : ℕ → RawBlock → Type 0
 BlockTypesFit returned block = All (λ i. TypesFit i.op) block.insts × EndTypesFit returned block.end
 
--- a function is written canonically
+-- the function is written canonically
 pub record WritesFunction (raw : RawFunction) (f : Function) : Type 0 where
   pub means : MeansBy (Identifies f) raw f
-  -- what is written for a thing, in text order, is what the thing is called
+  -- what is written for a thing, in text order, is its identifier
   pub names : (p : ℕ) (w : RawIdentifier) → slice_get (written_names raw) p ≡ Some (Some w) → slice_get (identifiers_of f) p ≡ Some w.identifier
   -- each parameter is written with its register, and each block with its label, the first only where it has a name
   pub registers : All (λ p. IsSome p.name) raw.parameters
@@ -60,13 +61,13 @@ pub record WritesFunction (raw : RawFunction) (f : Function) : Type 0 where
   pub labels : (b : ℕ) (block : RawBlock) → slice_get raw.blocks (suc b) ≡ Some block → IsSome block.label
   pub types : All (BlockTypesFit raw.width) raw.blocks
 
--- kept lines stay
+-- a kept line is written as it is, and a function canonically
 abbrev pub WritesEntry : RawEntry → Entry → Type 0
 WritesEntry (raw_entries.Kept written) (entries.Kept line) = line ≡ written
 WritesEntry (raw_entries.Function raw) (entries.Function f) = WritesFunction raw f
 WritesEntry (raw_entries.Kept written) (entries.Function f) = ⊥
 WritesEntry (raw_entries.Function raw) (entries.Kept line) = ⊥
 
--- a module is written canonically, entry by entry
+-- the module is written canonically, entry by entry
 abbrev pub WritesModule : RawModule → Module → Type 0
 WritesModule raw m = AllZip WritesEntry raw.entries m.entries

@@ -25,21 +25,21 @@ use Rattle.ir_instructions.specs.ItemGrammar.{SpellsItem}
 
 -- ---- texts
 
--- a name may hold every byte but 0, since each byte can be escaped in quotes
+-- a name may have every byte but 0, since each byte can be escaped in quotes
 abbrev pub IsName : List ℕ → Type 0
 IsName name = All (λ b. (1 ≤ b) × (b ≤ 255)) name
 
--- the text is that of one item of a function's header, and no more
+-- the text is exactly one item of a function's header
 abbrev pub IsItem : List ℕ → Type 0
 IsItem item = (tokens rest : List Placed) × TokensFrom item (InHeader None) 0 tokens × (SpellsItem item ⨾ Is End) tokens rest
 
--- the text is that of one kept line, and no more
+-- the text is exactly one kept line
 abbrev pub IsKeptText : List ℕ → Type 0
 IsKeptText text = AreTokens text ((1, Kept text) ∷ (1, End) ∷ [])
 
 -- ---- numbers
 
--- the bits of an integer type
+-- the width of an integer type
 abbrev pub IsWidth : ℕ → Type 0
 IsWidth width = (1 ≤ width) × (width ≤ 64)
 
@@ -47,14 +47,14 @@ IsWidth width = (1 ≤ width) × (width ≤ 64)
 abbrev pub NumberFits : Number → Type 0
 NumberFits n = n.number < 2 ^ n.width
 
--- an operand that is a number is one of its width
+-- if the operand is a literal number, it is one of its width
 abbrev pub OperandFits : Operand → Type 0
 OperandFits (operands.Number n) = NumberFits n
 OperandFits (operands.Register r) = Unit {0}
 OperandFits operands.Undef = Unit {0}
 OperandFits operands.Poison = Unit {0}
 
--- what is read has the width of a type, and is a number of its width, if it is a number
+-- the read is at the width of an integer type, and if its operand is a literal number, it is one of its width
 pub record ReadHasForms (r : Read) : Type 0 where
   pub width : IsWidth r.width
   pub operand : OperandFits r.operand

@@ -17,16 +17,16 @@ use Rattle.ir_text.specs.Forms.{ModuleHasForms}
 use Rattle.ir_text.specs.PrintedText.{text_of}
 use Rattle.ir_text.specs.CanonicalModule.{WritesModule}
 
--- lexemes that are read as their tokens, and a gap behind them, are a text of these tokens
+-- lexemes for which this holds, and a gap behind them, are lexed as their tokens
 abbrev pub LexemesAreTokens : Type 0
 LexemesAreTokens =
     (place : Section) (lexemes : List Lexeme) (gap : List ℕ) → AreLexemes place 1 lexemes gap → IsLastGap gap
     → TokensFrom (spelled lexemes ++ gap) place 0 (placed_from 1 lexemes ++ (last_line (spelled lexemes ++ gap), End) ∷ [])
 
--- each function of the module has fewer than 2 ^ 64 parameters, blocks and results
+-- each function of the module has fewer than 2 ^ 64 parameters, blocks and results together
 abbrev pub HasFewThings : Module → Type 0
 HasFewThings m = (k : ℕ) (f : Function) → slice_get m.entries k ≡ Some (entries.Function f) → length (names_of f) < 2 ^ 64
 
--- the text of a module, where its parts have their forms, spells the module written canonically
+-- the printed text of a module whose parts have their forms spells the module, written canonically
 abbrev pub PrintedTextsSpell : Type 0
 PrintedTextsSpell = (m : Module) → ModuleHasForms m → ModuleMeetsChecks m → HasFewThings m → (raw : RawModule) × IsRaw (text_of m) raw × WritesModule raw m

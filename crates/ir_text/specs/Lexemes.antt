@@ -1,5 +1,5 @@
--- Texts that are written token by token, with blanks and line feeds between, and when they are read as these tokens
--- (LLVM Language Reference, "Identifiers").
+-- Texts that are written token by token, with blanks and line feeds between them, and when they are lexed as these
+-- tokens (LLVM Language Reference, "Identifiers").
 use Rattle.std.specs.Prelude.{◌≡◌, ℕ, ◌+◌, ◌==◌, Bool, true, false, not, ◌||◌, List, [], ◌∷◌, ◌++◌}
 use Rattle.std.specs.List.{list_all, flat_map}
 use Rattle.scan.specs.Bytes.{begins_with, is_name_byte, is_space}
@@ -18,7 +18,7 @@ use Rattle.ir_tokens.specs.Tokens.{Placed, Token, End, Other, Bad, Kept, KeptGro
 
 -- ---- what is written
 
--- the bytes of a token; the end and what stands in no module are not written
+-- the bytes of a token; the end is written as none, and tokens that the grammar allows nowhere are not written
 abbrev pub bytes_of : Token → List ℕ
 bytes_of End = []
 bytes_of Other = []
@@ -40,25 +40,25 @@ pub record Lexeme : Type 0 where
   pub gap : List ℕ
   pub token : Token
 
--- a lexeme's bytes, and those of lexemes one behind the other
+-- the bytes of a lexeme, and of a list of lexemes
 abbrev pub spelling : Lexeme → List ℕ
 spelling l = l.gap ++ bytes_of l.token
 
 abbrev pub spelled : List Lexeme → List ℕ
 spelled lexemes = flat_map spelling lexemes
 
--- the line of a lexeme behind one on this line
+-- the line of a lexeme, where the text before it ends on this line
 abbrev pub line_behind : ℕ → Lexeme → ℕ
 line_behind line l = line + feeds l.gap
 
--- their tokens, where the text goes on on this line
+-- the tokens of lexemes with their lines, where the text before them ends on this line
 abbrev pub placed_from : ℕ → List Lexeme → List Placed
 placed_from line [] = []
 placed_from line (l ∷ lexemes) = (line_behind line l, l.token) ∷ placed_from (line_behind line l) lexemes
 
 -- ---- the forms of tokens
 
--- a name, digits or a quoted name that has no byte 0
+-- a name that is plain, digits or quoted, and has no byte 0
 abbrev pub IsNameText : List ℕ → Type 0
 IsNameText text = (is_name text ≡ true) × ¬ HoldsZero text
 
@@ -66,7 +66,7 @@ IsNameText text = (is_name text ≡ true) × ¬ HoldsZero text
 abbrev pub IsGroupText : List ℕ → Type 0
 IsGroupText text = (content : List ℕ) × IsBalanced content × (text ≡ 40 ∷ (content ++ 41 ∷ []))
 
--- what the bytes of a token are
+-- the bytes of the token have the form of its kind
 abbrev pub HasForm : Token → Type 0
 HasForm End = ⊥
 HasForm Other = ⊥
@@ -83,41 +83,42 @@ HasForm (Metadata name) = list_all is_name_byte name ≡ true
 HasForm (Quoted text) = (is_quoted text ≡ true) × ¬ HoldsZero text
 HasForm (Mark byte) = is_among marks (byte ∷ []) ≡ true
 
--- ---- where tokens may stand
+-- ---- where tokens may be written
 
--- the byte goes on a word, a number or a name, or makes a label of it
+-- the byte would continue a word, a number or a name, or make a label of it
 abbrev pub goes_on : ℕ → Bool
 goes_on b = is_name_byte b || (b == 58)
 
--- The token ends before the rest: no byte there goes it on. Each mark but `#` ends by itself.
+-- No byte at the start of the rest continues the token. Each mark but `#` ends by itself.
 abbrev pub is_ended : Token → List ℕ → Bool
 is_ended (Mark byte) rest = not (byte == 35) || not (begins_with goes_on rest)
 is_ended token rest = not (begins_with goes_on rest)
 
--- the rest is another line, or nothing
+-- the rest is empty or begins with a line feed
 abbrev pub is_at_line_end : List ℕ → Bool
 is_at_line_end [] = true
 is_at_line_end (b ∷ rest) = b == 10
 
--- a kept line may stand in the place on this line: between entries, where no token before is on the line
+-- a kept line may be written in this context on this line: between entries, where no token before is on the line
 abbrev pub takes_line : Section → ℕ → Bool
 takes_line (AtEntry before) line = not (is_on line before)
 takes_line (InHeader word) line = false
 takes_line (InBody word) line = false
 
--- a kept group may: in a function, behind a word on the line
+-- a kept group may be: in a function, behind a word on the line
 abbrev pub takes_group : Section → ℕ → Bool
 takes_group (AtEntry before) line = false
 takes_group (InHeader word) line = is_on line word
 takes_group (InBody word) line = is_on line word
 
--- the token may stand in the place on this line and before the rest
+-- the token may be written in this context on this line, with this rest behind it
 abbrev pub MayStand : Section → ℕ → Token → List ℕ → Type 0
 MayStand place line (Kept text) rest = (takes_line place line ≡ true) × (is_at_line_end rest ≡ true)
 MayStand place line (KeptGroup text) rest = takes_group place line ≡ true
 MayStand place line token rest = (extent_of place line (bytes_of token) ≡ extents.Itself) × (is_ended token rest ≡ true)
 
--- The lexemes are read as their tokens, from a place on, where the text goes on on this line, and before the rest.
+-- The lexemes are lexed as their tokens in this context, where the text before them ends on this line, and with this
+-- rest behind them.
 abbrev pub AreLexemes : Section → ℕ → List Lexeme → List ℕ → Type 0
 AreLexemes place line [] rest = Unit {0}
 AreLexemes place line (l ∷ lexemes) rest =

@@ -2,7 +2,7 @@
 use Rattle.std.specs.Prelude.{ℕ, ◌-◌, ◌^◌, ◌==◌, nat_lt, if◌then◌else◌, List, ◌++◌, codes, decimal}
 use Rattle.ops.specs.Number.{Number}
 
--- a number of N bits as a signed one, so that 2 ^ N - 1 is -1; of one bit, as a truth value
+-- a number of N bits, as a signed one, so that 2 ^ N - 1 is -1; a number of one bit as a truth value
 unfoldable pub number_text : Number → List ℕ
 number_text n =
     if n.width == 1

@@ -1,4 +1,4 @@
--- The printed form of a module: one function of the module. Each line ends by a line feed (LLVM Language Reference,
+-- The printed text of a module, as a function of the module. Each line ends with a line feed (LLVM Language Reference,
 -- "Module Structure", "Functions", "Identifiers", "Instruction Reference").
 use Rattle.std.specs.Prelude.{ℕ, ◌==◌, Bool, if◌then◌else◌, List, [], ◌∷◌, ◌++◌, Option, None, Some, slice_get, codes, decimal}
 use Rattle.std.specs.List.{flat_map, enumerate_from, join_by}
@@ -36,17 +36,17 @@ use Rattle.ir_core.specs.declared.terminator.Terminator.TheVariants.{Return, Jum
 
 -- ---- names
 
--- what a block is called, where the function has it
+-- the identifier of a block, if the function has it
 abbrev pub block_identifier : Function → ℕ → Option Identifier
 block_identifier f b = slice_get (identifiers_of f) (block_place f b)
 
--- what something is called: its name, plain or quoted, or its number in the series
+-- an identifier: a name, plain or quoted, or a number of the series
 unfoldable pub identifier_text : Option Identifier → List ℕ
 identifier_text None = []
 identifier_text (Some (Named name)) = name_text name
 identifier_text (Some (Numbered n)) = decimal n
 
--- a register, a block where it is named, and where control goes to it
+-- a register, a block where it is named, and a block as the target of a terminator
 unfoldable pub register_text : Function → Register → List ℕ
 register_text f r = codes "%" ++ identifier_text (identifier_of f r)
 
@@ -66,7 +66,7 @@ label_text identifier = identifier_text identifier ++ codes ":\n"
 
 -- ---- types and operands
 
--- the type of a width
+-- the integer type of a width
 unfoldable pub type_text : ℕ → List ℕ
 type_text width = codes "i" ++ decimal width
 
@@ -76,40 +76,40 @@ operand_text f (operands.Number n) = number_text n
 operand_text f operands.Undef = codes "undef"
 operand_text f operands.Poison = codes "poison"
 
--- an operand behind its type
+-- an operand with its type before it
 unfoldable pub typed_text : Function → ℕ → Operand → List ℕ
 typed_text f width a = type_text width ++ codes " " ++ operand_text f a
 
 -- ---- instructions and terminators
 
--- a flag behind a space, where it is among these
+-- a flag with a space before it, if it is among these
 abbrev pub flag_text : Flags → Flag → List ℕ
 flag_text flags flag = if has_flag flags flag then codes " " ++ flag_keyword flag else []
 
--- the flags behind an opcode, in the order of their list
+-- the flags behind an opcode, each with a space before it, in the order of their list
 unfoldable pub flags_text : Flags → List ℕ
 flags_text flags = flat_map (flag_text flags) every_flag
 
--- what a phi gives behind a block
+-- an incoming value of a phi with its block
 unfoldable pub incoming_text : Function → Operand × ℕ → List ℕ
 incoming_text f entry = codes "[ " ++ operand_text f entry.0 ++ codes ", " ++ block_name_text f entry.1 ++ codes " ]"
 
--- the truth value behind the operand of an intrinsic that has one
+-- the truth value behind the operand, if the intrinsic takes one
 unfoldable pub truth_text : UnaryOp → Bool → List ℕ
 truth_text op truth = if has_truth op then codes ", i1 " ++ (if truth then codes "true" else codes "false") else []
 
--- what stands before the arguments of a call of the intrinsic that has this keyword
+-- a call of the intrinsic with this keyword, up to the arguments
 unfoldable pub callee_text : List ℕ → ℕ → List ℕ
 callee_text keyword width = codes "call " ++ type_text width ++ codes " @llvm." ++ keyword ++ codes "." ++ type_text width
 
--- an instruction with two operands, and a call of an intrinsic with two
+-- a binary operation, or a call of an intrinsic with two operands
 unfoldable pub binary_text : Function → ℕ → Opcode → Flags → Operand → Operand → List ℕ
 binary_text f width op flags a b =
     if is_intrinsic op
     then callee_text (opcode_keyword op) width ++ codes "(" ++ typed_text f width a ++ codes ", " ++ typed_text f width b ++ codes ")"
     else opcode_keyword op ++ flags_text flags ++ codes " " ++ typed_text f width a ++ codes ", " ++ operand_text f b
 
--- what stands behind the `=` of an instruction
+-- an operation, as it stands behind the `=` of an instruction
 unfoldable pub op_text : Function → ℕ → Op → List ℕ
 op_text f width (Binary op flags a b) = binary_text f width op flags a b
 op_text f width (Unary op truth a) = callee_text (unary_keyword op) width ++ codes "(" ++ typed_text f width a ++ truth_text op truth ++ codes ")"
@@ -139,12 +139,12 @@ end_text f Unreachable = codes "unreachable"
 
 -- ---- blocks
 
--- what stands before the first block: its label, if it has a name
+-- the head of the first block: its label, if it has a name
 unfoldable pub first_head_text : Name → List ℕ
 first_head_text None = []
 first_head_text (Some name) = label_text (Some (Named name))
 
--- what stands before block b: its label, and an empty line before that where it is not the first block
+-- the head of block b: its label, and, if it is not the first block, an empty line before that
 unfoldable pub head_text : Function → ℕ → Name → List ℕ
 head_text f b name = if b == 0 then first_head_text name else codes "\n" ++ label_text (block_identifier f b)
 
@@ -157,7 +157,7 @@ block_text f b =
 
 -- ---- functions
 
--- an item of a header, behind a space
+-- an item of a header, with a space before it
 unfoldable pub item_text : List ℕ → List ℕ
 item_text item = codes " " ++ item
 
@@ -165,7 +165,7 @@ item_text item = codes " " ++ item
 unfoldable pub parameter_text : Function → ℕ × Parameter → List ℕ
 parameter_text f p = type_text p.1.width ++ flat_map item_text p.1.items ++ codes " " ++ register_text f (registers.Parameter p.0)
 
--- the line up to the `{`
+-- the header of a function, up to the `{`
 unfoldable pub header_text : Function → List ℕ
 header_text f =
     codes "define" ++ flat_map item_text f.before ++ codes " " ++ type_text f.width ++ codes " " ++ function_name_text f.name
@@ -177,12 +177,12 @@ function_text f = header_text f ++ flat_map (block_text f) (enumerate_from 0 f.b
 
 -- ---- modules
 
--- a kept line stands as it was kept
+-- a kept line is printed as it was kept
 unfoldable pub entry_text : Entry → List ℕ
 entry_text (entries.Kept line) = line ++ codes "\n"
 entry_text (entries.Function f) = function_text f
 
--- what stands between two entries: an empty line, and nothing between kept lines
+-- what is printed between two entries: an empty line, but nothing between kept lines
 unfoldable pub between_text : Entry → Entry → List ℕ
 between_text (entries.Kept line) (entries.Kept next) = []
 between_text entry next = codes "\n"

@@ -1,7 +1,7 @@
-//! The laws of texts that are written, each the contract of a function that does nothing.
+//! The laws of printed texts. Each is the contract of a function with an empty body.
 ghost use Rattle.ir_text.specs.Laws.{LexemesAreTokens, PrintedTextsSpell};
 
-/// A text that is written token by token is read as these tokens.
+/// A text that is written token by token is lexed as these tokens.
 pub fn lexemes_are_tokens()
     ensures { LexemesAreTokens }
 {}
