@@ -17,3 +17,4 @@ pub mod Trimming
 pub mod InstsOf
 pub mod Keeping
 pub mod NumberedInsts
+pub mod Placed

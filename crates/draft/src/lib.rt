@@ -7,6 +7,8 @@
 #![tactic(auto)]
 
 mod draft;
+mod placing;
 mod reading;
 
 pub use draft::Draft;
+pub use placing::function_of;

@@ -111,7 +111,7 @@ fn rewrite_cleaned(
         let (stepped, next) = step(alloc, frontier, rules, verdicts, bounds.conflicts)?;
         frontier = next;
         if !stepped {
-            let last = draft_function::function_of(alloc, frontier.draft)?;
+            let last = draft::function_of(alloc, frontier.draft)?;
             return Ok((
                 last,
                 Turns {
@@ -121,7 +121,7 @@ fn rewrite_cleaned(
             ));
         }
     }
-    let last = draft_function::function_of(alloc, frontier.draft)?;
+    let last = draft::function_of(alloc, frontier.draft)?;
     let made = search_last(alloc, last, rules, verdicts, bounds)?;
     Ok(made)
 }

@@ -1,6 +1,6 @@
 -- the table has the position of each number before the index
-use Rattle.draft_function.proofs.Placed.{PlacesKept}
-use Rattle.draft_function.proofs.placing.places_in.Given as goal
+use Rattle.draft.proofs.Placed.{PlacesKept}
+use Rattle.draft.proofs.placing.places_in.Given as goal
 
 abbrev pub invariant-loop-place : goal.invariant-loop-place
 invariant-loop-place l = PlacesKept l.fn.count l.numbers l.place l.places.items

@@ -1,8 +1,8 @@
 use Rattle.std.proofs.Common.{◌∙◌, ℕ, List, ap, get_or, arith}
 use Rattle.std.proofs.lemmas.List.{get_or_default}
 use Rattle.std.proofs.lemmas.Option.{slice_get-get_or, slice_get_within}
-use Rattle.draft_function.proofs.Placed.{place_kept}
-use Rattle.draft_function.proofs.placing.places_in.Goals as goal
+use Rattle.draft.proofs.Placed.{place_kept}
+use Rattle.draft.proofs.placing.places_in.Goals as goal
 
 pub index_mut-requires : goal.index_mut-requires
 index_mut-requires c =

@@ -2,8 +2,8 @@ use Rattle.std.proofs.Common.{◌+◌, List, get_or, set, sym, subst}
 use Rattle.std.proofs.lemmas.List.{get_or_default}
 use Rattle.ir_core.specs.declared.instruction.Inst.{Inst}
 use Rattle.draft.specs.Placing.{at_places}
-use Rattle.draft_function.proofs.Placed.{InstsPlaced, all_placed, inst_placed}
-use Rattle.draft_function.proofs.placing.placed_insts.Goals as goal
+use Rattle.draft.proofs.Placed.{InstsPlaced, all_placed, inst_placed}
+use Rattle.draft.proofs.placing.placed_insts.Goals as goal
 
 pub loop-number-preserved : goal.loop-number-preserved
 loop-number-preserved c =

@@ -8,7 +8,7 @@ use Rattle.draft.specs.Placing.{IsOrdering, at_places}
 use Rattle.draft.proofs.Rows.{standing_length}
 use Rattle.draft.proofs.Standing.{numbers_few, numbers_ordered, placed_blocks_are, stand_ordering}
 use Rattle.draft.proofs.Wholeness.{counted_insts}
-use Rattle.draft_function.proofs.placing.place_insts.Goals as goal
+use Rattle.draft.proofs.placing.place_insts.Goals as goal
 
 pub standing_numbers-requires-clause-ordered : goal.standing_numbers-requires-clause-ordered
 standing_numbers-requires-clause-ordered c = λ b within.

@@ -1,8 +1,8 @@
 use Rattle.std.proofs.Common.{◌≡◌, ◌+◌, ◌∙◌, ℕ, List, [], ap, get_or, length, sym, subst, arith}
 use Rattle.std.specs.Prelude.{slice_get}
 use Rattle.std.proofs.lemmas.List.{get_or_default}
-use Rattle.draft_function.proofs.Placed.{TablesKept, ordering_at, table_kept}
-use Rattle.draft_function.proofs.placing.places_of.Goals as goal
+use Rattle.draft.proofs.Placed.{TablesKept, ordering_at, table_kept}
+use Rattle.draft.proofs.placing.places_of.Goals as goal
 
 pub places_in-requires-clause-ordered : goal.places_in-requires-clause-ordered
 places_in-requires-clause-ordered c =

@@ -1,8 +1,8 @@
 use Rattle.std.proofs.Common.{ℕ, ◌++◌, ◌∙◌, List, [], Option, ap, length, subst, sym}
 use Rattle.std.proofs.lemmas.List.{append-nil}
 use Rattle.draft.proofs.Rows.{Walked, first_gone, first_stands, none_left, walked_end, walked_next}
-use Rattle.draft_function.proofs.placing.standing_in.Goals as goal
-use Rattle.draft_function.proofs.placing.standing_in.Goals.{then-stand-number+in_ok-push, else-stand-number}
+use Rattle.draft.proofs.placing.standing_in.Goals as goal
+use Rattle.draft.proofs.placing.standing_in.Goals.{then-stand-number+in_ok-push, else-stand-number}
 
 pub loop-at-preserved : goal.loop-at-preserved
 loop-at-preserved c =

@@ -1,8 +1,8 @@
 use Rattle.std.proofs.Common.{◌<◌, ◌∙◌, ℕ, List, ap, length, sym, subst, arith}
 use Rattle.draft.specs.Drafts.{block_of}
 use Rattle.draft.specs.Placing.{IsOrdering, at_places}
-use Rattle.draft_function.proofs.Placed.{block_placed, next_ordering}
-use Rattle.draft_function.proofs.placing.place_blocks.Goals as goal
+use Rattle.draft.proofs.Placed.{block_placed, next_ordering}
+use Rattle.draft.proofs.placing.place_blocks.Goals as goal
 
 pub place_block-requires : goal.place_block-requires
 place_block-requires c =

@@ -6,7 +6,7 @@ ghost use Rattle.draft.specs.Drafts.{block_of, blocks_of, insts_of, function_of,
 ghost use Rattle.draft.specs.Placing.{AreOrdered, IsOrdering, at_places};
 ghost use Rattle.draft.specs.Whole.{IsSettled};
 
-use draft::Draft;
+use crate::draft::Draft;
 use ir_core::{Block, Function, Inst, Op, Operand, Register};
 use lists::List;
 use places::Order;

@@ -1,7 +1,7 @@
 -- the instructions of the numbers before the index are moved out
 use Rattle.draft.specs.Placing.{at_places}
-use Rattle.draft_function.proofs.Placed.{InstsPlaced}
-use Rattle.draft_function.proofs.placing.placed_insts.Given as goal
+use Rattle.draft.proofs.Placed.{InstsPlaced}
+use Rattle.draft.proofs.placing.placed_insts.Given as goal
 
 abbrev pub invariant-loop-number : goal.invariant-loop-number
 invariant-loop-number l = InstsPlaced (at_places l.places.rows.items) l.fn.insts l.numbers l.number-index l.insts.items l.placed

@@ -2,7 +2,7 @@ use Rattle.std.proofs.Common.{◌≡◌, ◌<◌, ◌++◌, ◌∷◌, ◌∙◌
 use Rattle.std.proofs.lemmas.List.{get_or_default, take_all, take_more}
 use Rattle.draft.specs.Drafts.{standing, standing_in}
 use Rattle.draft.proofs.Rows.{standing_at, standing_length}
-use Rattle.draft_function.proofs.placing.standing_numbers.Goals as goal
+use Rattle.draft.proofs.placing.standing_numbers.Goals as goal
 
 pub loop-block-preserved : goal.loop-block-preserved
 loop-block-preserved c =

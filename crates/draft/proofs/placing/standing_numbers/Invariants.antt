@@ -1,7 +1,7 @@
 -- the rows of the blocks before this one are made
 use Rattle.std.proofs.Common.{◌≡◌, take}
 use Rattle.draft.specs.Drafts.{standing}
-use Rattle.draft_function.proofs.placing.standing_numbers.Given as goal
+use Rattle.draft.proofs.placing.standing_numbers.Given as goal
 
 abbrev pub invariant-loop-block : goal.invariant-loop-block
 invariant-loop-block l = l.rows.items ≡ take l.block (standing l.stand l.orders)
