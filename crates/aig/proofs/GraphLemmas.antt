@@ -1,15 +1,5 @@
 -- The values of a graph's gates, and which of them stay the same when a gate is added.
-use Rattle.std.proofs.Common.{◌≡◌, ℕ, zero, suc, ◌+◌, ◌≤◌, Bool, false, not, cond, List, [], ◌∷◌, ◌++◌, length, get_or, drop, replicate, Some, refl, sym, ap, ◌∙◌, subst, arith, length-drop, append_assoc, append-nil}
-use Rattle.std.specs.Prelude.{fold, slice_get}
-use Rattle.std.proofs.lemmas.List.{get_or_append_left, get_or_at, length_push, length-replicate}
-use Rattle.std.proofs.lemmas.List.Sums.{fold-append}
-use Rattle.circuits.specs.Circuit.{Keeps}
-use Rattle.aig.specs.declared.literal.Node.{Node}
-use Rattle.aig.specs.declared.literal.Node.TheVariants.{One, Input, Output}
-use Rattle.aig.specs.Literal.{Literal}
-use Rattle.aig.specs.declared.gate.Gate.{Gate}
-use Rattle.aig.specs.declared.gate.Gate.TheVariants.{And, Xor, Mux}
-use Rattle.aig.specs.Graph.{Graph, IsAmong, IsOwn, OperandsAmong, IsInOrder, node_value, literal_value, gate_value, gate_values, value_of, graph_state}
+use Rattle.aig.proofs.Common.{◌≡◌, ℕ, zero, suc, ◌+◌, ◌≤◌, Bool, false, not, cond, List, [], ◌∷◌, ◌++◌, length, get_or, drop, replicate, Some, refl, sym, ap, ◌∙◌, subst, arith, length-drop, append_assoc, append-nil, fold, slice_get, get_or_append_left, get_or_at, length_push, length-replicate, fold-append, Keeps, Node, One, Input, Output, Literal, Gate, And, Xor, Mux, Graph, IsAmong, IsOwn, OperandsAmong, IsInOrder, node_value, literal_value, gate_value, gate_values, value_of, graph_state}
 
 -- a node that is among so many inputs is among more
 

@@ -1,13 +1,5 @@
 -- A graph after a gate is put in, which it may have had already.
-use Rattle.std.proofs.Common.{◌≡◌, inl, inr, ℕ, ◌+◌, ◌≤◌, Bool, false, List, length, slice_get, Some, refl, sym, ap, ◌∙◌, subst, arith}
-use Rattle.std.proofs.lemmas.List.{length_push}
-use Rattle.std.proofs.lemmas.Option.{slice_get_within}
-use Rattle.circuits.specs.Circuit.{Adds, Keeps}
-use Rattle.aig.specs.declared.literal.Node.TheVariants.{Output}
-use Rattle.aig.specs.declared.gate.Gate.{Gate}
-use Rattle.aig.specs.Gate.{IsProper}
-use Rattle.aig.specs.Graph.{Graph, OperandsAmong, IsInOrder, AreProper, gate_value, gate_values, graph_state}
-use Rattle.aig.specs.Stands.{Stands}
+use Rattle.aig.proofs.Common.{◌≡◌, inl, inr, ℕ, ◌+◌, ◌≤◌, Bool, false, List, length, slice_get, Some, refl, sym, ap, ◌∙◌, subst, arith, length_push, slice_get_within, Adds, Keeps, Output, Gate, IsProper, Graph, OperandsAmong, IsInOrder, AreProper, gate_value, gate_values, graph_state, Stands}
 use Rattle.aig.proofs.Keys.{IsInserted, slice_get-push}
 use Rattle.aig.proofs.GraphLemmas.{Keeps-pushed, gate_value-pushed, value_of_gate}
 

@@ -1,14 +1,6 @@
 -- What the set of a graph's gates says of the list of its keys.
-use Rattle.std.proofs.Common.{◌≡◌, if◌then◌else◌, ◌⊎◌, inl, inr, ℕ, zero, suc, Bool, true, false, List, [], ◌∷◌, ◌++◌, length, position, slice_get, Some, refl, sym, ap, ◌∙◌, subst, arith}
-use Rattle.std.specs.List.{list_any, IsDistinct, AllByRecursion}
-use Rattle.std.proofs.lemmas.Bool.Decides.{nat_tests}
-use Rattle.std.proofs.lemmas.List.Quantifiers.{position-Some}
-use Rattle.std.proofs.lemmas.Option.{slice_get-get_or}
-use Rattle.indexmap.specs.IndexSet.{insert_key}
-use Rattle.aig.specs.declared.gate.Gate.{Gate}
-use Rattle.aig.specs.declared.gate.Gate.TheVariants.{And, Xor, Mux}
+use Rattle.aig.proofs.Common.{◌≡◌, if◌then◌else◌, ◌⊎◌, inl, inr, ℕ, zero, suc, Bool, true, false, List, [], ◌∷◌, ◌++◌, length, position, slice_get, Some, refl, sym, ap, ◌∙◌, subst, arith, list_any, IsDistinct, AllByRecursion, nat_tests, position-Some, slice_get-get_or, insert_key, Gate, And, Xor, Mux, HasNoTwice}
 use Rattle.aig.specs.contracts.gate.GatePartialEq.TheImpl as derived
-use Rattle.aig.specs.Graph.{HasNoTwice}
 use Rattle.aig.proofs.LiteralLemmas.{same_code}
 
 abbrev pub gate_eq : Gate → Gate → Bool

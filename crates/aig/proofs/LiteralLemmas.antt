@@ -1,9 +1,5 @@
 -- Literals with the same code are the same.
-use Rattle.std.proofs.Common.{◌≡◌, ℕ, ◌*◌, ◌+◌, ◌/◌, Bool, true, false, cond, refl, sym, ap, ◌∙◌, arith}
-use Rattle.std.proofs.lemmas.Bool.Decides.{nat_tests}
-use Rattle.aig.specs.declared.literal.Node.{Node}
-use Rattle.aig.specs.declared.literal.Node.TheVariants.{One, Input, Output}
-use Rattle.aig.specs.Literal.{Literal, place_of, code_of, node_at, literal_at}
+use Rattle.aig.proofs.Common.{◌≡◌, ℕ, ◌*◌, ◌+◌, ◌/◌, Bool, true, false, cond, refl, sym, ap, ◌∙◌, arith, nat_tests, Node, One, Input, Output, Literal, place_of, code_of, node_at, literal_at}
 
 node_at-place_of : (node : Node) → node_at (place_of node) ≡ node
 node_at-place_of One = refl

@@ -1,10 +1,5 @@
 -- Gates whose operands are put in the order of their codes.
-use Rattle.std.proofs.Common.{◌≡◌, ℕ, Bool, true, false, ◌&&◌, nat_lt, if◌then◌else◌, List, refl}
-use Rattle.std.specs.Bool.{xor}
-use Rattle.aig.specs.declared.gate.Gate.TheVariants.{And, Xor}
-use Rattle.aig.specs.Literal.{Literal, code_of}
-use Rattle.aig.specs.Gate.{ordered_and, ordered_xor}
-use Rattle.aig.specs.Graph.{OperandsAmong, literal_value, gate_value}
+use Rattle.aig.proofs.Common.{◌≡◌, ℕ, Bool, true, false, ◌&&◌, nat_lt, if◌then◌else◌, List, refl, xor, And, Xor, Literal, code_of, ordered_and, ordered_xor, OperandsAmong, literal_value, gate_value}
 use Rattle.aig.proofs.Truth.{and_turned, xor_turned}
 
 either_way : {X : Type 0} (P : X → Type 0) (t : Bool) (x y : X) → (t ≡ true → P x) → (t ≡ false → P y) → P (if t then x else y)

@@ -1,15 +1,5 @@
 -- Literals that stand for a truth table in a graph, shown by what is true under all values of the nodes.
-use Rattle.std.proofs.Common.{◌≡◌, Bool, true, false, not, ◌&&◌, List, Option, None, Some, if◌then◌else◌, length, refl, sym, ap, ◌∙◌}
-use Rattle.std.specs.Bool.{xor}
-use Rattle.aig.specs.declared.literal.Node.{Node}
-use Rattle.std.specs.Option.{IfSome}
-use Rattle.aig.specs.declared.two_levels.Parts.{Parts}
-use Rattle.aig.specs.declared.two_levels.Parts.TheVariants.{NotBoth}
-use Rattle.aig.specs.Literal.{Literal, negation_of, value_under}
-use Rattle.aig.specs.Graph.{Graph, IsOwn, node_value, gate_values, value_of}
-use Rattle.aig.specs.Folding.{IsAnd, IsXor, IsOver}
-use Rattle.aig.specs.Parts.{HasParts, PartsAmong, IsAndOfParts, IsOverParts}
-use Rattle.aig.specs.Stands.{Stands}
+use Rattle.aig.proofs.Common.{◌≡◌, Bool, true, false, not, ◌&&◌, List, Option, None, Some, if◌then◌else◌, length, refl, sym, ap, ◌∙◌, xor, Node, IfSome, Parts, NotBoth, Literal, negation_of, value_under, Graph, IsOwn, node_value, gate_values, value_of, IsAnd, IsXor, IsOver, HasParts, PartsAmong, IsAndOfParts, IsOverParts, Stands}
 use Rattle.aig.proofs.Truth.{xor_signs, xor_one_sign, other_part, other_part_turned}
 
 pub value_under-negation : (values : Node → Bool) (l : Literal) → value_under values (negation_of l) ≡ not (value_under values l)

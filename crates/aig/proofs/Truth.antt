@@ -1,6 +1,5 @@
 -- Identities of truth values.
-use Rattle.std.proofs.Common.{◌≡◌, Bool, true, false, not, ◌&&◌, refl, if◌then◌else◌}
-use Rattle.std.specs.Bool.{xor, beq}
+use Rattle.aig.proofs.Common.{◌≡◌, Bool, true, false, not, ◌&&◌, refl, if◌then◌else◌, xor, beq}
 
 -- xor as a choice
 pub xor_choice : (a b : Bool) → xor a b ≡ (if a then not b else b)

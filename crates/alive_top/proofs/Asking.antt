@@ -1,9 +1,6 @@
 -- Words ask for at most one task.
-use Rattle.std.proofs.Common.{◌≡◌, ℕ, List, ap, sym, ◌∙◌}
-use Rattle.command_line.specs.Laws.{SameCommand, WordsSayOneCommand}
-use Rattle.command_line.specs.declared.command.Command.{Command}
+use Rattle.alive_top.proofs.Common.{◌≡◌, ℕ, List, ap, sym, ◌∙◌, SameCommand, WordsSayOneCommand, Command, Task, Load, Asks, task_of}
 use Rattle.command_line.specs.declared.command.Command.TheVariants as commands
-use Rattle.alive_top.specs.Task.{Task, Load, Asks, task_of}
 
 -- commands that are the same have one task
 same_task : (x y : Command) → SameCommand x y → task_of x ≡ task_of y

@@ -1,31 +1,6 @@
 -- How a call ends, from the work and the writing of it.
-use Rattle.std.proofs.Common.{◌≡◌, ℕ, ◌⊎◌, Bool, true, false, List, [], ◌∷◌, None, Some, length, refl, sym, subst, inl, inr, arith}
-use Rattle.std.specs.Prelude.{cond, MatchBool}
-use Rattle.std.proofs.lemmas.List.{take_all}
-use Rattle.verdict.specs.Rule.{Rule}
-use Rattle.command_line.specs.declared.command.VerifyOptions.{VerifyOptions}
-use Rattle.outside.specs.Files.{FilesState}
-use Rattle.outside.specs.Sink.{SinkState}
-use Rattle.command_line.specs.Usage.{HasBadList, refusal_of_list}
-use Rattle.command_line.specs.Words.{are_taken}
-use Rattle.alive_top.specs.declared.hindrance.Hindrance.{Hindrance}
-use Rattle.alive_top.specs.declared.hindrance.Hindrance.TheVariants.{Rules, Module, Argument, Logs, Read, Memory}
-use Rattle.alive_top.specs.declared.status.Ended.{Ended}
-use Rattle.alive_top.specs.declared.status.Status.{Status}
-use Rattle.alive_top.specs.declared.status.Status.TheVariants.{Done, NotAll, Usage, NoMemory}
-use Rattle.alive_top.specs.Answers.{RefusedFor, IsDoneFor}
-use Rattle.alive_top.specs.Cause.{TextIsRefused, LogsAreRefused, MemoryIsRefused}
-use Rattle.alive_top.specs.Ends.{Worked, Refused, EndsWith, EndsAtWords, Ends, IsUsage}
-use Rattle.alive_top.specs.File.{File, files_of}
-use Rattle.error_lines.specs.Lines.{memory_line}
-use Rattle.alive_top.specs.Puts.{RefusedAs, WrittenAs}
-use Rattle.alive_top.specs.Statuses.{IsWorked}
-use Rattle.alive_top.specs.Task.{Task, Verify, Optimise, Run, Load, Recheck}
-use Rattle.alive_top.specs.Texts.{AreTaken}
-use Rattle.alive_top.specs.Work.{Work, IsProofWork, IsVerdictWork, IsVerifyWork, IsWorkOf}
-use Rattle.refusal.specs.declared.fault.Fault.{Fault}
-use Rattle.stored_logs.specs.LogFaultKind.{LogFaultKind}
-use Rattle.alive_top.specs.Written.{Took}
+use Rattle.alive_top.proofs.Common.{◌≡◌, ℕ, ◌⊎◌, Bool, true, false, List, [], ◌∷◌, None, Some, length, refl, sym, subst, inl, inr, arith, cond, MatchBool, take_all, Rule, VerifyOptions, FilesState, SinkState, HasBadList, refusal_of_list, are_taken, Hindrance, Module, Read, Memory, Ended, Status, Done, NotAll, Usage, NoMemory, RefusedFor, IsDoneFor, TextIsRefused, LogsAreRefused, MemoryIsRefused, Worked, Refused, EndsWith, EndsAtWords, Ends, IsUsage, File, files_of, memory_line, RefusedAs, WrittenAs, IsWorked, Task, Verify, Optimise, Run, Load, Recheck, AreTaken, Work, IsProofWork, IsVerdictWork, IsVerifyWork, IsWorkOf, Fault, LogFaultKind, Took}
+use Rattle.alive_top.specs.declared.hindrance.Hindrance.TheVariants.{Rules, Argument, Logs}
 
 -- ---- how a command ends
 

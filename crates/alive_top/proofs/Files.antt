@@ -1,33 +1,11 @@
 -- How far a task came with its files, where one was not read or was refused, and where all were read.
-use Rattle.std.proofs.Common.{◌≡◌, ℕ, ◌≤◌, List, [], ◌∷◌, Result, Ok, Err, Option, None, Some, refl, sym, subst, ◌∙◌, inl, inr, ⊎_elim, ◌⊎◌, arith, ap}
-use Rattle.std.specs.Prelude.{All, IfSome, take, ◌+◌}
-use Rattle.command_line.specs.declared.command.OptimiseOptions.{OptimiseOptions}
-use Rattle.command_line.specs.declared.command.RunOptions.{RunOptions}
-use Rattle.command_line.specs.declared.command.VerifyOptions.{VerifyOptions}
-use Rattle.outside.specs.Faults.{Rose}
-use Rattle.outside.specs.Files.{FilesState, FilesFollow, with_name}
-use Rattle.stored_logs.specs.Stored.{AreStored}
-use Rattle.stored_logs.proofs.Storing.{kept_to}
-use Rattle.verdict.specs.Rule.{Rule}
-use Rattle.verdict.specs.Stored.{IsUnrefutedIn}
-use Rattle.verdict.specs.declared.stored.StoredLogs.{StoredLogs}
+use Rattle.alive_top.proofs.Common.{◌≡◌, ℕ, ◌≤◌, List, [], ◌∷◌, Result, Ok, Err, Option, None, Some, refl, sym, subst, ◌∙◌, inl, inr, ⊎_elim, ◌⊎◌, arith, ap, All, IfSome, take, ◌+◌, OptimiseOptions, RunOptions, VerifyOptions, Rose, FilesState, FilesFollow, with_name, AreStored, kept_to, Rule, IsUnrefutedIn, StoredLogs, IsRun, Rechecked, IsRechecked, RecheckOptions, Hindrance, Module, Read, Memory, RuleRefused, ModuleRefused, Fits, MisfitsRun, MisfitsRules, TextOf, FileOf, FileRefused, RefusedFor, IsDoneFor, ComesTo, TextIsRefused, ReadFails, MemoryIsRefused, File, files_of, limit_of, rules_line, module_line, AsksOne, with_names, Takes, Task, Verify, Optimise, Run, Recheck, IsTextOf, Work, IsPrinted, IsVerifyWork, IsOptimiseWork, IsRunWork, IsRecheckWork}
 use Rattle.ir_core.specs.declared.module.Module.{Module as SourceModule}
-use Rattle.run_text.specs.Runs.{IsRun, IsReadAs as IsModuleReadAs}
-use Rattle.stored_logs.specs.declared.rechecked.Rechecked.{Rechecked}
-use Rattle.stored_logs.specs.Rechecked.{IsRechecked}
-use Rattle.command_line.specs.declared.command.RecheckOptions.{RecheckOptions}
-use Rattle.alive_top.specs.declared.hindrance.Hindrance.{Hindrance}
-use Rattle.alive_top.specs.declared.hindrance.Hindrance.TheVariants.{Rules, Module, Argument, Logs, Read, Memory}
-use Rattle.alive_top.specs.declared.status.Status.TheVariants.{RuleRefused, ModuleRefused}
-use Rattle.alive_top.specs.Answers.{IsReadAs, Fits, MisfitsRun, MisfitsRules, TextOf, FileOf, FileRefused, RefusedFor, IsDoneFor}
-use Rattle.alive_top.specs.Cause.{ComesTo, TextIsRefused, ReadFails, MemoryIsRefused}
-use Rattle.alive_top.specs.File.{File, Rules as RuleFile, Source as ModuleFile, Logs as LogFile, files_of, limit_of}
-use Rattle.error_lines.specs.Lines.{rules_line, module_line}
-use Rattle.alive_top.specs.Request.{AsksOne, with_names}
-use Rattle.alive_top.specs.Taken.{Takes, IsRuleText}
-use Rattle.alive_top.specs.Task.{Task, Verify, Optimise, Run, Recheck}
-use Rattle.alive_top.specs.Texts.{IsTextOf}
-use Rattle.alive_top.specs.Work.{Work, IsPrinted, IsVerifyWork, IsOptimiseWork, IsRunWork, IsRecheckWork}
+use Rattle.run_text.specs.Runs.{IsReadAs as IsModuleReadAs}
+use Rattle.alive_top.specs.declared.hindrance.Hindrance.TheVariants.{Rules, Argument, Logs}
+use Rattle.alive_top.specs.Answers.{IsReadAs}
+use Rattle.alive_top.specs.File.{Rules as RuleFile, Source as ModuleFile, Logs as LogFile}
+use Rattle.alive_top.specs.Taken.{IsRuleText}
 
 -- ---- one file
 

@@ -1,50 +1,10 @@
 -- The clauses of the top call, from how a call ends.
-use Rattle.std.proofs.Common.{◌≡◌, ℕ, zero, suc, ◌⊎◌, Bool, true, false, IsTrue, ◌↔◌, List, [], ◌∷◌, Option, Some, None, refl, sym, subst, ap, ◌∙◌, inl, inr, ⊎_elim, arith, length}
-use Rattle.std.specs.Prelude.{slice_get, cond, codes, option_map, MatchBool, ◌<◌}
-use Rattle.refusal.specs.declared.fault.Fault.{Fault}
-use Rattle.rule_reader.specs.Laws.{TextsHaveOneListOrFault}
-use Rattle.stored_logs.specs.LogFaultKind.{LogFaultKind}
-use Rattle.stored_logs.specs.LogFaultKind.TheVariants.{TooLong}
-use Rattle.stored_logs.specs.Laws.{TextsHaveProofsOrFault}
-use Rattle.stored_logs.specs.Faults.{IsFault, of_text}
-use Rattle.stored_logs.specs.Stored.{AreKeptTo}
-use Rattle.proof_text.specs.Faults.{too_long}
-use Rattle.stored_logs.specs.Limits.{most_bytes}
-use Rattle.std.specs.List.{AllZip}
-use Rattle.std.proofs.lemmas.Option.{slice_get_within}
-use Rattle.outside.specs.Faults.{Rose, raised}
-use Rattle.outside.specs.Files.{FilesState}
-use Rattle.outside.specs.Sink.{SinkState, Appends}
-use Rattle.verdict.specs.Rule.{Rule}
-use Rattle.clap.specs.Words.{Row, Text, first_of}
-use Rattle.command_line.specs.Laws.{WordsSayOneCommand}
-use Rattle.command_line.specs.Usage.{list_of}
-use Rattle.command_line.specs.Words.{SaysOf, command_and_rows}
-use Rattle.command_line.specs.Widths.{is_width_list}
-use Rattle.command_line.specs.declared.command.Command.{Command}
+use Rattle.alive_top.proofs.Common.{◌≡◌, ℕ, zero, suc, ◌⊎◌, Bool, true, false, IsTrue, ◌↔◌, List, [], ◌∷◌, Option, Some, None, refl, sym, subst, ap, ◌∙◌, inl, inr, ⊎_elim, arith, length, slice_get, cond, codes, option_map, MatchBool, ◌<◌, Fault, TextsHaveOneListOrFault, LogFaultKind, TooLong, TextsHaveProofsOrFault, IsFault, of_text, AreKeptTo, too_long, most_bytes, AllZip, slice_get_within, Rose, raised, FilesState, SinkState, Appends, Rule, Row, Text, first_of, WordsSayOneCommand, list_of, SaysOf, command_and_rows, is_width_list, Command, OptimiseOptions, VerifyOptions, RunsAreNotMisnamed, Ended, Status, Done, NotAll, Usage, RuleRefused, ModuleRefused, ReadFault, WriteFault, NoMemory, LogRefused, TextIsRefused, HasVerified, HasProved, HasOptimised, HasRechecked, HasDone, RecheckOptions, HasLogFault, HasBadLogs, Worked, EndsWith, EndsAtWords, Ends, IsNoCommand, IsUsage, File, FileKind, files_of, IsLoaded, NamesNoRun, IsOptimised, optimised_report, IsDone, IsWorked, IsNoTask, IsNoRun, IsLogRefusal, IsDoneOrNoMemory, Takes, Refuses, Task, Verify, Optimise, Run, Load, Recheck, Asks, IsTextOf, AreTexts, AreTaken, OfSomeTexts, OfToldTexts, TakesEach, HasBadFile, Work, IsWorkOf, IsVerdictWork, IsProofWork, IsOptimiseWork, IsRecheckWork, Reports, WroteAll, WroteSome}
 use Rattle.command_line.specs.declared.command.Command.TheVariants as commands
-use Rattle.command_line.specs.declared.command.OptimiseOptions.{OptimiseOptions}
-use Rattle.command_line.specs.declared.command.VerifyOptions.{VerifyOptions}
 use Rattle.verdict_core.specs.declared.verdicts.Row.{Row as VerdictRow}
-use Rattle.run_text.specs.OutcomeLaws.{RunsAreNotMisnamed}
-use Rattle.alive_top.specs.declared.status.Ended.{Ended}
-use Rattle.alive_top.specs.declared.status.Status.{Status}
-use Rattle.alive_top.specs.declared.status.Status.TheVariants.{Done, NotAll, Usage, RuleRefused, ModuleRefused, ReadFault, WriteFault, NoMemory, Argument, LogRefused}
-use Rattle.alive_top.specs.Cause.{TextIsRefused}
-use Rattle.alive_top.specs.Done.{HasVerified, HasProved, HasOptimised, HasRechecked, HasDone}
-use Rattle.command_line.specs.declared.command.RecheckOptions.{RecheckOptions}
-use Rattle.alive_top.specs.LogFaults.{HasLogFault, HasBadLogs}
-use Rattle.alive_top.specs.Ends.{Worked, EndsWith, EndsAtWords, Ends, IsNoCommand, IsUsage}
-use Rattle.alive_top.specs.File.{File, FileKind, Rules as RuleFile, Source as ModuleFile, Logs as LogFile, files_of}
-use Rattle.load_text.specs.Load.{IsLoaded}
-use Rattle.alive_top.specs.NoRun.{NamesNoRun}
-use Rattle.alive_top.specs.Optimised.{IsOptimised, optimised_report}
-use Rattle.alive_top.specs.Statuses.{IsDone, IsWorked, IsNoTask, IsNoRun, IsLogRefusal, IsDoneOrNoMemory}
-use Rattle.alive_top.specs.Taken.{Takes, Refuses, IsRuleText}
-use Rattle.alive_top.specs.Task.{Task, Verify, Optimise, Run, Load, Recheck, Asks}
-use Rattle.alive_top.specs.Texts.{IsTextOf, AreTexts, AreTaken, OfSomeTexts, OfToldTexts, TakesEach, HasBadFile}
-use Rattle.alive_top.specs.Work.{Work, IsWorkOf, IsVerdictWork, IsProofWork, IsOptimiseWork, IsRecheckWork}
-use Rattle.alive_top.specs.Written.{Reports, WroteAll, WroteSome}
+use Rattle.alive_top.specs.declared.status.Status.TheVariants.{Argument}
+use Rattle.alive_top.specs.File.{Rules as RuleFile, Source as ModuleFile, Logs as LogFile}
+use Rattle.alive_top.specs.Taken.{IsRuleText}
 use Rattle.alive_top.proofs.Asking.{asks_one}
 use Rattle.alive_top.proofs.Limits.{taken_is_told, taken_told, told_is_text, told_or_long}
 use Rattle.alive_top.proofs.Taking.{TakenAreNotRefused}

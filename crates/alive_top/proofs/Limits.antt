@@ -1,12 +1,6 @@
 -- What is read of a file within a limit: all its bytes, or one more than the limit.
-use Rattle.std.proofs.Common.{◌≡◌, ℕ, ◌+◌, ◌<◌, ◌≤◌, ◌⊎◌, List, length, take, Option, Some, refl, sym, ap, subst, ◌∙◌, inl, inr, arith}
-use Rattle.std.specs.Prelude.{IfSome}
-use Rattle.std.proofs.lemmas.Bool.{cases_lt}
-use Rattle.std.proofs.lemmas.List.{take_all, length-take, length-take-le}
-use Rattle.outside.specs.Files.{FilesState}
-use Rattle.alive_top.specs.File.{File, FileKind, Rules, Source, Logs, limit_of}
-use Rattle.alive_top.specs.Taken.{Takes}
-use Rattle.alive_top.specs.Texts.{IsTextOf}
+use Rattle.alive_top.proofs.Common.{◌≡◌, ℕ, ◌+◌, ◌<◌, ◌≤◌, ◌⊎◌, List, length, take, Option, Some, refl, sym, ap, subst, ◌∙◌, inl, inr, arith, IfSome, cases_lt, take_all, length-take, length-take-le, FilesState, File, FileKind, Source, limit_of, Takes, IsTextOf}
+use Rattle.alive_top.specs.File.{Rules, Logs}
 
 -- where no more than the limit was read, that is all there is
 within : (n : ℕ) (told items : List ℕ) → items ≡ take (n + 1) told → length items ≤ n → items ≡ told

@@ -1,10 +1,5 @@
 -- What is known of rules that were read.
-use Rattle.std.proofs.Common.{ℕ, List, subst, get_or, length, ◌<◌}
-use Rattle.std.specs.Prelude.{All}
-use Rattle.std.proofs.lemmas.Option.{get_or_from_slice_get, slice_get-get_or, slice_get_within}
-use Rattle.strategy.specs.Ready.{IsReady, AreReady}
-use Rattle.verdict.specs.Rule.{Rule}
-use Rattle.verdict.specs.Findings.{IsReadRule}
+use Rattle.alive_top.proofs.Common.{ℕ, List, subst, get_or, length, ◌<◌, All, get_or_from_slice_get, slice_get-get_or, slice_get_within, IsReady, AreReady, Rule, IsReadRule}
 
 -- rules are ready where each of them is
 pub are_ready : (rules : List Rule) → ((k : ℕ) (d : Rule) → k < length rules → IsReady (get_or rules k d)) → AreReady rules

@@ -1,10 +1,6 @@
 -- Bytes that are taken are not refused.
-use Rattle.std.proofs.Common.{ℕ, List}
-use Rattle.ir_reader.specs.Laws.{TextsHaveOneModuleOrFault}
-use Rattle.rule_reader.specs.Laws.{TextsHaveOneListOrFault}
-use Rattle.alive_top.specs.declared.status.Status.{Status}
-use Rattle.alive_top.specs.File.{FileKind, Rules as RuleFile, Source as ModuleFile, Logs as LogFile}
-use Rattle.alive_top.specs.Taken.{Takes, Refuses}
+use Rattle.alive_top.proofs.Common.{ℕ, List, TextsHaveOneModuleOrFault, TextsHaveOneListOrFault, Status, FileKind, Takes, Refuses}
+use Rattle.alive_top.specs.File.{Rules as RuleFile, Source as ModuleFile, Logs as LogFile}
 
 -- the same for each kind of file
 abbrev pub TakenAreNotRefused : Type 0

@@ -1,19 +1,8 @@
 -- The walks of a function are those of its control-flow graph.
-use Rattle.std.proofs.Common.{◌≡◌, ℕ, Bool, IsTrue, ◌<◌, ◌↔◌, List, [], ◌∷◌, Option, None, Some, length, refl, sym, ap, ◌∙◌, subst, arith}
-use Rattle.std.specs.Prelude.{Contains, slice_get, option_map, unwrap_or}
-use Rattle.std.proofs.lemmas.List.{length-map}
-use Rattle.std.proofs.lemmas.Option.{slice_get-map, none-some, same_Some}
-use Rattle.dominator_tree.specs.Walks.{IsEdge, IsWalk as IsWalkIn, IsReached as IsReachedIn}
-use Rattle.ir_core.specs.declared.function.Function.{Function}
-use Rattle.ir_core.specs.declared.function.Block.{Block}
-use Rattle.ir_core.specs.declared.operand.Register.{Register}
+use Rattle.assigned_flow.proofs.Common.{◌≡◌, ℕ, Bool, IsTrue, ◌<◌, ◌↔◌, List, [], ◌∷◌, Option, None, Some, length, refl, sym, ap, ◌∙◌, subst, arith, Contains, slice_get, option_map, unwrap_or, length-map, slice_get-map, none-some, same_Some, IsEdge, Function, Block, Register, IsAssigned, Names, HasInst, targets_of, end_of, IsPassed, IsClosed, successors_of}
+use Rattle.dominator_tree.specs.Walks.{IsWalk as IsWalkIn, IsReached as IsReachedIn}
 use Rattle.ir_core.specs.declared.operand.Register.TheVariants as registers
-use Rattle.ir_core.specs.Assigned.{IsAssigned}
-use Rattle.ir_core.specs.Blocks.{Names, HasInst, targets_of}
-use Rattle.ir_core.specs.Reads.{end_of}
 use Rattle.ir_core.specs.Walks.{IsWalk, IsReached}
-use Rattle.assigned_flow.specs.Passed.{IsPassed, IsClosed}
-use Rattle.assigned_flow.specs.Successors.{successors_of}
 
 block_at : (o : Option Block) (targets : List ℕ) → option_map (λ block. targets_of block.end) o ≡ Some targets → (block : Block) × (o ≡ Some block) × (targets_of block.end ≡ targets)
 block_at None targets is = absurd (none-some targets is)

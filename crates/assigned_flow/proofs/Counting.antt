@@ -1,17 +1,6 @@
 -- The operands at one place are counted in 32 bits.
-use Rattle.std.proofs.Common.{ℕ, zero, suc, ◌<◌, ◌^◌, Bool, true, false, if◌then◌else◌, List, [], ◌∷◌, Option, None, Some, IfSome, length, arith}
-use Rattle.std.specs.Prelude.{All, slice_get}
-use Rattle.std.proofs.lemmas.List.{length-map}
-use Rattle.std.proofs.lemmas.List.Elements.{All-head, All-tail}
-use Rattle.ir_core.specs.declared.function.Function.{Function}
-use Rattle.ir_core.specs.declared.function.Block.{Block}
-use Rattle.ir_core.specs.declared.instruction.Inst.{Inst}
-use Rattle.ir_core.specs.declared.instruction.Op.{Op}
-use Rattle.ir_core.specs.declared.instruction.Op.TheVariants.{Binary, Compare, Unary, Select, Convert, Freeze, Phi}
-use Rattle.ir_core.specs.declared.terminator.Terminator.{Terminator}
+use Rattle.assigned_flow.proofs.Common.{ℕ, zero, suc, ◌<◌, ◌^◌, Bool, true, false, if◌then◌else◌, List, [], ◌∷◌, Option, None, Some, IfSome, length, arith, All, slice_get, length-map, All-head, All-tail, Function, Block, Inst, Op, Binary, Compare, Unary, Select, Convert, Freeze, Phi, Terminator, Read, reads_of, reads_at_end, reads_by, reads_in, reads_at, HasFewEntries}
 use Rattle.ir_core.specs.declared.terminator.Terminator.TheVariants as terminators
-use Rattle.ir_core.specs.Reads.{Read, reads_of, reads_at_end, reads_by, reads_in, reads_at}
-use Rattle.assigned_flow.specs.FewEntries.{HasFewEntries}
 
 pub All_at : {X : Type 0} (P : X → Type 0) (xs : List X) (k : ℕ) → All P xs → IfSome (slice_get xs k) P
 All_at P [] k all = tt

@@ -1,3 +1,4 @@
+pub mod Common
 mod Passing
 mod Correspondence
 mod Counting

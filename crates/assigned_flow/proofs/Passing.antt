@@ -1,10 +1,6 @@
 -- Which places every walk has passed, by dominance between blocks and by index within one.
-use Rattle.std.proofs.Common.{◌≡◌, ◌≢◌, ℕ, ◌<◌, ◌⊎◌, ◌↔◌, List, [], ◌∷◌, length, sym, ◌∙◌, subst, inl, inr, arith}
-use Rattle.std.specs.Prelude.{Contains}
-use Rattle.std.proofs.lemmas.Bool.{cases_lt}
-use Rattle.std.proofs.lemmas.List.Elements.{Contains-append_cases, Contains-append_left, Contains-append_right, Contains-push, Contains-push_cases}
-use Rattle.dominator_tree.specs.Walks.{IsWalk, IsReached, Dominates}
-use Rattle.assigned_flow.specs.Passed.{IsPassed, IsClosed}
+use Rattle.assigned_flow.proofs.Common.{◌≡◌, ◌≢◌, ℕ, ◌<◌, ◌⊎◌, ◌↔◌, List, [], ◌∷◌, length, sym, ◌∙◌, subst, inl, inr, arith, Contains, cases_lt, Contains-append_cases, Contains-append_left, Contains-append_right, Contains-push, Contains-push_cases, Dominates, IsPassed, IsClosed}
+use Rattle.dominator_tree.specs.Walks.{IsWalk, IsReached}
 
 not_in_empty : (x : ℕ) → Contains [] x → ⊥
 not_in_empty x has = omega arith

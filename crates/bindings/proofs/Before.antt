@@ -1,17 +1,7 @@
 -- In a block, an instruction stands behind those whose results it reads.
-use Rattle.std.proofs.Common.{◌≡◌, inl, inr, ℕ, ◌<◌, List, Some, refl, sym, ap, subst, ◌∙◌, arith}
-use Rattle.std.specs.Prelude.{slice_get}
-use Rattle.std.proofs.lemmas.Bool.{cases_eq, cases_lt}
-use Rattle.ir_core.specs.Assigned.{IsAssigned}
-use Rattle.ir_core.specs.Checks.{IsInst}
-use Rattle.ir_core.specs.Reads.{Read, reads_of}
-use Rattle.ir_core.specs.declared.function.Function.{Function}
-use Rattle.ir_core.specs.declared.instruction.Inst.{Inst}
+use Rattle.bindings.proofs.Common.{◌≡◌, inl, inr, ℕ, ◌<◌, List, Some, refl, sym, ap, subst, ◌∙◌, arith, slice_get, cases_eq, cases_lt, IsAssigned, IsInst, Read, reads_of, Function, Inst, NotBothAreAssigned, own_place, ReadsStandBefore}
 use Rattle.ir_core.specs.declared.operand.Register.TheVariants as registers
-use Rattle.ir_meaning.specs.Assignments.{NotBothAreAssigned}
-use Rattle.needed.proofs.Reading.{own_place}
 use Rattle.bindings.proofs.Reading.{has_inst_at, reads_at_inst}
-use Rattle.bindings.specs.Laws.{ReadsStandBefore}
 
 -- a result is assigned behind its instruction
 assigned_behind : (f : Function) (b k p : ℕ) (inst : Inst) → IsInst f b k inst → k < p → IsAssigned f (registers.Result b k) b p

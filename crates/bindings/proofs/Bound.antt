@@ -1,20 +1,6 @@
 -- What a statement of a rule's source is bound to.
-use Rattle.std.proofs.Common.{◌≡◌, ◌↔◌, ℕ, suc, ◌<◌, List, length, get_or, Bool, false, IsTrue, Some, sym, ap, subst, ◌∙◌, arith, inl, inr}
-use Rattle.std.specs.Prelude.{slice_get}
-use Rattle.std.proofs.lemmas.Option.{slice_get_cases, slice_get-get_or, get_or_from_slice_get, same_Some}
-use Rattle.ir_core.specs.Blocks.{HasInst}
-use Rattle.ir_core.specs.Checks.{IsInst}
-use Rattle.ir_core.specs.declared.function.Function.{Function}
-use Rattle.ir_core.specs.declared.instruction.Inst.{Inst}
-use Rattle.ir_core.specs.declared.operand.Register.{Register}
+use Rattle.bindings.proofs.Common.{◌≡◌, ◌↔◌, ℕ, suc, ◌<◌, List, length, get_or, Bool, false, IsTrue, Some, sym, ap, subst, ◌∙◌, arith, inl, inr, slice_get, slice_get_cases, slice_get-get_or, get_or_from_slice_get, same_Some, HasInst, IsInst, Function, Inst, Register, Rule, Statement, slice_get_within, AreKept, MatchesAt, InstMatches, IsSameOperation, StatementMatches, TargetNamesTemporary, promises_of_inst, promises_of_statement, Binding}
 use Rattle.ir_core.specs.declared.operand.Register.TheVariants as registers
-use Rattle.rule_core.specs.declared.rule.Rule.{Rule}
-use Rattle.rule_core.specs.declared.rule.Statement.{Statement}
-use Rattle.std.proofs.lemmas.Option.{slice_get_within}
-use Rattle.bindings.specs.Promises.{AreKept}
-use Rattle.bindings.specs.Checks.{MatchesAt}
-use Rattle.bindings.specs.Statements.{InstMatches, IsSameOperation, StatementMatches, TargetNamesTemporary, promises_of_inst, promises_of_statement}
-use Rattle.bindings.specs.declared.binding.Binding.{Binding}
 use Rattle.bindings.proofs.Reading.{same_inst}
 
 not_last : (j n : ℕ) → suc j < n → suc j ≡ n → ⊥

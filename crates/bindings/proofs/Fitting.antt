@@ -1,27 +1,9 @@
 -- What the operands of a source match, and that the constants of a binding fit their widths.
-use Rattle.std.proofs.Common.{◌≡◌, ℕ, length, Some, sym, subst, ◌∙◌, arith}
-use Rattle.std.specs.Prelude.{slice_get, Contains}
-use Rattle.std.proofs.lemmas.Option.{slice_get_within, same_Some}
-use Rattle.ops.specs.Number.{Number}
-use Rattle.ops.specs.Value.{IsValueOf}
-use Rattle.ops.specs.declared.value.Value.TheVariants.{Bits}
-use Rattle.ir_core.specs.Reads.{Read, IsRead}
-use Rattle.ir_core.specs.declared.function.Function.{Function}
+use Rattle.bindings.proofs.Common.{◌≡◌, ℕ, length, Some, sym, subst, ◌∙◌, arith, slice_get, Contains, slice_get_within, same_Some, Number, IsValueOf, Bits, Read, IsRead, Function, IsRule, operands_of, operands_among, operands_in, reads_constant, name, IsTyping, ConstantsFit, Argument, Rule, Statement, Contains-from_get, operand_stands, source_statement, StandsFor, OperandMatches, StatementMatches, Binding}
 use Rattle.ir_core.specs.declared.operand.Operand.{Operand}
 use Rattle.ir_core.specs.declared.operand.Operand.TheVariants as operands
-use Rattle.rule_core.specs.Checks.{IsRule}
-use Rattle.rule_core.specs.Positions.{operands_of, operands_among, operands_in, reads_constant, name}
-use Rattle.rule_core.specs.Typing.{IsTyping}
-use Rattle.rule_core.specs.Valid.{ConstantsFit}
-use Rattle.rule_core.specs.declared.rule.Argument.{Argument}
 use Rattle.rule_core.specs.declared.rule.Argument.TheVariants as arguments
 use Rattle.rule_core.specs.declared.rule.Operand.{Operand as RuleOperand}
-use Rattle.rule_core.specs.declared.rule.Rule.{Rule}
-use Rattle.rule_core.specs.declared.rule.Statement.{Statement}
-use Rattle.rule_core.proofs.Members.{Contains-from_get, operand_stands, source_statement}
-use Rattle.bindings.specs.Operands.{StandsFor, OperandMatches}
-use Rattle.bindings.specs.Statements.{StatementMatches}
-use Rattle.bindings.specs.declared.binding.Binding.{Binding}
 use Rattle.bindings.proofs.Lists.{place_of, from_flat_map}
 use Rattle.bindings.proofs.Reading.{is_read}
 

@@ -1,9 +1,5 @@
 -- Lists, their items by index, and what is or isn't there.
-use Rattle.std.proofs.Common.{◌≡◌, ◌≢◌, inl, inr, ℕ, zero, suc, ◌<◌, ◌≤◌, List, [], ◌∷◌, ◌++◌, length, map, take, get_or, slice_set, Option, None, Some, refl, sym, ap, ◌∙◌, arith, get_or-set_other, get_or-set_same, ◌↔◌, ◌+◌, ◌-◌, false, IsTrue, subst}
-use Rattle.std.specs.Prelude.{slice_get, Contains, flat_map, IfNone}
-use Rattle.std.proofs.lemmas.List.{length-set, map-append, take_more}
-use Rattle.std.proofs.lemmas.Option.{slice_get-get_or, slice_get_past, slice_get_within, get_or_from_slice_get, same_Some}
-use Rattle.std.proofs.lemmas.List.Elements.{Contains-append_cases}
+use Rattle.bindings.proofs.Common.{◌≡◌, ◌≢◌, inl, inr, ℕ, zero, suc, ◌<◌, ◌≤◌, List, [], ◌∷◌, ◌++◌, length, map, take, get_or, slice_set, Option, None, Some, refl, sym, ap, ◌∙◌, arith, get_or-set_other, get_or-set_same, ◌↔◌, ◌+◌, ◌-◌, false, IsTrue, subst, slice_get, Contains, flat_map, IfNone, length-set, map-append, take_more, slice_get-get_or, slice_get_past, slice_get_within, get_or_from_slice_get, same_Some, Contains-append_cases}
 
 -- an item has an index
 pub place_of : {X : Type 0} (xs : List X) (x : X) → Contains xs x → (k : ℕ) × (slice_get xs k ≡ Some x)

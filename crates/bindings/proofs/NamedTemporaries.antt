@@ -1,26 +1,10 @@
 -- Which statements name registers that the source assigns, and which terms have widths of them.
-use Rattle.std.proofs.Common.{◌≡◌, ◌↔◌, ◌⊎◌, inl, inr, ℕ, ◌+◌, ◌<◌, ◌≤◌, List, length, true, false, IsTrue, Some, refl, sym, ap, subst, ◌∙◌, arith}
-use Rattle.std.specs.Prelude.{slice_get, Contains}
-use Rattle.std.proofs.lemmas.Bool.{cases_eq}
-use Rattle.std.proofs.lemmas.Option.{slice_get_within, same_Some}
-use Rattle.rule_core.proofs.Members.{Contains-flat_map}
-use Rattle.rule_core.specs.Positions.{operands_of, operands_among}
-use Rattle.rule_core.specs.TermNodes.{IsOperandOf, StandsIn, itself, operand}
-use Rattle.rule_core.specs.Checks.{IsRule, MayBeTerm}
-use Rattle.rule_core.specs.declared.rule.Argument.{Argument}
+use Rattle.bindings.proofs.Common.{◌≡◌, ◌↔◌, ◌⊎◌, inl, inr, ℕ, ◌+◌, ◌<◌, ◌≤◌, List, length, true, false, IsTrue, Some, refl, sym, ap, subst, ◌∙◌, arith, slice_get, Contains, cases_eq, slice_get_within, same_Some, Contains-flat_map, operands_of, operands_among, IsOperandOf, StandsIn, itself, operand, IsRule, MayBeTerm, Argument, Node, Rule, Statement, Term, SoFar, Has, HasExactly, HasOperandOf, IsTemporaryWidth, NamesAmong, OneNamesAmong, MeasuresTemporary, NamesTemporary, OneNamesTemporary, Nodes}
 use Rattle.rule_core.specs.declared.rule.Argument.TheVariants as arguments
-use Rattle.rule_core.specs.declared.rule.Node.{Node}
 use Rattle.rule_core.specs.declared.rule.Node.TheVariants as nodes
 use Rattle.rule_core.specs.declared.rule.Operand.{Operand}
 use Rattle.rule_core.specs.declared.rule.Register.TheVariants as names
-use Rattle.rule_core.specs.declared.rule.Rule.{Rule}
-use Rattle.rule_core.specs.declared.rule.Statement.{Statement}
-use Rattle.rule_core.specs.declared.rule.Term.{Term}
-use Rattle.rule_typing.proofs.Among.{SoFar}
 use Rattle.bindings.proofs.Lists.{from_flat_map}
-use Rattle.bindings.specs.Nodes.{Has, HasExactly, HasOperandOf, IsTemporaryWidth, NamesAmong, OneNamesAmong}
-use Rattle.bindings.specs.Statements.{MeasuresTemporary, NamesTemporary, OneNamesTemporary}
-use Rattle.bindings.specs.declared.nodes.Nodes.{Nodes}
 
 -- one of the statements names one
 pub one_names : (set : Nodes) (statements : List Statement) (s : Statement) → Contains statements s → OneNamesAmong set (operands_of s.op) → IsTrue true ↔ OneNamesAmong set (operands_among statements)

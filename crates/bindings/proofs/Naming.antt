@@ -1,16 +1,10 @@
 -- What the names of a rule's source stand for.
-use Rattle.std.proofs.Common.{◌≡◌, ◌↔◌, ℕ, Bool, false, Option, None, Some, IsTrue, sym, ap, subst, ◌∙◌}
-use Rattle.std.specs.Prelude.{slice_get}
-use Rattle.std.proofs.lemmas.Option.{same_Some}
+use Rattle.bindings.proofs.Common.{◌≡◌, ◌↔◌, ℕ, Bool, false, Option, None, Some, IsTrue, sym, ap, subst, ◌∙◌, slice_get, same_Some, Register, Number, StandsFor, Binding}
 use Rattle.ir_core.specs.declared.operand.Operand.{Operand}
 use Rattle.ir_core.specs.declared.operand.Operand.TheVariants as operands
-use Rattle.ir_core.specs.declared.operand.Register.{Register}
 use Rattle.rule_core.specs.declared.rule.Argument.TheVariants as arguments
 use Rattle.rule_core.specs.declared.rule.Register.{Register as Name}
 use Rattle.rule_core.specs.declared.rule.Register.TheVariants as names
-use Rattle.ops.specs.Number.{Number}
-use Rattle.bindings.specs.Operands.{StandsFor}
-use Rattle.bindings.specs.declared.binding.Binding.{Binding}
 
 nothing : {X : Type 0} (o : Option X) (x : X) → o ≡ None → o ≡ Some x → ⊥
 nothing o x none some = let e : Some x ≡ None = sym some ∙ none in absurd cc

@@ -1,8 +1,5 @@
 -- Equal promises.
-use Rattle.std.proofs.Common.{◌≡◌, ◌↔◌, Bool, true, false, ◌&&◌, IsTrue, refl, sym, ap, ◌∙◌}
-use Rattle.std.specs.Bool.{beq}
-use Rattle.ops.proofs.FlagSets.{both}
-use Rattle.bindings.specs.declared.promises.Promises.{Promises}
+use Rattle.bindings.proofs.Common.{◌≡◌, ◌↔◌, Bool, true, false, ◌&&◌, IsTrue, refl, sym, ap, ◌∙◌, beq, both, Promises}
 
 same_promises : (p q : Promises) → p.flags ≡ q.flags → p.truth ≡ q.truth → p ≡ q
 same_promises p q flags truth =

@@ -1,23 +1,10 @@
 -- What instructions read, and which operands of a rule it stands for.
-use Rattle.std.proofs.Common.{◌≡◌, inl, inr, ℕ, zero, suc, ◌<◌, ◌≤◌, List, length, Option, None, Some, refl, sym, ap, subst, ◌∙◌, arith, Bor}
-use Rattle.std.specs.Prelude.{slice_get, option_and_then, option_map, IfNone, IfSome}
-use Rattle.std.specs.Slice.{IsItemAt}
-use Rattle.std.proofs.lemmas.Option.{same_Some, slice_get_cases, slice_get_within}
-use Rattle.ir_core.specs.Blocks.{HasInst, IsBlock}
-use Rattle.ir_core.specs.Checks.{IsInst}
-use Rattle.ir_core.specs.Names.{width_of}
-use Rattle.ir_core.specs.Reads.{Read, IsRead, read, reads_of, reads_by, reads_in, reads_at}
-use Rattle.ir_core.specs.declared.function.Block.{Block}
-use Rattle.ir_core.specs.declared.function.Function.{Function}
-use Rattle.ir_core.specs.declared.instruction.Inst.{Inst}
-use Rattle.ir_core.specs.declared.instruction.Op.{Op}
+use Rattle.bindings.proofs.Common.{◌≡◌, inl, inr, ℕ, zero, suc, ◌<◌, ◌≤◌, List, length, Option, None, Some, refl, sym, ap, subst, ◌∙◌, arith, Bor, slice_get, option_and_then, option_map, IfNone, IfSome, IsItemAt, same_Some, slice_get_cases, slice_get_within, HasInst, IsBlock, IsInst, width_of, Read, IsRead, read, reads_of, reads_by, reads_in, reads_at, Block, Function, Inst, Op, operands_of, IsSameOperation}
 use Rattle.ir_core.specs.declared.instruction.Op.TheVariants as ops
 use Rattle.ir_core.specs.declared.operand.Register.TheVariants as registers
-use Rattle.rule_core.specs.Positions.{operands_of}
 use Rattle.rule_core.specs.declared.rule.Op.{Op as RuleOp}
 use Rattle.rule_core.specs.declared.rule.Op.TheVariants as rule_ops
 use Rattle.rule_core.specs.declared.rule.Operand.{Operand as RuleOperand}
-use Rattle.bindings.specs.Statements.{IsSameOperation}
 use Rattle.bindings.proofs.Lists.{lent}
 
 -- what is read at the index of an instruction is what the instruction reads

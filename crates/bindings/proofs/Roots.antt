@@ -1,18 +1,5 @@
 -- The root of a rule and the instruction at which it matches are the same operation.
-use Rattle.std.proofs.Common.{◌≡◌, ◌↔◌, ◌∙◌, ℕ, suc, ◌-◌, length, Bool, false, IsTrue, Some, sym, subst, arith}
-use Rattle.std.specs.Prelude.{slice_get}
-use Rattle.std.proofs.lemmas.Option.{same_Some}
-use Rattle.ir_core.specs.Blocks.{HasInst}
-use Rattle.ir_core.specs.Checks.{IsInst}
-use Rattle.ir_core.specs.declared.function.Function.{Function}
-use Rattle.ir_core.specs.declared.instruction.Inst.{Inst}
-use Rattle.rule_core.specs.Checks.{IsRule}
-use Rattle.rule_core.specs.declared.rule.Rule.{Rule}
-use Rattle.rule_core.specs.declared.rule.Statement.{Statement}
-use Rattle.bindings.specs.Checks.{IsRootOperation}
-use Rattle.bindings.specs.Match.{IsMatch, MatchesInAnyOrder, MatchesWhere}
-use Rattle.bindings.specs.Statements.{IsSameOperation}
-use Rattle.bindings.specs.declared.binding.Binding.{Binding}
+use Rattle.bindings.proofs.Common.{◌≡◌, ◌↔◌, ◌∙◌, ℕ, suc, ◌-◌, length, Bool, false, IsTrue, Some, sym, subst, arith, slice_get, same_Some, HasInst, IsInst, Function, Inst, IsRule, Rule, Statement, IsRootOperation, IsMatch, MatchesInAnyOrder, MatchesWhere, IsSameOperation, Binding}
 use Rattle.bindings.proofs.Bound.{statement_at}
 use Rattle.bindings.proofs.Reading.{has_inst_at, same_inst}
 

@@ -1,34 +1,14 @@
 -- Temporaries stand before the root, since it reads from each through a chain of operands.
-use Rattle.std.proofs.Common.{◌≡◌, inl, inr, ℕ, zero, suc, ◌+◌, ◌<◌, ◌≤◌, List, length, Some, refl, sym, ap, subst, ◌∙◌, arith}
-use Rattle.std.specs.Prelude.{Contains, flat_map, slice_get}
-use Rattle.std.proofs.lemmas.Bool.{cases_lt}
-use Rattle.std.proofs.lemmas.Option.{same_Some, slice_get_within}
-use Rattle.ir_core.specs.Checks.{IsPhi, MeetsChecks}
-use Rattle.ir_core.specs.Walks.{IsReached}
-use Rattle.ir_core.specs.Reads.{Read, IsRead, reads_of}
-use Rattle.ir_core.specs.declared.function.Function.{Function}
-use Rattle.ir_core.specs.declared.instruction.Op.{Op}
+use Rattle.bindings.proofs.Common.{◌≡◌, inl, inr, ℕ, zero, suc, ◌+◌, ◌<◌, ◌≤◌, List, length, Some, refl, sym, ap, subst, ◌∙◌, arith, Contains, flat_map, slice_get, cases_lt, same_Some, slice_get_within, IsPhi, MeetsChecks, IsReached, Read, IsRead, reads_of, Function, Op, contains_at, place_in, some_at, IsRule, SourceMayRead, operands_of, Argument, Rule, Statement, flat_map-from, IsMatch, MatchesInAnyOrder, StandsFor, IsSameOperation, StatementMatches, Binding, ReadsStandBefore, TemporariesStandBefore}
 use Rattle.ir_core.specs.declared.instruction.Op.TheVariants as ops
 use Rattle.ir_core.specs.declared.operand.Operand.TheVariants as operands
 use Rattle.ir_core.specs.declared.operand.Register.TheVariants as registers
-use Rattle.ir_meaning.proofs.Pieces.{contains_at, place_in, some_at}
-use Rattle.rule_core.specs.Checks.{IsRule, SourceMayRead}
-use Rattle.rule_core.specs.Positions.{operands_of}
-use Rattle.rule_core.specs.declared.rule.Argument.{Argument}
 use Rattle.rule_core.specs.declared.rule.Argument.TheVariants as arguments
 use Rattle.rule_core.specs.declared.rule.Op.{Op as RuleOp}
 use Rattle.rule_core.specs.declared.rule.Op.TheVariants as rule_ops
 use Rattle.rule_core.specs.declared.rule.Operand.{Operand as RuleOperand}
 use Rattle.rule_core.specs.declared.rule.Register.TheVariants as names
-use Rattle.rule_core.specs.declared.rule.Rule.{Rule}
-use Rattle.rule_core.specs.declared.rule.Statement.{Statement}
-use Rattle.rule_core.proofs.Members.{flat_map-from}
-use Rattle.bindings.specs.Match.{IsMatch, MatchesInAnyOrder}
-use Rattle.bindings.specs.Operands.{StandsFor}
-use Rattle.bindings.specs.Statements.{IsSameOperation, StatementMatches}
-use Rattle.bindings.specs.declared.binding.Binding.{Binding}
 use Rattle.bindings.proofs.Reading.{reads_at_inst}
-use Rattle.bindings.specs.Laws.{ReadsStandBefore, TemporariesStandBefore}
 
 -- an instruction that a statement matches reads as many operands, and is no phi
 count_same : (f : Function) (b k w : ℕ) (s : RuleOp) (i : Op) → IsSameOperation s i → length (operands_of s) ≡ length (reads_of f b k w i)

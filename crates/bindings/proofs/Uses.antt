@@ -1,18 +1,6 @@
 -- What exact counts of uses say of the registers of which one use is asked.
-use Rattle.std.proofs.Common.{◌≡◌, ◌↔◌, ℕ, Some, subst}
-use Rattle.std.specs.Prelude.{slice_get, Contains}
-use Rattle.ir_core.specs.declared.function.Function.{Function}
-use Rattle.ir_core.specs.declared.operand.Register.{Register}
-use Rattle.rule_core.specs.declared.rule.Formula.{Formula}
+use Rattle.bindings.proofs.Common.{◌≡◌, ◌↔◌, ℕ, Some, subst, slice_get, Contains, Function, Register, Formula, Rule, count_of, IsUsedOnce, IsUseCount, count_of_one, use_counts_are_one, IsOneUse, AreFactsOf, Binding, FunctionFacts}
 use Rattle.rule_core.specs.declared.rule.Formula.TheVariants as formulas
-use Rattle.rule_core.specs.declared.rule.Rule.{Rule}
-use Rattle.use_counts.specs.Tables.{count_of}
-use Rattle.use_counts.specs.Uses.{IsUsedOnce, IsUseCount}
-use Rattle.use_counts.proofs.OneCount.{count_of_one, use_counts_are_one}
-use Rattle.bindings.specs.Checks.{IsOneUse}
-use Rattle.bindings.specs.Facts.{AreFactsOf}
-use Rattle.bindings.specs.declared.binding.Binding.{Binding}
-use Rattle.bindings.specs.declared.facts.FunctionFacts.{FunctionFacts}
 
 -- a count of one is exactly one use
 one_is_once : (f : Function) (facts : FunctionFacts) → AreFactsOf f facts → (r : Register) → (count_of facts.uses r ≡ 1) ↔ IsUsedOnce f r

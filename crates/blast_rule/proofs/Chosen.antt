@@ -1,31 +1,11 @@
 -- The nodes of the expressions of `Wit:` may be built: each thing that they read has literals of the right width.
-use Rattle.std.proofs.Common.{◌≡◌, ℕ, pos, zero, suc, ◌+◌, ◌<◌, List, [], ◌∷◌, length, map, take, Some, None, refl, sym, ap, ◌∙◌, arith, get_or}
-use Rattle.std.specs.Prelude.{slice_get, slice_index}
-use Rattle.std.specs.Option.{option_map}
-use Rattle.std.proofs.lemmas.List.{length-map}
-use Rattle.std.proofs.lemmas.Option.{slice_get-map, slice_get-get_or, slice_get_within, get_or_from_slice_get}
-use Rattle.ops.specs.Number.{Number}
-use Rattle.rule_core.specs.declared.rule.Rule.{Rule}
-use Rattle.rule_core.specs.declared.rule.Statement.{Statement}
-use Rattle.rule_core.specs.declared.rule.Op.TheVariants.{Copy}
+use Rattle.blast_rule.proofs.Common.{◌≡◌, ℕ, pos, zero, suc, ◌+◌, ◌<◌, List, [], ◌∷◌, length, map, take, Some, None, refl, sym, ap, ◌∙◌, arith, get_or, slice_get, slice_index, option_map, length-map, slice_get-map, slice_get-get_or, slice_get_within, get_or_from_slice_get, Number, Rule, Statement, Copy, Term, Node, IsTermOf, source_assigns, term_register, term_constant, term_choice, name, unary, left, right, IsTyping, IsRule, MayBeWitness, InputsFit, ConstantsFit, TargetChoicesFit, ValuesFit, Contains-from_get, term_class_stands, measured_class_stands, witness_term, class_width, Scope, held_at, shape, word_shape, HasWord, NodeIsHeld, TermsAreHeld, term_widths}
 use Rattle.rule_core.specs.declared.rule.Argument.TheVariants as arguments
 use Rattle.rule_core.specs.declared.rule.Register.TheVariants as registers
 use Rattle.rule_core.specs.declared.rule.Name.TheVariants as names
-use Rattle.rule_core.specs.declared.rule.Term.{Term}
-use Rattle.rule_core.specs.declared.rule.Node.{Node}
 use Rattle.rule_core.specs.declared.rule.Node.TheVariants as nodes
-use Rattle.rule_core.specs.Positions.{IsTermOf, source_assigns, term_register, term_constant, term_choice, name, unary, left, right, witness_term as witness_line}
-use Rattle.rule_core.specs.Typing.{IsTyping}
-use Rattle.rule_core.specs.Checks.{IsRule, MayBeWitness}
-use Rattle.rule_core.specs.Valid.{InputsFit, ConstantsFit, TargetChoicesFit}
-use Rattle.rule_core.specs.Readiness.{ValuesFit}
-use Rattle.rule_core.proofs.Members.{Contains-from_get, term_class_stands, measured_class_stands, witness_term}
-use Rattle.rule_core.proofs.Ready.{class_width}
+use Rattle.rule_core.specs.Positions.{witness_term as witness_line}
 use Rattle.blast_value.specs.declared.held.Held.{Held}
-use Rattle.blast_term.specs.declared.scope.Scope.{Scope}
-use Rattle.blast_term.specs.Scope.{held_at}
-use Rattle.blast_rule.specs.Runs.{shape, word_shape}
-use Rattle.blast_term.specs.Terms.{HasWord, NodeIsHeld, TermsAreHeld, term_widths}
 use Rattle.blast_rule.proofs.Ready.{width_at, get_taken}
 
 -- at a place within a list something stands

@@ -1,38 +1,7 @@
 -- Bounds on how many gates there are.
-use Rattle.std.proofs.Common.{◌≡◌, ℕ, zero, suc, ◌+◌, ◌-◌, ◌*◌, ◌^◌, ◌<◌, ◌≤◌, max, List, [], ◌∷◌, ◌++◌, length, map, Some, refl, sym, ap, subst, ◌∙◌, arith, get_or}
-use Rattle.std.specs.Prelude.{slice_get, slice_index, sum_by, flat_map, Contains}
-use Rattle.std.specs.Option.{option_map}
-use Rattle.std.specs.List.{All, fold}
-use Rattle.circuits.specs.Gates.{select_gates}
-use Rattle.std.proofs.Math.Nat.{mul-le-mul_left, mul-le-mul}
-use Rattle.std.proofs.lemmas.List.Elements.{All-nil, All-cons, All-head, All-tail, All-map, All-weaker, All-contains_itself, Contains-append_left}
-use Rattle.std.proofs.lemmas.List.Sums.{sum_by-cons, sum_by-le}
-use Rattle.std.proofs.lemmas.Option.{slice_get-get_or, slice_get_within, slice_get-map, get_or_from_slice_get, same_Some}
-use Rattle.ops.specs.declared.opcode.Opcode.TheVariants.{Add, Sub, Mul, UDiv, SDiv, URem, SRem, Shl, LShr, AShr, And, Or, Xor, UMin, UMax, SMin, SMax}
-use Rattle.ops.specs.declared.opcode.Unary.TheVariants.{Abs, CtPop, CtLz, CtTz}
-use Rattle.ops.specs.declared.conversion.Cast.TheVariants.{Trunc, ZExt, SExt}
-use Rattle.rule_core.specs.declared.rule.Rule.{Rule}
-use Rattle.rule_core.specs.declared.rule.Statement.{Statement}
-use Rattle.rule_core.specs.declared.rule.Operand.{Operand}
-use Rattle.rule_core.specs.declared.rule.Op.{Op}
-use Rattle.rule_core.specs.declared.rule.Op.TheVariants.{Binary, Compare, Unary, Select, Convert, Freeze, Copy}
-use Rattle.rule_core.specs.Typing.{IsTyping}
-use Rattle.rule_core.specs.Checks.{IsRule, MayBeFormula}
-use Rattle.rule_core.specs.declared.rule.Term.{Term}
+use Rattle.blast_rule.proofs.Common.{◌≡◌, ℕ, zero, suc, ◌+◌, ◌-◌, ◌*◌, ◌^◌, ◌<◌, ◌≤◌, max, List, [], ◌∷◌, ◌++◌, length, map, Some, refl, sym, ap, subst, ◌∙◌, arith, get_or, slice_get, slice_index, sum_by, flat_map, Contains, option_map, All, fold, select_gates, mul-le-mul_left, mul-le-mul, All-nil, All-cons, All-head, All-tail, All-map, All-weaker, All-contains_itself, Contains-append_left, sum_by-cons, sum_by-le, slice_get-get_or, slice_get_within, slice_get-map, get_or_from_slice_get, same_Some, Add, Sub, Mul, UDiv, SDiv, URem, SRem, Shl, LShr, AShr, And, Or, Xor, UMin, UMax, SMin, SMax, Abs, CtPop, CtLz, CtTz, Trunc, ZExt, SExt, Rule, Statement, Operand, Op, Binary, Compare, Unary, Select, Convert, Freeze, Copy, IsTyping, IsRule, MayBeFormula, Term, Not, Formula, operands_of, terms_in, classes_of_statement, classes_of_term, IsStatementOf, IsTermOf, Contains-from_get, Contains-flat_map, source_statement, target_statement, term_class_stands, constant_term, witness_term, few_terms, few_formulas, shift-few, count-few, op_gates, statement_gates, widths_of_terms, widths_of_witness, refusal_gates, root_width, most_gates, greatest_width, op_bound, statement_bound, rule_bound, formula_gates, term_bound, formula_bound, choice_bound, ReadsTerms, GatesAreFew, GatesAreBelow, few_choices, node-low, terms-few}
 use Rattle.rule_core.specs.declared.rule.Node.TheVariants as nodes
-use Rattle.rule_core.specs.declared.rule.Function.TheVariants.{Not}
-use Rattle.rule_core.specs.declared.rule.Formula.{Formula}
 use Rattle.rule_core.specs.declared.rule.Formula.TheVariants as formulas_of
-use Rattle.rule_core.specs.Positions.{operands_of, terms_in, classes_of_statement, classes_of_term, IsStatementOf, IsTermOf}
-use Rattle.rule_core.proofs.Members.{Contains-from_get, Contains-flat_map, source_statement, target_statement, term_class_stands, constant_term, witness_term}
-use Rattle.rule_core.proofs.Weights.{few_terms, few_formulas}
-use Rattle.blast_value.proofs.Counts.{shift-few, count-few}
-use Rattle.blast_rule.specs.Gates.{op_gates, statement_gates, widths_of_terms, widths_of_witness, refusal_gates, root_width, most_gates, greatest_width, op_bound, statement_bound, rule_bound}
-use Rattle.blast_term.specs.Gates.{formula_gates, term_bound, formula_bound, choice_bound}
-use Rattle.blast_term.specs.Terms.{ReadsTerms}
-use Rattle.blast_rule.specs.Laws.{GatesAreFew, GatesAreBelow}
-use Rattle.blast_setting.proofs.Few.{few_choices}
-use Rattle.blast_term.proofs.Counts.{node-low, terms-few}
 
 square_mono : (n k : ℕ) → n ≤ k → n * n ≤ k * k
 square_mono n k h = mul-le-mul h h

@@ -1,23 +1,7 @@
 -- The effects of the halves, shown from literals.
-use Rattle.std.proofs.Common.{◌≡◌, ℕ, suc, ◌+◌, ◌-◌, ◌<◌, Bool, List, [], ◌∷◌, ◌++◌, length, map, Some, refl, sym, ap, ◌∙◌, arith, get_or}
-use Rattle.std.specs.Prelude.{slice_get, slice_index}
-use Rattle.std.proofs.lemmas.List.{length-map, take_more, take_all}
-use Rattle.std.proofs.lemmas.Option.{slice_get-map, slice_get-get_or, get_or_from_slice_get}
-use Rattle.std.specs.Option.{option_map}
+use Rattle.blast_rule.proofs.Common.{◌≡◌, ℕ, suc, ◌+◌, ◌-◌, ◌<◌, Bool, List, [], ◌∷◌, ◌++◌, length, map, Some, refl, sym, ap, ◌∙◌, arith, get_or, slice_get, slice_index, length-map, take_more, take_all, slice_get-map, slice_get-get_or, get_or_from_slice_get, option_map, Rule, Statement, source_assigns, assigns_root, name, IsTyping, IsRule, GivesLast, temporaries_of, ValuesFit, source_statement, class_stands, class_width, held_value, root_width, shape}
 use Rattle.ops.specs.declared.value.Effect.TheVariants as effects
-use Rattle.rule_core.specs.declared.rule.Rule.{Rule}
-use Rattle.rule_core.specs.declared.rule.Statement.{Statement}
-use Rattle.rule_core.specs.Positions.{source_assigns, assigns_root, name}
-use Rattle.rule_core.specs.Typing.{IsTyping}
-use Rattle.rule_core.specs.Checks.{IsRule}
-use Rattle.rule_core.specs.Run.{GivesLast, temporaries_of}
-use Rattle.rule_core.specs.Readiness.{ValuesFit}
-use Rattle.rule_core.proofs.Members.{source_statement, class_stands}
-use Rattle.rule_core.proofs.Ready.{class_width}
 use Rattle.blast_value.specs.declared.held.Held.{Held}
-use Rattle.blast_value.specs.Effect.{held_value}
-use Rattle.blast_rule.specs.Gates.{root_width}
-use Rattle.blast_rule.specs.Runs.{shape}
 use Rattle.blast_rule.proofs.Counts.{root_class}
 
 -- the source is its temporaries and, last, the root's statement

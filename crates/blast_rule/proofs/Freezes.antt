@@ -1,26 +1,8 @@
 -- The value of a freeze, shown from literals.
-use Rattle.std.proofs.Common.{◌≡◌, ℕ, Bool, true, false, if◌then◌else◌, List, map, length, Some, sym, ap, subst, ◌∙◌}
-use Rattle.std.specs.Prelude.{slice_get, slice_index}
-use Rattle.std.proofs.lemmas.Option.{same_Some, get_or_from_slice_get}
-use Rattle.ops.specs.Integer.{bits}
-use Rattle.ops.specs.Number.{Number}
-use Rattle.ops.specs.declared.value.Value.{Value}
-use Rattle.ops.specs.declared.value.Value.TheVariants.{Poison}
-use Rattle.ops.specs.declared.value.Effect.{Effect}
+use Rattle.blast_rule.proofs.Common.{◌≡◌, ℕ, Bool, true, false, if◌then◌else◌, List, map, length, Some, sym, ap, subst, ◌∙◌, slice_get, slice_index, same_Some, get_or_from_slice_get, bits, Number, Value, Poison, Effect, select_gates, number, Statement, Operand, Freeze, ChoiceIsReady, OperandIsReady, OpIsReady, StatementIsReady, Given, OperandGives, OpGives, StatementGives, frozen, held_value, number_held, Scope, op_gates, shapes, given_shape}
 use Rattle.ops.specs.declared.value.Effect.TheVariants as effects
-use Rattle.circuits.specs.Gates.{select_gates}
-use Rattle.circuits.specs.Word.{number}
-use Rattle.rule_core.specs.declared.rule.Statement.{Statement}
-use Rattle.rule_core.specs.declared.rule.Operand.{Operand}
-use Rattle.rule_core.specs.declared.rule.Op.TheVariants.{Freeze}
-use Rattle.rule_core.specs.Readiness.{ChoiceIsReady, OperandIsReady, OpIsReady, StatementIsReady}
-use Rattle.rule_core.specs.Run.{Held as Registry, Given, OperandGives, OpGives, StatementGives, frozen}
+use Rattle.rule_core.specs.Run.{Held as Registry}
 use Rattle.blast_value.specs.declared.held.Held.{Held}
-use Rattle.blast_value.specs.Effect.{held_value}
-use Rattle.blast_value.specs.Words.{number_held}
-use Rattle.blast_term.specs.declared.scope.Scope.{Scope}
-use Rattle.blast_rule.specs.Gates.{op_gates}
-use Rattle.blast_rule.specs.Runs.{shapes, given_shape}
 use Rattle.blast_rule.proofs.Reading.{word_at}
 
 -- a value is frozen to its own number, or to the chosen one where it is poison

@@ -1,37 +1,12 @@
 -- The effects of both halves, put together from those of their parts.
-use Rattle.std.proofs.Common.{◌≡◌, ℕ, Bool, true, false, if◌then◌else◌, List, [], ◌∷◌, ◌++◌, map, refl, sym, ap, subst, ◌∙◌}
-use Rattle.std.specs.Prelude.{slice_index}
-use Rattle.std.specs.List.{All}
-use Rattle.std.specs.Option.{unwrap_or}
-use Rattle.ops.specs.Number.{Number}
-use Rattle.ops.specs.declared.value.Value.TheVariants.{Poison}
-use Rattle.ops.specs.declared.value.Effect.{Effect}
+use Rattle.blast_rule.proofs.Common.{◌≡◌, ℕ, Bool, true, false, if◌then◌else◌, List, [], ◌∷◌, ◌++◌, map, refl, sym, ap, subst, ◌∙◌, slice_index, All, unwrap_or, Number, Poison, Effect, Ghosts, Keeps, Keeps-trans, Rule, Statement, IsRule, Holds, given_by, at_start, temporaries_of, holding_source, StatementGives, Follows, SourceGives, TargetGives, TargetGoesOn, TemporariesEnd, value_of, Meanings, Setting, Chooses, meanings_at, witness_number, witness_values, witness_width, follows_once, Blasted, held_value, effect_of, IsOwn, IsOwnEffect, Scope, AreTerms, number_held, holds, seen, ending, IsGiven, MeansNames, numbers_chosen, number_chosen, term_widths, AllOwn-kept, values-kept, numbers_held-kept, numbers_of-kept, effect_of-kept, temporaries_same}
 use Rattle.ops.specs.declared.value.Effect.TheVariants as effects
-use Rattle.circuits.specs.declared.state.State.{Ghosts}
-use Rattle.circuits.specs.Circuit.{Keeps}
-use Rattle.circuits.proofs.Kept.{Keeps-trans}
-use Rattle.rule_core.specs.declared.rule.Rule.{Rule}
-use Rattle.rule_core.specs.declared.rule.Statement.{Statement}
-use Rattle.rule_core.specs.Checks.{IsRule}
-use Rattle.rule_core.specs.Run.{Held as Registry, Holds, given_by, at_start, temporaries_of, holding_source, StatementGives, Follows, SourceGives, TargetGives, TargetGoesOn, TemporariesEnd, value_of}
-use Rattle.rule_core.specs.Terms.{Meanings}
-use Rattle.rule_core.specs.Valid.{Setting, Chooses, meanings_at, witness_number, witness_values, witness_width}
-use Rattle.rule_core.proofs.Once.{follows_once}
+use Rattle.rule_core.specs.Run.{Held as Registry}
 use Rattle.blast_value.specs.declared.held.Held.{Held}
-use Rattle.blast_value.specs.declared.held.Blasted.{Blasted}
-use Rattle.blast_value.specs.Effect.{held_value, effect_of, IsOwn, IsOwnEffect}
-use Rattle.blast_term.specs.declared.scope.Scope.{Scope}
-use Rattle.blast_rule.specs.Runs.{AreTerms}
-use Rattle.blast_value.specs.Words.{number_held}
-use Rattle.blast_term.specs.Scope.{holds, seen}
-use Rattle.blast_rule.specs.Runs.{ending, IsGiven}
-use Rattle.blast_term.specs.Terms.{MeansNames, numbers_chosen, number_chosen, term_widths}
-use Rattle.blast_value.proofs.Kept.{AllOwn-kept, values-kept, numbers_held-kept, numbers_of-kept, effect_of-kept}
 use Rattle.blast_rule.proofs.Scopes.{Reads, seen_of, given_of}
 use Rattle.blast_rule.proofs.Shapes.{width_at_place}
 use Rattle.blast_rule.proofs.Runs.{held_after}
 use Rattle.blast_rule.proofs.Steps.{source-gives, target-gives}
-use Rattle.rule_core.proofs.Unchosen.{temporaries_same}
 
 -- where statements end without undefined behaviour, the registers hold these values
 ended : (undefined : Bool) (now held : Registry) → ending undefined now ≡ Holds held → now ≡ held

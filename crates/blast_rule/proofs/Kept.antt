@@ -1,12 +1,5 @@
 -- Where a circuit keeps its older literals, the constants, choices and terms that statements read stay the same.
-use Rattle.std.proofs.Common.{Bool, List, sym, ◌∙◌}
-use Rattle.circuits.specs.declared.state.State.{Ghosts}
-use Rattle.circuits.specs.Circuit.{Keeps}
-use Rattle.rule_core.specs.Run.{Given}
-use Rattle.blast_value.proofs.Kept.{numbers_held-kept, numbers_of-kept}
-use Rattle.blast_term.specs.declared.scope.Scope.{Scope}
-use Rattle.blast_term.specs.Scope.{ScopeIsOwn}
-use Rattle.blast_rule.specs.Runs.{IsGiven}
+use Rattle.blast_rule.proofs.Common.{Bool, List, sym, ◌∙◌, Ghosts, Keeps, Given, numbers_held-kept, numbers_of-kept, Scope, ScopeIsOwn, IsGiven}
 
 module _ {C L : Type 0} {state : Ghosts C L} {old new : C} (keeps : Keeps state old new) where
   pub given-kept : (inputs : List Bool) → state.admits old inputs → (s : Scope L) (given : Given) → ScopeIsOwn (state.has_literal old) s → IsGiven (state.value old inputs) s given → IsGiven (state.value new inputs) s given

@@ -1,30 +1,9 @@
 -- The values of registers and of other operands, and whether they may be read.
-use Rattle.std.proofs.Common.{◌≡◌, ℕ, ◌<◌, ◌≤◌, Bool, true, false, List, length, map, Option, Some, None, Result, IfOk, refl, sym, ap, subst, ◌∙◌, arith}
-use Rattle.std.specs.Prelude.{slice_get, slice_index, IsSome, ℤ, if◌then◌else◌}
-use Rattle.std.specs.Option.{option_map}
-use Rattle.std.proofs.lemmas.Option.{slice_get-map, get_or_from_slice_get, same_Some}
-use Rattle.std.proofs.lemmas.Result.{IfOk-weaker}
-use Rattle.ops.specs.Number.{Number}
-use Rattle.ops.specs.Integer.{bits, residue}
-use Rattle.ops.specs.Value.{IsValueOf}
-use Rattle.ops.specs.declared.value.Value.{Value}
-use Rattle.ops.specs.declared.value.Value.TheVariants.{Poison, Bits}
-use Rattle.rule_core.specs.declared.rule.Operand.{Operand}
+use Rattle.blast_rule.proofs.Common.{◌≡◌, ℕ, ◌<◌, ◌≤◌, Bool, true, false, List, length, map, Option, Some, None, Result, IfOk, refl, sym, ap, subst, ◌∙◌, arith, slice_get, slice_index, IsSome, ℤ, if◌then◌else◌, option_map, slice_get-map, get_or_from_slice_get, same_Some, IfOk-weaker, Number, bits, residue, IsValueOf, Value, Poison, Bits, Operand, Register, value_of, Given, ArgumentGives, OperandGives, OperandIsReady, number_or_zero, value_at, number_of, held_value, Scope, held_at, seen, shape, shapes, word_shape, given_shape, IsGiven, word_value, number_held}
 use Rattle.rule_core.specs.declared.rule.Argument.TheVariants as arguments
-use Rattle.rule_core.specs.declared.rule.Register.{Register}
 use Rattle.rule_core.specs.declared.rule.Register.TheVariants as registers
 use Rattle.rule_core.specs.Run as run
-use Rattle.rule_core.specs.Run.{value_of, Given, ArgumentGives, OperandGives}
-use Rattle.rule_core.specs.Readiness.{OperandIsReady}
-use Rattle.rule_core.specs.Terms.{number_or_zero, value_at}
-use Rattle.circuits.specs.Word.{number_of}
 use Rattle.blast_value.specs.declared.held.Held.{Held}
-use Rattle.blast_value.specs.Effect.{held_value}
-use Rattle.blast_term.specs.declared.scope.Scope.{Scope}
-use Rattle.blast_term.specs.Scope.{held_at, seen}
-use Rattle.blast_rule.specs.Runs.{shape, shapes, word_shape, given_shape, IsGiven}
-use Rattle.blast_value.specs.Words.{word_value}
-use Rattle.blast_value.specs.Words.{number_held}
 
 module _ {L : Type 0} (r : Scope L) where
   value_of-seen : (value : L → Bool) (reg : Register) → value_of (seen value r) reg ≡ option_map (held_value value) (held_at r reg)

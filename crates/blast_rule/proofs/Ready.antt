@@ -1,26 +1,8 @@
 -- The nodes of a rule's terms, precondition and `Wit:` may be built: each thing that they read has literals of the
 -- right width.
-use Rattle.std.proofs.Common.{◌≡◌, ℕ, ◌<◌, ◌≤◌, List, [], length, map, take, Some, refl, sym, ap, ◌∙◌, arith, get_or, get_or-take}
-use Rattle.std.specs.Prelude.{slice_get, slice_index}
-use Rattle.std.specs.Option.{option_map}
-use Rattle.std.proofs.lemmas.List.{length-map, length-take}
-use Rattle.std.proofs.lemmas.Option.{slice_get-get_or, slice_get_within, slice_get-map, get_or_from_slice_get, same_Some}
-use Rattle.rule_core.specs.declared.rule.Rule.{Rule}
-use Rattle.rule_core.specs.declared.rule.Term.{Term}
-use Rattle.rule_core.specs.declared.rule.Node.{Node}
+use Rattle.blast_rule.proofs.Common.{◌≡◌, ℕ, ◌<◌, ◌≤◌, List, [], length, map, take, Some, refl, sym, ap, ◌∙◌, arith, get_or, get_or-take, slice_get, slice_index, option_map, length-map, length-take, slice_get-get_or, slice_get_within, slice_get-map, get_or_from_slice_get, same_Some, Rule, Term, Node, Formula, IsTermOf, TermLine, Line, unary, left, right, term, term_constant, compared_terms, IsTyping, IsRule, MayBeTerm, MayBeFormula, Contains-from_get, term_class_stands, measured_class_stands, constant_term, class_width, Scope, Constant, constant_widths, named_width, HasWord, NodeIsHeld, TermsAreHeld, FormulaIsHeld, FormulasAreHeld, term_widths, named_width-is, are_named, length-named_widths, named_widths-at}
 use Rattle.rule_core.specs.declared.rule.Node.TheVariants as nodes
-use Rattle.rule_core.specs.declared.rule.Formula.{Formula}
 use Rattle.rule_core.specs.declared.rule.Formula.TheVariants as formulas
-use Rattle.rule_core.specs.Positions.{IsTermOf, TermLine, Line, unary, left, right, term, term_constant, compared_terms}
-use Rattle.rule_core.specs.Typing.{IsTyping}
-use Rattle.rule_core.specs.Checks.{IsRule, MayBeTerm, MayBeFormula}
-use Rattle.rule_core.proofs.Members.{Contains-from_get, term_class_stands, measured_class_stands, constant_term}
-use Rattle.rule_core.proofs.Ready.{class_width}
-use Rattle.blast_term.specs.declared.scope.Scope.{Scope}
-use Rattle.blast_setting.specs.declared.named.Kind.TheVariants.{Constant}
-use Rattle.blast_setting.specs.Inputs.{constant_widths, named_width}
-use Rattle.blast_term.specs.Terms.{HasWord, NodeIsHeld, TermsAreHeld, FormulaIsHeld, FormulasAreHeld, term_widths}
-use Rattle.blast_setting.proofs.Widths.{named_width-is, are_named, length-named_widths, named_widths-at}
 
 -- the width of the node at a place
 pub width_at : (typing : List ℕ) (terms : List Term) (a N : ℕ) (x : Term) → slice_get terms a ≡ Some x → slice_get typing x.class ≡ Some N → slice_get (term_widths typing terms) a ≡ Some N

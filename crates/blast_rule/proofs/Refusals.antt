@@ -1,12 +1,5 @@
 -- When an effect doesn't allow another, told by the bits of both.
-use Rattle.std.proofs.Common.{◌≡◌, ℕ, ◌↔◌, ◌==◌, Bool, true, false, not, ◌&&◌, ◌||◌, if◌then◌else◌, refl, sym, ap, ◌∙◌, eq-eqb}
-use Rattle.std.specs.Prelude.{IsTrue}
-use Rattle.std.proofs.lemmas.Bool.{eqb-true}
-use Rattle.ops.specs.Integer.{bits}
-use Rattle.ops.specs.Value.{AllowsEffect}
-use Rattle.ops.specs.declared.value.Value.TheVariants.{Poison}
-use Rattle.ops.specs.declared.value.Effect.TheVariants.{Undefined, Gives}
-use Rattle.rule_core.specs.Terms.{number_or_zero}
+use Rattle.blast_rule.proofs.Common.{◌≡◌, ℕ, ◌↔◌, ◌==◌, Bool, true, false, not, ◌&&◌, ◌||◌, if◌then◌else◌, refl, sym, ap, ◌∙◌, eq-eqb, IsTrue, eqb-true, bits, AllowsEffect, Poison, Undefined, Gives, number_or_zero}
 use Rattle.blast_rule.proofs.Whole.{falsity}
 
 other_number : (N M n m : ℕ) → M ≡ N → IsTrue (not (n == m)) ↔ ¬ (bits M m ≡ bits N n)

@@ -1,25 +1,6 @@
 -- A run of statements as literals, statement by statement.
-use Rattle.std.proofs.Common.{◌≡◌, ℕ, zero, suc, ◌+◌, ◌-◌, ◌<◌, ◌≤◌, Bool, true, false, List, [], ◌∷◌, ◌++◌, length, map, take, Some, refl, sym, ap, subst, ◌∙◌, arith, get_or}
-use Rattle.std.specs.Prelude.{slice_get}
-use Rattle.std.specs.List.{All}
-use Rattle.std.proofs.lemmas.List.{map-append, length-map, take_more, take_all}
-use Rattle.std.proofs.lemmas.List.Sums.{sum_by_push, sum_by-cons}
-use Rattle.std.proofs.lemmas.Nat.{pow_pos}
-use Rattle.std.proofs.lemmas.Option.{same_Some, slice_get-get_or, slice_get_within, get_or_from_slice_get}
-use Rattle.ops.specs.Value.{IsValueOf}
-use Rattle.circuits.specs.declared.state.State.{Ghosts}
-use Rattle.circuits.specs.Circuit.{Keeps}
-use Rattle.rule_core.specs.declared.rule.Statement.{Statement}
-use Rattle.rule_core.specs.Run.{Given, StatementGives, Follows, holding_source, holding_target}
-use Rattle.rule_core.specs.Readiness.{ValuesFit}
-use Rattle.rule_core.proofs.Ready.{ValuesFit-push}
+use Rattle.blast_rule.proofs.Common.{◌≡◌, ℕ, zero, suc, ◌+◌, ◌-◌, ◌<◌, ◌≤◌, Bool, true, false, List, [], ◌∷◌, ◌++◌, length, map, take, Some, refl, sym, ap, subst, ◌∙◌, arith, get_or, slice_get, All, map-append, length-map, take_more, take_all, sum_by_push, sum_by-cons, pow_pos, same_Some, slice_get-get_or, slice_get_within, get_or_from_slice_get, IsValueOf, Ghosts, Keeps, Statement, Given, StatementGives, Follows, holding_source, holding_target, ValuesFit, ValuesFit-push, Blasted, held_value, effect_of, IsOwn, run_gates, statement_gates, shape, ending, holds, values-kept}
 use Rattle.blast_value.specs.declared.held.Held.{Held}
-use Rattle.blast_value.specs.declared.held.Blasted.{Blasted}
-use Rattle.blast_value.specs.Effect.{held_value, effect_of, IsOwn}
-use Rattle.blast_rule.specs.Gates.{run_gates, statement_gates}
-use Rattle.blast_rule.specs.Runs.{shape, ending}
-use Rattle.blast_term.specs.Scope.{holds}
-use Rattle.blast_value.proofs.Kept.{values-kept}
 use Rattle.blast_rule.proofs.Steps.{follows-push}
 
 -- the literals of the register of a statement, after it

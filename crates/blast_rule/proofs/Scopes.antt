@@ -1,14 +1,6 @@
 -- The parts of a scope.
-use Rattle.std.proofs.Common.{◌≡◌, Bool, List, length, map, refl, sym, ap, ◌∙◌}
-use Rattle.ops.specs.Integer.{bits}
-use Rattle.circuits.specs.Word.{number_of}
-use Rattle.rule_core.specs.Run.{Given}
-use Rattle.rule_core.specs.Terms.{number_or_zero}
+use Rattle.blast_rule.proofs.Common.{◌≡◌, Bool, List, length, map, refl, sym, ap, ◌∙◌, bits, number_of, Given, number_or_zero, Scope, number_held, holds, seen, word_shape, given_shape, IsGiven}
 use Rattle.blast_value.specs.declared.held.Held.{Held}
-use Rattle.blast_term.specs.declared.scope.Scope.{Scope}
-use Rattle.blast_value.specs.Words.{number_held}
-use Rattle.blast_term.specs.Scope.{holds, seen}
-use Rattle.blast_rule.specs.Runs.{word_shape, given_shape, IsGiven}
 
 -- the scope has these literals of registers, and these words
 pub record Reads {L : Type 0} (s : Scope L) (inputs source target : List (Held L)) (constants choices terms : List (List L)) : Type 0 where

@@ -1,30 +1,6 @@
 -- Literals of the right widths may be read as what statements ask for.
-use Rattle.std.proofs.Common.{◌≡◌, ℕ, zero, suc, ◌<◌, List, [], ◌∷◌, length, map, take, Some, refl, sym, ap, subst, ◌∙◌, arith, get_or}
-use Rattle.std.specs.Prelude.{slice_get, slice_index}
-use Rattle.std.specs.Option.{option_map, option_map_or}
-use Rattle.std.proofs.lemmas.List.{length-map}
-use Rattle.std.proofs.lemmas.Nat.{pow_pos}
-use Rattle.std.proofs.lemmas.Option.{same_Some, slice_get-map, slice_get-get_or, slice_get_within, get_or_from_slice_get}
-use Rattle.ops.specs.Value.{IsValueOf}
-use Rattle.ops.specs.Integer.{bits}
-use Rattle.rule_core.specs.declared.rule.Rule.{Rule}
-use Rattle.rule_core.specs.declared.rule.Term.{Term}
-use Rattle.rule_core.specs.Typing.{IsTyping}
-use Rattle.rule_core.specs.Checks.{IsRule}
-use Rattle.rule_core.specs.Run.{at_start, temporaries_of}
-use Rattle.rule_core.specs.Valid.{InputsFit, ConstantsFit, TargetChoicesFit, SourceChoicesFit, Setting, SettingFits, witness_number}
-use Rattle.rule_core.specs.Readiness.{TermsFit, GivenFits}
-use Rattle.rule_core.proofs.Ready.{ValuesFit-none}
-use Rattle.rule_core.proofs.Givens.{source_given, given_before_root, target_given}
-use Rattle.rule_core.proofs.Witnesses.{choices_fit}
+use Rattle.blast_rule.proofs.Common.{◌≡◌, ℕ, zero, suc, ◌<◌, List, [], ◌∷◌, length, map, take, Some, refl, sym, ap, subst, ◌∙◌, arith, get_or, slice_get, slice_index, option_map, option_map_or, length-map, pow_pos, same_Some, slice_get-map, slice_get-get_or, slice_get_within, get_or_from_slice_get, IsValueOf, bits, Rule, Term, IsTyping, IsRule, at_start, temporaries_of, InputsFit, ConstantsFit, TargetChoicesFit, SourceChoicesFit, Setting, SettingFits, witness_number, TermsFit, GivenFits, ValuesFit-none, source_given, given_before_root, target_given, choices_fit, widths_of, input_widths, constant_widths, choice_widths, widths_of_terms, shape, word_shape, term_widths, FitAll, IsNumberOf, inputs_fit, constants_fit, target_choices_fit}
 use Rattle.blast_value.specs.declared.held.Held.{Held}
-use Rattle.blast_value.specs.Effect.{widths_of}
-use Rattle.blast_setting.specs.Inputs.{input_widths, constant_widths, choice_widths}
-use Rattle.blast_rule.specs.Gates.{widths_of_terms}
-use Rattle.blast_rule.specs.Runs.{shape, word_shape}
-use Rattle.blast_term.specs.Terms.{term_widths}
-use Rattle.blast_setting.proofs.Written.{FitAll}
-use Rattle.blast_setting.proofs.Settings.{IsNumberOf, inputs_fit, constants_fit, target_choices_fit}
 
 -- things of these sizes fit what is asked at these widths
 module _ {M X : Type 0} (Fits : ℕ → X → Type 0) (size : M → ℕ) (stand : M → X) (fits : (m : M) → Fits (size m) (stand m)) where

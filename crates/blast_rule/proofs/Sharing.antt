@@ -1,12 +1,5 @@
 -- How many gates the parts of a rule's halves have together, where the temporaries are built once.
-use Rattle.std.proofs.Common.{◌≡◌, ℕ, ◌+◌, ◌-◌, ◌<◌, ◌≤◌, List, length, Some, refl, sym, ap, ◌∙◌, arith, get_or}
-use Rattle.std.specs.Prelude.{slice_get}
-use Rattle.std.proofs.lemmas.List.Sums.{sum_by_push}
-use Rattle.std.proofs.lemmas.Option.{slice_get-get_or}
-use Rattle.rule_core.specs.declared.rule.Rule.{Rule}
-use Rattle.rule_core.specs.declared.rule.Statement.{Statement}
-use Rattle.rule_core.specs.Run.{temporaries_of}
-use Rattle.blast_rule.specs.Gates.{run_gates, statement_gates, root_gates}
+use Rattle.blast_rule.proofs.Common.{◌≡◌, ℕ, ◌+◌, ◌-◌, ◌<◌, ◌≤◌, List, length, Some, refl, sym, ap, ◌∙◌, arith, get_or, slice_get, sum_by_push, slice_get-get_or, Rule, Statement, temporaries_of, run_gates, statement_gates, root_gates}
 use Rattle.blast_rule.proofs.Effects.{parts, last_statement}
 
 -- the gates of the source are those of its temporaries and of the root's statement

@@ -1,38 +1,9 @@
 -- The effect of a statement, by the values of its operands.
-use Rattle.std.proofs.Common.{◌≡◌, ℕ, Bool, true, false, ◌||◌, if◌then◌else◌, List, [], ◌∷◌, map, length, Some, refl, sym, ap, subst, ◌∙◌, arith}
-use Rattle.std.specs.Prelude.{slice_get}
-use Rattle.std.specs.List.{All, AllZip}
-use Rattle.std.proofs.lemmas.List.Elements.{All-nil, All-cons, All-from_recursion}
-use Rattle.std.proofs.lemmas.Option.{same_Some, get_or_from_slice_get}
-use Rattle.ops.specs.Value.{HasWidth}
-use Rattle.ops.specs.declared.conversion.Cast.{Cast}
-use Rattle.ops.specs.Integer.{bits}
-use Rattle.ops.specs.declared.value.Value.{Value}
-use Rattle.ops.specs.declared.value.Value.TheVariants.{Poison}
-use Rattle.ops.specs.declared.value.Effect.{Effect}
+use Rattle.blast_rule.proofs.Common.{◌≡◌, ℕ, Bool, true, false, ◌||◌, if◌then◌else◌, List, [], ◌∷◌, map, length, Some, refl, sym, ap, subst, ◌∙◌, arith, slice_get, All, AllZip, All-nil, All-cons, All-from_recursion, same_Some, get_or_from_slice_get, HasWidth, Cast, bits, Value, Poison, Effect, Ghosts, Keeps, number_of, Statement, Operand, Op, Binary, Compare, Unary, Select, Convert, Freeze, Copy, operands_of, OperandIsReady, OpIsReady, Given, OperandGives, OpGives, StatementGives, Blasted, Instruction, Takes, HasEffect, cast_gates, gates_of, greatest, held_value, effect_of, widths_of, IsOwn, IsOwnEffect, Scope, op_gates, instruction_of, shapes, given_shape, IsGiven, HoldsOperand, seen, held_value-kept}
 use Rattle.ops.specs.declared.value.Effect.TheVariants as effects
-use Rattle.circuits.specs.declared.state.State.{Ghosts}
-use Rattle.circuits.specs.Circuit.{Keeps}
-use Rattle.circuits.specs.Word.{number_of}
-use Rattle.rule_core.specs.declared.rule.Statement.{Statement}
-use Rattle.rule_core.specs.declared.rule.Operand.{Operand}
-use Rattle.rule_core.specs.declared.rule.Op.{Op}
-use Rattle.rule_core.specs.declared.rule.Op.TheVariants.{Binary, Compare, Unary, Select, Convert, Freeze, Copy}
-use Rattle.rule_core.specs.Positions.{operands_of}
-use Rattle.rule_core.specs.Readiness.{OperandIsReady, OpIsReady}
-use Rattle.rule_core.specs.Run.{Held as Registry, Given, OperandGives, OpGives, StatementGives}
+use Rattle.rule_core.specs.Run.{Held as Registry}
 use Rattle.blast_value.specs.declared.held.Held.{Held}
-use Rattle.blast_value.specs.declared.held.Blasted.{Blasted}
-use Rattle.blast_value.specs.declared.instruction.Instruction.{Instruction}
 use Rattle.blast_value.specs.declared.instruction.Instruction.TheVariants as instructions
-use Rattle.blast_value.specs.Meaning.{Takes, HasEffect}
-use Rattle.blast_value.specs.Gates.{cast_gates, gates_of, greatest}
-use Rattle.blast_value.specs.Effect.{held_value, effect_of, widths_of, IsOwn, IsOwnEffect}
-use Rattle.blast_term.specs.declared.scope.Scope.{Scope}
-use Rattle.blast_rule.specs.Gates.{op_gates}
-use Rattle.blast_rule.specs.Runs.{instruction_of, shapes, given_shape, IsGiven, HoldsOperand}
-use Rattle.blast_term.specs.Scope.{seen}
-use Rattle.blast_value.proofs.Kept.{held_value-kept}
 
 -- a list that is related to another element by element, where that has a first element
 uncons : {A B : Type 0} (R : A → B → Type 0) (x : A) (xs : List A) (ys : List B) → AllZip R (x ∷ xs) ys → (y : B) × (rest : List B) × (ys ≡ y ∷ rest) × R x y × AllZip R xs rest

@@ -1,15 +1,7 @@
 -- Statements that run one after the other.
-use Rattle.std.proofs.Common.{◌≡◌, ℕ, ◌-◌, Bool, true, false, if◌then◌else◌, List, [], ◌∷◌, ◌++◌, length, length-append, Some, refl, sym, ap, subst, arith}
-use Rattle.std.specs.Prelude.{slice_get}
-use Rattle.ops.specs.Number.{Number}
-use Rattle.ops.specs.declared.value.Value.{Value}
-use Rattle.ops.specs.declared.value.Effect.{Effect}
+use Rattle.blast_rule.proofs.Common.{◌≡◌, ℕ, ◌-◌, Bool, true, false, if◌then◌else◌, List, [], ◌∷◌, ◌++◌, length, length-append, Some, refl, sym, ap, subst, arith, slice_get, Number, Value, Effect, Rule, Statement, Undefines, Holds, GoesOn, Leads, GivesLast, Given, given_by, at_start, temporaries_of, holding_source, holding_target, StatementGives, Follows, TemporariesEnd, SourceGives, TargetGoesOn, TargetGives, Ending, follows-stops, ending}
 use Rattle.ops.specs.declared.value.Effect.TheVariants as effects
-use Rattle.rule_core.specs.declared.rule.Rule.{Rule}
-use Rattle.rule_core.specs.declared.rule.Statement.{Statement}
-use Rattle.rule_core.specs.Run.{Held, Undefines, Holds, GoesOn, Leads, GivesLast, Given, given_by, at_start, temporaries_of, holding_source, holding_target, StatementGives, Follows, TemporariesEnd, SourceGives, TargetGoesOn, TargetGives, Ending}
-use Rattle.rule_core.proofs.Unchosen.{follows-stops}
-use Rattle.blast_rule.specs.Runs.{ending}
+use Rattle.rule_core.specs.Run.{Held}
 
 -- undefined behaviour where the bit is true, and else the value
 abbrev pub effect : Bool → Value → Effect

@@ -1,23 +1,5 @@
 -- The circuit of a rule as a whole.
-use Rattle.std.proofs.Common.{◌≡◌, ℕ, ◌↔◌, ◌+◌, ◌≤◌, Bool, true, false, ◌&&◌, List, map, Result, Ok, Err, refl, sym, subst, ◌∙◌, arith}
-use Rattle.std.specs.Prelude.{IsTrue, OnOk}
-use Rattle.std.specs.List.{All}
-use Rattle.ops.specs.Number.{Number}
-use Rattle.ops.specs.Value.{AllowsEffect}
-use Rattle.ops.specs.declared.value.Effect.{Effect}
-use Rattle.circuits.specs.declared.state.State.{Ghosts}
-use Rattle.circuits.specs.Circuit.{Keeps}
-use Rattle.rule_core.specs.declared.rule.Rule.{Rule}
-use Rattle.rule_core.specs.Typing.{IsTyping}
-use Rattle.rule_core.specs.Checks.{IsRule}
-use Rattle.rule_core.specs.Terms.{PreconditionHolds}
-use Rattle.rule_core.specs.Valid.{Setting, SettingFits, HaveEffects}
-use Rattle.rule_core.specs.Laws.{RulesHaveOneOutcome}
-use Rattle.blast_value.specs.declared.held.Blasted.{Blasted}
-use Rattle.blast_value.specs.Effect.{effect_of, IsOwnEffect}
-use Rattle.blast_rule.specs.Parts.{Refutes}
-use Rattle.blast_value.specs.Words.{number_held}
-use Rattle.blast_value.proofs.Kept.{numbers_held-kept, effect_of-kept}
+use Rattle.blast_rule.proofs.Common.{◌≡◌, ℕ, ◌↔◌, ◌+◌, ◌≤◌, Bool, true, false, ◌&&◌, List, map, Result, Ok, Err, refl, sym, subst, ◌∙◌, arith, IsTrue, OnOk, All, Number, AllowsEffect, Effect, Ghosts, Keeps, Rule, IsTyping, IsRule, PreconditionHolds, Setting, SettingFits, HaveEffects, RulesHaveOneOutcome, Blasted, effect_of, IsOwnEffect, Refutes, number_held, numbers_held-kept, effect_of-kept}
 
 pub falsity : IsTrue false → ⊥
 falsity h = cc

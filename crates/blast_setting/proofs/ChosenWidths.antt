@@ -1,21 +1,5 @@
 -- The choices of statements: the place and the width of each, and those of a list of statements.
-use Rattle.std.proofs.Common.{◌≡◌, ℕ, ◌+◌, ◌<◌, List, [], ◌∷◌, ◌++◌, length, map, take, Some, sym, ap, subst, ◌∙◌, arith, append-nil, get_or}
-use Rattle.std.specs.Prelude.{slice_get, slice_index, Contains}
-use Rattle.std.specs.Option.{option_map}
-use Rattle.std.proofs.lemmas.List.{get_or-map, map-append, take_more}
-use Rattle.std.proofs.lemmas.List.Concat.{flat_map-cons}
-use Rattle.std.proofs.lemmas.List.FromFn.{get_or-range_with_len}
-use Rattle.std.proofs.lemmas.Grind.{flat_map-append}
-use Rattle.std.proofs.lemmas.Option.{slice_get-get_or, slice_get-map, get_or_from_slice_get}
-use Rattle.rule_core.specs.declared.rule.Rule.{Rule}
-use Rattle.rule_core.specs.declared.rule.Statement.{Statement}
-use Rattle.rule_core.specs.Checks.{ChoicesInOrder}
-use Rattle.rule_core.specs.declared.rule.Choice.{Choice}
-use Rattle.rule_core.specs.Positions.{choices_of, choices_among, classes_of, IsStatementOf, LeavesOpen}
-use Rattle.rule_core.specs.Typing.{IsTyping}
-use Rattle.rule_core.proofs.Members.{Contains-from_get, Contains-flat_map, flat_map-from, target_statement, class_stands, operand_class_stands, choice_opens, reads_undef, freezes}
-use Rattle.blast_setting.specs.Inputs.{widths_chosen}
-use Rattle.blast_setting.specs.Names.{HaveWidths}
+use Rattle.blast_setting.proofs.Common.{◌≡◌, ℕ, ◌+◌, ◌<◌, List, [], ◌∷◌, ◌++◌, length, map, take, Some, sym, ap, subst, ◌∙◌, arith, append-nil, get_or, slice_get, slice_index, Contains, option_map, get_or-map, map-append, take_more, flat_map-cons, get_or-range_with_len, flat_map-append, slice_get-get_or, slice_get-map, get_or_from_slice_get, Rule, Statement, ChoicesInOrder, Choice, choices_of, choices_among, classes_of, IsStatementOf, LeavesOpen, IsTyping, Contains-from_get, Contains-flat_map, flat_map-from, target_statement, class_stands, operand_class_stands, choice_opens, reads_undef, freezes, widths_chosen, HaveWidths}
 
 -- choice k of the statements stands at place k among them
 pub choice_at : (statements : List Statement) (k : ℕ) → ChoicesInOrder statements → k < length (choices_among statements)

@@ -1,20 +1,7 @@
 -- A rule has few inputs, constants and choices, bounded by how many statements it has.
-use Rattle.std.proofs.Common.{ℕ, zero, suc, ◌*◌, ◌<◌, ◌≤◌, List, [], ◌∷◌, ◌++◌, length, length-append, arith}
-use Rattle.std.specs.Prelude.{flat_map}
-use Rattle.std.proofs.lemmas.Option.{slice_get_within}
-use Rattle.rule_core.specs.declared.rule.Rule.{Rule}
-use Rattle.rule_core.specs.declared.rule.Statement.{Statement}
-use Rattle.rule_core.specs.declared.rule.Operand.{Operand}
-use Rattle.rule_core.specs.declared.rule.Op.{Op}
-use Rattle.rule_core.specs.declared.rule.Op.TheVariants.{Binary, Compare, Unary, Select, Convert, Freeze, Copy}
-use Rattle.rule_core.specs.declared.rule.Argument.{Argument}
+use Rattle.blast_setting.proofs.Common.{ℕ, zero, suc, ◌*◌, ◌<◌, ◌≤◌, List, [], ◌∷◌, ◌++◌, length, arith, flat_map, slice_get_within, Rule, Statement, Operand, Op, Binary, Compare, Unary, Select, Convert, Freeze, Copy, Argument, Choice, operands_of, operands_among, undef_in, frozen_in, choices_of, choices_among, IsRule, StandsAt, Kind, Input, Constant, argument_of}
+use Rattle.std.proofs.Common.{length-append}
 use Rattle.rule_core.specs.declared.rule.Argument.TheVariants as arguments
-use Rattle.rule_core.specs.declared.rule.Choice.{Choice}
-use Rattle.rule_core.specs.Positions.{operands_of, operands_among, undef_in, frozen_in, choices_of, choices_among}
-use Rattle.rule_core.specs.Checks.{IsRule, StandsAt}
-use Rattle.blast_setting.specs.declared.named.Kind.{Kind}
-use Rattle.blast_setting.specs.declared.named.Kind.TheVariants.{Input, Constant}
-use Rattle.blast_setting.specs.Inputs.{argument_of}
 use Rattle.blast_setting.proofs.Widths.{count_of}
 
 -- an operation has at most three operands

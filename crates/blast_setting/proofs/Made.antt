@@ -1,20 +1,6 @@
 -- A setting as literals, which is made in three steps: inputs, constants, choices.
-use Rattle.std.proofs.Common.{◌≡◌, ℕ, ◌+◌, Bool, List, map, drop, sum_by, refl, ap, ◌∙◌}
-use Rattle.std.specs.List.{All}
-use Rattle.std.proofs.lemmas.List.{drop-drop}
-use Rattle.circuits.specs.declared.state.State.{Ghosts}
-use Rattle.circuits.specs.Circuit.{Keeps}
-use Rattle.circuits.proofs.Kept.{Keeps-trans}
-use Rattle.rule_core.specs.declared.rule.Rule.{Rule}
-use Rattle.blast_value.specs.declared.held.Held.{Held}
-use Rattle.blast_value.specs.Effect.{held_value, IsOwn}
-use Rattle.blast_setting.specs.declared.setting_bits.SettingBits.{SettingBits}
-use Rattle.blast_setting.specs.SettingBits.{setting_held, SettingIsOwn}
-use Rattle.blast_setting.specs.Inputs.{input_widths, constant_widths, choice_widths, value_bits, number_bits, input_bits}
-use Rattle.blast_setting.specs.Settings.{values_read, numbers_read, behind_inputs, behind_constants, setting_of}
-use Rattle.blast_value.specs.Words.{number_held}
+use Rattle.blast_setting.proofs.Common.{◌≡◌, ℕ, ◌+◌, Bool, List, map, drop, sum_by, refl, ap, ◌∙◌, All, drop-drop, Ghosts, Keeps, Keeps-trans, Rule, Held, held_value, IsOwn, SettingBits, setting_held, SettingIsOwn, input_widths, constant_widths, choice_widths, value_bits, number_bits, input_bits, values_read, numbers_read, behind_inputs, behind_constants, setting_of, number_held, values-kept, numbers_held-kept, AllAll-kept, AllOwn-kept}
 use Rattle.blast_setting.proofs.Settings.{same_setting}
-use Rattle.blast_value.proofs.Kept.{values-kept, numbers_held-kept, AllAll-kept, AllOwn-kept}
 
 module _ {C L : Type 0} {state : Ghosts C L} (rule : Rule) (typing : List ℕ) (start first second third : C)
     (k1 : Keeps state start first) (k2 : Keeps state first second) (k3 : Keeps state second third) (none : state.inputs_made start ≡ 0) where

@@ -1,20 +1,5 @@
 -- The inputs of a circuit, made one by one.
-use Rattle.std.proofs.Common.{◌≡◌, ℕ, suc, ◌+◌, ◌<◌, ◌≤◌, Bool, false, List, [], ◌∷◌, ◌++◌, length, map, take, drop, Some, refl, sym, ap, subst, ◌∙◌, append_assoc, append-nil, arith, get_or}
-use Rattle.std.specs.Prelude.{slice_get, sum_by}
-use Rattle.std.specs.List.{All}
-use Rattle.std.proofs.lemmas.List.{map-append, length-map, length_push, drop-drop, take_more, take_all, drop_all}
-use Rattle.std.proofs.lemmas.List.Sums.{sum_by_push}
-use Rattle.std.proofs.lemmas.Option.{slice_get_within, get_or_from_slice_get}
-use Rattle.std.proofs.lemmas.List.Elements.{All-push}
-use Rattle.circuits.specs.declared.state.State.{Ghosts}
-use Rattle.circuits.specs.Circuit.{Keeps}
-use Rattle.circuits.specs.Word.{number, number_of}
-use Rattle.circuits.proofs.Kept.{All-kept, map-kept, Keeps-trans}
-use Rattle.circuits.proofs.Words.{number-push}
-use Rattle.blast_value.specs.Effect.{held_value}
-use Rattle.ops.specs.Number.{Number}
-use Rattle.blast_setting.specs.Settings.{value_read, number_read, all_read}
-use Rattle.blast_value.specs.Words.{number_held}
+use Rattle.blast_setting.proofs.Common.{◌≡◌, ℕ, suc, ◌+◌, ◌<◌, ◌≤◌, Bool, false, List, [], ◌∷◌, ◌++◌, length, map, take, drop, Some, refl, sym, ap, subst, ◌∙◌, append_assoc, append-nil, arith, get_or, slice_get, sum_by, All, map-append, length-map, length_push, drop-drop, take_more, take_all, drop_all, sum_by_push, slice_get_within, get_or_from_slice_get, All-push, Ghosts, Keeps, number, number_of, All-kept, map-kept, Keeps-trans, number-push, held_value, Number, value_read, number_read, all_read, number_held}
 use Rattle.blast_setting.proofs.Written.{all_read-next}
 use Rattle.blast_setting.proofs.Words.{number-take_one, get_or-behind}
 

@@ -1,10 +1,5 @@
 -- Things that are read one behind the other: one more is read.
-use Rattle.std.proofs.Common.{◌≡◌, ℕ, ◌+◌, ◌<◌, ◌≤◌, Bool, List, [], ◌∷◌, ◌++◌, length, take, drop, Some, sym, ap, ◌∙◌, append_assoc, append-nil}
-use Rattle.std.specs.Prelude.{slice_get, sum_by}
-use Rattle.std.proofs.lemmas.List.{take_more, take_all, drop_all, drop-drop}
-use Rattle.std.proofs.lemmas.List.Sums.{sum_by_push}
-use Rattle.std.proofs.lemmas.Option.{slice_get_within, get_or_from_slice_get}
-use Rattle.blast_setting.specs.Settings.{all_read}
+use Rattle.blast_setting.proofs.Common.{◌≡◌, ℕ, ◌+◌, ◌<◌, ◌≤◌, Bool, List, [], ◌∷◌, ◌++◌, length, take, drop, Some, sym, ap, ◌∙◌, append_assoc, append-nil, slice_get, sum_by, take_more, take_all, drop_all, drop-drop, sum_by_push, slice_get_within, get_or_from_slice_get, all_read}
 use Rattle.blast_setting.proofs.Written.{all_read-next}
 
 module _ {X : Type 0} (one : ℕ → List Bool → X) (size : ℕ → ℕ) (widths : List ℕ) (bits : List Bool) where

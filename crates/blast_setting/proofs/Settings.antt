@@ -1,27 +1,7 @@
 -- Each setting that is read fits, and each setting that fits is read from some list.
-use Rattle.std.proofs.Common.{◌≡◌, ℕ, ◌+◌, ◌<◌, List, [], ◌∷◌, ◌++◌, length, length-append, take, Bool, Some, refl, sym, ap, subst, ◌∙◌, arith, get_or}
-use Rattle.std.specs.Prelude.{slice_get, slice_index}
-use Rattle.std.proofs.lemmas.List.{length-map, take_more}
-use Rattle.std.proofs.lemmas.Option.{slice_get-get_or, slice_get_within, get_or_from_slice_get, same_Some}
-use Rattle.ops.specs.Number.{Number}
-use Rattle.ops.specs.Value.{IsValueOf}
-use Rattle.ops.specs.declared.value.Value.{Value}
-use Rattle.ops.specs.declared.value.Value.TheVariants.{Bits}
-use Rattle.rule_core.specs.declared.rule.Rule.{Rule}
-use Rattle.rule_core.specs.declared.rule.Statement.{Statement}
-use Rattle.rule_core.specs.Typing.{IsTyping}
-use Rattle.rule_core.specs.Checks.{IsRule}
+use Rattle.blast_setting.proofs.Common.{◌≡◌, ℕ, ◌+◌, ◌<◌, List, [], ◌∷◌, ◌++◌, length, take, Bool, Some, refl, sym, ap, subst, ◌∙◌, arith, get_or, slice_get, slice_index, length-map, take_more, slice_get-get_or, slice_get_within, get_or_from_slice_get, same_Some, Number, IsValueOf, Value, Bits, Rule, Statement, IsTyping, IsRule, Choice, Names, choices_among, chooses, name, source_operand, Setting, InputsFit, ConstantsFit, TargetChoicesFit, Kind, Input, Constant, named_width, named_widths, input_widths, constant_widths, choice_widths, value_bits, number_bits, AreNamed, value_read, number_read, values_read, numbers_read, behind_inputs, behind_constants, ReadSettingsFit, FittingSettingsAreRead}
+use Rattle.std.proofs.Common.{length-append}
 use Rattle.rule_core.specs.declared.rule.Name.TheVariants as names_of
-use Rattle.rule_core.specs.declared.rule.Choice.{Choice}
-use Rattle.rule_core.specs.Positions.{Names, choices_among, chooses, name}
-use Rattle.rule_core.proofs.Members.{source_operand}
-use Rattle.rule_core.specs.Valid.{Setting, InputsFit, ConstantsFit, TargetChoicesFit}
-use Rattle.blast_setting.specs.declared.named.Kind.{Kind}
-use Rattle.blast_setting.specs.declared.named.Kind.TheVariants.{Input, Constant}
-use Rattle.blast_setting.specs.Inputs.{named_width, named_widths, input_widths, constant_widths, choice_widths, value_bits, number_bits}
-use Rattle.blast_setting.specs.Names.{AreNamed}
-use Rattle.blast_setting.specs.Settings.{value_read, number_read, values_read, numbers_read, behind_inputs, behind_constants}
-use Rattle.blast_setting.specs.Laws.{ReadSettingsFit, FittingSettingsAreRead}
 use Rattle.blast_setting.proofs.Widths.{name_of, count_of, naming, operand_width, named_width-is, are_named, length-named_widths, named_widths-at}
 use Rattle.blast_setting.proofs.ChosenWidths.{choice_at, choice_open, choice_width, open_class}
 use Rattle.blast_setting.proofs.Written.{FitAll, written, length-written, read-written, value_read-fits, number_written, length-number_written, read-number_written, number_read-fits, all_written, length-all_written, read-all_written, behind-all_written, all_read-fit, length-all_read}

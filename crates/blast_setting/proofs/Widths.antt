@@ -1,29 +1,8 @@
 -- Which operand reads the k-th input or constant first, and the width of each position that reads it.
-use Rattle.std.proofs.Common.{◌≡◌, ℕ, zero, suc, ◌<◌, Bool, true, false, cond, List, [], ◌∷◌, ◌++◌, ◌+◌, ◌≤◌, length, drop, drop-cons, add-one, Option, Some, None, refl, sym, ap, subst, ◌∙◌, eqb-true, eq-eqb, arith, get_or}
-use Rattle.std.specs.Prelude.{slice_get, slice_index, Contains}
-use Rattle.std.specs.List.{find}
-use Rattle.std.specs.Option.{option_map_or, option_map, option_or}
-use Rattle.std.proofs.lemmas.List.{drop_all}
-use Rattle.std.proofs.lemmas.List.Folds.{find-append}
-use Rattle.std.proofs.lemmas.List.FromFn.{length-map-range_with_len, get_or-map-range_with_len}
-use Rattle.std.proofs.lemmas.Option.{same_Some, slice_get_within, slice_get-get_or, get_or_from_slice_get}
-use Rattle.rule_core.specs.declared.rule.Rule.{Rule}
-use Rattle.rule_core.specs.declared.rule.Statement.{Statement}
-use Rattle.rule_core.specs.declared.rule.Operand.{Operand}
-use Rattle.rule_core.specs.declared.rule.Argument.{Argument}
+use Rattle.blast_setting.proofs.Common.{◌≡◌, ℕ, zero, suc, ◌<◌, Bool, true, false, cond, List, [], ◌∷◌, ◌++◌, ◌+◌, ◌≤◌, length, drop, drop-cons, add-one, Option, Some, None, refl, sym, ap, subst, ◌∙◌, eqb-true, eq-eqb, arith, get_or, slice_get, slice_index, Contains, find, option_map_or, option_map, option_or, drop_all, find-append, length-map-range_with_len, get_or-map-range_with_len, same_Some, slice_get_within, slice_get-get_or, get_or_from_slice_get, Rule, Statement, Operand, Argument, Name, operands_of, operands_among, operands_in, IsOperandAmong, Names, reads, reads_constant, name, IsTyping, IsRule, StandsAt, Contains-from_get, flat_map-from, operand_class_stands, source_operand, class_width, Kind, Input, Constant, argument_of, names, named_width, named_widths, IsNamed, AreNamed}
 use Rattle.rule_core.specs.declared.rule.Argument.TheVariants as arguments
 use Rattle.rule_core.specs.declared.rule.Register.TheVariants as registers
-use Rattle.rule_core.specs.declared.rule.Name.{Name}
 use Rattle.rule_core.specs.declared.rule.Name.TheVariants as names_of
-use Rattle.rule_core.specs.Positions.{operands_of, operands_among, operands_in, IsOperandAmong, Names, reads, reads_constant, name}
-use Rattle.rule_core.specs.Typing.{IsTyping}
-use Rattle.rule_core.specs.Checks.{IsRule, StandsAt}
-use Rattle.rule_core.proofs.Members.{Contains-from_get, flat_map-from, operand_class_stands, source_operand}
-use Rattle.rule_core.proofs.Ready.{class_width}
-use Rattle.blast_setting.specs.declared.named.Kind.{Kind}
-use Rattle.blast_setting.specs.declared.named.Kind.TheVariants.{Input, Constant}
-use Rattle.blast_setting.specs.Inputs.{argument_of, names, named_width, named_widths}
-use Rattle.blast_setting.specs.Names.{IsNamed, AreNamed}
 
 -- what a search finds passes the test and stands in the list
 pub found : {X : Type 0} (p : X → Bool) (xs : List X) (x : X) → find p xs ≡ Some x → Contains xs x × (p x ≡ true)

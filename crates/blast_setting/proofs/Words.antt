@@ -1,8 +1,5 @@
 -- Words of truth values, bit by bit.
-use Rattle.std.proofs.Common.{◌≡◌, ℕ, zero, suc, ◌+◌, ◌*◌, ◌^◌, Bool, false, List, [], ◌∷◌, take, drop, refl, sym, ap, ◌∙◌, add-zero, add-one, arith, get_or}
-use Rattle.std.proofs.Math.Nat.{pow-succ'}
-use Rattle.std.proofs.lemmas.List.{get_or-drop}
-use Rattle.circuits.specs.Word.{bit, number}
+use Rattle.blast_setting.proofs.Common.{◌≡◌, ℕ, zero, suc, ◌+◌, ◌*◌, ◌^◌, Bool, false, List, [], ◌∷◌, take, drop, refl, sym, ap, ◌∙◌, add-zero, add-one, arith, get_or, pow-succ', get_or-drop, bit, number}
 
 -- one more bit of the number; past the end of the list it is 0
 pub number-take_one : (read : List Bool) (i : ℕ) → number (take (i + 1) read) ≡ number (take i read) + 2 ^ i * bit (get_or read i false)

@@ -1,20 +1,6 @@
 -- Values written as lists of truth values, from which they are read again.
-use Rattle.std.proofs.Common.{◌≡◌, ℕ, zero, suc, ◌+◌, ◌*◌, ◌/◌, ◌%◌, ◌^◌, ◌<◌, ◌≤◌, ◌==◌, Bool, true, false, if◌then◌else◌, List, [], ◌∷◌, ◌++◌, length, take, drop, Some, refl, sym, ap, subst, ◌∙◌, arith, get_or, append_assoc, add-zero, add-one, drop-cons}
-use Rattle.std.specs.Prelude.{slice_get, sum_by}
-use Rattle.std.proofs.Math.Nat.{pow-succ', pow-le-pow_right}
-use Rattle.std.proofs.Math.Seq.{take-append_seam, drop-append-add, get_or-append_seam}
-use Rattle.std.proofs.lemmas.List.{length-append, length-take}
-use Rattle.std.proofs.lemmas.List.Sums.{sum_by-cons}
-use Rattle.std.proofs.lemmas.Option.{same_Some, slice_get_within, get_or_from_slice_get}
-use Rattle.ops.specs.Integer.{bits}
-use Rattle.ops.specs.Number.{Number}
-use Rattle.ops.specs.Value.{IsValueOf}
-use Rattle.ops.specs.declared.value.Value.{Value}
-use Rattle.ops.specs.declared.value.Value.TheVariants.{Poison, Bits}
-use Rattle.circuits.specs.Word.{bit, number}
-use Rattle.circuits.proofs.Words.{number-below}
-use Rattle.blast_setting.specs.Settings.{value_read, number_read, all_read}
-use Rattle.blast_setting.specs.Inputs.{number_bits}
+use Rattle.blast_setting.proofs.Common.{◌≡◌, ℕ, zero, suc, ◌+◌, ◌*◌, ◌/◌, ◌%◌, ◌^◌, ◌<◌, ◌≤◌, ◌==◌, Bool, true, false, if◌then◌else◌, List, [], ◌∷◌, ◌++◌, length, take, drop, Some, refl, sym, ap, subst, ◌∙◌, arith, get_or, append_assoc, add-zero, add-one, drop-cons, slice_get, sum_by, pow-succ', pow-le-pow_right, take-append_seam, drop-append-add, get_or-append_seam, length-take, sum_by-cons, same_Some, slice_get_within, get_or_from_slice_get, bits, Number, IsValueOf, Value, Poison, Bits, bit, number, number-below, value_read, number_read, all_read, number_bits}
+use Rattle.std.proofs.lemmas.List.{length-append}
 
 -- the binary digits of a number, the lowest first
 digits : ℕ → ℕ → List Bool

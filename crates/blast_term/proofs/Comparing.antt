@@ -1,16 +1,5 @@
 -- Whether two values are numbers of which a predicate is true, shown from the literals of a comparison.
-use Rattle.std.proofs.Common.{◌≡◌, ℕ, Bool, true, false, not, ◌&&◌, if◌then◌else◌, List, [], ◌∷◌, length, get_or, refl, sym, ap, ◌∙◌, arith}
-use Rattle.ops.specs.Comparison.{comparison, holds}
-use Rattle.ops.specs.Integer.{bits}
-use Rattle.ops.specs.Value.{HasWidth}
-use Rattle.ops.specs.declared.comparison.Pred.{Pred}
-use Rattle.ops.specs.declared.value.Value.TheVariants.{Poison}
-use Rattle.ops.specs.declared.value.Effect.TheVariants.{Undefined, Gives}
-use Rattle.circuits.specs.Word.{number, number_of}
-use Rattle.rule_core.specs.Terms.{compares, number_or_zero, value_given}
-use Rattle.blast_value.specs.declared.held.Held.{Held}
-use Rattle.blast_value.specs.Effect.{held_value}
-use Rattle.blast_value.specs.Gates.{greatest}
+use Rattle.blast_term.proofs.Common.{◌≡◌, ℕ, Bool, true, false, not, ◌&&◌, if◌then◌else◌, List, [], ◌∷◌, length, get_or, refl, sym, ap, ◌∙◌, arith, comparison, holds, bits, HasWidth, Pred, Poison, Undefined, Gives, number, number_of, compares, number_or_zero, value_given, Held, held_value, greatest}
 use Rattle.blast_term.proofs.Functions.{value_or_poison}
 
 and_false : (b : Bool) → (b && false) ≡ false

@@ -1,18 +1,6 @@
 -- Bounds on how many gates the nodes of terms have.
-use Rattle.std.proofs.Common.{ℕ, ◌+◌, ◌-◌, ◌*◌, ◌≤◌, List, [], ◌∷◌, length, map, arith}
-use Rattle.std.specs.Prelude.{slice_index, sum_by}
-use Rattle.std.specs.List.{All}
-use Rattle.circuits.specs.Gates.{select_gates}
-use Rattle.std.proofs.Math.Nat.{mul-le-mul_left, mul-le-mul}
-use Rattle.std.proofs.lemmas.List.Elements.{All-tail}
-use Rattle.std.proofs.lemmas.List.Sums.{sum_by-cons}
-use Rattle.ops.specs.declared.opcode.Opcode.TheVariants.{Add, Sub, Mul, UDiv, SDiv, URem, SRem, Shl, LShr, AShr, And, Or, Xor, UMin, UMax, SMin, SMax}
-use Rattle.rule_core.specs.declared.rule.Term.{Term}
-use Rattle.rule_core.specs.declared.rule.Node.{Node}
+use Rattle.blast_term.proofs.Common.{ℕ, ◌+◌, ◌-◌, ◌*◌, ◌≤◌, List, [], ◌∷◌, length, map, arith, slice_index, sum_by, All, select_gates, mul-le-mul_left, mul-le-mul, All-tail, sum_by-cons, Add, Sub, Mul, UDiv, SDiv, URem, SRem, Shl, LShr, AShr, And, Or, Xor, UMin, UMax, SMin, SMax, Term, Node, Negate, Not, Log2, Abs, shift-few, node_gates, term_gates, terms_gates, numbers_gates, node_bound, term_bound}
 use Rattle.rule_core.specs.declared.rule.Node.TheVariants as nodes
-use Rattle.rule_core.specs.declared.rule.Function.TheVariants.{Negate, Not, Log2, Abs}
-use Rattle.blast_value.proofs.Counts.{shift-few}
-use Rattle.blast_term.specs.Gates.{node_gates, term_gates, terms_gates, numbers_gates, node_bound, term_bound}
 
 -- the bound of a node leaves gates for its number, 0 where it has no value, and for the test whether it has one
 node-few : (N : ℕ) (node : Node) → 1 ≤ N → N ≤ 64 → node_gates N node + N + 1 ≤ node_bound node N

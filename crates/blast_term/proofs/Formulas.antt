@@ -1,14 +1,6 @@
 -- Whether a node of a formula is true, shown from the literals of what it reads.
-use Rattle.std.proofs.Common.{◌≡◌, ℕ, Bool, false, ◌&&◌, ◌||◌, not, List, map, length, Some, sym, ap, ◌∙◌, refl}
-use Rattle.std.specs.Prelude.{slice_get, slice_index_or}
-use Rattle.std.specs.Option.{option_map}
-use Rattle.std.proofs.lemmas.Option.{slice_get-map, same_Some, get_or_from_slice_get}
-use Rattle.ops.specs.declared.comparison.Pred.{Pred}
-use Rattle.rule_core.specs.declared.rule.Formula.{Formula}
+use Rattle.blast_term.proofs.Common.{◌≡◌, ℕ, Bool, false, ◌&&◌, ◌||◌, not, List, map, length, Some, sym, ap, ◌∙◌, refl, slice_get, slice_index_or, option_map, slice_get-map, same_Some, get_or_from_slice_get, Pred, Formula, compares, has_one_bit, is_sign_bit, formula_holds, Held, held_value, widths_of}
 use Rattle.rule_core.specs.declared.rule.Formula.TheVariants as formulas
-use Rattle.rule_core.specs.Terms.{compares, has_one_bit, is_sign_bit, formula_holds}
-use Rattle.blast_value.specs.declared.held.Held.{Held}
-use Rattle.blast_value.specs.Effect.{held_value, widths_of}
 use Rattle.blast_term.proofs.Turns.{value_there}
 
 -- a term that is read has the width that is told of it

@@ -1,22 +1,6 @@
 -- The values of operators and functions of terms, shown from literals.
-use Rattle.std.proofs.Common.{◌≡◌, ℕ, zero, suc, ◌-◌, ◌^◌, ◌%◌, ◌<◌, ◌≤◌, min, inl, inr, nat_lt, Bool, true, false, not, ◌||◌, if◌then◌else◌, List, map, length, replicate, Some, None, refl, subst, ◌∙◌, arith}
-use Rattle.std.proofs.Math.Nat.{mod-eq_of_lt}
-use Rattle.ops.specs.Flags.{no_flags}
-use Rattle.ops.specs.Integer.{bits, minus_one, least}
-use Rattle.ops.specs.Instruction.{instruction, on_poison}
-use Rattle.ops.specs.declared.opcode.Opcode.TheVariants.{Sub, Xor}
-use Rattle.ops.specs.declared.value.Value.{Value}
-use Rattle.ops.specs.declared.value.Value.TheVariants.{Poison}
-use Rattle.ops.specs.declared.value.Effect.TheVariants.{Undefined, Gives}
-use Rattle.circuits.specs.Word.{number, number_of}
-use Rattle.circuits.proofs.Words.{number-all_zero}
-use Rattle.blast_value.specs.declared.held.Held.{Held}
-use Rattle.blast_value.specs.Effect.{held_value}
-use Rattle.std.proofs.Math.Nat.{pow-succ'}
-use Rattle.std.proofs.lemmas.Nat.{pow_pos}
+use Rattle.blast_term.proofs.Common.{◌≡◌, ℕ, zero, suc, ◌-◌, ◌^◌, ◌%◌, ◌<◌, ◌≤◌, min, inl, inr, nat_lt, Bool, true, false, not, ◌||◌, if◌then◌else◌, List, map, length, replicate, Some, None, refl, subst, ◌∙◌, arith, mod-eq_of_lt, no_flags, bits, minus_one, least, instruction, on_poison, Sub, Xor, Value, Poison, Undefined, Gives, number, number_of, number-all_zero, Held, held_value, pow-succ', pow_pos, Negate, Not, Log2, exponent, value_given, function_value, number_or_zero}
 use Rattle.blast_term.proofs.Powers.{nat_le_cases}
-use Rattle.rule_core.specs.declared.rule.Function.TheVariants.{Negate, Not, Log2}
-use Rattle.rule_core.specs.Terms.{exponent, value_given, function_value, number_or_zero}
 
 zero_below : (m : ℕ) → 0 < m → false ≡ nat_lt 0 m → ⊥
 zero_below m some e = let less : nat_lt 0 m ≡ true = grind arith in cc

@@ -1,12 +1,5 @@
 -- Where a circuit keeps its older literals, a scope over these stands for the same as before.
-use Rattle.std.proofs.Common.{◌≡◌, Bool, List, refl, sym, ◌∙◌}
-use Rattle.circuits.specs.declared.state.State.{Ghosts}
-use Rattle.circuits.specs.Circuit.{Keeps}
-use Rattle.rule_core.specs.Terms.{Meanings}
-use Rattle.blast_value.proofs.Kept.{AllOwn-kept, AllAll-kept, values-kept, numbers_held-kept}
-use Rattle.blast_term.specs.declared.scope.Scope.{Scope}
-use Rattle.blast_term.specs.Scope.{seen, ScopeIsOwn}
-use Rattle.blast_term.specs.Terms.{MeansNames}
+use Rattle.blast_term.proofs.Common.{◌≡◌, Bool, List, refl, sym, ◌∙◌, Ghosts, Keeps, Meanings, AllOwn-kept, AllAll-kept, values-kept, numbers_held-kept, Scope, seen, ScopeIsOwn, MeansNames}
 
 module _ {C L : Type 0} {state : Ghosts C L} {old new : C} (keeps : Keeps state old new) where
   pub scope_own-kept : (s : Scope L) → ScopeIsOwn (state.has_literal old) s → ScopeIsOwn (state.has_literal new) s

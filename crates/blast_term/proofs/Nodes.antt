@@ -1,25 +1,7 @@
 -- The value of a node of a term, shown from the literals of what it reads.
-use Rattle.std.proofs.Common.{◌≡◌, ℕ, Bool, List, map, length, Some, sym, ap, ◌∙◌}
-use Rattle.std.specs.Prelude.{slice_get, slice_index}
-use Rattle.std.specs.Option.{option_map, option_map_or, unwrap_or}
-use Rattle.std.proofs.lemmas.Option.{slice_get-map, same_Some}
-use Rattle.ops.specs.Number.{Number}
-use Rattle.ops.specs.Integer.{bits}
-use Rattle.ops.specs.declared.value.Value.TheVariants.{Poison, Bits}
-use Rattle.ops.specs.declared.value.Value.{Value}
-use Rattle.rule_core.specs.declared.rule.Register.{Register}
+use Rattle.blast_term.proofs.Common.{◌≡◌, ℕ, Bool, List, map, length, Some, sym, ap, ◌∙◌, slice_get, slice_index, option_map, option_map_or, unwrap_or, slice_get-map, same_Some, Number, bits, Poison, Bits, Value, Register, Function, Term, value_of, Meanings, number_at, number_or_zero, value_at, function_value, node_gives, term_value, Held, held_value, IsOwn, number_held, word_value, Scope, held_at, seen, ScopeIsOwn, HasWord, MeansNames}
 use Rattle.rule_core.specs.declared.rule.Register.TheVariants as registers
-use Rattle.rule_core.specs.declared.rule.Function.{Function}
-use Rattle.rule_core.specs.declared.rule.Term.{Term}
 use Rattle.rule_core.specs.declared.rule.Node.TheVariants as nodes
-use Rattle.rule_core.specs.Run.{value_of}
-use Rattle.rule_core.specs.Terms.{Meanings, number_at, number_or_zero, value_at, function_value, node_gives, term_value}
-use Rattle.blast_value.specs.declared.held.Held.{Held}
-use Rattle.blast_value.specs.Effect.{held_value, IsOwn}
-use Rattle.blast_value.specs.Words.{number_held, word_value}
-use Rattle.blast_term.specs.declared.scope.Scope.{Scope}
-use Rattle.blast_term.specs.Scope.{held_at, seen, ScopeIsOwn}
-use Rattle.blast_term.specs.Terms.{HasWord, MeansNames}
 use Rattle.blast_term.proofs.Turns.{value_there, own_from_get}
 
 -- a word that is read has the width that is told of it

@@ -1,12 +1,5 @@
 -- The exponent of a power of two, found by a pass over its bits, the lowest first.
-use Rattle.std.proofs.Common.{◌≡◌, ℕ, zero, suc, ◌⊎◌, inl, inr, ◌+◌, ◌*◌, ◌^◌, ◌<◌, ◌≤◌, ◌==◌, Bool, true, false, not, ◌&&◌, if◌then◌else◌, List, Some, None, refl, sym, ap, ◌∙◌, eq-eqb, add-one, arith}
-use Rattle.std.proofs.lemmas.Bool.{eqb-true}
-use Rattle.std.proofs.Math.Nat.{pow-le-pow_right, pow-succ'}
-use Rattle.std.proofs.Math.Pow.{pow-lt}
-use Rattle.std.proofs.lemmas.Nat.{pow_pos}
-use Rattle.circuits.specs.Word.{bit, number}
-use Rattle.rule_core.specs.Terms.{exponent}
-use Rattle.rule_core.proofs.Exponents.{found, not_found}
+use Rattle.blast_term.proofs.Common.{◌≡◌, ℕ, zero, suc, ◌⊎◌, inl, inr, ◌+◌, ◌*◌, ◌^◌, ◌<◌, ◌≤◌, ◌==◌, Bool, true, false, not, ◌&&◌, if◌then◌else◌, List, Some, None, refl, sym, ap, ◌∙◌, eq-eqb, add-one, arith, eqb-true, pow-le-pow_right, pow-succ', pow-lt, pow_pos, bit, number, exponent, found, not_found}
 
 -- n is the number of the first i bits: `none` says whether it is 0, and `one` whether it is a power of two, of k then
 pub record Scanned (i n k : ℕ) (none one : Bool) : Type 0 where

@@ -1,19 +1,6 @@
 -- Whether all values are numbers and a precondition is true.
-use Rattle.std.proofs.Common.{◌≡◌, ℕ, zero, suc, Bool, true, false, not, ◌&&◌, IsTrue, ◌↔◌, if◌then◌else◌, List, [], ◌∷◌, ◌++◌, Some, refl, subst, arith}
-use Rattle.std.specs.Prelude.{slice_get}
-use Rattle.std.specs.Option.{unwrap_or}
-use Rattle.std.proofs.lemmas.Option.{same_Some, slice_get_within}
-use Rattle.ops.specs.Number.{Number}
-use Rattle.rule_core.specs.declared.rule.Rule.{Rule}
-use Rattle.rule_core.specs.declared.rule.Register.{Register}
+use Rattle.blast_term.proofs.Common.{◌≡◌, ℕ, zero, suc, Bool, true, false, not, ◌&&◌, IsTrue, ◌↔◌, if◌then◌else◌, List, [], ◌∷◌, ◌++◌, Some, refl, subst, arith, slice_get, unwrap_or, same_Some, slice_get_within, Number, Rule, Register, value_of, bits, Value, Poison, Formula, HasNumber, PreconditionHolds, constant_values, last_holds, truths_of, PreconditionMet}
 use Rattle.rule_core.specs.declared.rule.Register.TheVariants as registers
-use Rattle.rule_core.specs.Run.{value_of}
-use Rattle.ops.specs.Integer.{bits}
-use Rattle.ops.specs.declared.value.Value.{Value}
-use Rattle.ops.specs.declared.value.Value.TheVariants.{Poison}
-use Rattle.rule_core.specs.declared.rule.Formula.{Formula}
-use Rattle.rule_core.specs.Terms.{HasNumber, PreconditionHolds, constant_values, last_holds, truths_of}
-use Rattle.blast_term.specs.Terms.{PreconditionMet}
 
 abbrev pub AllNumbers : List Value → Type 0
 AllNumbers [] = Unit {0}

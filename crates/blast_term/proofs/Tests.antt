@@ -1,9 +1,5 @@
 -- Tests of one value, shown from its bits.
-use Rattle.std.proofs.Common.{◌≡◌, ℕ, ◌==◌, Bool, true, false, not, ◌&&◌, if◌then◌else◌, Some, None, refl, sym, ap}
-use Rattle.std.specs.Option.{is_some}
-use Rattle.ops.specs.Integer.{bits, least}
-use Rattle.ops.specs.declared.value.Value.TheVariants.{Poison}
-use Rattle.rule_core.specs.Terms.{exponent, has_one_bit, is_sign_bit}
+use Rattle.blast_term.proofs.Common.{◌≡◌, ℕ, ◌==◌, Bool, true, false, not, ◌&&◌, if◌then◌else◌, Some, None, refl, sym, ap, is_some, bits, least, Poison, exponent, has_one_bit, is_sign_bit}
 
 pub one_bit-held : (poison exists : Bool) (N n k : ℕ) → exponent N n ≡ (if exists then Some k else None) → (exists && not poison) ≡ has_one_bit (if poison then Poison else bits N n)
 one_bit-held true true N n k is = refl

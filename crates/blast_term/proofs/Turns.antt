@@ -1,25 +1,6 @@
 -- A loop over the nodes of terms, turn by turn.
-use Rattle.std.proofs.Common.{◌≡◌, ℕ, zero, suc, ◌+◌, ◌<◌, ◌≤◌, Bool, List, [], ◌∷◌, ◌++◌, length, map, take, Some, refl, sym, ap, subst, ◌∙◌, arith, get_or}
-use Rattle.std.specs.Prelude.{slice_get, slice_index, sum_by, IsSome}
-use Rattle.std.specs.List.{All}
-use Rattle.std.proofs.lemmas.List.{take_more, map-append, length-map}
-use Rattle.std.proofs.lemmas.List.Sums.{sum_by_push, sum_by-cons}
-use Rattle.std.proofs.lemmas.Option.{slice_get_within, slice_get-map, get_or_from_slice_get}
-use Rattle.std.specs.Option.{option_map}
-use Rattle.circuits.specs.Gates.{select_gates}
-use Rattle.circuits.specs.Word.{number_of}
-use Rattle.ops.specs.declared.value.Value.TheVariants.{Poison}
-use Rattle.ops.specs.Flags.{no_flags}
-use Rattle.ops.specs.Instruction.{instruction}
-use Rattle.ops.specs.declared.opcode.Opcode.{Opcode}
-use Rattle.rule_core.specs.declared.rule.Term.{Term}
+use Rattle.blast_term.proofs.Common.{◌≡◌, ℕ, zero, suc, ◌+◌, ◌<◌, ◌≤◌, Bool, List, [], ◌∷◌, ◌++◌, length, map, take, Some, refl, sym, ap, subst, ◌∙◌, arith, get_or, slice_get, slice_index, sum_by, IsSome, All, take_more, map-append, length-map, sum_by_push, sum_by-cons, slice_get_within, slice_get-map, get_or_from_slice_get, option_map, select_gates, number_of, Poison, no_flags, instruction, Opcode, Term, Meanings, number_or_zero, value_at, value_given, node_gives, term_value, Held, held_value, widths_of, numbers_gates, number_held, number_chosen}
 use Rattle.rule_core.specs.declared.rule.Node.TheVariants as nodes
-use Rattle.rule_core.specs.Terms.{Meanings, number_or_zero, value_at, value_given, node_gives, term_value}
-use Rattle.blast_value.specs.declared.held.Held.{Held}
-use Rattle.blast_value.specs.Effect.{held_value, widths_of}
-use Rattle.blast_term.specs.Gates.{numbers_gates}
-use Rattle.blast_value.specs.Words.{number_held}
-use Rattle.blast_term.specs.Terms.{number_chosen}
 
 -- what is true of all elements is true of each
 pub own_from_get : {X : Type 0} (P : X → Type 0) (xs : List X) (k : ℕ) (x : X) → All P xs → slice_get xs k ≡ Some x → P x

@@ -1,11 +1,5 @@
 -- The binary digits of a word's number are the word's bits, so bits may be counted in either.
-use Rattle.std.proofs.Common.{◌≡◌, ℕ, ◌+◌, ◌*◌, ◌/◌, ◌%◌, ◌==◌, Bool, true, false, not, cond, List, [], ◌∷◌, map, length, refl, ap, arith}
-use Rattle.std.specs.Prelude.{filter, reverse}
-use Rattle.std.specs.List.{prefix_len}
-use Rattle.std.proofs.lemmas.List.{length-map}
-use Rattle.ops.specs.Counts.{binary_digits, ctpop, ctlz, cttz}
-use Rattle.circuits.specs.Word.{bit, number, number_of}
-use Rattle.circ_muldiv.proofs.Quotients.{map-reverse}
+use Rattle.blast_value.proofs.Common.{◌≡◌, ℕ, ◌+◌, ◌*◌, ◌/◌, ◌%◌, ◌==◌, Bool, true, false, not, cond, List, [], ◌∷◌, map, length, refl, ap, arith, filter, reverse, prefix_len, length-map, binary_digits, ctpop, ctlz, cttz, bit, number, number_of, map-reverse}
 
 lowest : (b : Bool) (n : ℕ) → ((bit b + 2 * n) % 2 == 1) ≡ b
 lowest true n = let e : (1 + 2 * n) % 2 ≡ 1 = omega arith in rw e refl

@@ -1,17 +1,7 @@
 -- Bounds on how many gates there are.
-use Rattle.std.proofs.Common.{ℕ, zero, suc, ◌+◌, ◌-◌, ◌*◌, ◌^◌, ◌≤◌, max, min, Bool, true, false, nat_lt, if◌then◌else◌, arith}
-use Rattle.std.proofs.Math.Nat.{mul-le-mul_left, mul-le-mul}
-use Rattle.ops.specs.declared.opcode.Opcode.TheVariants.{Add, Sub, Mul, UDiv, SDiv, URem, SRem, Shl, LShr, AShr, And, Or, Xor, UMin, UMax, SMin, SMax}
-use Rattle.ops.specs.declared.conversion.Cast.TheVariants.{Trunc, ZExt, SExt}
-use Rattle.ops.specs.declared.opcode.Unary.TheVariants.{Abs, CtPop, CtLz, CtTz}
-use Rattle.circuits.specs.Gates.{stages, shift_gates}
-use Rattle.circuits.proofs.Stages.{stages-least}
-use Rattle.circ_muldiv.specs.Gates.{product_gates}
-use Rattle.circ_counts.specs.Gates.{count_gates}
-use Rattle.blast_value.specs.declared.instruction.Instruction.{Instruction}
-use Rattle.blast_value.specs.declared.instruction.Instruction.TheVariants.{Binary, Compare, Select, Convert, Unary}
-use Rattle.blast_value.specs.Gates.{gates_of}
-use Rattle.blast_value.specs.Laws.{bound, GatesAreFew}
+use Rattle.blast_value.proofs.Common.{ℕ, zero, suc, ◌+◌, ◌-◌, ◌*◌, ◌^◌, ◌≤◌, max, min, Bool, true, false, nat_lt, if◌then◌else◌, arith, mul-le-mul_left, mul-le-mul, Shl, LShr, AShr, Trunc, ZExt, SExt, Abs, CtPop, CtLz, CtTz, stages, shift_gates, stages-least, product_gates, count_gates, Instruction, Binary, Compare, Select, Convert, gates_of, bound, GatesAreFew}
+use Rattle.ops.specs.declared.opcode.Opcode.TheVariants.{Add, Sub, Mul, UDiv, SDiv, URem, SRem, And, Or, Xor, UMin, UMax, SMin, SMax}
+use Rattle.blast_value.specs.declared.instruction.Instruction.TheVariants.{Unary}
 
 step-le : (n k : ℕ) (b : Bool) → k ≤ n → (if b then k else k + 1) ≤ suc n
 step-le n k true h = omega arith

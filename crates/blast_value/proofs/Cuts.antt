@@ -1,19 +1,6 @@
 -- Numbers that are truncated: extending what is left gives the number again exactly where it fits the smaller width.
-use Rattle.std.proofs.Common.{◌≡◌, ◌≢◌, ◌==◌, ℕ, ◌+◌, ◌-◌, ◌*◌, ◌%◌, ◌^◌, ◌<◌, ◌≤◌, Bool, true, false, not, ◌&&◌, ◌||◌, nat_lt, nat_le, refl, sym, ap, ◌∙◌, ⊎_elim, arith}
-use Rattle.std.specs.Prelude.{pos, neg_ℤ, ◌-ℤ◌, int_le, int_lt}
-use Rattle.std.proofs.lemmas.Bool.{cases_lt, eq-eqb, ne_eqb}
-use Rattle.std.proofs.lemmas.Bool.Decides.{nat_tests}
-use Rattle.std.proofs.lemmas.Int.{ints}
-use Rattle.std.proofs.lemmas.Nat.{pow_pos, pow-add}
-use Rattle.std.proofs.Math.Nat.{mod-eq_of_lt, mod-lt, mul-le-mul_left}
-use Rattle.ops.specs.declared.opcode.Flags.{Flags}
-use Rattle.ops.specs.declared.conversion.Cast.TheVariants.{Trunc}
-use Rattle.ops.specs.Integer.{signed, residue, fits_signed}
-use Rattle.ops.specs.Conversion.{breaks_flags}
-use Rattle.ops.proofs.Signed.{pow_doubled}
-use Rattle.circuits.specs.Word.{bit}
+use Rattle.blast_value.proofs.Common.{◌≡◌, ◌≢◌, ◌==◌, ℕ, ◌+◌, ◌-◌, ◌*◌, ◌%◌, ◌^◌, ◌<◌, ◌≤◌, Bool, true, false, not, ◌&&◌, ◌||◌, nat_lt, nat_le, refl, sym, ap, ◌∙◌, ⊎_elim, arith, pos, neg_ℤ, ◌-ℤ◌, int_le, int_lt, cases_lt, eq-eqb, ne_eqb, nat_tests, ints, pow_pos, pow-add, mod-eq_of_lt, mod-lt, mul-le-mul_left, Flags, Trunc, signed, residue, fits_signed, breaks_flags, pow_doubled, bit, extended}
 use Rattle.circuits.proofs.Words.{remainder}
-use Rattle.blast_value.specs.Families.{extended}
 use Rattle.blast_value.proofs.Numbers.{residue-extended}
 
 -- a word that is extended has the number, or the signed number, of the shorter word

@@ -1,16 +1,6 @@
 -- Words that are made digit by digit.
-use Rattle.std.proofs.Common.{◌≡◌, ◌==◌, ℕ, suc, zero, ◌+◌, ◌*◌, ◌/◌, ◌%◌, ◌^◌, ◌<◌, Bool, true, false, List, [], ◌∷◌, ◌++◌, map, take, length, get_or, refl, ap, subst, ◌∙◌, arith}
-use Rattle.std.specs.Bool.{xor}
-use Rattle.std.specs.Prelude.{bit_xor}
-use Rattle.std.proofs.lemmas.Bool.Decides.{nat_tests}
-use Rattle.std.proofs.lemmas.List.{map-append, length-map, length-take-le}
-use Rattle.std.proofs.lemmas.Nat.{and_block, or_block, xor_block}
-use Rattle.circuits.specs.Word.{bit, number, number_of}
-use Rattle.circuits.proofs.Stages.{doubled}
-use Rattle.circuits.proofs.Words.{number-push, number-below, number-take_more}
-use Rattle.blast_value.specs.declared.bitwise.Bitwise.{Bitwise}
+use Rattle.blast_value.proofs.Common.{◌≡◌, ◌==◌, ℕ, suc, zero, ◌+◌, ◌*◌, ◌/◌, ◌%◌, ◌^◌, ◌<◌, Bool, true, false, List, [], ◌∷◌, ◌++◌, map, take, length, get_or, refl, ap, subst, ◌∙◌, arith, xor, bit_xor, nat_tests, map-append, length-map, length-take-le, and_block, or_block, xor_block, bit, number, number_of, doubled, number-push, number-below, number-take_more, Bitwise, bitwise}
 use Rattle.blast_value.specs.declared.bitwise.Bitwise.TheVariants.{And, Or, Xor}
-use Rattle.blast_value.specs.Families.{bitwise}
 
 lowest_bit : (n : ℕ) → bit (n % 2 == 1) ≡ n % 2
 lowest_bit n = grind (arith, nat_tests)

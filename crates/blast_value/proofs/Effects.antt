@@ -1,45 +1,14 @@
 -- The effects of instructions where operands may be poison.
-use Rattle.std.proofs.Common.{◌≡◌, ◌≢◌, ◌==◌, ℕ, zero, suc, ◌+◌, ◌-◌, ◌*◌, ◌%◌, ◌/◌, ◌^◌, ◌<◌, ◌≤◌, ◌⊎◌, Bool, true, false, not, ◌&&◌, ◌||◌, min, max, nat_lt, nat_le, if◌then◌else◌, List, [], ◌∷◌, map, length, get_or, replicate, refl, sym, ap, ◌∙◌, ⊎_elim, arith}
-use Rattle.std.specs.Prelude.{bit_and, ℤ, pos, negsuc, neg_ℤ, ◌-ℤ◌, int_le, int_lt, unsigned_abs}
-use Rattle.std.proofs.lemmas.Bool.{cases_lt}
-use Rattle.std.proofs.lemmas.Bool.Decides.{nat_tests}
-use Rattle.std.proofs.lemmas.Int.{ints}
-use Rattle.std.proofs.lemmas.Nat.{pow_pos}
-use Rattle.std.proofs.Math.Nat.{mod-eq_of_lt, mod-le}
-use Rattle.ops.specs.declared.value.Value.{Value}
-use Rattle.ops.specs.declared.value.Value.TheVariants.{Poison}
-use Rattle.ops.specs.declared.value.Effect.{Effect}
-use Rattle.ops.specs.declared.value.Effect.TheVariants.{Undefined, Gives}
-use Rattle.ops.specs.declared.opcode.Opcode.{Opcode}
+use Rattle.blast_value.proofs.Common.{◌≡◌, ◌≢◌, ◌==◌, ℕ, zero, suc, ◌+◌, ◌-◌, ◌*◌, ◌%◌, ◌/◌, ◌^◌, ◌<◌, ◌≤◌, ◌⊎◌, Bool, true, false, not, ◌&&◌, ◌||◌, min, max, nat_lt, nat_le, if◌then◌else◌, List, [], ◌∷◌, map, length, get_or, replicate, refl, sym, ap, ◌∙◌, ⊎_elim, arith, bit_and, ℤ, pos, negsuc, neg_ℤ, ◌-ℤ◌, int_le, int_lt, unsigned_abs, cases_lt, nat_tests, ints, pow_pos, mod-eq_of_lt, mod-le, Value, Poison, Effect, Undefined, Gives, Opcode, Flags, Pred, Eq, Ne, Ugt, Uge, Ult, Ule, Sgt, Sge, Slt, Sle, Cast, bits, minus_one, least, signed, residue, fits_unsigned, fits_signed, arithmetic, instruction, on_numbers, on_poison, udiv, sdiv, urem, srem, divides, quotient, comparison, holds, selection, signs_differ, or, conversion, converted, breaks_flags, bit, number_of, fits, remainder_of, Arithmetic, Extreme, smaller, larger, Bitwise, Division, Strict, arithmetic_opcode, extreme, extreme_opcode, bitwise_opcode, bitwise, promises_disjoint, division_opcode, strict_opcode, divided, exact, is_signed, is_negation}
 use Rattle.ops.specs.declared.opcode.Opcode.TheVariants as opcodes
-use Rattle.ops.specs.declared.opcode.Flags.{Flags}
-use Rattle.ops.specs.declared.comparison.Pred.{Pred}
-use Rattle.ops.specs.declared.comparison.Pred.TheVariants.{Eq, Ne, Ugt, Uge, Ult, Ule, Sgt, Sge, Slt, Sle}
-use Rattle.ops.specs.declared.conversion.Cast.{Cast}
-use Rattle.ops.specs.Integer.{bits, minus_one, least, signed, residue, fits_unsigned, fits_signed}
-use Rattle.ops.specs.Arithmetic.{arithmetic}
-use Rattle.ops.specs.Instruction.{instruction, on_numbers, on_poison}
-use Rattle.ops.specs.Division.{udiv, sdiv, urem, srem, divides, quotient, remainder}
-use Rattle.ops.specs.Comparison.{comparison, holds, selection, signs_differ}
-use Rattle.ops.specs.Bitwise.{or}
-use Rattle.ops.specs.Conversion.{conversion, converted, breaks_flags}
-use Rattle.circuits.specs.Word.{bit, number_of}
+use Rattle.ops.specs.Division.{remainder}
 use Rattle.circuits.specs.Word as words
 use Rattle.circ_muldiv.specs.Division as circuits
-use Rattle.circ_muldiv.specs.Overflow.{fits}
-use Rattle.circ_muldiv.proofs.SignedQuotients.{remainder_of}
-use Rattle.blast_value.specs.declared.arithmetic.Arithmetic.{Arithmetic}
 use Rattle.blast_value.specs.declared.arithmetic.Arithmetic.TheVariants.{Add, Sub, Mul}
-use Rattle.blast_value.specs.declared.extreme.Extreme.{Extreme}
 use Rattle.blast_value.specs.declared.extreme.Extreme.TheVariants.{UMin, UMax, SMin, SMax}
-use Rattle.circuits.specs.Extreme.{smaller, larger}
-use Rattle.blast_value.specs.declared.bitwise.Bitwise.{Bitwise}
 use Rattle.blast_value.specs.declared.bitwise.Bitwise.TheVariants.{And, Or, Xor}
-use Rattle.blast_value.specs.declared.division.Division.{Division}
 use Rattle.blast_value.specs.declared.division.Division.TheVariants.{UDiv, SDiv, URem, SRem}
-use Rattle.blast_value.specs.declared.strict.Strict.{Strict}
 use Rattle.blast_value.specs.declared.strict.Strict.TheVariants as strict
-use Rattle.blast_value.specs.Families.{arithmetic_opcode, extreme, extreme_opcode, bitwise_opcode, bitwise, promises_disjoint, division_opcode, strict_opcode, divided, exact, is_signed, is_negation}
 use Rattle.blast_value.proofs.Numbers.{signed_same, residue-pos, residue-difference}
 
 -- ---- instructions that give poison where an operand is

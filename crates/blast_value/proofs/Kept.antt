@@ -1,14 +1,5 @@
 -- Where a circuit keeps its older literals, operands, effects and words over these stand for the same as before.
-use Rattle.std.proofs.Common.{◌≡◌, suc, Bool, List, [], ◌∷◌, map, refl, arith, get_or}
-use Rattle.std.specs.List.{All}
-use Rattle.circuits.specs.declared.state.State.{Ghosts}
-use Rattle.circuits.specs.Circuit.{Keeps}
-use Rattle.circuits.specs.Word.{number_of}
-use Rattle.circuits.proofs.Kept.{All-kept, map-kept}
-use Rattle.blast_value.specs.declared.held.Held.{Held}
-use Rattle.blast_value.specs.declared.held.Blasted.{Blasted}
-use Rattle.blast_value.specs.Effect.{held_value, effect_of, IsOwn, IsOwnEffect}
-use Rattle.blast_value.specs.Words.{number_held}
+use Rattle.blast_value.proofs.Common.{◌≡◌, suc, Bool, List, [], ◌∷◌, map, refl, arith, get_or, All, Ghosts, Keeps, number_of, All-kept, map-kept, Held, Blasted, held_value, effect_of, IsOwn, IsOwnEffect, number_held}
 
 module _ {C L : Type 0} {state : Ghosts C L} {old new : C} (keeps : Keeps state old new) where
   pub IsOwn-kept : (held : Held L) → IsOwn (state.has_literal old) held → IsOwn (state.has_literal new) held

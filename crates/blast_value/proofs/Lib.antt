@@ -1,3 +1,4 @@
+pub mod Common
 pub mod BinaryDigits
 pub mod Counts
 pub mod Cuts

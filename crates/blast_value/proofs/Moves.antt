@@ -1,21 +1,6 @@
 -- Shifts of numbers, as products with powers of 2 and quotients by them.
-use Rattle.std.proofs.Common.{◌≡◌, ◌==◌, ℕ, zero, suc, ◌+◌, ◌-◌, ◌*◌, ◌/◌, ◌%◌, ◌^◌, ◌<◌, ◌≤◌, ◌⊎◌, Bool, true, false, not, ◌&&◌, ◌||◌, nat_lt, nat_le, if◌then◌else◌, refl, sym, ap, ◌∙◌, ⊎_elim, inl, inr, arith, div-le_self}
-use Rattle.std.specs.Prelude.{ℤ, pos, negsuc, neg_ℤ, ◌-ℤ◌, ◌*ℤ◌, int_le, int_lt}
-use Rattle.std.specs.Int.{int_div_euclid}
-use Rattle.std.proofs.lemmas.Bool.{cases_lt}
-use Rattle.std.proofs.lemmas.Bool.Decides.{nat_tests}
-use Rattle.std.proofs.lemmas.Int.{ints}
-use Rattle.std.proofs.lemmas.Nat.{pow_pos, pow-add, div-mul-add}
-use Rattle.std.proofs.Math.Nat.{pow-succ', mod-eq_of_lt, mod-lt, mod-add-div, mod-add-div', mul-div_cancel, mul-le-mul_left, add-mul-div_left}
-use Rattle.ops.specs.declared.value.Value.TheVariants.{Poison}
-use Rattle.ops.specs.declared.opcode.Flags.{Flags}
-use Rattle.ops.specs.Integer.{bits, signed, residue, fits_unsigned, fits_signed}
-use Rattle.ops.specs.Arithmetic.{arithmetic}
-use Rattle.ops.specs.Shifts.{shl, lshr, ashr}
-use Rattle.circuits.specs.Word.{bit}
+use Rattle.blast_value.proofs.Common.{◌≡◌, ◌==◌, ℕ, zero, suc, ◌+◌, ◌-◌, ◌*◌, ◌/◌, ◌%◌, ◌^◌, ◌<◌, ◌≤◌, ◌⊎◌, Bool, true, false, not, ◌&&◌, ◌||◌, nat_lt, nat_le, if◌then◌else◌, refl, sym, ap, ◌∙◌, ⊎_elim, inl, inr, arith, div-le_self, ℤ, pos, negsuc, neg_ℤ, ◌-ℤ◌, ◌*ℤ◌, int_le, int_lt, int_div_euclid, cases_lt, nat_tests, ints, pow_pos, pow-add, div-mul-add, pow-succ', mod-eq_of_lt, mod-lt, mod-add-div, mod-add-div', mul-div_cancel, mul-le-mul_left, add-mul-div_left, Poison, Flags, bits, signed, residue, fits_unsigned, fits_signed, arithmetic, shl, lshr, ashr, bit, doubled, floor, moved_back}
 use Rattle.circuits.proofs.Words.{remainder}
-use Rattle.circuits.proofs.Stages.{doubled}
-use Rattle.blast_value.specs.Families.{floor, moved_back}
 use Rattle.blast_value.proofs.Numbers.{signed_same, residue-pos}
 
 -- ---- products with a power

@@ -1,14 +1,6 @@
 -- Numbers modulo a power of two.
-use Rattle.std.proofs.Common.{◌≡◌, ℕ, ◌+◌, ◌-◌, ◌*◌, ◌%◌, ◌^◌, ◌<◌, ◌≤◌, Bool, true, false, nat_lt, nat_le, refl, sym, ◌∙◌, ⊎_elim, arith}
-use Rattle.std.specs.Prelude.{pos, negsuc, ◌-ℤ◌}
-use Rattle.std.proofs.lemmas.Bool.{cases_lt}
-use Rattle.std.proofs.lemmas.Bool.Decides.{nat_tests}
-use Rattle.std.proofs.lemmas.Int.{ints}
-use Rattle.std.proofs.lemmas.Nat.{pow_below}
-use Rattle.std.proofs.Math.Nat.{mod-eq_of_lt}
-use Rattle.ops.specs.Integer.{residue}
+use Rattle.blast_value.proofs.Common.{◌≡◌, ℕ, ◌+◌, ◌-◌, ◌*◌, ◌%◌, ◌^◌, ◌<◌, ◌≤◌, Bool, true, false, nat_lt, nat_le, refl, sym, ◌∙◌, ⊎_elim, arith, pos, negsuc, ◌-ℤ◌, cases_lt, nat_tests, ints, pow_below, mod-eq_of_lt, residue, bit}
 use Rattle.ops.specs.Integer as integers
-use Rattle.circuits.specs.Word.{bit}
 use Rattle.circuits.specs.Word as words
 use Rattle.circuits.proofs.Words.{remainder}
 

@@ -1,17 +1,5 @@
 -- The operands of an instruction, told by their widths.
-use Rattle.std.proofs.Common.{◌≡◌, ◌<◌, ℕ, Bool, true, false, if◌then◌else◌, List, [], ◌∷◌, get_or, length, refl, sym, ap, subst, ◌∙◌}
-use Rattle.std.proofs.lemmas.List.{length-map}
-use Rattle.std.proofs.Math.ListN.{get_or-map}
-use Rattle.ops.specs.declared.value.Value.TheVariants.{Poison}
-use Rattle.ops.specs.declared.comparison.Pred.{Pred}
-use Rattle.ops.specs.declared.opcode.Flags.{Flags}
-use Rattle.ops.specs.declared.conversion.Cast.{Cast}
-use Rattle.ops.specs.Value.{HasWidth}
-use Rattle.ops.specs.Integer.{bits}
-use Rattle.ops.specs.Comparison.{comparison}
-use Rattle.ops.specs.Conversion.{conversion}
-use Rattle.blast_value.specs.declared.held.Held.{Held}
-use Rattle.blast_value.specs.Effect.{widths_of}
+use Rattle.blast_value.proofs.Common.{◌≡◌, ◌<◌, ℕ, Bool, true, false, if◌then◌else◌, List, [], ◌∷◌, get_or, length, refl, sym, ap, subst, ◌∙◌, length-map, get_or-map, Poison, Pred, Flags, Cast, HasWidth, bits, comparison, conversion, Held, widths_of}
 
 -- there is an operand for each width, and it has that width
 pub operand_there : {L : Type 0} (operands : List (Held L)) (widths : List ℕ) (n : ℕ) → widths_of operands ≡ widths → n < length widths → n < length operands

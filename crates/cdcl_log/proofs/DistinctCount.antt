@@ -1,7 +1,5 @@
 -- How many different inputs a set has, counted from the end of their list.
-use Rattle.std.proofs.Common.{◌≡◌, ℕ, suc, ◌+◌, ◌-◌, ◌<◌, ◌≤◌, true, cond, List, [], ◌∷◌, length, drop, get_or, ap, ◌∙◌, arith, drop-cons, zero-add}
-use Rattle.depth_first.specs.Found.{distinct_count}
-use Rattle.depth_first.proofs.Leaves.{either, is_among}
+use Rattle.cdcl_log.proofs.Common.{◌≡◌, ℕ, suc, ◌+◌, ◌-◌, ◌<◌, ◌≤◌, true, cond, List, [], ◌∷◌, length, drop, get_or, ap, ◌∙◌, arith, drop-cons, zero-add, distinct_count, either, is_among}
 
 -- the count goes one place further from the end of the inputs
 pub next_input : (inputs : List ℕ) (place d : ℕ) → 0 < place → place ≤ length inputs → drop (place - 1) inputs ≡ get_or inputs (place - 1) d ∷ drop place inputs

@@ -1,30 +1,7 @@
 -- A function to which a rule is applied meets the checks, and has few instructions in each block.
-use Rattle.std.proofs.Common.{◌≡◌, ℕ, ◌+◌, ◌-◌, ◌<◌, ◌≤◌, ◌^◌, Bool, true, false, length, sym, subst, arith}
-use Rattle.std.proofs.lemmas.Option.{slice_get_within}
-use Rattle.ir_core.specs.Blocks.{IsBlock}
-use Rattle.ir_core.specs.Checks.{IsInst, MeetsChecks}
-use Rattle.ir_core.specs.declared.function.Block.{Block}
-use Rattle.ir_core.specs.declared.function.Function.{Function}
-use Rattle.ir_core.specs.declared.instruction.Inst.{Inst}
+use Rattle.changes.proofs.Common.{◌≡◌, ℕ, ◌+◌, ◌-◌, ◌<◌, ◌≤◌, ◌^◌, Bool, true, false, length, sym, subst, arith, slice_get_within, IsBlock, IsInst, MeetsChecks, Block, Function, Inst, NumbersFit, IsRule, Rule, IsMatch, Binding, rewritten_function, Rewrite, meets_checks, IsRewritten, rewrite_of, rewrite_fits, most_put, AreChangesOfRule, rewritten_moves, root_is_copy, AreChanges, IsPutFor, Put, Changes}
 use Rattle.ir_core.specs.declared.operand.Operand.TheVariants as operands
 use Rattle.ir_core.specs.declared.operand.Register.TheVariants as registers
-use Rattle.ir_meaning.specs.HistoryLaws.{NumbersFit}
-use Rattle.rule_core.specs.Checks.{IsRule}
-use Rattle.rule_core.specs.declared.rule.Rule.{Rule}
-use Rattle.bindings.specs.Match.{IsMatch}
-use Rattle.bindings.specs.declared.binding.Binding.{Binding}
-use Rattle.substitution.specs.Rewritten.{rewritten_function}
-use Rattle.substitution.specs.declared.rewrite.Rewrite.{Rewrite}
-use Rattle.substitution.proofs.Checking.{meets_checks}
-use Rattle.rewriter.specs.Applied.{IsRewritten}
-use Rattle.rewriter.specs.Put.{rewrite_of}
-use Rattle.rewriter.proofs.Fitting.{rewrite_fits}
-use Rattle.rewriter.proofs.Rooted.{most_put}
-use Rattle.changes.specs.Calls.{AreChangesOfRule, rewritten_moves, root_is_copy}
-use Rattle.changes.specs.Changed.{AreChanges}
-use Rattle.changes.specs.Listing.{IsPutFor}
-use Rattle.changes.specs.declared.applying.Put.{Put}
-use Rattle.changes.specs.declared.changed.Changes.{Changes}
 use Rattle.changes.proofs.Put.{some_put, last_result}
 use Rattle.changes.proofs.Few.{AreFew, as_many_rewritten, few_rewritten}
 

@@ -1,9 +1,5 @@
 -- Ascending lists of places, one place after another.
-use Rattle.std.proofs.Common.{◌≡◌, ◌⊎◌, inl, inr, ℕ, List, [], ◌∷◌, ◌++◌, get_or, sym, subst, arith}
-use Rattle.std.specs.Prelude.{Contains}
-use Rattle.std.proofs.lemmas.List.Elements.{Contains-append_left, Contains-push, Contains-push_cases, Contains-get_or}
-use Rattle.std.proofs.lemmas.List.Quantifiers.{all_pairs_push}
-use Rattle.changes.specs.Places.{StandsBefore, AreAscending}
+use Rattle.changes.proofs.Common.{◌≡◌, ◌⊎◌, inl, inr, ℕ, List, [], ◌∷◌, ◌++◌, get_or, sym, subst, arith, Contains, Contains-append_left, Contains-push, Contains-push_cases, Contains-get_or, all_pairs_push, StandsBefore, AreAscending}
 
 nothing_in_nil : (x : ℕ × ℕ) → Contains {X = ℕ × ℕ} [] x → ⊥
 nothing_in_nil x (k, within, is) = absurd (omega arith)

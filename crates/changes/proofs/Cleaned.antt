@@ -1,30 +1,8 @@
 -- Which instructions were removed where a function was cleaned; none was inserted or changed.
-use Rattle.std.proofs.Common.{◌≡◌, inl, inr, ℕ, ◌+◌, Bool, true, false, cond, List, [], ◌∷◌, Option, None, Some, refl, sym, ap, subst, ◌∙◌, arith, map}
-use Rattle.std.specs.Prelude.{slice_get, option_map, Contains}
-use Rattle.std.proofs.lemmas.Bool.{cases_Bool}
-use Rattle.std.proofs.lemmas.Option.{same_Some}
-use Rattle.ir_core.specs.Blocks.{HasInst, IsBlock}
-use Rattle.ir_core.specs.Checks.{IsInst}
-use Rattle.ir_core.specs.declared.function.Block.{Block}
-use Rattle.ir_core.specs.declared.function.Function.{Function}
-use Rattle.ir_core.specs.declared.instruction.Inst.{Inst}
-use Rattle.ir_core.specs.declared.instruction.Op.{Op}
-use Rattle.ir_core.specs.declared.instruction.Op.TheVariants.{Binary, Compare, Unary, Select, Convert, Freeze, Phi}
-use Rattle.ir_core.specs.declared.operand.Operand.{Operand}
+use Rattle.changes.proofs.Common.{◌≡◌, inl, inr, ℕ, ◌+◌, Bool, true, false, cond, List, [], ◌∷◌, Option, None, Some, refl, sym, ap, subst, ◌∙◌, arith, map, slice_get, option_map, Contains, cases_Bool, same_Some, HasInst, IsBlock, IsInst, Block, Function, Inst, Op, Binary, Compare, Unary, Select, Convert, Freeze, Phi, Operand, Register, KeepsNeeded, KeptMarks, kept_before, moved_register, moved_operand, moved_op, moved_inst, kept_block, kept_function, IsNeeded, by_inst, ReadsRegister, operands_of, kept_at, IsKept, kept_back, AllKnown, read_has, inst_reads, written_reads, Substitution, substituted_operand, substituted_entries, substituted_op, AreAscending, register_then, Went, Came, IsUnchanged, IsChanged, kept_moves}
 use Rattle.ir_core.specs.declared.operand.Operand.TheVariants as operands
-use Rattle.ir_core.specs.declared.operand.Register.{Register}
 use Rattle.ir_core.specs.declared.operand.Register.TheVariants as registers
-use Rattle.needed.specs.Cleaned.{KeepsNeeded}
-use Rattle.needed.specs.KeptFunction.{KeptMarks, kept_before, moved_register, moved_operand, moved_op, moved_inst, kept_block, kept_function}
-use Rattle.needed.specs.Needed.{IsNeeded, by_inst, ReadsRegister}
-use Rattle.needed.specs.Operands.{operands_of}
-use Rattle.needed.proofs.Counting.{kept_at, IsKept, kept_back, block_at, block_back}
-use Rattle.needed.proofs.SearchLemmas.{AllKnown, read_has, inst_reads}
-use Rattle.readers.proofs.Reading.{written_reads}
-use Rattle.substitution.specs.Substitution.{Substitution, substituted_operand, substituted_entries, substituted_op}
-use Rattle.changes.specs.Places.{AreAscending}
-use Rattle.changes.specs.Changed.{register_then, Went, Came, IsUnchanged, IsChanged}
-use Rattle.changes.specs.Calls.{kept_moves}
+use Rattle.needed.proofs.Counting.{block_at, block_back}
 use Rattle.changes.proofs.Ascending.{none_listed, same_listed}
 use Rattle.changes.proofs.Rewritten.{has_of, inst_of}
 

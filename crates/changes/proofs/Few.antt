@@ -1,20 +1,7 @@
 -- A function that is rewritten or cleaned has as many blocks as before, and few instructions in each.
-use Rattle.std.proofs.Common.{◌≡◌, ℕ, suc, ◌+◌, ◌-◌, ◌<◌, ◌≤◌, ◌^◌, inl, inr, List, [], ◌∷◌, length, get_or, sym, ap, subst, ◌∙◌, arith, All}
-use Rattle.std.proofs.lemmas.Bool.{cases_eq}
-use Rattle.std.proofs.lemmas.Option.{slice_get-get_or, get_or_from_slice_get, slice_get_within, same_Some}
-use Rattle.std.proofs.lemmas.List.Elements.{All-get_or}
-use Rattle.ir_core.specs.Blocks.{IsBlock}
-use Rattle.ir_core.specs.Checks.{IsInst}
-use Rattle.ir_core.specs.Reads.{end_of}
-use Rattle.ir_core.specs.declared.function.Block.{Block}
-use Rattle.ir_core.specs.declared.function.Function.{Function}
-use Rattle.ir_core.specs.declared.instruction.Inst.{Inst}
-use Rattle.needed.specs.KeptFunction.{KeptMarks, kept_before, kept_insts, kept_block, kept_blocks, kept_function}
+use Rattle.changes.proofs.Common.{◌≡◌, ℕ, suc, ◌+◌, ◌-◌, ◌<◌, ◌≤◌, ◌^◌, inl, inr, List, [], ◌∷◌, length, get_or, sym, ap, subst, ◌∙◌, arith, All, cases_eq, slice_get-get_or, get_or_from_slice_get, slice_get_within, same_Some, All-get_or, IsBlock, IsInst, end_of, Block, Function, Inst, KeptMarks, kept_before, kept_insts, kept_block, kept_blocks, kept_function, end_of-is, moved_place, rewritten_insts, rewritten_block, rewritten_blocks, rewritten_function, Rewrite, is_moved, length-block}
 use Rattle.needed.proofs.Counting as kept_function_of
-use Rattle.needed.proofs.Reading.{end_of-is}
-use Rattle.substitution.specs.Rewritten.{moved_place, rewritten_insts, rewritten_block, rewritten_blocks, rewritten_function}
-use Rattle.substitution.specs.declared.rewrite.Rewrite.{Rewrite}
-use Rattle.substitution.proofs.Placing.{is_moved, length-block, block_at, block_back}
+use Rattle.substitution.proofs.Placing.{block_at, block_back}
 
 abbrev pub AreFew : Function → Type 0
 AreFew f = All (λ (b : Block). length b.insts < 2 ^ 32) f.blocks

@@ -1,18 +1,5 @@
 -- Places of a function that are listed block after block.
-use Rattle.std.proofs.Common.{◌≡◌, ◌↔◌, inl, inr, ℕ, ◌+◌, ◌<◌, ◌≤◌, List, [], ◌∷◌, ◌++◌, length, get_or, take, Option, None, Some, refl, sym, ap, subst, ◌∙◌, arith}
-use Rattle.std.specs.Prelude.{slice_get, option_map, unwrap_or, Contains}
-use Rattle.std.proofs.lemmas.Bool.{cases_eq}
-use Rattle.std.proofs.lemmas.List.{take_more}
-use Rattle.std.proofs.lemmas.List.Elements.{Contains-append_left, Contains-push, Contains-push_cases}
-use Rattle.std.proofs.lemmas.Option.{slice_get_within}
-use Rattle.ir_core.specs.Blocks.{HasInst}
-use Rattle.ir_core.specs.Reads.{end_of}
-use Rattle.ir_core.specs.declared.function.Block.{Block}
-use Rattle.ir_core.specs.declared.function.Function.{Function}
-use Rattle.needed.proofs.Reading.{end_of-is}
-use Rattle.places.specs.Sets.{Rows, Has, IsAdded}
-use Rattle.changes.specs.Listing.{IsPast, ListedTo, Listed, IsIn}
-use Rattle.changes.specs.Places.{AreAscending}
+use Rattle.changes.proofs.Common.{◌≡◌, ◌↔◌, inl, inr, ℕ, ◌+◌, ◌<◌, ◌≤◌, List, [], ◌∷◌, ◌++◌, length, get_or, take, Option, None, Some, refl, sym, ap, subst, ◌∙◌, arith, slice_get, option_map, unwrap_or, Contains, cases_eq, take_more, Contains-append_left, Contains-push, Contains-push_cases, slice_get_within, HasInst, end_of, Block, Function, end_of-is, Rows, Has, IsAdded, IsPast, ListedTo, Listed, IsIn, AreAscending}
 use Rattle.changes.proofs.Ascending.{none_listed, same_listed, one_more}
 
 -- an instruction stands before the end of its block

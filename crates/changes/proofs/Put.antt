@@ -1,21 +1,7 @@
 -- The register that replaces the root's where the root of the target is no copy.
-use Rattle.std.proofs.Common.{◌≡◌, ℕ, suc, ◌+◌, ◌-◌, ◌<◌, false, length, Option, Some, refl, sym, ap, ◌∙◌, arith}
-use Rattle.std.specs.Prelude.{slice_get}
-use Rattle.std.specs.Option.{option_map_or}
-use Rattle.std.proofs.lemmas.Option.{get_or_from_slice_get}
-use Rattle.ir_core.specs.Names.{Name}
+use Rattle.changes.proofs.Common.{◌≡◌, ℕ, suc, ◌+◌, ◌-◌, ◌<◌, false, length, Option, Some, refl, sym, ap, ◌∙◌, arith, slice_get, option_map_or, get_or_from_slice_get, Name, some_at, IsRule, Rule, Statement, Binding, Rewrite, is_copy, insts_put, rewrite_of, results, put_before, result_at, result_put_at, result_is, count_more, put_length, all_aligned, root_is_copy}
 use Rattle.ir_core.specs.declared.operand.Operand.TheVariants as operands
 use Rattle.ir_core.specs.declared.operand.Register.TheVariants as registers
-use Rattle.ir_meaning.proofs.Pieces.{some_at}
-use Rattle.rule_core.specs.Checks.{IsRule}
-use Rattle.rule_core.specs.declared.rule.Rule.{Rule}
-use Rattle.rule_core.specs.declared.rule.Statement.{Statement}
-use Rattle.bindings.specs.declared.binding.Binding.{Binding}
-use Rattle.substitution.specs.declared.rewrite.Rewrite.{Rewrite}
-use Rattle.rewriter.specs.Put.{is_copy, insts_put, rewrite_of}
-use Rattle.rewriter.proofs.Putting.{results, put_before, result_at, result_put_at, result_is, count_more}
-use Rattle.rewriter.proofs.Placed.{put_length, all_aligned}
-use Rattle.changes.specs.Calls.{root_is_copy}
 
 module _ (rule : Rule) (binding : Binding) (checked : IsRule rule) (name : Name) where
   abbrev w : Rewrite

@@ -1,27 +1,7 @@
 -- The instructions that read the root, and their new places.
-use Rattle.std.proofs.Common.{◌≡◌, ℕ, ◌<◌, ◌^◌, true, List, length, Some, sym, subst, ◌∙◌, arith}
-use Rattle.std.specs.Prelude.{slice_get, Contains}
-use Rattle.std.proofs.lemmas.Option.{same_Some, slice_get_within}
-use Rattle.ir_core.specs.Blocks.{HasInst}
-use Rattle.ir_core.specs.Checks.{IsInst}
-use Rattle.ir_core.specs.declared.function.Block.{Block}
-use Rattle.ir_core.specs.declared.function.Function.{Function}
-use Rattle.ir_core.specs.declared.instruction.Inst.{Inst}
-use Rattle.ir_core.specs.declared.operand.Operand.{Operand}
+use Rattle.changes.proofs.Common.{◌≡◌, ℕ, ◌<◌, ◌^◌, true, List, length, Some, sym, subst, ◌∙◌, arith, slice_get, Contains, same_Some, slice_get_within, HasInst, IsInst, Block, Function, Inst, Operand, Register, operands_of, operands_at, operands_at_inst, none, Place, root_of, moved_place, Rewrite, IsTheRoot, moved_below, rewritten_moves, IsPutFor, ReadsRoot, Put}
 use Rattle.ir_core.specs.declared.operand.Operand.TheVariants as operands
-use Rattle.ir_core.specs.declared.operand.Register.{Register}
 use Rattle.ir_core.specs.declared.operand.Register.TheVariants as registers
-use Rattle.needed.specs.Operands.{operands_of}
-use Rattle.readers.specs.Counts.{operands_at}
-use Rattle.readers.proofs.Reading.{operands_at_inst}
-use Rattle.places.specs.Orders.{none}
-use Rattle.places.specs.declared.place.Place.{Place}
-use Rattle.substitution.specs.Rewritten.{root_of, moved_place}
-use Rattle.substitution.specs.declared.rewrite.Rewrite.{Rewrite}
-use Rattle.substitution.proofs.Placing.{IsTheRoot, moved_below}
-use Rattle.changes.specs.Calls.{rewritten_moves}
-use Rattle.changes.specs.Listing.{IsPutFor, ReadsRoot}
-use Rattle.changes.specs.declared.applying.Put.{Put}
 use Rattle.changes.proofs.Few.{AreFew, block_few}
 use Rattle.changes.proofs.Rewritten.{inst_of, root_moves, other_moves}
 

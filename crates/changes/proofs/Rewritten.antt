@@ -1,30 +1,7 @@
 -- Which instructions were removed, inserted and changed where others stand in the place of the root.
-use Rattle.std.proofs.Common.{◌≡◌, ◌⊎◌, inl, inr, ℕ, zero, suc, ◌+◌, ◌-◌, ◌<◌, ◌≤◌, Bool, true, false, cond, List, [], ◌∷◌, length, Option, None, Some, refl, sym, ap, subst, ◌∙◌, arith}
-use Rattle.std.specs.Prelude.{slice_get, option_map, Contains}
-use Rattle.std.proofs.lemmas.Option.{same_Some, slice_get_within}
-use Rattle.ir_core.specs.Blocks.{HasInst}
-use Rattle.ir_core.specs.Checks.{IsInst}
-use Rattle.ir_core.specs.declared.function.Function.{Function}
-use Rattle.ir_core.specs.declared.instruction.Inst.{Inst}
-use Rattle.ir_core.specs.declared.operand.Operand.{Operand}
+use Rattle.changes.proofs.Common.{◌≡◌, ◌⊎◌, inl, inr, ℕ, zero, suc, ◌+◌, ◌-◌, ◌<◌, ◌≤◌, Bool, true, false, cond, List, [], ◌∷◌, length, Option, None, Some, refl, sym, ap, subst, ◌∙◌, arith, slice_get, option_map, Contains, same_Some, slice_get_within, HasInst, IsInst, Function, Inst, Operand, Register, some_at, one_inst, operands_of, contained_at, contains_at, contains_first, contains_later, is_same_register, substituted_inst, root_of, moved_place, stands_for, rewritten_function, Rewrite, same_or_other, IsTheRoot, root_is, other_is, stands_root, stands_other, moved_no_put, inst_on, put_on, inst_back, AreAscending, register_then, Went, Came, IsUnchanged, IsChanged, rewritten_moves, IsPutFor, Listed, ReadsRoot, Put}
 use Rattle.ir_core.specs.declared.operand.Operand.TheVariants as operands
-use Rattle.ir_core.specs.declared.operand.Register.{Register}
 use Rattle.ir_core.specs.declared.operand.Register.TheVariants as registers
-use Rattle.ir_meaning.proofs.Pieces.{some_at}
-use Rattle.ir_meaning.proofs.Equations.{one_inst}
-use Rattle.needed.specs.Operands.{operands_of}
-use Rattle.needed.proofs.Counting.{contained_at, contains_at, contains_first, contains_later}
-use Rattle.readers.proofs.Naming.{is_same_register}
-use Rattle.substitution.specs.Substitution.{substituted_inst}
-use Rattle.substitution.specs.Rewritten.{root_of, moved_place, stands_for, rewritten_function}
-use Rattle.substitution.specs.declared.rewrite.Rewrite.{Rewrite}
-use Rattle.substitution.proofs.Arriving.{same_or_other}
-use Rattle.substitution.proofs.Placing.{IsTheRoot, root_is, other_is, stands_root, stands_other, moved_no_put, inst_on, put_on, inst_back}
-use Rattle.changes.specs.Places.{AreAscending}
-use Rattle.changes.specs.Changed.{register_then, Went, Came, IsUnchanged, IsChanged}
-use Rattle.changes.specs.Calls.{rewritten_moves}
-use Rattle.changes.specs.Listing.{IsPutFor, Listed, ReadsRoot}
-use Rattle.changes.specs.declared.applying.Put.{Put}
 use Rattle.changes.proofs.Ascending.{none_listed, same_listed}
 
 -- ---- instructions and what they read

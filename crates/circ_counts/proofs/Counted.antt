@@ -1,14 +1,5 @@
 -- How many bits of a word are true, and how many are false before the first that is true.
-use Rattle.std.proofs.Common.{◌≡◌, ℕ, zero, suc, ◌+◌, ◌*◌, ◌^◌, ◌<◌, ◌≤◌, Bool, true, false, cond, ◌&&◌, List, [], ◌∷◌, ◌++◌, length, take, get_or, refl, sym, ap, ◌∙◌, arith}
-use Rattle.std.specs.Prelude.{filter}
-use Rattle.std.specs.List.{All, list_all, prefix_len}
-use Rattle.std.proofs.lemmas.List.{take_more}
-use Rattle.std.proofs.Math.Nat.{pow-succ'}
-use Rattle.circuits.specs.declared.state.State.{Ghosts}
-use Rattle.circuits.specs.Circuit.{Keeps}
-use Rattle.circuits.specs.Gates.{stages}
-use Rattle.circuits.specs.Word.{bit}
-use Rattle.circuits.proofs.Stages.{stages-enough, stages-least}
+use Rattle.circ_counts.proofs.Common.{◌≡◌, ℕ, zero, suc, ◌+◌, ◌*◌, ◌^◌, ◌<◌, ◌≤◌, Bool, true, false, cond, ◌&&◌, List, [], ◌∷◌, ◌++◌, length, take, get_or, refl, sym, ap, ◌∙◌, arith, filter, All, list_all, prefix_len, take_more, pow-succ', Ghosts, Keeps, stages, bit, stages-enough, stages-least}
 
 -- one more bit counts as 1 or 0
 count_one : (b : Bool) {L : Type 0} (x : L) (xs : List L) → length (cond b (x ∷ xs) xs) ≡ length xs + bit b

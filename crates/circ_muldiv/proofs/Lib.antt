@@ -1,3 +1,4 @@
+pub mod Common
 pub mod Masks
 pub mod Rows
 pub mod OverflowTests

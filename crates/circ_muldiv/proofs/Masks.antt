@@ -1,9 +1,5 @@
 -- A word that is masked by a literal, and a row of a product, which adds one.
-use Rattle.std.proofs.Common.{◌≡◌, ℕ, ◌+◌, ◌-◌, ◌*◌, ◌%◌, ◌^◌, ◌<◌, ◌≤◌, Bool, true, false, ◌&&◌, List, [], ◌∷◌, ◌++◌, map, length, take, drop, get_or, sym, ap, ◌∙◌, arith, length-drop}
-use Rattle.std.proofs.lemmas.List.{map-append, length-map, length-take-le, take-append-drop}
-use Rattle.std.proofs.lemmas.Nat.{pow-add}
-use Rattle.circuits.specs.Word.{bit, number}
-use Rattle.circuits.proofs.Words.{number-append, number-push, number-take_more, number-cut}
+use Rattle.circ_muldiv.proofs.Common.{◌≡◌, ℕ, ◌+◌, ◌-◌, ◌*◌, ◌%◌, ◌^◌, ◌<◌, ◌≤◌, Bool, true, false, ◌&&◌, List, [], ◌∷◌, ◌++◌, map, length, take, drop, get_or, sym, ap, ◌∙◌, arith, length-drop, map-append, length-map, length-take-le, take-append-drop, pow-add, bit, number, number-append, number-push, number-take_more, number-cut}
 
 mask_step : (m n p : ℕ) (x d : Bool) → m ≡ bit d * n → m + p * bit (x && d) ≡ bit d * (n + p * bit x)
 mask_step m n p true true e = omega arith

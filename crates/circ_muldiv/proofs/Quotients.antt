@@ -1,20 +1,5 @@
 -- The quotient and the remainder after some steps of a restoring division.
-use Rattle.std.proofs.Common.{◌≡◌, ◌≢◌, ℕ, ◌+◌, ◌-◌, ◌*◌, ◌/◌, ◌%◌, ◌^◌, ◌<◌, ◌≤◌, Bool, true, false, not, nat_le, if◌then◌else◌, List, [], ◌∷◌, ◌++◌, map, reverse, length, take, drop, get_or, replicate, refl, sym, ap, subst, ◌∙◌, add-one, arith}
-use Rattle.std.specs.List.{All}
-use Rattle.std.specs.Prelude.{Result, Ok, Err, IfOk}
-use Rattle.std.proofs.lemmas.Bool.Decides.{nat_tests}
-use Rattle.std.proofs.lemmas.Grind.{reverse_onto}
-use Rattle.std.proofs.lemmas.List.{map-append, length-map, length_push, length-replicate, length-reverse, reverse-append, drop_more, drop_all}
-use Rattle.std.proofs.lemmas.List.Elements.{All-push, All-replicate}
-use Rattle.std.proofs.lemmas.List.Sorted.{All-permutation, IsPermutation-reverse}
-use Rattle.std.proofs.lemmas.Nat.{div-mul-add, mod-mul-add}
-use Rattle.std.proofs.Math.Nat.{pow-succ', mod-eq_of_lt}
-use Rattle.circuits.specs.declared.state.State.{Ghosts}
-use Rattle.circuits.specs.Circuit.{Adds}
-use Rattle.circuits.specs.Word.{bit, number}
-use Rattle.circuits.proofs.Kept.{own_at, All-kept, map-kept, Adds-refl, Adds-trans, Adds-weaken}
-use Rattle.circuits.proofs.Words.{bit-le_one, number-below, number-all_zero, number-cut, number-map_not, number-push}
-use Rattle.circ_muldiv.specs.Gates.{division_step_gates, division_gates}
+use Rattle.circ_muldiv.proofs.Common.{◌≡◌, ◌≢◌, ℕ, ◌+◌, ◌-◌, ◌*◌, ◌/◌, ◌%◌, ◌^◌, ◌<◌, ◌≤◌, Bool, true, false, not, nat_le, if◌then◌else◌, List, [], ◌∷◌, ◌++◌, map, reverse, length, take, drop, get_or, replicate, refl, sym, ap, subst, ◌∙◌, add-one, arith, All, Result, Ok, Err, IfOk, nat_tests, reverse_onto, map-append, length-map, length_push, length-replicate, length-reverse, reverse-append, drop_more, drop_all, All-push, All-replicate, All-permutation, IsPermutation-reverse, div-mul-add, mod-mul-add, pow-succ', mod-eq_of_lt, Ghosts, Adds, bit, number, own_at, All-kept, map-kept, Adds-refl, Adds-trans, Adds-weaken, bit-le_one, number-below, number-all_zero, number-cut, number-map_not, number-push, division_step_gates, division_gates}
 use Rattle.circ_muldiv.proofs.OverflowTests.{number_below}
 
 -- The sum with the divisor's complement carries exactly where the divisor fits, and is then the difference.

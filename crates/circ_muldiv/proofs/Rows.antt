@@ -1,17 +1,5 @@
 -- The product after some of its rows.
-use Rattle.std.proofs.Common.{◌≡◌, ℕ, zero, suc, ◌+◌, ◌-◌, ◌*◌, ◌/◌, ◌%◌, ◌^◌, ◌<◌, ◌≤◌, Bool, true, false, ◌&&◌, ◌||◌, nat_lt, nat_le, List, map, length, take, get_or, sym, ap, subst, ⊎_elim, ◌∙◌, arith, add-one}
-use Rattle.std.specs.List.{All}
-use Rattle.std.proofs.lemmas.Bool.{cases_lt}
-use Rattle.std.proofs.lemmas.Bool.Decides.{nat_tests}
-use Rattle.std.proofs.lemmas.List.{length-map, take_all}
-use Rattle.std.proofs.lemmas.Nat.{pow-add, pow_pos}
-use Rattle.std.proofs.Math.Nat.{pow-succ', mod-eq_of_lt}
-use Rattle.circuits.specs.declared.state.State.{Ghosts}
-use Rattle.circuits.specs.Circuit.{Adds}
-use Rattle.circuits.specs.Word.{bit, number}
-use Rattle.circuits.proofs.Kept.{own_at, All-kept, map-kept, Keeps-trans, Adds-trans, Adds-weaken}
-use Rattle.circuits.proofs.Words.{remainder, number-below, number-cut, number-take_more}
-use Rattle.circ_muldiv.specs.Gates.{product_gates, row_gates}
+use Rattle.circ_muldiv.proofs.Common.{◌≡◌, ℕ, zero, suc, ◌+◌, ◌-◌, ◌*◌, ◌/◌, ◌%◌, ◌^◌, ◌<◌, ◌≤◌, Bool, true, false, ◌&&◌, ◌||◌, nat_lt, nat_le, List, map, length, take, get_or, sym, ap, subst, ⊎_elim, ◌∙◌, arith, add-one, All, cases_lt, nat_tests, length-map, take_all, pow-add, pow_pos, pow-succ', mod-eq_of_lt, Ghosts, Adds, bit, number, own_at, All-kept, map-kept, Keeps-trans, Adds-trans, Adds-weaken, remainder, number-below, number-cut, number-take_more, product_gates, row_gates}
 
 -- the whole product after one more row: the product before is sum + q * r * over, and the word is low + r * high
 row_total : (q r low high lower digit sum next carry over : ℕ) → next + (q * r) * carry ≡ sum + q * (digit * low) → (q * r) * over + sum ≡ (low + r * high) * lower → next + (q * r) * (carry + over + digit * high) ≡ (low + r * high) * (lower + q * digit)

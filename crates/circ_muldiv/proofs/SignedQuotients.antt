@@ -1,12 +1,5 @@
 -- Signed quotients and remainders, by those of the absolute values.
-use Rattle.std.proofs.Common.{◌≡◌, ◌≢◌, ℕ, zero, suc, ◌-◌, ◌*◌, ◌/◌, ◌%◌, ◌^◌, ◌<◌, ℤ, pos, negsuc, neg_ℤ, ◌*ℤ◌, int_lt, unsigned_abs, Bool, true, false, nat_lt, nat_le, if◌then◌else◌, List, map, length, get_or, refl, sym, ap, subst, ◌∙◌, arith}
-use Rattle.std.specs.Bool.{xor}
-use Rattle.std.proofs.lemmas.Bool.Decides.{nat_tests}
-use Rattle.std.proofs.lemmas.Int.{ints}
-use Rattle.std.proofs.Math.Nat.{mod-eq_of_lt, mod-add-div}
-use Rattle.circuits.specs.Word.{number, signed}
-use Rattle.circuits.proofs.Words.{remainder}
-use Rattle.circ_muldiv.specs.Division.{quotient, residue}
+use Rattle.circ_muldiv.proofs.Common.{◌≡◌, ◌≢◌, ℕ, zero, suc, ◌-◌, ◌*◌, ◌/◌, ◌%◌, ◌^◌, ◌<◌, ℤ, pos, negsuc, neg_ℤ, ◌*ℤ◌, int_lt, unsigned_abs, Bool, true, false, nat_lt, nat_le, if◌then◌else◌, List, map, length, get_or, refl, sym, ap, subst, ◌∙◌, arith, xor, nat_tests, ints, mod-eq_of_lt, mod-add-div, number, signed, remainder, quotient, residue}
 use Rattle.circ_muldiv.specs.Division as division
 use Rattle.circ_muldiv.proofs.Rows.{highest_bit}
 use Rattle.circ_muldiv.proofs.OverflowTests.{number_below, sign_of_signed, magnitude_is}

@@ -1,13 +1,5 @@
 -- A chain of full adders, over the lowest bits of two words.
-use Rattle.std.proofs.Common.{add-one, ◌≡◌, ℕ, ◌+◌, ◌*◌, ◌^◌, ◌<◌, Bool, ◌&&◌, ◌||◌, List, [], ◌∷◌, ◌++◌, map, length, take, get_or, refl, ap, ◌∙◌, arith}
-use Rattle.std.specs.Bool.{xor}
-use Rattle.std.specs.List.{All}
-use Rattle.std.proofs.lemmas.List.{map-append, length-map, length_push, take_all}
-use Rattle.std.proofs.lemmas.List.Elements.{All-push}
-use Rattle.std.proofs.Math.Nat.{pow-succ'}
-use Rattle.circuits.specs.declared.state.State.{Ghosts}
-use Rattle.circuits.specs.Circuit.{Adds}
-use Rattle.circuits.specs.Word.{bit, number}
+use Rattle.circuits.proofs.Common.{add-one, ◌≡◌, ℕ, ◌+◌, ◌*◌, ◌^◌, ◌<◌, Bool, ◌&&◌, ◌||◌, List, [], ◌∷◌, ◌++◌, map, length, take, get_or, refl, ap, ◌∙◌, arith, xor, All, map-append, length-map, length_push, take_all, All-push, pow-succ', Ghosts, Adds, bit, number}
 use Rattle.circuits.proofs.Truth.{adder_total}
 use Rattle.circuits.proofs.Words.{number-push, number-take_more}
 use Rattle.circuits.proofs.Kept.{own_at, All-kept, map-kept, Adds-trans, Adds-weaken}

@@ -1,7 +1,5 @@
 -- The number of a word that is chosen from two.
-use Rattle.std.proofs.Common.{◌≡◌, Bool, true, false, List, if◌then◌else◌, sym, ap, ◌∙◌}
-use Rattle.std.proofs.lemmas.Bool.{true≢false}
-use Rattle.circuits.specs.Word.{number}
+use Rattle.circuits.proofs.Common.{◌≡◌, Bool, true, false, List, if◌then◌else◌, sym, ap, ◌∙◌, true≢false, number}
 
 pub chosen : (word xs ys a b : List Bool) (c d : Bool) → word ≡ (if c then xs else ys) → c ≡ d → xs ≡ a → ys ≡ b → number word ≡ (if d then number a else number b)
 chosen word xs ys a b true true e p q r = ap number (e ∙ q)

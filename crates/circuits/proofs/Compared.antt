@@ -1,12 +1,5 @@
 -- Words compared bit by bit, from the lowest.
-use Rattle.std.proofs.Common.{◌≡◌, ℕ, ◌+◌, ◌*◌, ◌^◌, ◌<◌, Bool, true, false, not, ◌&&◌, nat_lt, ◌==◌, if◌then◌else◌, List, map, length, take, get_or, subst, ◌∙◌, arith}
-use Rattle.std.proofs.lemmas.Bool.Decides.{nat_tests}
-use Rattle.std.proofs.lemmas.List.{length-map, length-take-le}
-use Rattle.std.specs.Bool.{xor}
-use Rattle.std.specs.List.{All}
-use Rattle.circuits.specs.declared.state.State.{Ghosts}
-use Rattle.circuits.specs.Circuit.{Keeps}
-use Rattle.circuits.specs.Word.{bit, number}
+use Rattle.circuits.proofs.Common.{◌≡◌, ℕ, ◌+◌, ◌*◌, ◌^◌, ◌<◌, Bool, true, false, not, ◌&&◌, nat_lt, ◌==◌, if◌then◌else◌, List, map, length, take, get_or, subst, ◌∙◌, arith, nat_tests, length-map, length-take-le, xor, All, Ghosts, Keeps, bit, number}
 use Rattle.circuits.proofs.Words.{number-below, number-take_more}
 use Rattle.circuits.proofs.Kept.{own_at}
 

@@ -1,8 +1,5 @@
 -- What a circuit that keeps its older literals keeps of a word of them.
-use Rattle.std.proofs.Common.{ℕ, ◌+◌, ◌≤◌, get_or, subst, sym, ◌≡◌, suc, ◌<◌, Bool, List, [], ◌∷◌, map, length, refl, ◌∙◌, arith}
-use Rattle.std.specs.List.{All}
-use Rattle.circuits.specs.declared.state.State.{Ghosts}
-use Rattle.circuits.specs.Circuit.{Keeps, Adds}
+use Rattle.circuits.proofs.Common.{ℕ, ◌+◌, ◌≤◌, get_or, subst, sym, ◌≡◌, suc, ◌<◌, Bool, List, [], ◌∷◌, map, length, refl, ◌∙◌, arith, All, Ghosts, Keeps, Adds}
 
 pub All-kept : {C L : Type 0} {state : Ghosts C L} {old new : C} → Keeps state old new → (word : List L) → All (state.has_literal old) word → All (state.has_literal new) word
 All-kept keeps word own k d below = keeps.literals _ (own k d below)

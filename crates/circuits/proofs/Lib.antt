@@ -1,3 +1,4 @@
+pub mod Common
 pub mod Truth
 pub mod Words
 pub mod Stages

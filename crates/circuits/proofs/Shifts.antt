@@ -1,15 +1,5 @@
 -- Words moved by stages, one for each of the amount's lowest bits, and by the amount's higher bits all at once.
-use Rattle.std.proofs.Common.{◌≡◌, ℕ, zero, suc, ◌+◌, ◌-◌, ◌*◌, ◌/◌, ◌%◌, ◌^◌, ◌<◌, ◌≤◌, Bool, true, false, nat_lt, if◌then◌else◌, List, [], ◌∷◌, ◌++◌, map, length, take, drop, get_or, replicate, refl, sym, ap, subst, ◌∙◌, ⊎_elim, arith, length-append, length-drop}
-use Rattle.std.proofs.lemmas.Bool.{cases_lt}
-use Rattle.std.proofs.lemmas.List.{take-take, drop-map, take-append-le, take-replicate, take-map, drop-drop, drop-append-le, drop-replicate, length-take-le, take-append-drop, length-map, length-replicate, replicate-append-replicate, append_assoc, map-append}
-use Rattle.std.proofs.lemmas.List.Elements.{All-append, All-replicate, All-take, All-drop}
-use Rattle.std.proofs.lemmas.Nat.{div-mul-add}
-use Rattle.std.proofs.Math.Seq.{drop-append-add, take-append-add}
-use Rattle.std.specs.List.{All}
-use Rattle.circuits.specs.declared.shift.Direction.{Direction}
-use Rattle.circuits.specs.declared.shift.Direction.TheVariants.{Up, Down}
-use Rattle.circuits.specs.Move.{moved}
-use Rattle.circuits.specs.Word.{bit, number}
+use Rattle.circuits.proofs.Common.{◌≡◌, ℕ, zero, suc, ◌+◌, ◌-◌, ◌*◌, ◌/◌, ◌%◌, ◌^◌, ◌<◌, ◌≤◌, Bool, true, false, nat_lt, if◌then◌else◌, List, [], ◌∷◌, ◌++◌, map, length, take, drop, get_or, replicate, refl, sym, ap, subst, ◌∙◌, ⊎_elim, arith, length-append, length-drop, cases_lt, take-take, drop-map, take-append-le, take-replicate, take-map, drop-drop, drop-append-le, drop-replicate, length-take-le, take-append-drop, length-map, length-replicate, replicate-append-replicate, append_assoc, map-append, All-append, All-replicate, All-take, All-drop, div-mul-add, drop-append-add, take-append-add, All, Direction, Up, Down, moved, bit, number}
 use Rattle.circuits.proofs.Words.{number-append, number-take, number-zeros, number-extended, number-below, number-take_more, map-replicate}
 
 pub length-moved : {L : Type 0} (direction : Direction) (fill : L) (s : ℕ) (word : List L) → length (moved direction fill s word) ≡ length word

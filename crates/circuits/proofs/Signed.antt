@@ -1,11 +1,5 @@
 -- Signed numbers compared.
-use Rattle.std.proofs.Common.{List, map, length, subst, ◌≡◌, ℕ, ◌+◌, ◌-◌, ◌*◌, ◌%◌, ◌^◌, ◌<◌, ◌≤◌, ℤ, pos, ◌+ℤ◌, ◌-ℤ◌, Bool, true, false, nat_lt, nat_le, if◌then◌else◌, sym, ap, ◌∙◌, ⊎_elim, arith, add-one}
-use Rattle.std.specs.Prelude.{int_lt}
-use Rattle.std.proofs.lemmas.Bool.{cases_lt}
-use Rattle.std.proofs.lemmas.Int.{ints}
-use Rattle.std.proofs.Math.Nat.{pow-succ'}
-use Rattle.std.proofs.lemmas.List.{length-map}
-use Rattle.circuits.specs.Word.{number, signed}
+use Rattle.circuits.proofs.Common.{List, map, length, subst, ◌≡◌, ℕ, ◌+◌, ◌-◌, ◌*◌, ◌%◌, ◌^◌, ◌<◌, ◌≤◌, ℤ, pos, ◌+ℤ◌, ◌-ℤ◌, Bool, true, false, nat_lt, nat_le, if◌then◌else◌, sym, ap, ◌∙◌, ⊎_elim, arith, add-one, int_lt, cases_lt, ints, pow-succ', length-map, number, signed}
 use Rattle.circuits.proofs.Words.{remainder, number-below}
 
 -- a number below 2 * half, read as a signed one, is raised by half

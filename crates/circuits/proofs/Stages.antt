@@ -1,10 +1,5 @@
 -- How many stages a shift has.
-use Rattle.std.proofs.Common.{◌≡◌, ℕ, zero, suc, ◌+◌, ◌-◌, ◌*◌, ◌%◌, ◌^◌, min, List, length, take, drop, length-drop, ◌<◌, ◌≤◌, true, false, nat_lt, if◌then◌else◌, ap, ◌∙◌, ⊎_elim, arith, add-one}
-use Rattle.std.proofs.lemmas.Bool.{cases_lt}
-use Rattle.std.proofs.Math.Nat.{pow-succ', mul-le-mul_left, mod-eq_of_lt}
-use Rattle.std.proofs.lemmas.List.{length-take-le}
-use Rattle.std.proofs.Math.Pow.{pow_mono}
-use Rattle.circuits.specs.Gates.{shift_gates, stages}
+use Rattle.circuits.proofs.Common.{◌≡◌, ℕ, zero, suc, ◌+◌, ◌-◌, ◌*◌, ◌%◌, ◌^◌, min, List, length, take, drop, length-drop, ◌<◌, ◌≤◌, true, false, nat_lt, if◌then◌else◌, ap, ◌∙◌, ⊎_elim, arith, add-one, cases_lt, pow-succ', mul-le-mul_left, mod-eq_of_lt, length-take-le, pow_mono, shift_gates, stages}
 
 pub doubled : (k : ℕ) → 2 ^ (k + 1) ≡ 2 * 2 ^ k
 doubled k = ap (λ n. 2 ^ n) (add-one k) ∙ pow-succ' 2 k

@@ -1,7 +1,5 @@
 -- Tables of truth values.
-use Rattle.std.proofs.Common.{◌≡◌, ◌+◌, ◌*◌, Bool, true, false, not, ◌&&◌, ◌||◌, refl, arith}
-use Rattle.std.specs.Bool.{xor, beq}
-use Rattle.circuits.specs.Word.{bit}
+use Rattle.circuits.proofs.Common.{◌≡◌, ◌+◌, ◌*◌, Bool, true, false, not, ◌&&◌, ◌||◌, refl, arith, xor, beq, bit}
 
 -- two truth values differ exactly where one of them is true and not both
 pub not_beq : (a b : Bool) → not (beq a b) ≡ xor a b

@@ -1,11 +1,5 @@
 -- Lemmas on the number of a word.
-use Rattle.std.proofs.Common.{nat_lt, ◌||◌, if◌then◌else◌, add-one, subst, zero, ◌≡◌, ℕ, suc, ◌+◌, ◌-◌, ◌*◌, ◌%◌, ◌^◌, ◌<◌, ◌≤◌, Bool, true, false, not, List, [], ◌∷◌, ◌++◌, map, length, take, drop, get_or, replicate, refl, sym, ap, ◌∙◌, arith}
-use Rattle.std.proofs.lemmas.List.{take_more, map-append, length-map, length-take-le, take-append-drop, take-map, take_all, length-replicate}
-use Rattle.std.proofs.lemmas.Bool.Decides.{nat_tests}
-use Rattle.std.proofs.lemmas.Nat.{pow-add}
-use Rattle.std.proofs.Math.Nat.{pow-succ', mod-eq_of_lt, add-mul-mod_self_left}
-use Rattle.std.specs.List.{list_any}
-use Rattle.circuits.specs.Word.{bit, number}
+use Rattle.circuits.proofs.Common.{nat_lt, ◌||◌, if◌then◌else◌, add-one, subst, zero, ◌≡◌, ℕ, suc, ◌+◌, ◌-◌, ◌*◌, ◌%◌, ◌^◌, ◌<◌, ◌≤◌, Bool, true, false, not, List, [], ◌∷◌, ◌++◌, map, length, take, drop, get_or, replicate, refl, sym, ap, ◌∙◌, arith, take_more, map-append, length-map, length-take-le, take-append-drop, take-map, take_all, length-replicate, nat_tests, pow-add, pow-succ', mod-eq_of_lt, add-mul-mod_self_left, list_any, bit, number}
 
 pub bit-le_one : (b : Bool) → bit b ≤ 1
 bit-le_one true = omega arith

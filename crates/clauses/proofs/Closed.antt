@@ -1,11 +1,5 @@
 -- States that are closed under unit propagation, and what such a state shows of derivations from states that hold less.
-use Rattle.std.proofs.Common.{◌≡◌, ℕ, true, false, List, [], ◌∷◌, Some, length, get_or, refl, sym, ap, ◌∙◌, inl, inr, subst}
-use Rattle.std.specs.Prelude.{slice_get, remove, ◌⊎◌}
-use Rattle.clauses.specs.Literal.{Lit, negation_of, is_same}
-use Rattle.clauses.specs.Propagation.{Derives, IsFalsified, IsUnit, SomeFalsified, is_held, is_false, negations_of}
-use Rattle.clauses.specs.ClauseSet.{IsNew, UnitsRefute}
-use Rattle.std.proofs.lemmas.Bool.{cases_Bool, or_cases, true≢false}
-use Rattle.std.proofs.lemmas.Option.{slice_get_read}
+use Rattle.clauses.proofs.Common.{◌≡◌, ℕ, true, false, List, [], ◌∷◌, Some, length, get_or, refl, sym, ap, ◌∙◌, inl, inr, subst, slice_get, remove, ◌⊎◌, Lit, negation_of, is_same, Derives, IsFalsified, IsUnit, SomeFalsified, is_held, is_false, negations_of, IsNew, UnitsRefute, cases_Bool, or_cases, true≢false, slice_get_read}
 use Rattle.clauses.proofs.Held.{is_same-true}
 use Rattle.clauses.proofs.Units.{falsified_from, unit_from, unit_only, unit_stands}
 

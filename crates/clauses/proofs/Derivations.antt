@@ -1,8 +1,5 @@
 -- Derivations taken propagation by propagation, and hints taken hint by hint.
-use Rattle.std.proofs.Common.{◌≡◌, ℕ, List, [], ◌∷◌, ◌++◌, Some, refl, sym, ap, ◌∙◌, subst}
-use Rattle.std.specs.Prelude.{slice_get}
-use Rattle.clauses.specs.Literal.{Lit}
-use Rattle.clauses.specs.Propagation.{Derives, HintsRefute, NamesFalse, NamesUnit, IsUnit}
+use Rattle.clauses.proofs.Common.{◌≡◌, ℕ, List, [], ◌∷◌, ◌++◌, Some, refl, sym, ap, ◌∙◌, subst, slice_get, Lit, Derives, HintsRefute, NamesFalse, NamesUnit, IsUnit}
 use Rattle.clauses.proofs.Units.{unit_same}
 
 -- a number is that of one clause at most

@@ -1,9 +1,5 @@
 -- Literals that are held, and assignments that make them true.
-use Rattle.std.proofs.Common.{◌≡◌, ℕ, ◌+◌, ◌*◌, ◌/◌, Bool, true, false, not, cond, eqb, List, [], ◌∷◌, refl, sym, ap, ◌∙◌, inl, inr, arith}
-use Rattle.std.proofs.lemmas.Bool.{not-false, and_parts, and_from, or_cases, or_parts, eqb-true, eq-eqb, true≢false, not-true}
-use Rattle.std.proofs.lemmas.Bool.Decides.{nat_tests}
-use Rattle.clauses.specs.Literal.{Lit, code_of, literal_at, negation_of, is_same, literal_true, clause_true}
-use Rattle.clauses.specs.Propagation.{is_held, negations_of}
+use Rattle.clauses.proofs.Common.{◌≡◌, ℕ, ◌+◌, ◌*◌, ◌/◌, Bool, true, false, not, cond, eqb, List, [], ◌∷◌, refl, sym, ap, ◌∙◌, inl, inr, arith, not-false, and_parts, and_from, or_cases, or_parts, eqb-true, eq-eqb, true≢false, not-true, nat_tests, Lit, code_of, literal_at, negation_of, is_same, literal_true, clause_true, is_held, negations_of}
 
 -- the literal of this variable and sign
 abbrev pub made : ℕ → Bool → Lit

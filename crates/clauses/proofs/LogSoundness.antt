@@ -1,14 +1,5 @@
 -- Each clause of a log that follows is true in every model of the set.
-use Rattle.std.proofs.Common.{◌≡◌, ℕ, zero, suc, ◌-◌, ◌<◌, ◌≤◌, Bool, true, List, [], ◌∷◌, ◌++◌, Some, None, length, take, refl, sym, ap, ◌∙◌, arith, subst, append_assoc, length-append}
-use Rattle.std.specs.Prelude.{slice_get, All, Option, option_map, IsSomeAnd}
-use Rattle.clauses.specs.declared.step.Step.{Step}
-use Rattle.clauses.specs.declared.cnf.Cnf.{Cnf}
-use Rattle.clauses.specs.Literal.{clause_true, Meets}
-use Rattle.clauses.specs.ClauseSet.{all_clauses, clauses_of_steps, clauses_before, LogFollows, IsRefutation}
-use Rattle.std.proofs.lemmas.Bool.{true≢false}
-use Rattle.std.proofs.lemmas.List.{append-nil, get_or_append_left, map-append, take_all}
-use Rattle.std.proofs.lemmas.List.Elements.{All-push}
-use Rattle.std.proofs.lemmas.Option.{slice_get-map}
+use Rattle.clauses.proofs.Common.{◌≡◌, ℕ, zero, suc, ◌-◌, ◌<◌, ◌≤◌, Bool, true, List, [], ◌∷◌, ◌++◌, Some, None, length, take, refl, sym, ap, ◌∙◌, arith, subst, append_assoc, length-append, slice_get, All, Option, option_map, IsSomeAnd, Step, Cnf, clause_true, Meets, all_clauses, clauses_of_steps, clauses_before, LogFollows, IsRefutation, true≢false, append-nil, get_or_append_left, map-append, take_all, All-push, slice_get-map}
 use Rattle.clauses.proofs.Soundness.{Meets-at, shown_is_true}
 
 -- the elements up to and with a place are those before it and the one at it

@@ -1,12 +1,5 @@
 -- What follows where a set stands for a test of its inputs' values.
-use Rattle.std.proofs.Common.{◌≡◌, ℕ, zero, suc, ◌-◌, ◌<◌, ◌≤◌, Bool, true, false, ◌||◌, List, [], ◌∷◌, length, map, take, get_or, refl, sym, ap, ◌∙◌, arith, inl, inr, length-take}
-use Rattle.std.specs.Prelude.{◌↔◌}
-use Rattle.clauses.specs.declared.cnf.Cnf.{Cnf}
-use Rattle.clauses.specs.Literal.{Lit, Meets, IsWithin, VariablesWithin, IsVariable, literal_true, clause_true, assignment_of}
-use Rattle.clauses.specs.ClauseSet.{all_clauses, UnitsDetermine}
-use Rattle.clauses.specs.Settings.{AgreeUpTo, StandsFor, input_values}
-use Rattle.std.proofs.lemmas.List.{same_lists, length-map, get_or-take, get_or_default}
-use Rattle.std.proofs.lemmas.List.Elements.{All-append, All-head, All-tail}
+use Rattle.clauses.proofs.Common.{◌≡◌, ℕ, zero, suc, ◌-◌, ◌<◌, ◌≤◌, Bool, true, false, ◌||◌, List, [], ◌∷◌, length, map, take, get_or, refl, sym, ap, ◌∙◌, arith, inl, inr, length-take, ◌↔◌, Cnf, Lit, Meets, IsWithin, VariablesWithin, IsVariable, literal_true, clause_true, assignment_of, all_clauses, UnitsDetermine, AgreeUpTo, StandsFor, input_values, same_lists, length-map, get_or-take, get_or_default, All-append, All-head, All-tail}
 use Rattle.clauses.proofs.LogSoundness.{All-left, All-right}
 
 -- an assignment meets the clauses of the set exactly where it meets those of the gates and the roots

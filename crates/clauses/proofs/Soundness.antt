@@ -1,11 +1,5 @@
 -- Reverse unit propagation is sound.
-use Rattle.std.proofs.Common.{◌≡◌, ℕ, Bool, true, false, List, [], ◌∷◌, Some, sym, ap, ◌∙◌, inl, inr, subst}
-use Rattle.std.specs.Prelude.{slice_get}
-use Rattle.clauses.specs.Literal.{Lit, literal_true, clause_true, negation_of, Meets}
-use Rattle.clauses.specs.Propagation.{Derives, HintsRefute, IsFalsified, IsUnit, is_held, is_false, negations_of}
-use Rattle.std.proofs.lemmas.Bool.{cases_Bool, true≢false, false_from_ne_true}
-use Rattle.std.proofs.lemmas.List.Folds.{Any-from_list_any}
-use Rattle.std.proofs.lemmas.Option.{slice_get_within, get_or_from_slice_get}
+use Rattle.clauses.proofs.Common.{◌≡◌, ℕ, Bool, true, false, List, [], ◌∷◌, Some, sym, ap, ◌∙◌, inl, inr, subst, slice_get, Lit, literal_true, clause_true, negation_of, Meets, Derives, HintsRefute, IsFalsified, IsUnit, is_held, is_false, negations_of, cases_Bool, true≢false, false_from_ne_true, Any-from_list_any, slice_get_within, get_or_from_slice_get}
 use Rattle.clauses.proofs.Held.{HeldTrue, HeldTrue-cons, HeldTrue-negations, false_of_negation}
 use Rattle.clauses.proofs.Units.{held-from_Contains, falsified_each, unit_only}
 

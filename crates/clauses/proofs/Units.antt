@@ -1,12 +1,5 @@
 -- False clauses and unit literals, where a clause is looked through literal by literal.
-use Rattle.std.proofs.Common.{◌≡◌, ℕ, ◌+◌, ◌<◌, true, false, List, [], ◌∷◌, ◌++◌, Option, Some, None, length, take, get_or, refl, sym, ap, ◌∙◌, inl, inr, subst}
-use Rattle.std.specs.Prelude.{Contains}
-use Rattle.std.proofs.lemmas.Bool.{cases_Bool, true≢false}
-use Rattle.std.proofs.lemmas.List.{take_more}
-use Rattle.std.proofs.lemmas.List.Elements.{All-contains, All-cons, All-push, Contains-get_or, Contains-append_left, Contains-push}
-use Rattle.std.proofs.lemmas.List.Folds.{Any-from_list_any, list_any_at}
-use Rattle.clauses.specs.Literal.{Lit, is_same}
-use Rattle.clauses.specs.Propagation.{IsFalsified, IsUnit, is_held, is_false}
+use Rattle.clauses.proofs.Common.{◌≡◌, ℕ, ◌+◌, ◌<◌, true, false, List, [], ◌∷◌, ◌++◌, Option, Some, None, length, take, get_or, refl, sym, ap, ◌∙◌, inl, inr, subst, Contains, cases_Bool, true≢false, take_more, All-contains, All-cons, All-push, Contains-get_or, Contains-append_left, Contains-push, Any-from_list_any, list_any_at, Lit, is_same, IsFalsified, IsUnit, is_held, is_false}
 use Rattle.clauses.proofs.Held.{is_same-self, is_same-true}
 
 -- the test of a literal in a list says that it stands there

@@ -1,21 +1,7 @@
 -- Definitions in order: each assignment to the smaller variables has exactly one extension that meets their clauses,
 -- unit propagation derives it, and each clause is one of the definition of its greatest variable.
-use Rattle.std.proofs.Common.{◌≡◌, ℕ, zero, suc, ◌+◌, ◌-◌, ◌<◌, ◌≤◌, Bool, true, false, not, ◌&&◌, cond, eqb, List, [], ◌∷◌, ◌++◌, length, map, get_or, All, Any, EachIndex, slice_index, Some, refl, sym, ap, ap₂, ◌∙◌, subst, inl, inr, arith}
-use Rattle.std.specs.Bool.{xor}
-use Rattle.std.specs.Prelude.{slice_get}
-use Rattle.std.proofs.lemmas.Bool.{cases_lt, or_cases, or_left, or_right, eq-eqb, ne_eqb, false_from_ne_true}
-use Rattle.std.proofs.lemmas.Option.{slice_get-get_or, slice_get_within, get_or_from_slice_get, same_Some}
-use Rattle.std.proofs.lemmas.List.{get_or-map, length-map}
-use Rattle.std.proofs.lemmas.List.Elements.{All-nil, All-append}
-use Rattle.std.proofs.lemmas.List.Folds.{Any-from_list_any, list_any_at}
-use Rattle.clauses.specs.Literal.{Lit, Meets, literal_of, negation_of, is_same, literal_true, clause_true}
-use Rattle.clauses.specs.Propagation.{is_held, is_false, Derives, NamesUnit}
-use Rattle.clauses.specs.Settings.{StandsIn, IsGreatest, MeetsDefinition}
-use Rattle.clauses.proofs.Held.{is_same-true, is_same-self, literal_true-negation}
-use Rattle.clauses.proofs.LogSoundness.{All-left, All-right}
-use Rattle.cnf_build.specs.declared.definition.Definition.{Definition}
+use Rattle.cnf_build.proofs.Common.{◌≡◌, ℕ, zero, suc, ◌+◌, ◌-◌, ◌<◌, ◌≤◌, Bool, true, false, not, ◌&&◌, cond, eqb, List, [], ◌∷◌, ◌++◌, length, map, get_or, All, Any, EachIndex, slice_index, Some, refl, sym, ap, ap₂, ◌∙◌, subst, inl, inr, arith, xor, slice_get, cases_lt, or_cases, or_left, or_right, eq-eqb, ne_eqb, false_from_ne_true, slice_get-get_or, slice_get_within, get_or_from_slice_get, same_Some, get_or-map, length-map, All-nil, All-append, Any-from_list_any, list_any_at, Lit, Meets, literal_of, negation_of, is_same, literal_true, clause_true, is_held, is_false, Derives, NamesUnit, StandsIn, IsGreatest, MeetsDefinition, is_same-true, is_same-self, literal_true-negation, All-left, All-right, Definition, definition_value, clauses_of_definition, clauses_from, IsSmaller, IsOverSmaller, AreOverSmaller}
 use Rattle.cnf_build.specs.declared.definition.Definition.TheVariants.{One, And, Xor, Mux}
-use Rattle.cnf_build.specs.Definitions.{definition_value, clauses_of_definition, clauses_from, IsSmaller, IsOverSmaller, AreOverSmaller}
 use Rattle.cnf_build.proofs.OneDefinition.{value_from_Meets, Meets-from_value, IsDecided, unit_of, all_heads, greatest_from_head}
 
 -- operands

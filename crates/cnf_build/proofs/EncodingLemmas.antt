@@ -1,15 +1,5 @@
 -- The parts of the encoding together: names, definitions and clauses.
-use Rattle.std.proofs.Common.{◌≡◌, ℕ, ◌+◌, true, List, [], ◌∷◌, length, All, Result, Ok, Err, IfOk, EachIndex, slice_index, sym, subst, ap, ◌∙◌}
-use Rattle.clauses.specs.declared.cnf.Cnf.{Cnf}
-use Rattle.clauses.specs.Literal.{Lit, IsVariable}
-use Rattle.clauses.specs.Settings.{StandsFor}
-use Rattle.aig.specs.Literal.{Literal}
-use Rattle.aig.specs.declared.gate.Gate.{Gate}
-use Rattle.aig.specs.Graph.{Graph, IsOwn, IsInOrder, AreProper, value_of}
-use Rattle.cnf_build.specs.declared.definition.Definition.{Definition}
-use Rattle.cnf_build.specs.Definitions.{clauses_from, NamesOnce}
-use Rattle.cnf_build.specs.NeededGates.{NeededMarks, AreNeeded}
-use Rattle.cnf_build.specs.Names.{Names, lit_of, NamesFirst}
+use Rattle.cnf_build.proofs.Common.{◌≡◌, ℕ, ◌+◌, true, List, [], ◌∷◌, length, All, Result, Ok, Err, IfOk, EachIndex, slice_index, sym, subst, ap, ◌∙◌, Cnf, Lit, IsVariable, StandsFor, Literal, Gate, Graph, IsOwn, IsInOrder, AreProper, value_of, Definition, clauses_from, NamesOnce, NeededMarks, AreNeeded, Names, lit_of, NamesFirst}
 use Rattle.cnf_build.proofs.Standing.{Encodes, StandsFor-from}
 use Rattle.cnf_build.proofs.OnceLemmas.{once_from, definitions_differ}
 use Rattle.cnf_build.proofs.NamesLemmas.{IsSound-named, root_within}

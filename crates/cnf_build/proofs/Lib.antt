@@ -1,3 +1,4 @@
+pub mod Common
 pub mod OneDefinition
 pub mod DefinitionLists
 pub mod Standing

@@ -1,15 +1,7 @@
 -- Which nodes a pass over the gates, from the last to the first, marks.
-use Rattle.std.proofs.Common.{◌≡◌, ℕ, ◌+◌, ◌<◌, ◌≤◌, ◌⊎◌, true, false, List, length, get_or, set, Some, refl, sym, ap, ◌∙◌, subst, inl, inr, arith, length-set, get_or-set_same, get_or-set_other}
-use Rattle.std.specs.Prelude.{slice_get}
-use Rattle.std.proofs.lemmas.Bool.{cases_eq, true≢false}
-use Rattle.std.proofs.lemmas.Option.{same_Some}
-use Rattle.aig.specs.declared.literal.Node.{Node}
-use Rattle.aig.specs.declared.literal.Node.TheVariants.{One, Input, Output}
-use Rattle.aig.specs.Literal.{Literal}
-use Rattle.aig.specs.declared.gate.Gate.{Gate}
+use Rattle.cnf_build.proofs.Common.{◌≡◌, ℕ, ◌+◌, ◌<◌, ◌≤◌, ◌⊎◌, true, false, List, length, get_or, set, Some, refl, sym, ap, ◌∙◌, subst, inl, inr, arith, length-set, get_or-set_same, get_or-set_other, slice_get, cases_eq, true≢false, same_Some, Node, Input, Output, Literal, Gate, IsAmong, OperandsAmong, NeededMarks, OutputBelow, OperandsBelow, IsMarked, IsCovered, with_node, with_operands, IsOperand, IsAskedFor, AreNeeded}
+use Rattle.aig.specs.declared.literal.Node.TheVariants.{One}
 use Rattle.aig.specs.declared.gate.Gate.TheVariants.{And, Xor, Mux}
-use Rattle.aig.specs.Graph.{IsAmong, OperandsAmong}
-use Rattle.cnf_build.specs.NeededGates.{NeededMarks, OutputBelow, OperandsBelow, IsMarked, IsCovered, with_node, with_operands, IsOperand, IsAskedFor, AreNeeded}
 
 -- a node of a graph is no gate, or one of the graph's
 pub OutputBelow-from_IsAmong : (inputs count : ℕ) (node : Node) → IsAmong inputs count node → OutputBelow count node

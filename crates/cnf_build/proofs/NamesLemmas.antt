@@ -1,24 +1,9 @@
 -- The constant and the marked gates get their variables one by one, and an assignment in which each definition holds
 -- gives the nodes their values in the graph.
-use Rattle.std.proofs.Common.{◌≡◌, ℕ, zero, suc, ◌+◌, ◌<◌, ◌≤◌, ◌⊎◌, Bool, true, false, not, ◌&&◌, cond, List, [], ◌∷◌, ◌++◌, length, map, get_or, EachIndex, slice_index, Some, refl, sym, ap, ap₂, ◌∙◌, subst, inl, inr, arith}
-use Rattle.std.specs.Bool.{xor}
-use Rattle.std.specs.Prelude.{slice_get}
-use Rattle.std.proofs.lemmas.Bool.{cases_lt, true≢false}
-use Rattle.std.proofs.lemmas.Option.{slice_get_within, slice_get-get_or, same_Some}
-use Rattle.std.proofs.lemmas.List.{get_or_append_left, get_or_push, length_push, get_or-map}
-use Rattle.clauses.specs.Literal.{Lit, IsVariable, literal_true}
-use Rattle.aig.specs.declared.literal.Node.{Node}
-use Rattle.aig.specs.declared.literal.Node.TheVariants.{One, Input, Output}
-use Rattle.aig.specs.Literal.{Literal}
-use Rattle.aig.specs.declared.gate.Gate.{Gate}
+use Rattle.cnf_build.proofs.Common.{◌≡◌, ℕ, zero, suc, ◌+◌, ◌<◌, ◌≤◌, ◌⊎◌, Bool, true, false, not, ◌&&◌, cond, List, [], ◌∷◌, ◌++◌, length, map, get_or, EachIndex, slice_index, Some, refl, sym, ap, ap₂, ◌∙◌, subst, inl, inr, arith, xor, slice_get, cases_lt, true≢false, slice_get_within, slice_get-get_or, same_Some, get_or_append_left, get_or_push, length_push, get_or-map, Lit, IsVariable, literal_true, Node, Input, Output, Literal, Gate, Graph, IsAmong, IsOwn, OperandsAmong, IsInOrder, node_value, literal_value, gate_value, gate_values, value_of, value_of_gate, Definition, definition_value, IsSmaller, IsOverSmaller, NeededMarks, IsMarked, IsCovered, IsOperand, IsClosed, AreNeeded, Names, variable_of, lit_of, definition_of, with_gate, HasDefinition, NamesFirst}
+use Rattle.aig.specs.declared.literal.Node.TheVariants.{One}
 use Rattle.aig.specs.declared.gate.Gate.TheVariants.{And, Xor, Mux}
-use Rattle.aig.specs.Graph.{Graph, IsAmong, IsOwn, OperandsAmong, IsInOrder, node_value, literal_value, gate_value, gate_values, value_of}
-use Rattle.aig.proofs.GraphLemmas.{value_of_gate}
-use Rattle.cnf_build.specs.declared.definition.Definition.{Definition}
 use Rattle.cnf_build.specs.declared.definition.Definition.TheVariants as definitions
-use Rattle.cnf_build.specs.Definitions.{definition_value, IsSmaller, IsOverSmaller}
-use Rattle.cnf_build.specs.NeededGates.{NeededMarks, IsMarked, IsCovered, IsOperand, IsClosed, AreNeeded}
-use Rattle.cnf_build.specs.Names.{Names, variable_of, lit_of, definition_of, with_gate, HasDefinition, NamesFirst}
 use Rattle.cnf_build.proofs.OneDefinition.{IsOperandOf}
 use Rattle.cnf_build.proofs.DefinitionLists.{Solves, Solves-at}
 use Rattle.cnf_build.proofs.SetLemmas.{length-clauses_from-push}

@@ -1,22 +1,9 @@
 -- Each clause of a gate names a variable once: the operands of a gate have different nodes, and these different
 -- variables.
-use Rattle.std.proofs.Common.{◌≡◌, ◌≢◌, ℕ, zero, suc, ◌+◌, ◌<◌, true, false, List, [], ◌∷◌, length, All, get_or, slice_get, Some, refl, sym, ap, ◌∙◌, subst, inl, inr, arith}
-use Rattle.std.proofs.lemmas.Bool.{cases_lt}
-use Rattle.std.proofs.lemmas.Option.{slice_get_within, slice_get-get_or, same_Some}
-use Rattle.std.proofs.lemmas.List.Elements.{All-nil, All-cons, All-append}
-use Rattle.clauses.specs.Literal.{Lit, literal_of, negation_of}
-use Rattle.aig.specs.declared.literal.Node.{Node}
-use Rattle.aig.specs.declared.literal.Node.TheVariants.{One, Input, Output}
-use Rattle.aig.specs.declared.gate.Gate.{Gate}
+use Rattle.cnf_build.proofs.Common.{◌≡◌, ◌≢◌, ℕ, zero, suc, ◌+◌, ◌<◌, true, false, List, [], ◌∷◌, length, All, get_or, slice_get, Some, refl, sym, ap, ◌∙◌, subst, inl, inr, arith, cases_lt, slice_get_within, slice_get-get_or, same_Some, All-nil, All-cons, All-append, Lit, literal_of, negation_of, Node, Input, Output, Gate, AreApart, IsProper, IsAmong, OperandsAmong, IsInOrder, AreProper, OperandsAmong-later, Definition, clauses_of_definition, clauses_from, NamesOnce, IsOverSmaller, AreOverSmaller, NeededMarks, IsMarked, IsCovered, IsOperand, IsClosed, Names, variable_of, definition_of, NamesFirst}
+use Rattle.aig.specs.declared.literal.Node.TheVariants.{One}
 use Rattle.aig.specs.declared.gate.Gate.TheVariants.{And, Xor, Mux}
-use Rattle.aig.specs.Gate.{AreApart, IsProper}
-use Rattle.aig.specs.Graph.{IsAmong, OperandsAmong, IsInOrder, AreProper}
-use Rattle.aig.proofs.GraphLemmas.{OperandsAmong-later}
-use Rattle.cnf_build.specs.declared.definition.Definition.{Definition}
 use Rattle.cnf_build.specs.declared.definition.Definition.TheVariants as definitions
-use Rattle.cnf_build.specs.Definitions.{clauses_of_definition, clauses_from, NamesOnce, IsOverSmaller, AreOverSmaller}
-use Rattle.cnf_build.specs.NeededGates.{NeededMarks, IsMarked, IsCovered, IsOperand, IsClosed}
-use Rattle.cnf_build.specs.Names.{Names, variable_of, definition_of, NamesFirst}
 
 -- clauses of one, two and three literals
 

@@ -1,18 +1,7 @@
 -- The clauses of one definition: an assignment meets them exactly where the variable has the definition's value, unit
 -- propagation derives that value from those of the operands, and the variable is the greatest of each clause.
-use Rattle.std.proofs.Common.{◌≡◌, ℕ, ◌<◌, ◌≤◌, ◌⊎◌, Bool, true, false, not, ◌&&◌, ◌||◌, cond, List, [], ◌∷◌, length, get_or, All, Any, refl, sym, ap, ap₂, ◌∙◌, subst, inl, inr, arith}
-use Rattle.std.specs.Bool.{xor, beq}
-use Rattle.std.specs.List.{list_all}
-use Rattle.std.proofs.lemmas.Bool.{cases_Bool, and_parts, and_from}
-use Rattle.std.proofs.lemmas.List.Elements.{All-nil, All-cons, All-head, All-tail, All-weaker}
-use Rattle.clauses.specs.Literal.{Lit, Meets, IsVariable, IsWithin, literal_of, negation_of, literal_true, clause_true}
-use Rattle.clauses.specs.Propagation.{is_false, IsFalsified, IsUnit}
-use Rattle.clauses.specs.Settings.{StandsIn, IsGreatest}
-use Rattle.clauses.proofs.Held.{literal_true-negation}
-use Rattle.clauses.proofs.Units.{unit_first}
-use Rattle.cnf_build.specs.declared.definition.Definition.{Definition}
+use Rattle.cnf_build.proofs.Common.{◌≡◌, ℕ, ◌<◌, ◌≤◌, ◌⊎◌, Bool, true, false, not, ◌&&◌, ◌||◌, cond, List, [], ◌∷◌, length, get_or, All, Any, refl, sym, ap, ap₂, ◌∙◌, subst, inl, inr, arith, xor, beq, list_all, cases_Bool, and_parts, and_from, All-nil, All-cons, All-head, All-tail, All-weaker, Lit, Meets, IsVariable, IsWithin, literal_of, negation_of, literal_true, clause_true, is_false, IsFalsified, IsUnit, StandsIn, IsGreatest, literal_true-negation, unit_first, Definition, definition_value, clauses_of_definition, IsSmaller, IsOverSmaller}
 use Rattle.cnf_build.specs.declared.definition.Definition.TheVariants.{One, And, Xor, Mux}
-use Rattle.cnf_build.specs.Definitions.{definition_value, clauses_of_definition, IsSmaller, IsOverSmaller}
 
 -- truth
 

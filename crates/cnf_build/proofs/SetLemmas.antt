@@ -1,12 +1,6 @@
 -- The variables of the clauses of definitions, and how many clauses these are.
-use Rattle.std.proofs.Common.{◌≡◌, ℕ, ◌+◌, ◌*◌, ◌≤◌, List, [], ◌∷◌, ◌++◌, length, get_or, All, EachIndex, slice_index, ◌∙◌, arith, length-append}
-use Rattle.std.proofs.lemmas.Option.{slice_get_within}
-use Rattle.std.proofs.lemmas.List.{get_or_default}
-use Rattle.std.proofs.lemmas.List.Elements.{All-nil, All-cons}
-use Rattle.clauses.specs.Literal.{Lit, IsVariable, IsWithin, VariablesWithin}
-use Rattle.cnf_build.specs.declared.definition.Definition.{Definition}
+use Rattle.cnf_build.proofs.Common.{◌≡◌, ℕ, ◌+◌, ◌*◌, ◌≤◌, List, [], ◌∷◌, ◌++◌, length, get_or, All, EachIndex, slice_index, ◌∙◌, arith, length-append, slice_get_within, get_or_default, All-nil, All-cons, Lit, IsVariable, IsWithin, VariablesWithin, Definition, clauses_of_definition, clauses_from, AreOverSmaller}
 use Rattle.cnf_build.specs.declared.definition.Definition.TheVariants.{One, And, Xor, Mux}
-use Rattle.cnf_build.specs.Definitions.{clauses_of_definition, clauses_from, AreOverSmaller}
 use Rattle.cnf_build.proofs.OneDefinition.{all_heads, within_from_head}
 use Rattle.cnf_build.proofs.DefinitionLists.{All-clauses_from}
 

@@ -1,17 +1,6 @@
 -- A set of definitions' clauses and a root clause stands for the test that the root's literal is true.
-use Rattle.std.proofs.Common.{◌≡◌, ℕ, ◌+◌, ◌-◌, ◌<◌, ◌≤◌, ◌⊎◌, ◌↔◌, Bool, true, false, List, [], ◌∷◌, length, map, get_or, All, Any, EachIndex, slice_index, Some, refl, sym, ap₂, ◌∙◌, subst, inl, inr, arith}
-use Rattle.std.specs.Prelude.{slice_get}
-use Rattle.std.proofs.lemmas.Bool.{or_cases, or_left, true≢false}
-use Rattle.std.proofs.lemmas.Option.{slice_get-get_or}
-use Rattle.std.proofs.lemmas.List.{get_or_default}
-use Rattle.std.proofs.lemmas.List.Elements.{All-nil, All-cons, All-head, All-tail}
-use Rattle.clauses.specs.declared.cnf.Cnf.{Cnf}
-use Rattle.clauses.specs.Literal.{Lit, Meets, literal_of, literal_true, clause_true}
-use Rattle.clauses.specs.ClauseSet.{all_clauses, setting_literals}
-use Rattle.clauses.specs.Settings.{StandsAt, StandsFor, StandsIn, IsInner, IsDefined, IsUsed, AgreeOn, UnitsDerive, MeetsDefinition, input_values}
-use Rattle.cnf_build.specs.declared.definition.Definition.{Definition}
+use Rattle.cnf_build.proofs.Common.{◌≡◌, ℕ, ◌+◌, ◌-◌, ◌<◌, ◌≤◌, ◌⊎◌, ◌↔◌, Bool, true, false, List, [], ◌∷◌, length, map, get_or, All, Any, EachIndex, slice_index, Some, refl, sym, ap₂, ◌∙◌, subst, inl, inr, arith, slice_get, or_cases, or_left, true≢false, slice_get-get_or, get_or_default, All-nil, All-cons, All-head, All-tail, Cnf, Lit, Meets, literal_of, literal_true, clause_true, all_clauses, setting_literals, StandsAt, StandsFor, StandsIn, IsInner, IsDefined, IsUsed, AgreeOn, UnitsDerive, MeetsDefinition, input_values, Definition, definition_value, clauses_of_definition, clauses_from, AreOverSmaller}
 use Rattle.cnf_build.specs.declared.definition.Definition.TheVariants.{One}
-use Rattle.cnf_build.specs.Definitions.{definition_value, clauses_of_definition, clauses_from, AreOverSmaller}
 use Rattle.cnf_build.proofs.OneDefinition.{IsOperandOf, UsesBelow, operand_used}
 use Rattle.cnf_build.proofs.DefinitionLists.{AgreeBelow, Solves, Meets-from_Solves, Solves-from_Meets, extend, extend-below, extend-solves, solutions-agree, definition_value-agree, Has, Has-append_left, Has-from_definition, Has-from_place, Any-from_Has, value_from_MeetsDefinition, MeetsDefinition-from_value, HoldsBelow, HoldsBelow-inputs, derive_all, literal_of-true}
 

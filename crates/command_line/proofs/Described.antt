@@ -1,17 +1,7 @@
 -- What `clap` makes of arguments and commands that are described.
-use Rattle.std.proofs.Common.{◌≡◌, ℕ, ◌+◌, ◌<◌, List, [], ◌∷◌, ◌++◌, map, fold, take, length, get_or, append_assoc, sym, ap, ap₂, subst, ◌∙◌}
-use Rattle.std.specs.List.{AllZip}
-use Rattle.std.proofs.lemmas.List.{append-nil, take_more}
-use Rattle.std.proofs.lemmas.Slice.Zip.{all_zipped_more}
-use Rattle.clap.specs.Words.{App, Rule, Shape, Text, AddsInTurn, AddsArg, AddsSubcommand, app_of, with_rule, with_subcommand}
-use Rattle.clap.specs.Simple.{new_shape}
-use Rattle.clap.specs.declared.builder.Arg.{Arg}
+use Rattle.command_line.proofs.Common.{◌≡◌, ℕ, ◌+◌, ◌<◌, List, [], ◌∷◌, ◌++◌, map, fold, take, length, get_or, append_assoc, sym, ap, ap₂, subst, ◌∙◌, AllZip, append-nil, take_more, all_zipped_more, AddsInTurn, AddsArg, AddsSubcommand, app_of, with_rule, with_subcommand, new_shape, Arg, plain_fields, Argument, Described, rule_described, shape_described, IsDescribedArgument, IsLeaf}
+use Rattle.clap.specs.Words.{App, Rule, Shape, Text}
 use Rattle.clap.specs.declared.builder.Command.{Command}
-use Rattle.clap.proofs.SimpleLemmas.{plain_fields}
-use Rattle.command_line.specs.declared.descriptions.Argument.{Argument}
-use Rattle.command_line.specs.declared.descriptions.Described.{Described}
-use Rattle.command_line.specs.Descriptions.{rule_described, shape_described, IsDescribedArgument}
-use Rattle.command_line.specs.Leaf.{IsLeaf}
 
 -- one more element goes with its description
 pub zip_more : {X Y : Type 0} (R : X → Y → Type 0) (xs : List X) (ys : List Y) (i : ℕ) (x : X) (y : Y) → i < length xs → AllZip R (take i xs) ys → R (get_or xs i x) y

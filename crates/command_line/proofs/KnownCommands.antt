@@ -1,22 +1,8 @@
 -- Where `clap` takes the words, they name one of the five commands, and each of its arguments has its value.
-use Rattle.std.proofs.Common.{◌≡◌, Bool, true, false, ◌||◌, List, [], Option, Some, None, ap, refl, sym, ◌∙◌, codes, inl, inr, subst}
-use Rattle.std.specs.Prelude.{not, is_some, if◌then◌else◌, IsSomeAnd}
-use Rattle.std.specs.List.{list_all, list_any}
-use Rattle.std.specs.Option.{option_map, option_map_or}
-use Rattle.std.specs.Str.{bytes_eq}
-use Rattle.std.proofs.lemmas.Slice.Eq.{bytes_eq-Decides}
-use Rattle.clap.specs.declared.builder.value_parser.ValueParser.TheVariants.{Unsigned}
-use Rattle.clap.specs.Facts.{explicit_source}
-use Rattle.clap.specs.Walk.{Row, Text, first_of, one_of, answers_to, finished, nothing_held, rows_after, stop_after, walk, walk_from}
-use Rattle.clap.specs.Simple.{Shape, argument_words, built, built_leaf, entered, inherited, is_simple, label_of, names_of, rows_at}
+use Rattle.command_line.proofs.Common.{◌≡◌, Bool, true, false, ◌||◌, List, [], Option, Some, None, ap, refl, sym, ◌∙◌, codes, inl, inr, subst, not, is_some, if◌then◌else◌, IsSomeAnd, list_all, list_any, option_map, option_map_or, bytes_eq, bytes_eq-Decides, Unsigned, explicit_source, first_of, one_of, answers_to, finished, nothing_held, rows_after, stop_after, walk, walk_from, argument_words, built, built_leaf, entered, inherited, label_of, names_of, rows_at, clap_on_literals, accepts-Accepts, both, program, verify_shape, optimise_shape, run_shape, load_shape, recheck_shape, HasTruth, HasVerify, HasOptimise, HasRun, HasLoad, HasRecheck, IsKnown, most_conflicts, most_steps, most_blocks, most_number, are_taken, command_and_rows}
+use Rattle.clap.specs.Walk.{Row, Text}
+use Rattle.clap.specs.Simple.{Shape, is_simple}
 use Rattle.clap.specs.Takes as pass
-use Rattle.clap.proofs.OnLiterals.{clap_on_literals}
-use Rattle.clap.proofs.ValueTestLemmas.{accepts-Accepts}
-use Rattle.clap.proofs.WalkLemmas.{both}
-use Rattle.command_line.specs.Definition.{program, verify_shape, optimise_shape, run_shape, load_shape, recheck_shape}
-use Rattle.command_line.specs.Arguments.{HasTruth, HasVerify, HasOptimise, HasRun, HasLoad, HasRecheck, IsKnown}
-use Rattle.command_line.specs.Limits.{most_conflicts, most_steps, most_blocks, most_number}
-use Rattle.command_line.specs.Words.{are_taken, command_and_rows}
 use Rattle.command_line.proofs.RowsFit.{ArePlain, leaf_values}
 
 -- the five commands as `clap` has built them

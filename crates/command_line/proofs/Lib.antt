@@ -1,3 +1,4 @@
+pub mod Common
 mod Described
 mod FaultFree
 mod KnownCommands

@@ -1,11 +1,6 @@
 -- What a getter of `clap`'s matches reads of a number that passed its value parser.
-use Rattle.std.proofs.Common.{◌≡◌, ℕ, ◌<◌, ◌^◌, Option, Some, None, Result, Ok, Err, ap, ◌∙◌, arith}
-use Rattle.std.specs.Str.Parse.{ParsesUnsigned}
-use Rattle.clap.specs.Words.{ReadsOne, Text, one_text, rows_of}
-use Rattle.clap.specs.declared.parser.matches.Found.{Found}
-use Rattle.clap.proofs.WalkLemmas.{one_text-rows}
-use Rattle.command_line.specs.Words.{number_said}
-use Rattle.command_line.specs.Arguments.{HasNumberUpTo}
+use Rattle.command_line.proofs.Common.{◌≡◌, ℕ, ◌<◌, ◌^◌, Option, Some, None, Result, Ok, Err, ap, ◌∙◌, arith, ParsesUnsigned, ReadsOne, one_text, rows_of, Found, one_text-rows, number_said, HasNumberUpTo}
+use Rattle.clap.specs.Words.{Text}
 
 pub number_read : (E : Type 0) (G : Text → Result ℕ E → Type 0) (found : Found) (id : Text) (read : Option ℕ)
     → ((t : Text) → one_text found id ≡ Some t → ReadsOne G t read) → ((t : Text) (r : Result ℕ E) → G t r → ParsesUnsigned 32 10 t r)

@@ -1,16 +1,6 @@
 -- What parsing by the program's definition says of the words.
-use Rattle.std.proofs.Common.{◌≡◌, Bool, true, false, List, [], ap, refl, sym, subst, ◌∙◌}
-use Rattle.std.specs.Fmt.{digits}
-use Rattle.clap.specs.Words.{App, HasMatchesOf, Text, fault_of, is_simple, is_simple_and_free, subcommand_of, subcommand_rows_of, takes}
-use Rattle.clap.specs.declared.error.kind.ErrorKind.{ErrorKind}
-use Rattle.clap.specs.declared.error.kind.ErrorKind.TheVariants.{OutOfMemory}
-use Rattle.clap.specs.declared.parser.matches.ArgMatches.{ArgMatches}
-use Rattle.clap.proofs.OnLiterals.{clap_on_literals}
-use Rattle.command_line.specs.Definition.{program}
-use Rattle.command_line.specs.Arguments.{IsUntaken}
-use Rattle.command_line.specs.Words.{are_taken, command_and_rows}
-use Rattle.command_line.specs.declared.command.CommandError.{CommandError}
-use Rattle.command_line.specs.declared.command.CommandError.TheVariants.{Usage, NoMemory}
+use Rattle.command_line.proofs.Common.{◌≡◌, Bool, true, false, List, [], ap, refl, sym, subst, ◌∙◌, digits, HasMatchesOf, fault_of, is_simple_and_free, subcommand_of, subcommand_rows_of, takes, ErrorKind, OutOfMemory, ArgMatches, clap_on_literals, program, IsUntaken, are_taken, command_and_rows, CommandError, Usage, NoMemory}
+use Rattle.clap.specs.Words.{App, Text, is_simple}
 use Rattle.command_line.proofs.FaultFree.{no_fault_takes}
 
 module _ (a : App) (words : List Text) (is : a ≡ program) where

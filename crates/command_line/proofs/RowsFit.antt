@@ -1,25 +1,8 @@
 -- Where `clap` takes the words, each row of its matches has values that passed their argument's value parser.
-use Rattle.std.proofs.Common.{◌≡◌, ℕ, zero, suc, ◌<◌, Bool, true, false, ◌&&◌, ◌||◌, List, [], ◌∷◌, ◌++◌, Option, Some, None, length, ap, ap₂, refl, sym, ◌∙◌, arith, nat_le, drop, subst}
-use Rattle.std.specs.Prelude.{not, is_some, find, fold, if◌then◌else◌, slice_get, encode_utf8}
-use Rattle.std.specs.List.{AllByRecursion, list_all, list_any}
-use Rattle.std.specs.Option.{option_map, option_map_or}
-use Rattle.std.specs.Str.{bytes_eq, chars}
-use Rattle.std.proofs.lemmas.List.Folds.{list_all-append}
-use Rattle.std.proofs.lemmas.Slice.Eq.{bytes_eq-Decides}
-use Rattle.std.proofs.lemmas.Bool.Decides.{nat_tests}
-use borrow.Author.Tests.{leb-true}
-use Rattle.clap.specs.declared.builder.action.ArgAction.{ArgAction}
-use Rattle.clap.specs.declared.builder.action.ArgAction.TheVariants.{Set, Append, SetTrue, SetFalse, Count, Help, HelpShort, HelpLong, Version}
-use Rattle.clap.specs.declared.builder.value_parser.Reading.{Reading}
-use Rattle.clap.specs.declared.parser.matches.ValueSource.{ValueSource}
-use Rattle.clap.specs.declared.parser.matches.ValueSource.TheVariants.{DefaultValue, CommandLine}
-use Rattle.clap.specs.Facts.{explicit_source, unwrap_or_range}
-use Rattle.clap.specs.Lexer.{long_of, short_of}
-use Rattle.clap.specs.Values.{is_request, read_as}
-use Rattle.clap.specs.Walk.{Held, Outcome, Names, Row, Rule, Step, Text, Waiting, Walk, action_of, after_flag, after_step, arg_by_id, arg_by_index, arg_by_long, arg_by_short, at_row, attached_value, bundle_met, bundle_step, default_rows, bundle, done, finished, flag_met, first_of, has_row, idle, is_empty, is_pending, long_met, long_or_other, more_values, most_values, next, nothing_held, one_of, option, option_met, option_word, plain, plain_word, positional, reacted, reading_by, refused, row_text, rows_after, settled, settled_rows, short_met, short_or_plain, subcommand, subcommand_met, subcommand_or_other, takes_several, takes_values, to_positional, trailing, used, used_as, used_by_id, values_or_missing, value, waits, walk, walk_from, walked, walked_from, with_default, with_values, without, word_met}
+use Rattle.command_line.proofs.Common.{◌≡◌, ℕ, zero, suc, ◌<◌, Bool, true, false, ◌&&◌, ◌||◌, List, [], ◌∷◌, ◌++◌, Option, Some, None, length, ap, ap₂, refl, sym, ◌∙◌, arith, nat_le, drop, subst, not, is_some, find, fold, if◌then◌else◌, slice_get, encode_utf8, AllByRecursion, list_all, list_any, option_map, option_map_or, bytes_eq, chars, list_all-append, bytes_eq-Decides, nat_tests, leb-true, ArgAction, Set, Append, SetTrue, SetFalse, Count, Help, HelpShort, HelpLong, Version, Reading, ValueSource, DefaultValue, CommandLine, explicit_source, unwrap_or_range, long_of, short_of, is_request, read_as, Held, Outcome, Names, Step, Waiting, Walk, action_of, after_flag, after_step, arg_by_id, arg_by_index, arg_by_long, arg_by_short, at_row, attached_value, bundle_met, bundle_step, default_rows, bundle, done, finished, flag_met, first_of, has_row, idle, is_empty, is_pending, long_met, long_or_other, more_values, most_values, next, nothing_held, one_of, option, option_met, option_word, plain, plain_word, positional, reacted, reading_by, refused, row_text, rows_after, settled, settled_rows, short_met, short_or_plain, subcommand, subcommand_met, subcommand_or_other, takes_several, takes_values, to_positional, trailing, used, used_as, used_by_id, values_or_missing, value, waits, walk, walk_from, walked, walked_from, with_default, with_values, without, word_met, both}
+use Rattle.clap.specs.Walk.{Row, Rule, Text}
 use Rattle.clap.specs.Simple.{Shape}
 use Rattle.clap.specs.Takes as pass
-use Rattle.clap.proofs.WalkLemmas.{both}
 
 -- ---- rows
 

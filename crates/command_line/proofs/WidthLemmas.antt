@@ -1,21 +1,5 @@
 -- Texts of widths and of lists of widths.
-use Rattle.std.proofs.Common.{◌≡◌, ◌≢◌, ℕ, suc, zero, ◌+◌, ◌<◌, ◌≤◌, ◌^◌, Bool, true, false, ◌&&◌, List, [], ◌∷◌, ◌++◌, Option, Some, None, Result, Ok, length, ap, ap₂, sym, refl, ◌∙◌, arith, get_or, nat_lt, ◌==◌, ◌-◌, filter, map, take}
-use Rattle.std.specs.List.{list_all, list_any, position_or_len}
-use Rattle.std.specs.Str.{all_ascii_digits}
-use Rattle.std.specs.Str.Parse.{ParsesUnsigned, digits_value}
-use Rattle.std.proofs.lemmas.Str.Parse.{IsNumeralModel, numerals_by_value, tells_all_ascii_digits, parse_plain, parse_gives}
-use Rattle.clap.proofs.WalkLemmas.{both, list_any-map}
-use Rattle.std.proofs.lemmas.Bool.Decides.{nat_tests}
-use Rattle.std.proofs.lemmas.Result.{OkIff-at_ok}
-use Rattle.std.proofs.lemmas.Bool.{le-leb}
-use borrow.Author.Tests.{leb-true}
-use Rattle.command_line.specs.Widths.{items, names, is_width_list, widths_named, is_width, is_hyphen, is_item, last_of_item, number, up_to}
-use Rattle.command_line.specs.Spans.{begins_with_zero_or_plus, is_in, is_in_some, span_in, span_of, width_of}
-use Rattle.command_line.specs.declared.widths.Span.{Span}
-use Rattle.std.specs.Borrow.{Bor}
-use Rattle.std.proofs.lemmas.List.{take_more, map-append}
-use Rattle.std.proofs.lemmas.List.Elements.{filter-append}
-use Rattle.std.proofs.lemmas.List.Folds.{list_all_at, list_all_more, list_all-map}
+use Rattle.command_line.proofs.Common.{◌≡◌, ◌≢◌, ℕ, suc, zero, ◌+◌, ◌<◌, ◌≤◌, ◌^◌, Bool, true, false, ◌&&◌, List, [], ◌∷◌, ◌++◌, Option, Some, None, Result, Ok, length, ap, ap₂, sym, refl, ◌∙◌, arith, get_or, nat_lt, ◌==◌, ◌-◌, filter, map, take, list_all, list_any, position_or_len, all_ascii_digits, ParsesUnsigned, digits_value, IsNumeralModel, numerals_by_value, tells_all_ascii_digits, parse_plain, parse_gives, both, list_any-map, nat_tests, OkIff-at_ok, le-leb, leb-true, items, names, is_width_list, widths_named, is_width, is_hyphen, is_item, last_of_item, number, up_to, begins_with_zero_or_plus, is_in, is_in_some, span_in, span_of, width_of, Span, Bor, take_more, map-append, filter-append, list_all_at, list_all_more, list_all-map}
 
 own : IsNumeralModel (λ ds. all_ascii_digits ds ≡ true) (digits_value 10)
 own = numerals_by_value _ tells_all_ascii_digits

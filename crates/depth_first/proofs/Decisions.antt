@@ -1,15 +1,5 @@
 -- The decisions and the reasons of a trail, where it is looked through entry by entry.
-use Rattle.std.proofs.Common.{◌≡◌, ℕ, suc, ◌+◌, Bool, true, false, cond, List, [], ◌∷◌, ◌++◌, Some, None, Option, length, take, filter, get_or, ◌<◌, refl, sym, ap, ◌∙◌, arith, subst}
-use Rattle.std.specs.Prelude.{slice_get, MatchOption}
-use Rattle.clauses.specs.Literal.{Lit, negation_of}
-use Rattle.clauses.specs.Propagation.{negations_of}
-use Rattle.std.proofs.lemmas.List.{append-nil, map-append}
-use Rattle.std.proofs.lemmas.Option.{slice_get-get_or}
-use Rattle.std.proofs.lemmas.List.Elements.{filter-append, filter_map-append}
-use Rattle.depth_first.specs.declared.trail.Entry.{Entry}
-use Rattle.depth_first.specs.declared.trail.Cause.{Cause}
-use Rattle.depth_first.specs.declared.trail.Cause.TheVariants.{InputDecision, NonInputDecision, Reason}
-use Rattle.depth_first.specs.TrailEntries.{literals, decisions, reasons, is_decision, reason_of}
+use Rattle.depth_first.proofs.Common.{◌≡◌, ℕ, suc, ◌+◌, Bool, true, false, cond, List, [], ◌∷◌, ◌++◌, Some, None, Option, length, take, filter, get_or, ◌<◌, refl, sym, ap, ◌∙◌, arith, subst, slice_get, MatchOption, Lit, negation_of, negations_of, append-nil, map-append, slice_get-get_or, filter-append, filter_map-append, Entry, Cause, InputDecision, NonInputDecision, Reason, literals, decisions, reasons, is_decision, reason_of}
 use Rattle.depth_first.proofs.Lists.{take_next}
 use Rattle.depth_first.proofs.HeldLists.{literals-append}
 

@@ -1,21 +1,5 @@
 -- What unit propagation derives from the decisions of a trail.
-use Rattle.std.proofs.Common.{◌≡◌, ℕ, zero, suc, ◌<◌, ◌≤◌, Bool, true, false, cond, List, [], ◌∷◌, ◌++◌, Some, length, take, filter, refl, sym, ap, ◌∙◌, arith, inl, inr, subst}
-use Rattle.std.specs.Prelude.{slice_get}
-use Rattle.std.specs.List.{filter_map}
-use Rattle.std.proofs.lemmas.Bool.{or_cases, or_left, or_right, cases_Bool, cases_order, true≢false}
-use Rattle.std.proofs.lemmas.List.Elements.{filter-append}
-use Rattle.std.proofs.lemmas.List.{append-nil, take_all}
-use Rattle.clauses.specs.Literal.{Lit, negation_of, is_same}
-use Rattle.clauses.specs.Propagation.{Derives, HintsRefute, NamesFalse, IsUnit, is_held, is_false}
-use Rattle.clauses.proofs.Held.{is_same-self, is_same-true}
-use Rattle.clauses.proofs.Units.{falsified_each, unit_only, IsFalsified-agree, IsUnit-agree}
-use Rattle.clauses.proofs.Closed.{HeldWithin, HeldWithin-cons, not_held}
-use Rattle.clauses.proofs.Derivations.{Derives-push}
-use Rattle.depth_first.specs.declared.trail.Entry.{Entry}
-use Rattle.depth_first.specs.declared.trail.Cause.{Cause}
-use Rattle.depth_first.specs.declared.trail.Cause.TheVariants.{InputDecision, NonInputDecision, Reason}
-use Rattle.depth_first.specs.TrailEntries.{literals, decisions, reasons, is_decision, reason_of, EachForced}
-use Rattle.depth_first.specs.Learned.{is_marked, marked_entries, IsInvolved}
+use Rattle.depth_first.proofs.Common.{◌≡◌, ℕ, zero, suc, ◌<◌, ◌≤◌, Bool, true, false, cond, List, [], ◌∷◌, ◌++◌, Some, length, take, filter, refl, sym, ap, ◌∙◌, arith, inl, inr, subst, slice_get, filter_map, or_cases, or_left, or_right, cases_Bool, cases_order, true≢false, filter-append, append-nil, take_all, Lit, negation_of, is_same, Derives, HintsRefute, NamesFalse, IsUnit, is_held, is_false, is_same-self, is_same-true, falsified_each, unit_only, IsFalsified-agree, IsUnit-agree, HeldWithin, HeldWithin-cons, not_held, Derives-push, Entry, Cause, InputDecision, NonInputDecision, Reason, literals, decisions, reasons, is_decision, reason_of, EachForced, is_marked, marked_entries, IsInvolved}
 use Rattle.depth_first.proofs.Lists.{take_next, element_at, slice_get_take, some_same}
 use Rattle.depth_first.proofs.HeldLists.{Consistent, not_held_nil, literal_at}
 use Rattle.depth_first.proofs.Decisions.{reasons-append}

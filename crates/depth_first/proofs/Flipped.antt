@@ -1,21 +1,5 @@
 -- The state of the search after the last decision is flipped.
-use Rattle.std.proofs.Common.{◌≡◌, ℕ, ◌<◌, Bool, Option, true, List, [], ◌∷◌, ◌++◌, Some, length, take, refl, sym, ap, ◌∙◌, arith, inl, inr, subst}
-use Rattle.std.specs.Prelude.{slice_get, remove}
-use Rattle.std.proofs.lemmas.List.{map-append, length-take-le}
-use Rattle.clauses.specs.declared.cnf.Cnf.{Cnf}
-use Rattle.clauses.specs.declared.step.Step.{Step}
-use Rattle.clauses.specs.Literal.{negation_of}
-use Rattle.clauses.specs.Propagation.{NamesUnit, IsUnit, is_held, negations_of}
-use Rattle.clauses.specs.ClauseSet.{all_clauses, clauses_of_steps, StepFollows, IsNew, clauses_with}
-use Rattle.clauses.proofs.Held.{negation-negation}
-use Rattle.clauses.proofs.Units.{unit_last}
-use Rattle.clauses.proofs.Closed.{HeldWithin, IsNew-from_closed}
-use Rattle.depth_first.specs.declared.trail.Entry.{Entry}
-use Rattle.depth_first.specs.declared.trail.Cause.{Cause}
-use Rattle.depth_first.specs.declared.trail.Cause.TheVariants.{InputDecision, NonInputDecision, Reason}
-use Rattle.depth_first.specs.TrailEntries.{literals, decisions, is_decision, IsOpen, EachFresh}
-use Rattle.depth_first.specs.Propagated.{IsPropagated, AllPropagated}
-use Rattle.depth_first.specs.DepthFirst.{IsDecided, IsCaused, EachCaused, IsLearned, IsState}
+use Rattle.depth_first.proofs.Common.{◌≡◌, ℕ, ◌<◌, Bool, Option, true, List, [], ◌∷◌, ◌++◌, Some, length, take, refl, sym, ap, ◌∙◌, arith, inl, inr, subst, slice_get, remove, map-append, length-take-le, Cnf, Step, negation_of, NamesUnit, IsUnit, is_held, negations_of, all_clauses, clauses_of_steps, StepFollows, IsNew, clauses_with, negation-negation, unit_last, HeldWithin, IsNew-from_closed, Entry, Cause, InputDecision, NonInputDecision, Reason, literals, decisions, is_decision, IsOpen, EachFresh, IsPropagated, AllPropagated, IsDecided, IsCaused, EachCaused, IsLearned, IsState}
 use Rattle.depth_first.proofs.Lists.{slice_get_push_cases, slice_get_last, slice_get_below, slice_get_take, take_in_take, slice_get_in_take, take_left, take_whole}
 use Rattle.depth_first.proofs.HeldLists.{held_last, both_held, not_held_nil, open_not_held, open_not_false, open_within, literals-append, literals_left, literal_at, HeldWithin-take}
 use Rattle.depth_first.proofs.Open.{IsPropagated-from_different}

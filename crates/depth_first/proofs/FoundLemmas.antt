@@ -1,24 +1,5 @@
 -- Why the answers of a search are right.
-use Rattle.std.proofs.Common.{◌≡◌, ℕ, ◌+◌, ◌-◌, ◌<◌, ◌≤◌, Bool, Option, true, false, not, cond, List, [], ◌∷◌, ◌++◌, Some, None, length, take, drop, map, get_or, refl, sym, ap, ◌∙◌, arith, inl, inr, subst, length-drop, get_or-drop, append_assoc}
-use Rattle.std.specs.Prelude.{slice_get, All}
-use Rattle.std.proofs.lemmas.Bool.{cases_Bool, true≢false, or_cases, or_left, or_right}
-use Rattle.std.proofs.lemmas.List.{length-map, take-append-drop, length-take-le, get_or-map, map-append}
-use Rattle.std.proofs.lemmas.List.Elements.{All-nil, All-cons, All-head, All-tail}
-use Rattle.std.proofs.lemmas.Option.{slice_get-get_or}
-use Rattle.clauses.specs.declared.cnf.Cnf.{Cnf}
-use Rattle.clauses.specs.declared.step.Step.{Step}
-use Rattle.clauses.specs.Literal.{Lit, negation_of, is_same, literal_of, literal_true, clause_true, assignment_of, IsVariable}
-use Rattle.clauses.specs.Propagation.{IsFalsified, is_held, is_false}
-use Rattle.clauses.specs.ClauseSet.{all_clauses, clauses_of_steps, clauses_before, LogFollows, LogIsNew, IsNew, StepFollows, UnitsDetermine, setting_literals, clauses_with}
-use Rattle.clauses.proofs.Held.{is_same-self, is_same-true}
-use Rattle.clauses.proofs.Closed.{HeldWithin, HeldWithin-nil, HeldWithin-cons, IsClosed, Derives-within, not_SomeFalsified, not_UnitsRefute}
-use Rattle.depth_first.specs.declared.trail.Entry.{Entry}
-use Rattle.depth_first.specs.declared.trail.Cause.{Cause}
-use Rattle.depth_first.specs.declared.trail.Cause.TheVariants.{NonInputDecision}
-use Rattle.depth_first.specs.Found.{IsModel, IsHonestLimit, NoneEmpty}
-use Rattle.depth_first.specs.TrailEntries.{literals, is_decision, IsOpen, IsSet, IsTableOf, value_makes, value_or_false}
-use Rattle.depth_first.specs.Propagated.{AllPropagated}
-use Rattle.depth_first.specs.DepthFirst.{InputsSet, IsCaused, IsLearned, IsDecided}
+use Rattle.depth_first.proofs.Common.{◌≡◌, ℕ, ◌+◌, ◌-◌, ◌<◌, ◌≤◌, Bool, Option, true, false, not, cond, List, [], ◌∷◌, ◌++◌, Some, None, length, take, drop, map, get_or, refl, sym, ap, ◌∙◌, arith, inl, inr, subst, length-drop, get_or-drop, append_assoc, slice_get, All, cases_Bool, true≢false, or_cases, or_left, or_right, length-map, take-append-drop, length-take-le, get_or-map, map-append, All-nil, All-cons, All-head, All-tail, slice_get-get_or, Cnf, Step, Lit, negation_of, is_same, literal_of, literal_true, clause_true, assignment_of, IsVariable, IsFalsified, is_held, is_false, all_clauses, clauses_of_steps, clauses_before, LogFollows, LogIsNew, IsNew, StepFollows, UnitsDetermine, setting_literals, clauses_with, is_same-self, is_same-true, HeldWithin, HeldWithin-nil, HeldWithin-cons, IsClosed, Derives-within, not_SomeFalsified, not_UnitsRefute, Entry, Cause, NonInputDecision, IsModel, IsHonestLimit, NoneEmpty, literals, is_decision, IsOpen, IsSet, IsTableOf, value_makes, value_or_false, AllPropagated, InputsSet, IsCaused, IsLearned, IsDecided}
 use Rattle.depth_first.proofs.Lists.{slice_get_left, slice_get_take, take_in_take}
 use Rattle.depth_first.proofs.HeldLists.{not_held_nil, both_held}
 use Rattle.depth_first.proofs.Open.{variable_within}

@@ -1,14 +1,5 @@
 -- What joined lists of literals hold, and states in which a variable is open, or no variable has two values.
-use Rattle.std.proofs.Common.{◌≡◌, ℕ, Bool, true, false, not, List, [], ◌∷◌, ◌++◌, Some, sym, ap, ◌∙◌, inl, inr, subst, zero, suc, take}
-use Rattle.std.specs.Prelude.{slice_get, ◌⊎◌}
-use Rattle.std.proofs.lemmas.Bool.{or_cases, or_left, or_right, true≢false}
-use Rattle.std.proofs.lemmas.List.{map-append}
-use Rattle.clauses.specs.Literal.{Lit, negation_of, is_same, literal_of}
-use Rattle.clauses.specs.Propagation.{is_held, is_false}
-use Rattle.clauses.proofs.Held.{made, is_same-true, is_same-self}
-use Rattle.clauses.proofs.Closed.{HeldWithin, not_held}
-use Rattle.depth_first.specs.declared.trail.Entry.{Entry}
-use Rattle.depth_first.specs.TrailEntries.{literals, IsOpen}
+use Rattle.depth_first.proofs.Common.{◌≡◌, ℕ, Bool, true, false, not, List, [], ◌∷◌, ◌++◌, Some, sym, ap, ◌∙◌, inl, inr, subst, zero, suc, take, slice_get, ◌⊎◌, or_cases, or_left, or_right, true≢false, map-append, Lit, negation_of, is_same, literal_of, is_held, is_false, made, is_same-true, is_same-self, HeldWithin, not_held, Entry, literals, IsOpen}
 
 pub held_left : (xs ys : List Lit) (l : Lit) → is_held xs l ≡ true → is_held (xs ++ ys) l ≡ true
 held_left [] ys l h = absurd (true≢false (sym h))

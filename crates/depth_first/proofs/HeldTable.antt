@@ -1,12 +1,5 @@
 -- The table of the literals that are held, after an entry is pushed or popped.
-use Rattle.std.proofs.Common.{◌≡◌, ℕ, ◌+◌, ◌*◌, ◌<◌, Bool, true, false, ◌||◌, if◌then◌else◌, List, [], ◌∷◌, ◌++◌, length, set, get_or, refl, sym, ap, subst, ◌∙◌, arith, inl, inr}
-use Rattle.std.proofs.lemmas.Bool.{cases_eq}
-use Rattle.std.proofs.lemmas.List.{get_or-set_same, get_or-set_other}
-use Rattle.clauses.specs.Literal.{Lit, code_of, is_same}
-use Rattle.clauses.specs.Propagation.{is_held}
-use Rattle.clauses.proofs.Held.{is_same-self, is_same-true, same_code}
-use Rattle.depth_first.specs.declared.trail.Entry.{Entry}
-use Rattle.depth_first.specs.TrailEntries.{literals, IsHeldTable, IsOpen}
+use Rattle.depth_first.proofs.Common.{◌≡◌, ℕ, ◌+◌, ◌*◌, ◌<◌, Bool, true, false, ◌||◌, if◌then◌else◌, List, [], ◌∷◌, ◌++◌, length, set, get_or, refl, sym, ap, subst, ◌∙◌, arith, inl, inr, cases_eq, get_or-set_same, get_or-set_other, Lit, code_of, is_same, is_held, is_same-self, is_same-true, same_code, Entry, literals, IsHeldTable, IsOpen}
 use Rattle.depth_first.proofs.HeldLists.{open_not_held}
 use Rattle.depth_first.proofs.TrailTable.{held-push, or-false}
 

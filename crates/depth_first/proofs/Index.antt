@@ -1,13 +1,5 @@
 -- Occurrence lists, as they are filled clause by clause.
-use Rattle.std.proofs.Common.{◌≡◌, ℕ, suc, ◌+◌, true, List, [], ◌∷◌, ◌++◌, Some, length, take, sym, ap, ◌∙◌, arith, inl, inr, subst}
-use Rattle.std.specs.Prelude.{slice_get, ◌⊎◌}
-use Rattle.std.proofs.lemmas.Bool.{cases_Bool}
-use Rattle.clauses.specs.Literal.{Lit, is_same}
-use Rattle.clauses.specs.Propagation.{is_held}
-use Rattle.clauses.proofs.Held.{is_same-true}
-use Rattle.depth_first.specs.declared.occurrences.Occurrences.{Occurrences}
-use Rattle.depth_first.specs.Propagated.{StandsFrom}
-use Rattle.depth_first.specs.OccurrenceLists.{numbers_of, AddsNumber, AddsClause}
+use Rattle.depth_first.proofs.Common.{◌≡◌, ℕ, suc, ◌+◌, true, List, [], ◌∷◌, ◌++◌, Some, length, take, sym, ap, ◌∙◌, arith, inl, inr, subst, slice_get, ◌⊎◌, cases_Bool, Lit, is_same, is_held, is_same-true, Occurrences, StandsFrom, numbers_of, AddsNumber, AddsClause}
 use Rattle.depth_first.proofs.Lists.{slice_get_left, slice_get_last, slice_get_push_cases, take_next}
 use Rattle.depth_first.proofs.HeldLists.{held_cases, held_one_same}
 

@@ -1,24 +1,8 @@
 -- Which variables a conflict rests on, as they are marked from the last entry of the trail back.
-use Rattle.std.proofs.Common.{◌≡◌, ℕ, zero, suc, ◌+◌, ◌<◌, Bool, true, false, cond, None, List, [], ◌∷◌, ◌++◌, Some, length, take, set, get_or, refl, sym, ap, ◌∙◌, arith, inl, inr, subst}
-use Rattle.std.specs.Prelude.{slice_get, ◌⊎◌, Option}
-use Rattle.std.proofs.lemmas.Bool.{cases_Bool, cases_eq, cases_order}
-use Rattle.std.proofs.lemmas.List.{get_or-set_same, get_or-set_other}
-use Rattle.clauses.specs.declared.cnf.Cnf.{Cnf}
-use Rattle.clauses.specs.declared.step.Step.{Step}
-use Rattle.clauses.specs.Literal.{Lit, negation_of, IsWithin}
-use Rattle.clauses.specs.Propagation.{is_held, is_false}
-use Rattle.clauses.proofs.Units.{unit_only}
-use Rattle.clauses.specs.ClauseSet.{all_clauses, clauses_of_steps, LogFollows, clauses_with}
-use Rattle.depth_first.specs.declared.trail.Entry.{Entry}
-use Rattle.depth_first.specs.declared.trail.Cause.{Cause}
-use Rattle.depth_first.specs.declared.trail.Cause.TheVariants.{InputDecision, NonInputDecision, Reason}
-use Rattle.depth_first.specs.TrailEntries.{literals, EachFresh, IsOpen, reasons, reason_of, EachForced}
-use Rattle.depth_first.specs.Learned.{is_marked, AllMarked, Marks, NamesMarked, IsInvolved, marked_entries}
+use Rattle.depth_first.proofs.Common.{◌≡◌, ℕ, zero, suc, ◌+◌, ◌<◌, Bool, true, false, cond, None, List, [], ◌∷◌, ◌++◌, Some, length, take, set, get_or, refl, sym, ap, ◌∙◌, arith, inl, inr, subst, slice_get, ◌⊎◌, Option, cases_Bool, cases_eq, cases_order, get_or-set_same, get_or-set_other, Cnf, Step, Lit, negation_of, IsWithin, is_held, is_false, unit_only, all_clauses, clauses_of_steps, LogFollows, clauses_with, Entry, Cause, InputDecision, NonInputDecision, Reason, literals, EachFresh, IsOpen, reasons, reason_of, EachForced, is_marked, AllMarked, Marks, NamesMarked, IsInvolved, marked_entries, filter-append, cons_option}
 use Rattle.depth_first.proofs.Lists.{some_same, take_next, slice_get_cases, slice_get_in_take, take_take_below}
 use Rattle.depth_first.proofs.HeldLists.{held_left, held_cases, held_one_same, held_last, both_held, open_not_held, open_not_false, literal_at, HeldWithin-take}
-use Rattle.std.proofs.lemmas.List.Elements.{filter-append}
 use Rattle.depth_first.proofs.Decisions.{read_at, reasons-append}
-use Rattle.std.specs.List.{cons_option}
 use Rattle.depth_first.proofs.Sets.{clause_within}
 
 -- one more variable of the clause is marked

@@ -1,15 +1,5 @@
 -- What a conflict shows: a step that follows, and without a decision a refutation.
-use Rattle.std.proofs.Common.{◌≡◌, ℕ, ◌+◌, ◌-◌, Bool, Option, List, [], ◌∷◌, ◌++◌, Some, length, sym, ap, ◌∙◌, arith, subst, length-append}
-use Rattle.std.specs.Prelude.{slice_get, IsSomeAnd}
-use Rattle.clauses.specs.declared.cnf.Cnf.{Cnf}
-use Rattle.clauses.specs.declared.step.Step.{Step}
-use Rattle.clauses.specs.Literal.{IsWithin}
-use Rattle.clauses.specs.Propagation.{HintsRefute, NamesFalse, negations_of}
-use Rattle.clauses.specs.ClauseSet.{StepFollows, LogFollows, IsRefutation, clauses_with}
-use Rattle.depth_first.specs.declared.trail.Entry.{Entry}
-use Rattle.depth_first.specs.TrailEntries.{literals, decisions, EachFresh, IsTableOf}
-use Rattle.depth_first.specs.DepthFirst.{EachCaused}
-use Rattle.depth_first.specs.Learned.{IsLearnedStep}
+use Rattle.depth_first.proofs.Common.{◌≡◌, ℕ, ◌+◌, ◌-◌, Bool, Option, List, [], ◌∷◌, ◌++◌, Some, length, sym, ap, ◌∙◌, arith, subst, length-append, slice_get, IsSomeAnd, Cnf, Step, IsWithin, HintsRefute, NamesFalse, negations_of, StepFollows, LogFollows, IsRefutation, clauses_with, Entry, literals, decisions, EachFresh, IsTableOf, EachCaused, IsLearnedStep}
 use Rattle.depth_first.proofs.Lists.{slice_get_last}
 use Rattle.depth_first.proofs.TrailTable.{Consistent-from_table}
 use Rattle.depth_first.proofs.Derived.{decisions_refuted}

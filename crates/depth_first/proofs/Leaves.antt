@@ -1,15 +1,6 @@
 -- How many settings of the inputs a search may still go through: each input that has a value halves them, and below a
 -- decision that isn't flipped yet the other half is left too.
-use Rattle.std.proofs.Common.{◌≡◌, ℕ, zero, suc, ◌+◌, ◌<◌, ◌≤◌, Bool, true, false, ◌||◌, cond, eqb, List, [], ◌∷◌, ◌++◌, Some, length, take, get_or, refl, sym, ap, ◌∙◌, arith, subst, inl, inr, ◌-◌}
-use Rattle.std.specs.Prelude.{slice_get, Contains}
-use Rattle.std.specs.List.{list_any}
-use Rattle.std.proofs.lemmas.Bool.{cases_Bool, eq-eqb, eqb-true, or_left, or_right}
-use Rattle.depth_first.specs.declared.trail.Entry.{Entry}
-use Rattle.depth_first.specs.declared.trail.Cause.{Cause}
-use Rattle.depth_first.specs.declared.trail.Cause.TheVariants.{InputDecision, NonInputDecision, Reason}
-use Rattle.std.specs.Prelude.{Option}
-use Rattle.depth_first.specs.Found.{distinct_count}
-use Rattle.depth_first.specs.TrailEntries.{literals, is_decision, EachFresh, IsOpen}
+use Rattle.depth_first.proofs.Common.{◌≡◌, ℕ, zero, suc, ◌+◌, ◌<◌, ◌≤◌, Bool, true, false, ◌||◌, cond, eqb, List, [], ◌∷◌, ◌++◌, Some, length, take, get_or, refl, sym, ap, ◌∙◌, arith, subst, inl, inr, ◌-◌, slice_get, Contains, list_any, cases_Bool, eq-eqb, eqb-true, or_left, or_right, Entry, Cause, InputDecision, NonInputDecision, Reason, Option, distinct_count, literals, is_decision, EachFresh, IsOpen}
 use Rattle.depth_first.proofs.Lists.{slice_get_in_take}
 use Rattle.depth_first.proofs.HeldLists.{both_held, open_not_held, literal_at}
 

@@ -1,12 +1,5 @@
 -- Clauses at which unit propagation has nothing to do.
-use Rattle.std.proofs.Common.{◌≡◌, ℕ, true, false, List, [], ◌∷◌, ◌++◌, sym, ap, ◌∙◌, inl, inr, subst}
-use Rattle.std.proofs.lemmas.Bool.{or_cases, cases_Bool, true≢false, false_from_ne_true}
-use Rattle.std.proofs.lemmas.List.Elements.{All-head, All-tail}
-use Rattle.clauses.specs.Literal.{Lit, negation_of, is_same, IsVariable, IsWithin}
-use Rattle.clauses.specs.Propagation.{is_held, is_false, IsUnit}
-use Rattle.clauses.proofs.Held.{is_same-true, is_same-self, negation-negation}
-use Rattle.clauses.proofs.Units.{not_falsified_by, unit_only, unit_same, unit_stands, IsFalsified-agree, IsUnit-agree}
-use Rattle.depth_first.specs.Propagated.{IsPropagated}
+use Rattle.depth_first.proofs.Common.{◌≡◌, ℕ, true, false, List, [], ◌∷◌, ◌++◌, sym, ap, ◌∙◌, inl, inr, subst, or_cases, cases_Bool, true≢false, false_from_ne_true, All-head, All-tail, Lit, negation_of, is_same, IsVariable, IsWithin, is_held, is_false, IsUnit, is_same-true, is_same-self, negation-negation, not_falsified_by, unit_only, unit_same, unit_stands, IsFalsified-agree, IsUnit-agree, IsPropagated}
 use Rattle.depth_first.proofs.HeldLists.{Consistent, held_left, held_last, held_cases, held_one_same, not_held_nil, both_held}
 
 -- a clause with a literal that is held is propagated

@@ -1,7 +1,5 @@
 -- What contracts on an option say once the option is tested, and contracts on a result.
-use Rattle.std.proofs.Common.{◌≡◌, true, false, Some, None, Option, sym}
-use Rattle.std.specs.Prelude.{Result, Ok, Err, is_some, IfNone, IfOk, IfSome}
-use Rattle.std.proofs.lemmas.Bool.{true≢false}
+use Rattle.depth_first.proofs.Common.{◌≡◌, true, false, Some, None, Option, sym, Result, Ok, Err, is_some, IfNone, IfOk, IfSome, true≢false}
 
 pub IfNone_at : {X : Type 0} (o : Option X) (P : Type 0) → is_some o ≡ false → IfNone o P → P
 IfNone_at None P none h = h

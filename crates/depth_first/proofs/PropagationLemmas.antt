@@ -1,16 +1,5 @@
 -- How far propagation has come, entry by entry along the trail and clause by clause along a list.
-use Rattle.std.proofs.Common.{◌≡◌, ℕ, ◌+◌, ◌<◌, ◌≤◌, true, List, [], ◌∷◌, ◌++◌, Some, length, take, refl, sym, ap, ◌∙◌, arith, inl, inr, subst, length-append, append_assoc}
-use Rattle.std.specs.Prelude.{slice_get, ◌⊎◌}
-use Rattle.std.proofs.lemmas.Bool.{cases_Bool, cases_order}
-use Rattle.std.proofs.lemmas.List.{append-nil}
-use Rattle.clauses.specs.Literal.{Lit, negation_of}
-use Rattle.clauses.specs.Propagation.{IsUnit, NamesUnit, is_held}
-use Rattle.depth_first.specs.declared.trail.Entry.{Entry}
-use Rattle.depth_first.specs.declared.trail.Cause.TheVariants.{Reason}
-use Rattle.depth_first.specs.TrailEntries.{literals, Grows, IsForced}
-use Rattle.depth_first.specs.Propagated.{IsPropagated, AllPropagated, IsTouched, StandsFrom, IsPropagatedUpTo, IsPropagatedBut, PropagatesClause}
-use Rattle.depth_first.specs.OccurrenceLists.{numbers_of, FindsBelow}
-use Rattle.depth_first.specs.declared.occurrences.Occurrences.{Occurrences}
+use Rattle.depth_first.proofs.Common.{◌≡◌, ℕ, ◌+◌, ◌<◌, ◌≤◌, true, List, [], ◌∷◌, ◌++◌, Some, length, take, refl, sym, ap, ◌∙◌, arith, inl, inr, subst, length-append, append_assoc, slice_get, ◌⊎◌, cases_Bool, cases_order, append-nil, Lit, negation_of, IsUnit, NamesUnit, is_held, Entry, Reason, literals, Grows, IsForced, IsPropagated, AllPropagated, IsTouched, StandsFrom, IsPropagatedUpTo, IsPropagatedBut, PropagatesClause, numbers_of, FindsBelow, Occurrences}
 use Rattle.depth_first.proofs.Lists.{some_same, slice_get_left, slice_get_last, slice_get_below, slice_get_cases, slice_get_one, take_left, take_right}
 use Rattle.depth_first.proofs.HeldLists.{literals-append}
 use Rattle.depth_first.proofs.Open.{IsPropagated-push, IsPropagated-forced}

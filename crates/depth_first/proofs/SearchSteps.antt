@@ -1,19 +1,5 @@
 -- The steps of a search: its first state, why its weight falls, and how long its log can get.
-use Rattle.std.proofs.Common.{◌≡◌, ℕ, suc, ◌+◌, ◌<◌, ◌≤◌, Bool, Option, true, false, List, [], ◌∷◌, ◌++◌, Some, None, length, take, set, refl, sym, ap, ◌∙◌, arith, inl, inr, subst}
-use Rattle.std.specs.Prelude.{slice_get, ◌⊎◌, Contains, IfSome, IfNone}
-use Rattle.std.proofs.lemmas.List.{length_push}
-use Rattle.clauses.specs.declared.cnf.Cnf.{Cnf}
-use Rattle.clauses.specs.declared.step.Step.{Step}
-use Rattle.clauses.specs.Literal.{Lit, negation_of}
-use Rattle.clauses.specs.Propagation.{NamesFalse}
-use Rattle.clauses.specs.ClauseSet.{all_clauses, clauses_of_steps, clauses_with}
-use Rattle.depth_first.specs.declared.trail.Entry.{Entry}
-use Rattle.depth_first.specs.declared.trail.Cause.{Cause}
-use Rattle.depth_first.specs.declared.trail.Cause.TheVariants.{InputDecision, NonInputDecision, Reason}
-use Rattle.depth_first.specs.TrailEntries.{literals, decisions, is_decision, IsOpen, IsTableOf, EachFresh, Grows, open_count}
-use Rattle.depth_first.specs.Found.{distinct_count}
-use Rattle.depth_first.specs.Propagated.{IsPropagatedUpTo}
-use Rattle.depth_first.specs.DepthFirst.{IsCaused, EachCaused, IsLearned, IsState}
+use Rattle.depth_first.proofs.Common.{◌≡◌, ℕ, suc, ◌+◌, ◌<◌, ◌≤◌, Bool, Option, true, false, List, [], ◌∷◌, ◌++◌, Some, None, length, take, set, refl, sym, ap, ◌∙◌, arith, inl, inr, subst, slice_get, ◌⊎◌, Contains, IfSome, IfNone, length_push, Cnf, Step, Lit, negation_of, NamesFalse, all_clauses, clauses_of_steps, clauses_with, Entry, Cause, InputDecision, NonInputDecision, Reason, literals, decisions, is_decision, IsOpen, IsTableOf, EachFresh, Grows, open_count, distinct_count, IsPropagatedUpTo, IsCaused, EachCaused, IsLearned, IsState}
 use Rattle.depth_first.proofs.Lists.{slice_get_left, slice_get_below}
 use Rattle.depth_first.proofs.TrailTable.{open_count-push}
 use Rattle.depth_first.proofs.States.{EachCaused-grown}

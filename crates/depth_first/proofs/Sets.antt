@@ -1,11 +1,5 @@
 -- The clauses of a set by their numbers.
-use Rattle.std.proofs.Common.{◌≡◌, ℕ, ◌+◌, ◌-◌, ◌<◌, List, Some, subst, arith}
-use Rattle.std.specs.Prelude.{slice_get, All}
-use Rattle.std.proofs.lemmas.Option.{get_or_from_slice_get}
-use Rattle.std.proofs.lemmas.List.Elements.{All-append}
-use Rattle.clauses.specs.declared.cnf.Cnf.{Cnf}
-use Rattle.clauses.specs.Literal.{Lit, IsWithin}
-use Rattle.clauses.specs.ClauseSet.{all_clauses}
+use Rattle.depth_first.proofs.Common.{◌≡◌, ℕ, ◌+◌, ◌-◌, ◌<◌, List, Some, subst, arith, slice_get, All, get_or_from_slice_get, All-append, Cnf, Lit, IsWithin, all_clauses}
 use Rattle.depth_first.proofs.Lists.{slice_get_below}
 
 -- the variables of a set's clause are the set's

@@ -1,27 +1,8 @@
 -- The state of a search after each kind of step: propagation, a decision, a learned clause.
-use Rattle.std.proofs.Common.{◌≡◌, ℕ, suc, ◌+◌, Bool, true, false, cond, filter, List, [], ◌∷◌, ◌++◌, Some, length, take, refl, sym, ap, ◌∙◌, arith, inl, inr, subst, length-append, append_assoc}
-use Rattle.std.specs.Prelude.{slice_get, remove}
-use Rattle.std.proofs.lemmas.List.{append-nil, map-append, drop_all, length-map}
-use Rattle.std.proofs.lemmas.Bool.{or_cases, or_left, or_right}
-use Rattle.std.proofs.lemmas.List.Elements.{All-nil, All-cons}
-use Rattle.clauses.specs.declared.cnf.Cnf.{Cnf}
-use Rattle.clauses.specs.declared.step.Step.{Step}
-use Rattle.clauses.specs.Literal.{Lit, negation_of, is_same, IsVariable, IsWithin}
-use Rattle.clauses.specs.Propagation.{NamesUnit, IsFalsified, is_held, is_false, negations_of}
-use Rattle.clauses.specs.ClauseSet.{all_clauses, clauses_of_steps, clauses_before, StepFollows, LogFollows, LogIsNew, IsNew, clauses_with}
-use Rattle.clauses.proofs.Held.{negation-negation, is_same-true, is_same-self}
-use Rattle.clauses.proofs.Closed.{HeldWithin, IsClosed}
-use Rattle.depth_first.specs.declared.trail.Entry.{Entry}
-use Rattle.depth_first.specs.declared.trail.Cause.{Cause}
-use Rattle.depth_first.specs.declared.trail.Cause.TheVariants.{InputDecision, NonInputDecision, Reason}
-use Rattle.depth_first.specs.Found.{NoneEmpty}
-use Rattle.depth_first.specs.TrailEntries.{literals, decisions, is_decision, Grows}
-use Rattle.depth_first.specs.Propagated.{IsPropagated, AllPropagated, IsPropagatedUpTo}
-use Rattle.depth_first.specs.DepthFirst.{AllSatisfied, IsDecided, IsCaused, EachCaused, IsState, IsNext, IsAllowed}
+use Rattle.depth_first.proofs.Common.{◌≡◌, ℕ, suc, ◌+◌, Bool, true, false, cond, filter, List, [], ◌∷◌, ◌++◌, Some, length, take, refl, sym, ap, ◌∙◌, arith, inl, inr, subst, length-append, append_assoc, slice_get, remove, append-nil, map-append, drop_all, length-map, or_cases, or_left, or_right, All-nil, All-cons, Cnf, Step, Lit, negation_of, is_same, IsVariable, IsWithin, NamesUnit, IsFalsified, is_held, is_false, negations_of, all_clauses, clauses_of_steps, clauses_before, StepFollows, LogFollows, LogIsNew, IsNew, clauses_with, negation-negation, is_same-true, is_same-self, HeldWithin, IsClosed, Entry, Cause, InputDecision, NonInputDecision, Reason, NoneEmpty, literals, decisions, is_decision, Grows, IsPropagated, AllPropagated, IsPropagatedUpTo, AllSatisfied, IsDecided, IsCaused, EachCaused, IsState, IsNext, IsAllowed, EachForced}
 use Rattle.depth_first.proofs.Lists.{slice_get_left, slice_get_cases, slice_get_push_cases, take_left, take_right, take_whole}
 use Rattle.depth_first.proofs.HeldLists.{Consistent, literals_left}
 use Rattle.depth_first.proofs.Open.{IsPropagated-from_held}
-use Rattle.depth_first.specs.TrailEntries.{EachForced}
 use Rattle.depth_first.proofs.PropagationLemmas.{IsPropagatedUpTo-push, IsPropagatedUpTo-propagated}
 
 -- the clauses of a set and of a log with one more step

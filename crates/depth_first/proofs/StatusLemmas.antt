@@ -1,10 +1,5 @@
 -- What a walk along a clause's literals finds of it.
-use Rattle.std.proofs.Common.{◌≡◌, ℕ, ◌<◌, Bool, true, List, length, get_or, sym, ◌∙◌}
-use Rattle.std.proofs.lemmas.Option.{slice_get-get_or}
-use Rattle.clauses.specs.Literal.{Lit, IsWithin, IsVariable}
-use Rattle.clauses.specs.Propagation.{is_held, IsUnit}
-use Rattle.clauses.proofs.Units.{unit_stands}
-use Rattle.depth_first.specs.Propagated.{IsPropagated}
+use Rattle.depth_first.proofs.Common.{◌≡◌, ℕ, ◌<◌, Bool, true, List, length, get_or, sym, ◌∙◌, slice_get-get_or, Lit, IsWithin, IsVariable, is_held, IsUnit, unit_stands, IsPropagated}
 use Rattle.depth_first.proofs.HeldLists.{Consistent, held_at}
 use Rattle.depth_first.proofs.Open.{IsPropagated-from_held, variable_within}
 

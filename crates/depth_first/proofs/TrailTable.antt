@@ -1,13 +1,5 @@
 -- The table of the values of a trail after an entry is pushed or popped.
-use Rattle.std.proofs.Common.{◌≡◌, ℕ, ◌+◌, ◌<◌, ◌≤◌, Bool, true, false, not, ◌||◌, ◌&&◌, cond, List, [], ◌∷◌, ◌++◌, Some, None, Option, length, take, set, get_or, refl, sym, ap, ◌∙◌, arith, inl, inr, subst, length-set}
-use Rattle.std.proofs.lemmas.Bool.{cases_eq, eq-eqb, ne_eqb, true≢false}
-use Rattle.std.proofs.lemmas.List.{get_or-set_same, get_or-set_other}
-use Rattle.std.proofs.lemmas.List.Sums.{sum_by-set}
-use Rattle.clauses.specs.Literal.{Lit, negation_of, is_same}
-use Rattle.clauses.specs.Propagation.{is_held}
-use Rattle.clauses.proofs.Held.{made}
-use Rattle.depth_first.specs.declared.trail.Entry.{Entry}
-use Rattle.depth_first.specs.TrailEntries.{literals, IsOpen, IsTableOf, EachFresh, value_makes, open_count, one_if_open}
+use Rattle.depth_first.proofs.Common.{◌≡◌, ℕ, ◌+◌, ◌<◌, ◌≤◌, Bool, true, false, not, ◌||◌, ◌&&◌, cond, List, [], ◌∷◌, ◌++◌, Some, None, Option, length, take, set, get_or, refl, sym, ap, ◌∙◌, arith, inl, inr, subst, length-set, cases_eq, eq-eqb, ne_eqb, true≢false, get_or-set_same, get_or-set_other, sum_by-set, Lit, negation_of, is_same, is_held, made, Entry, literals, IsOpen, IsTableOf, EachFresh, value_makes, open_count, one_if_open}
 use Rattle.depth_first.proofs.Lists.{slice_get_push_cases, slice_get_left, take_left, take_whole, slice_get_last}
 use Rattle.depth_first.proofs.HeldLists.{literals-append, open_not_held, Consistent}
 

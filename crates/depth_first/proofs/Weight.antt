@@ -1,11 +1,6 @@
 -- The weight of a trail, a number that falls with each step of a depth-first search: the trail as a number to the base
 -- 3, in which an entry with a reason is the digit 0, a decision 1 and a place without an entry 2.
-use Rattle.std.proofs.Common.{◌≡◌, ℕ, zero, suc, ◌+◌, ◌<◌, ◌≤◌, true, List, [], ◌∷◌, ◌++◌, Some, length, take, refl, ap, ◌∙◌, arith}
-use Rattle.std.specs.Prelude.{slice_get}
-use Rattle.depth_first.specs.declared.trail.Entry.{Entry}
-use Rattle.depth_first.specs.declared.trail.Cause.{Cause}
-use Rattle.depth_first.specs.declared.trail.Cause.TheVariants.{InputDecision, NonInputDecision, Reason}
-use Rattle.depth_first.specs.TrailEntries.{is_decision}
+use Rattle.depth_first.proofs.Common.{◌≡◌, ℕ, zero, suc, ◌+◌, ◌<◌, ◌≤◌, true, List, [], ◌∷◌, ◌++◌, Some, length, take, refl, ap, ◌∙◌, arith, slice_get, Entry, Cause, InputDecision, NonInputDecision, Reason, is_decision}
 
 abbrev pub power : ℕ → ℕ
 power zero = 1

@@ -1,27 +1,9 @@
 -- A draft keeps its invariant where the operands at one place of its arena change.
-use Rattle.std.proofs.Common.{◌≡◌, ◌⊎◌, inl, inr, ℕ, ◌<◌, Bool, false, List, [], ◌∷◌, length, get_or, slice_set, Some, sym, ap, subst, ◌∙◌, arith, get_or-set_other, get_or-set_same}
-use Rattle.std.specs.Prelude.{Contains, slice_get}
+use Rattle.draft.proofs.Common.{◌≡◌, ◌⊎◌, inl, inr, ℕ, ◌<◌, Bool, false, List, [], ◌∷◌, length, get_or, slice_set, Some, sym, ap, subst, ◌∙◌, arith, get_or-set_other, get_or-set_same, Contains, slice_get, slice_get_within, IsBlock, IsKnown, Block, Function, Inst, Operand, operands_of, Uses, gone, inst_changed, with_inst_removed, with_block, AreCounted, operands_at, AreRowsOf, HasNoPhi, IsWhole, Draft, Place, changed_length, only_one, AreFew, DiffersAt, IsListedToo, reads_known, still_facts, still_known, still_readers}
 use Rattle.std.proofs.lemmas.List.{length-set}
-use Rattle.std.proofs.lemmas.Option.{slice_get_within}
-use Rattle.ir_core.specs.Blocks.{IsBlock}
-use Rattle.ir_core.specs.Checks.{IsKnown}
-use Rattle.ir_core.specs.declared.function.Block.{Block}
-use Rattle.ir_core.specs.declared.function.Function.{Function}
-use Rattle.ir_core.specs.declared.instruction.Inst.{Inst}
-use Rattle.ir_core.specs.declared.operand.Operand.{Operand}
 use Rattle.ir_core.specs.declared.operand.Operand.TheVariants as operands
-use Rattle.needed.specs.Operands.{operands_of}
-use Rattle.use_counts.specs.declared.uses.Uses.{Uses}
-use Rattle.readers.specs.Changes.{gone, inst_changed, with_inst_removed, with_block}
-use Rattle.readers.specs.Counts.{AreCounted, operands_at}
-use Rattle.draft.specs.Whole.{AreRowsOf, HasNoPhi, IsWhole}
-use Rattle.draft.specs.declared.draft.Draft.{Draft}
-use Rattle.places.specs.declared.place.Place.{Place}
-use Rattle.readers.proofs.Changing.{changed_length}
-use Rattle.readers.proofs.Counting.{only_one}
 use Rattle.draft.proofs.Cycles.{no_cycles_stay, no_phi_changed}
 use Rattle.draft.proofs.Exchanging.{block_cases, inst_count, inst_differs, read_now, still_few}
-use Rattle.readers.proofs.Places.{AreFew, DiffersAt, IsListedToo, reads_known, still_facts, still_known, still_readers}
 use Rattle.draft.proofs.Wholeness.{all_known, few_insts, rows_less}
 
 -- the tables follow the change: the counts of the old operands at the place are taken back, its new ones are counted,

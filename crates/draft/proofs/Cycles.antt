@@ -1,22 +1,5 @@
 -- An arena has no cycles as before, where no phi is inserted and each terminator has the same successors.
-use Rattle.std.proofs.Common.{◌≡◌, ◌⊎◌, inl, inr, ℕ, zero, suc, List, [], ◌∷◌, ◌++◌, length, Some, sym, ap, subst, ◌∙◌, arith}
-use Rattle.std.specs.Prelude.{Contains, option_map, slice_get}
-use Rattle.std.proofs.lemmas.List.{length-map}
-use Rattle.std.proofs.lemmas.Option.{same_Some, slice_get-map}
-use Rattle.ir_core.specs.Blocks.{IsBlock, Names, targets_of}
-use Rattle.ir_core.specs.Checks.{IsPhi}
-use Rattle.ir_core.specs.declared.function.Block.{Block}
-use Rattle.ir_core.specs.declared.function.Function.{Function}
-use Rattle.ir_core.specs.declared.instruction.Inst.{Inst}
-use Rattle.ir_core.specs.declared.instruction.Op.{Op}
-use Rattle.ir_core.specs.declared.instruction.Op.TheVariants.{Binary, Compare, Unary, Select, Convert, Freeze, Phi}
-use Rattle.ir_core.specs.declared.terminator.Terminator.{Terminator}
-use Rattle.assigned_flow.specs.Successors.{successors_of}
-use Rattle.needed.proofs.Counting.{mapped}
-use Rattle.substitution.specs.Substitution.{Substitution, substituted_op}
-use Rattle.readers.specs.Changes.{end_changed, inst_changed, inst_put, put_in, with_block}
-use Rattle.readers.proofs.Changing.{changed_cases}
-use Rattle.draft.specs.Whole.{HasNoCycles, HasNoPhi}
+use Rattle.draft.proofs.Common.{◌≡◌, ◌⊎◌, inl, inr, ℕ, zero, suc, List, [], ◌∷◌, ◌++◌, length, Some, sym, ap, subst, ◌∙◌, arith, Contains, option_map, slice_get, length-map, same_Some, slice_get-map, IsBlock, Names, targets_of, IsPhi, Block, Function, Inst, Op, Binary, Compare, Unary, Select, Convert, Freeze, Phi, Terminator, successors_of, mapped, Substitution, substituted_op, end_changed, inst_changed, inst_put, put_in, with_block, changed_cases, HasNoCycles, HasNoPhi}
 use Rattle.draft.proofs.Exchanging.{block_cases}
 use Rattle.draft.proofs.Reached.{reached_along}
 

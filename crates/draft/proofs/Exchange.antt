@@ -1,18 +1,6 @@
 -- What is asked of an arena where operands are replaced, or an instruction is removed.
-use Rattle.std.proofs.Common.{inl, ◌≤◌, List}
-use Rattle.ir_core.specs.Blocks.{HasInst}
-use Rattle.ir_core.specs.declared.function.Block.{Block}
-use Rattle.ir_core.specs.declared.function.Function.{Function}
-use Rattle.ir_core.specs.declared.operand.Operand.{Operand}
+use Rattle.draft.proofs.Common.{inl, ◌≤◌, List, HasInst, Block, Function, Operand, Register, count_of, HasNumbers, operands_at, times, IsPlaceIn, IsWhole, Draft, Place, numbers_for, times_counted}
 use Rattle.ir_core.specs.declared.operand.Operand.TheVariants as operands
-use Rattle.ir_core.specs.declared.operand.Register.{Register}
-use Rattle.use_counts.specs.Tables.{count_of}
-use Rattle.readers.specs.Counts.{HasNumbers, operands_at, times}
-use Rattle.readers.specs.Readers.{IsPlaceIn}
-use Rattle.draft.specs.Whole.{IsWhole}
-use Rattle.draft.specs.declared.draft.Draft.{Draft}
-use Rattle.places.specs.declared.place.Place.{Place}
-use Rattle.readers.proofs.Places.{numbers_for, times_counted}
 use Rattle.draft.proofs.Wholeness.{all_known, few_insts}
 
 -- a draft with other blocks in its arena

@@ -1,23 +1,5 @@
 -- Arenas in which one instruction or one terminator is changed.
-use Rattle.std.proofs.Common.{◌≡◌, ◌⊎◌, ◌↔◌, inl, inr, ℕ, zero, suc, ◌+◌, ◌<◌, List, [], ◌∷◌, length, Some, map, refl, sym, ap, subst, ◌∙◌, arith}
-use Rattle.std.specs.Prelude.{slice_get}
-use Rattle.std.proofs.lemmas.Bool.{cases_eq}
-use Rattle.std.proofs.lemmas.Option.{same_Some, slice_get_cases, slice_get_within}
-use Rattle.ir_core.specs.Blocks.{IsBlock, targets_of}
-use Rattle.ir_core.specs.declared.function.Block.{Block}
-use Rattle.ir_core.specs.declared.function.Function.{Function}
-use Rattle.ir_core.specs.declared.instruction.Inst.{Inst}
-use Rattle.ir_core.specs.declared.operand.Register.{Register}
-use Rattle.ir_core.specs.declared.terminator.Terminator.{Terminator}
-use Rattle.needed.specs.Operands.{operands_of, operands_at_end}
-use Rattle.readers.specs.Changes.{changed_at, end_changed, inst_changed, with_block}
-use Rattle.readers.specs.Counts.{operands_at, times, times_in}
-use Rattle.places.specs.Orders.{none}
-use Rattle.readers.specs.Readers.{IsPlaceIn}
-use Rattle.places.specs.declared.place.Place.{Place}
-use Rattle.readers.proofs.Changing.{HasAll, changed_cases, changed_here, changed_length, changed_other, changed_sum}
-use Rattle.readers.proofs.Places.{AreFew, DiffersAt}
-use Rattle.readers.proofs.Reading.{operands_at_inst, operands_at_terminator, same_place}
+use Rattle.draft.proofs.Common.{◌≡◌, ◌⊎◌, ◌↔◌, inl, inr, ℕ, zero, suc, ◌+◌, ◌<◌, List, [], ◌∷◌, length, Some, map, refl, sym, ap, subst, ◌∙◌, arith, slice_get, cases_eq, same_Some, slice_get_cases, slice_get_within, IsBlock, targets_of, Block, Function, Inst, Register, Terminator, operands_of, operands_at_end, changed_at, end_changed, inst_changed, with_block, operands_at, times, times_in, none, IsPlaceIn, Place, HasAll, changed_cases, changed_here, changed_length, changed_other, changed_sum, AreFew, DiffersAt, operands_at_inst, operands_at_terminator, same_place}
 
 pub map_changed : {A B : Type 0} (g : A → B) (k : ℕ) (change : A → A) (xs : List A) → ((x : A) → g (change x) ≡ g x) → map g (changed_at k change xs) ≡ map g xs
 map_changed g k change [] same = refl

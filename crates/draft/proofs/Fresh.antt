@@ -1,35 +1,9 @@
 -- The draft of a function when it is made: every instruction stands, and its number is its position.
-use Rattle.std.proofs.Common.{◌≡◌, ℕ, zero, suc, ◌+◌, ◌<◌, ◌≤◌, ◌^◌, inl, inr, Bool, true, false, List, [], ◌∷◌, length, map, replicate, get_or, All, Some, refl, sym, ap, subst, ◌∙◌, arith}
-use Rattle.std.specs.Prelude.{Contains, IsFalse, slice_get, option_map}
-use Rattle.std.specs.List.{range_with_len}
-use Rattle.std.proofs.lemmas.List.{get_or-replicate, length-map, length-replicate}
-use Rattle.std.proofs.lemmas.List.FromFn.{get_or-range_with_len, length-range_with_len}
-use Rattle.std.proofs.lemmas.Option.{get_or_from_slice_get, slice_get-get_or, slice_get-map, slice_get_within}
-use Rattle.ir_core.specs.Blocks.{HasInst}
-use Rattle.ir_core.specs.Checks.{MeetsChecks}
-use Rattle.ir_core.specs.declared.function.Block.{Block}
-use Rattle.ir_core.specs.declared.function.Function.{Function}
-use Rattle.ir_core.specs.declared.instruction.Inst.{Inst}
-use Rattle.ir_core.specs.declared.instruction.Op.{Op}
-use Rattle.ir_core.specs.declared.operand.Operand.{Operand}
+use Rattle.draft.proofs.Common.{◌≡◌, ℕ, zero, suc, ◌+◌, ◌<◌, ◌≤◌, ◌^◌, inl, inr, Bool, true, false, List, [], ◌∷◌, length, map, replicate, get_or, All, Some, refl, sym, ap, subst, ◌∙◌, arith, Contains, IsFalse, slice_get, option_map, range_with_len, get_or-replicate, length-map, length-replicate, get_or-range_with_len, length-range_with_len, get_or_from_slice_get, slice_get-get_or, slice_get-map, slice_get_within, HasInst, MeetsChecks, Block, Function, Inst, Op, Operand, Terminator, AreFactsOf, contained_at, contains_at, contains_first, substituted_inst, substituted_operand, operands_at, Stands, block_of, blocks_of, function_of, insts_of, numbers_of, placed, standing, standing_in, none, place_in, IsOrdering, AreReadersOf, IsPlaceIn, arena_place, AreRowsOf, HasNoCycles, IsSettled, Draft, Place, known_has, AreFew, AreKnown, known_reads, operands_at_inst, operands_at_terminator, reads_written}
 use Rattle.ir_core.specs.declared.operand.Operand.TheVariants as operands
 use Rattle.ir_core.specs.declared.operand.Register.TheVariants as registers
-use Rattle.ir_core.specs.declared.terminator.Terminator.{Terminator}
-use Rattle.bindings.specs.Facts.{AreFactsOf}
-use Rattle.needed.proofs.Counting.{contained_at, contains_at, contains_first, contains_later}
-use Rattle.substitution.specs.Substitution.{substituted_inst, substituted_operand}
-use Rattle.readers.specs.Counts.{operands_at}
-use Rattle.draft.specs.Drafts.{Stands, block_of, blocks_of, function_of, insts_of, numbers_of, placed, standing, standing_in}
-use Rattle.places.specs.Orders.{none, place_in}
-use Rattle.draft.specs.Placing.{IsOrdering}
-use Rattle.readers.specs.Readers.{AreReadersOf, IsPlaceIn, arena_place}
-use Rattle.draft.specs.Whole.{AreRowsOf, HasNoCycles, IsSettled}
-use Rattle.draft.specs.declared.draft.Draft.{Draft}
-use Rattle.places.specs.declared.place.Place.{Place}
-use Rattle.readers.proofs.Changing.{known_has}
+use Rattle.needed.proofs.Counting.{contains_later}
 use Rattle.draft.proofs.InstsOf.{insts_more}
-use Rattle.readers.proofs.Places.{AreFew, AreKnown, known_reads}
-use Rattle.readers.proofs.Reading.{operands_at_inst, operands_at_terminator, reads_written}
 use Rattle.draft.proofs.Rows.{first_stands, marked, place_first, place_later}
 use Rattle.draft.proofs.Standing.{blocks_agree}
 use Rattle.draft.proofs.Substituted.{end_itself, itself, op_itself}

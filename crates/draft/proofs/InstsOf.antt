@@ -1,12 +1,5 @@
 -- The instructions of a draft's function by position: those whose numbers stand.
-use Rattle.std.proofs.Common.{◌≡◌, ℕ, zero, suc, ◌<◌, List, [], ◌∷◌, ◌++◌, length, map, Option, None, Some, refl, sym, ap, ◌∙◌}
-use Rattle.std.specs.Prelude.{Contains, slice_get, option_to_list}
-use Rattle.std.proofs.lemmas.Option.{same_Some}
-use Rattle.ir_core.specs.declared.function.Block.{Block}
-use Rattle.ir_core.specs.declared.instruction.Inst.{Inst}
-use Rattle.ir_meaning.proofs.Pieces.{first_in, later_in, some_at}
-use Rattle.substitution.specs.Substitution.{Substitution, substituted_inst}
-use Rattle.draft.specs.Drafts.{insts_of, block_of, blocks_of}
+use Rattle.draft.proofs.Common.{◌≡◌, ℕ, zero, suc, ◌<◌, List, [], ◌∷◌, ◌++◌, length, map, Option, None, Some, refl, sym, ap, ◌∙◌, Contains, slice_get, option_to_list, same_Some, Block, Inst, first_in, later_in, some_at, Substitution, substituted_inst, insts_of, block_of, blocks_of}
 
 -- a function of two values, if there are both
 abbrev pub both : {A B C : Type 0} → (A → B → C) → Option A → Option B → Option C

@@ -1,12 +1,7 @@
 -- Worklists stay worklists where new numbers are inserted.
-use Rattle.std.proofs.Common.{◌≡◌, ℕ, suc, ◌<◌, inl, inr, List, [], ◌∷◌, length, get_or, set, refl, sym, ap, subst, ◌∙◌, arith, Contains, length-set, get_or-set_same, get_or-set_other}
-use Rattle.std.proofs.lemmas.Bool.{cases_eq}
-use Rattle.std.proofs.lemmas.List.Elements.{All-weaker}
-use Rattle.places.specs.declared.place.Place.{Place}
-use Rattle.places.specs.Orders.{place_in, put_before}
-use Rattle.places.specs.Heaps.{IsNumbered, IsHeap, place_at, nowhere}
-use Rattle.draft.specs.KeptOrders.{KeepsOrders}
-use Rattle.places.proofs.Members.{contains_later, contains_tail, contains_none, place-here, place-later, put-here, put-later, put-has}
+use Rattle.draft.proofs.Common.{◌≡◌, ℕ, suc, ◌<◌, inl, inr, List, [], ◌∷◌, length, get_or, set, refl, sym, ap, subst, ◌∙◌, arith, Contains, get_or-set_same, get_or-set_other, cases_eq, All-weaker, Place, place_in, put_before, IsNumbered, IsHeap, place_at, nowhere, KeepsOrders, contains_tail, contains_none, place-here, place-later, put-here, put-later, put-has}
+use Rattle.std.proofs.Common.{length-set}
+use Rattle.places.proofs.Members.{contains_later}
 
 pub heap-stays : (old new : List (List ℕ)) (heap : List Place) → KeepsOrders old new → IsHeap old heap → IsHeap new heap
 heap-stays old new heap keeps h = record {

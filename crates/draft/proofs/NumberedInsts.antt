@@ -1,18 +1,6 @@
 -- The instructions of a draft's arena are those that its orders have numbers of.
-use Rattle.std.proofs.Common.{◌≡◌, ℕ, ◌<◌, List, [], length, get_or, set, sym, subst, arith}
-use Rattle.std.proofs.lemmas.Option.{slice_get_within}
-use Rattle.ir_core.specs.Blocks.{HasInst}
-use Rattle.ir_meaning.proofs.Pieces.{some_at}
-use Rattle.needed.proofs.Counting.{contained_at}
-use Rattle.draft.specs.declared.draft.Draft.{Draft}
-use Rattle.places.specs.declared.place.Place.{Place}
-use Rattle.draft.specs.Drafts.{Stands}
-use Rattle.places.specs.Heaps.{IsNumbered}
-use Rattle.draft.specs.KeptOrders.{KeepsOrders}
-use Rattle.places.specs.Orders.{put_before}
-use Rattle.draft.specs.Whole.{IsWhole}
+use Rattle.draft.proofs.Common.{◌≡◌, ℕ, ◌<◌, List, [], length, get_or, set, sym, subst, arith, slice_get_within, HasInst, some_at, contained_at, Draft, Place, Stands, IsNumbered, KeepsOrders, put_before, IsWhole, numbered-block}
 use Rattle.draft.proofs.Keeping.{put-keeps}
-use Rattle.places.proofs.Ranks.{numbered-block}
 use Rattle.draft.proofs.Wholeness.{stands_marked, stands_there}
 
 pub inst-numbered : (d : Draft) (p : Place) → IsWhole d → HasInst d.arena p.block p.number → IsNumbered d.orders.items p

@@ -1,16 +1,6 @@
 -- Tables of positions, and instructions and blocks that are done one by one.
-use Rattle.std.proofs.Common.{◌≡◌, inl, inr, ℕ, zero, suc, ◌+◌, ◌<◌, ◌≤◌, min, List, [], ◌∷◌, ◌++◌, length, get_or, set, take, drop, Option, Some, map, refl, sym, ap, subst, ◌∙◌, arith, get_or-set_other, get_or-set_same}
-use Rattle.std.specs.Prelude.{option_to_list, slice_get}
+use Rattle.draft.proofs.Common.{◌≡◌, inl, inr, ℕ, zero, suc, ◌+◌, ◌<◌, ◌≤◌, min, List, [], ◌∷◌, ◌++◌, length, get_or, set, take, drop, Option, Some, map, refl, sym, ap, subst, ◌∙◌, arith, get_or-set_other, get_or-set_same, option_to_list, slice_get, cases_eq, append_assoc, drop-set-lt, drop_more, get_or_append_left, get_or_default, get_or_push, length-take, length_push, take_all, take_more, take_more_set, same_Some, slice_get-get_or, Block, Inst, Substitution, substituted_inst, block_of, blocks_of, insts_of, place_in, AreOrdered, IsOrdering}
 use Rattle.std.proofs.Math.ListN.{length-set}
-use Rattle.std.proofs.lemmas.Bool.{cases_eq}
-use Rattle.std.proofs.lemmas.List.{append_assoc, drop-set-lt, drop_more, get_or_append_left, get_or_default, get_or_push, length-take, length_push, take_all, take_more, take_more_set}
-use Rattle.std.proofs.lemmas.Option.{same_Some, slice_get-get_or}
-use Rattle.ir_core.specs.declared.function.Block.{Block}
-use Rattle.ir_core.specs.declared.instruction.Inst.{Inst}
-use Rattle.substitution.specs.Substitution.{Substitution, substituted_inst}
-use Rattle.draft.specs.Drafts.{block_of, blocks_of, insts_of}
-use Rattle.places.specs.Orders.{place_in}
-use Rattle.draft.specs.Placing.{AreOrdered, IsOrdering}
 
 -- ---- the instructions of a block
 

@@ -1,34 +1,10 @@
 -- A draft keeps its invariant where an instruction is inserted before another.
-use Rattle.std.proofs.Common.{◌≡◌, inl, inr, ℕ, zero, suc, ◌+◌, ◌<◌, ◌≤◌, Bool, true, List, [], ◌∷◌, ◌++◌, length, get_or, slice_set, All, sym, ap, subst, ◌∙◌, arith, get_or-set_other, get_or-set_same}
-use Rattle.std.specs.Prelude.{Contains, IsFalse, slice_get}
+use Rattle.draft.proofs.Common.{◌≡◌, inl, inr, ℕ, zero, suc, ◌+◌, ◌<◌, ◌≤◌, Bool, true, List, [], ◌∷◌, ◌++◌, length, get_or, slice_set, All, sym, ap, subst, ◌∙◌, arith, get_or-set_other, get_or-set_same, Contains, IsFalse, slice_get, All-contains, slice_get_within, AreFactsOf, IsBlock, IsKnown, IsPhi, Read, IsRead, Block, Function, Inst, Operand, operands_of, Uses, inst_put, put_in, AreCounted, operands_at, none, put_before, AreListed, AreReadersOf, AreRowsOf, HasNoCycles, IsWhole, Draft, Place, Readers, changed_length, has_known, AreFew, reads_known, row_within}
 use Rattle.std.proofs.lemmas.List.{length-set}
-use Rattle.std.proofs.lemmas.List.Elements.{All-contains}
-use Rattle.std.proofs.lemmas.Option.{slice_get_within}
-use Rattle.bindings.specs.Facts.{AreFactsOf}
-use Rattle.ir_core.specs.Blocks.{IsBlock}
-use Rattle.ir_core.specs.Checks.{IsKnown, IsPhi}
-use Rattle.ir_core.specs.Reads.{Read, IsRead}
-use Rattle.ir_core.specs.declared.function.Block.{Block}
-use Rattle.ir_core.specs.declared.function.Function.{Function}
-use Rattle.ir_core.specs.declared.instruction.Inst.{Inst}
-use Rattle.ir_core.specs.declared.operand.Operand.{Operand}
 use Rattle.ir_core.specs.declared.operand.Register.TheVariants as registers
-use Rattle.needed.specs.Operands.{operands_of}
-use Rattle.use_counts.specs.declared.uses.Uses.{Uses}
-use Rattle.readers.specs.Changes.{inst_put, put_in}
-use Rattle.readers.specs.Counts.{AreCounted, operands_at}
-use Rattle.places.specs.Orders.{none, put_before}
-use Rattle.readers.specs.Readers.{AreListed, AreReadersOf}
-use Rattle.draft.specs.Whole.{AreRowsOf, HasNoCycles, IsWhole}
-use Rattle.draft.specs.declared.draft.Draft.{Draft}
-use Rattle.places.specs.declared.place.Place.{Place}
-use Rattle.readers.specs.declared.uses.Readers.{Readers}
-use Rattle.readers.proofs.Changing.{changed_length, has_known}
 use Rattle.draft.proofs.Cycles.{no_cycles_stay, no_phi_put}
 use Rattle.draft.proofs.Exchanging.{block_cases}
-use Rattle.readers.proofs.Places.{AreFew, reads_known}
 use Rattle.draft.proofs.Putting.{count_kept, facts_put, few_put, flow_put, known_put, list_kept, list_there, number_there, readers_put}
-use Rattle.readers.proofs.Tables.{row_within}
 use Rattle.draft.proofs.Wholeness.{all_known, few_insts, rows_more}
 
 -- what an insertion does: the arena and the order of the block have one more instruction, which stands; each table has

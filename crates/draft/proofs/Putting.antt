@@ -1,36 +1,8 @@
 -- Arenas with one more instruction in a block, and tables with one more entry for it.
-use Rattle.std.proofs.Common.{◌≡◌, ◌⊎◌, inl, inr, ℕ, zero, suc, ◌+◌, ◌<◌, ◌≤◌, List, [], ◌∷◌, ◌++◌, length, get_or, slice_set, Some, refl, sym, ap, subst, ◌∙◌, arith, get_or-set_other, get_or-set_same}
-use Rattle.std.specs.Prelude.{Contains, slice_get}
-use Rattle.std.proofs.lemmas.Bool.{cases_eq, cases_lt}
-use Rattle.std.proofs.lemmas.List.{get_or_append_left, get_or_past, get_or_push, length_push}
-use Rattle.std.proofs.lemmas.List.Sums.{sum_by_push}
-use Rattle.std.proofs.lemmas.Option.{slice_get_cases}
-use Rattle.assigned_flow.specs.Successors.{successors_of}
-use Rattle.bindings.specs.Facts.{AreFactsOf}
-use Rattle.bindings.specs.declared.facts.FunctionFacts.{FunctionFacts}
-use Rattle.ir_core.specs.Blocks.{HasInst, IsBlock, targets_of}
-use Rattle.ir_core.specs.Checks.{IsKnown}
-use Rattle.ir_core.specs.declared.function.Block.{Block}
-use Rattle.ir_core.specs.declared.function.Function.{Function}
-use Rattle.ir_core.specs.declared.instruction.Inst.{Inst}
-use Rattle.ir_core.specs.declared.operand.Operand.{Operand}
+use Rattle.draft.proofs.Common.{◌≡◌, ◌⊎◌, inl, inr, ℕ, zero, suc, ◌+◌, ◌<◌, ◌≤◌, List, [], ◌∷◌, ◌++◌, length, get_or, slice_set, Some, refl, sym, ap, subst, ◌∙◌, arith, get_or-set_other, get_or-set_same, Contains, slice_get, cases_eq, cases_lt, get_or_append_left, get_or_past, get_or_push, length_push, sum_by_push, slice_get_cases, successors_of, AreFactsOf, FunctionFacts, HasInst, IsBlock, targets_of, IsKnown, Block, Function, Inst, Operand, Register, operands_of, HasNumber, count_of, Uses, inst_put, put_in, AreCounted, operands_at, times, times_in, times_in_function, none, AreListed, AreReadersOf, HasList, IsPlaceIn, arena_place, listed_for, Place, Readers, HasAll, changed_sum, has_known, known_has, known_kept, AreFew, AreKnown, operands_at_inst, operands_at_terminator, reads_written, same_place, written_reads, counts_are_times, times_are_counts}
 use Rattle.ir_core.specs.declared.operand.Operand.TheVariants as operands
-use Rattle.ir_core.specs.declared.operand.Register.{Register}
 use Rattle.ir_core.specs.declared.operand.Register.TheVariants as registers
-use Rattle.needed.specs.Operands.{operands_of}
-use Rattle.use_counts.specs.Tables.{HasNumber, count_of}
-use Rattle.use_counts.specs.declared.uses.Uses.{Uses}
-use Rattle.readers.specs.Changes.{inst_put, put_in}
-use Rattle.readers.specs.Counts.{AreCounted, operands_at, times, times_in, times_in_function}
-use Rattle.places.specs.Orders.{none}
-use Rattle.readers.specs.Readers.{AreListed, AreReadersOf, HasList, IsPlaceIn, arena_place, listed_for}
-use Rattle.places.specs.declared.place.Place.{Place}
-use Rattle.readers.specs.declared.uses.Readers.{Readers}
-use Rattle.readers.proofs.Changing.{HasAll, changed_sum, has_known, known_has, known_kept}
 use Rattle.draft.proofs.Exchanging.{block_cases, block_is, block_now, block_other, map_changed, read_in_other}
-use Rattle.readers.proofs.Places.{AreFew, AreKnown}
-use Rattle.readers.proofs.Reading.{operands_at_inst, operands_at_terminator, reads_written, same_place, written_reads}
-use Rattle.readers.proofs.Totals.{counts_are_times, times_are_counts}
 
 slice_get_left : {A : Type 0} (xs ys : List A) (n : ℕ) → n < length xs → slice_get (xs ++ ys) n ≡ slice_get xs n
 slice_get_left [] ys n within = absurd (omega arith)

@@ -1,8 +1,5 @@
 -- Blocks that are reached are so in a function in which each block names what it named, and perhaps more.
-use Rattle.std.proofs.Common.{ℕ, List, [], ◌∷◌}
-use Rattle.ir_core.specs.Blocks.{Names}
-use Rattle.ir_core.specs.Walks.{IsReached, IsWalk}
-use Rattle.ir_core.specs.declared.function.Function.{Function}
+use Rattle.draft.proofs.Common.{ℕ, List, [], ◌∷◌, Names, IsReached, IsWalk, Function}
 
 module _ (f g : Function) (on : (b c : ℕ) → Names f b c → Names g b c) where
   walk_along : (blocks : List ℕ) → IsWalk f blocks → IsWalk g blocks

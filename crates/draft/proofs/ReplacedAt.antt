@@ -1,31 +1,8 @@
 -- The uses of a register are replaced at one place, and so place by place at all of them.
-use Rattle.std.proofs.Common.{◌≡◌, ◌⊎◌, inl, inr, ℕ, List, [], ◌∷◌, length, Some, map, refl, sym, ap, subst, ◌∙◌, arith}
-use Rattle.std.specs.Prelude.{Contains, slice_get}
-use Rattle.std.proofs.lemmas.Bool.{cases_eq}
-use Rattle.ir_core.specs.Blocks.{IsBlock}
-use Rattle.ir_core.specs.Checks.{IsKnown}
-use Rattle.ir_core.specs.declared.function.Block.{Block}
-use Rattle.ir_core.specs.declared.function.Function.{Function}
-use Rattle.ir_core.specs.declared.instruction.Inst.{Inst}
-use Rattle.ir_core.specs.declared.operand.Operand.{Operand}
+use Rattle.draft.proofs.Common.{◌≡◌, ◌⊎◌, inl, inr, ℕ, List, [], ◌∷◌, length, Some, map, refl, sym, ap, subst, ◌∙◌, arith, Contains, slice_get, cases_eq, IsBlock, IsKnown, Block, Function, Inst, Operand, Register, Terminator, substituted_end, substituted_inst, substituted_operand, changed_at, end_changed, inst_changed, instead, replaced, replaced_at, with_block, operands_at, numbers_of, orders_of, none, IsPlaceIn, IsReader, arena_place, IsWhole, Draft, Place, inst_there, known_kept, is_same_register, AreFew, DiffersAt, is_same_place, written_reads}
 use Rattle.ir_core.specs.declared.operand.Operand.TheVariants as operands
-use Rattle.ir_core.specs.declared.operand.Register.{Register}
-use Rattle.ir_core.specs.declared.terminator.Terminator.{Terminator}
-use Rattle.substitution.specs.Substitution.{substituted_end, substituted_inst, substituted_operand}
-use Rattle.readers.specs.Changes.{changed_at, end_changed, inst_changed, instead, replaced, replaced_at, with_block}
-use Rattle.readers.specs.Counts.{operands_at}
-use Rattle.draft.specs.Drafts.{numbers_of, orders_of}
-use Rattle.places.specs.Orders.{none}
-use Rattle.readers.specs.Readers.{IsPlaceIn, IsReader, arena_place}
-use Rattle.draft.specs.Whole.{IsWhole}
-use Rattle.draft.specs.declared.draft.Draft.{Draft}
-use Rattle.places.specs.declared.place.Place.{Place}
 use Rattle.draft.proofs.Changed.{IsRecounted, differs, few}
-use Rattle.readers.proofs.Changing.{inst_there, known_kept}
 use Rattle.draft.proofs.Exchanging.{end_differs, still_few}
-use Rattle.readers.proofs.Naming.{is_same_register}
-use Rattle.readers.proofs.Places.{AreFew, DiffersAt, is_same_place}
-use Rattle.readers.proofs.Reading.{written_reads}
 use Rattle.draft.proofs.Replacing.{all_stay, replaced_at_end, replaced_at_inst, replaced_first, stay_twice, unread_stays}
 use Rattle.draft.proofs.Rows.{first_or_later}
 use Rattle.draft.proofs.Swapped.{end_reads_now, inst_reads_now, targets_stay, whole_end_swapped, whole_swapped}

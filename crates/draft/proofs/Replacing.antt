@@ -1,28 +1,7 @@
 -- Arenas in which the uses of a register are replaced by an operand, place by place.
-use Rattle.std.proofs.Common.{◌≡◌, inl, inr, ℕ, suc, eqb, true, List, [], ◌∷◌, Some, map, refl, sym, ap, subst, ◌∙◌, arith}
-use Rattle.std.specs.Prelude.{Contains, slice_get}
-use Rattle.std.proofs.lemmas.Bool.{cases_Bool, cases_eq, cond-true, cond-false, eq-eqb, ne_eqb}
-use Rattle.std.proofs.lemmas.Option.{slice_get-map, slice_get_within}
-use Rattle.ir_core.specs.declared.function.Block.{Block}
-use Rattle.ir_core.specs.declared.function.Function.{Function}
-use Rattle.ir_core.specs.declared.instruction.Inst.{Inst}
-use Rattle.ir_core.specs.declared.instruction.Op.{Op}
-use Rattle.ir_core.specs.declared.operand.Operand.{Operand}
+use Rattle.draft.proofs.Common.{◌≡◌, inl, inr, ℕ, suc, eqb, true, List, [], ◌∷◌, Some, map, refl, sym, ap, subst, ◌∙◌, arith, Contains, slice_get, cases_Bool, cases_eq, cond-true, cond-false, eq-eqb, ne_eqb, slice_get-map, slice_get_within, Block, Function, Inst, Op, Operand, Register, Terminator, operands_of, operands_at_end, contained_at, mapped, substituted_block, substituted_end, substituted_inst, substituted_op, substituted_operand, end_changed, inst_changed, instead, replaced, replaced_at, same_register, with_block, operands_at, none, IsPlaceIn, Place, other_register, same_register_is, same_register_self, AreFew, operands_at_inst, operands_at_terminator}
 use Rattle.ir_core.specs.declared.operand.Operand.TheVariants as operands
-use Rattle.ir_core.specs.declared.operand.Register.{Register}
-use Rattle.ir_core.specs.declared.terminator.Terminator.{Terminator}
-use Rattle.needed.specs.Operands.{operands_of, operands_at_end}
-use Rattle.needed.proofs.Counting.{contained_at, mapped}
-use Rattle.substitution.specs.Substitution.{substituted_block, substituted_end, substituted_inst, substituted_op, substituted_operand}
-use Rattle.readers.specs.Changes.{end_changed, inst_changed, instead, replaced, replaced_at, same_register, with_block}
-use Rattle.readers.specs.Counts.{operands_at}
-use Rattle.places.specs.Orders.{none}
-use Rattle.readers.specs.Readers.{IsPlaceIn}
-use Rattle.places.specs.declared.place.Place.{Place}
 use Rattle.draft.proofs.Exchanging.{map_changed}
-use Rattle.readers.proofs.Naming.{other_register, same_register_is, same_register_self}
-use Rattle.readers.proofs.Places.{AreFew}
-use Rattle.readers.proofs.Reading.{operands_at_inst, operands_at_terminator}
 use Rattle.draft.proofs.Substituted.{end_agrees, end_itself, itself, op_itself, operand_itself, op_agrees, substituted_end_reads, substituted_reads}
 
 map_same : {A : Type 0} (g : A → A) (xs : List A) → ((k : ℕ) (x : A) → slice_get xs k ≡ Some x → g x ≡ x) → map g xs ≡ xs

@@ -1,14 +1,7 @@
 -- The numbers of a block that stand, and its numbers with one inserted or removed.
-use Rattle.std.proofs.Common.{◌≡◌, ◌⊎◌, ◌↔◌, inl, inr, ℕ, zero, suc, ◌+◌, ◌-◌, ◌<◌, Bool, true, false, cond, eqb, List, [], ◌∷◌, ◌++◌, length, get_or, slice_set, take, Option, None, Some, refl, sym, ap, subst, ◌∙◌, arith, get_or-set_other, get_or-set_same}
-use Rattle.std.specs.Prelude.{Contains, slice_get}
-use Rattle.std.proofs.lemmas.Bool.{cases_Bool, cases_eq, cases_lt, cond-false, cond-true, eq-eqb, ne_eqb}
-use Rattle.std.proofs.lemmas.List.{append_assoc, get_or_append_left, get_or_past, get_or_push, length-set, take_all, take_more}
-use Rattle.std.proofs.lemmas.Option.{get_or_from_slice_get, none-some, same_Some, slice_get_cases, slice_get_within}
-use Rattle.needed.proofs.Counting.{contained_at, contains_at, contains_first, contains_later}
-use Rattle.readers.specs.Changes.{changed_at, without}
-use Rattle.draft.specs.Drafts.{standing, standing_in}
-use Rattle.places.specs.Orders.{place_in, put_before}
-use Rattle.draft.specs.Placing.{IsOrdering}
+use Rattle.draft.proofs.Common.{◌≡◌, ◌⊎◌, ◌↔◌, inl, inr, ℕ, zero, suc, ◌+◌, ◌-◌, ◌<◌, Bool, true, false, cond, eqb, List, [], ◌∷◌, ◌++◌, length, get_or, slice_set, take, Option, None, Some, refl, sym, ap, subst, ◌∙◌, arith, get_or-set_other, get_or-set_same, Contains, slice_get, cases_Bool, cases_eq, cases_lt, cond-false, cond-true, eq-eqb, ne_eqb, append_assoc, get_or_append_left, get_or_past, get_or_push, take_all, take_more, get_or_from_slice_get, none-some, same_Some, slice_get_cases, slice_get_within, contained_at, contains_at, contains_first, changed_at, without, standing, standing_in, place_in, put_before, IsOrdering}
+use Rattle.std.proofs.lemmas.List.{length-set}
+use Rattle.needed.proofs.Counting.{contains_later}
 
 abbrev pub marked : List Bool → ℕ → Bool
 marked stand n = get_or stand n false

@@ -1,27 +1,8 @@
 -- In a draft between steps each result that is read is at a position of the function.
-use Rattle.std.proofs.Common.{◌≡◌, inl, inr, ℕ, suc, ◌<◌, ◌≤◌, Bool, List, [], ◌∷◌, ◌++◌, length, get_or, Option, None, Some, map, refl, sym, ap, subst, ◌∙◌, arith}
-use Rattle.std.specs.Prelude.{Contains, option_to_list, slice_get}
-use Rattle.std.proofs.lemmas.Bool.{cases_Bool}
-use Rattle.std.proofs.lemmas.List.{get_or_past}
-use Rattle.std.proofs.lemmas.Option.{slice_get_cases, slice_get_within}
-use Rattle.ir_core.specs.declared.function.Block.{Block}
-use Rattle.ir_core.specs.declared.instruction.Inst.{Inst}
-use Rattle.ir_core.specs.declared.operand.Operand.{Operand}
+use Rattle.draft.proofs.Common.{◌≡◌, inl, inr, ℕ, suc, ◌<◌, ◌≤◌, Bool, List, [], ◌∷◌, ◌++◌, length, get_or, Option, None, Some, map, refl, sym, ap, subst, ◌∙◌, arith, Contains, option_to_list, slice_get, cases_Bool, get_or_past, slice_get_cases, slice_get_within, Block, Inst, Operand, Terminator, operands_of, operands_at_end, contained_at, contains_at, contains_first, Substitution, substituted_end, substituted_inst, substituted_operand, operands_at, block_of, blocks_of, function_of, insts_of, numbers_in, numbers_of, placed, standing_in, none, place_in, AreOrdered, IsOrdering, at_places, IsPlaceIn, arena_place, IsSettled, IsWhole, Draft, Place, operands_at_inst, operands_at_terminator, written_reads}
 use Rattle.ir_core.specs.declared.operand.Operand.TheVariants as operands
 use Rattle.ir_core.specs.declared.operand.Register.TheVariants as registers
-use Rattle.ir_core.specs.declared.terminator.Terminator.{Terminator}
-use Rattle.needed.specs.Operands.{operands_of, operands_at_end}
-use Rattle.needed.proofs.Counting.{contained_at, contains_at, contains_first, contains_later}
-use Rattle.substitution.specs.Substitution.{Substitution, substituted_end, substituted_inst, substituted_operand}
-use Rattle.readers.specs.Counts.{operands_at}
-use Rattle.draft.specs.Drafts.{block_of, blocks_of, function_of, insts_of, numbers_in, numbers_of, placed, standing_in}
-use Rattle.places.specs.Orders.{none, place_in}
-use Rattle.draft.specs.Placing.{AreOrdered, IsOrdering, at_places}
-use Rattle.readers.specs.Readers.{IsPlaceIn, arena_place}
-use Rattle.draft.specs.Whole.{IsSettled, IsWhole}
-use Rattle.draft.specs.declared.draft.Draft.{Draft}
-use Rattle.places.specs.declared.place.Place.{Place}
-use Rattle.readers.proofs.Reading.{operands_at_inst, operands_at_terminator, written_reads}
+use Rattle.needed.proofs.Counting.{contains_later}
 use Rattle.draft.proofs.Rows.{Distinct, distinct_once, first_gone, first_stands, marked, once_distinct, standing_at, standing_length, stands_is}
 use Rattle.draft.proofs.Substituted.{Agree, end_agrees, inst_agrees}
 

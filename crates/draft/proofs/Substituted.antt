@@ -1,16 +1,8 @@
 -- Substitutions that agree on some operands, and the operands after a substitution.
-use Rattle.std.proofs.Common.{◌≡◌, ℕ, List, [], ◌∷◌, map, refl, ap, ◌∙◌}
-use Rattle.std.specs.Prelude.{Contains}
-use Rattle.ir_core.specs.declared.instruction.Inst.{Inst}
-use Rattle.ir_core.specs.declared.instruction.Op.{Op}
-use Rattle.ir_core.specs.declared.instruction.Op.TheVariants.{Binary, Compare, Unary, Select, Convert, Freeze, Phi}
-use Rattle.ir_core.specs.declared.operand.Operand.{Operand}
+use Rattle.draft.proofs.Common.{◌≡◌, ℕ, List, [], ◌∷◌, map, refl, ap, ◌∙◌, Contains, Inst, Op, Binary, Compare, Unary, Select, Convert, Freeze, Phi, Operand, Terminator, operands_of, operands_at_end, contains_first, Substitution, substituted_end, substituted_entries, substituted_inst, substituted_op, substituted_operand}
 use Rattle.ir_core.specs.declared.operand.Operand.TheVariants as operands
-use Rattle.ir_core.specs.declared.terminator.Terminator.{Terminator}
 use Rattle.ir_core.specs.declared.terminator.Terminator.TheVariants as terminators
-use Rattle.needed.specs.Operands.{operands_of, operands_at_end}
-use Rattle.needed.proofs.Counting.{contains_first, contains_later}
-use Rattle.substitution.specs.Substitution.{Substitution, substituted_end, substituted_entries, substituted_inst, substituted_op, substituted_operand}
+use Rattle.needed.proofs.Counting.{contains_later}
 
 -- both substitutions give the same for each of these operands
 abbrev pub Agree : Substitution → Substitution → List Operand → Type 0

@@ -1,36 +1,10 @@
 -- A draft keeps its invariant where the uses of a register at one place are replaced.
-use Rattle.std.proofs.Common.{◌≡◌, ◌⊎◌, inl, inr, ℕ, Bool, List, [], length, get_or, Some, map, refl, sym, ap, subst, ◌∙◌}
-use Rattle.std.specs.Prelude.{Contains, slice_get}
-use Rattle.std.proofs.lemmas.Bool.{cases_Bool, cond-false}
-use Rattle.std.proofs.lemmas.Option.{slice_get-map}
-use Rattle.ir_core.specs.Blocks.{IsBlock}
-use Rattle.ir_core.specs.Checks.{IsKnown}
-use Rattle.ir_core.specs.declared.function.Block.{Block}
-use Rattle.ir_core.specs.declared.function.Function.{Function}
-use Rattle.ir_core.specs.declared.instruction.Inst.{Inst}
-use Rattle.ir_core.specs.declared.instruction.Op.TheVariants.{Freeze}
-use Rattle.ir_core.specs.declared.operand.Operand.{Operand}
+use Rattle.draft.proofs.Common.{◌≡◌, ◌⊎◌, inl, inr, ℕ, Bool, List, [], length, get_or, Some, map, refl, sym, ap, subst, ◌∙◌, Contains, slice_get, cases_Bool, cond-false, slice_get-map, IsBlock, IsKnown, Block, Function, Inst, Freeze, Operand, Register, Terminator, targets_of, contained_at, contains_at, mapped, Substitution, substituted_end, substituted_inst, substituted_op, substituted_operand, end_changed, inst_changed, instead, same_register, with_block, operands_at, none, AreReadersOf, IsPlaceIn, arena_place, listed_for, AreRowsOf, HasNoPhi, IsWhole, Draft, Place, changed_length, same_register_is, AreFew, AreKnown, DiffersAt, written_reads}
 use Rattle.ir_core.specs.declared.operand.Operand.TheVariants as operands
-use Rattle.ir_core.specs.declared.operand.Register.{Register}
-use Rattle.ir_core.specs.declared.terminator.Terminator.{Terminator}
 use Rattle.ir_core.specs.declared.terminator.Terminator.TheVariants as terminators
-use Rattle.ir_core.specs.Blocks.{targets_of}
-use Rattle.needed.proofs.Counting.{contained_at, contains_at, mapped}
-use Rattle.substitution.specs.Substitution.{Substitution, substituted_end, substituted_inst, substituted_op, substituted_operand}
-use Rattle.readers.specs.Changes.{end_changed, inst_changed, instead, same_register, with_block}
-use Rattle.readers.specs.Counts.{operands_at}
-use Rattle.places.specs.Orders.{none}
-use Rattle.readers.specs.Readers.{AreReadersOf, IsPlaceIn, arena_place, listed_for}
-use Rattle.draft.specs.Whole.{AreRowsOf, HasNoPhi, IsWhole}
-use Rattle.draft.specs.declared.draft.Draft.{Draft}
-use Rattle.places.specs.declared.place.Place.{Place}
 use Rattle.draft.proofs.Changed.{IsRecounted, block_of_new, blocks_count, differs, few, whole_changed}
-use Rattle.readers.proofs.Changing.{changed_length}
 use Rattle.draft.proofs.Cycles.{no_phi_changed, no_phi_end, no_phi_substituted}
 use Rattle.draft.proofs.Exchanging.{block_cases, end_differs, end_read_now, end_read_was, read_now, read_was, still_few}
-use Rattle.readers.proofs.Naming.{same_register_is}
-use Rattle.readers.proofs.Places.{AreFew, AreKnown, DiffersAt}
-use Rattle.readers.proofs.Reading.{written_reads}
 use Rattle.draft.proofs.Replacing.{instead_same}
 use Rattle.draft.proofs.Substituted.{substituted_end_reads, substituted_reads}
 use Rattle.draft.proofs.Wholeness.{all_known, few_insts, rows_swapped}

@@ -1,15 +1,6 @@
 -- Use lists from which places are dropped that don't read the register.
-use Rattle.std.proofs.Common.{◌≡◌, ◌↔◌, inl, inr, List, sym, subst, ◌∙◌}
-use Rattle.std.specs.Prelude.{Contains}
-use Rattle.ir_core.specs.declared.function.Function.{Function}
+use Rattle.draft.proofs.Common.{◌≡◌, ◌↔◌, inl, inr, List, sym, subst, ◌∙◌, Contains, Function, Register, operands_at, AreReadersOf, IsListSetTo, IsPlaceIn, IsReader, arena_place, listed_for, Place, Readers, is_same_register, reads_written, written_reads}
 use Rattle.ir_core.specs.declared.operand.Operand.TheVariants as operands
-use Rattle.ir_core.specs.declared.operand.Register.{Register}
-use Rattle.readers.specs.Counts.{operands_at}
-use Rattle.readers.specs.Readers.{AreReadersOf, IsListSetTo, IsPlaceIn, IsReader, arena_place, listed_for}
-use Rattle.places.specs.declared.place.Place.{Place}
-use Rattle.readers.specs.declared.uses.Readers.{Readers}
-use Rattle.readers.proofs.Naming.{is_same_register}
-use Rattle.readers.proofs.Reading.{reads_written, written_reads}
 
 module _ (f : Function) (register : Register) (empty kept : List Place) (old mid new : Readers) (are : AreReadersOf f old) (taken : IsListSetTo register empty old mid) (put : IsListSetTo register kept mid new)
     (chosen : (p : Place) → Contains kept p ↔ (Contains (listed_for old register) p × Contains (operands_at f p) (operands.Register register))) where

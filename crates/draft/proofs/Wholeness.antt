@@ -1,25 +1,7 @@
 -- The invariant of drafts, and the order and flags of a block where its instructions change.
-use Rattle.std.proofs.Common.{◌≡◌, inl, inr, ℕ, zero, suc, ◌+◌, ◌<◌, ◌≤◌, ◌^◌, Bool, true, false, List, [], ◌∷◌, ◌++◌, length, get_or, slice_set, Some, All, refl, sym, ap, subst, ◌∙◌, arith}
-use Rattle.std.specs.Prelude.{Contains, slice_get}
-use Rattle.std.proofs.lemmas.Bool.{cases_eq, cases_lt}
-use Rattle.std.proofs.lemmas.List.{get_or_append_left, get_or_past, get_or_push, length-set, length_push}
-use Rattle.std.proofs.lemmas.Option.{slice_get-get_or, slice_get_cases, slice_get_within}
-use Rattle.ir_core.specs.Blocks.{HasInst, IsBlock}
-use Rattle.ir_core.specs.declared.function.Block.{Block}
-use Rattle.ir_core.specs.declared.instruction.Inst.{Inst}
-use Rattle.ir_core.specs.declared.instruction.Op.TheVariants.{Freeze}
+use Rattle.draft.proofs.Common.{◌≡◌, inl, inr, ℕ, zero, suc, ◌+◌, ◌<◌, ◌≤◌, ◌^◌, Bool, true, false, List, [], ◌∷◌, ◌++◌, length, get_or, slice_set, Some, All, refl, sym, ap, subst, ◌∙◌, arith, Contains, slice_get, cases_eq, cases_lt, get_or_append_left, get_or_past, get_or_push, length_push, slice_get-get_or, slice_get_cases, slice_get_within, HasInst, IsBlock, Block, Inst, Freeze, gone, inst_changed, inst_put, Stands, numbers_in, numbers_of, none, AreRowsOf, IsWhole, Draft, changed_cases, changed_length, AreFew, AreKnown, known_reads, contained_at, standing_in, put_before, IsOrdering}
+use Rattle.std.proofs.lemmas.List.{length-set}
 use Rattle.ir_core.specs.declared.operand.Operand.TheVariants as operands
-use Rattle.readers.specs.Changes.{gone, inst_changed, inst_put}
-use Rattle.draft.specs.Drafts.{Stands, numbers_in, numbers_of}
-use Rattle.places.specs.Orders.{none}
-use Rattle.draft.specs.Whole.{AreRowsOf, IsWhole}
-use Rattle.draft.specs.declared.draft.Draft.{Draft}
-use Rattle.readers.proofs.Changing.{changed_cases, changed_length}
-use Rattle.readers.proofs.Places.{AreFew, AreKnown, known_reads}
-use Rattle.needed.proofs.Counting.{contained_at}
-use Rattle.draft.specs.Drafts.{standing_in}
-use Rattle.places.specs.Orders.{put_before}
-use Rattle.draft.specs.Placing.{IsOrdering}
 use Rattle.draft.proofs.Rows.{is_standing, marked, marked_other, put_keeps, put_ordering, put_there, standing_at, standing_length, stands_is}
 
 nothing_stands : (n : ℕ) → Contains {X = ℕ} [] n → ⊥

@@ -1,27 +1,10 @@
 -- The matches in an arena are those in its function.
-use Rattle.std.proofs.Common.{◌≡◌, ℕ, List, Some, refl, sym, ap, subst, ◌∙◌}
-use Rattle.std.specs.Prelude.{Contains, slice_get}
-use Rattle.std.proofs.lemmas.Option.{get_or_from_slice_get}
-use Rattle.ir_core.specs.Checks.{IsInst}
-use Rattle.ir_core.specs.Reads.{Read, reads_of}
-use Rattle.ir_core.specs.declared.function.Function.{Function}
-use Rattle.ir_core.specs.declared.instruction.Inst.{Inst}
+use Rattle.draft_steps.proofs.Common.{◌≡◌, ℕ, List, Some, refl, sym, ap, subst, ◌∙◌, Contains, slice_get, get_or_from_slice_get, IsInst, Read, reads_of, Function, Inst, Register, IsRule, Rule, substituted_inst, IsUsedOnce, MatchesInAnyOrder, Binding, reads_at_inst, moved_binding, matches_stay, placed, AreArranged, arranged, row_of}
 use Rattle.ir_core.specs.declared.operand.Operand.TheVariants as operands
-use Rattle.ir_core.specs.declared.operand.Register.{Register}
 use Rattle.ir_core.specs.declared.operand.Register.TheVariants as registers
 use Rattle.ir_meaning.proofs.Pieces.{contains_at, place_in as place_of}
-use Rattle.rule_core.specs.Checks.{IsRule}
-use Rattle.rule_core.specs.declared.rule.Rule.{Rule}
-use Rattle.substitution.specs.Substitution.{substituted_inst}
-use Rattle.use_counts.specs.Uses.{IsUsedOnce}
-use Rattle.bindings.specs.Match.{MatchesInAnyOrder}
-use Rattle.bindings.specs.declared.binding.Binding.{Binding}
-use Rattle.bindings.proofs.Reading.{reads_at_inst}
-use Rattle.moved_matches.specs.Moved.{StandsAt, moved_binding}
-use Rattle.moved_matches.proofs.Staying.{matches_stay}
-use Rattle.draft.specs.Drafts.{placed}
+use Rattle.moved_matches.specs.Moved.{StandsAt}
 use Rattle.places.specs.Orders.{place_in}
-use Rattle.draft_steps.specs.Arranged.{AreArranged, arranged, row_of}
 use Rattle.draft_steps.proofs.Back.{inst_back, numbered}
 use Rattle.draft_steps.proofs.Places.{IsStanding, inst_on, inst_was, placed-is, placed_register, reached_back, reached_on, used_once_back, used_once_on}
 use Rattle.draft_steps.proofs.Rooted.{bound_inst, bound_there, each_come}

@@ -1,33 +1,9 @@
 -- A settled draft is given by its arena and the numbers that stand, and tells which registers have exactly one use.
-use Rattle.std.proofs.Common.{◌≡◌, ◌⊎◌, inl, inr, ◌<◌, ℕ, zero, suc, List, [], ◌∷◌, length, get_or, Some, refl, sym, ap, subst, ◌∙◌, arith}
-use Rattle.std.specs.Prelude.{Contains, slice_get}
-use Rattle.std.proofs.lemmas.Bool.{cases_Bool, cases_eq}
-use Rattle.std.proofs.lemmas.Option.{same_Some, slice_get_within}
-use Rattle.ir_core.specs.Checks.{IsInst}
-use Rattle.ir_core.specs.Reads.{Read, IsRead, read, end_of, reads_of}
-use Rattle.ir_core.specs.declared.function.Function.{Function}
-use Rattle.ir_core.specs.declared.instruction.Inst.{Inst}
-use Rattle.ir_core.specs.declared.instruction.Op.{Op}
-use Rattle.ir_core.specs.declared.instruction.Op.TheVariants.{Freeze}
+use Rattle.draft_steps.proofs.Common.{◌≡◌, ◌⊎◌, inl, inr, ◌<◌, ℕ, zero, suc, List, [], ◌∷◌, length, get_or, Some, refl, sym, ap, subst, ◌∙◌, arith, Contains, slice_get, cases_Bool, cases_eq, same_Some, slice_get_within, IsInst, Read, IsRead, read, end_of, reads_of, Function, Inst, Op, Freeze, Register, count_of, IsUsedOnce, IsUseCount, count_of_one, use_counts_are_one, reads_at_inst, AreArranged, row_of, numbers_of, none, IsSettled, Draft, Place, arena_place_end, arena_place_inst, read_in_block, read_in_inst, marked, standing_length, numbers_ordered, marked_stands, stands_there}
 use Rattle.ir_core.specs.declared.operand.Operand.TheVariants as operands
-use Rattle.ir_core.specs.declared.operand.Register.{Register}
 use Rattle.ir_core.specs.declared.operand.Register.TheVariants as registers
 use Rattle.needed.proofs.Counting.{contains_at}
 use Rattle.needed.proofs.Reading.{end_of-is}
-use Rattle.use_counts.specs.Tables.{count_of}
-use Rattle.use_counts.specs.Uses.{IsUsedOnce, IsUseCount}
-use Rattle.use_counts.proofs.OneCount.{count_of_one, use_counts_are_one}
-use Rattle.bindings.proofs.Reading.{reads_at_inst}
-use Rattle.draft_steps.specs.Arranged.{AreArranged, row_of}
-use Rattle.draft.specs.Drafts.{numbers_of}
-use Rattle.places.specs.Orders.{none}
-use Rattle.draft.specs.Whole.{IsSettled}
-use Rattle.draft.specs.declared.draft.Draft.{Draft}
-use Rattle.places.specs.declared.place.Place.{Place}
-use Rattle.readers.proofs.Reading.{arena_place_end, arena_place_inst, read_in_block, read_in_inst}
-use Rattle.draft.proofs.Rows.{marked, standing_length}
-use Rattle.draft.proofs.Standing.{numbers_ordered}
-use Rattle.draft.proofs.Wholeness.{marked_stands, stands_there}
 
 -- what is left of a removed instruction reads no register
 gone_reads : (f : Function) (b n w i : ℕ) (op : Op) (r : Read) (register : Register) → op ≡ Freeze operands.Poison → slice_get (reads_of f b n w op) i ≡ Some r

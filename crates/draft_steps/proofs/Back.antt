@@ -1,20 +1,8 @@
 -- Different instructions have different positions, so positions can be renamed back to numbers.
-use Rattle.std.proofs.Common.{◌≡◌, ℕ, suc, List, [], ◌∷◌, get_or, map, Some, refl, ap, ◌∙◌}
-use Rattle.std.specs.Prelude.{slice_get}
-use Rattle.std.proofs.lemmas.Option.{get_or_from_slice_get}
-use Rattle.ir_core.specs.Reads.{Read, read, end_of, reads_of}
-use Rattle.ir_core.specs.declared.function.Function.{Function}
-use Rattle.ir_core.specs.declared.instruction.Inst.{Inst}
-use Rattle.ir_core.specs.declared.instruction.Op.{Op}
-use Rattle.ir_core.specs.declared.instruction.Op.TheVariants.{Binary, Compare, Unary, Select, Convert, Freeze, Phi}
-use Rattle.ir_core.specs.declared.operand.Operand.{Operand}
+use Rattle.draft_steps.proofs.Common.{◌≡◌, ℕ, suc, List, [], ◌∷◌, get_or, map, Some, refl, ap, ◌∙◌, slice_get, get_or_from_slice_get, Read, read, end_of, reads_of, Function, Inst, Op, Binary, Compare, Unary, Select, Convert, Freeze, Phi, Operand, Register, Substitution, substituted_inst, substituted_op, substituted_operand, substituted_entries, placed, row_of}
 use Rattle.ir_core.specs.declared.operand.Operand.TheVariants as operands
-use Rattle.ir_core.specs.declared.operand.Register.{Register}
 use Rattle.ir_core.specs.declared.operand.Register.TheVariants as registers
-use Rattle.substitution.specs.Substitution.{Substitution, substituted_inst, substituted_op, substituted_operand, substituted_entries}
-use Rattle.draft.specs.Drafts.{placed}
 use Rattle.places.specs.Orders.{place_in}
-use Rattle.draft_steps.specs.Arranged.{row_of}
 use Rattle.draft_steps.proofs.Places.{IsStanding}
 use Rattle.draft_steps.proofs.Rows.{number_there}
 

@@ -1,15 +1,8 @@
 -- Where exactly the dead instructions were removed from a draft, its function is the cleaned one.
-use Rattle.std.proofs.Common.{◌≡◌, ℕ, true, ◌↔◌, List, [], refl, sym, subst}
-use Rattle.std.specs.Prelude.{Contains, slice_index_or}
-use Rattle.ir_core.specs.Reads.{end_of}
-use Rattle.ir_core.specs.declared.function.Function.{Function}
-use Rattle.ir_core.specs.declared.operand.Operand.{Operand}
+use Rattle.draft_steps.proofs.Common.{◌≡◌, ℕ, true, ◌↔◌, List, [], refl, sym, subst, Contains, slice_index_or, end_of, Function, Operand, IsCleaned, IsNeeded, by_end, by_inst, ReadsRegister, operands_at_end, IsEliminating}
 use Rattle.ir_core.specs.declared.operand.Operand.TheVariants as operands
 use Rattle.ir_core.specs.declared.operand.Register.TheVariants as registers
-use Rattle.needed.specs.Cleaned.{IsCleaned}
-use Rattle.needed.specs.Needed.{IsNeeded, by_end, by_inst, ReadsRegister}
-use Rattle.needed.specs.Operands.{operands_of, operands_at_end}
-use Rattle.draft_steps.specs.DeadCode.{IsEliminating}
+use Rattle.needed.specs.Operands.{operands_of}
 use Rattle.draft_steps.proofs.Leaving.{ReadsStay, StaysIn, function_at, left_is, left_row, marks_of}
 use Rattle.draft_steps.proofs.Living.{needed_alone}
 use Rattle.draft_steps.proofs.Needing.{AreRows, keeps_needed, row_is}

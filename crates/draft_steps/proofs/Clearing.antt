@@ -1,42 +1,18 @@
 -- When a draft has no dead code: every instruction that is left is live.
-use Rattle.std.proofs.Common.{◌≡◌, ℕ, Bool, true, cond, inl, inr, List, [], ◌++◌, length, Option, None, Some, refl, sym, ap, subst, ◌∙◌, arith}
-use Rattle.std.specs.Prelude.{Contains, slice_get}
-use Rattle.std.proofs.lemmas.Bool.{cases_eq, eq-eqb, ne_eqb}
-use Rattle.std.proofs.lemmas.Option.{same_Some, slice_get_within}
-use Rattle.ir_core.specs.Blocks.{Names, targets_of}
-use Rattle.ir_core.specs.Checks.{IsInst, MeetsChecks}
-use Rattle.ir_core.specs.Reads.{end_of}
-use Rattle.ir_core.specs.declared.function.Block.{Block}
-use Rattle.ir_core.specs.declared.function.Function.{Function}
-use Rattle.ir_core.specs.declared.instruction.Inst.{Inst}
+use Rattle.draft_steps.proofs.Common.{◌≡◌, ℕ, Bool, true, cond, inl, inr, List, [], ◌++◌, length, Option, None, Some, refl, sym, ap, subst, ◌∙◌, arith, Contains, slice_get, cases_eq, eq-eqb, ne_eqb, same_Some, slice_get_within, Names, targets_of, IsInst, MeetsChecks, end_of, Block, Function, Inst, Register, Terminator, one_inst, not_in_empty, IsNeeded, by_end, by_inst, ReadsRegister, AreLeft, AreRead, HaveInsts, IsBlockLeft, IsEliminating, IsNeededWith, KeepsUses, ReadsStand, Stands, function_of, numbers_in, numbers_of, orders_of, none, IsReader, HasNoCycles, IsWhole, Draft, Place, inst_there, reached_along, stands_there}
 use Rattle.ir_core.specs.declared.operand.Operand.TheVariants as operands
-use Rattle.ir_core.specs.declared.operand.Register.{Register}
 use Rattle.ir_core.specs.declared.operand.Register.TheVariants as registers
-use Rattle.ir_core.specs.declared.terminator.Terminator.{Terminator}
-use Rattle.ir_meaning.proofs.Equations.{one_inst}
-use Rattle.ir_meaning.proofs.Pieces.{not_in_empty}
-use Rattle.needed.specs.Needed.{IsNeeded, by_end, by_inst, ReadsRegister}
 use Rattle.needed.specs.Operands.{operands_of}
-use Rattle.draft_steps.specs.DeadCode.{AreLeft, AreRead, HaveInsts, IsBlockLeft, IsEliminating, IsNeededWith, KeepsUses, ReadsStand}
-use Rattle.draft.specs.Drafts.{Stands, function_of, numbers_in, numbers_of, orders_of}
-use Rattle.places.specs.Orders.{none}
-use Rattle.readers.specs.Readers.{IsReader}
-use Rattle.draft.specs.Whole.{HasNoCycles, IsWhole}
-use Rattle.draft.specs.declared.draft.Draft.{Draft}
-use Rattle.places.specs.declared.place.Place.{Place}
-use Rattle.readers.proofs.Changing.{inst_there}
 use Rattle.draft_steps.proofs.Leaving.{left_row}
 use Rattle.draft_steps.proofs.Living.{needed_alone, needed_through}
 use Rattle.draft_steps.proofs.Needing.{AreRows}
 use Rattle.draft_steps.proofs.NoCycles.{IsAssignedAt, assigned_there, assigned_through, names_on, not_at_itself}
 use Rattle.draft_steps.proofs.PutAll.{append_none}
-use Rattle.draft.proofs.Reached.{reached_along}
 use Rattle.draft_steps.proofs.RowPlaces.{kept_of}
 use Rattle.draft_steps.proofs.Starting.{cleaning_begins}
 use Rattle.draft_steps.proofs.Taking.{all_needed, cleaning_done, cleaning_dropping}
 use Rattle.draft_steps.proofs.WhoReads.{InstReads, who}
 use Rattle.draft_steps.proofs.WholeRows.{whole_rows}
-use Rattle.draft.proofs.Wholeness.{stands_there}
 
 -- what a terminator reads is live
 pub end_needed : (f : Function) (p : Place) (r : Register) → IsReader f r p → p.number ≡ none → IsNeeded f r

@@ -1,16 +1,6 @@
 -- The last register is taken off the worklist of dead code elimination.
-use Rattle.std.proofs.Common.{◌≡◌, ℕ, ◌⊎◌, inl, inr, List, [], ◌∷◌, ◌++◌, sym, ap, subst, arith}
-use Rattle.std.specs.Prelude.{Contains, slice_index_or}
-use Rattle.std.proofs.lemmas.List.Elements.{Contains-append_cases, Contains-append_left, Contains-append_right, Contains-push_cases}
-use Rattle.ir_core.specs.Blocks.{HasInst}
-use Rattle.ir_core.specs.declared.function.Function.{Function}
-use Rattle.ir_core.specs.declared.operand.Register.{Register}
+use Rattle.draft_steps.proofs.Common.{◌≡◌, ℕ, ◌⊎◌, inl, inr, List, [], ◌∷◌, ◌++◌, sym, ap, subst, arith, Contains, slice_index_or, Contains-append_cases, Contains-append_left, Contains-append_right, Contains-push_cases, HasInst, Function, Register, ReadsRegister, AreRead, HaveInsts, IsEliminating, KeepsUses, times_in_function, Stands, numbers_of, Draft}
 use Rattle.ir_core.specs.declared.operand.Register.TheVariants as registers
-use Rattle.needed.specs.Needed.{ReadsRegister}
-use Rattle.draft_steps.specs.DeadCode.{AreRead, HaveInsts, IsEliminating, KeepsUses}
-use Rattle.readers.specs.Counts.{times_in_function}
-use Rattle.draft.specs.Drafts.{Stands, numbers_of}
-use Rattle.draft.specs.declared.draft.Draft.{Draft}
 
 pub last_among : (dead_candidates rest : List Register) (last : Register) → dead_candidates ≡ rest ++ last ∷ [] → (r : Register) → Contains dead_candidates r → Contains rest r ⊎ (r ≡ last)
 last_among dead_candidates rest last is r has =

@@ -1,13 +1,7 @@
 -- The laws of matches in drafts.
-use Rattle.std.proofs.Common.{◌≡◌, ℕ, suc, ◌<◌, ◌≤◌}
-use Rattle.ir_core.specs.Reads.{Read, IsRead}
+use Rattle.draft_steps.proofs.Common.{◌≡◌, ℕ, suc, ◌<◌, ◌≤◌, Read, IsRead, TemporariesStandBefore, Draft, Reaches, Stands, numbers_of, arena_of, AreArranged, MatchesOfTheArena, MatchesOfTheUntouched}
 use Rattle.ir_core.specs.declared.operand.Operand.TheVariants as operands
 use Rattle.ir_core.specs.declared.operand.Register.TheVariants as registers
-use Rattle.bindings.specs.Laws.{TemporariesStandBefore}
-use Rattle.draft.specs.declared.draft.Draft.{Draft}
-use Rattle.draft.specs.Drafts.{Reaches, Stands, numbers_of, arena_of}
-use Rattle.draft_steps.specs.Arranged.{AreArranged}
-use Rattle.draft_steps.specs.MatchLaws.{MatchesOfTheArena, MatchesOfTheUntouched}
 use Rattle.draft_steps.proofs.PlacedMatches.{placed_matches}
 use Rattle.draft_steps.proofs.Reaching.{and_on, itself, within_more}
 use Rattle.draft_steps.proofs.Arranged.{is_arranged, once_or_not}

@@ -1,11 +1,5 @@
 -- Blocks and functions are equal where their parts are.
-use Rattle.std.proofs.Common.{◌≡◌, ℕ, List, ap, ◌∙◌}
-use Rattle.ir_core.specs.Names.{Name}
-use Rattle.ir_core.specs.declared.function.Block.{Block}
-use Rattle.ir_core.specs.declared.function.Function.{Function}
-use Rattle.ir_core.specs.declared.function.Parameter.{Parameter}
-use Rattle.ir_core.specs.declared.instruction.Inst.{Inst}
-use Rattle.ir_core.specs.declared.terminator.Terminator.{Terminator}
+use Rattle.draft_steps.proofs.Common.{◌≡◌, ℕ, List, ap, ◌∙◌, Name, Block, Function, Parameter, Inst, Terminator}
 
 abbrev pub block_with : Name → List Inst → Terminator → Block
 block_with name insts end = record { name = name; insts = insts; end = end }

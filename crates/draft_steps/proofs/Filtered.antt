@@ -1,10 +1,5 @@
 -- The items of a list with a property that is decided for each.
-use Rattle.std.proofs.Common.{◌⊎◌, inl, inr, List, [], ◌∷◌, get_or, sym, subst}
-use Rattle.std.specs.Prelude.{AllPairs, Contains}
-use Rattle.std.proofs.lemmas.List.Elements.{All-contains, Contains-get_or}
-use Rattle.std.proofs.lemmas.List.Kept.{AllPairs-cons}
-use Rattle.ir_meaning.proofs.Pieces.{cases_in, first_in, later_in, not_in_empty}
-use Rattle.rule_matches.proofs.Joining.{pairs_first, pairs_later}
+use Rattle.draft_steps.proofs.Common.{◌⊎◌, inl, inr, List, [], ◌∷◌, get_or, sym, subst, AllPairs, Contains, All-contains, Contains-get_or, AllPairs-cons, cases_in, first_in, later_in, not_in_empty, pairs_first, pairs_later}
 
 pub record Filtered {X : Type 0} (P : X → Type 0) (R : X → X → Type 0) (xs : List X) : Type 0 where
   pub kept : List X

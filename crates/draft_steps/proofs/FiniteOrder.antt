@@ -1,7 +1,5 @@
 -- Finite sets in a strict order.
-use Rattle.std.proofs.Common.{◌≡◌, ◌⊎◌, inl, inr, ℕ, zero, suc, ◌≤◌, List, [], ◌∷◌, length, refl, sym, ap, subst, ◌∙◌, arith}
-use Rattle.std.specs.Prelude.{Contains}
-use Rattle.ir_meaning.proofs.Pieces.{cases_in, first_in, later_in, not_in_empty}
+use Rattle.draft_steps.proofs.Common.{◌≡◌, ◌⊎◌, inl, inr, ℕ, zero, suc, ◌≤◌, List, [], ◌∷◌, length, refl, sym, ap, subst, ◌∙◌, arith, Contains, cases_in, first_in, later_in, not_in_empty}
 
 -- the list without one of its items
 record Others {A : Type 0} (xs : List A) (x : A) : Type 0 where

@@ -1,28 +1,12 @@
 -- An arena with inserted instructions, in which the root's register is replaced by an operand.
-use Rattle.std.proofs.Common.{◌≡◌, ◌≢◌, ℕ, ◌⊎◌, inl, inr, cond, List, ◌∷◌, ◌++◌, map, Some, refl, sym, ap, subst, ◌∙◌}
-use Rattle.std.specs.Prelude.{Contains, slice_get, option_map}
-use Rattle.std.proofs.lemmas.Bool.{cases_eq}
-use Rattle.std.proofs.lemmas.Option.{slice_get-map}
-use Rattle.ir_core.specs.Blocks.{HasInst, IsBlock}
-use Rattle.ir_core.specs.Reads.{end_of}
-use Rattle.ir_core.specs.declared.function.Block.{Block}
-use Rattle.ir_core.specs.declared.function.Function.{Function}
-use Rattle.ir_core.specs.declared.instruction.Inst.{Inst}
-use Rattle.ir_core.specs.declared.operand.Operand.{Operand}
+use Rattle.draft_steps.proofs.Common.{◌≡◌, ◌≢◌, ℕ, ◌⊎◌, inl, inr, cond, List, ◌∷◌, ◌++◌, map, Some, refl, sym, ap, subst, ◌∙◌, Contains, slice_get, option_map, cases_eq, slice_get-map, HasInst, IsBlock, end_of, Block, Function, Inst, Operand, Register, first_in, IsNeeded, by_end, by_inst, ReadsRegister, operands_at_end, Substitution, substituted_block, substituted_inst, substituted_operand, get_left, in_map, map_in, changed_at, instead, replaced, with_inst_removed, IsNeededWith, ends, is_one, with_put, is_same_register, other_register, same_register_self}
 use Rattle.ir_core.specs.declared.operand.Operand.TheVariants as operands
-use Rattle.ir_core.specs.declared.operand.Register.{Register}
 use Rattle.ir_core.specs.declared.operand.Register.TheVariants as registers
-use Rattle.ir_meaning.proofs.Pieces.{first_in}
-use Rattle.needed.specs.Needed.{IsNeeded, by_end, by_inst, ReadsRegister}
-use Rattle.needed.specs.Operands.{operands_of, operands_at_end}
-use Rattle.substitution.specs.Substitution.{Substitution, substituted_block, substituted_inst, substituted_operand}
-use Rattle.substitution.proofs.Pieces.{get_left, in_map, map_in, mapped}
-use Rattle.readers.specs.Changes.{changed_at, instead, replaced, with_inst_removed}
-use Rattle.draft_steps.specs.DeadCode.{IsNeededWith, ends, reads, is_one}
-use Rattle.draft_steps.specs.Rewriting.{with_put}
+use Rattle.needed.specs.Operands.{operands_of}
+use Rattle.substitution.proofs.Pieces.{mapped}
+use Rattle.draft_steps.specs.DeadCode.{reads}
 use Rattle.draft_steps.proofs.Living.{needed_stays}
 use Rattle.draft_steps.proofs.Mapping.{end_substituted, operands_substituted}
-use Rattle.readers.proofs.Naming.{is_same_register, other_register, same_register_self}
 use Rattle.draft_steps.proofs.OneChange.{changed_here, changed_other}
 use Rattle.draft_steps.proofs.Silencing.{taken_out_is_silenced}
 use Rattle.draft_steps.proofs.WhoReads.{EndReads, InstReads, end_reads_it, inst_reads_it, no_inst_at_end, who}

@@ -1,28 +1,14 @@
 -- Where instructions are removed from a draft, its function is the old one with those that are kept.
-use Rattle.std.proofs.Common.{◌≡◌, ℕ, suc, ◌+◌, Bool, true, false, cond, List, [], ◌∷◌, Option, None, Some, refl, sym, ap, ◌∙◌, arith}
-use Rattle.std.specs.Prelude.{Contains, slice_get, slice_index_or, option_map, unwrap_or}
-use Rattle.std.specs.List.{filter}
-use Rattle.std.proofs.lemmas.Option.{unwrap_or-slice_get}
-use Rattle.ir_core.specs.Blocks.{IsBlock}
-use Rattle.ir_core.specs.declared.function.Block.{Block}
-use Rattle.ir_core.specs.declared.function.Function.{Function}
-use Rattle.ir_core.specs.declared.instruction.Inst.{Inst}
-use Rattle.ir_core.specs.declared.operand.Operand.{Operand}
+use Rattle.draft_steps.proofs.Common.{◌≡◌, ℕ, suc, ◌+◌, Bool, true, false, cond, List, [], ◌∷◌, Option, None, Some, refl, sym, ap, ◌∙◌, arith, Contains, slice_get, slice_index_or, option_map, unwrap_or, filter, unwrap_or-slice_get, IsBlock, Block, Function, Inst, Operand, first_in, later_in, KeptMarks, kept_before, kept_block, kept_blocks, kept_first, kept_function, kept_insts, moved_inst, moved_operand, operands_at_end, get-block, substituted_end, substituted_inst, substituted_operand, AreLeft, IsBlockLeft, IsLeft, block_of, blocks_of, insts_of, placed, AreNumbersOf, both, get_blocks, insts_more, rest_numbers}
 use Rattle.ir_core.specs.declared.operand.Operand.TheVariants as operands
 use Rattle.ir_core.specs.declared.operand.Register.TheVariants as registers
-use Rattle.ir_meaning.proofs.Pieces.{first_in, later_in, some_at}
-use Rattle.needed.specs.KeptFunction.{KeptMarks, kept_before, kept_block, kept_blocks, kept_first, kept_function, kept_insts, moved_inst, moved_operand}
-use Rattle.needed.specs.Operands.{operands_of, operands_at_end}
-use Rattle.needed.proofs.Counting.{get-block}
-use Rattle.substitution.specs.Substitution.{substituted_end, substituted_inst, substituted_operand}
-use Rattle.draft_steps.specs.DeadCode.{AreLeft, IsBlockLeft, IsLeft}
-use Rattle.draft.specs.Drafts.{block_of, blocks_of, insts_of, placed}
+use Rattle.ir_meaning.proofs.Pieces.{some_at}
+use Rattle.needed.specs.Operands.{operands_of}
 use Rattle.places.specs.Orders.{place_in}
 use Rattle.draft_steps.proofs.OneChange.{same_items}
 use Rattle.draft_steps.proofs.Equal.{block_same, function_same}
 use Rattle.draft_steps.proofs.Mapping.{moved_end_is_at, moved_inst_is_at}
 use Rattle.draft_steps.proofs.RowPlaces.{Marks, is_in, marks_here, marks_later, place_kept}
-use Rattle.draft.proofs.InstsOf.{AreNumbersOf, both, get_blocks, insts_more, rest_numbers}
 
 -- the function of an arena and the numbers that stand in each block
 abbrev pub function_at : Function → List (List ℕ) → Function

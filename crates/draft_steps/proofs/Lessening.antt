@@ -1,23 +1,10 @@
 -- A draft from which dead instructions are removed.
-use Rattle.std.proofs.Common.{◌≡◌, ℕ, inl, List, [], ◌++◌, refl, sym, subst, ◌∙◌}
-use Rattle.std.specs.List.{filter_map}
-use Rattle.std.proofs.lemmas.List.Elements.{Contains-append_right}
-use Rattle.ir_core.specs.Blocks.{HasInst}
-use Rattle.ir_core.specs.declared.function.Function.{Function}
-use Rattle.ir_core.specs.declared.operand.Register.{Register}
+use Rattle.draft_steps.proofs.Common.{◌≡◌, ℕ, inl, List, [], ◌++◌, refl, sym, subst, ◌∙◌, filter_map, Contains-append_right, HasInst, Function, Register, IsNeeded, changed_at, with_inst_removed, without, IsEliminating, KeepsUses, operands_at, register_of, Stands, numbers_of, orders_of, IsWhole, Draft, stands_there}
 use Rattle.ir_core.specs.declared.operand.Register.TheVariants as registers
-use Rattle.needed.specs.Needed.{IsNeeded}
-use Rattle.readers.specs.Changes.{changed_at, with_inst_removed, without}
-use Rattle.draft_steps.specs.DeadCode.{IsEliminating, KeepsUses}
-use Rattle.readers.specs.Counts.{operands_at, register_of}
-use Rattle.draft.specs.Drafts.{Stands, numbers_of, orders_of}
-use Rattle.draft.specs.Whole.{IsWhole}
-use Rattle.draft.specs.declared.draft.Draft.{Draft}
 use Rattle.draft_steps.proofs.Living.{IsSilenced, needed_stays, needed_was}
 use Rattle.draft_steps.proofs.Silencing.{taken_out_is_silenced}
 use Rattle.draft_steps.proofs.Taking.{cleaning_done, cleaning_dropping, take_step}
 use Rattle.draft_steps.proofs.Using.{stood, uses_less}
-use Rattle.draft.proofs.Wholeness.{stands_there}
 
 pub record IsLess (old new : Draft) : Type 0 where
   pub whole : IsWhole new

@@ -1,3 +1,4 @@
+pub mod Common
 pub mod Mapping
 pub mod WhoReads
 pub mod OneChange

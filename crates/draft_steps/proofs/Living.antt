@@ -1,13 +1,7 @@
 -- What is live, or would be if some registers were, where one instruction comes to read nothing.
-use Rattle.std.proofs.Common.{◌≡◌, ℕ, ◌<◌, ◌⊎◌, inl, inr, List, [], sym, subst, arith}
-use Rattle.std.specs.Prelude.{Contains}
-use Rattle.ir_core.specs.Reads.{end_of}
-use Rattle.ir_core.specs.declared.function.Function.{Function}
-use Rattle.ir_core.specs.declared.operand.Register.{Register}
+use Rattle.draft_steps.proofs.Common.{◌≡◌, ℕ, ◌<◌, ◌⊎◌, inl, inr, List, [], sym, subst, arith, Contains, end_of, Function, Register, not_in_empty, IsNeeded, by_end, by_inst, ReadsRegister, IsNeededWith, ends, is_one}
 use Rattle.ir_core.specs.declared.operand.Register.TheVariants as registers
-use Rattle.ir_meaning.proofs.Pieces.{not_in_empty}
-use Rattle.needed.specs.Needed.{IsNeeded, by_end, by_inst, ReadsRegister}
-use Rattle.draft_steps.specs.DeadCode.{IsNeededWith, ends, reads, is_one}
+use Rattle.draft_steps.specs.DeadCode.{reads}
 
 pub needed_alone : (f : Function) (r : Register) → IsNeededWith f [] r → IsNeeded f r
 needed_alone f r (ends b h) = by_end b h

@@ -1,16 +1,7 @@
 -- Instructions and terminators in which each operand is changed.
-use Rattle.std.proofs.Common.{◌≡◌, ℕ, List, [], ◌∷◌, refl, ap, ◌∙◌, map, sym}
-use Rattle.std.specs.Prelude.{Contains}
-use Rattle.ir_core.specs.declared.instruction.Inst.{Inst}
-use Rattle.ir_core.specs.declared.instruction.Op.{Op}
-use Rattle.ir_core.specs.declared.instruction.Op.TheVariants.{Binary, Compare, Unary, Select, Convert, Freeze, Phi}
-use Rattle.ir_core.specs.declared.operand.Operand.{Operand}
-use Rattle.ir_core.specs.declared.terminator.Terminator.{Terminator}
+use Rattle.draft_steps.proofs.Common.{◌≡◌, ℕ, List, [], ◌∷◌, refl, ap, ◌∙◌, map, sym, Contains, Inst, Op, Binary, Compare, Unary, Select, Convert, Freeze, Phi, Operand, Terminator, first_in, later_in, KeptMarks, moved_end, moved_inst, moved_op, moved_operand, operands_at_end, Substitution, substituted_end, substituted_inst, substituted_op, substituted_operand}
 use Rattle.ir_core.specs.declared.terminator.Terminator.TheVariants as terminators
-use Rattle.ir_meaning.proofs.Pieces.{first_in, later_in}
-use Rattle.needed.specs.KeptFunction.{KeptMarks, moved_end, moved_inst, moved_op, moved_operand}
-use Rattle.needed.specs.Operands.{operands_of, operands_at_end}
-use Rattle.substitution.specs.Substitution.{Substitution, substituted_end, substituted_inst, substituted_op, substituted_operand}
+use Rattle.needed.specs.Operands.{operands_of}
 
 abbrev pub Change : Type 0
 Change = Operand → Operand

@@ -1,24 +1,10 @@
 -- Where instructions are inserted and the uses of one register are replaced, every other register has as many uses as
 -- before, or more.
-use Rattle.std.proofs.Common.{◌≡◌, ℕ, zero, suc, ◌≤◌, inl, inr, cond, List, [], ◌∷◌, ◌++◌, map, ap, ◌∙◌, arith}
-use Rattle.std.specs.Prelude.{sum_by}
-use Rattle.std.proofs.lemmas.Bool.{cases_Bool}
-use Rattle.std.proofs.lemmas.List.Sums.{sum_by-append, sum_by-cons}
-use Rattle.ir_core.specs.declared.function.Block.{Block}
-use Rattle.ir_core.specs.declared.function.Function.{Function}
-use Rattle.ir_core.specs.declared.instruction.Inst.{Inst}
-use Rattle.ir_core.specs.declared.operand.Operand.{Operand}
+use Rattle.draft_steps.proofs.Common.{◌≡◌, ℕ, zero, suc, ◌≤◌, inl, inr, cond, List, [], ◌∷◌, ◌++◌, map, ap, ◌∙◌, arith, sum_by, cases_Bool, sum_by-append, sum_by-cons, Block, Function, Inst, Operand, Register, operands_at_end, substituted_block, substituted_inst, substituted_operand, changed_at, instead, replaced, names, times, times_in, times_in_function, with_put, one_if, names_is, names_self}
 use Rattle.ir_core.specs.declared.operand.Operand.TheVariants as operands
-use Rattle.ir_core.specs.declared.operand.Register.{Register}
-use Rattle.needed.specs.Operands.{operands_of, operands_at_end}
-use Rattle.substitution.specs.Substitution.{substituted_block, substituted_inst, substituted_operand}
-use Rattle.readers.specs.Changes.{changed_at, instead, replaced}
-use Rattle.readers.specs.Counts.{names, times, times_in, times_in_function}
-use Rattle.draft_steps.specs.Rewriting.{with_put}
-use Rattle.readers.proofs.Counting.{one_if}
+use Rattle.needed.specs.Operands.{operands_of}
 use Rattle.draft_steps.proofs.Instead.{instead_other}
 use Rattle.draft_steps.proofs.Mapping.{end_substituted, operands_substituted}
-use Rattle.readers.proofs.Naming.{names_is, names_self}
 
 map_more : {A : Type 0} (h : A → ℕ) (g : A → A) → ((x : A) → h x ≤ h (g x)) → (xs : List A) → sum_by h xs ≤ sum_by h (map g xs)
 map_more h g more [] = omega arith

@@ -1,29 +1,15 @@
 -- The same instructions are live in a draft's function and in its arena.
-use Rattle.std.proofs.Common.{◌≡◌, ℕ, ◌<◌, Bool, true, ◌⊎◌, inl, inr, ◌↔◌, List, [], length, map, Option, None, Some, refl, sym, ap, subst, ◌∙◌, arith}
-use Rattle.std.specs.Prelude.{Contains, slice_get, slice_index_or, unwrap_or}
-use Rattle.std.proofs.lemmas.Option.{same_Some, slice_get_within, unwrap_or-slice_get}
-use Rattle.ir_core.specs.Blocks.{IsBlock}
-use Rattle.ir_core.specs.Reads.{end_of}
-use Rattle.ir_core.specs.declared.function.Block.{Block}
-use Rattle.ir_core.specs.declared.function.Function.{Function}
-use Rattle.ir_core.specs.declared.instruction.Inst.{Inst}
-use Rattle.ir_core.specs.declared.operand.Operand.{Operand}
+use Rattle.draft_steps.proofs.Common.{◌≡◌, ℕ, ◌<◌, Bool, true, ◌⊎◌, inl, inr, ◌↔◌, List, [], length, map, Option, None, Some, refl, sym, ap, subst, ◌∙◌, arith, Contains, slice_get, slice_index_or, unwrap_or, same_Some, slice_get_within, unwrap_or-slice_get, IsBlock, end_of, Block, Function, Inst, Operand, Register, KeepsNeeded, IsNeeded, by_end, by_inst, ReadsRegister, operands_at_end, Substitution, substituted_operand, in_map, map_in, block_of, insts_of, placed, AreNumbersOf, both, get_blocks, inst_from, length-insts_of}
 use Rattle.ir_core.specs.declared.operand.Operand.TheVariants as operands
-use Rattle.ir_core.specs.declared.operand.Register.{Register}
 use Rattle.ir_core.specs.declared.operand.Register.TheVariants as registers
 use Rattle.ir_meaning.proofs.Pieces.{contains_at, some_at}
-use Rattle.needed.specs.Cleaned.{KeepsNeeded}
-use Rattle.needed.specs.Needed.{IsNeeded, by_end, by_inst, ReadsRegister}
-use Rattle.needed.specs.Operands.{operands_of, operands_at_end}
-use Rattle.substitution.specs.Substitution.{Substitution, substituted_operand}
-use Rattle.substitution.proofs.Pieces.{in_map, map_in}
-use Rattle.draft.specs.Drafts.{block_of, insts_of, placed}
+use Rattle.needed.specs.Operands.{operands_of}
 use Rattle.places.specs.Orders.{place_in}
 use Rattle.draft_steps.proofs.Leaving.{function_at, marks_of}
 use Rattle.draft_steps.proofs.Mapping.{end_substituted, operands_substituted}
 use Rattle.draft_steps.proofs.WhoReads.{EndReads, InstReads, end_of-is, end_reads_it, inst_reads_it, who}
 use Rattle.draft_steps.proofs.RowPlaces.{at_place, is_in, one_place}
-use Rattle.draft.proofs.InstsOf.{AreNumbersOf, both, get_blocks, inst_at, inst_from, length-insts_of}
+use Rattle.draft.proofs.InstsOf.{inst_at}
 
 -- a result named by its position, in place of its number
 abbrev pub placed_register : List (List ℕ) → Register → Register

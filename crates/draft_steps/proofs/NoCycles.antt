@@ -1,26 +1,9 @@
 -- In the function of a draft that meets its checks, a register is assigned wherever it is read, but by a phi. That is a
 -- strict order of the instructions in reached blocks.
-use Rattle.std.proofs.Common.{ℕ, List, sym, ap, subst, ◌∙◌}
-use Rattle.std.specs.Prelude.{Contains, slice_get}
-use Rattle.ir_core.specs.Assigned.{IsAssigned}
-use Rattle.ir_core.specs.Blocks.{Names}
-use Rattle.ir_core.specs.Checks.{IsInst, IsPhi, MeetsChecks}
-use Rattle.ir_core.specs.Reads.{Read}
-use Rattle.ir_core.specs.Walks.{IsReached}
-use Rattle.ir_core.specs.declared.function.Function.{Function}
-use Rattle.ir_core.specs.declared.instruction.Inst.{Inst}
+use Rattle.draft_steps.proofs.Common.{ℕ, List, sym, ap, subst, ◌∙◌, Contains, slice_get, IsAssigned, Names, IsInst, IsPhi, MeetsChecks, Read, IsReached, Function, Inst, assignment_transitive, not_both_assigned, ReadsRegister, Substitution, substituted_inst, own_place, reads_at_inst, block_of, function_of, numbers_in, numbers_of, placed, Draft, no_phi_substituted, targets_stay}
 use Rattle.ir_core.specs.declared.operand.Register.TheVariants as registers
-use Rattle.ir_meaning.proofs.Assignments.{assignment_transitive, not_both_assigned}
-use Rattle.needed.specs.Needed.{ReadsRegister}
-use Rattle.substitution.specs.Substitution.{Substitution, substituted_inst}
-use Rattle.substitution.proofs.Assigning.{own_place}
-use Rattle.bindings.proofs.Reading.{reads_at_inst}
-use Rattle.draft.specs.Drafts.{block_of, function_of, numbers_in, numbers_of, placed}
 use Rattle.places.specs.Orders.{place_in}
-use Rattle.draft.specs.declared.draft.Draft.{Draft}
-use Rattle.draft.proofs.Cycles.{no_phi_substituted}
 use Rattle.draft.proofs.InstsOf.{inst_at}
-use Rattle.draft.proofs.Swapped.{targets_stay}
 use Rattle.draft_steps.proofs.Needing.{AreRows, block_on, inst_on, place_of}
 use Rattle.draft_steps.proofs.WhoReads.{InstReads}
 

@@ -1,60 +1,22 @@
 -- A rewrite of a draft is the rewrite of its function, where the rule matches in the function.
-use Rattle.std.proofs.Common.{◌≡◌, ◌≢◌, ℕ, zero, suc, ◌+◌, ◌-◌, ◌<◌, ◌≤◌, inl, inr, cond, not, List, [], ◌∷◌, length, map, Option, None, Some, refl, sym, ap, subst, ◌∙◌, arith}
-use Rattle.std.specs.Prelude.{Contains, flat_map, slice_get, slice_index_or, option_map, unwrap_or}
-use Rattle.std.specs.List.{range_with_len}
-use Rattle.std.specs.Option.{option_map_or}
-use Rattle.std.proofs.lemmas.Bool.{cases_eq, cases_lt}
+use Rattle.draft_steps.proofs.Common.{◌≡◌, ◌≢◌, ℕ, zero, suc, ◌+◌, ◌-◌, ◌<◌, ◌≤◌, inl, inr, cond, not, List, [], ◌∷◌, length, map, Option, None, Some, refl, sym, ap, subst, ◌∙◌, arith, Contains, flat_map, slice_get, slice_index_or, option_map, unwrap_or, range_with_len, option_map_or, cases_eq, cases_lt, sum_by-cons, same_Some, slice_get-map, slice_get_within, get_or_from_slice_get, unwrap_or-slice_get, IsBlock, IsInst, IsKnown, IsPhi, MeetsChecks, Name, Read, IsRead, end_of, reads_of, Block, Function, Inst, Operand, Register, first_in, later_in, ReadsRegister, IsRule, Argument, Rule, Statement, flat_map-from, IsMatch, StandsFor, StatementMatches, Binding, reads_at_inst, ReadsStandBefore, moved_binding, register_or, arity_same, computed_no_phi, same_is_computed, IsRewritten, class_width, count_put, insts_of_op, insts_put, insts_with, is_copy, Substitution, substituted_inst, substituted_operand, Rewrite, rewritten_function, instead, insts_of, placed, MayRead, put_for, rows_put_for, has_known, known_has, inst_from}
 use Rattle.std.proofs.lemmas.List.{length-append}
-use Rattle.std.proofs.lemmas.List.Sums.{sum_by-cons}
-use Rattle.std.proofs.lemmas.Option.{same_Some, slice_get-map, slice_get_within, get_or_from_slice_get, unwrap_or-slice_get}
-use Rattle.ir_core.specs.Blocks.{IsBlock}
-use Rattle.ir_core.specs.Checks.{IsInst, IsKnown, IsPhi, MeetsChecks}
-use Rattle.ir_core.specs.Names.{Name}
-use Rattle.ir_core.specs.Reads.{Read, IsRead, end_of, reads_of}
-use Rattle.ir_core.specs.declared.function.Block.{Block}
-use Rattle.ir_core.specs.declared.function.Function.{Function}
-use Rattle.ir_core.specs.declared.instruction.Inst.{Inst}
-use Rattle.ir_core.specs.declared.operand.Operand.{Operand}
 use Rattle.ir_core.specs.declared.operand.Operand.TheVariants as operands
-use Rattle.ir_core.specs.declared.operand.Register.{Register}
 use Rattle.ir_core.specs.declared.operand.Register.TheVariants as registers
-use Rattle.ir_meaning.proofs.Pieces.{first_in, later_in, contains_at, place_in as place_among, some_at}
-use Rattle.needed.specs.Needed.{ReadsRegister}
+use Rattle.ir_meaning.proofs.Pieces.{contains_at, place_in as place_among, some_at}
 use Rattle.needed.specs.Operands.{operands_of as read_by}
-use Rattle.rule_core.specs.Checks.{IsRule}
 use Rattle.rule_core.specs.Positions.{operands_of}
-use Rattle.rule_core.specs.declared.rule.Argument.{Argument}
 use Rattle.rule_core.specs.declared.rule.Argument.TheVariants as arguments
 use Rattle.rule_core.specs.declared.rule.Op.{Op as RuleOp}
 use Rattle.rule_core.specs.declared.rule.Op.TheVariants as rule_ops
 use Rattle.rule_core.specs.declared.rule.Register.TheVariants as names
-use Rattle.rule_core.specs.declared.rule.Rule.{Rule}
-use Rattle.rule_core.specs.declared.rule.Statement.{Statement}
-use Rattle.rule_core.proofs.Members.{flat_map-from}
-use Rattle.bindings.specs.Match.{IsMatch}
-use Rattle.bindings.specs.Operands.{StandsFor}
-use Rattle.bindings.specs.Statements.{StatementMatches}
-use Rattle.bindings.specs.declared.binding.Binding.{Binding}
-use Rattle.bindings.proofs.Reading.{reads_at_inst}
-use Rattle.bindings.specs.Laws.{ReadsStandBefore}
-use Rattle.moved_matches.specs.Moved.{moved_binding, register_or}
-use Rattle.rewriter.proofs.Matched.{arity_same, computed_no_phi, same_is_computed}
-use Rattle.rewriter.specs.Applied.{IsRewritten}
 use Rattle.rewriter.specs.Put as target
-use Rattle.rewriter.specs.Put.{class_width, count_put, insts_of_op, insts_put, insts_with, is_copy}
-use Rattle.substitution.specs.Substitution.{Substitution, substituted_inst, substituted_operand}
-use Rattle.substitution.specs.declared.rewrite.Rewrite.{Rewrite}
-use Rattle.substitution.specs.Rewritten.{rewritten_function}
-use Rattle.readers.specs.Changes.{instead}
-use Rattle.draft.specs.Drafts.{insts_of, placed}
 use Rattle.places.specs.Orders.{place_in}
-use Rattle.draft_steps.specs.Rewriting.{MayRead, numbered, put_for, rows_put_for}
-use Rattle.readers.proofs.Changing.{has_known, known_has}
+use Rattle.draft_steps.specs.Rewriting.{numbered}
 use Rattle.draft_steps.proofs.Instead.{instead_other}
 use Rattle.draft_steps.proofs.Leaving.{function_at}
 use Rattle.draft_steps.proofs.Needing.{AreRows, block_back, read_back, row_is}
 use Rattle.draft_steps.proofs.Numbering.{Agrees, last_same, put_same_insts}
-use Rattle.draft.proofs.InstsOf.{inst_from}
 use Rattle.draft_steps.proofs.PutReads.{Closed, last_holds, put_reads}
 use Rattle.draft_steps.proofs.Starting.{StandsThen, comes, no_root, stays}
 use Rattle.draft_steps.proofs.PutFor.{low_place, lower, new_place, other_row, put_for_is}

@@ -1,37 +1,16 @@
 -- A rule inserts the same instructions in the arena as in the function, but for the names of what they read.
-use Rattle.std.proofs.Common.{◌≡◌, ℕ, zero, suc, ◌+◌, ◌-◌, ◌<◌, false, cond, not, List, [], ◌∷◌, ◌++◌, length, map, take, Option, None, Some, refl, sym, ap, subst, ◌∙◌, arith}
-use Rattle.std.specs.Prelude.{Contains, slice_get, slice_index_or}
-use Rattle.std.specs.Option.{option_map_or}
-use Rattle.std.proofs.lemmas.List.{map-append, length-append}
-use Rattle.std.proofs.lemmas.List.Sums.{sum_by-cons}
-use Rattle.std.proofs.lemmas.Option.{same_Some}
-use Rattle.ops.specs.Integer.{residue}
-use Rattle.ops.specs.Number.{Number}
-use Rattle.ops.specs.declared.value.Value.{Value}
+use Rattle.draft_steps.proofs.Common.{◌≡◌, ℕ, zero, suc, ◌+◌, ◌-◌, ◌<◌, false, cond, not, List, [], ◌∷◌, ◌++◌, length, map, take, Option, None, Some, refl, sym, ap, subst, ◌∙◌, arith, Contains, slice_get, slice_index_or, option_map_or, map-append, sum_by-cons, same_Some, residue, Number, Value, Name, Inst, Op, Operand, first_in, later_in, IsRule, TargetMayRead, in_turn, constant_values, value_at, Argument, Rule, Statement, Substitution, Binding, moved_binding, argument_put, class_width, count_put, insts_of_op, insts_put, insts_with, is_copy, literal_of, operand_put, result_of_op, result_put, results_put}
+use Rattle.std.proofs.lemmas.List.{length-append}
 use Rattle.ops.specs.declared.value.Value.TheVariants as values
-use Rattle.ir_core.specs.Names.{Name}
-use Rattle.ir_core.specs.declared.instruction.Inst.{Inst}
-use Rattle.ir_core.specs.declared.instruction.Op.{Op}
 use Rattle.ir_core.specs.declared.instruction.Op.TheVariants as ops
-use Rattle.ir_core.specs.declared.operand.Operand.{Operand}
 use Rattle.ir_core.specs.declared.operand.Operand.TheVariants as operands
 use Rattle.ir_core.specs.declared.operand.Register.TheVariants as registers
-use Rattle.ir_meaning.proofs.Pieces.{first_in, later_in}
-use Rattle.rule_core.specs.Checks.{IsRule, TargetMayRead}
 use Rattle.rule_core.specs.Positions.{operands_of}
-use Rattle.rule_core.specs.Terms.{in_turn, constant_values, value_at}
-use Rattle.rule_core.specs.declared.rule.Argument.{Argument}
 use Rattle.rule_core.specs.declared.rule.Argument.TheVariants as arguments
 use Rattle.rule_core.specs.declared.rule.Op.{Op as RuleOp}
 use Rattle.rule_core.specs.declared.rule.Op.TheVariants as rule_ops
 use Rattle.rule_core.specs.declared.rule.Operand.{Operand as RuleOperand}
 use Rattle.rule_core.specs.declared.rule.Register.TheVariants as names
-use Rattle.rule_core.specs.declared.rule.Rule.{Rule}
-use Rattle.rule_core.specs.declared.rule.Statement.{Statement}
-use Rattle.substitution.specs.Substitution.{Substitution}
-use Rattle.bindings.specs.declared.binding.Binding.{Binding}
-use Rattle.moved_matches.specs.Moved.{moved_binding}
-use Rattle.rewriter.specs.Put.{argument_put, class_width, count_put, insts_of_op, insts_put, insts_with, is_copy, literal_of, operand_put, result_of_op, result_put, results_put}
 use Rattle.draft_steps.proofs.Mapping.{changed_inst}
 
 -- ---- how many are inserted

@@ -1,8 +1,5 @@
 -- A register has exactly one use where another one has, whose uses are at the same places.
-use Rattle.std.proofs.Common.{◌≡◌, ℕ, subst}
-use Rattle.ir_core.specs.declared.function.Function.{Function}
-use Rattle.ir_core.specs.declared.operand.Register.{Register}
-use Rattle.use_counts.specs.Uses.{IsNamedAt, IsUsedOnce}
+use Rattle.draft_steps.proofs.Common.{◌≡◌, ℕ, subst, Function, Register, IsNamedAt, IsUsedOnce}
 
 module _ (f f' : Function) (r s : Register) (Same : ℕ → ℕ → ℕ → Type 0)
     (on : (b k i : ℕ) → IsNamedAt f r b k i → (q : ℕ) × Same b k q × IsNamedAt f' s b q i)

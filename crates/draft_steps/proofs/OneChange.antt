@@ -1,7 +1,5 @@
 -- A list with a change at one place.
-use Rattle.std.proofs.Common.{◌≡◌, ◌≢◌, ℕ, zero, suc, List, [], ◌∷◌, length, None, Some, refl, ap}
-use Rattle.std.specs.Prelude.{slice_get, option_map}
-use Rattle.readers.specs.Changes.{changed_at}
+use Rattle.draft_steps.proofs.Common.{◌≡◌, ◌≢◌, ℕ, zero, suc, List, [], ◌∷◌, length, None, Some, refl, ap, slice_get, option_map, changed_at}
 
 pub changed_here : {A : Type 0} (k : ℕ) (change : A → A) (xs : List A) → slice_get (changed_at k change xs) k ≡ option_map change (slice_get xs k)
 changed_here k change [] = refl

@@ -1,76 +1,27 @@
 -- One step of rewriting: a rule is applied to a draft, and the dead code is removed.
-use Rattle.std.proofs.Common.{◌≡◌, ◌≢◌, ℕ, suc, ◌<◌, ◌≤◌, ◌⊎◌, inl, inr, List, [], ◌++◌, length, map, Option, None, Some, All, refl, sym, ap, subst, ◌∙◌, arith}
-use Rattle.std.specs.Prelude.{Contains, slice_get, slice_index_or, option_map}
-use Rattle.std.specs.List.{filter_map}
-use Rattle.std.proofs.lemmas.Bool.{cases_eq}
-use Rattle.std.proofs.lemmas.List.{length-map}
-use Rattle.std.proofs.lemmas.List.Elements.{All-contains_itself, All-map, All-weaker, Contains-append_cases, Contains-append_left, Contains-append_right}
-use Rattle.std.proofs.lemmas.Option.{same_Some, slice_get-map, slice_get_within}
-use Rattle.ir_core.specs.Blocks.{HasInst, IsBlock}
-use Rattle.ir_core.specs.Checks.{IsInst, MeetsChecks}
-use Rattle.ir_core.specs.Reads.{end_of}
-use Rattle.ir_core.specs.declared.function.Block.{Block}
-use Rattle.ir_core.specs.declared.function.Function.{Function}
-use Rattle.ir_core.specs.declared.instruction.Inst.{Inst}
-use Rattle.ir_core.specs.declared.operand.Operand.{Operand}
+use Rattle.draft_steps.proofs.Common.{◌≡◌, ◌≢◌, ℕ, suc, ◌<◌, ◌≤◌, ◌⊎◌, inl, inr, List, [], ◌++◌, length, map, Option, None, Some, All, refl, sym, ap, subst, ◌∙◌, arith, Contains, slice_get, slice_index_or, option_map, filter_map, cases_eq, length-map, All-contains_itself, All-map, All-weaker, Contains-append_cases, Contains-append_left, Contains-append_right, same_Some, slice_get-map, slice_get_within, HasInst, IsBlock, IsInst, MeetsChecks, end_of, Block, Function, Inst, Operand, Register, IsNeeded, ReadsRegister, IsUseCount, IsUsedOnce, count_of_one, use_counts_are_one, IsRule, Rule, HasNoFault, NumbersFit, IsMatch, Binding, ReadsStandBefore, register_or, IsRewritten, RewrittenFunctionsMeetChecks, IsBound, is_bound, most_put, Substitution, substituted_block, substituted_inst, substituted_operand, Rewrite, map_in, gone, inst_changed, instead, replaced, AreRead, HasNoDeadCode, IsEliminating, IsNeededWith, KeepsUses, ends, is_one, operands_at, register_of, times_in_function, AreTouched, HasRoomFor, Stands, function_of, numbers_of, orders_of, placed, placed_binding, none, IsPlaceIn, arena_place, IsPutFor, MayPut, MayRead, put_for, put_numbers, with_put, IsSettled, IsWhole, Draft, Place, Rewritten, changed_length, inst_there, counted_block, AreFew, insts-stay, arena_place_inst, inst_stays, unread_stays, use_count, few_insts, stands_there}
 use Rattle.ir_core.specs.declared.operand.Operand.TheVariants as operands
-use Rattle.ir_core.specs.declared.operand.Register.{Register}
 use Rattle.ir_core.specs.declared.operand.Register.TheVariants as registers
 use Rattle.ir_meaning.proofs.Pieces.{some_at}
-use Rattle.needed.specs.Needed.{IsNeeded, ReadsRegister}
 use Rattle.needed.specs.Operands.{operands_of}
-use Rattle.use_counts.specs.Uses.{IsUseCount, IsUsedOnce}
-use Rattle.use_counts.proofs.OneCount.{count_of_one, use_counts_are_one}
-use Rattle.rule_core.specs.Checks.{IsRule}
-use Rattle.rule_core.specs.declared.rule.Rule.{Rule}
-use Rattle.rule_typing.specs.Faults.{HasNoFault}
-use Rattle.ir_meaning.specs.HistoryLaws.{NumbersFit}
-use Rattle.bindings.specs.Match.{IsMatch}
-use Rattle.bindings.specs.declared.binding.Binding.{Binding}
-use Rattle.bindings.specs.Laws.{ReadsStandBefore}
-use Rattle.moved_matches.specs.Moved.{register_or}
-use Rattle.rewriter.specs.Applied.{IsRewritten}
-use Rattle.rewriter.specs.Laws.{RewrittenFunctionsMeetChecks}
 use Rattle.rewriter.specs.Put as target
-use Rattle.rewriter.specs.Ready.{IsBound}
-use Rattle.rewriter.proofs.Rooted.{is_bound, most_put}
-use Rattle.substitution.specs.Substitution.{Substitution, substituted_block, substituted_inst, substituted_operand}
-use Rattle.substitution.specs.declared.rewrite.Rewrite.{Rewrite}
-use Rattle.substitution.proofs.Pieces.{map_in}
-use Rattle.readers.specs.Changes.{gone, inst_changed, instead, replaced}
-use Rattle.draft_steps.specs.DeadCode.{AreRead, HasNoDeadCode, IsEliminating, IsNeededWith, KeepsUses, ends, reads, is_one}
-use Rattle.readers.specs.Counts.{operands_at, register_of, times_in_function}
-use Rattle.draft.specs.Drafts.{AreTouched, HasRoomFor, Stands, function_of, numbers_of, orders_of, placed, placed_binding}
-use Rattle.places.specs.Orders.{none}
-use Rattle.readers.specs.Readers.{IsPlaceIn, arena_place}
-use Rattle.draft_steps.specs.Rewriting.{IsPutFor, MayPut, MayRead, numbered, put_for, put_numbers, with_put}
-use Rattle.draft.specs.Whole.{IsSettled, IsWhole}
-use Rattle.draft.specs.declared.draft.Draft.{Draft}
-use Rattle.places.specs.declared.place.Place.{Place}
-use Rattle.draft_steps.specs.declared.rewriting.Rewritten.{Rewritten}
-use Rattle.readers.proofs.Changing.{changed_length, inst_there}
+use Rattle.draft_steps.specs.DeadCode.{reads}
+use Rattle.draft_steps.specs.Rewriting.{numbered}
 use Rattle.draft_steps.proofs.Clearing.{inst_left, stood_first}
-use Rattle.draft.proofs.Exchanging.{counted_block}
 use Rattle.draft_steps.proofs.Instead.{result_needed}
 use Rattle.draft_steps.proofs.Leaving.{function_at}
 use Rattle.draft_steps.proofs.MoreOften.{put_more_often, replaced_as_often}
 use Rattle.draft_steps.proofs.Needing.{AreRows}
 use Rattle.draft_steps.proofs.Numbered.{IsRootIn, not_own, put_known, put_stand, result_known, result_stands, root_in, rule_applied}
-use Rattle.readers.proofs.Places.{AreFew}
 use Rattle.draft_steps.proofs.PutAll.{with_has, with_inst}
 use Rattle.draft_steps.proofs.PutFor.{are_put}
-use Rattle.draft.proofs.NumberedInsts.{insts-stay}
-use Rattle.readers.proofs.Reading.{arena_place_inst}
-use Rattle.draft.proofs.Replacing.{inst_stays, unread_stays}
 use Rattle.draft_steps.proofs.RewrittenRows.{ArePut, IsPutBlock}
 use Rattle.draft_steps.proofs.Room.{room_after_put}
 use Rattle.draft_steps.proofs.Starting.{begins, comes, read_stands_then, stood_or_came}
 use Rattle.draft_steps.proofs.Taking.{reads_fall, unused}
-use Rattle.readers.proofs.Totals.{use_count}
 use Rattle.draft_steps.proofs.Using.{less_often}
 use Rattle.draft_steps.proofs.WhoReads.{inst_reads_it}
 use Rattle.draft_steps.proofs.WholeRows.{settled_rows, whole_rows}
-use Rattle.draft.proofs.Wholeness.{few_insts, stands_there}
 
 -- a place by block and number
 abbrev at_number : ℕ → ℕ → Place

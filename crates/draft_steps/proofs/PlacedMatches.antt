@@ -1,27 +1,7 @@
 -- The matches at an instruction of an arena, as matches in its function.
-use Rattle.std.proofs.Common.{◌≡◌, inl, inr, ℕ, ◌<◌, List, [], ◌∷◌, get_or, map, Some, refl, sym, ap, subst, ◌∙◌, arith}
-use Rattle.std.specs.Prelude.{All, AllPairs, Contains, slice_get}
-use Rattle.std.proofs.lemmas.List.Elements.{All-contains, Contains-get_or}
-use Rattle.std.proofs.lemmas.List.Kept.{AllPairs-cons}
-use Rattle.std.proofs.lemmas.Option.{same_Some}
-use Rattle.ir_core.specs.Checks.{MeetsChecks}
-use Rattle.ir_core.specs.declared.function.Function.{Function}
-use Rattle.ir_meaning.proofs.Pieces.{first_in, later_in}
-use Rattle.rule_core.specs.declared.rule.Rule.{Rule}
-use Rattle.rule_typing.proofs.Images.{Contains-map, from_map}
-use Rattle.bindings.specs.Match.{IsMatch, MatchesInAnyOrder}
-use Rattle.bindings.specs.declared.binding.Binding.{Binding}
-use Rattle.bindings.proofs.Roots.{in_any_order}
-use Rattle.bindings.specs.Laws.{TemporariesStandBefore}
-use Rattle.moved_matches.specs.Moved.{moved_binding}
-use Rattle.matcher.proofs.OneBinding.{matches_have_one_binding}
-use Rattle.bindings.specs.declared.rule_match.Match.{Match}
-use Rattle.bindings.specs.Matches.{AreMatchesInAnyOrder, AreMatchesWhere, ComesBefore, IsAt, IsMatchAmong, IsMatchInAnyOrder}
-use Rattle.bindings.specs.Ready.{AreReady}
-use Rattle.rule_matches.proofs.Joining.{pairs_first, pairs_later}
-use Rattle.draft.specs.Drafts.{placed}
+use Rattle.draft_steps.proofs.Common.{◌≡◌, inl, inr, ℕ, ◌<◌, List, [], ◌∷◌, get_or, map, Some, refl, sym, ap, subst, ◌∙◌, arith, All, AllPairs, Contains, slice_get, All-contains, Contains-get_or, AllPairs-cons, same_Some, MeetsChecks, Function, first_in, later_in, Rule, Contains-map, from_map, IsMatch, MatchesInAnyOrder, Binding, in_any_order, TemporariesStandBefore, moved_binding, matches_have_one_binding, Match, AreMatchesInAnyOrder, AreMatchesWhere, IsAt, IsMatchAmong, IsMatchInAnyOrder, AreReady, pairs_first, pairs_later, placed, AreArranged, arranged, row_of}
+use Rattle.bindings.specs.Matches.{ComesBefore}
 use Rattle.places.specs.Orders.{place_in}
-use Rattle.draft_steps.specs.Arranged.{AreArranged, arranged, row_of}
 use Rattle.draft_steps.proofs.Arena.{numbered_match, placed_match}
 use Rattle.draft_steps.proofs.Back.{numbered}
 use Rattle.draft_steps.proofs.Rows.{number_there}

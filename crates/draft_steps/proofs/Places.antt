@@ -1,29 +1,11 @@
 -- The function of an arena has the instructions that stand, each at the position of its number.
-use Rattle.std.proofs.Common.{◌≡◌, ◌⊎◌, inl, inr, ℕ, ◌<◌, List, length, map, Option, Some, refl, sym, ap, subst, ◌∙◌, arith}
-use Rattle.std.specs.Prelude.{Contains, option_map, slice_get, unwrap_or}
-use Rattle.std.proofs.lemmas.Option.{same_Some, slice_get_cases, slice_get_within}
-use Rattle.ir_core.specs.Blocks.{IsBlock, Names, targets_of}
-use Rattle.ir_core.specs.Checks.{IsInst}
-use Rattle.ir_core.specs.Reads.{Read, end_of, reads_at}
-use Rattle.ir_core.specs.Walks.{IsReached}
-use Rattle.ir_core.specs.declared.function.Block.{Block}
-use Rattle.ir_core.specs.declared.function.Function.{Function}
-use Rattle.ir_core.specs.declared.instruction.Inst.{Inst}
-use Rattle.ir_core.specs.declared.operand.Operand.{Operand}
+use Rattle.draft_steps.proofs.Common.{◌≡◌, ◌⊎◌, inl, inr, ℕ, ◌<◌, List, length, map, Option, Some, refl, sym, ap, subst, ◌∙◌, arith, Contains, option_map, slice_get, unwrap_or, same_Some, slice_get_cases, slice_get_within, IsBlock, Names, targets_of, IsInst, Read, end_of, reads_at, IsReached, Block, Function, Inst, Operand, Register, reads_at-end, get-map, get_from_map, Substitution, substituted_end, substituted_inst, substituted_operand, IsNamedAt, IsUsedOnce, reads_at_inst, block_of, insts_of, placed, AreArranged, arranged, row_of, reached_along}
 use Rattle.ir_core.specs.declared.operand.Operand.TheVariants as operands
-use Rattle.ir_core.specs.declared.operand.Register.{Register}
 use Rattle.ir_core.specs.declared.operand.Register.TheVariants as registers
 use Rattle.ir_meaning.proofs.Pieces.{contains_at, some_at}
-use Rattle.needed.proofs.Reading.{end_of-is, reads_at-end}
-use Rattle.rule_typing.proofs.Images.{get-map, get_from_map}
-use Rattle.substitution.specs.Substitution.{Substitution, substituted_end, substituted_inst, substituted_operand}
-use Rattle.use_counts.specs.Uses.{IsNamedAt, IsUsedOnce}
-use Rattle.bindings.proofs.Reading.{reads_at_inst}
-use Rattle.draft.specs.Drafts.{block_of, insts_of, placed}
+use Rattle.needed.proofs.Reading.{end_of-is}
 use Rattle.places.specs.Orders.{place_in}
-use Rattle.draft_steps.specs.Arranged.{AreArranged, arranged, row_of}
 use Rattle.draft_steps.proofs.Once.{once_on}
-use Rattle.draft.proofs.Reached.{reached_along}
 use Rattle.draft_steps.proofs.Reading.{end_substituted, operands_read, read_cases, reads_substituted, targets_substituted}
 use Rattle.draft_steps.proofs.Rows.{as_many_insts, block_at, block_back, inst_at, inst_back, number_there}
 

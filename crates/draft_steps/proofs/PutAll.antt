@@ -1,37 +1,11 @@
 -- Instructions are inserted into a draft before one of it, one after another.
-use Rattle.std.proofs.Common.{◌≡◌, inl, inr, ℕ, zero, suc, ◌+◌, ◌<◌, ◌≤◌, List, [], ◌∷◌, ◌++◌, length, map, Some, All, refl, sym, ap, subst, ◌∙◌, arith, append_assoc}
-use Rattle.std.specs.Prelude.{Contains, slice_get, slice_index_or, option_map}
-use Rattle.std.specs.List.{range_with_len}
-use Rattle.std.proofs.lemmas.Bool.{cases_eq}
+use Rattle.draft_steps.proofs.Common.{◌≡◌, inl, inr, ℕ, zero, suc, ◌+◌, ◌<◌, ◌≤◌, List, [], ◌∷◌, ◌++◌, length, map, Some, All, refl, sym, ap, subst, ◌∙◌, arith, append_assoc, Contains, slice_get, slice_index_or, option_map, range_with_len, cases_eq, All-weaker, IsBlock, IsInst, IsKnown, end_of, Block, Function, Inst, Operand, Register, get_left, get_right, changed_at, inst_put, put_in, Stands, numbers_of, orders_of, KeepsOrders, none, put_before, MayPut, MayRead, all_before, rows_with, with_put, IsWhole, Draft, Place, HasAll, has_known, known_kept, keeps-itself, keeps-twice, same_place, put_keeps, stands_there}
 use Rattle.std.proofs.lemmas.List.{length-append}
-use Rattle.std.proofs.lemmas.List.Elements.{All-weaker}
-use Rattle.ir_core.specs.Blocks.{IsBlock}
-use Rattle.ir_core.specs.Checks.{IsInst, IsKnown}
-use Rattle.ir_core.specs.Reads.{end_of}
-use Rattle.ir_core.specs.declared.function.Block.{Block}
-use Rattle.ir_core.specs.declared.function.Function.{Function}
-use Rattle.ir_core.specs.declared.instruction.Inst.{Inst}
-use Rattle.ir_core.specs.declared.operand.Operand.{Operand}
-use Rattle.ir_core.specs.declared.operand.Register.{Register}
 use Rattle.ir_core.specs.declared.operand.Register.TheVariants as registers
 use Rattle.needed.specs.Operands.{operands_of}
-use Rattle.substitution.proofs.Pieces.{get_left, get_right}
-use Rattle.readers.specs.Changes.{changed_at, inst_put, put_in}
-use Rattle.draft.specs.Drafts.{Stands, numbers_of, orders_of}
-use Rattle.draft.specs.KeptOrders.{KeepsOrders}
-use Rattle.places.specs.Orders.{none, put_before}
-use Rattle.draft_steps.specs.Rewriting.{MayPut, MayRead, all_before, rows_with, with_put}
-use Rattle.draft.specs.Whole.{IsWhole}
-use Rattle.draft.specs.declared.draft.Draft.{Draft}
-use Rattle.places.specs.declared.place.Place.{Place}
-use Rattle.readers.proofs.Changing.{HasAll, has_known, known_kept}
-use Rattle.draft.proofs.Keeping.{keeps-itself, keeps-twice}
 use Rattle.draft_steps.proofs.OneChange.{changed_here, changed_other}
-use Rattle.readers.proofs.Reading.{same_place}
 use Rattle.draft_steps.proofs.Room.{put_longer}
-use Rattle.draft.proofs.Rows.{put_keeps}
 use Rattle.draft_steps.proofs.WhoReads.{end_of-is}
-use Rattle.draft.proofs.Wholeness.{stands_there}
 
 -- ---- one item of a list changed twice
 

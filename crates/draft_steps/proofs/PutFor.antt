@@ -1,29 +1,8 @@
 -- A rewrite of an instruction in a draft is a rewrite of the draft's function.
-use Rattle.std.proofs.Common.{◌≡◌, ◌≢◌, ℕ, zero, suc, ◌+◌, ◌<◌, ◌≤◌, inl, inr, cond, List, [], ◌∷◌, ◌++◌, length, map, Option, None, Some, refl, sym, ap, subst, ◌∙◌, arith}
-use Rattle.std.specs.Prelude.{Contains, slice_get, slice_index_or, option_map}
-use Rattle.std.specs.List.{range_with_len}
-use Rattle.std.proofs.lemmas.Bool.{cases_eq, eq-eqb, ne_eqb}
-use Rattle.std.proofs.lemmas.List.Elements.{Contains-append_left}
-use Rattle.std.proofs.lemmas.List.FromFn.{length-range_with_len}
-use Rattle.std.proofs.lemmas.Option.{same_Some, slice_get-map}
-use Rattle.ir_core.specs.Blocks.{IsBlock}
-use Rattle.ir_core.specs.Reads.{end_of}
-use Rattle.ir_core.specs.declared.function.Block.{Block}
-use Rattle.ir_core.specs.declared.function.Function.{Function}
-use Rattle.ir_core.specs.declared.instruction.Inst.{Inst}
-use Rattle.ir_core.specs.declared.operand.Operand.{Operand}
+use Rattle.draft_steps.proofs.Common.{◌≡◌, ◌≢◌, ℕ, zero, suc, ◌+◌, ◌<◌, ◌≤◌, inl, inr, cond, List, [], ◌∷◌, ◌++◌, length, map, Option, None, Some, refl, sym, ap, subst, ◌∙◌, arith, Contains, slice_get, slice_index_or, option_map, range_with_len, cases_eq, eq-eqb, ne_eqb, Contains-append_left, length-range_with_len, same_Some, slice_get-map, IsBlock, end_of, Block, Function, Inst, Operand, cases_in, not_in_empty, Rewrite, rewritten_function, Substitution, substituted_block, substituted_inst, substituted_operand, get_left, get_right, changed_at, gone, instead, without, insts_of, placed, put_before, all_before, put_for, put_numbers, rows_put_for, insts_more}
 use Rattle.ir_core.specs.declared.operand.Register.TheVariants as registers
-use Rattle.ir_meaning.proofs.Pieces.{cases_in, not_in_empty}
-use Rattle.substitution.specs.declared.rewrite.Rewrite.{Rewrite}
-use Rattle.substitution.specs.Rewritten.{rewritten_function}
-use Rattle.substitution.specs.Substitution.{Substitution, substituted_block, substituted_inst, substituted_operand}
-use Rattle.substitution.proofs.Pieces.{get_left, get_right}
-use Rattle.readers.specs.Changes.{changed_at, gone, instead, without}
-use Rattle.draft.specs.Drafts.{insts_of, placed}
-use Rattle.places.specs.Orders.{place_in, put_before}
-use Rattle.draft_steps.specs.Rewriting.{all_before, put_for, put_numbers, rows_put_for}
+use Rattle.places.specs.Orders.{place_in}
 use Rattle.draft_steps.proofs.Instead.{instead_it, instead_other}
-use Rattle.draft.proofs.InstsOf.{insts_more}
 use Rattle.draft_steps.proofs.Leaving.{function_at}
 use Rattle.draft_steps.proofs.Mapping.{changed_inst, changed_twice}
 use Rattle.draft_steps.proofs.Needing.{AreRows, row_is}

@@ -1,20 +1,6 @@
 -- Instructions are inserted for an instruction of a draft, which is removed.
-use Rattle.std.proofs.Common.{◌≡◌, ◌↔◌, ℕ, List, ◌++◌, length, map, sym, ap, subst, ◌∙◌}
-use Rattle.std.specs.Prelude.{Contains}
-use Rattle.std.specs.List.{filter_map, range_with_len}
-use Rattle.ir_core.specs.Reads.{end_of}
-use Rattle.ir_core.specs.declared.function.Function.{Function}
-use Rattle.ir_core.specs.declared.operand.Register.{Register}
+use Rattle.draft_steps.proofs.Common.{◌≡◌, ◌↔◌, ℕ, List, ◌++◌, length, map, sym, ap, subst, ◌∙◌, Contains, filter_map, range_with_len, end_of, Function, Register, Rewrite, changed_at, replaced, with_inst_removed, without, operands_at, register_of, numbers_of, IsPlaceIn, IsReader, IsPutFor, rows_with, with_put, Draft, Place, Rewritten}
 use Rattle.ir_core.specs.declared.operand.Register.TheVariants as registers
-use Rattle.substitution.specs.declared.rewrite.Rewrite.{Rewrite}
-use Rattle.readers.specs.Changes.{changed_at, replaced, with_inst_removed, without}
-use Rattle.readers.specs.Counts.{operands_at, register_of}
-use Rattle.draft.specs.Drafts.{numbers_of}
-use Rattle.readers.specs.Readers.{IsPlaceIn, IsReader}
-use Rattle.draft_steps.specs.Rewriting.{IsPutFor, rows_with, with_put}
-use Rattle.draft.specs.declared.draft.Draft.{Draft}
-use Rattle.places.specs.declared.place.Place.{Place}
-use Rattle.draft_steps.specs.declared.rewriting.Rewritten.{Rewritten}
 
 module _ (old mid new : Draft) (w : Rewrite) (n : ℕ) (told : Rewritten) where
   -- Instructions are inserted before instruction n of block b, and that is removed.

@@ -1,10 +1,7 @@
 -- Chains of operands inside a block.
-use Rattle.std.proofs.Common.{◌≡◌, inl, inr, ℕ, zero, suc, ◌≤◌, refl, sym, subst, arith}
-use Rattle.ir_core.specs.Reads.{Read, IsRead}
+use Rattle.draft_steps.proofs.Common.{◌≡◌, inl, inr, ℕ, zero, suc, ◌≤◌, refl, sym, subst, arith, Read, IsRead, Draft, Reaches, Stands, arena_of}
 use Rattle.ir_core.specs.declared.operand.Operand.TheVariants as operands
 use Rattle.ir_core.specs.declared.operand.Register.TheVariants as registers
-use Rattle.draft.specs.declared.draft.Draft.{Draft}
-use Rattle.draft.specs.Drafts.{Reaches, Stands, arena_of}
 
 module _ (d : Draft) (b : ℕ) where
   pub itself : (t n : ℕ) → Reaches d t b n n

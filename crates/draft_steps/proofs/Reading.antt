@@ -1,20 +1,6 @@
 -- What is read in the function of an arena, and what is read in the arena.
-use Rattle.std.proofs.Common.{◌≡◌, ◌⊎◌, inl, inr, ℕ, List, [], ◌∷◌, length, map, Option, Some, refl, sym, ap, ◌∙◌}
-use Rattle.std.specs.Prelude.{slice_get}
-use Rattle.std.proofs.lemmas.Bool.{cases_eq, ne_eqb, cond-false}
-use Rattle.std.proofs.lemmas.Option.{slice_get_cases}
-use Rattle.ir_core.specs.Blocks.{IsBlock, targets_of}
-use Rattle.ir_core.specs.Checks.{IsInst}
-use Rattle.ir_core.specs.Reads.{Read, IsRead, read, end_of, reads_of, reads_at_end, reads_by, reads_in}
-use Rattle.ir_core.specs.declared.function.Block.{Block}
-use Rattle.ir_core.specs.declared.function.Function.{Function}
-use Rattle.ir_core.specs.declared.instruction.Inst.{Inst}
-use Rattle.ir_core.specs.declared.instruction.Op.{Op}
-use Rattle.ir_core.specs.declared.instruction.Op.TheVariants.{Binary, Compare, Unary, Select, Convert, Freeze, Phi}
-use Rattle.ir_core.specs.declared.operand.Operand.{Operand}
-use Rattle.ir_core.specs.declared.terminator.Terminator.{Terminator}
+use Rattle.draft_steps.proofs.Common.{◌≡◌, ◌⊎◌, inl, inr, ℕ, List, [], ◌∷◌, length, map, Option, Some, refl, sym, ap, ◌∙◌, slice_get, cases_eq, ne_eqb, cond-false, slice_get_cases, IsBlock, targets_of, IsInst, Read, IsRead, read, end_of, reads_of, reads_at_end, reads_by, reads_in, Block, Function, Inst, Op, Binary, Compare, Unary, Select, Convert, Freeze, Phi, Operand, Terminator, Substitution, substituted_operand, substituted_entries, substituted_op, substituted_end}
 use Rattle.ir_core.specs.declared.terminator.Terminator.TheVariants as terminators
-use Rattle.substitution.specs.Substitution.{Substitution, substituted_operand, substituted_entries, substituted_op, substituted_end}
 
 -- the operands alone
 abbrev pub operands_read : List Read → List Operand

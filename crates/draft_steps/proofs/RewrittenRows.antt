@@ -1,24 +1,9 @@
 -- Where other instructions take the place of a root, the function of the arena and its rows is the rewritten one.
-use Rattle.std.proofs.Common.{◌≡◌, ◌≢◌, ℕ, suc, ◌+◌, ◌-◌, ◌<◌, ◌≤◌, ◌⊎◌, inl, inr, List, [], ◌∷◌, ◌++◌, length, Option, None, Some, refl, sym, ap, subst, ◌∙◌, arith}
-use Rattle.std.specs.Prelude.{Contains, slice_get, slice_index_or, option_map, unwrap_or}
-use Rattle.std.proofs.lemmas.Bool.{cases_eq}
-use Rattle.std.proofs.lemmas.List.Elements.{Contains-append_left, Contains-append_right}
-use Rattle.std.proofs.lemmas.Option.{same_Some, unwrap_or-slice_get}
-use Rattle.ir_core.specs.Blocks.{IsBlock}
-use Rattle.ir_core.specs.Reads.{end_of}
-use Rattle.ir_core.specs.declared.function.Block.{Block}
-use Rattle.ir_core.specs.declared.function.Function.{Function}
-use Rattle.ir_core.specs.declared.instruction.Inst.{Inst}
-use Rattle.ir_core.specs.declared.operand.Operand.{Operand}
+use Rattle.draft_steps.proofs.Common.{◌≡◌, ◌≢◌, ℕ, suc, ◌+◌, ◌-◌, ◌<◌, ◌≤◌, ◌⊎◌, inl, inr, List, [], ◌∷◌, ◌++◌, length, Option, None, Some, refl, sym, ap, subst, ◌∙◌, arith, Contains, slice_get, slice_index_or, option_map, unwrap_or, cases_eq, Contains-append_left, Contains-append_right, same_Some, unwrap_or-slice_get, IsBlock, end_of, Block, Function, Inst, Operand, first_in, later_in, operands_at_end, Rewrite, moved_place, rewritten_block, rewritten_blocks, rewritten_function, rewritten_insts, stands_for, Substitution, substituted_end, substituted_inst, substituted_operand, IsMoved, IsTheRoot, get_block, insts_other, insts_root, is_moved, stands_other, stands_root, block_of, blocks_of, insts_of, placed, both, both_none, get_blocks, insts_append, insts_more}
 use Rattle.ir_core.specs.declared.operand.Operand.TheVariants as operands
 use Rattle.ir_core.specs.declared.operand.Register.TheVariants as registers
-use Rattle.ir_meaning.proofs.Pieces.{first_in, later_in, some_at}
-use Rattle.needed.specs.Operands.{operands_of, operands_at_end}
-use Rattle.substitution.specs.declared.rewrite.Rewrite.{Rewrite}
-use Rattle.substitution.specs.Rewritten.{moved_place, rewritten_block, rewritten_blocks, rewritten_function, rewritten_insts, stands_for}
-use Rattle.substitution.specs.Substitution.{Substitution, substituted_end, substituted_inst, substituted_operand}
-use Rattle.substitution.proofs.Placing.{IsMoved, IsTheRoot, get_block, insts_other, insts_root, is_moved, stands_other, stands_root}
-use Rattle.draft.specs.Drafts.{block_of, blocks_of, insts_of, placed}
+use Rattle.ir_meaning.proofs.Pieces.{some_at}
+use Rattle.needed.specs.Operands.{operands_of}
 use Rattle.places.specs.Orders.{place_in}
 use Rattle.draft_steps.proofs.OneChange.{same_items}
 use Rattle.draft_steps.proofs.Equal.{block_same, function_same}
@@ -27,7 +12,6 @@ use Rattle.draft_steps.proofs.Mapping.{insts_follow, ends_follow}
 use Rattle.draft_steps.proofs.Needing.{AreRows, row_is}
 use Rattle.draft_steps.proofs.WhoReads.{end_reads_it, inst_reads_it}
 use Rattle.draft_steps.proofs.RowPlaces.{IsIn, IsOut, in_or_out, is_in, one_place, place_later, place_left, place_right, place_split}
-use Rattle.draft.proofs.InstsOf.{both, both_none, get_blocks, insts_append, insts_more}
 
 -- ---- the position of a number after the rewrite
 

@@ -1,22 +1,8 @@
 -- How many numbers a step uses up: at most 32 in each block.
-use Rattle.std.proofs.Common.{◌≡◌, ℕ, suc, ◌+◌, ◌<◌, ◌≤◌, inl, inr, List, [], ◌++◌, length, get_or, Some, sym, ap, subst, ◌∙◌, arith}
-use Rattle.std.specs.Prelude.{slice_get}
-use Rattle.std.proofs.lemmas.List.{length-append, length-map}
-use Rattle.std.proofs.lemmas.Option.{get_or_from_slice_get, slice_get-get_or, slice_get-map, slice_get_within}
-use Rattle.ir_core.specs.Blocks.{IsBlock}
-use Rattle.ir_core.specs.declared.function.Block.{Block}
-use Rattle.ir_core.specs.declared.function.Function.{Function}
-use Rattle.ir_core.specs.declared.instruction.Inst.{Inst}
+use Rattle.draft_steps.proofs.Common.{◌≡◌, ℕ, suc, ◌+◌, ◌<◌, ◌≤◌, inl, inr, List, [], ◌++◌, length, get_or, Some, sym, ap, subst, ◌∙◌, arith, slice_get, length-map, get_or_from_slice_get, slice_get-get_or, slice_get-map, slice_get_within, IsBlock, Block, Function, Inst, substituted_block, substituted_inst, Rewrite, gone, inst_changed, instead, replaced, HasRoomFor, put_for, with_put, IsWhole, Draft, changed_cases, changed_length}
+use Rattle.std.proofs.lemmas.List.{length-append}
 use Rattle.ir_core.specs.declared.operand.Register.TheVariants as registers
 use Rattle.needed.proofs.Counting.{mapped}
-use Rattle.substitution.specs.Substitution.{substituted_block, substituted_inst}
-use Rattle.substitution.specs.declared.rewrite.Rewrite.{Rewrite}
-use Rattle.readers.specs.Changes.{gone, inst_changed, instead, replaced}
-use Rattle.draft.specs.Drafts.{HasRoomFor}
-use Rattle.draft_steps.specs.Rewriting.{put_for, with_put}
-use Rattle.draft.specs.Whole.{IsWhole}
-use Rattle.draft.specs.declared.draft.Draft.{Draft}
-use Rattle.readers.proofs.Changing.{changed_cases, changed_length}
 
 -- the block was there, with fewer instructions by at most so many
 abbrev pub WasIn : Function → ℕ → Block → ℕ → Type 0

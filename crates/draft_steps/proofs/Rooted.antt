@@ -1,30 +1,12 @@
 -- A chain of operands leads from the root of a match to the instruction of every statement.
-use Rattle.std.proofs.Common.{◌≡◌, inl, inr, ℕ, zero, suc, ◌+◌, ◌<◌, ◌≤◌, length, Some, sym, ap, subst, ◌∙◌, arith}
-use Rattle.std.specs.Prelude.{flat_map, slice_get}
-use Rattle.std.proofs.lemmas.Bool.{cases_lt}
-use Rattle.std.proofs.lemmas.Option.{same_Some, slice_get_within}
-use Rattle.ir_core.specs.Checks.{IsInst}
-use Rattle.ir_core.specs.Reads.{Read, IsRead}
-use Rattle.ir_core.specs.declared.function.Function.{Function}
-use Rattle.ir_core.specs.declared.instruction.Inst.{Inst}
+use Rattle.draft_steps.proofs.Common.{◌≡◌, inl, inr, ℕ, zero, suc, ◌+◌, ◌<◌, ◌≤◌, length, Some, sym, ap, subst, ◌∙◌, arith, flat_map, slice_get, cases_lt, same_Some, slice_get_within, IsInst, Read, IsRead, Function, Inst, Register, IsRule, SourceMayRead, Argument, Rule, Statement, flat_map-from, MatchesInAnyOrder, StandsFor, IsSameOperation, StatementMatches, Binding, is_read}
 use Rattle.ir_core.specs.declared.operand.Operand.TheVariants as operands
-use Rattle.ir_core.specs.declared.operand.Register.{Register}
 use Rattle.ir_core.specs.declared.operand.Register.TheVariants as registers
 use Rattle.ir_meaning.proofs.Pieces.{contains_at, place_in}
-use Rattle.rule_core.specs.Checks.{IsRule, SourceMayRead}
 use Rattle.rule_core.specs.Positions.{operands_of}
-use Rattle.rule_core.specs.declared.rule.Argument.{Argument}
 use Rattle.rule_core.specs.declared.rule.Argument.TheVariants as arguments
 use Rattle.rule_core.specs.declared.rule.Op.{Op as RuleOp}
 use Rattle.rule_core.specs.declared.rule.Register.TheVariants as names
-use Rattle.rule_core.specs.declared.rule.Rule.{Rule}
-use Rattle.rule_core.specs.declared.rule.Statement.{Statement}
-use Rattle.rule_core.proofs.Members.{flat_map-from}
-use Rattle.bindings.specs.Match.{MatchesInAnyOrder}
-use Rattle.bindings.specs.Operands.{StandsFor}
-use Rattle.bindings.specs.Statements.{IsSameOperation, StatementMatches}
-use Rattle.bindings.specs.declared.binding.Binding.{Binding}
-use Rattle.bindings.proofs.Reading.{is_read}
 use Rattle.moved_matches.proofs.Staying.{some_at}
 
 module _ (f : Function) (rule : Rule) (m : Binding) (good : IsRule rule) (is : MatchesInAnyOrder f m.block m.place rule m) where

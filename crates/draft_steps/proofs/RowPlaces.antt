@@ -1,10 +1,5 @@
 -- The positions of numbers in a row, once others are inserted or removed.
-use Rattle.std.proofs.Common.{◌≡◌, ◌≢◌, ℕ, suc, ◌+◌, ◌<◌, ◌⊎◌, inl, inr, Bool, true, false, cond, List, [], ◌∷◌, ◌++◌, length, Some, refl, sym, ap, subst, ◌∙◌, arith}
-use Rattle.std.specs.Prelude.{Contains, slice_get}
-use Rattle.std.specs.List.{filter}
-use Rattle.std.proofs.lemmas.Bool.{cases_eq, eq-eqb, ne_eqb}
-use Rattle.ir_meaning.proofs.Pieces.{cases_in, first_in, later_in, not_in_empty}
-use Rattle.needed.specs.KeptFunction.{KeptMarks, kept_before}
+use Rattle.draft_steps.proofs.Common.{◌≡◌, ◌≢◌, ℕ, suc, ◌+◌, ◌<◌, ◌⊎◌, inl, inr, Bool, true, false, cond, List, [], ◌∷◌, ◌++◌, length, Some, refl, sym, ap, subst, ◌∙◌, arith, Contains, slice_get, filter, cases_eq, eq-eqb, ne_eqb, cases_in, first_in, later_in, not_in_empty, KeptMarks, kept_before}
 use Rattle.places.specs.Orders.{place_in}
 
 pub place_here : (m : ℕ) (row : List ℕ) (n : ℕ) → m ≡ n → place_in (m ∷ row) n ≡ 0

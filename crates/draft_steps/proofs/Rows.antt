@@ -1,13 +1,6 @@
 -- Numbers and their positions, and the instructions with some numbers.
-use Rattle.std.proofs.Common.{◌≡◌, ◌<◌, inl, inr, ℕ, zero, suc, Bool, List, [], ◌∷◌, ◌++◌, length, get_or, map, Option, Some, refl, sym, ap, ◌∙◌, arith}
-use Rattle.std.specs.Prelude.{Contains, if◌then◌else◌, option_to_list, slice_get}
-use Rattle.std.proofs.lemmas.Bool.{cases_eq, eq-eqb, ne_eqb}
-use Rattle.std.proofs.lemmas.Option.{same_Some}
-use Rattle.ir_core.specs.declared.function.Block.{Block}
-use Rattle.ir_core.specs.declared.instruction.Inst.{Inst}
-use Rattle.ir_meaning.proofs.Pieces.{cases_in, first_in, later_in, not_in_empty, some_at}
-use Rattle.substitution.specs.Substitution.{Substitution, substituted_inst}
-use Rattle.draft.specs.Drafts.{block_of, blocks_of, insts_of}
+use Rattle.draft_steps.proofs.Common.{◌≡◌, ◌<◌, inl, inr, ℕ, zero, suc, Bool, List, [], ◌∷◌, ◌++◌, length, get_or, map, Option, Some, refl, sym, ap, ◌∙◌, arith, Contains, if◌then◌else◌, option_to_list, slice_get, cases_eq, eq-eqb, ne_eqb, same_Some, Block, Inst, cases_in, first_in, later_in, not_in_empty, Substitution, substituted_inst, block_of, blocks_of, insts_of}
+use Rattle.ir_meaning.proofs.Pieces.{some_at}
 use Rattle.places.specs.Orders.{place_in}
 
 -- ---- the position of a number

@@ -1,25 +1,10 @@
 -- A match stays where the instructions that it is bound to are the same.
-use Rattle.std.proofs.Common.{◌≡◌, ℕ, List, Some, refl, sym, ap, ◌∙◌}
-use Rattle.std.specs.Prelude.{Contains, slice_get}
-use Rattle.ir_core.specs.Checks.{IsInst}
-use Rattle.ir_core.specs.Reads.{Read, IsRead, reads_of}
-use Rattle.ir_core.specs.Walks.{IsReached}
-use Rattle.ir_core.specs.declared.function.Function.{Function}
-use Rattle.ir_core.specs.declared.instruction.Inst.{Inst}
-use Rattle.ir_core.specs.declared.instruction.Op.{Op}
+use Rattle.draft_steps.proofs.Common.{◌≡◌, ℕ, List, Some, refl, sym, ap, ◌∙◌, Contains, slice_get, IsInst, Read, IsRead, reads_of, IsReached, Function, Inst, Op, Register, Rule, Statement, IsUsedOnce, MatchesInAnyOrder, IsSameOperation, StatementMatches, Binding, reads_at_inst}
 use Rattle.ir_core.specs.declared.instruction.Op.TheVariants as ops
-use Rattle.ir_core.specs.declared.operand.Register.{Register}
 use Rattle.ir_core.specs.declared.operand.Register.TheVariants as registers
 use Rattle.rule_core.specs.declared.rule.Formula.TheVariants as formulas
 use Rattle.rule_core.specs.declared.rule.Op.{Op as RuleOp}
 use Rattle.rule_core.specs.declared.rule.Op.TheVariants as rule_ops
-use Rattle.rule_core.specs.declared.rule.Rule.{Rule}
-use Rattle.rule_core.specs.declared.rule.Statement.{Statement}
-use Rattle.use_counts.specs.Uses.{IsUsedOnce}
-use Rattle.bindings.specs.Match.{MatchesInAnyOrder}
-use Rattle.bindings.specs.Statements.{IsSameOperation, StatementMatches}
-use Rattle.bindings.specs.declared.binding.Binding.{Binding}
-use Rattle.bindings.proofs.Reading.{reads_at_inst}
 
 -- an operation that a statement matches reads the same in each function
 pub same_reads : (f f' : Function) (b k w : ℕ) (s : RuleOp) (op : Op) → IsSameOperation s op → reads_of f b k w op ≡ reads_of f' b k w op

@@ -1,9 +1,5 @@
 -- Drafts that differ in use lists alone have the same instructions.
-use Rattle.std.proofs.Common.{◌≡◌, ℕ, Bool, List, [], sym, ap, subst, ◌∙◌}
-use Rattle.std.specs.Prelude.{Contains, slice_index_or}
-use Rattle.draft.specs.Drafts.{Stands, numbers_of, standing}
-use Rattle.draft_steps.specs.Walks.{IsSameDraft}
-use Rattle.draft.specs.declared.draft.Draft.{Draft}
+use Rattle.draft_steps.proofs.Common.{◌≡◌, ℕ, Bool, List, [], sym, ap, subst, ◌∙◌, Contains, slice_index_or, Stands, numbers_of, standing, IsSameDraft, Draft}
 
 module _ (old new : Draft) (same : IsSameDraft old new) where
   pub same_numbers : numbers_of new ≡ numbers_of old

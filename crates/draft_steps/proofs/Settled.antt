@@ -1,15 +1,7 @@
 -- Once all dead instructions are removed, a draft is settled again and has no dead code, and its function is the
 -- cleaned one.
-use Rattle.std.proofs.Common.{◌≡◌, ℕ, inl, inr, List, [], sym, subst}
-use Rattle.std.specs.Prelude.{Contains, slice_index_or}
+use Rattle.draft_steps.proofs.Common.{◌≡◌, ℕ, inl, inr, List, [], sym, subst, Contains, slice_index_or, IsCleaned, IsNeeded, by_end, by_inst, HasNoDeadCode, IsEliminating, Stands, function_of, numbers_of, arena_place, IsSettled, IsWhole, Draft}
 use Rattle.ir_core.specs.declared.operand.Register.TheVariants as registers
-use Rattle.needed.specs.Cleaned.{IsCleaned}
-use Rattle.needed.specs.Needed.{IsNeeded, by_end, by_inst}
-use Rattle.draft_steps.specs.DeadCode.{HasNoDeadCode, IsEliminating}
-use Rattle.draft.specs.Drafts.{Stands, function_of, numbers_of}
-use Rattle.readers.specs.Readers.{arena_place}
-use Rattle.draft.specs.Whole.{IsSettled, IsWhole}
-use Rattle.draft.specs.declared.draft.Draft.{Draft}
 use Rattle.draft_steps.proofs.Cleaned.{cleaned_is}
 use Rattle.draft_steps.proofs.Leaving.{left_row}
 use Rattle.draft_steps.proofs.Living.{needed_alone}

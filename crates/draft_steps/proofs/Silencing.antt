@@ -1,24 +1,9 @@
 -- A removed instruction reads nothing, and is not among those that are left.
-use Rattle.std.proofs.Common.{◌≡◌, ◌≢◌, ℕ, ◌==◌, ◌&&◌, ◌⊎◌, inl, inr, Bool, true, false, cond, List, [], ◌∷◌, length, Option, None, Some, refl, sym, ap, subst, ◌∙◌, arith}
-use Rattle.std.specs.Prelude.{Contains, slice_get, slice_index_or, option_map, unwrap_or}
-use Rattle.std.specs.List.{filter}
-use Rattle.std.proofs.lemmas.Bool.{cases_eq, eq-eqb, ne_eqb, and_from, and_right}
-use Rattle.std.proofs.lemmas.List.Elements.{filter_agree}
-use Rattle.std.proofs.lemmas.Option.{unwrap_or-slice_get}
-use Rattle.ir_core.specs.Blocks.{HasInst, IsBlock}
-use Rattle.ir_core.specs.Reads.{end_of}
-use Rattle.ir_core.specs.declared.function.Block.{Block}
-use Rattle.ir_core.specs.declared.function.Function.{Function}
-use Rattle.ir_core.specs.declared.instruction.Inst.{Inst}
+use Rattle.draft_steps.proofs.Common.{◌≡◌, ◌≢◌, ℕ, ◌==◌, ◌&&◌, ◌⊎◌, inl, inr, Bool, true, false, cond, List, [], ◌∷◌, length, Option, None, Some, refl, sym, ap, subst, ◌∙◌, arith, Contains, slice_get, slice_index_or, option_map, unwrap_or, filter, cases_eq, eq-eqb, ne_eqb, and_from, and_right, filter_agree, unwrap_or-slice_get, HasInst, IsBlock, end_of, Block, Function, Inst, Register, cases_in, first_in, later_in, not_in_empty, IsNeeded, ReadsRegister, operands_at_end, changed_at, gone, with_inst_removed, without, AreLeft, IsEliminating, IsLeft}
 use Rattle.ir_core.specs.declared.operand.Operand.TheVariants as operands
-use Rattle.ir_core.specs.declared.operand.Register.{Register}
 use Rattle.ir_core.specs.declared.operand.Register.TheVariants as registers
-use Rattle.ir_meaning.proofs.Pieces.{cases_in, first_in, later_in, not_in_empty}
-use Rattle.needed.specs.Needed.{IsNeeded, ReadsRegister}
-use Rattle.needed.specs.Operands.{operands_of, operands_at_end}
+use Rattle.needed.specs.Operands.{operands_of}
 use Rattle.substitution.proofs.Pieces.{mapped}
-use Rattle.readers.specs.Changes.{changed_at, gone, with_inst_removed, without}
-use Rattle.draft_steps.specs.DeadCode.{AreLeft, IsEliminating, IsLeft}
 use Rattle.draft_steps.proofs.OneChange.{changed_here, changed_other, length-changed}
 use Rattle.draft_steps.proofs.Living.{IsSilenced, needed_less, needed_stays, needed_was}
 use Rattle.draft_steps.proofs.WhoReads.{end_of-is, end_reads_it, inst_reads_it, who}

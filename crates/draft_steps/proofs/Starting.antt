@@ -1,33 +1,14 @@
 -- A draft after a rewrite, as dead code elimination begins: each result that is read is of an instruction that stands,
 -- and each that stands is live, or would be if the registers on the worklist were.
-use Rattle.std.proofs.Common.{◌≡◌, ◌≢◌, ℕ, ◌<◌, ◌⊎◌, inl, inr, true, List, [], ◌∷◌, ◌++◌, length, map, Option, None, Some, refl, sym, ap, subst, ◌∙◌, arith}
-use Rattle.std.specs.Prelude.{Contains, slice_get, slice_index_or, option_map, unwrap_or}
-use Rattle.std.specs.List.{filter, range_with_len}
-use Rattle.std.proofs.lemmas.Bool.{cases_eq}
-use Rattle.std.proofs.lemmas.List.Elements.{Contains-append_cases, Contains-append_left, Contains-append_right}
-use Rattle.std.proofs.lemmas.Option.{slice_get-map, unwrap_or-slice_get}
-use Rattle.ir_core.specs.Blocks.{HasInst, IsBlock}
-use Rattle.ir_core.specs.Reads.{end_of}
-use Rattle.ir_core.specs.declared.function.Block.{Block}
-use Rattle.ir_core.specs.declared.function.Function.{Function}
-use Rattle.ir_core.specs.declared.instruction.Inst.{Inst}
-use Rattle.ir_core.specs.declared.operand.Operand.{Operand}
+use Rattle.draft_steps.proofs.Common.{◌≡◌, ◌≢◌, ℕ, ◌<◌, ◌⊎◌, inl, inr, true, List, [], ◌∷◌, ◌++◌, length, map, Option, None, Some, refl, sym, ap, subst, ◌∙◌, arith, Contains, slice_get, slice_index_or, option_map, unwrap_or, filter, range_with_len, cases_eq, Contains-append_cases, Contains-append_left, Contains-append_right, slice_get-map, unwrap_or-slice_get, HasInst, IsBlock, end_of, Block, Function, Inst, Operand, Register, cases_in, later_in, IsNeeded, ReadsRegister, operands_at_end, Substitution, substituted_inst, substituted_operand, get_cases, in_map, changed_at, instead, replaced, with_inst_removed, AreLeft, IsEliminating, IsNeededWith, with_put, is_same_register}
 use Rattle.ir_core.specs.declared.operand.Operand.TheVariants as operands
-use Rattle.ir_core.specs.declared.operand.Register.{Register}
 use Rattle.ir_core.specs.declared.operand.Register.TheVariants as registers
-use Rattle.ir_meaning.proofs.Pieces.{cases_in, later_in}
-use Rattle.needed.specs.Needed.{IsNeeded, ReadsRegister}
-use Rattle.needed.specs.Operands.{operands_of, operands_at_end}
-use Rattle.substitution.specs.Substitution.{Substitution, substituted_inst, substituted_operand}
-use Rattle.substitution.proofs.Pieces.{get_cases, in_map, mapped}
-use Rattle.readers.specs.Changes.{changed_at, instead, replaced, with_inst_removed}
-use Rattle.draft_steps.specs.DeadCode.{AreLeft, IsEliminating, IsNeededWith}
+use Rattle.needed.specs.Operands.{operands_of}
+use Rattle.substitution.proofs.Pieces.{mapped}
 use Rattle.places.specs.Orders.{place_in}
-use Rattle.draft_steps.specs.Rewriting.{with_put}
 use Rattle.draft_steps.proofs.Instead.{block_back, instead_it, instead_other, needed_with_root}
 use Rattle.draft_steps.proofs.Living.{IsSilenced, needed_less}
 use Rattle.draft_steps.proofs.Mapping.{end_substituted, operands_substituted}
-use Rattle.readers.proofs.Naming.{is_same_register}
 use Rattle.draft_steps.proofs.Needing.{AreRows, row_is}
 use Rattle.draft_steps.proofs.OneChange.{changed_here, changed_other}
 use Rattle.draft_steps.proofs.PutFor.{last, new_row, other_row, parts, rows_then}

@@ -1,40 +1,15 @@
 -- Dead code elimination in a draft, step by step.
-use Rattle.std.proofs.Common.{◌≡◌, ℕ, zero, suc, ◌<◌, ◌≤◌, ◌⊎◌, inl, inr, Bool, true, false, ◌↔◌, List, [], ◌∷◌, ◌++◌, length, map, get_or, refl, sym, ap, subst, ◌∙◌, arith}
-use Rattle.std.specs.Prelude.{Contains}
-use Rattle.std.specs.List.{filter_map}
-use Rattle.std.proofs.lemmas.Bool.{cases_Bool, cases_lt}
-use Rattle.std.proofs.lemmas.List.{get_or_past}
-use Rattle.std.proofs.lemmas.List.Elements.{Contains-append_cases, Contains-append_left, Contains-append_right}
-use Rattle.std.proofs.lemmas.Option.{slice_get_cases, slice_get_within}
-use Rattle.ir_core.specs.Reads.{end_of}
-use Rattle.ir_core.specs.declared.function.Function.{Function}
-use Rattle.ir_core.specs.declared.operand.Operand.{Operand}
+use Rattle.draft_steps.proofs.Common.{◌≡◌, ℕ, zero, suc, ◌<◌, ◌≤◌, ◌⊎◌, inl, inr, Bool, true, false, ◌↔◌, List, [], ◌∷◌, ◌++◌, length, map, get_or, refl, sym, ap, subst, ◌∙◌, arith, Contains, filter_map, cases_Bool, cases_lt, get_or_past, Contains-append_cases, Contains-append_left, Contains-append_right, slice_get_cases, slice_get_within, end_of, Function, Operand, Register, Op, cases_in, first_in, later_in, not_in_empty, IsNeeded, by_end, by_inst, ReadsRegister, map_in, IsNamedAt, IsUseCount, changed_at, with_inst_removed, without, AreRead, IsEliminating, IsNeededWith, ends, is_one, operands_at, register_of, Stands, numbers_in, numbers_of, none, arena_place, IsWhole, Draft, Place, arena_place_inst, reads_written, marked, marked_stands, stands_marked, stands_there}
 use Rattle.ir_core.specs.declared.operand.Operand.TheVariants as operands
-use Rattle.ir_core.specs.declared.operand.Register.{Register}
 use Rattle.ir_core.specs.declared.operand.Register.TheVariants as registers
-use Rattle.ir_core.specs.declared.instruction.Op.{Op}
-use Rattle.ir_meaning.proofs.Pieces.{cases_in, first_in, later_in, not_in_empty}
-use Rattle.needed.specs.Needed.{IsNeeded, by_end, by_inst, ReadsRegister}
 use Rattle.needed.specs.Operands.{operands_of}
-use Rattle.substitution.proofs.Pieces.{map_in}
-use Rattle.use_counts.specs.Uses.{IsNamedAt, IsUseCount}
-use Rattle.readers.specs.Changes.{changed_at, with_inst_removed, without}
-use Rattle.draft_steps.specs.DeadCode.{AreRead, IsEliminating, IsNeededWith, ends, reads, is_one}
-use Rattle.readers.specs.Counts.{operands_at, register_of}
-use Rattle.draft.specs.Drafts.{Stands, numbers_in, numbers_of}
-use Rattle.places.specs.Orders.{none, place_in}
-use Rattle.readers.specs.Readers.{arena_place}
-use Rattle.draft.specs.Whole.{IsWhole}
-use Rattle.draft.specs.declared.draft.Draft.{Draft}
-use Rattle.places.specs.declared.place.Place.{Place}
+use Rattle.draft_steps.specs.DeadCode.{reads}
+use Rattle.places.specs.Orders.{place_in}
 use Rattle.draft_steps.proofs.FiniteOrder.{from_last}
 use Rattle.draft_steps.proofs.Needing.{reader_of}
-use Rattle.readers.proofs.Reading.{arena_place_inst, reads_written}
-use Rattle.draft.proofs.Rows.{marked}
 use Rattle.draft_steps.proofs.Silencing.{cleaning_less}
 use Rattle.draft_steps.proofs.RowPlaces.{contained, in_or_out, is_in}
 use Rattle.draft_steps.proofs.WhoReads.{EndReads, InstReads, end_reads_it, who}
-use Rattle.draft.proofs.Wholeness.{marked_stands, stands_marked, stands_there}
 
 -- all numbers of some rows, each with its row
 abbrev all_in : List (List ℕ) → List (ℕ × ℕ)

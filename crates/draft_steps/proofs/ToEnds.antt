@@ -1,18 +1,7 @@
 -- What leads to a terminator is live.
-use Rattle.std.proofs.Common.{◌≡◌, ℕ, inl, inr, refl}
-use Rattle.ir_core.specs.Checks.{IsKnown}
-use Rattle.ir_core.specs.declared.function.Function.{Function}
+use Rattle.draft_steps.proofs.Common.{◌≡◌, ℕ, inl, inr, refl, IsKnown, Function, Register, Stands, IsWhole, Draft, stands_there, none, Place, IsPlaceIn, has_known}
 use Rattle.ir_core.specs.declared.operand.Operand.TheVariants as operands
-use Rattle.ir_core.specs.declared.operand.Register.{Register}
 use Rattle.ir_core.specs.declared.operand.Register.TheVariants as registers
-use Rattle.draft.specs.Drafts.{Stands}
-use Rattle.draft.specs.Whole.{IsWhole}
-use Rattle.draft.specs.declared.draft.Draft.{Draft}
-use Rattle.draft.proofs.Wholeness.{stands_there}
-use Rattle.places.specs.Orders.{none}
-use Rattle.places.specs.declared.place.Place.{Place}
-use Rattle.readers.specs.Readers.{IsPlaceIn}
-use Rattle.readers.proofs.Changing.{has_known}
 
 -- a place that is not a terminator's has a register
 pub inst_known : (f : Function) (p : Place) → IsPlaceIn f p → ¬ (p.number ≡ none) → IsKnown f (operands.Register (registers.Result p.block p.number))

@@ -1,12 +1,6 @@
 -- Lists of places with more of them appended.
-use Rattle.std.proofs.Common.{◌≡◌, ℕ, ◌+◌, ◌<◌, List, [], ◌∷◌, ◌++◌, All, length, get_or, take, sym, subst}
-use Rattle.std.specs.Prelude.{Contains}
-use Rattle.std.proofs.lemmas.List.Elements.{All-append, All-more, All-push, All-weaker, Contains-append_left, Contains-append_right, Contains-get_or, Contains-push}
-use Rattle.ir_core.specs.declared.function.Function.{Function}
-use Rattle.ir_core.specs.declared.operand.Register.{Register}
+use Rattle.draft_steps.proofs.Common.{◌≡◌, ℕ, ◌+◌, ◌<◌, List, [], ◌∷◌, ◌++◌, All, length, get_or, take, sym, subst, Contains, All-append, All-more, All-push, All-weaker, Contains-append_left, Contains-append_right, Contains-get_or, Contains-push, Function, Register, IsUseCount, Place}
 use Rattle.ir_core.specs.declared.operand.Register.TheVariants as registers
-use Rattle.use_counts.specs.Uses.{IsUseCount}
-use Rattle.places.specs.declared.place.Place.{Place}
 
 module _ (put replaced slice one two three : List Place) (root : Place) (pushed : one ≡ put ++ root ∷ []) (extended : two ≡ one ++ slice) (same : slice ≡ replaced) (others : (p : Place) → Contains two p → Contains three p) where
   in_one : (p : Place) → Contains one p → Contains three p

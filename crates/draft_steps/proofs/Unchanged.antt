@@ -1,13 +1,6 @@
 -- A draft of which only use lists change is settled, and has no dead code, as before.
-use Rattle.std.proofs.Common.{sym, subst, ◌∙◌}
-use Rattle.ir_core.specs.declared.function.Function.{Function}
+use Rattle.draft_steps.proofs.Common.{sym, subst, ◌∙◌, Function, IsNeeded, HasNoDeadCode, IsPlaceIn, IsReader, IsSameDraft, IsSettled, Draft}
 use Rattle.ir_core.specs.declared.operand.Register.TheVariants as registers
-use Rattle.needed.specs.Needed.{IsNeeded}
-use Rattle.draft_steps.specs.DeadCode.{HasNoDeadCode}
-use Rattle.readers.specs.Readers.{IsPlaceIn, IsReader}
-use Rattle.draft_steps.specs.Walks.{IsSameDraft}
-use Rattle.draft.specs.Whole.{IsSettled}
-use Rattle.draft.specs.declared.draft.Draft.{Draft}
 use Rattle.draft_steps.proofs.SameDrafts.{stays, stood}
 
 module _ (old new : Draft) (same : IsSameDraft old new) where

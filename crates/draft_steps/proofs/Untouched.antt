@@ -1,30 +1,11 @@
 -- Where the statements of matches at an instruction are bound to untouched ones, the matches are those that were there,
 -- but perhaps for some whose rule asks for a register with one use.
-use Rattle.std.proofs.Common.{◌≡◌, ◌⊎◌, inl, inr, ℕ, suc, ◌<◌, ◌≤◌, List, [], ◌∷◌, length, get_or, None, Some, refl, sym, ap, subst, ◌∙◌, arith}
-use Rattle.std.specs.Prelude.{Contains, slice_get}
-use Rattle.std.proofs.lemmas.List.Elements.{All-contains, Contains-get_or}
-use Rattle.std.proofs.lemmas.Option.{none-some, same_Some, slice_get_cases}
-use Rattle.ir_core.specs.Checks.{IsInst}
-use Rattle.ir_core.specs.Reads.{Read, IsRead}
-use Rattle.ir_core.specs.Walks.{IsReached}
-use Rattle.ir_core.specs.declared.function.Function.{Function}
-use Rattle.ir_core.specs.declared.instruction.Inst.{Inst}
+use Rattle.draft_steps.proofs.Common.{◌≡◌, ◌⊎◌, inl, inr, ℕ, suc, ◌<◌, ◌≤◌, List, [], ◌∷◌, length, get_or, None, Some, refl, sym, ap, subst, ◌∙◌, arith, Contains, slice_get, All-contains, Contains-get_or, none-some, same_Some, slice_get_cases, IsInst, Read, IsRead, IsReached, Function, Inst, Register, cases_in, later_in, first_in, not_in_empty, Formula, Rule, IsUsedOnce, MatchesInAnyOrder, IsSameOperation, Binding, reads_at_inst, same_inst, Match, AreMatchesInAnyOrder, IsAt, IsMatchInAnyOrder, AreReady}
 use Rattle.ir_core.specs.declared.operand.Operand.TheVariants as operands
-use Rattle.ir_core.specs.declared.operand.Register.{Register}
 use Rattle.ir_core.specs.declared.operand.Register.TheVariants as registers
-use Rattle.ir_meaning.proofs.Pieces.{cases_in, later_in, first_in, not_in_empty}
-use Rattle.rule_core.specs.declared.rule.Formula.{Formula}
 use Rattle.rule_core.specs.declared.rule.Formula.TheVariants as formulas
 use Rattle.rule_core.specs.declared.rule.Op.{Op as RuleOp}
-use Rattle.rule_core.specs.declared.rule.Rule.{Rule}
-use Rattle.use_counts.specs.Uses.{IsUsedOnce}
-use Rattle.bindings.specs.Match.{MatchesInAnyOrder}
-use Rattle.bindings.specs.Statements.{IsSameOperation}
-use Rattle.bindings.specs.declared.binding.Binding.{Binding}
-use Rattle.bindings.proofs.Reading.{reads_at_inst, same_inst}
-use Rattle.bindings.specs.declared.rule_match.Match.{Match}
-use Rattle.bindings.specs.Matches.{AreMatchesInAnyOrder, ComesBefore, IsAt, IsMatchInAnyOrder}
-use Rattle.bindings.specs.Ready.{AreReady}
+use Rattle.bindings.specs.Matches.{ComesBefore}
 use Rattle.draft_steps.proofs.Filtered.{Filtered, filtered}
 use Rattle.draft_steps.proofs.Rooted.{bound_there, each_come}
 use Rattle.draft_steps.proofs.Same.{match_too, same_reads}

@@ -1,41 +1,13 @@
 -- The uses in a draft from which an instruction is removed: all others are there as before, and the registers that it
 -- read go on the worklist.
-use Rattle.std.proofs.Common.{◌≡◌, ℕ, zero, suc, ◌+◌, ◌<◌, ◌≤◌, ◌⊎◌, inl, inr, cond, List, [], ◌∷◌, ◌++◌, length, refl, sym, ap, subst, ◌∙◌, arith}
-use Rattle.std.specs.Prelude.{Contains, slice_index_or, sum_by}
-use Rattle.std.specs.List.{filter_map}
-use Rattle.std.proofs.lemmas.Bool.{cases_Bool, cases_eq}
+use Rattle.draft_steps.proofs.Common.{◌≡◌, ℕ, zero, suc, ◌+◌, ◌<◌, ◌≤◌, ◌⊎◌, inl, inr, cond, List, [], ◌∷◌, ◌++◌, length, refl, sym, ap, subst, ◌∙◌, arith, Contains, slice_index_or, sum_by, filter_map, cases_Bool, cases_eq, sum_by-cons, Contains-append_cases, Contains-append_left, Contains-append_right, slice_get_within, HasInst, Block, Function, Inst, Operand, Register, first_in, later_in, not_in_empty, ReadsRegister, IsUseCount, changed_at, gone, inst_changed, with_inst_removed, without, AreRead, KeepsUses, registers_read, names, operands_at, register_of, times, times_in_function, Stands, numbers_of, none, IsWhole, Draft, changed_sum, inst_there, one_if, inst_differs, names_is, AreFew, DiffersAt, operands_at_inst, few_insts}
 use Rattle.std.proofs.lemmas.List.{length-append}
-use Rattle.std.proofs.lemmas.List.Sums.{sum_by-cons}
-use Rattle.std.proofs.lemmas.List.Elements.{Contains-append_cases, Contains-append_left, Contains-append_right}
-use Rattle.std.proofs.lemmas.Option.{slice_get_within}
-use Rattle.ir_core.specs.Blocks.{HasInst}
-use Rattle.ir_core.specs.declared.function.Block.{Block}
-use Rattle.ir_core.specs.declared.function.Function.{Function}
-use Rattle.ir_core.specs.declared.instruction.Inst.{Inst}
-use Rattle.ir_core.specs.declared.operand.Operand.{Operand}
 use Rattle.ir_core.specs.declared.operand.Operand.TheVariants as operands
-use Rattle.ir_core.specs.declared.operand.Register.{Register}
 use Rattle.ir_core.specs.declared.operand.Register.TheVariants as registers
-use Rattle.ir_meaning.proofs.Pieces.{contains_at, first_in, later_in, not_in_empty, some_at}
-use Rattle.needed.specs.Needed.{ReadsRegister}
+use Rattle.ir_meaning.proofs.Pieces.{contains_at, some_at}
 use Rattle.needed.specs.Operands.{operands_of}
-use Rattle.use_counts.specs.Uses.{IsUseCount}
-use Rattle.readers.specs.Changes.{changed_at, gone, inst_changed, with_inst_removed, without}
-use Rattle.draft_steps.specs.DeadCode.{AreRead, KeepsUses, registers_read}
-use Rattle.readers.specs.Counts.{names, operands_at, register_of, times, times_in_function}
-use Rattle.draft.specs.Drafts.{Stands, numbers_of}
-use Rattle.places.specs.Orders.{none}
-use Rattle.draft.specs.Whole.{IsWhole}
-use Rattle.draft.specs.declared.draft.Draft.{Draft}
-use Rattle.readers.proofs.Changing.{changed_sum, inst_there}
-use Rattle.readers.proofs.Counting.{one_if}
-use Rattle.draft.proofs.Exchanging.{inst_differs}
-use Rattle.readers.proofs.Naming.{names_is}
-use Rattle.readers.proofs.Places.{AreFew, DiffersAt}
-use Rattle.readers.proofs.Reading.{operands_at_inst}
 use Rattle.draft_steps.proofs.Silencing.{taken_out_is_silenced, without_of}
 use Rattle.draft_steps.proofs.Taking.{IsGone, reads_fall, registers_among}
-use Rattle.draft.proofs.Wholeness.{few_insts}
 
 -- a register that is counted among operands is one of them
 counted_contains : (r : Register) (xs : List Operand) → (times r xs ≡ 0 → ⊥) → Contains xs (operands.Register r)

@@ -1,19 +1,7 @@
 -- Searches in drafts that differ in use lists alone.
-use Rattle.std.proofs.Common.{◌≡◌, ℕ, zero, suc, ◌<◌, inl, List, length, All, Contains, refl, sym, ap, subst, ◌∙◌}
-use Rattle.std.proofs.lemmas.List.{get_or_append_left}
-use Rattle.std.proofs.lemmas.Option.{slice_get-get_or}
-use Rattle.ir_core.specs.Blocks.{HasInst}
-use Rattle.ir_core.specs.declared.function.Function.{Function}
+use Rattle.draft_steps.proofs.Common.{◌≡◌, ℕ, zero, suc, ◌<◌, inl, List, length, All, Contains, refl, sym, ap, subst, ◌∙◌, get_or_append_left, slice_get-get_or, HasInst, Function, Reaches, nowhere, place_at, IsReader, IsFurther, IsSameDraft, IsWalk, ReadersCame, ReadsHere, IsWhole, Draft, Place, Walk}
 use Rattle.ir_core.specs.declared.operand.Register.TheVariants as registers
 use Rattle.needed.proofs.Counting.{contains_at}
-use Rattle.draft.specs.Drafts.{Reaches}
-use Rattle.places.specs.Heaps.{nowhere, place_at}
-use Rattle.readers.specs.Readers.{IsReader}
-use Rattle.draft_steps.specs.Walks.{IsFurther, IsSameDraft, IsWalk, ReadersCame, ReadsHere}
-use Rattle.draft.specs.Whole.{IsWhole}
-use Rattle.draft.specs.declared.draft.Draft.{Draft}
-use Rattle.places.specs.declared.place.Place.{Place}
-use Rattle.draft_steps.specs.declared.walk.Walk.{Walk}
 use Rattle.draft_steps.proofs.SameDrafts.{stays, stood}
 
 pub same-itself : (d : Draft) → IsWhole d → IsSameDraft d d

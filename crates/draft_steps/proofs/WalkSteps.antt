@@ -1,12 +1,5 @@
 -- Searches that find more.
-use Rattle.std.proofs.Common.{◌≡◌, ◌⊎◌, ℕ, inl, inr, [], ◌∷◌, ◌++◌, length, All, Contains, sym, ap, subst, ◌∙◌, append-nil, append_assoc}
-use Rattle.std.proofs.lemmas.List.Elements.{All-push, Contains-append_left, Contains-push, Contains-push_cases}
-use Rattle.ir_core.specs.Blocks.{HasInst}
-use Rattle.draft.specs.declared.draft.Draft.{Draft}
-use Rattle.places.specs.declared.place.Place.{Place}
-use Rattle.draft_steps.specs.declared.walk.Walk.{Walk}
-use Rattle.places.specs.Sets.{IsAdded}
-use Rattle.draft_steps.specs.Walks.{Came, CameOnlyTo, IsFurther, IsWalk}
+use Rattle.draft_steps.proofs.Common.{◌≡◌, ◌⊎◌, ℕ, inl, inr, [], ◌∷◌, ◌++◌, length, All, Contains, sym, ap, subst, ◌∙◌, append-nil, append_assoc, All-push, Contains-append_left, Contains-push, Contains-push_cases, HasInst, Draft, Place, Walk, IsAdded, Came, CameOnlyTo, IsFurther, IsWalk}
 
 pub further-same : (w : Walk) → IsFurther w w
 further-same w = record { more = []; is = sym (append-nil w.found.items) }

@@ -1,7 +1,5 @@
 -- A search forgets what it found, place by place.
-use Rattle.std.proofs.Common.{ℕ, List, Contains}
-use Rattle.places.specs.declared.place.Place.{Place}
-use Rattle.places.specs.Sets.{Rows, Has}
+use Rattle.draft_steps.proofs.Common.{ℕ, List, Contains, Place, Rows, Has}
 
 -- all that is marked is among these places
 abbrev pub AreListed : Rows → List Place → Type 0

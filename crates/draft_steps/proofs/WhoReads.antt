@@ -1,23 +1,9 @@
 -- An instruction or a terminator reads the registers that are among its operands.
-use Rattle.std.proofs.Common.{◌≡◌, ℕ, ◌<◌, cond, ◌⊎◌, inl, inr, List, [], ◌∷◌, length, Option, None, Some, map, refl, sym, ap, ◌∙◌, arith}
-use Rattle.std.specs.Prelude.{Contains, slice_get, option_map, unwrap_or}
-use Rattle.std.proofs.lemmas.Bool.{cases_eq, eq-eqb, ne_eqb}
-use Rattle.std.proofs.lemmas.Option.{slice_get_past, slice_get_within, slice_get-map}
-use Rattle.ir_core.specs.Blocks.{IsBlock}
-use Rattle.ir_core.specs.Reads.{Read, read, end_of, reads_of, reads_at_end, reads_by, reads_in, reads_at}
-use Rattle.ir_core.specs.declared.function.Block.{Block}
-use Rattle.ir_core.specs.declared.function.Function.{Function}
-use Rattle.ir_core.specs.declared.instruction.Inst.{Inst}
-use Rattle.ir_core.specs.declared.instruction.Op.{Op}
-use Rattle.ir_core.specs.declared.instruction.Op.TheVariants.{Binary, Compare, Unary, Select, Convert, Freeze, Phi}
-use Rattle.ir_core.specs.declared.operand.Operand.{Operand}
+use Rattle.draft_steps.proofs.Common.{◌≡◌, ℕ, ◌<◌, cond, ◌⊎◌, inl, inr, List, [], ◌∷◌, length, Option, None, Some, map, refl, sym, ap, ◌∙◌, arith, Contains, slice_get, option_map, unwrap_or, cases_eq, eq-eqb, ne_eqb, slice_get_past, slice_get_within, slice_get-map, IsBlock, Read, read, end_of, reads_of, reads_at_end, reads_by, reads_in, reads_at, Block, Function, Inst, Op, Binary, Compare, Unary, Select, Convert, Freeze, Phi, Operand, Register, Terminator, ReadsRegister, operands_at_end}
 use Rattle.ir_core.specs.declared.operand.Operand.TheVariants as operands
-use Rattle.ir_core.specs.declared.operand.Register.{Register}
-use Rattle.ir_core.specs.declared.terminator.Terminator.{Terminator}
 use Rattle.ir_core.specs.declared.terminator.Terminator.TheVariants as terminators
 use Rattle.ir_meaning.proofs.Pieces.{contains_at, place_in}
-use Rattle.needed.specs.Needed.{ReadsRegister}
-use Rattle.needed.specs.Operands.{operands_of, operands_at_end}
+use Rattle.needed.specs.Operands.{operands_of}
 
 abbrev operands_in : List Read → List Operand
 operands_in reads = map (λ (r : Read). r.operand) reads

@@ -1,26 +1,10 @@
 -- The numbers that stand in a draft, and what is read in a settled one.
-use Rattle.std.proofs.Common.{◌≡◌, ℕ, ◌<◌, ◌≤◌, inl, inr, List, [], length, get_or, Some, refl, sym, subst, ◌∙◌, arith}
-use Rattle.std.specs.Prelude.{Contains, slice_get}
-use Rattle.ir_core.specs.Blocks.{IsBlock}
-use Rattle.std.proofs.lemmas.Option.{slice_get_within}
-use Rattle.ir_core.specs.declared.function.Block.{Block}
+use Rattle.draft_steps.proofs.Common.{◌≡◌, ℕ, ◌<◌, ◌≤◌, inl, inr, List, [], length, get_or, Some, refl, sym, subst, ◌∙◌, arith, Contains, slice_get, IsBlock, slice_get_within, Block, ReadsRegister, contained_at, Stands, numbers_in, numbers_of, none, IsOrdering, arena_place, IsSettled, IsWhole, Draft, Place, arena_place_end, arena_place_inst, standing_length, standing_ordering, numbers_are, stands_there}
 use Rattle.ir_core.specs.declared.operand.Register.TheVariants as registers
 use Rattle.ir_meaning.proofs.Pieces.{contains_at, some_at}
-use Rattle.needed.specs.Needed.{ReadsRegister}
-use Rattle.needed.proofs.Counting.{contained_at}
-use Rattle.draft.specs.Drafts.{Stands, numbers_in, numbers_of}
-use Rattle.places.specs.Orders.{none, place_in}
-use Rattle.draft.specs.Placing.{IsOrdering}
-use Rattle.readers.specs.Readers.{arena_place}
-use Rattle.draft.specs.Whole.{IsSettled, IsWhole}
-use Rattle.draft.specs.declared.draft.Draft.{Draft}
-use Rattle.places.specs.declared.place.Place.{Place}
+use Rattle.places.specs.Orders.{place_in}
 use Rattle.draft_steps.proofs.Needing.{AreRows, row_is}
-use Rattle.readers.proofs.Reading.{arena_place_end, arena_place_inst}
-use Rattle.draft.proofs.Rows.{standing_length}
-use Rattle.draft.proofs.Standing.{standing_ordering}
 use Rattle.draft_steps.proofs.WhoReads.{end_of-is, who}
-use Rattle.draft.proofs.Wholeness.{numbers_are, stands_there}
 
 module _ (d : Draft) (whole : IsWhole d) where
   ordering : (b : ℕ) (block : Block) → IsBlock d.arena b block → IsOrdering (length block.insts) (numbers_in d b)

@@ -1,9 +1,5 @@
 -- Worklists stay worklists where orders are kept.
-use Rattle.std.proofs.Common.{ℕ, List, sym, ◌∙◌}
-use Rattle.draft.specs.KeptOrders.{KeepsOrders}
-use Rattle.draft_steps.specs.declared.worklist.DraftWorklist.{DraftWorklist}
-use Rattle.places.specs.Worklist.{IsWorklist}
-use Rattle.draft.proofs.Keeping.{heap-stays}
+use Rattle.draft_steps.proofs.Common.{ℕ, List, sym, ◌∙◌, KeepsOrders, DraftWorklist, IsWorklist, heap-stays}
 
 pub worklist-stays : (old new : List (List ℕ)) (q : DraftWorklist) → KeepsOrders old new → IsWorklist old q → IsWorklist new q
 worklist-stays old new q keeps h = record {

@@ -1,23 +1,7 @@
 -- The order of a draft's instructions, and the order in which a worklist gives them.
-use Rattle.std.proofs.Common.{ℕ, ◌<◌, inl, inr, List, [], length, All, get_or, sym, subst}
-use Rattle.std.proofs.lemmas.List.Elements.{All-contains, All-weaker}
-use Rattle.std.proofs.lemmas.Option.{slice_get_within}
-use Rattle.ir_core.specs.Blocks.{HasInst}
-use Rattle.draft.specs.declared.draft.Draft.{Draft}
-use Rattle.places.specs.declared.place.Place.{Place}
-use Rattle.draft_steps.specs.declared.walk.Walk.{Walk}
-use Rattle.draft_steps.specs.declared.worklist.DraftWorklist.{DraftWorklist}
-use Rattle.draft.specs.Drafts.{Stands, StandsBefore}
-use Rattle.places.specs.Heaps.{IsNumbered, ComesBefore}
+use Rattle.draft_steps.proofs.Common.{ℕ, ◌<◌, inl, inr, List, [], length, All, get_or, sym, subst, All-contains, All-weaker, slice_get_within, HasInst, Draft, Place, Walk, DraftWorklist, Stands, StandsBefore, IsNumbered, ComesNext, IsWorklistOf, IsFirst, IsWalk, IsWhole, same_order, marked-contains, numbers_are, stands_marked, stands_there, inst-numbered, numbered-inst}
+use Rattle.places.specs.Heaps.{ComesBefore}
 use Rattle.places.specs.Orders.{place_in}
-use Rattle.draft_steps.specs.DraftWorklists.{ComesNext, IsWorklistOf}
-use Rattle.places.specs.Worklist.{IsFirst}
-use Rattle.draft_steps.specs.Walks.{IsWalk}
-use Rattle.draft.specs.Whole.{IsWhole}
-use Rattle.draft.proofs.Rows.{same_order}
-use Rattle.places.proofs.Tallies.{marked-contains}
-use Rattle.draft.proofs.Wholeness.{numbers_are, stands_marked, stands_there}
-use Rattle.draft.proofs.NumberedInsts.{inst-numbered, numbered-inst}
 
 pub walk-numbered : (d : Draft) (w : Walk) → IsWhole d → IsWalk d w → All (IsNumbered d.orders.items) w.found.items
 walk-numbered d w whole walk =

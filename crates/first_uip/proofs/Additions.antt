@@ -1,21 +1,5 @@
 -- The watches after one more clause, one more entry, a decision, or a backjump.
-use Rattle.std.proofs.Common.{◌≡◌, ℕ, ◌<◌, ◌≤◌, true, false, List, [], ◌∷◌, ◌++◌, Some, length, length-append, take, sym, ap, ◌∙◌, arith, inl, inr, subst}
-use Rattle.std.specs.Prelude.{Contains, option_map, slice_get}
-use Rattle.std.proofs.lemmas.Bool.{true≢false}
-use Rattle.std.proofs.lemmas.List.{take-append-le, take_all}
-use Rattle.std.proofs.lemmas.Option.{slice_get-get_or, slice_get-map}
-use Rattle.clauses.specs.Literal.{Lit}
-use Rattle.clauses.specs.Propagation.{is_held}
-use Rattle.depth_first.specs.declared.trail.Entry.{Entry}
-use Rattle.depth_first.specs.TrailEntries.{literals, is_decision}
-use Rattle.depth_first.proofs.Lists.{slice_get_push_cases, slice_get_take, take_left, take_whole, take_take_below, slice_get_below}
-use Rattle.depth_first.proofs.HeldLists.{HeldWithin-entries, held_cases, held_one_same, not_held_nil}
-use Rattle.first_uip.specs.declared.watches.Watches.{Watches}
-use Rattle.first_uip.specs.declared.watchers.Watcher.{Watcher}
-use Rattle.first_uip.specs.declared.arena.Watched.{Watched}
-use Rattle.first_uip.specs.declared.arena.Watched.TheVariants.{Alone, Two}
-use Rattle.first_uip.specs.Clauses.{clauses_in, watched_in}
-use Rattle.first_uip.specs.Watching.{watched_literals, watchers_of, AddsNumbers, KeepsOnly, EachBlocked, IsListed, IsWatch, EachIsWatch, IsGuarded, EachGuarded, EachLevelGuarded, IsWatching, IsWatchingUpTo}
+use Rattle.first_uip.proofs.Common.{◌≡◌, ℕ, ◌<◌, ◌≤◌, true, false, List, [], ◌∷◌, ◌++◌, Some, length, length-append, take, sym, ap, ◌∙◌, arith, inl, inr, subst, Contains, option_map, slice_get, true≢false, take-append-le, take_all, slice_get-get_or, slice_get-map, Lit, is_held, Entry, literals, is_decision, slice_get_push_cases, slice_get_take, take_left, take_whole, take_take_below, slice_get_below, HeldWithin-entries, held_cases, held_one_same, not_held_nil, Watches, Watcher, Watched, Alone, Two, clauses_in, watched_in, watched_literals, watchers_of, AddsNumbers, KeepsOnly, EachBlocked, IsListed, IsWatch, EachIsWatch, IsGuarded, EachGuarded, EachLevelGuarded, IsWatching, IsWatchingUpTo}
 use Rattle.first_uip.proofs.Listing.{IsListed-add}
 use Rattle.first_uip.proofs.Guards.{EachGuarded-grown}
 

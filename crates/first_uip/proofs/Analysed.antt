@@ -1,26 +1,5 @@
 -- What conflict analysis shows.
-use Rattle.std.proofs.Common.{◌≡◌, ℕ, zero, suc, ◌+◌, ◌<◌, ◌≤◌, Bool, true, false, cond, List, [], ◌∷◌, ◌++◌, Option, Some, None, length, take, set, get_or, refl, sym, ap, ◌∙◌, arith, inl, inr, subst}
-use Rattle.std.specs.Prelude.{slice_get, remove, ◌⊎◌}
-use Rattle.std.proofs.lemmas.Bool.{cases_order, cases_lt, or_cases, or_left, or_right, true≢false}
-use Rattle.std.proofs.lemmas.List.{get_or-set_same, get_or-set_other}
-use Rattle.clauses.specs.declared.cnf.Cnf.{Cnf}
-use Rattle.clauses.specs.declared.step.Step.{Step}
-use Rattle.clauses.specs.Literal.{Lit, negation_of, is_same, IsVariable, IsWithin}
-use Rattle.clauses.specs.Propagation.{HintsRefute, NamesFalse, is_held, is_false, negations_of}
-use Rattle.clauses.specs.ClauseSet.{StepFollows, IsNew, clauses_with}
-use Rattle.clauses.proofs.Held.{is_same-self, is_same-true, negation-negation}
-use Rattle.clauses.proofs.Units.{falsified_each, held_at_place}
-use Rattle.clauses.proofs.Closed.{HeldWithin, IsClosed, IsNew-from_closed}
-use Rattle.depth_first.specs.declared.trail.Entry.{Entry}
-use Rattle.depth_first.specs.TrailEntries.{literals, reasons, IsOpen, EachFresh}
-use Rattle.depth_first.proofs.Lists.{some_same, slice_get_below, slice_get_last, slice_get_take, slice_get_in_take, take_take_below}
-use Rattle.depth_first.proofs.HeldLists.{Consistent, both_held, held_left, held_last, held_cases, held_one_same, not_held_nil, literal_at, HeldWithin-take, open_within, open_not_false}
-use Rattle.depth_first.proofs.States.{remove_last}
-use Rattle.depth_first.proofs.FoundLemmas.{kept_literal}
-use Rattle.depth_first.specs.TrailEntries.{EachForced}
-use Rattle.first_uip.specs.declared.roles.Role.{Role}
-use Rattle.first_uip.specs.declared.roles.Role.TheVariants.{Unseen, Kept}
-use Rattle.first_uip.specs.Conflict.{role_of, part_of, is_seen, is_kept, kept_entries, resolved_entries, IsResolution, Sees, NoneSeen, SameKeptFrom, IsAnalysis, IsJump, IsAsserting, IsOther}
+use Rattle.first_uip.proofs.Common.{◌≡◌, ℕ, zero, suc, ◌+◌, ◌<◌, ◌≤◌, Bool, true, false, cond, List, [], ◌∷◌, ◌++◌, Option, Some, None, length, take, set, get_or, refl, sym, ap, ◌∙◌, arith, inl, inr, subst, slice_get, remove, ◌⊎◌, cases_order, cases_lt, or_cases, or_left, or_right, true≢false, get_or-set_same, get_or-set_other, Cnf, Step, Lit, negation_of, is_same, IsVariable, IsWithin, HintsRefute, NamesFalse, is_held, is_false, negations_of, StepFollows, IsNew, clauses_with, is_same-self, is_same-true, negation-negation, falsified_each, held_at_place, HeldWithin, IsClosed, IsNew-from_closed, Entry, literals, reasons, IsOpen, EachFresh, some_same, slice_get_below, slice_get_last, slice_get_take, slice_get_in_take, take_take_below, Consistent, both_held, held_left, held_last, held_cases, held_one_same, not_held_nil, literal_at, HeldWithin-take, open_within, open_not_false, remove_last, kept_literal, EachForced, Role, Unseen, Kept, role_of, part_of, is_seen, is_kept, kept_entries, resolved_entries, IsResolution, Sees, NoneSeen, SameKeptFrom, IsAnalysis, IsJump, IsAsserting, IsOther}
 use Rattle.first_uip.proofs.RoleLemmas.{IsResolution-keep, IsResolution-unseen, other_entry}
 use Rattle.first_uip.proofs.Resolved.{held_place, kept_refuted}
 

@@ -1,12 +1,5 @@
 -- The clauses of an arena to which literals are added, and clauses that watch two different literals.
-use Rattle.std.proofs.Common.{◌≡◌, ◌≢◌, ◌-◌, ◌≤◌, List, [], ◌∷◌, ◌++◌, length, map, take, drop, All, if◌then◌else◌, ap, ◌∙◌, arith, inl, inr, length-append, length-drop}
-use Rattle.std.proofs.lemmas.Bool.{cases_Bool}
-use Rattle.std.proofs.lemmas.List.{drop-append-le, take-append-le, take_all, drop_at, map_push}
-use Rattle.clauses.specs.Literal.{Lit, is_same}
-use Rattle.clauses.proofs.Held.{is_same-true}
-use Rattle.first_uip.specs.declared.arena.Header.{Header}
-use Rattle.first_uip.specs.declared.arena.Watched.TheVariants.{Alone, Two}
-use Rattle.first_uip.specs.Clauses.{literals_of}
+use Rattle.first_uip.proofs.Common.{◌≡◌, ◌≢◌, ◌-◌, ◌≤◌, List, [], ◌∷◌, ◌++◌, length, map, take, drop, All, if◌then◌else◌, ap, ◌∙◌, arith, inl, inr, length-append, length-drop, cases_Bool, drop-append-le, take-append-le, take_all, drop_at, map_push, Lit, is_same, is_same-true, Header, Alone, Two, literals_of}
 use Rattle.first_uip.proofs.Replaced.{map_same_where}
 
 -- the clause's part of the arena lies within these literals

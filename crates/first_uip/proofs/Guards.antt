@@ -1,30 +1,8 @@
 -- How far the entries were propagated, watcher by watcher. An entry is seen once all clauses that watch its negation
 -- were looked at.
-use Rattle.std.proofs.Common.{◌≡◌, ℕ, suc, ◌+◌, ◌<◌, ◌≤◌, true, false, List, [], ◌∷◌, ◌++◌, Some, length, length-set, take, refl, sym, ap, ◌∙◌, arith, inl, inr, subst}
-use Rattle.std.specs.Prelude.{slice_get, ◌⊎◌}
-use Rattle.std.specs.List.{swap_remove}
-use Rattle.std.proofs.lemmas.Bool.{cases_Bool, cases_eq, true≢false, false_from_ne_true}
-use Rattle.std.proofs.lemmas.List.{take-append-le, take_all}
-use Rattle.clauses.specs.Literal.{Lit, negation_of}
-use Rattle.clauses.specs.Propagation.{is_held, is_false}
-use Rattle.clauses.proofs.Held.{negation-negation}
-use Rattle.clauses.proofs.Closed.{HeldWithin}
-use Rattle.depth_first.specs.declared.trail.Entry.{Entry}
-use Rattle.depth_first.specs.TrailEntries.{literals, is_decision, Grows}
-use Rattle.depth_first.specs.Propagated.{StandsFrom, IsPropagated, AllPropagated}
-use Rattle.depth_first.specs.DepthFirst.{IsSatisfied}
-use Rattle.depth_first.proofs.Lists.{some_same, slice_get_below, slice_get_cases, slice_get_left, take_left, take_next, element_at}
-use Rattle.depth_first.proofs.HeldLists.{Consistent, held_cases, held_one, held_one_same, held_left, held_right, literals-append, HeldWithin-take, HeldWithin-entries, both_held}
-use Rattle.depth_first.proofs.Open.{IsPropagated-from_held, IsPropagated-from_different}
-use Rattle.depth_first.proofs.PropagationLemmas.{stands_cases}
-use Rattle.first_uip.specs.declared.watches.Watches.{Watches}
-use Rattle.first_uip.specs.declared.arena.Watched.{Watched}
-use Rattle.first_uip.specs.declared.arena.Watched.TheVariants.{Alone, Two}
-use Rattle.first_uip.specs.Watching.{watched_literals, numbers_of, IsListed, EachBlocked, IsWatch, EachIsWatch, IsGuarded, EachGuarded, EachLevelGuarded, IsWatchingUpTo}
-use Rattle.first_uip.specs.Looks.{WatchesBoth, MovesWatch}
+use Rattle.first_uip.proofs.Common.{◌≡◌, ℕ, suc, ◌+◌, ◌<◌, ◌≤◌, true, false, List, [], ◌∷◌, ◌++◌, Some, length, length-set, take, refl, sym, ap, ◌∙◌, arith, inl, inr, subst, slice_get, ◌⊎◌, swap_remove, cases_Bool, cases_eq, true≢false, false_from_ne_true, take-append-le, take_all, Lit, negation_of, is_held, is_false, negation-negation, HeldWithin, Entry, literals, is_decision, Grows, StandsFrom, IsPropagated, AllPropagated, IsSatisfied, some_same, slice_get_below, slice_get_cases, slice_get_left, take_left, take_next, element_at, Consistent, held_cases, held_one, held_one_same, held_left, held_right, literals-append, HeldWithin-take, HeldWithin-entries, both_held, IsPropagated-from_held, IsPropagated-from_different, stands_cases, Watches, Watched, Alone, Two, watched_literals, numbers_of, IsListed, EachBlocked, IsWatch, EachIsWatch, IsGuarded, EachGuarded, EachLevelGuarded, IsWatchingUpTo, WatchesBoth, MovesWatch, clauses_in, watched_in}
 use Rattle.first_uip.proofs.Sets.{slice_get-set_cases, kept_by_drop}
 use Rattle.first_uip.proofs.LookLemmas.{NamesSatisfied, other_stands}
-use Rattle.first_uip.specs.Clauses.{clauses_in, watched_in}
 
 satisfied_more : (held all clause : List Lit) → HeldWithin held all → IsSatisfied held clause → IsSatisfied all clause
 satisfied_more held all clause more (l, stands, is) = (l, stands, more.each l is)

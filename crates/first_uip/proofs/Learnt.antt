@@ -1,36 +1,8 @@
 -- The watches and the reasons after a conflict, with the learned clause and the entries that are left.
-use Rattle.std.proofs.Common.{◌≡◌, ℕ, ◌+◌, ◌*◌, ◌<◌, ◌≤◌, true, false, List, [], ◌∷◌, ◌++◌, Option, Some, None, length, take, sym, ap, ◌∙◌, arith, inl, inr, subst}
-use Rattle.std.specs.Prelude.{slice_get, MatchOption, All}
-use Rattle.std.proofs.lemmas.Bool.{cases_Bool, true≢false}
-use Rattle.std.proofs.lemmas.List.{length-take-le}
-use Rattle.std.proofs.lemmas.List.Elements.{All-nil}
-use Rattle.clauses.specs.declared.cnf.Cnf.{Cnf}
-use Rattle.clauses.specs.declared.step.Step.{Step}
-use Rattle.clauses.specs.Literal.{Lit, code_of, is_same, IsWithin}
-use Rattle.clauses.specs.Propagation.{IsUnit, NamesUnit, is_held, is_false}
-use Rattle.clauses.specs.ClauseSet.{StepFollows, IsNew, clauses_with}
-use Rattle.clauses.proofs.Held.{is_same-true}
-use Rattle.clauses.proofs.Units.{unit_from, differ}
-use Rattle.clauses.proofs.Closed.{HeldWithin}
-use Rattle.depth_first.specs.declared.trail.Entry.{Entry}
-use Rattle.depth_first.specs.declared.trail.Cause.TheVariants.{Reason}
-use Rattle.depth_first.specs.TrailEntries.{literals, is_decision, IsOpen}
-use Rattle.depth_first.specs.DepthFirst.{IsLearned, IsSatisfied}
-use Rattle.depth_first.proofs.Lists.{slice_get_below, slice_get_last, slice_get_left, slice_get_push_cases, slice_get_take, take_in_take, take_left, take_whole, take_take_below}
-use Rattle.depth_first.proofs.HeldLists.{HeldWithin-take, held_last, literals-append, open_within, open_not_false}
-use Rattle.depth_first.proofs.Open.{variable_within}
-use Rattle.depth_first.proofs.HeldTable.{code_within}
-use Rattle.depth_first.proofs.States.{LogFollows-push, LogIsNew-push, NoneEmpty-push}
-use Rattle.depth_first.specs.TrailEntries.{EachForced}
-use Rattle.first_uip.specs.declared.watches.Watches.{Watches}
-use Rattle.first_uip.specs.declared.arena.Watched.{Watched}
-use Rattle.first_uip.specs.declared.arena.Watched.TheVariants.{Alone, Two}
-use Rattle.first_uip.specs.Watching.{watched_literals, IsWatch, IsGuarded, IsWatching, IsWatchingUpTo}
-use Rattle.first_uip.specs.Conflict.{DecidedAt, IsAsserting, IsOther}
+use Rattle.first_uip.proofs.Common.{◌≡◌, ℕ, ◌+◌, ◌*◌, ◌<◌, ◌≤◌, true, false, List, [], ◌∷◌, ◌++◌, Option, Some, None, length, take, sym, ap, ◌∙◌, arith, inl, inr, subst, slice_get, MatchOption, All, cases_Bool, true≢false, length-take-le, All-nil, Cnf, Step, Lit, code_of, is_same, IsWithin, IsUnit, NamesUnit, is_held, is_false, StepFollows, IsNew, clauses_with, is_same-true, unit_from, differ, HeldWithin, Entry, Reason, literals, is_decision, IsOpen, IsLearned, IsSatisfied, slice_get_below, slice_get_last, slice_get_left, slice_get_push_cases, slice_get_take, take_in_take, take_left, take_whole, take_take_below, HeldWithin-take, held_last, literals-append, open_within, open_not_false, variable_within, code_within, LogFollows-push, LogIsNew-push, NoneEmpty-push, EachForced, Watches, Watched, Alone, Two, watched_literals, IsWatch, IsGuarded, IsWatching, IsWatchingUpTo, DecidedAt, IsAsserting, IsOther, IsPair}
 use Rattle.first_uip.proofs.Guards.{guard_satisfied}
 use Rattle.first_uip.proofs.Additions.{IsAdded, IsWatchingUpTo-add, IsWatchingUpTo-push, IsWatchingUpTo-cut}
 use Rattle.first_uip.proofs.StartLemmas.{All-two}
-use Rattle.first_uip.specs.Clauses.{IsPair}
 
 -- what a learned clause watches: the asserting literal and another one, or nothing where it has no other
 abbrev pub IsWatchFor : Lit → Option Lit → Watched → Type 0

@@ -1,21 +1,6 @@
 -- Lists of the clauses that watch a literal (watch lists), change by change.
-use Rattle.std.proofs.Common.{◌≡◌, ℕ, ◌+◌, ◌<◌, ◌≤◌, true, false, List, [], ◌∷◌, ◌++◌, Some, length, set, sym, ap, ◌∙◌, arith, inl, inr, subst, length-append, length-set}
-use Rattle.std.specs.Prelude.{slice_get, ◌⊎◌}
-use Rattle.std.specs.List.{swap_remove}
-use Rattle.std.proofs.lemmas.Bool.{cases_Bool, true≢false}
-use Rattle.clauses.specs.Literal.{Lit, is_same}
-use Rattle.clauses.specs.Propagation.{is_held}
-use Rattle.clauses.proofs.Held.{is_same-true}
-use Rattle.depth_first.specs.Propagated.{StandsFrom}
-use Rattle.depth_first.proofs.Lists.{some_same, slice_get_left, slice_get_last, slice_get_push_cases, slice_get_below}
-use Rattle.depth_first.proofs.HeldLists.{held_cases, held_one, held_one_same, not_held_nil, held_right, held_left}
-use Rattle.first_uip.specs.declared.watches.Watches.{Watches}
-use Rattle.first_uip.specs.declared.arena.Watched.{Watched}
-use Rattle.first_uip.specs.declared.arena.Watched.TheVariants.{Two}
-use Rattle.first_uip.specs.Watching.{watched_literals, numbers_of, AddsNumber, AddsNumbers, IsListed}
-use Rattle.first_uip.specs.Looks.{WatchesBoth}
+use Rattle.first_uip.proofs.Common.{◌≡◌, ℕ, ◌+◌, ◌<◌, ◌≤◌, true, false, List, [], ◌∷◌, ◌++◌, Some, length, set, sym, ap, ◌∙◌, arith, inl, inr, subst, length-append, length-set, slice_get, ◌⊎◌, swap_remove, cases_Bool, true≢false, Lit, is_same, is_held, is_same-true, StandsFrom, some_same, slice_get_left, slice_get_last, slice_get_push_cases, slice_get_below, held_cases, held_one, held_one_same, not_held_nil, held_right, held_left, Watches, Watched, Two, watched_literals, numbers_of, AddsNumber, AddsNumbers, IsListed, WatchesBoth, watched_in}
 use Rattle.first_uip.proofs.Sets.{slice_get-set_cases, kept_by_drop, only_by_drop}
-use Rattle.first_uip.specs.Clauses.{watched_in}
 
 -- the watch list of a literal to which a number was added
 grown : (old new : Watches) (l : Lit) (number : ℕ) → AddsNumber old new l number → (m : Lit) → is_same m l ≡ true → numbers_of new m ≡ numbers_of old m ++ number ∷ []

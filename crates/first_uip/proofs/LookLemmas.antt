@@ -1,20 +1,5 @@
 -- What looking at a clause rests on when a literal that it watches became false.
-use Rattle.std.proofs.Common.{◌≡◌, ℕ, zero, suc, ◌<◌, true, false, List, [], ◌∷◌, Some, length, sym, ap, ◌∙◌, arith, inl, inr, subst}
-use Rattle.std.specs.Prelude.{slice_get, All, Contains}
-use Rattle.std.proofs.lemmas.Option.{get_or_from_slice_get}
-use Rattle.clauses.specs.Literal.{Lit, IsVariable, IsWithin, VariablesWithin}
-use Rattle.clauses.specs.Propagation.{IsUnit, is_held, is_false}
-use Rattle.clauses.proofs.Units.{Contains-from_held, differ}
-use Rattle.depth_first.specs.declared.trail.Entry.{Entry}
-use Rattle.depth_first.specs.DepthFirst.{IsSatisfied}
-use Rattle.depth_first.proofs.Lists.{element_at, slice_get_below, some_same}
-use Rattle.depth_first.proofs.Open.{variable_within}
-use Rattle.first_uip.specs.declared.arena.Watched.{Watched}
-use Rattle.first_uip.specs.declared.watchers.Watcher.{Watcher}
-use Rattle.first_uip.specs.declared.watches.Watches.{Watches}
-use Rattle.first_uip.specs.Clauses.{watched_in, numbers_in}
-use Rattle.first_uip.specs.Watching.{IsWatch, EachIsWatch, IsWatching, EachBlocked, KeepsOnly, watchers_of, numbers_of}
-use Rattle.first_uip.specs.Looks.{WatchesBoth, NamesHeld}
+use Rattle.first_uip.proofs.Common.{◌≡◌, ℕ, zero, suc, ◌<◌, true, false, List, [], ◌∷◌, Some, length, sym, ap, ◌∙◌, arith, inl, inr, subst, slice_get, All, Contains, get_or_from_slice_get, Lit, IsVariable, IsWithin, VariablesWithin, IsUnit, is_held, is_false, Contains-from_held, differ, Entry, IsSatisfied, element_at, slice_get_below, some_same, variable_within, Watched, Watcher, Watches, watched_in, numbers_in, IsWatch, EachIsWatch, IsWatching, EachBlocked, KeepsOnly, watchers_of, numbers_of, WatchesBoth, NamesHeld}
 
 -- of two watched literals, the other one stands in the clause and differs from the first
 pub other_stands : (clause : List Lit) (w : Watched) (l other : Lit) → IsWatch clause w → WatchesBoth w l other → (is_held clause other ≡ true) × ((other ≡ l) → ⊥)

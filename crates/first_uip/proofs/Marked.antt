@@ -1,15 +1,5 @@
 -- The table of the entries' places, and the marks of blocks of the trail.
-use Rattle.std.proofs.Common.{◌≡◌, ℕ, ◌+◌, ◌*◌, ◌/◌, ◌<◌, ◌≤◌, Bool, true, false, List, ◌++◌, Option, Some, length, take, set, get_or, sym, ap, ◌∙◌, arith, inl, inr}
-use Rattle.std.specs.Prelude.{slice_get}
-use Rattle.std.proofs.lemmas.Bool.{cases_Bool, cases_eq, cases_order, true≢false}
-use Rattle.std.proofs.lemmas.List.{get_or-set_same, get_or-set_other}
-use Rattle.depth_first.specs.declared.trail.Entry.{Entry}
-use Rattle.depth_first.specs.TrailEntries.{EachFresh}
-use Rattle.depth_first.proofs.Lists.{some_same, slice_get_below, slice_get_cases, slice_get_take, slice_get_in_take}
-use Rattle.first_uip.specs.declared.roles.Role.{Role}
-use Rattle.first_uip.specs.declared.roles.Role.TheVariants.{Unseen}
-use Rattle.first_uip.specs.Conflict.{is_seen, part_of, NoneSeen}
-use Rattle.first_uip.specs.Marks.{IsPlaced, is_marked, EachMarked, IsMarked}
+use Rattle.first_uip.proofs.Common.{◌≡◌, ℕ, ◌+◌, ◌*◌, ◌/◌, ◌<◌, ◌≤◌, Bool, true, false, List, ◌++◌, Option, Some, length, take, set, get_or, sym, ap, ◌∙◌, arith, inl, inr, slice_get, cases_Bool, cases_eq, cases_order, true≢false, get_or-set_same, get_or-set_other, Entry, EachFresh, some_same, slice_get_below, slice_get_cases, slice_get_take, slice_get_in_take, Role, Unseen, is_seen, part_of, NoneSeen, IsPlaced, is_marked, EachMarked, IsMarked}
 use Rattle.first_uip.proofs.RoleLemmas.{other_entry}
 
 -- one more entry's place is noted

@@ -1,5 +1,5 @@
 -- A number that falls with each decision and each conflict, so that the search ends.
-use Rattle.std.proofs.Common.{◌≡◌, ℕ, zero, suc, ◌+◌, ◌-◌, ◌<◌, ◌≤◌, ap, arith}
+use Rattle.first_uip.proofs.Common.{◌≡◌, ℕ, zero, suc, ◌+◌, ◌-◌, ◌<◌, ◌≤◌, ap, arith}
 
 -- for each conflict up to the limit, as many steps as there are variables, and one
 abbrev pub rounds : ℕ → ℕ → ℕ

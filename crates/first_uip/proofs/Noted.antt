@@ -1,12 +1,5 @@
 -- The table of the entries' places, as it was noted last.
-use Rattle.std.proofs.Common.{◌≡◌, ℕ, zero, suc, ◌≤◌, List, [], ◌∷◌, ◌++◌, Some, length, take, sym, ap, ◌∙◌, subst, arith}
-use Rattle.std.specs.Prelude.{slice_get}
-use Rattle.std.proofs.lemmas.List.{length-take-le}
-use Rattle.clauses.specs.Literal.{Lit}
-use Rattle.depth_first.specs.declared.trail.Entry.{Entry}
-use Rattle.depth_first.specs.TrailEntries.{Grows}
-use Rattle.depth_first.proofs.Lists.{slice_get_below}
-use Rattle.first_uip.specs.Marks.{IsPlaced, IsNoted}
+use Rattle.first_uip.proofs.Common.{◌≡◌, ℕ, zero, suc, ◌≤◌, List, [], ◌∷◌, ◌++◌, Some, length, take, sym, ap, ◌∙◌, subst, arith, slice_get, length-take-le, Lit, Entry, Grows, slice_get_below, IsPlaced, IsNoted}
 use Rattle.first_uip.proofs.Marked.{IsPlaced-grown, IsPlaced-same}
 
 length_left : {X : Type 0} (xs ys : List X) → length xs ≤ length (xs ++ ys)

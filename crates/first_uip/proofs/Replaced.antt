@@ -1,9 +1,6 @@
 -- A list of which one element is replaced, or dropped by moving the last to its place (swap_remove), and the list of
 -- what each element is mapped to.
-use Rattle.std.proofs.Common.{◌≡◌, ℕ, ◌-◌, ◌<◌, List, [], ◌∷◌, length, map, take, set, get_or, All, refl, sym, ap, ◌∙◌, arith}
-use Rattle.std.specs.List.{swap_remove}
-use Rattle.std.proofs.lemmas.List.{get_or-map, map-set, set-get_or, take-map, length-map}
-use Rattle.std.proofs.lemmas.List.Elements.{All-head, All-tail}
+use Rattle.first_uip.proofs.Common.{◌≡◌, ℕ, ◌-◌, ◌<◌, List, [], ◌∷◌, length, map, take, set, get_or, All, refl, sym, ap, ◌∙◌, arith, swap_remove, get_or-map, map-set, set-get_or, take-map, length-map, All-head, All-tail}
 
 module _ {X Y : Type 0} where
   pub map_same_where : (P : X → Type 0) (f g : X → Y) → ((x : X) → P x → f x ≡ g x) → (xs : List X) → All P xs → map f xs ≡ map g xs

@@ -1,27 +1,5 @@
 -- The kept literals derive the conflict by the reasons of the resolved entries, in the order of the trail.
-use Rattle.std.proofs.Common.{◌≡◌, ℕ, zero, suc, ◌<◌, ◌≤◌, Bool, true, false, cond, List, [], ◌∷◌, ◌++◌, Some, length, take, refl, sym, ap, ◌∙◌, arith, inl, inr, subst}
-use Rattle.std.specs.Prelude.{slice_get, ◌⊎◌}
-use Rattle.std.specs.List.{filter_map}
-use Rattle.std.proofs.lemmas.Bool.{or_cases, or_left, or_right, cases_Bool, cases_order, true≢false}
-use Rattle.std.proofs.lemmas.List.Elements.{filter-append}
-use Rattle.std.proofs.lemmas.List.{append-nil, take_all}
-use Rattle.clauses.specs.Literal.{Lit, negation_of, is_same}
-use Rattle.clauses.specs.Propagation.{Derives, HintsRefute, NamesFalse, IsUnit, is_held, is_false}
-use Rattle.clauses.proofs.Held.{is_same-self, is_same-true}
-use Rattle.clauses.proofs.Units.{falsified_each, unit_only, IsFalsified-agree, IsUnit-agree}
-use Rattle.clauses.proofs.Closed.{HeldWithin, HeldWithin-cons, not_held}
-use Rattle.clauses.proofs.Derivations.{Derives-push}
-use Rattle.depth_first.specs.declared.trail.Entry.{Entry}
-use Rattle.depth_first.specs.declared.trail.Cause.{Cause}
-use Rattle.depth_first.specs.declared.trail.Cause.TheVariants.{Reason}
-use Rattle.depth_first.specs.TrailEntries.{literals, reasons, reason_of}
-use Rattle.depth_first.proofs.Lists.{take_next, element_at, slice_get_take, some_same}
-use Rattle.depth_first.proofs.HeldLists.{Consistent, not_held_nil, literal_at}
-use Rattle.depth_first.proofs.Decisions.{reasons-append}
-use Rattle.depth_first.specs.TrailEntries.{EachForced}
-use Rattle.first_uip.specs.declared.roles.Role.{Role}
-use Rattle.first_uip.specs.declared.roles.Role.TheVariants.{Unseen, Resolved, Kept}
-use Rattle.first_uip.specs.Conflict.{part_of, role_of, is_seen, is_kept, is_resolved, resolved_entries, IsResolution, NamesSeen}
+use Rattle.first_uip.proofs.Common.{◌≡◌, ℕ, zero, suc, ◌<◌, ◌≤◌, Bool, true, false, cond, List, [], ◌∷◌, ◌++◌, Some, length, take, refl, sym, ap, ◌∙◌, arith, inl, inr, subst, slice_get, ◌⊎◌, filter_map, or_cases, or_left, or_right, cases_Bool, cases_order, true≢false, filter-append, append-nil, take_all, Lit, negation_of, is_same, Derives, HintsRefute, NamesFalse, IsUnit, is_held, is_false, is_same-self, is_same-true, falsified_each, unit_only, IsFalsified-agree, IsUnit-agree, HeldWithin, HeldWithin-cons, not_held, Derives-push, Entry, Cause, Reason, literals, reasons, reason_of, take_next, element_at, slice_get_take, some_same, Consistent, not_held_nil, literal_at, reasons-append, EachForced, Role, Unseen, Resolved, Kept, part_of, role_of, is_seen, is_kept, is_resolved, resolved_entries, IsResolution, NamesSeen}
 
 -- each literal that is held stands at some place of the trail
 pub held_place : (entries : List Entry) (l : Lit) → is_held (literals entries) l ≡ true → (place : ℕ) × (e : Entry) × (slice_get entries place ≡ Some e) × (e.literal ≡ l)

@@ -1,27 +1,6 @@
 -- The roles of variables in a conflict, step by step. A variable is seen where the conflict rests on it: it is resolved
 -- or kept.
-use Rattle.std.proofs.Common.{◌≡◌, ℕ, zero, suc, ◌+◌, ◌<◌, ◌≤◌, Bool, true, false, not, cond, List, [], ◌∷◌, ◌++◌, Option, Some, None, length, take, set, refl, sym, ap, ◌∙◌, arith, inl, inr, subst}
-use Rattle.std.specs.Prelude.{slice_get, replicate, ◌⊎◌}
-use Rattle.std.proofs.lemmas.Bool.{cases_Bool, cases_eq, cases_order, true≢false}
-use Rattle.std.proofs.lemmas.List.{get_or-set_same, get_or-set_other, map-append}
-use Rattle.clauses.specs.Literal.{Lit, negation_of}
-use Rattle.clauses.specs.Propagation.{is_held, is_false, negations_of}
-use Rattle.clauses.proofs.Units.{unit_only}
-use Rattle.depth_first.specs.declared.trail.Entry.{Entry}
-use Rattle.depth_first.specs.declared.trail.Cause.TheVariants.{InputDecision, NonInputDecision, Reason}
-use Rattle.depth_first.specs.TrailEntries.{literals, EachFresh, IsOpen, is_decision, reason_of, reasons}
-use Rattle.depth_first.specs.declared.trail.Cause.{Cause}
-use Rattle.depth_first.proofs.Lists.{some_same, take_next, slice_get_in_take, take_take_below}
-use Rattle.depth_first.proofs.HeldLists.{held_left, held_cases, held_one_same, held_last, both_held, open_not_held, open_not_false, literal_at, literals-append, HeldWithin-take}
-use Rattle.depth_first.specs.TrailEntries.{EachForced}
-use Rattle.depth_first.proofs.Decisions.{reasons-append}
-use Rattle.std.specs.Option.{option_to_list}
-use Rattle.std.proofs.lemmas.List.Elements.{filter-append}
-use denote.Enum.Bare.{sameb}
-use Rattle.first_uip.specs.contracts.roles.Role.{the_type}
-use Rattle.first_uip.specs.declared.roles.Role.{Role}
-use Rattle.first_uip.specs.declared.roles.Role.TheVariants.{Unseen, Resolved, Kept}
-use Rattle.first_uip.specs.Conflict.{role_of, is_seen, is_kept, is_resolved, part_of, AllSeen, Sees, NamesSeen, IsResolution, NoneSeen, NoneKept, NoneDecided, kept_entries, resolved_entries}
+use Rattle.first_uip.proofs.Common.{◌≡◌, ℕ, zero, suc, ◌+◌, ◌<◌, ◌≤◌, Bool, true, false, not, cond, List, [], ◌∷◌, ◌++◌, Option, Some, None, length, take, set, refl, sym, ap, ◌∙◌, arith, inl, inr, subst, slice_get, replicate, ◌⊎◌, cases_Bool, cases_eq, cases_order, true≢false, get_or-set_same, get_or-set_other, map-append, Lit, negation_of, is_held, is_false, negations_of, unit_only, Entry, InputDecision, NonInputDecision, Reason, literals, EachFresh, IsOpen, is_decision, reason_of, reasons, Cause, some_same, take_next, slice_get_in_take, take_take_below, held_left, held_cases, held_one_same, held_last, both_held, open_not_held, open_not_false, literal_at, literals-append, HeldWithin-take, EachForced, reasons-append, option_to_list, filter-append, sameb, the_type, Role, Unseen, Resolved, Kept, role_of, is_seen, is_kept, is_resolved, part_of, AllSeen, Sees, NamesSeen, IsResolution, NoneSeen, NoneKept, NoneDecided, kept_entries, resolved_entries}
 
 next_clause : (clause : List Lit) (k : ℕ) (l : Lit) → slice_get clause k ≡ Some l → take (k + 1) clause ≡ take k clause ++ l ∷ []
 next_clause clause k l at = let e : k + 1 ≡ suc k = omega arith in ap (λ n. take n clause) e ∙ take_next clause k l at

@@ -1,37 +1,7 @@
 -- The steps of a search, and why its answers are right.
-use Rattle.std.proofs.Common.{◌≡◌, ℕ, ◌+◌, ◌-◌, ◌<◌, Bool, get_or, Option, false, List, [], ◌∷◌, ◌++◌, Some, length, take, drop, map, refl, sym, ap, ◌∙◌, arith, inl, inr, subst}
-use Rattle.std.specs.Prelude.{slice_get}
-use Rattle.std.proofs.lemmas.Bool.{true≢false}
-use Rattle.std.proofs.lemmas.List.{take_all, append-nil}
-use Rattle.std.proofs.lemmas.Option.{slice_get-get_or}
-use Rattle.clauses.specs.declared.cnf.Cnf.{Cnf}
-use Rattle.clauses.specs.declared.step.Step.{Step}
-use Rattle.clauses.specs.Literal.{Lit, IsVariable, VariablesWithin}
-use Rattle.clauses.specs.Propagation.{NamesUnit}
-use Rattle.clauses.specs.ClauseSet.{all_clauses, clauses_of_steps, clauses_with}
-use Rattle.clauses.proofs.Closed.{IsClosed, not_UnitsRefute}
-use Rattle.depth_first.specs.declared.trail.Entry.{Entry}
-use Rattle.depth_first.specs.declared.trail.Cause.{Cause}
-use Rattle.depth_first.specs.declared.trail.Cause.TheVariants.{InputDecision, NonInputDecision, Reason}
-use Rattle.depth_first.specs.Found.{IsModel, IsHonestLimit, distinct_count}
-use Rattle.depth_first.specs.TrailEntries.{literals, decisions, is_decision, Grows, IsSet, IsTableOf, value_or_false}
-use Rattle.depth_first.specs.Propagated.{AllPropagated}
-use Rattle.depth_first.specs.DepthFirst.{IsCaused, EachCaused, IsLearned}
-use Rattle.depth_first.proofs.Involved.{with_within}
-use Rattle.depth_first.proofs.Lists.{slice_get_below, slice_get_cases, slice_get_push_cases, take_left, take_right}
-use Rattle.depth_first.proofs.HeldLists.{Consistent, Consistent-within, HeldWithin-take}
-use Rattle.depth_first.proofs.TrailTable.{Consistent-from_table}
-use Rattle.depth_first.proofs.States.{AllPropagated-left, closed_from_propagated}
-use Rattle.depth_first.proofs.FoundLemmas.{IsModel-from_propagated}
-use Rattle.depth_first.proofs.SearchSteps.{none_decided, IsLearned-start}
-use Rattle.depth_first.specs.TrailEntries.{EachForced}
-use Rattle.first_uip.specs.declared.watches.Watches.{Watches}
-use Rattle.first_uip.specs.Watching.{EachGuarded, IsWatching, IsWatchingUpTo}
-use Rattle.first_uip.specs.Conflict.{DecidedAt, NoneDecided}
-use Rattle.first_uip.specs.Searching.{IsSearching}
+use Rattle.first_uip.proofs.Common.{◌≡◌, ℕ, ◌+◌, ◌-◌, ◌<◌, Bool, get_or, Option, false, List, [], ◌∷◌, ◌++◌, Some, length, take, drop, map, refl, sym, ap, ◌∙◌, arith, inl, inr, subst, slice_get, true≢false, take_all, append-nil, slice_get-get_or, Cnf, Step, Lit, IsVariable, VariablesWithin, NamesUnit, all_clauses, clauses_of_steps, clauses_with, IsClosed, not_UnitsRefute, Entry, Cause, InputDecision, NonInputDecision, Reason, IsModel, IsHonestLimit, distinct_count, literals, decisions, is_decision, Grows, IsSet, IsTableOf, value_or_false, AllPropagated, IsCaused, EachCaused, IsLearned, with_within, slice_get_below, slice_get_cases, slice_get_push_cases, take_left, take_right, Consistent, Consistent-within, HeldWithin-take, Consistent-from_table, AllPropagated-left, closed_from_propagated, IsModel-from_propagated, none_decided, IsLearned-start, EachForced, Watches, EachGuarded, IsWatching, IsWatchingUpTo, DecidedAt, NoneDecided, IsSearching, clauses_in, watched_in}
 use Rattle.first_uip.proofs.Guards.{AllPropagated-from_guarded}
 use Rattle.first_uip.proofs.Additions.{IsWatchingUpTo-decide}
-use Rattle.first_uip.specs.Clauses.{clauses_in, watched_in}
 
 -- a trail without decisions
 pub no_decisions : (entries : List Entry) → NoneDecided entries 0 (length entries) → decisions entries ≡ []

@@ -1,11 +1,5 @@
 -- Elements of a list of which one is replaced, or dropped by moving the last to its place (swap_remove).
-use Rattle.std.proofs.Common.{◌≡◌, ℕ, ◌+◌, ◌-◌, ◌<◌, ◌≤◌, List, Some, length, set, get_or, sym, ap, ◌∙◌, arith, inl, inr, length-set}
-use Rattle.std.specs.Prelude.{slice_get, ◌⊎◌}
-use Rattle.std.specs.List.{swap_remove}
-use Rattle.std.proofs.lemmas.Bool.{cases_order}
-use Rattle.std.proofs.lemmas.List.{get_or-set_same, get_or-set_other, length-take-le}
-use Rattle.std.proofs.lemmas.Option.{slice_get-get_or, slice_get_past, get_or_from_slice_get}
-use Rattle.depth_first.proofs.Lists.{slice_get_below, slice_get_take, slice_get_in_take, some_same}
+use Rattle.first_uip.proofs.Common.{◌≡◌, ℕ, ◌+◌, ◌-◌, ◌<◌, ◌≤◌, List, Some, length, set, get_or, sym, ap, ◌∙◌, arith, inl, inr, length-set, slice_get, ◌⊎◌, swap_remove, cases_order, get_or-set_same, get_or-set_other, length-take-le, slice_get-get_or, slice_get_past, get_or_from_slice_get, slice_get_below, slice_get_take, slice_get_in_take, some_same}
 
 pub slice_get-set_same : {X : Type 0} (xs : List X) (i : ℕ) (a : X) → i < length xs → slice_get (set xs i a) i ≡ Some a
 slice_get-set_same xs i a within =

@@ -1,19 +1,5 @@
 -- The clause and the hints may be taken from the seen entries alone.
-use Rattle.std.proofs.Common.{◌≡◌, ℕ, zero, suc, ◌+◌, ◌-◌, ◌<◌, ◌≤◌, Bool, true, false, cond, List, [], ◌∷◌, ◌++◌, Option, Some, length, take, filter, get_or, refl, sym, ap, ◌∙◌, subst, arith, inl, inr}
-use Rattle.std.specs.Prelude.{slice_get}
-use Rattle.std.proofs.lemmas.Bool.{cases_Bool, true≢false}
-use Rattle.std.proofs.lemmas.List.{append-nil, take_all}
-use Rattle.std.proofs.lemmas.List.Elements.{All-filter, filter-append}
-use Rattle.std.proofs.lemmas.Option.{slice_get-get_or}
-use Rattle.clauses.specs.Literal.{Lit, negation_of}
-use Rattle.clauses.specs.Propagation.{negations_of}
-use Rattle.depth_first.specs.declared.trail.Entry.{Entry}
-use Rattle.depth_first.specs.TrailEntries.{literals, EachFresh}
-use Rattle.depth_first.proofs.Lists.{element_at, slice_get_below, take_next}
-use Rattle.first_uip.specs.declared.roles.Role.{Role}
-use Rattle.first_uip.specs.declared.roles.Role.TheVariants.{Unseen, Resolved, Kept}
-use Rattle.first_uip.specs.Conflict.{is_kept, is_resolved, is_seen, part_of, kept_entries, resolved_entries, IsAnalysis, NoneSeen}
-use Rattle.first_uip.specs.Shown.{shown_entries, VariablesBelow}
+use Rattle.first_uip.proofs.Common.{◌≡◌, ℕ, zero, suc, ◌+◌, ◌-◌, ◌<◌, ◌≤◌, Bool, true, false, cond, List, [], ◌∷◌, ◌++◌, Option, Some, length, take, filter, get_or, refl, sym, ap, ◌∙◌, subst, arith, inl, inr, slice_get, cases_Bool, true≢false, append-nil, take_all, All-filter, filter-append, slice_get-get_or, Lit, negation_of, negations_of, Entry, literals, EachFresh, element_at, slice_get_below, take_next, Role, Unseen, Resolved, Kept, is_kept, is_resolved, is_seen, part_of, kept_entries, resolved_entries, IsAnalysis, NoneSeen, shown_entries, VariablesBelow}
 use Rattle.first_uip.proofs.Analysed.{learned_clause}
 
 -- one more element for a filter of what a weaker filter keeps

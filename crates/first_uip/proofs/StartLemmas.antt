@@ -1,21 +1,6 @@
 -- Clauses with one literal, and literals that differ.
-use Rattle.std.proofs.Common.{◌≡◌, ℕ, suc, ◌+◌, ◌<◌, true, false, Bool, not, eqb, List, [], ◌∷◌, ◌++◌, Some, length, take, get_or, refl, sym, ap, ◌∙◌, arith, subst}
-use Rattle.std.specs.Prelude.{slice_get, All, IfSome, MatchOption, Option, None}
-use Rattle.std.proofs.lemmas.Bool.{true≢false, eq-eqb}
-use Rattle.std.proofs.lemmas.List.{take_more}
-use Rattle.std.proofs.lemmas.List.Elements.{All-nil, All-cons, All-more, Contains-push}
-use Rattle.clauses.specs.declared.cnf.Cnf.{Cnf}
-use Rattle.clauses.specs.Literal.{Lit, code_of, IsVariable}
-use Rattle.clauses.specs.Propagation.{IsUnit, IsFalsified, is_held, is_false}
-use Rattle.clauses.specs.ClauseSet.{all_clauses}
-use Rattle.depth_first.specs.declared.trail.Entry.{Entry}
-use Rattle.depth_first.specs.TrailEntries.{is_decision, Grows}
-use Rattle.clauses.proofs.Units.{Contains-from_held, held-from_Contains}
-use Rattle.depth_first.proofs.Lists.{element_at, take_next}
-use Rattle.depth_first.proofs.Open.{variable_within}
+use Rattle.first_uip.proofs.Common.{◌≡◌, ℕ, suc, ◌+◌, ◌<◌, true, false, Bool, not, eqb, List, [], ◌∷◌, ◌++◌, Some, length, take, get_or, refl, sym, ap, ◌∙◌, arith, subst, slice_get, All, IfSome, MatchOption, Option, None, true≢false, eq-eqb, take_more, All-nil, All-cons, All-more, Contains-push, Cnf, Lit, code_of, IsVariable, IsUnit, IsFalsified, is_held, is_false, all_clauses, Entry, is_decision, Grows, Contains-from_held, held-from_Contains, element_at, take_next, variable_within, One, IsShape}
 use Rattle.depth_first.proofs.Sets.{clause_within}
-use Rattle.first_uip.specs.declared.start.Shape.TheVariants.{One}
-use Rattle.first_uip.specs.Shapes.{IsShape}
 
 -- literals of which `!=` is true are different
 pub differ_by_ne : (l m : Lit) (differs : Bool) → differs ≡ not (eqb (code_of l) (code_of m)) → differs ≡ true → (l ≡ m) → ⊥

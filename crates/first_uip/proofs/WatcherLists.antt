@@ -1,12 +1,5 @@
 -- The watch lists after one of them changed.
-use Rattle.std.proofs.Common.{◌≡◌, ℕ, ◌<◌, ◌⊎◌, false, List, [], length, length-set, set, get_or, Contains, sym, ap, ◌∙◌, arith, inl, inr, subst}
-use Rattle.std.proofs.lemmas.Bool.{cases_Bool, cases_eq, true≢false}
-use Rattle.std.proofs.lemmas.List.{get_or-set_same, get_or-set_other}
-use Rattle.clauses.specs.Literal.{Lit, code_of, is_same}
-use Rattle.clauses.proofs.Held.{is_same-self, is_same-true, same_code}
-use Rattle.first_uip.specs.declared.watchers.Watcher.{Watcher}
-use Rattle.first_uip.specs.declared.watches.Watches.{Watches}
-use Rattle.first_uip.specs.Watching.{KeepsOnly}
+use Rattle.first_uip.proofs.Common.{◌≡◌, ℕ, ◌<◌, ◌⊎◌, false, List, [], length, length-set, set, get_or, Contains, sym, ap, ◌∙◌, arith, inl, inr, subst, cases_Bool, cases_eq, true≢false, get_or-set_same, get_or-set_other, Lit, code_of, is_same, is_same-self, is_same-true, same_code, Watcher, Watches, KeepsOnly}
 
 -- the watch lists by the codes of the literals, of which that of one literal changed
 module _ (old new : List (List Watcher)) (l : Lit) (changed : List Watcher) (within : code_of l < length old) (is : new ≡ set old (code_of l) changed) where

@@ -1,43 +1,12 @@
 -- Soundness of the parser for calls: what it gives is spelled so.
-use Rattle.std.proofs.Common.{◌≡◌, ℕ, suc, Bool, true, false, cond, eqb, ◌&&◌, List, [], ◌∷◌, ◌++◌, length, Option, Some, None, Ok, refl, ap, sym, subst, ◌∙◌, append_assoc}
-use Rattle.std.specs.Prelude.{codes}
-use Rattle.std.specs.List.{AllByRecursion}
-use Rattle.std.specs.Str.{bytes_eq}
-use Rattle.std.proofs.lemmas.Bool.{eqb-true}
-use Rattle.ops.specs.declared.opcode.Opcode.{Opcode}
-use Rattle.ops.specs.declared.opcode.Unary.{Unary}
-use Rattle.ops.specs.Truths.{has_truth}
+use Rattle.ir_instructions.proofs.Common.{◌≡◌, ℕ, suc, Bool, true, false, cond, eqb, ◌&&◌, List, [], ◌∷◌, ◌++◌, length, Option, Some, None, Ok, refl, ap, sym, subst, ◌∙◌, append_assoc, codes, AllByRecursion, bytes_eq, eqb-true, Opcode, Unary, has_truth, Placed, KeptGroup, Word, Number, Function, Group, Quoted, Mark, identifier_of, Identifier, Named, Numbered, RawOp, constant_of, RawArguments, RawOperand, RawValue, TypedOperand, Intrinsic, Items, ItemsOn, StopsOn, SpellsCallee, SpellsMarker, SpellsArgument, SpellsTruth, SpellsTruthOf, SpellsArguments, intrinsic_of, is_on_line, begins_late_item, late_value_at, late_quoted_at, late_group_at, late_item_at, each_late_item_at, some_token_at, late_items_at, close_at, callee_named, or_no_callee, callee_at, call_at, call_word_at, marked_call_at, begins_inner_item, inner_items_at, argument_at, truth_of_word, truth_value_at, truth_argument_at, further_truth_at, truth_at, two_arguments_at, one_argument_at, arguments_at, SpellsItem, of_word, of_word_and_group, of_number, of_group, of_quoted, of_key_and_value, item_at, items_at, intrinsic_in, is_item_word, truth_in, SpellsCaseValue, IsOn, fault, ◌>>=◌, Syntax, LeftOut, SpellsOp, same_word}
 use Rattle.ops.proofs.FlagSets.{both}
-use Rattle.ir_tokens.specs.Tokens.{Placed, KeptGroup, Word, Number, Function, Group, Quoted, Mark}
-use Rattle.ir_tokens.specs.Identifiers.{identifier_of}
-use Rattle.ir_tokens.specs.declared.called.Identifier.{Identifier}
-use Rattle.ir_tokens.specs.declared.called.Identifier.TheVariants.{Named, Numbered}
-use Rattle.ir_tokens.specs.declared.raw.RawOp.{RawOp}
 use Rattle.ir_tokens.specs.declared.raw.RawOp.TheVariants.{Call}
-use Rattle.ir_tokens.specs.Numbers.{constant_of}
-use Rattle.ir_tokens.specs.declared.raw.RawArguments.{RawArguments}
 use Rattle.ir_tokens.specs.declared.raw.RawArguments.TheVariants as arguments
-use Rattle.ir_tokens.specs.declared.raw.RawOperand.{RawOperand}
-use Rattle.ir_tokens.specs.declared.raw.RawValue.{RawValue}
-use Rattle.ir_tokens.specs.declared.raw.TypedOperand.{TypedOperand}
-use Rattle.ir_instructions.specs.declared.intrinsic.Intrinsic.{Intrinsic}
 use Rattle.ir_instructions.specs.declared.intrinsic.Intrinsic.TheVariants as intrinsics
-use Rattle.ir_instructions.specs.CallGrammar.{Items, ItemsOn, StopsOn, SpellsCallee, SpellsMarker, SpellsArgument, SpellsTruth, SpellsTruthOf, SpellsArguments, intrinsic_of}
-use Rattle.ir_instructions.specs.CallReaders.{is_on_line, begins_late_item, late_value_at, late_quoted_at, late_group_at, late_item_at, each_late_item_at, some_token_at, late_items_at, close_at, callee_named, or_no_callee, callee_at, call_at, call_word_at, marked_call_at, begins_inner_item, inner_items_at, argument_at, truth_of_word, truth_value_at, truth_argument_at, further_truth_at, truth_at, two_arguments_at, one_argument_at, arguments_at}
-use Rattle.ir_instructions.specs.ItemGrammar.{SpellsItem, of_word, of_word_and_group, of_number, of_group, of_quoted, of_key_and_value}
-use Rattle.ir_instructions.specs.ItemReaders.{item_at, items_at}
-use Rattle.ir_instructions.specs.Intrinsics.{intrinsic_in}
-use Rattle.ir_instructions.specs.Items.{is_item_word}
-use Rattle.ir_instructions.specs.Keywords.{truth_in}
-use Rattle.ir_instructions.specs.Laws.{SpellsCaseValue}
-use Rattle.ir_instructions.specs.Parts.{IsOn}
-use Rattle.ir_instructions.specs.Readers.{fault, ◌>>=◌}
 use Rattle.ir_instructions.specs.TokenReaders.{is_mark, mark_at, operand_at, type_at}
-use Rattle.ir_tokens.specs.declared.fault.IrFaultKind.TheVariants.{Syntax, LeftOut}
 use Rattle.ir_instructions.specs.Punctuation as marks
-use Rattle.ir_instructions.specs.Grammar.{SpellsOp}
 use Rattle.ir_instructions.proofs.NameReadings.{intrinsic_in-is}
-use Rattle.ops.proofs.KeywordLemmas.{same_word}
 use Rattle.ir_instructions.proofs.ItemReadings.{item_at-is, items_at-is}
 use Rattle.ir_instructions.proofs.Loops.{each-is, all_read, repeat-is}
 use Rattle.ir_instructions.proofs.Readings.{mark_at-is, type_at-is, operand_at-is, number_value-is, number_case-is, truth_in-is}

@@ -1,25 +1,8 @@
 -- Completeness of the parser for calls: it gives what is spelled, if what follows may follow.
-use Rattle.std.proofs.Common.{◌≡◌, ℕ, Bool, true, false, ◌&&◌, not, List, [], ◌∷◌, ◌++◌, Option, Some, None, Ok, refl, ap, ◌∙◌, append_assoc}
-use Rattle.std.proofs.lemmas.List.{append-nil}
-use Rattle.ops.specs.declared.opcode.Unary.{Unary}
-use Rattle.ir_tokens.specs.Tokens.{Token, Placed, Number, Register, Mark}
-use Rattle.ir_tokens.specs.declared.raw.RawArguments.{RawArguments}
+use Rattle.ir_instructions.proofs.Common.{◌≡◌, ℕ, Bool, true, false, ◌&&◌, not, List, [], ◌∷◌, ◌++◌, Option, Some, None, Ok, refl, ap, ◌∙◌, append_assoc, append-nil, Unary, Token, Placed, Number, Register, Mark, RawArguments, RawCall, RawOperand, RawValue, TypedOperand, Intrinsic, Items, SpellsArgument, SpellsTruth, SpellsTruthOf, SpellsArguments, SpellsCallee, SpellsClose, intrinsic_of, ends_argument, begins_inner_item, inner_items_at, argument_at, truth_value_at, truth_argument_at, further_truth_at, truth_at, two_arguments_at, one_argument_at, arguments_at, callee_at, close_at, call_at, SpellsType, SpellsOperand, IsValueToken, IsCaseValue, SpellsItem, MayFollowItem, of_word, of_word_and_group, of_number, of_group, of_quoted, of_key_and_value, item_at, truth_in, Part, IsOn, Is, ◌⨾◌, Each, each_at}
 use Rattle.ir_tokens.specs.declared.raw.RawArguments.TheVariants as arguments
-use Rattle.ir_tokens.specs.declared.raw.RawCall.{RawCall}
 use Rattle.ir_tokens.specs.declared.raw.RawOp.TheVariants.{Call}
-use Rattle.ir_tokens.specs.declared.raw.RawOperand.{RawOperand}
-use Rattle.ir_tokens.specs.declared.raw.RawValue.{RawValue}
 use Rattle.ir_tokens.specs.declared.raw.RawValue.TheVariants as values
-use Rattle.ir_tokens.specs.declared.raw.TypedOperand.{TypedOperand}
-use Rattle.ir_instructions.specs.declared.intrinsic.Intrinsic.{Intrinsic}
-use Rattle.ir_instructions.specs.CallGrammar.{Items, SpellsArgument, SpellsTruth, SpellsTruthOf, SpellsArguments, SpellsCallee, SpellsClose, intrinsic_of}
-use Rattle.ir_instructions.specs.CallReaders.{ends_argument, begins_inner_item, inner_items_at, argument_at, truth_value_at, truth_argument_at, further_truth_at, truth_at, two_arguments_at, one_argument_at, arguments_at, callee_at, close_at, call_at}
-use Rattle.ir_instructions.specs.Grammar.{SpellsType, SpellsOperand, IsValueToken, IsCaseValue}
-use Rattle.ir_instructions.specs.ItemGrammar.{SpellsItem, MayFollowItem, of_word, of_word_and_group, of_number, of_group, of_quoted, of_key_and_value}
-use Rattle.ir_instructions.specs.ItemReaders.{item_at}
-use Rattle.ir_instructions.specs.Keywords.{truth_in}
-use Rattle.ir_instructions.specs.Parts.{Part, IsOn, Is, ◌⨾◌, Each}
-use Rattle.ir_instructions.specs.Readers.{each_at}
 use Rattle.ir_instructions.specs.TokenReaders.{mark_at}
 use Rattle.ir_instructions.specs.Punctuation as marks
 use Rattle.ir_instructions.proofs.ItemSpellings.{item_at-of, items_at-of, item_may_follow, type_begins_no_item}

@@ -1,11 +1,5 @@
 -- The first `.` of a text, and how names behind `llvm.` are split there.
-use Rattle.std.proofs.Common.{◌≡◌, ℕ, ◌+◌, ◌-◌, ◌≤◌, ltb, ltb-false, Bool, true, false, cond, eqb, List, [], length, take, drop, Option, Some, None, refl, ap, sym, ◌∙◌, arith}
-use Rattle.std.specs.Prelude.{option_and_then, option_map}
-use Rattle.std.specs.List.{before_first, after_first, position_or_len}
-use Rattle.std.proofs.lemmas.List.{drop_all, take_all, length-drop}
-use Rattle.ir_instructions.specs.declared.intrinsic.Intrinsic.{Intrinsic}
-use Rattle.ir_instructions.specs.Intrinsics.{keyword_in, plain_width_in, named_in}
-use Rattle.ir_instructions.specs.Keywords.{type_in}
+use Rattle.ir_instructions.proofs.Common.{◌≡◌, ℕ, ◌+◌, ◌-◌, ◌≤◌, ltb, ltb-false, Bool, true, false, cond, eqb, List, [], length, take, drop, Option, Some, None, refl, ap, sym, ◌∙◌, arith, option_and_then, option_map, before_first, after_first, position_or_len, drop_all, take_all, length-drop, Intrinsic, keyword_in, plain_width_in, named_in, type_in}
 
 -- the index of the first `.`, if there is one
 abbrev pub IsDot : List ℕ → Option ℕ → Type 0

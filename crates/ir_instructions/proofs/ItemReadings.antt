@@ -1,13 +1,7 @@
 -- Soundness of the parser for items: what it gives is spelled so.
-use Rattle.std.proofs.Common.{◌≡◌, ℕ, Bool, true, false, cond, List, [], ◌∷◌, ◌++◌, Ok, refl, subst}
-use Rattle.ir_tokens.specs.Tokens.{Placed, KeptGroup, Word, Number, Group, Quoted}
+use Rattle.ir_instructions.proofs.Common.{◌≡◌, ℕ, Bool, true, false, cond, List, [], ◌∷◌, ◌++◌, Ok, refl, subst, Placed, KeptGroup, Word, Number, Group, Quoted, Is, Each, ◌>>=◌, SpellsItem, of_word, of_word_and_group, of_number, of_group, of_quoted, of_key_and_value, is_item_word, begins_item, quoted_value_at, quoted_item_at, word_item_at, item_at, items_at, no_word_at, last_items_at}
 use Rattle.ir_instructions.specs.InstructionReaders.{is_mark, mark_at}
-use Rattle.ir_instructions.specs.Parts.{Is, Each}
-use Rattle.ir_instructions.specs.Readers.{◌>>=◌}
 use Rattle.ir_instructions.specs.Punctuation as marks
-use Rattle.ir_instructions.specs.ItemGrammar.{SpellsItem, of_word, of_word_and_group, of_number, of_group, of_quoted, of_key_and_value}
-use Rattle.ir_instructions.specs.Items.{is_item_word}
-use Rattle.ir_instructions.specs.ItemReaders.{begins_item, quoted_value_at, quoted_item_at, word_item_at, item_at, items_at, no_word_at, last_items_at}
 use Rattle.ir_instructions.proofs.Loops.{each-is, all_read}
 use Rattle.ir_instructions.proofs.Steps.{Reads, bind_ok, read_as}
 use Rattle.ir_instructions.proofs.Readings.{mark_at-is}

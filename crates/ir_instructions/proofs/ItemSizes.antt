@@ -1,8 +1,5 @@
 -- An item takes at least one token.
-use Rattle.std.proofs.Common.{ℕ, List}
-use Rattle.ir_instructions.specs.ItemGrammar.{SpellsItem, of_word, of_word_and_group, of_number, of_group, of_quoted, of_key_and_value}
-use Rattle.ir_instructions.specs.ItemReaders.{begins_item, item_at}
-use Rattle.ir_instructions.specs.Readers.{TakesSome}
+use Rattle.ir_instructions.proofs.Common.{ℕ, List, SpellsItem, of_word, of_word_and_group, of_number, of_group, of_quoted, of_key_and_value, begins_item, item_at, TakesSome}
 use Rattle.ir_instructions.proofs.ItemReadings.{item_at-is}
 use Rattle.ir_instructions.proofs.Shorter.{Shorter, begins, both, token, a_token}
 

@@ -1,15 +1,9 @@
 -- Completeness of the parser for items: it gives what is spelled, if what follows may follow.
-use Rattle.std.proofs.Common.{◌≡◌, ℕ, true, false, eqb, List, [], ◌∷◌, Ok, refl}
-use Rattle.ir_tokens.specs.Tokens.{Placed, KeptGroup, Register, Metadata, Mark}
+use Rattle.ir_instructions.proofs.Common.{◌≡◌, ℕ, true, false, eqb, List, [], ◌∷◌, Ok, refl, Placed, KeptGroup, Register, Metadata, Mark, Each, SpellsItem, MayFollowItem, of_word, of_word_and_group, of_number, of_group, of_quoted, of_key_and_value, begins_item, quoted_value_at, quoted_item_at, word_item_at, item_at, items_at, no_word_at, last_items_at, SpellsType, is_item_word}
 use Rattle.ir_instructions.specs.InstructionReaders.{is_mark}
-use Rattle.ir_instructions.specs.Parts.{Each}
-use Rattle.ir_instructions.specs.ItemGrammar.{SpellsItem, MayFollowItem, of_word, of_word_and_group, of_number, of_group, of_quoted, of_key_and_value}
-use Rattle.ir_instructions.specs.ItemReaders.{begins_item, quoted_value_at, quoted_item_at, word_item_at, item_at, items_at, no_word_at, last_items_at}
 use Rattle.ir_instructions.proofs.Loops.{each-of}
 use Rattle.ir_instructions.proofs.ItemSizes.{item-takes}
-use Rattle.ir_instructions.specs.Grammar.{SpellsType}
 use Rattle.ir_instructions.specs.Punctuation as marks
-use Rattle.ir_instructions.specs.Items.{is_item_word}
 use Rattle.ir_instructions.proofs.Spellings.{mark_at-of}
 use Rattle.ir_instructions.proofs.WordLemmas.{type_in-of}
 

@@ -1,11 +1,5 @@
 -- Completeness of the parser for the items behind a call: it reads all that stand on the line.
-use Rattle.std.proofs.Common.{◌≡◌, ◌≤◌, ℕ, Bool, true, false, eqb, eq-eqb, ◌&&◌, List, [], ◌∷◌, ◌++◌, length, Ok, refl, sym, ap, subst, ◌∙◌, arith}
-use Rattle.std.specs.List.{AllByRecursion}
-use Rattle.ir_tokens.specs.Tokens.{Placed, KeptGroup, Word, Number, Group, Quoted, Mark}
-use Rattle.ir_instructions.specs.CallGrammar.{ItemsOn, StopsOn}
-use Rattle.ir_instructions.specs.CallReaders.{is_on_line, begins_late_item, late_value_at, late_quoted_at, late_group_at, late_item_at, each_late_item_at, some_token_at, late_items_at}
-use Rattle.ir_instructions.specs.ItemGrammar.{SpellsItem, MayFollowItem, of_word, of_word_and_group, of_number, of_group, of_quoted, of_key_and_value}
-use Rattle.ir_instructions.specs.Parts.{Each}
+use Rattle.ir_instructions.proofs.Common.{◌≡◌, ◌≤◌, ℕ, Bool, true, false, eqb, eq-eqb, ◌&&◌, List, [], ◌∷◌, ◌++◌, length, Ok, refl, sym, ap, subst, ◌∙◌, arith, AllByRecursion, Placed, KeptGroup, Word, Number, Group, Quoted, Mark, ItemsOn, StopsOn, is_on_line, begins_late_item, late_value_at, late_quoted_at, late_group_at, late_item_at, each_late_item_at, some_token_at, late_items_at, SpellsItem, MayFollowItem, of_word, of_word_and_group, of_number, of_group, of_quoted, of_key_and_value, Each}
 use Rattle.ir_instructions.specs.TokenReaders.{mark_at}
 use Rattle.ir_instructions.specs.Punctuation as marks
 use Rattle.ir_instructions.proofs.ItemSizes.{item-shorter}

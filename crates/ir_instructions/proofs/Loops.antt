@@ -1,14 +1,5 @@
 -- Repeated productions: how a loop reads them.
-use Rattle.std.proofs.Common.{◌≡◌, ◌<◌, ℕ, zero, suc, Bool, true, false, cond, List, [], ◌∷◌, ◌++◌, length, Ok, Err, refl, sym, ◌∙◌, ap, subst, append_assoc, arith}
-use Rattle.std.proofs.lemmas.List.{append-nil}
-use Rattle.ir_tokens.specs.Tokens.{Placed}
-use Rattle.refusal.specs.declared.fault.Fault.{Fault}
-use Rattle.refusal.specs.declared.refusal.Refusal.{Refusal}
-use Rattle.refusal.specs.declared.refusal.Refusal.TheVariants.{Refused, NoMemory}
-use Rattle.refusal.specs.Refusals.{Fails}
-use Rattle.ir_tokens.specs.declared.fault.IrFaultKind.{IrFaultKind}
-use Rattle.ir_instructions.specs.Parts.{Part, Each}
-use Rattle.ir_instructions.specs.Readers.{Read, Reader, goes_on, done, TakesSome, steps_at, repeat_at, another_at, each_at}
+use Rattle.ir_instructions.proofs.Common.{◌≡◌, ◌<◌, ℕ, zero, suc, Bool, true, false, cond, List, [], ◌∷◌, ◌++◌, length, Ok, Err, refl, sym, ◌∙◌, ap, subst, append_assoc, arith, append-nil, Placed, Fault, Refusal, Refused, NoMemory, Fails, IrFaultKind, Part, Each, Read, Reader, goes_on, done, TakesSome, steps_at, repeat_at, another_at, each_at}
 use Rattle.ir_instructions.proofs.Steps.{bind_ok, read_as}
 
 -- two continuations that agree on what was read give the same

@@ -1,19 +1,10 @@
 -- Names of intrinsics: the parser finds an intrinsic exactly where one is spelled.
-use Rattle.std.proofs.Common.{◌≡◌, ℕ, suc, ◌+◌, ◌<◌, Bool, true, false, cond, eqb, List, [], ◌∷◌, ◌++◌, length, take, drop, Option, Some, None, refl, ap, sym, ◌∙◌, append_assoc, arith}
-use Rattle.std.specs.Prelude.{codes, option_and_then, option_map}
-use Rattle.std.specs.List.{before_first, after_first, position_or_len}
-use Rattle.std.specs.Str.{bytes_eq}
-use Rattle.std.proofs.lemmas.Bool.{eqb-true}
-use Rattle.std.proofs.lemmas.List.{take-append-drop}
-use Rattle.ops.proofs.KeywordLemmas.{same_word, found-passes}
+use Rattle.ir_instructions.proofs.Common.{◌≡◌, ℕ, suc, ◌+◌, ◌<◌, Bool, true, false, cond, eqb, List, [], ◌∷◌, ◌++◌, length, take, drop, Option, Some, None, refl, ap, sym, ◌∙◌, append_assoc, arith, codes, option_and_then, option_map, before_first, after_first, position_or_len, bytes_eq, eqb-true, take-append-drop, same_word, found-passes, Intrinsic, TypeWord, intrinsic_keyword, is_called, IsPlainType, IsIntrinsicName, keyword_in, width_of, plain_width_in, named_in, intrinsic_in, type_in}
 use Rattle.ops.specs.declared.opcode.Opcode.TheVariants as opcodes
 use Rattle.ops.specs.declared.opcode.Unary.TheVariants as unaries
-use Rattle.ir_instructions.specs.declared.intrinsic.Intrinsic.{Intrinsic}
 use Rattle.ir_instructions.specs.declared.intrinsic.Intrinsic.TheVariants as intrinsics
-use Rattle.ir_instructions.specs.declared.word.TypeWord.{TypeWord}
 use Rattle.ir_instructions.specs.declared.word.TypeWord.TheVariants as types
-use Rattle.ir_instructions.specs.Intrinsics.{intrinsic_keyword, intrinsics as all_intrinsics, is_called, IsPlainType, IsIntrinsicName, keyword_in, width_of, plain_width_in, named_in, intrinsic_in}
-use Rattle.ir_instructions.specs.Keywords.{type_in}
+use Rattle.ir_instructions.specs.Intrinsics.{intrinsics as all_intrinsics}
 use Rattle.ir_instructions.proofs.WordLemmas.{type_in-is, type_in-of, found_among}
 
 -- a text with a `.` is what stands before the first one, the `.`, and what stands behind it

@@ -1,33 +1,13 @@
 -- Soundness of the parser for instructions: what it gives is spelled so.
-use Rattle.std.proofs.Common.{◌≡◌, ℕ, suc, length, Bool, true, false, cond, List, [], ◌∷◌, Option, Some, None, Ok, Err, refl, sym, ap, subst, ◌∙◌}
-use Rattle.std.specs.Prelude.{codes}
-use Rattle.ops.specs.declared.opcode.Opcode.{Opcode}
-use Rattle.ops.specs.declared.opcode.Flags.{Flags}
-use Rattle.ops.specs.declared.conversion.Cast.{Cast}
-use Rattle.ops.specs.Flags.{no_flags, flags_of, flags_of_cast, flags_of_icmp, icmp_flags}
-use Rattle.ops.specs.declared.keywords.flag.Flag.{Flag}
-use Rattle.ops.specs.Keywords.{predicate_keyword, pred_in}
-use Rattle.ops.specs.FlagKeywords.{AddsFlags, flag_keyword, has_flag, with_flag, flag_in}
-use Rattle.ops.proofs.KeywordLemmas.{pred_in-is}
-use Rattle.ops.proofs.FlagKeywordLemmas.{flag_in-is, flags_are_icmp}
-use Rattle.ir_tokens.specs.Tokens.{Placed, Word}
-use Rattle.ir_tokens.specs.declared.fault.IrFaultKind.TheVariants.{Syntax}
-use Rattle.ir_tokens.specs.declared.raw.RawOp.{RawOp}
+use Rattle.ir_instructions.proofs.Common.{◌≡◌, ℕ, suc, length, Bool, true, false, cond, List, [], ◌∷◌, Option, Some, None, Ok, Err, refl, sym, ap, subst, ◌∙◌, codes, Opcode, Flags, Cast, no_flags, flags_of, flags_of_cast, flags_of_icmp, icmp_flags, Flag, predicate_keyword, pred_in, AddsFlags, flag_keyword, has_flag, with_flag, flag_in, pred_in-is, flag_in-is, flags_are_icmp, Placed, Word, Syntax, RawOp, Operation, SpellsFlags, SpellsIncoming, SpellsOp, SpellsInst, is_register, keyword_at, register_at, typed_at, tail_at, is_flag, add_flag, flag_at, flags_at, binary_at, pred_at, compare_at, select_at, convert_at, freeze_at, incoming_at, begins_incoming, further_incoming_at, incomings_at, phi_at, operation_at, op_at, inst_at, insts_at, Part, Is, ◌⨾◌, Each, Comma, Separated, or_left_out, fault, operation_word, operation_in, is_intrinsic, unmarked, tail, notail}
 use Rattle.ir_tokens.specs.declared.raw.RawOp.TheVariants.{Binary, Compare, Call, Select, Convert, Freeze, Phi}
-use Rattle.ir_instructions.specs.declared.word.Operation.{Operation}
 use Rattle.ir_instructions.specs.declared.word.Operation.TheVariants as operations
-use Rattle.ir_instructions.specs.Grammar.{SpellsFlags, SpellsIncoming, SpellsOp, SpellsInst}
-use Rattle.ir_instructions.specs.InstructionReaders.{is_register, mark_at, keyword_at, register_at, type_at, operand_at, typed_at, tail_at, is_flag, add_flag, flag_at, flags_at, binary_at, pred_at, compare_at, select_at, convert_at, freeze_at, incoming_at, begins_incoming, further_incoming_at, incomings_at, phi_at, operation_at, op_at, inst_at, insts_at}
-use Rattle.ir_instructions.specs.Parts.{Part, Is, ◌⨾◌, Each, Comma, Separated}
-use Rattle.ir_instructions.specs.Readers.{or_left_out, fault}
-use Rattle.ir_instructions.specs.Keywords.{operation_word, operation_in}
+use Rattle.ir_instructions.specs.InstructionReaders.{mark_at, type_at, operand_at}
 use Rattle.ir_instructions.proofs.Loops.{Adds, repeat-is, each-is, all_read}
 use Rattle.ir_instructions.proofs.Readings.{mark_at-is, keyword_at-is, register_at-is, type_at-is, operand_at-is, typed_at-is, tail_at-is}
 use Rattle.ir_instructions.proofs.Steps.{Reads, bind_ok, read_as, not_left_out, same_front}
 use Rattle.ir_instructions.proofs.TakenFlags.{taken_flags}
 use Rattle.ir_instructions.proofs.WordLemmas.{operation_in-is, operation_is_no_intrinsic}
-use Rattle.ops.specs.Intrinsics.{is_intrinsic}
-use Rattle.ir_instructions.specs.CallGrammar.{unmarked, tail, notail}
 use Rattle.ir_instructions.proofs.CallReadings.{call_at-is, marked_call_at-is}
 use Rattle.ir_instructions.specs.Punctuation as marks
 

@@ -1,32 +1,11 @@
 -- Completeness of the parser for instructions and terminators: it gives what is spelled, if what follows may follow.
-use Rattle.std.proofs.Common.{◌≡◌, ℕ, Bool, true, false, not, List, [], ◌∷◌, Ok, refl, ◌∙◌}
-use Rattle.std.specs.Prelude.{codes}
-use Rattle.ops.specs.declared.opcode.Flags.{Flags}
-use Rattle.ops.specs.declared.comparison.Pred.{Pred}
-use Rattle.ops.specs.Flags.{no_flags, flags_of, flags_of_cast, flags_of_icmp, icmp_flags}
-use Rattle.ops.specs.declared.keywords.flag.Flag.{Flag}
-use Rattle.ops.specs.Keywords.{predicate_keyword}
-use Rattle.ops.specs.FlagKeywords.{AddsFlags, flag_keyword, with_flag}
-use Rattle.ops.proofs.KeywordLemmas.{pred_in-of}
-use Rattle.ops.proofs.FlagKeywordLemmas.{flag_in-of, predicate_is_no_flag}
-use Rattle.ir_tokens.specs.Tokens.{Placed, Word, Mark}
-use Rattle.ir_tokens.specs.declared.raw.RawIncoming.{RawIncoming}
-use Rattle.ir_tokens.specs.declared.raw.RawInst.{RawInst}
-use Rattle.ir_tokens.specs.declared.raw.RawOp.{RawOp}
+use Rattle.ir_instructions.proofs.Common.{◌≡◌, ℕ, Bool, true, false, not, List, [], ◌∷◌, Ok, refl, ◌∙◌, codes, Flags, Pred, no_flags, flags_of, flags_of_cast, flags_of_icmp, icmp_flags, Flag, predicate_keyword, AddsFlags, flag_keyword, with_flag, pred_in-of, flag_in-of, predicate_is_no_flag, Placed, Word, Mark, RawIncoming, RawInst, RawOp, RawTerminator, Jump, RawCase, SpellsType, SpellsFlags, SpellsIncoming, SpellsOp, SpellsInst, SpellsCase, SpellsCases, SpellsTerminator, is_register, is_flag, flag_at, flags_at, binary_at, pred_at, compare_at, select_at, convert_at, freeze_at, incoming_at, begins_incoming, further_incoming_at, incomings_at, phi_at, op_at, inst_at, insts_at, return_at, jump_at, conditional_at, branch_at, begins_case, case_at, cases_at, switch_at, terminator_at, Part, IsOn, Is, ◌⨾◌, Each, Comma, Separated, SpellsMarker, unmarked, tail, notail, call_word_at, marked_call_at, MayFollowItem, RawCall, repeat_at}
 use Rattle.ir_tokens.specs.declared.raw.RawOp.TheVariants.{Binary, Compare, Call, Select, Convert, Freeze, Phi}
-use Rattle.ir_tokens.specs.declared.raw.RawTerminator.{RawTerminator}
-use Rattle.ir_tokens.specs.declared.raw.RawTerminator.TheVariants.{Return, Unreachable, Jump, Branch, Switch}
-use Rattle.ir_tokens.specs.declared.raw.RawCase.{RawCase}
+use Rattle.ir_tokens.specs.declared.raw.RawTerminator.TheVariants.{Return, Unreachable, Branch, Switch}
 use Rattle.ir_instructions.specs.declared.word.Operation.TheVariants as operations
 use Rattle.ir_instructions.specs.declared.word.Ending.TheVariants as endings
-use Rattle.ir_instructions.specs.Grammar.{Tail, SpellsType, SpellsFlags, SpellsIncoming, SpellsOp, SpellsInst, SpellsCase, SpellsCases, SpellsTerminator}
-use Rattle.ir_instructions.specs.InstructionReaders.{is_mark, is_register, is_flag, flag_at, flags_at, binary_at, pred_at, compare_at, select_at, convert_at, freeze_at, incoming_at, begins_incoming, further_incoming_at, incomings_at, phi_at, op_at, inst_at, insts_at, return_at, jump_at, conditional_at, branch_at, begins_case, case_at, cases_at, switch_at, terminator_at}
-use Rattle.ir_instructions.specs.Parts.{Part, IsOn, Is, ◌⨾◌, Each, Comma, Separated}
-use Rattle.ir_instructions.specs.CallGrammar.{SpellsMarker, unmarked, tail, notail}
-use Rattle.ir_instructions.specs.CallReaders.{call_word_at, marked_call_at}
-use Rattle.ir_instructions.specs.ItemGrammar.{MayFollowItem}
-use Rattle.ir_tokens.specs.declared.raw.RawCall.{RawCall}
-use Rattle.ir_instructions.specs.Readers.{repeat_at}
+use Rattle.ir_instructions.specs.Grammar.{Tail}
+use Rattle.ir_instructions.specs.InstructionReaders.{is_mark}
 use Rattle.ir_instructions.specs.Punctuation as marks
 use Rattle.ir_instructions.proofs.CallSpellings.{SpellsCalled, call_at-of}
 use Rattle.ir_instructions.proofs.Loops.{ReadsEach, each-of, repeat-more, repeat-done}

@@ -1,26 +1,10 @@
 -- Soundness of the parser for single tokens, types, values and attachments: what it gives is spelled so.
-use Rattle.std.proofs.Common.{◌≡◌, ℕ, suc, length, Bool, true, false, cond, eqb, List, [], ◌∷◌, Option, Some, None, Ok, refl, sym, ap, subst, ◌∙◌}
-use Rattle.std.specs.Prelude.{codes}
-use Rattle.std.specs.Str.{bytes_eq}
-use Rattle.std.proofs.lemmas.Bool.{eqb-true}
-use Rattle.scan.specs.IrTokens.{is_plain_name}
-use Rattle.ir_tokens.specs.Identifiers.{identifier_of}
-use Rattle.ir_tokens.specs.Numbers.{constant_of, is_number}
-use Rattle.ir_tokens.specs.Tokens.{Placed, Word, Number, Register, Metadata, Mark}
+use Rattle.ir_instructions.proofs.Common.{◌≡◌, ℕ, suc, length, Bool, true, false, cond, eqb, List, [], ◌∷◌, Option, Some, None, Ok, refl, sym, ap, subst, ◌∙◌, codes, bytes_eq, eqb-true, is_plain_name, identifier_of, constant_of, is_number, Placed, Word, Number, Register, Metadata, Mark, same_word, Syntax, RawOperand, RawValue, TypeWord, SpellsRegister, SpellsTarget, SpellsType, IsValueToken, SpellsOperand, SpellsTyped, IsCaseValue, Attachment, is_metadata, keyword_at, register_at, target_at, type_word, number_value, case_value_at, typed_at, identified, metadata_at, attachment_at, attachments_at, tail_attachment_at, tail_at, SpellsCaseValue, Part, Is, ◌⨾◌, Comma, Repeated, fault, given, or_left_out, type_in, value_in, truth_in}
 use Rattle.ops.specs.Number.{Number as Numeral}
-use Rattle.ops.proofs.KeywordLemmas.{same_word}
-use Rattle.ir_tokens.specs.declared.fault.IrFaultKind.TheVariants.{Syntax}
-use Rattle.ir_tokens.specs.declared.raw.RawOperand.{RawOperand}
-use Rattle.ir_tokens.specs.declared.raw.RawValue.{RawValue}
 use Rattle.ir_tokens.specs.declared.raw.RawValue.TheVariants as values
-use Rattle.ir_instructions.specs.declared.word.TypeWord.{TypeWord}
 use Rattle.ir_instructions.specs.declared.word.TypeWord.TheVariants as types
-use Rattle.ir_instructions.specs.Grammar.{SpellsRegister, SpellsTarget, SpellsType, IsValueToken, SpellsOperand, SpellsTyped, IsCaseValue, Attachment, Tail}
-use Rattle.ir_instructions.specs.InstructionReaders.{is_mark, is_metadata, mark_at, keyword_at, register_at, target_at, type_word, type_at, number_value, operand_at, case_value_at, typed_at, identified, metadata_at, attachment_at, attachments_at, tail_attachment_at, tail_at}
-use Rattle.ir_instructions.specs.Laws.{SpellsCaseValue}
-use Rattle.ir_instructions.specs.Parts.{Part, Is, ◌⨾◌, Comma, Repeated}
-use Rattle.ir_instructions.specs.Readers.{fault, given, or_left_out}
-use Rattle.ir_instructions.specs.Keywords.{type_in, value_in, truth_in}
+use Rattle.ir_instructions.specs.Grammar.{Tail}
+use Rattle.ir_instructions.specs.InstructionReaders.{is_mark, mark_at, type_at, operand_at}
 use Rattle.ir_instructions.specs.Punctuation as marks
 use Rattle.ir_instructions.proofs.Loops.{repeat-is}
 use Rattle.ir_instructions.proofs.Steps.{Reads, bind_ok, read_as, tested, not_left_out}

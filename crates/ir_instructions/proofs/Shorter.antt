@@ -1,29 +1,11 @@
 -- Behind each production fewer tokens are left, or at least no more.
-use Rattle.std.proofs.Common.{◌≡◌, ◌<◌, ◌≤◌, ℕ, List, [], ◌∷◌, length, Option, Some, None, ap, arith}
-use Rattle.ops.specs.declared.opcode.Flags.{Flags}
-use Rattle.ops.specs.declared.opcode.Opcode.{Opcode}
-use Rattle.ops.specs.Flags.{flags_of, flags_of_cast, flags_of_icmp, icmp_flags}
-use Rattle.ops.specs.declared.opcode.Unary.{Unary}
-use Rattle.ir_tokens.specs.Tokens.{Token, Placed, Mark}
-use Rattle.ir_tokens.specs.declared.raw.RawIdentifier.{RawIdentifier}
-use Rattle.ir_tokens.specs.declared.raw.RawInst.{RawInst}
-use Rattle.ir_tokens.specs.declared.raw.RawArguments.{RawArguments}
+use Rattle.ir_instructions.proofs.Common.{◌≡◌, ◌<◌, ◌≤◌, ℕ, List, [], ◌∷◌, length, Option, Some, None, ap, arith, Flags, Opcode, flags_of, flags_of_cast, flags_of_icmp, icmp_flags, Unary, Token, Placed, Mark, RawIdentifier, RawInst, RawArguments, RawCall, RawOp, TypedOperand, RawOperand, RawIncoming, RawTerminator, Jump, RawCase, SpellsRegister, SpellsTarget, SpellsType, SpellsOperand, SpellsTyped, Attachment, SpellsFlags, SpellsIncoming, IsOpcode, SpellsOp, SpellsInst, SpellsCase, SpellsCases, SpellsTerminator, Intrinsic, SpellsItem, of_word, of_word_and_group, of_number, of_group, of_quoted, of_key_and_value, Items, SpellsArgument, SpellsTruthOf, SpellsArguments, SpellsCallee, SpellsClose, SpellsMarker, unmarked, notail, SpellsCall, intrinsic_of, Part, IsOn, Is, ◌⨾◌, Maybe, Each, Comma, Separated, Repeated}
 use Rattle.ir_tokens.specs.declared.raw.RawArguments.TheVariants as arguments
-use Rattle.ir_tokens.specs.declared.raw.RawCall.{RawCall}
-use Rattle.ir_tokens.specs.declared.raw.RawOp.{RawOp}
 use Rattle.ir_tokens.specs.declared.raw.RawOp.TheVariants.{Binary, Compare, Call, Select, Convert, Freeze, Phi}
-use Rattle.ir_tokens.specs.declared.raw.TypedOperand.{TypedOperand}
-use Rattle.ir_tokens.specs.declared.raw.RawOperand.{RawOperand}
-use Rattle.ir_tokens.specs.declared.raw.RawIncoming.{RawIncoming}
-use Rattle.ir_tokens.specs.declared.raw.RawTerminator.{RawTerminator}
-use Rattle.ir_tokens.specs.declared.raw.RawTerminator.TheVariants.{Return, Unreachable, Jump, Branch, Switch}
-use Rattle.ir_tokens.specs.declared.raw.RawCase.{RawCase}
-use Rattle.ir_instructions.specs.Grammar.{SpellsRegister, SpellsTarget, SpellsType, SpellsOperand, SpellsTyped, Attachment, Tail, SpellsFlags, SpellsIncoming, IsOpcode, SpellsOp, SpellsInst, SpellsCase, SpellsCases, SpellsTerminator}
-use Rattle.ir_instructions.specs.declared.intrinsic.Intrinsic.{Intrinsic}
-use Rattle.ir_instructions.specs.ItemGrammar.{SpellsItem, of_word, of_word_and_group, of_number, of_group, of_quoted, of_key_and_value}
-use Rattle.ir_instructions.specs.CallGrammar.{Items, SpellsArgument, SpellsTruthOf, SpellsArguments, SpellsCallee, SpellsClose, SpellsMarker, unmarked, tail as tail_marker, notail, SpellsCall, intrinsic_of}
+use Rattle.ir_tokens.specs.declared.raw.RawTerminator.TheVariants.{Return, Unreachable, Branch, Switch}
+use Rattle.ir_instructions.specs.Grammar.{Tail}
+use Rattle.ir_instructions.specs.CallGrammar.{tail as tail_marker}
 use Rattle.ir_instructions.specs.Punctuation as marks
-use Rattle.ir_instructions.specs.Parts.{Part, IsOn, Is, ◌⨾◌, Maybe, Each, Comma, Separated, Repeated}
 
 abbrev pub Shorter : Part → Type 0
 Shorter P = (tokens rest : List Placed) → P tokens rest → length rest < length tokens

@@ -1,19 +1,9 @@
 -- Completeness of the parser for names, values, attachments and items: it gives what is spelled, if what follows may
 -- follow.
-use Rattle.std.proofs.Common.{◌≡◌, ℕ, true, false, eq-eqb, List, ◌∷◌, Ok, refl}
-use Rattle.std.specs.Prelude.{codes}
-use Rattle.ops.specs.declared.opcode.Flags.{Flags}
-use Rattle.ops.proofs.KeywordLemmas.{word_is}
-use Rattle.ir_tokens.specs.Tokens.{Token, Placed, Word, Mark}
-use Rattle.ir_tokens.specs.declared.raw.RawIdentifier.{RawIdentifier}
-use Rattle.ir_tokens.specs.declared.raw.TypedOperand.{TypedOperand}
-use Rattle.ir_tokens.specs.declared.raw.RawOperand.{RawOperand}
-use Rattle.ir_tokens.specs.declared.raw.RawValue.{RawValue}
+use Rattle.ir_instructions.proofs.Common.{◌≡◌, ℕ, true, false, eq-eqb, List, ◌∷◌, Ok, refl, codes, Flags, word_is, Token, Placed, Word, Mark, RawIdentifier, TypedOperand, RawOperand, RawValue, SpellsRegister, SpellsTarget, SpellsType, IsValueToken, SpellsOperand, SpellsTyped, IsCaseValue, Attachment, is_metadata, is_keyword, is_flag, keyword_at, register_at, target_at, case_value_at, typed_at, metadata_at, attachment_at, attachments_at, tail_attachment_at, tail_at, Part, Is, ◌⨾◌, Comma, Repeated, value_in, truth_in}
 use Rattle.ir_tokens.specs.declared.raw.RawValue.TheVariants as values
-use Rattle.ir_instructions.specs.Grammar.{SpellsRegister, SpellsTarget, SpellsType, IsValueToken, SpellsOperand, SpellsTyped, IsCaseValue, Attachment, Tail}
-use Rattle.ir_instructions.specs.InstructionReaders.{is_mark, is_metadata, is_keyword, is_flag, mark_at, keyword_at, register_at, target_at, type_at, operand_at, case_value_at, typed_at, metadata_at, attachment_at, attachments_at, tail_attachment_at, tail_at}
-use Rattle.ir_instructions.specs.Parts.{Part, Is, ◌⨾◌, Comma, Repeated}
-use Rattle.ir_instructions.specs.Keywords.{value_in, truth_in}
+use Rattle.ir_instructions.specs.Grammar.{Tail}
+use Rattle.ir_instructions.specs.InstructionReaders.{is_mark, mark_at, type_at, operand_at}
 use Rattle.ir_instructions.specs.Punctuation as marks
 use Rattle.ir_instructions.proofs.Loops.{repeat-of}
 use Rattle.ir_instructions.proofs.Takings.{attachment-takes, tail-takes}

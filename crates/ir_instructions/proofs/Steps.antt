@@ -1,10 +1,5 @@
 -- Parsers one behind the other, and their tests.
-use Rattle.std.proofs.Common.{ℕ, ◌≡◌, Bool, true, false, cond, List, ◌∷◌, Option, Some, None, ap, ◌∙◌, Ok, Err, Result, refl, subst}
-use Rattle.ir_tokens.specs.Tokens.{Placed, Word}
-use Rattle.refusal.specs.declared.fault.Fault.{Fault}
-use Rattle.ir_tokens.specs.declared.fault.IrFaultKind.{IrFaultKind}
-use Rattle.ir_instructions.specs.Parts.{Part}
-use Rattle.ir_instructions.specs.Readers.{Read, Reader, goes_on, or_left_out}
+use Rattle.ir_instructions.proofs.Common.{ℕ, ◌≡◌, Bool, true, false, cond, List, ◌∷◌, Option, Some, None, ap, ◌∙◌, Ok, Err, Result, refl, subst, Placed, Word, Fault, IrFaultKind, Part, Read, Reader, goes_on, or_left_out}
 
 -- the parser gives only what the production spells
 abbrev pub Reads : {A : Type 0} → Reader A → (A → Part) → Type 0

@@ -1,15 +1,7 @@
 -- Each production that may be repeated takes at least one token.
-use Rattle.std.proofs.Common.{◌≡◌, ℕ, Bool, true, false, cond, List, ◌∷◌, Option, Some, None, Ok, Err, refl, arith}
-use Rattle.ops.specs.declared.opcode.Flags.{Flags}
-use Rattle.ops.specs.declared.keywords.flag.Flag.{Flag}
-use Rattle.ops.specs.FlagKeywords.{has_flag, with_flag, flag_in}
-use Rattle.ir_tokens.specs.Tokens.{Placed, Word}
-use Rattle.ir_tokens.specs.declared.fault.IrFaultKind.TheVariants.{Syntax}
-use Rattle.ir_instructions.specs.InstructionReaders.{is_mark, is_register, is_metadata, attachment_at, tail_attachment_at, is_flag, add_flag, flag_at, begins_incoming, further_incoming_at, inst_at, begins_case, case_at}
+use Rattle.ir_instructions.proofs.Common.{◌≡◌, ℕ, Bool, true, false, cond, List, ◌∷◌, Option, Some, None, Ok, Err, refl, arith, Flags, Flag, has_flag, with_flag, flag_in, Placed, Word, Syntax, is_register, is_metadata, attachment_at, tail_attachment_at, is_flag, add_flag, flag_at, begins_incoming, further_incoming_at, inst_at, begins_case, case_at, begins_inner_item, begins_late_item, late_item_at, item_at, TakesSome, fault}
+use Rattle.ir_instructions.specs.InstructionReaders.{is_mark}
 use Rattle.ops.proofs.FlagSets.{both}
-use Rattle.ir_instructions.specs.CallReaders.{begins_inner_item, begins_late_item, late_item_at}
-use Rattle.ir_instructions.specs.ItemReaders.{item_at}
-use Rattle.ir_instructions.specs.Readers.{TakesSome, fault}
 use Rattle.ir_instructions.proofs.CallReadings.{late_item-is}
 use Rattle.ir_instructions.proofs.ItemSizes.{item-shorter, item-takes}
 use Rattle.ir_instructions.specs.Punctuation as marks

@@ -1,16 +1,8 @@
 -- Soundness of the parser for terminators: what it gives is spelled so.
-use Rattle.std.proofs.Common.{sym, subst, ◌≡◌, ℕ, Bool, true, false, cond, List, [], ◌∷◌, Ok, refl}
-use Rattle.std.specs.Prelude.{codes}
-use Rattle.ir_tokens.specs.Tokens.{Placed, Word}
-use Rattle.ir_tokens.specs.declared.raw.RawTerminator.{RawTerminator}
-use Rattle.ir_tokens.specs.declared.raw.RawTerminator.TheVariants.{Return, Unreachable, Jump, Branch, Switch}
-use Rattle.ir_instructions.specs.declared.word.Ending.{Ending}
+use Rattle.ir_instructions.proofs.Common.{sym, subst, ◌≡◌, ℕ, Bool, true, false, cond, List, [], ◌∷◌, Ok, refl, codes, Placed, Word, RawTerminator, Jump, Ending, SpellsCase, SpellsCases, SpellsTerminator, is_keyword, target_at, typed_at, case_value_at, return_at, jump_at, conditional_at, branch_at, begins_case, case_at, cases_at, switch_at, ending_at, terminator_at, Part, each_at, ◌>>=◌, or_left_out, ending_word, ending_in}
+use Rattle.ir_tokens.specs.declared.raw.RawTerminator.TheVariants.{Return, Unreachable, Branch, Switch}
 use Rattle.ir_instructions.specs.declared.word.Ending.TheVariants as endings
-use Rattle.ir_instructions.specs.Grammar.{SpellsCase, SpellsCases, SpellsTerminator}
-use Rattle.ir_instructions.specs.InstructionReaders.{is_keyword, mark_at, target_at, type_at, typed_at, case_value_at, return_at, jump_at, conditional_at, branch_at, begins_case, case_at, cases_at, switch_at, ending_at, terminator_at}
-use Rattle.ir_instructions.specs.Parts.{Part}
-use Rattle.ir_instructions.specs.Readers.{each_at, ◌>>=◌, or_left_out}
-use Rattle.ir_instructions.specs.Keywords.{ending_word, ending_in}
+use Rattle.ir_instructions.specs.InstructionReaders.{mark_at, type_at}
 use Rattle.ir_instructions.specs.Punctuation as marks
 use Rattle.ir_instructions.proofs.Loops.{each-is, all_read}
 use Rattle.ir_instructions.proofs.Readings.{mark_at-is, target_at-is, type_at-is, typed_at-is, case_value_at-is}

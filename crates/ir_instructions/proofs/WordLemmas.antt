@@ -1,25 +1,9 @@
 -- Words of tables: the entry that is found is spelled by the word, and each word that is spelled is found.
-use Rattle.std.proofs.Common.{◌≡◌, ℕ, ◌≤◌, Bool, true, false, cond, not, eqb, leb, ◌&&◌, List, [], ◌∷◌, Option, Some, None, refl, sym, ap, subst}
-use Rattle.std.specs.Prelude.{codes, find}
-use Rattle.std.specs.List.{list_all}
-use Rattle.std.specs.Str.{bytes_eq}
-use Rattle.std.proofs.lemmas.Bool.{eqb-true, leb-true, le-leb}
-use Rattle.ops.specs.declared.opcode.Flags.{Flags}
-use Rattle.ops.specs.declared.opcode.Opcode.{Opcode}
-use Rattle.ops.specs.declared.opcode.Opcode.TheVariants.{Add, Sub, Mul, UDiv, SDiv, URem, SRem, Shl, LShr, AShr, And, Or, Xor, UMin, UMax, SMin, SMax}
-use Rattle.ops.specs.declared.conversion.Cast.TheVariants.{Trunc, ZExt, SExt}
-use Rattle.ops.specs.FlagKeywords.{flag_in}
-use Rattle.ops.specs.Intrinsics.{is_intrinsic}
+use Rattle.ir_instructions.proofs.Common.{◌≡◌, ℕ, ◌≤◌, Bool, true, false, cond, not, eqb, leb, ◌&&◌, List, [], ◌∷◌, Option, Some, None, refl, sym, ap, subst, codes, find, list_all, bytes_eq, eqb-true, leb-true, le-leb, Flags, Opcode, Add, Sub, Mul, UDiv, SDiv, URem, SRem, Shl, LShr, AShr, And, Or, Xor, UMin, UMax, SMin, SMax, Trunc, ZExt, SExt, flag_in, is_intrinsic, same_word, found-passes, are_digits, decimal_value, Operation, NoTail, Ending, IsTypeWord, type_of_bits, type_in, operation_word, operations, operation_in, ending_word, ending_in}
 use Rattle.ops.proofs.FlagSets.{both}
-use Rattle.ops.proofs.KeywordLemmas.{same_word, found-passes}
-use Rattle.scan.specs.Bytes.{are_digits}
-use Rattle.ir_tokens.specs.Numbers.{decimal_value}
 use Rattle.ir_instructions.specs.declared.word.TypeWord.TheVariants as types
-use Rattle.ir_instructions.specs.declared.word.Operation.{Operation}
-use Rattle.ir_instructions.specs.declared.word.Operation.TheVariants.{Binary, Compare, Select, Convert, Freeze, Phi, Call, Tail, NoTail}
-use Rattle.ir_instructions.specs.declared.word.Ending.{Ending}
+use Rattle.ir_instructions.specs.declared.word.Operation.TheVariants.{Binary, Compare, Select, Convert, Freeze, Phi, Call, Tail}
 use Rattle.ir_instructions.specs.declared.word.Ending.TheVariants.{Return, Unreachable, Branch, Switch}
-use Rattle.ir_instructions.specs.Keywords.{IsTypeWord, type_of_bits, type_in, operation_word, operations, operation_in, ending_word, ending_in}
 
 -- ---- types
 

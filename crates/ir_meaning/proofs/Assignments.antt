@@ -1,13 +1,7 @@
 -- If one result is assigned at another's instruction, the other isn't assigned at the one's.
-use Rattle.std.proofs.Common.{◌≡◌, ℕ, suc, ◌<◌, ◌⊎◌, inl, inr, List, [], ◌∷◌, sym, subst, ◌∙◌, arith}
-use Rattle.std.specs.Prelude.{Contains}
-use Rattle.std.proofs.lemmas.Bool.{cases_eq}
-use Rattle.ir_core.specs.declared.function.Function.{Function}
+use Rattle.ir_meaning.proofs.Common.{◌≡◌, ℕ, suc, ◌<◌, ◌⊎◌, inl, inr, List, [], ◌∷◌, sym, subst, ◌∙◌, arith, Contains, cases_eq, Function, IsAssigned, IsWalk, IsReached, NotBothAreAssigned, NoneIsAssignedBehind, AssignmentIsTransitive}
 use Rattle.ir_core.specs.declared.operand.Register.TheVariants as registers
-use Rattle.ir_core.specs.Assigned.{IsAssigned}
-use Rattle.ir_core.specs.Walks.{IsWalk, IsReached}
 use Rattle.ir_meaning.proofs.Pieces.{not_in_empty, first_in, later_in, cases_in}
-use Rattle.ir_meaning.specs.Assignments.{NotBothAreAssigned, NoneIsAssignedBehind, AssignmentIsTransitive}
 
 contains_or : (xs : List ℕ) (d : ℕ) → Contains xs d ⊎ (Contains xs d → ⊥)
 contains_or [] d = inr (not_in_empty d)

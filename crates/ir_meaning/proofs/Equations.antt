@@ -1,25 +1,8 @@
 -- Each result that is no phi's holds what its instruction gives on what its operands hold at the same moment.
-use Rattle.std.proofs.Common.{◌≡◌, ℕ, inr, List, Some, refl, sym, ap, subst, ◌∙◌}
-use Rattle.std.specs.Prelude.{slice_get}
-use Rattle.std.proofs.lemmas.Option.{same_Some}
-use Rattle.ops.specs.declared.value.Value.{Value}
-use Rattle.ops.specs.declared.value.Effect.{Effect}
+use Rattle.ir_meaning.proofs.Common.{◌≡◌, ℕ, inr, List, Some, refl, sym, ap, subst, ◌∙◌, slice_get, same_Some, Value, Effect, Function, Block, Inst, Op, Binary, Compare, Unary, Select, Convert, Freeze, Phi, Operand, Register, IsAssigned, ReadIsAssigned, IsInst, IsPhi, Read, read, reads_of, Registers, AnyNumber, OperandGives, OpGives, PhiGives, IfPhi, Moment, InstGives, EquationsHoldWhereAssigned, EquationsHoldInOneVisit}
 use Rattle.ops.specs.declared.value.Effect.TheVariants as effects
-use Rattle.ir_core.specs.declared.function.Function.{Function}
-use Rattle.ir_core.specs.declared.function.Block.{Block}
-use Rattle.ir_core.specs.declared.instruction.Inst.{Inst}
-use Rattle.ir_core.specs.declared.instruction.Op.{Op}
-use Rattle.ir_core.specs.declared.instruction.Op.TheVariants.{Binary, Compare, Unary, Select, Convert, Freeze, Phi}
-use Rattle.ir_core.specs.declared.operand.Operand.{Operand}
 use Rattle.ir_core.specs.declared.operand.Operand.TheVariants as operands
-use Rattle.ir_core.specs.declared.operand.Register.{Register}
-use Rattle.ir_core.specs.Assigned.{IsAssigned, ReadIsAssigned}
-use Rattle.ir_core.specs.Checks.{IsInst, IsPhi}
-use Rattle.ir_core.specs.Reads.{Read, read, reads_of}
-use Rattle.ir_core.specs.Run.{Registers, AnyNumber, OperandGives, OpGives, PhiGives, IfPhi}
 use Rattle.ir_meaning.proofs.Restricting.{reads_inst}
-use Rattle.ir_meaning.specs.Histories.{Moment, InstGives}
-use Rattle.ir_meaning.specs.HistoryLaws.{EquationsHoldWhereAssigned, EquationsHoldInOneVisit}
 use Rattle.ir_meaning.proofs.Steps.{has_inst}
 use Rattle.ir_meaning.proofs.Holding.{assigned_ran, results_held, operands_held}
 

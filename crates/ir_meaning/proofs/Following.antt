@@ -1,33 +1,9 @@
 -- Steps of a pass through a block.
-use Rattle.std.proofs.Common.{◌≡◌, ℕ, zero, suc, ◌+◌, ◌<◌, ◌≤◌, List, [], ◌∷◌, ◌++◌, length, drop, get_or, Option, None, Some, option_and_then, option_map, refl, sym, ap, subst, ◌∙◌, inl, inr, arith, add-zero, add-one, drop-cons, append_assoc}
-use Rattle.std.specs.Prelude.{Contains, slice_get}
-use Rattle.std.proofs.lemmas.Bool.{cases_lt}
-use Rattle.std.proofs.lemmas.List.{append-nil, drop_all}
-use Rattle.std.proofs.lemmas.Option.{none-some, same_Some, slice_get_within, slice_get_read}
-use Rattle.ops.specs.Number.{Number}
-use Rattle.ops.specs.Value.{IsValueOf}
-use Rattle.ops.specs.declared.value.Value.{Value}
+use Rattle.ir_meaning.proofs.Common.{◌≡◌, ℕ, zero, suc, ◌+◌, ◌<◌, ◌≤◌, List, [], ◌∷◌, ◌++◌, length, drop, get_or, Option, None, Some, option_and_then, option_map, refl, sym, ap, subst, ◌∙◌, inl, inr, arith, add-zero, add-one, drop-cons, append_assoc, Contains, slice_get, cases_lt, append-nil, drop_all, none-some, same_Some, slice_get_within, slice_get_read, Number, IsValueOf, Value, IsBlock, Names, targets_of, IsFormed, IsInst, IsPhi, IsTyped, OperandHasWidth, width_of, Read, read, end_of, reads_of, reads_at_end, Registers, holding, Ending, Undefines, Returns, Goes, IfPhi, OnlyZero, switch_target, OpGives, PhiGives, EndGives, Follows, Enters, Passes, RunsFrom, Function, Block, Inst, Op, Binary, Compare, Unary, Select, Convert, Freeze, Phi, Operand, Outcome, Terminator, EndFits, GoesFrom, GoesTo, OpFits, Fits, AreTaken, holding_all, Step}
 use Rattle.ops.specs.declared.value.Effect.TheVariants as effects
-use Rattle.ir_core.specs.Blocks.{IsBlock, Names, targets_of}
-use Rattle.ir_core.specs.Checks.{IsFormed, IsInst, IsPhi, IsTyped, OperandHasWidth}
-use Rattle.ir_core.specs.Names.{width_of}
-use Rattle.ir_core.specs.Reads.{Read, read, end_of, reads_of, reads_at_end}
-use Rattle.ir_core.specs.Run.{Registers, holding, Ending, Undefines, Returns, Goes, IfPhi, OnlyZero, switch_target, OpGives, PhiGives, EndGives, Follows, Enters, Passes, RunsFrom}
-use Rattle.ir_core.specs.declared.function.Function.{Function}
-use Rattle.ir_core.specs.declared.function.Block.{Block}
-use Rattle.ir_core.specs.declared.instruction.Inst.{Inst}
-use Rattle.ir_core.specs.declared.instruction.Op.{Op}
-use Rattle.ir_core.specs.declared.instruction.Op.TheVariants.{Binary, Compare, Unary, Select, Convert, Freeze, Phi}
-use Rattle.ir_core.specs.declared.operand.Operand.{Operand}
 use Rattle.ir_core.specs.declared.operand.Register.TheVariants as registers
-use Rattle.ir_core.specs.declared.outcome.Outcome.{Outcome}
 use Rattle.ir_core.specs.declared.outcome.Outcome.TheVariants as outcomes
-use Rattle.ir_core.specs.declared.terminator.Terminator.{Terminator}
 use Rattle.ir_core.specs.declared.terminator.Terminator.TheVariants as terminators
-use Rattle.ir_meaning.specs.Step.{EndFits, GoesFrom, GoesTo, OpFits}
-use Rattle.ir_meaning.specs.Table.{Fits}
-use Rattle.ir_meaning.specs.Taken.{AreTaken, holding_all}
-use Rattle.ir_meaning.specs.declared.terminator.Step.{Step}
 use Rattle.ir_meaning.specs.declared.terminator.Step.TheVariants as steps
 use Rattle.ir_meaning.proofs.Pieces.{some_at, cases_in, if_phi_map, switch_among_all}
 use Rattle.ir_meaning.proofs.Restricting.{reads_inst, reads_end, phi_read}

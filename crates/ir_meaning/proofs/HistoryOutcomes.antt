@@ -1,21 +1,7 @@
 -- Each outcome comes at the end of some history.
-use Rattle.std.proofs.Common.{◌≡◌, ℕ, zero, suc, ◌+◌, inl, inr, List, [], ◌∷◌, length, Option, None, Some, refl, sym, ap, subst, ◌∙◌, arith}
-use Rattle.std.specs.Prelude.{slice_get}
-use Rattle.ops.specs.declared.value.Value.{Value}
-use Rattle.ops.specs.declared.value.Effect.{Effect}
+use Rattle.ir_meaning.proofs.Common.{◌≡◌, ℕ, zero, suc, ◌+◌, inl, inr, List, [], ◌∷◌, length, Option, None, Some, refl, sym, ap, subst, ◌∙◌, arith, slice_get, Value, Effect, Function, Block, Inst, Op, Binary, Compare, Unary, Select, Convert, Freeze, Phi, Operand, Outcome, IsBlock, Registers, arguments, holding, Ending, Undefines, Returns, Goes, GoesOn, Leads, IfPhi, AnyNumber, OpGives, PhiGives, EndGives, Follows, Enters, RunsFrom, Starts, Moment, entering, InstGives, IsHistory, EndsAt, OutcomesHaveHistories}
 use Rattle.ops.specs.declared.value.Effect.TheVariants as effects
-use Rattle.ir_core.specs.declared.function.Function.{Function}
-use Rattle.ir_core.specs.declared.function.Block.{Block}
-use Rattle.ir_core.specs.declared.instruction.Inst.{Inst}
-use Rattle.ir_core.specs.declared.instruction.Op.{Op}
-use Rattle.ir_core.specs.declared.instruction.Op.TheVariants.{Binary, Compare, Unary, Select, Convert, Freeze, Phi}
-use Rattle.ir_core.specs.declared.operand.Operand.{Operand}
-use Rattle.ir_core.specs.declared.outcome.Outcome.{Outcome}
 use Rattle.ir_core.specs.declared.outcome.Outcome.TheVariants as outcomes
-use Rattle.ir_core.specs.Blocks.{IsBlock}
-use Rattle.ir_core.specs.Run.{Registers, arguments, holding, Ending, Undefines, Returns, Goes, GoesOn, Leads, IfPhi, AnyNumber, OpGives, PhiGives, EndGives, Follows, Enters, RunsFrom, Starts}
-use Rattle.ir_meaning.specs.Histories.{Moment, entering, InstGives, IsHistory, EndsAt}
-use Rattle.ir_meaning.specs.HistoryLaws.{OutcomesHaveHistories}
 
 -- ---- the rest of a list
 

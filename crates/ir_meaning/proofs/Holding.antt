@@ -1,22 +1,9 @@
 -- What registers hold after an instruction ran last.
-use Rattle.std.proofs.Common.{◌≡◌, ℕ, suc, ◌<◌, ◌⊎◌, inl, inr, List, [], ◌∷◌, ◌++◌, length, map, Some, refl, sym, ap, subst, ◌∙◌, arith}
-use Rattle.std.specs.Prelude.{Contains}
-use Rattle.std.proofs.lemmas.Bool.{cases_eq}
-use Rattle.std.proofs.lemmas.Option.{slice_get_within}
-use Rattle.ops.specs.declared.value.Value.{Value}
+use Rattle.ir_meaning.proofs.Common.{◌≡◌, ℕ, suc, ◌<◌, ◌⊎◌, inl, inr, List, [], ◌∷◌, ◌++◌, length, map, Some, refl, sym, ap, subst, ◌∙◌, arith, Contains, cases_eq, slice_get_within, Value, Function, Inst, Register, IsAssigned, HasInst, IsInst, IsWalk, Place, IsPath, Moment, InstGives, Runs, IsStep, IsHistory, LastRan, AssignedHasRun, ResultsAreHeld, OperandsAreHeld, NothingNamedChangesInOneVisit}
 use Rattle.ops.specs.declared.value.Effect.TheVariants as effects
-use Rattle.ir_core.specs.declared.function.Function.{Function}
-use Rattle.ir_core.specs.declared.instruction.Inst.{Inst}
-use Rattle.ir_core.specs.declared.operand.Register.{Register}
 use Rattle.ir_core.specs.declared.operand.Register.TheVariants as registers
-use Rattle.ir_core.specs.Assigned.{IsAssigned}
-use Rattle.ir_core.specs.Blocks.{HasInst}
-use Rattle.ir_core.specs.Checks.{IsInst}
-use Rattle.ir_core.specs.Walks.{IsWalk}
 use Rattle.ir_meaning.proofs.Pieces.{not_in_empty, first_in, later_in, cases_in}
-use Rattle.ir_meaning.specs.Paths.{Place, IsPath}
-use Rattle.ir_meaning.specs.Histories.{Moment, place_of, InstGives, Runs, IsStep, IsHistory}
-use Rattle.ir_meaning.specs.HistoryLaws.{LastRan, AssignedHasRun, ResultsAreHeld, OperandsAreHeld, NothingNamedChangesInOneVisit}
+use Rattle.ir_meaning.specs.Histories.{place_of}
 use Rattle.ir_meaning.proofs.Assignments.{not_both_assigned}
 use Rattle.ir_meaning.proofs.PathLemmas.{same_place, assigned_passed, defined_before, path_before, path_reaches}
 use Rattle.ir_meaning.proofs.Steps.{held_here, step_keeps, step_keeps_parameter, step_gives, histories_paths}

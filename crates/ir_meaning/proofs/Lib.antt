@@ -1,3 +1,4 @@
+pub mod Common
 pub mod Pieces
 pub mod ZeroOutcomes
 pub mod Monotone

@@ -1,23 +1,8 @@
 -- Instructions are monotone: registers that hold values which allow others give effects that allow those of the others.
-use Rattle.std.proofs.Common.{◌≡◌, ℕ, refl, sym, ap, subst, ◌∙◌}
-use Rattle.ops.specs.Value.{AllowsValue, AllowsEffect, IsValueOf}
-use Rattle.ops.specs.Instruction.{instruction}
-use Rattle.ops.specs.Comparison.{comparison, selection}
-use Rattle.ops.specs.Conversion.{conversion}
-use Rattle.ops.specs.Unary.{unary}
-use Rattle.ops.proofs.Monotone.{instruction-monotone, comparison-monotone, unary-monotone, conversion-monotone, selection-monotone}
-use Rattle.ops.specs.declared.value.Value.{Value}
+use Rattle.ir_meaning.proofs.Common.{◌≡◌, ℕ, refl, sym, ap, subst, ◌∙◌, AllowsValue, AllowsEffect, IsValueOf, instruction, comparison, selection, conversion, unary, instruction-monotone, comparison-monotone, unary-monotone, conversion-monotone, selection-monotone, Value, Effect, OperandHasWidth, read, Registers, OperandGives, Freezes, AnyNumber, Function, Binary, Compare, Unary, Select, Convert, Freeze, Phi, Operand, HoldAllowing, HoldWidths, InstructionsAreMonotone, PhisAreMonotone}
 use Rattle.ops.specs.declared.value.Value.TheVariants as values
-use Rattle.ops.specs.declared.value.Effect.{Effect}
 use Rattle.ops.specs.declared.value.Effect.TheVariants as effects
-use Rattle.ir_core.specs.Checks.{OperandHasWidth}
-use Rattle.ir_core.specs.Reads.{read}
-use Rattle.ir_core.specs.Run.{Registers, OperandGives, Freezes, AnyNumber}
-use Rattle.ir_core.specs.declared.function.Function.{Function}
-use Rattle.ir_core.specs.declared.instruction.Op.TheVariants.{Binary, Compare, Unary, Select, Convert, Freeze, Phi}
-use Rattle.ir_core.specs.declared.operand.Operand.{Operand}
 use Rattle.ir_core.specs.declared.operand.Operand.TheVariants as operands
-use Rattle.ir_meaning.specs.Laws.{HoldAllowing, HoldWidths, InstructionsAreMonotone, PhisAreMonotone}
 
 itself : (v : Value) → AllowsValue v v
 itself values.Poison = tt

@@ -1,11 +1,6 @@
 -- Refinement is reflexive and transitive.
-use Rattle.std.proofs.Common.{List, refl, sym, subst, ◌∙◌}
-use Rattle.ops.proofs.Values.{AllowsValue-refl, AllowsValue-trans}
-use Rattle.ir_core.specs.declared.function.Parameter.{Parameter}
-use Rattle.ir_core.specs.declared.outcome.Outcome.{Outcome}
+use Rattle.ir_meaning.proofs.Common.{List, refl, sym, subst, ◌∙◌, AllowsValue-refl, AllowsValue-trans, Parameter, Outcome, AreArguments, AllowsOutcome, RefinementIsTransitive, RefinementIsReflexive}
 use Rattle.ir_core.specs.declared.outcome.Outcome.TheVariants as outcomes
-use Rattle.ir_core.specs.Refines.{AreArguments, AllowsOutcome}
-use Rattle.ir_meaning.specs.Orders.{RefinementIsTransitive, RefinementIsReflexive}
 
 outcome_allows_itself : (o : Outcome) → AllowsOutcome o o
 outcome_allows_itself outcomes.Undefined = tt

@@ -1,15 +1,8 @@
 -- A function that meets its checks has an outcome: that of a run in which registers hold more than the arguments.
-use Rattle.std.proofs.Common.{◌≡◌, ℕ, suc, Bool, true, false, List, [], ◌∷◌, length, Option, None, Some, unwrap_or, refl, sym, ap, subst, arith}
-use Rattle.ops.specs.declared.value.Value.{Value}
+use Rattle.ir_meaning.proofs.Common.{◌≡◌, ℕ, suc, Bool, true, false, List, [], ◌∷◌, length, Option, None, Some, refl, sym, ap, subst, arith, Value, MeetsChecks, AreArguments, Registers, arguments, RunsFrom, Starts, OnlyZero, HasZeroOutcome, breaks_noundef, Function, Parameter, Outcome, FunctionsHaveOutcomes}
+use Rattle.std.proofs.Common.{unwrap_or}
 use Rattle.ops.specs.declared.value.Value.TheVariants as values
-use Rattle.ir_core.specs.Checks.{MeetsChecks}
-use Rattle.ir_core.specs.Refines.{AreArguments}
-use Rattle.ir_core.specs.Run.{Registers, arguments, RunsFrom, Starts, OnlyZero, HasZeroOutcome, breaks_noundef}
-use Rattle.ir_core.specs.declared.function.Function.{Function}
-use Rattle.ir_core.specs.declared.function.Parameter.{Parameter}
-use Rattle.ir_core.specs.declared.outcome.Outcome.{Outcome}
 use Rattle.ir_core.specs.declared.outcome.Outcome.TheVariants as outcomes
-use Rattle.ir_meaning.specs.Laws.{FunctionsHaveOutcomes}
 use Rattle.ir_meaning.proofs.Pieces.{some_at, not_in_empty}
 use Rattle.ir_meaning.proofs.Restricting.{Within, PassedAreHeld, runs_restrict}
 use Rattle.ir_meaning.proofs.Totality.{AllHeld, runs}

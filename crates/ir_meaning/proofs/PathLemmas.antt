@@ -1,15 +1,7 @@
 -- What paths have passed, and in which order.
-use Rattle.std.proofs.Common.{◌≡◌, ℕ, suc, ◌<◌, ◌⊎◌, inl, inr, List, [], ◌∷◌, ◌++◌, length, Option, sym, ap, subst, ◌∙◌, arith}
-use Rattle.std.specs.Prelude.{Contains, option_map, unwrap_or}
-use Rattle.std.proofs.lemmas.Bool.{cases_eq}
-use Rattle.ir_core.specs.declared.function.Function.{Function}
-use Rattle.ir_core.specs.declared.function.Block.{Block}
-use Rattle.ir_core.specs.Blocks.{IsBlock, HasInst}
-use Rattle.ir_core.specs.Reads.{end_of}
-use Rattle.ir_core.specs.Walks.{IsWalk}
+use Rattle.ir_meaning.proofs.Common.{◌≡◌, ℕ, suc, ◌<◌, ◌⊎◌, inl, inr, List, [], ◌∷◌, ◌++◌, length, Option, sym, ap, subst, ◌∙◌, arith, Contains, option_map, cases_eq, Function, Block, IsBlock, HasInst, end_of, IsWalk, Place, ComesNext, IsPath, AssignedIsPassed, DefinedBeforeStaysSo}
+use Rattle.std.specs.Prelude.{unwrap_or}
 use Rattle.ir_meaning.proofs.Pieces.{not_in_empty, first_in, later_in, cases_in}
-use Rattle.ir_meaning.specs.Paths.{Place, ComesNext, IsPath}
-use Rattle.ir_meaning.specs.Assignments.{AssignedIsPassed, DefinedBeforeStaysSo}
 use Rattle.ir_meaning.proofs.Assignments.{Unpassed, unassigned, comes_first}
 
 pub end_of-is : (f : Function) (b : ℕ) (block : Block) → IsBlock f b block → end_of f b ≡ length block.insts

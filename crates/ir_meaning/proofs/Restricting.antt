@@ -1,30 +1,10 @@
 -- A run whose registers hold more than it has assigned is also one whose registers hold just that, since it reads only
 -- what is assigned.
-use Rattle.std.proofs.Common.{◌≡◌, ℕ, zero, suc, ◌+◌, ◌<◌, ◌==◌, eqb, Bool, true, false, ◌&&◌, cond, List, [], ◌∷◌, length, Option, None, Some, option_map, refl, sym, ap, subst, ◌∙◌, inl, inr, ◌⊎◌, arith}
-use Rattle.std.specs.Prelude.{Contains, slice_get}
-use Rattle.std.proofs.lemmas.Bool.{cases_lt}
-use Rattle.std.proofs.lemmas.Option.{none-some, same_Some, slice_get-map, slice_get_past}
-use Rattle.ops.specs.declared.value.Value.{Value}
+use Rattle.ir_meaning.proofs.Common.{◌≡◌, ℕ, zero, suc, ◌+◌, ◌<◌, ◌==◌, eqb, Bool, true, false, ◌&&◌, cond, List, [], ◌∷◌, length, Option, None, Some, option_map, refl, sym, ap, subst, ◌∙◌, inl, inr, ◌⊎◌, arith, Contains, slice_get, cases_lt, none-some, same_Some, slice_get-map, slice_get_past, Value, Effect, IsAssigned, IsBlock, HasInst, Names, targets_of, MeetsChecks, Read, read, end_of, reads_of, reads_at_end, reads_by, reads_in, IsRead, Registers, holding, Ending, Undefines, Returns, Goes, GoesOn, Leads, returning, going_by, branch_target, switch_target, is_indefinite, has_noundef, OperandGives, OpGives, PhiGives, EndGives, Follows, Enters, RunsFrom, IsWalk, Function, Block, Inst, Op, Binary, Compare, Unary, Select, Convert, Freeze, Phi, Operand, Register, Outcome, Terminator}
 use Rattle.ops.specs.declared.value.Value.TheVariants as values
-use Rattle.ops.specs.declared.value.Effect.{Effect}
 use Rattle.ops.specs.declared.value.Effect.TheVariants as effects
-use Rattle.ir_core.specs.Assigned.{IsAssigned}
-use Rattle.ir_core.specs.Blocks.{IsBlock, HasInst, Names, targets_of}
-use Rattle.ir_core.specs.Checks.{MeetsChecks}
-use Rattle.ir_core.specs.Reads.{Read, read, end_of, reads_of, reads_at_end, reads_by, reads_in, IsRead}
-use Rattle.ir_core.specs.Run.{Registers, holding, Ending, Undefines, Returns, Goes, GoesOn, Leads, returning, going_by, branch_target, switch_target, is_indefinite, has_noundef, OperandGives, OpGives, PhiGives, EndGives, Follows, Enters, RunsFrom}
-use Rattle.ir_core.specs.Walks.{IsWalk}
-use Rattle.ir_core.specs.declared.function.Function.{Function}
-use Rattle.ir_core.specs.declared.function.Block.{Block}
-use Rattle.ir_core.specs.declared.instruction.Inst.{Inst}
-use Rattle.ir_core.specs.declared.instruction.Op.{Op}
-use Rattle.ir_core.specs.declared.instruction.Op.TheVariants.{Binary, Compare, Unary, Select, Convert, Freeze, Phi}
-use Rattle.ir_core.specs.declared.operand.Operand.{Operand}
 use Rattle.ir_core.specs.declared.operand.Operand.TheVariants as operands
-use Rattle.ir_core.specs.declared.operand.Register.{Register}
 use Rattle.ir_core.specs.declared.operand.Register.TheVariants as registers
-use Rattle.ir_core.specs.declared.outcome.Outcome.{Outcome}
-use Rattle.ir_core.specs.declared.terminator.Terminator.{Terminator}
 use Rattle.ir_core.specs.declared.terminator.Terminator.TheVariants as terminators
 use Rattle.ir_meaning.proofs.Pieces.{AllAt, all_from_0, first_in, later_in, cases_in, place_in, if_phi_ends, branch_among, switch_among_all}
 

@@ -1,26 +1,11 @@
 -- What one step of a run does to registers; histories as paths.
-use Rattle.std.proofs.Common.{◌≡◌, ℕ, ◌<◌, ◌==◌, ◌&&◌, Bool, true, false, cond, inl, inr, List, [], ◌∷◌, length, map, Some, refl, sym, ap, subst, ◌∙◌, arith}
-use Rattle.std.specs.Prelude.{Contains}
-use Rattle.std.proofs.lemmas.Bool.{cases_eq, ne_eqb, eq-eqb, and_from, and_right}
-use Rattle.std.proofs.lemmas.Option.{none-some, same_Some, slice_get_within}
-use Rattle.ops.specs.declared.value.Value.{Value}
+use Rattle.ir_meaning.proofs.Common.{◌≡◌, ℕ, ◌<◌, ◌==◌, ◌&&◌, Bool, true, false, cond, inl, inr, List, [], ◌∷◌, length, map, Some, refl, sym, ap, subst, ◌∙◌, arith, Contains, cases_eq, ne_eqb, eq-eqb, and_from, and_right, none-some, same_Some, slice_get_within, Value, Function, Block, Inst, Operand, Terminator, targets_of, Names, HasInst, IsInst, end_of, Registers, holding, Ending, Undefines, Returns, Goes, going_by, branch_target, switch_target, is_indefinite, has_noundef, AnyNumber, EndGives, ComesNext, Moment, Runs, Leaves, IsStep, IsHistory, HistoriesArePaths, MomentsAreReached, BlocksAreEnteredFromEnds}
 use Rattle.ops.specs.declared.value.Value.TheVariants as values
-use Rattle.ir_core.specs.declared.function.Function.{Function}
-use Rattle.ir_core.specs.declared.function.Block.{Block}
-use Rattle.ir_core.specs.declared.instruction.Inst.{Inst}
-use Rattle.ir_core.specs.declared.operand.Operand.{Operand}
 use Rattle.ir_core.specs.declared.operand.Operand.TheVariants as operands
 use Rattle.ir_core.specs.declared.operand.Register.TheVariants as registers
-use Rattle.ir_core.specs.declared.terminator.Terminator.{Terminator}
 use Rattle.ir_core.specs.declared.terminator.Terminator.TheVariants as terminators
-use Rattle.ir_core.specs.Blocks.{targets_of, Names, HasInst}
-use Rattle.ir_core.specs.Checks.{IsInst}
-use Rattle.ir_core.specs.Reads.{end_of}
-use Rattle.ir_core.specs.Run.{Registers, holding, Ending, Undefines, Returns, Goes, going_by, branch_target, switch_target, is_indefinite, has_noundef, AnyNumber, EndGives}
 use Rattle.ir_meaning.proofs.Pieces.{first_in, branch_among, switch_among_all}
-use Rattle.ir_meaning.specs.Paths.{ComesNext}
-use Rattle.ir_meaning.specs.Histories.{Moment, place_of, Runs, Leaves, IsStep, IsHistory}
-use Rattle.ir_meaning.specs.HistoryLaws.{HistoriesArePaths, MomentsAreReached, BlocksAreEnteredFromEnds}
+use Rattle.ir_meaning.specs.Histories.{place_of}
 use Rattle.ir_meaning.proofs.PathLemmas.{end_of-is, same_place, path_reaches}
 
 -- ---- where a terminator goes

@@ -1,27 +1,8 @@
 -- Indices of registers in the table, and what a write to one of them changes.
-use Rattle.std.proofs.Common.{◌≡◌, ◌≢◌, ℕ, zero, suc, ◌+◌, ◌<◌, ◌≤◌, eqb, true, false, ◌&&◌, cond, List, [], ◌∷◌, ◌++◌, length, take, set, replicate, get_or, Option, None, Some, option_map, option_and_then, IsSome, refl, sym, ap, subst, ◌∙◌, inl, inr, ◌⊎◌, arith, append_assoc, add-one, zero-add, suc-add, length-append}
-use Rattle.std.specs.Prelude.{slice_get}
-use Rattle.std.specs.List.{sum_by}
-use Rattle.std.proofs.Math.Path.{fun_ext}
-use Rattle.std.proofs.lemmas.Bool.{cases_lt}
-use Rattle.std.proofs.lemmas.Bool.Decides.{eqb_tells}
-use Rattle.std.proofs.lemmas.List.{length-set, length-replicate}
-use Rattle.std.proofs.lemmas.List.Sums.{sum_by-cons}
-use Rattle.std.proofs.lemmas.Option.{none-some, same_Some, slice_get_within, get_or_from_slice_get}
-use Rattle.ops.specs.Value.{IsValueOf}
-use Rattle.ops.specs.declared.value.Value.{Value}
+use Rattle.ir_meaning.proofs.Common.{◌≡◌, ◌≢◌, ℕ, zero, suc, ◌+◌, ◌<◌, ◌≤◌, eqb, true, false, ◌&&◌, cond, List, [], ◌∷◌, ◌++◌, length, take, set, replicate, get_or, Option, None, Some, option_map, option_and_then, IsSome, refl, sym, ap, subst, ◌∙◌, inl, inr, ◌⊎◌, arith, append_assoc, add-one, zero-add, suc-add, length-append, slice_get, sum_by, fun_ext, cases_lt, eqb_tells, length-set, length-replicate, sum_by-cons, none-some, same_Some, slice_get_within, get_or_from_slice_get, IsValueOf, Value, IsBlock, HasInst, width_of, AreArguments, Registers, arguments, holding, Function, Block, Parameter, Inst, Register, first_of, held_of, Fits, IsTable}
 use Rattle.ops.specs.declared.value.Value.TheVariants as values
-use Rattle.ir_core.specs.Blocks.{IsBlock, HasInst}
-use Rattle.ir_core.specs.Names.{width_of}
-use Rattle.ir_core.specs.Refines.{AreArguments}
-use Rattle.ir_core.specs.Run.{Registers, arguments, holding}
-use Rattle.ir_core.specs.declared.function.Function.{Function}
-use Rattle.ir_core.specs.declared.function.Block.{Block}
-use Rattle.ir_core.specs.declared.function.Parameter.{Parameter}
-use Rattle.ir_core.specs.declared.instruction.Inst.{Inst}
-use Rattle.ir_core.specs.declared.operand.Register.{Register}
 use Rattle.ir_core.specs.declared.operand.Register.TheVariants as registers
-use Rattle.ir_meaning.specs.Table.{first_of, place_of, held_of, Fits, IsTable}
+use Rattle.ir_meaning.specs.Table.{place_of}
 use Rattle.ir_meaning.proofs.Outcomes.{arguments_count}
 use Rattle.ir_meaning.proofs.Pieces.{some_at}
 

@@ -1,30 +1,10 @@
 -- If every register holds something, a run has an outcome in which each number that is left open is 0.
-use Rattle.std.proofs.Common.{◌≡◌, ℕ, zero, suc, ◌<◌, Bool, true, false, ◌&&◌, cond, List, [], ◌∷◌, length, Option, None, Some, refl, subst, arith}
-use Rattle.std.specs.Prelude.{Contains, slice_get}
-use Rattle.ops.specs.Instruction.{instruction}
-use Rattle.ops.specs.Comparison.{comparison, selection}
-use Rattle.ops.specs.Conversion.{conversion}
-use Rattle.ops.specs.Unary.{unary}
-use Rattle.ops.specs.declared.value.Value.{Value}
+use Rattle.ir_meaning.proofs.Common.{◌≡◌, ℕ, zero, suc, ◌<◌, Bool, true, false, ◌&&◌, cond, List, [], ◌∷◌, length, Option, None, Some, refl, subst, arith, Contains, slice_get, instruction, comparison, selection, conversion, unary, Value, Effect, IsBlock, Names, targets_of, IsFormed, IsPhi, Registers, holding, Ending, Undefines, Returns, Goes, Leads, IfPhi, OnlyZero, returning, going_by, branch_target, switch_target, is_indefinite, has_noundef, OperandGives, Freezes, OpGives, PhiGives, EndGives, GoesOn, Follows, Enters, RunsFrom, Function, Block, Inst, Op, Binary, Compare, Unary, Select, Convert, Freeze, Phi, Operand, Register, Outcome, Terminator, IsEntered}
 use Rattle.ops.specs.declared.value.Value.TheVariants as values
-use Rattle.ops.specs.declared.value.Effect.{Effect}
 use Rattle.ops.specs.declared.value.Effect.TheVariants as effects
-use Rattle.ir_core.specs.Blocks.{IsBlock, Names, targets_of}
-use Rattle.ir_core.specs.Checks.{IsFormed, IsPhi}
-use Rattle.ir_core.specs.Run.{Registers, holding, Ending, Undefines, Returns, Goes, Leads, IfPhi, OnlyZero, returning, going_by, branch_target, switch_target, is_indefinite, has_noundef, OperandGives, Freezes, OpGives, PhiGives, EndGives, GoesOn, Follows, Enters, RunsFrom}
-use Rattle.ir_core.specs.declared.function.Function.{Function}
-use Rattle.ir_core.specs.declared.function.Block.{Block}
-use Rattle.ir_core.specs.declared.instruction.Inst.{Inst}
-use Rattle.ir_core.specs.declared.instruction.Op.{Op}
-use Rattle.ir_core.specs.declared.instruction.Op.TheVariants.{Binary, Compare, Unary, Select, Convert, Freeze, Phi}
-use Rattle.ir_core.specs.declared.operand.Operand.{Operand}
 use Rattle.ir_core.specs.declared.operand.Operand.TheVariants as operands
-use Rattle.ir_core.specs.declared.operand.Register.{Register}
-use Rattle.ir_core.specs.declared.outcome.Outcome.{Outcome}
 use Rattle.ir_core.specs.declared.outcome.Outcome.TheVariants as outcomes
-use Rattle.ir_core.specs.declared.terminator.Terminator.{Terminator}
 use Rattle.ir_core.specs.declared.terminator.Terminator.TheVariants as terminators
-use Rattle.ir_meaning.specs.Step.{IsEntered}
 use Rattle.ir_meaning.proofs.Pieces.{some_at, contains_at, first_in, branch_among, switch_among_all, if_phi_ends}
 use Rattle.ir_meaning.proofs.Restricting.{IsHeld, holding_held}
 

@@ -1,36 +1,10 @@
 -- Values that registers hold keep their widths.
-use Rattle.std.proofs.Common.{◌≡◌, ℕ, zero, suc, ◌<◌, ◌^◌, ◌⊎◌, inl, inr, List, [], ◌∷◌, Option, None, Some, refl, sym, subst, ◌∙◌}
-use Rattle.std.specs.Prelude.{slice_get, option_map}
-use Rattle.std.proofs.lemmas.Bool.{cases_eq}
-use Rattle.std.proofs.lemmas.Option.{none-some, same_Some}
-use Rattle.ops.specs.Number.{Number}
-use Rattle.ops.specs.Value.{IsValueOf, IsEffectOf}
-use Rattle.ops.specs.Instruction.{instruction}
-use Rattle.ops.specs.Comparison.{comparison, selection}
-use Rattle.ops.specs.Conversion.{conversion}
-use Rattle.ops.specs.Unary.{unary}
-use Rattle.ops.specs.declared.value.Value.{Value}
+use Rattle.ir_meaning.proofs.Common.{◌≡◌, ℕ, zero, suc, ◌<◌, ◌^◌, ◌⊎◌, inl, inr, List, [], ◌∷◌, Option, None, Some, refl, sym, subst, ◌∙◌, slice_get, option_map, cases_eq, none-some, same_Some, Number, IsValueOf, IsEffectOf, instruction, comparison, selection, conversion, unary, Value, Effect, IsEffectOf-instruction, IsValueOf-comparison, IsValueOf-conversion, IsValueOf-unary, IsValueOf-selection, Function, Parameter, Inst, Op, Binary, Compare, Unary, Select, Convert, Freeze, Phi, Operand, IsFormed, IsInst, IsPhi, IsTyped, OperandHasWidth, width_of, Read, read, end_of, reads_of, AreArguments, Registers, arguments, holding, AnyNumber, OperandGives, Freezes, OpGives, PhiGives, Goes, HoldWidths, OperandsHaveWidths, Moment, entering, once_held, InstGives, IsStep, IsHistory, NumbersFit, HeldHaveWidths}
 use Rattle.ops.specs.declared.value.Value.TheVariants as values
-use Rattle.ops.specs.declared.value.Effect.{Effect}
 use Rattle.ops.specs.declared.value.Effect.TheVariants as effects
-use Rattle.ops.proofs.Widths.{IsEffectOf-instruction, IsValueOf-comparison, IsValueOf-conversion, IsValueOf-unary, IsValueOf-selection}
-use Rattle.ir_core.specs.declared.function.Function.{Function}
-use Rattle.ir_core.specs.declared.function.Parameter.{Parameter}
-use Rattle.ir_core.specs.declared.instruction.Inst.{Inst}
-use Rattle.ir_core.specs.declared.instruction.Op.{Op}
-use Rattle.ir_core.specs.declared.instruction.Op.TheVariants.{Binary, Compare, Unary, Select, Convert, Freeze, Phi}
-use Rattle.ir_core.specs.declared.operand.Operand.{Operand}
 use Rattle.ir_core.specs.declared.operand.Operand.TheVariants as operands
 use Rattle.ir_core.specs.declared.operand.Register.TheVariants as registers
-use Rattle.ir_core.specs.Checks.{IsFormed, IsInst, IsPhi, IsTyped, OperandHasWidth}
-use Rattle.ir_core.specs.Names.{width_of}
-use Rattle.ir_core.specs.Reads.{Read, read, end_of, reads_of}
-use Rattle.ir_core.specs.Refines.{AreArguments}
-use Rattle.ir_core.specs.Run.{Registers, arguments, holding, AnyNumber, OperandGives, Freezes, OpGives, PhiGives, Goes}
-use Rattle.ir_meaning.specs.Laws.{HoldWidths, OperandsHaveWidths}
 use Rattle.ir_meaning.proofs.Restricting.{reads_inst, phi_read}
-use Rattle.ir_meaning.specs.Histories.{Moment, entering, once_held, InstGives, IsStep, IsHistory}
-use Rattle.ir_meaning.specs.HistoryLaws.{NumbersFit, HeldHaveWidths}
 use Rattle.ir_meaning.proofs.Steps.{held_here, held_elsewhere, end_among}
 use Rattle.ir_meaning.proofs.HistoryOutcomes.{phi_cases}
 use Rattle.ir_meaning.proofs.Following.{width_known}

@@ -1,21 +1,9 @@
 -- An outcome in which each number that is left open is 0 is one in which it may be any number.
-use Rattle.std.proofs.Common.{ℕ, zero, suc, ◌<◌, ◌^◌, Bool, true, false, List, [], ◌∷◌, Option, None, Some, sym, subst}
-use Rattle.std.proofs.lemmas.Nat.{pow_pos}
-use Rattle.ops.specs.declared.value.Value.{Value}
+use Rattle.ir_meaning.proofs.Common.{ℕ, zero, suc, ◌<◌, ◌^◌, Bool, true, false, List, [], ◌∷◌, Option, None, Some, sym, subst, pow_pos, Value, Effect, Registers, arguments, holding, Ending, Undefines, Returns, Goes, GoesOn, Leads, IsChosen, OperandGives, Freezes, OpGives, PhiGives, EndGives, Follows, Enters, RunsFrom, Starts, AnyNumber, OnlyZero, breaks_noundef, Function, Inst, Op, Binary, Compare, Unary, Select, Convert, Freeze, Phi, Operand, Terminator, Outcome, ZeroOutcomesAreOutcomes}
 use Rattle.ops.specs.declared.value.Value.TheVariants as values
-use Rattle.ops.specs.declared.value.Effect.{Effect}
 use Rattle.ops.specs.declared.value.Effect.TheVariants as effects
-use Rattle.ir_core.specs.Run.{Registers, arguments, holding, Ending, Undefines, Returns, Goes, GoesOn, Leads, IsChosen, OperandGives, Freezes, OpGives, PhiGives, EndGives, Follows, Enters, RunsFrom, Starts, AnyNumber, OnlyZero, breaks_noundef}
-use Rattle.ir_core.specs.declared.function.Function.{Function}
-use Rattle.ir_core.specs.declared.instruction.Inst.{Inst}
-use Rattle.ir_core.specs.declared.instruction.Op.{Op}
-use Rattle.ir_core.specs.declared.instruction.Op.TheVariants.{Binary, Compare, Unary, Select, Convert, Freeze, Phi}
-use Rattle.ir_core.specs.declared.operand.Operand.{Operand}
 use Rattle.ir_core.specs.declared.operand.Operand.TheVariants as operands
-use Rattle.ir_core.specs.declared.terminator.Terminator.{Terminator}
 use Rattle.ir_core.specs.declared.terminator.Terminator.TheVariants as terminators
-use Rattle.ir_core.specs.declared.outcome.Outcome.{Outcome}
-use Rattle.ir_meaning.specs.Laws.{ZeroOutcomesAreOutcomes}
 use Rattle.ir_meaning.proofs.Pieces.{if_phi_map}
 
 chosen_any : (w : ℕ) (v : Value) → IsChosen OnlyZero w v → IsChosen AnyNumber w v

@@ -1,35 +1,9 @@
 -- Tokens that spell something spell it with more tokens behind them too.
-use Rattle.std.proofs.Common.{ℕ, List, [], ◌∷◌, ◌++◌, Option, Some, None, ap, ◌∙◌, append_assoc}
-use Rattle.ops.specs.declared.opcode.Flags.{Flags}
-use Rattle.ops.specs.declared.opcode.Opcode.{Opcode}
-use Rattle.ops.specs.Flags.{flags_of, flags_of_cast, flags_of_icmp, icmp_flags}
-use Rattle.ops.specs.declared.opcode.Unary.{Unary}
-use Rattle.ir_tokens.specs.Tokens.{Token, Placed, End, Other, Bad, Kept, KeptGroup, Label, Word, Number, Register, Function, Group, Metadata, Quoted, Mark}
-use Rattle.ir_tokens.specs.declared.raw.RawArguments.{RawArguments}
+use Rattle.ir_parse.proofs.Common.{ℕ, List, [], ◌∷◌, ◌++◌, Option, Some, None, ap, ◌∙◌, append_assoc, Flags, Opcode, flags_of, flags_of_cast, flags_of_icmp, icmp_flags, Unary, Token, Placed, End, Other, Bad, Kept, KeptGroup, Label, Word, Number, Register, Function, Group, Metadata, Quoted, Mark, RawArguments, RawCall, Intrinsic, Items, ItemsOn, StopsOn, SpellsArgument, SpellsTruthOf, SpellsArguments, SpellsCallee, SpellsClose, SpellsMarker, unmarked, notail, SpellsCall, intrinsic_of, RawEntry, RawFunction, RawParameter, RawIdentifier, RawBlock, RawInst, RawOp, Binary, Compare, Call, Select, Convert, Freeze, Phi, TypedOperand, RawOperand, RawIncoming, RawTerminator, Return, Unreachable, Jump, Branch, Switch, RawCase, Attachment, SpellsRegister, SpellsTarget, SpellsType, SpellsOperand, SpellsTyped, Tail, SpellsFlags, SpellsIncoming, IsOpcode, SpellsOp, SpellsInst, SpellsCase, SpellsCases, SpellsTerminator, Part, IsOn, Is, Nothing, ◌⨾◌, Maybe, Each, Comma, Separated, Repeated, SpellsLabel, SpellsBlock, SpellsLabelledBlock, SpellsBlocks, SpellsParameter, SpellsParameterList, SpellsParameters, SpellsName, SpellsBody, SpellsFunction, SpellsEntry, SpellsItem, of_word, of_word_and_group, of_number, of_group, of_quoted, of_key_and_value}
 use Rattle.ir_tokens.specs.declared.raw.RawArguments.TheVariants as arguments
-use Rattle.ir_tokens.specs.declared.raw.RawCall.{RawCall}
-use Rattle.ir_instructions.specs.declared.intrinsic.Intrinsic.{Intrinsic}
-use Rattle.ir_instructions.specs.CallGrammar.{Items, ItemsOn, StopsOn, SpellsArgument, SpellsTruthOf, SpellsArguments, SpellsCallee, SpellsClose, SpellsMarker, unmarked, tail as tail_marker, notail, SpellsCall, intrinsic_of}
+use Rattle.ir_instructions.specs.CallGrammar.{tail as tail_marker}
 use Rattle.ir_instructions.specs.Punctuation as marks
-use Rattle.ir_tokens.specs.declared.raw.RawEntry.{RawEntry}
 use Rattle.ir_tokens.specs.declared.raw.RawEntry.TheVariants as entries
-use Rattle.ir_tokens.specs.declared.raw.RawFunction.{RawFunction}
-use Rattle.ir_tokens.specs.declared.raw.RawParameter.{RawParameter}
-use Rattle.ir_tokens.specs.declared.raw.RawIdentifier.{RawIdentifier}
-use Rattle.ir_tokens.specs.declared.raw.RawBlock.{RawBlock}
-use Rattle.ir_tokens.specs.declared.raw.RawInst.{RawInst}
-use Rattle.ir_tokens.specs.declared.raw.RawOp.{RawOp}
-use Rattle.ir_tokens.specs.declared.raw.RawOp.TheVariants.{Binary, Compare, Call, Select, Convert, Freeze, Phi}
-use Rattle.ir_tokens.specs.declared.raw.TypedOperand.{TypedOperand}
-use Rattle.ir_tokens.specs.declared.raw.RawOperand.{RawOperand}
-use Rattle.ir_tokens.specs.declared.raw.RawIncoming.{RawIncoming}
-use Rattle.ir_tokens.specs.declared.raw.RawTerminator.{RawTerminator}
-use Rattle.ir_tokens.specs.declared.raw.RawTerminator.TheVariants.{Return, Unreachable, Jump, Branch, Switch}
-use Rattle.ir_tokens.specs.declared.raw.RawCase.{RawCase}
-use Rattle.ir_instructions.specs.Grammar.{Attachment, SpellsRegister, SpellsTarget, SpellsType, SpellsOperand, SpellsTyped, Tail, SpellsFlags, SpellsIncoming, IsOpcode, SpellsOp, SpellsInst, SpellsCase, SpellsCases, SpellsTerminator}
-use Rattle.ir_instructions.specs.Parts.{Part, IsOn, Is, Nothing, ◌⨾◌, Maybe, Each, Comma, Separated, Repeated}
-use Rattle.ir_parse.specs.Grammar.{SpellsLabel, SpellsBlock, SpellsLabelledBlock, SpellsBlocks, SpellsParameter, SpellsParameterList, SpellsParameters, SpellsName, SpellsBody, SpellsFunction, SpellsEntry}
-use Rattle.ir_instructions.specs.ItemGrammar.{SpellsItem, of_word, of_word_and_group, of_number, of_group, of_quoted, of_key_and_value}
 
 -- appending tokens to the rest leaves what the part spells
 abbrev pub Frames : Part → Type 0

@@ -1,34 +1,8 @@
 -- Soundness of the parser for blocks, functions and modules: what it gives is spelled so.
-use Rattle.std.proofs.Common.{◌≡◌, ℕ, Bool, true, false, cond, List, [], ◌∷◌, Option, Some, None, Ok, Err, refl, sym, subst}
-use Rattle.std.specs.Prelude.{codes, IsSome}
-use Rattle.std.specs.Str.{bytes_eq}
-use Rattle.ops.proofs.KeywordLemmas.{same_word}
-use Rattle.ir_tokens.specs.declared.called.Identifier.{Identifier}
-use Rattle.ir_tokens.specs.declared.called.Identifier.TheVariants.{Named, Numbered}
-use Rattle.ir_tokens.specs.Identifiers.{identifier_of}
-use Rattle.ir_tokens.specs.Tokens.{Placed, End, Kept, Label, Word, Register, Function}
-use Rattle.ir_tokens.specs.declared.fault.IrFaultKind.TheVariants.{LeftOut}
-use Rattle.ir_tokens.specs.declared.raw.RawModule.{RawModule}
-use Rattle.ir_tokens.specs.declared.raw.RawEntry.{RawEntry}
+use Rattle.ir_parse.proofs.Common.{◌≡◌, ℕ, Bool, true, false, cond, List, [], ◌∷◌, Option, Some, None, Ok, Err, refl, sym, subst, codes, IsSome, bytes_eq, same_word, Identifier, Named, Numbered, identifier_of, Placed, End, Kept, Label, Word, Register, Function, LeftOut, RawModule, RawEntry, RawFunction, RawParameter, RawIdentifier, RawBlock, SpellsRegister, is_mark, mark_at, type_at, tail_at, attachments_at, insts_at, identified, terminator_at, Part, Is, ◌⨾◌, Maybe, Comma, Separated, Read, ◌>>=◌, done, fault, SpellsLabel, SpellsBlock, SpellsLabelledBlock, SpellsBlocks, SpellsParameter, SpellsParameterList, SpellsParameters, SpellsBody, SpellsName, SpellsFunction, SpellsEntry, SpellsModule, is_label, label_at, block_at, blocks_at, parameter_name_at, parameter_at, further_parameter_at, some_parameters_at, parameter_list_at, parameters_at, named_function, function_name_at, body_at, function_at, entry_at, begins_entry, entries_at, module_from, module_of, items_at, last_items_at, each-is, all_read, insts_at-is, mark_at-is, type_at-is, tail_at-is, attachments_at-is, Reads, bind_ok, read_as, items_at-is, last_items_at-is, terminator_at-is}
 use Rattle.ir_tokens.specs.declared.raw.RawEntry.TheVariants as entries
-use Rattle.ir_tokens.specs.declared.raw.RawFunction.{RawFunction}
-use Rattle.ir_tokens.specs.declared.raw.RawParameter.{RawParameter}
-use Rattle.ir_tokens.specs.declared.raw.RawIdentifier.{RawIdentifier}
-use Rattle.ir_tokens.specs.declared.raw.RawBlock.{RawBlock}
-use Rattle.ir_instructions.specs.Grammar.{SpellsRegister}
-use Rattle.ir_instructions.specs.InstructionReaders.{is_mark, mark_at, type_at, tail_at, attachments_at, insts_at, identified, terminator_at}
-use Rattle.ir_instructions.specs.Parts.{Part, Is, ◌⨾◌, Maybe, Comma, Separated}
-use Rattle.ir_instructions.specs.Readers.{Read, ◌>>=◌, done, fault}
 use Rattle.ir_instructions.specs.Punctuation as marks
-use Rattle.ir_parse.specs.Grammar.{SpellsLabel, SpellsBlock, SpellsLabelledBlock, SpellsBlocks, SpellsParameter, SpellsParameterList, SpellsParameters, SpellsBody, SpellsName, SpellsFunction, SpellsEntry, SpellsModule}
-use Rattle.ir_parse.specs.ModuleReaders.{is_label, label_at, block_at, blocks_at, parameter_name_at, parameter_at, further_parameter_at, some_parameters_at, parameter_list_at, parameters_at, named_function, function_name_at, body_at, function_at, entry_at, begins_entry, entries_at, module_from, module_of}
-use Rattle.ir_instructions.specs.ItemReaders.{items_at, last_items_at}
-use Rattle.ir_instructions.proofs.Loops.{each-is, all_read}
-use Rattle.ir_instructions.proofs.OpReadings.{insts_at-is, separated}
-use Rattle.ir_instructions.proofs.Readings.{mark_at-is, type_at-is, tail_at-is, attachments_at-is}
-use Rattle.ir_instructions.proofs.Steps.{Reads, bind_ok, read_as}
-use Rattle.ir_instructions.proofs.ItemReadings.{items_at-is, last_items_at-is}
-use Rattle.ir_instructions.proofs.TerminatorReadings.{terminator_at-is}
+use Rattle.ir_instructions.proofs.OpReadings.{separated}
 
 -- ---- blocks
 

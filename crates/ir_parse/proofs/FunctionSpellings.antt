@@ -1,26 +1,7 @@
 -- Completeness of the parser for blocks, functions and modules: it gives what is spelled, if what follows may follow.
-use Rattle.std.proofs.Common.{◌≡◌, ℕ, true, false, eqb, List, [], ◌∷◌, Option, Some, None, Ok, refl, ap}
-use Rattle.std.specs.Prelude.{codes, IsSome}
-use Rattle.ir_tokens.specs.Tokens.{Placed, Label, Word, Mark}
-use Rattle.ir_tokens.specs.declared.raw.RawModule.{RawModule}
-use Rattle.ir_tokens.specs.declared.raw.RawEntry.{RawEntry}
+use Rattle.ir_parse.proofs.Common.{◌≡◌, ℕ, true, false, eqb, List, [], ◌∷◌, Option, Some, None, Ok, refl, ap, codes, IsSome, Placed, Label, Word, Mark, RawModule, RawEntry, RawFunction, RawParameter, RawIdentifier, RawBlock, RawInst, SpellsRegister, SpellsInst, SpellsTerminator, SpellsType, is_mark, MayFollowItem, Part, Is, ◌⨾◌, Maybe, Each, Comma, SpellsLabel, SpellsBlock, SpellsLabelledBlock, SpellsBlocks, SpellsParameter, SpellsParameterList, SpellsParameters, SpellsBody, SpellsName, SpellsFunction, SpellsEntry, SpellsModule, is_label, label_at, block_at, blocks_at, parameter_name_at, parameter_at, further_parameter_at, some_parameters_at, parameter_list_at, parameters_at, function_name_at, body_at, function_at, entry_at, begins_entry, entries_at, module_from, module_of, ReadsEach, each-of, HasNoTail, insts_at-of, terminator_at-of, terminator_begins, mark_at-of, type_at-of, attachments_at-of, tail_at-of, type_begins_no_item, items_at-of, MayFollowItems, last_items_at-of}
 use Rattle.ir_tokens.specs.declared.raw.RawEntry.TheVariants as entries
-use Rattle.ir_tokens.specs.declared.raw.RawFunction.{RawFunction}
-use Rattle.ir_tokens.specs.declared.raw.RawParameter.{RawParameter}
-use Rattle.ir_tokens.specs.declared.raw.RawIdentifier.{RawIdentifier}
-use Rattle.ir_tokens.specs.declared.raw.RawBlock.{RawBlock}
-use Rattle.ir_tokens.specs.declared.raw.RawInst.{RawInst}
-use Rattle.ir_instructions.specs.Grammar.{SpellsRegister, SpellsInst, SpellsTerminator, SpellsType}
-use Rattle.ir_instructions.specs.InstructionReaders.{is_mark}
-use Rattle.ir_instructions.specs.ItemGrammar.{MayFollowItem}
-use Rattle.ir_instructions.specs.Parts.{Part, Is, ◌⨾◌, Maybe, Each, Comma}
 use Rattle.ir_instructions.specs.Punctuation as marks
-use Rattle.ir_parse.specs.Grammar.{SpellsLabel, SpellsBlock, SpellsLabelledBlock, SpellsBlocks, SpellsParameter, SpellsParameterList, SpellsParameters, SpellsBody, SpellsName, SpellsFunction, SpellsEntry, SpellsModule}
-use Rattle.ir_parse.specs.ModuleReaders.{is_label, label_at, block_at, blocks_at, parameter_name_at, parameter_at, further_parameter_at, some_parameters_at, parameter_list_at, parameters_at, function_name_at, body_at, function_at, entry_at, begins_entry, entries_at, module_from, module_of}
-use Rattle.ir_instructions.proofs.Loops.{ReadsEach, each-of}
-use Rattle.ir_instructions.proofs.OpSpellings.{HasNoTail, insts_at-of, terminator_at-of, terminator_begins}
-use Rattle.ir_instructions.proofs.Spellings.{mark_at-of, type_at-of, attachments_at-of, tail_at-of}
-use Rattle.ir_instructions.proofs.ItemSpellings.{type_begins_no_item, items_at-of, MayFollowItems, last_items_at-of}
 use Rattle.ir_parse.proofs.TakingParts.{block-takes, parameter-takes, entry-takes}
 
 -- ---- blocks

@@ -1,3 +1,4 @@
+pub mod Common
 pub mod Framing
 pub mod FunctionReadings
 pub mod FunctionSpellings

@@ -1,18 +1,7 @@
 -- Behind each production fewer tokens are left, or at least no more.
-use Rattle.std.proofs.Common.{ℕ, List, [], ◌∷◌, Option, Some, None}
-use Rattle.std.specs.Prelude.{IsSome}
-use Rattle.ir_tokens.specs.declared.raw.RawEntry.{RawEntry}
+use Rattle.ir_parse.proofs.Common.{ℕ, List, [], ◌∷◌, Option, Some, None, IsSome, RawEntry, RawFunction, RawParameter, RawIdentifier, RawBlock, SpellsRegister, Attachment, ◌⨾◌, Maybe, Each, Comma, SpellsItem, item-shorter, SpellsLabel, SpellsBlock, SpellsLabelledBlock, SpellsBlocks, SpellsParameter, SpellsParameterList, SpellsParameters, SpellsBody, SpellsName, SpellsFunction, SpellsEntry, Shorter, NoLonger, weaker, begins, both, on_line, token, a_token, no_part, maybe, each, repeated, a_register, a_type, attachment-shorter, tail, terminator, insts}
 use Rattle.ir_tokens.specs.declared.raw.RawEntry.TheVariants as entries
-use Rattle.ir_tokens.specs.declared.raw.RawFunction.{RawFunction}
-use Rattle.ir_tokens.specs.declared.raw.RawParameter.{RawParameter}
-use Rattle.ir_tokens.specs.declared.raw.RawIdentifier.{RawIdentifier}
-use Rattle.ir_tokens.specs.declared.raw.RawBlock.{RawBlock}
-use Rattle.ir_instructions.specs.Grammar.{SpellsRegister, Attachment}
-use Rattle.ir_instructions.specs.Parts.{◌⨾◌, Maybe, Each, Comma}
-use Rattle.ir_instructions.specs.ItemGrammar.{SpellsItem}
-use Rattle.ir_instructions.proofs.ItemSizes.{item-shorter}
-use Rattle.ir_parse.specs.Grammar.{SpellsLabel, SpellsBlock, SpellsLabelledBlock, SpellsBlocks, SpellsParameter, SpellsParameterList, SpellsParameters, SpellsBody, SpellsName, SpellsFunction, SpellsEntry}
-use Rattle.ir_instructions.proofs.Shorter.{Shorter, NoLonger, weaker, begins, both, on_line, token, a_token, no_part, maybe, each, repeated, a_register, a_type, attachment-shorter, tail, separated, terminator, insts}
+use Rattle.ir_instructions.proofs.Shorter.{separated}
 
 label : (l : RawIdentifier) → Shorter (SpellsLabel l)
 label l tokens rest (written, same, is) = on_line l.line _ tokens rest is

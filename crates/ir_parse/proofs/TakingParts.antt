@@ -1,8 +1,6 @@
 -- Each production that may be repeated takes at least one token.
-use Rattle.ir_instructions.specs.InstructionReaders.{is_mark}
-use Rattle.ir_instructions.specs.Readers.{TakesSome}
+use Rattle.ir_parse.proofs.Common.{is_mark, TakesSome, is_label, block_at, further_parameter_at, begins_entry, entry_at}
 use Rattle.ir_instructions.specs.Punctuation as marks
-use Rattle.ir_parse.specs.ModuleReaders.{is_label, block_at, further_parameter_at, begins_entry, entry_at}
 use Rattle.ir_parse.proofs.FunctionReadings.{block_is_labelled, further_parameter_at-is, entry_at-is}
 use Rattle.ir_parse.proofs.ShorterParts.{block-shorter, further_parameter-shorter, entry-shorter}
 

@@ -1,23 +1,5 @@
 -- A text has one module or one fault.
-use Rattle.std.proofs.Common.{◌≡◌, ◌<◌, ◌≤◌, ℕ, Bool, true, false, leb, List, Result, Ok, Err, length, refl, sym, ap, ◌∙◌, ◌⊎◌, inl, inr, arith}
-use Rattle.std.specs.Prelude.{IfOk, OnOk, IfErr}
-use Rattle.std.proofs.lemmas.Bool.{leb-true, leb-false}
-use Rattle.ir_tokens.specs.Laws.{TextsHaveOneListOfTokens}
-use Rattle.ir_tokens.specs.Order.{AreTokens}
-use Rattle.ir_tokens.specs.Tokens.{Placed}
-use Rattle.ir_tokens.specs.declared.fault.IrFaultKind.TheVariants.{TooLong}
-use Rattle.refusal.specs.declared.refusal.Refusal.{Refusal}
-use Rattle.refusal.specs.declared.refusal.Refusal.TheVariants.{Refused, NoMemory}
-use Rattle.refusal.specs.declared.fault.Fault.{Fault}
-use Rattle.ir_tokens.specs.declared.fault.IrFaultKind.{IrFaultKind}
-use Rattle.ir_tokens.specs.declared.raw.RawModule.{RawModule}
-use Rattle.refusal.specs.Refusals.{Gives}
-use Rattle.ir_instructions.specs.Readers.{fault}
-use Rattle.ir_parse.specs.Laws.{TextsHaveOneReadingOrFault}
-use Rattle.ir_parse.specs.ModuleReaders.{module_of}
-use Rattle.refusal.specs.Refusals.{IfRefused}
-use Rattle.ir_parse.specs.Text.{most_bytes, IsRaw, IsTextFault, too_long, misfit}
-use Rattle.ir_instructions.proofs.Steps.{ok_is}
+use Rattle.ir_parse.proofs.Common.{◌≡◌, ◌<◌, ◌≤◌, ℕ, Bool, true, false, leb, List, Result, Ok, Err, length, refl, sym, ap, ◌∙◌, ◌⊎◌, inl, inr, arith, IfOk, OnOk, IfErr, leb-true, leb-false, TextsHaveOneListOfTokens, AreTokens, Placed, TooLong, Refusal, Refused, NoMemory, Fault, IrFaultKind, RawModule, Gives, fault, TextsHaveOneReadingOrFault, module_of, IfRefused, most_bytes, IsRaw, IsTextFault, too_long, misfit, ok_is}
 use Rattle.ir_parse.proofs.FunctionReadings.{module_of-is}
 use Rattle.ir_parse.proofs.FunctionSpellings.{module_of-of}
 

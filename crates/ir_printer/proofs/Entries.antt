@@ -1,15 +1,6 @@
 -- The text of entries, as far as they are printed.
-use Rattle.std.proofs.Common.{◌≡◌, ℕ, zero, suc, ◌+◌, ◌<◌, List, [], ◌∷◌, ◌++◌, length, take, get_or, Some, sym, ap, subst, ◌∙◌, append_assoc, add-one}
-use Rattle.std.specs.Prelude.{slice_get, All}
-use Rattle.std.proofs.lemmas.Option.{slice_get-get_or, slice_get_within, get_or_from_slice_get}
-use Rattle.ir_core.specs.declared.module.Module.{Module}
-use Rattle.ir_core.specs.declared.module.Entry.{Entry}
+use Rattle.ir_printer.proofs.Common.{◌≡◌, ℕ, zero, suc, ◌+◌, ◌<◌, List, [], ◌∷◌, ◌++◌, length, take, get_or, Some, sym, ap, subst, ◌∙◌, append_assoc, add-one, slice_get, All, slice_get-get_or, slice_get_within, get_or_from_slice_get, Module, Entry, Function, HasFewThings, between_text, entry_text, entries_text, EntryHasFewNames, gap_before}
 use Rattle.ir_core.specs.declared.module.Entry.TheVariants as entries
-use Rattle.ir_core.specs.declared.function.Function.{Function}
-use Rattle.ir_text.specs.Laws.{HasFewThings}
-use Rattle.ir_text.specs.PrintedText.{between_text, entry_text, entries_text}
-use Rattle.ir_printer.specs.FewNames.{EntryHasFewNames}
-use Rattle.ir_printer.specs.Gaps.{gap_before}
 
 -- one more entry, with what is printed before it
 push : (es : List Entry) (i : ℕ) (x : Entry) → slice_get es i ≡ Some x → entries_text (take (suc i) es) ≡ entries_text (take i es) ++ (gap_before es i ++ entry_text x)

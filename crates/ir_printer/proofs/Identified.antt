@@ -1,22 +1,8 @@
 -- The identifiers of lists of names, one behind the other.
-use Rattle.std.proofs.Common.{◌≡◌, ℕ, suc, ◌+◌, ◌<◌, ◌≤◌, ◌^◌, List, [], ◌∷◌, ◌++◌, length, map, take, get_or, slice_get, None, Some, refl, sym, ap, ◌∙◌, append_assoc, arith, inl, inr}
-use Rattle.std.specs.List.{flat_map}
-use Rattle.std.proofs.lemmas.Bool.{cases_lt}
-use Rattle.std.proofs.lemmas.List.{map_more, take_more, take-take, take_all, append-nil, length-append, length-map, length-take-le, get_or_append_left, get_or_push}
-use Rattle.std.proofs.lemmas.List.Concat.{flat_map-append}
-use Rattle.std.proofs.lemmas.Option.{slice_get_past, slice_get_within, slice_get-get_or, get_or_from_slice_get}
-use Rattle.ir_core.specs.Names.{Name, names_of, block_names, block_place, place_of}
-use Rattle.ir_tokens.specs.declared.called.Identifier.{Identifier}
-use Rattle.ir_tokens.specs.declared.called.Identifier.TheVariants.{Named, Numbered}
-use Rattle.ir_resolve.specs.Identifiers.{identifiers_from, identifiers_of, identifier_of}
-use Rattle.ir_core.specs.declared.function.Block.{Block}
-use Rattle.ir_core.specs.declared.function.Function.{Function}
-use Rattle.ir_core.specs.declared.operand.Register.{Register}
+use Rattle.ir_printer.proofs.Common.{◌≡◌, ℕ, suc, ◌+◌, ◌<◌, ◌≤◌, ◌^◌, List, [], ◌∷◌, ◌++◌, length, map, take, get_or, slice_get, None, Some, refl, sym, ap, ◌∙◌, append_assoc, arith, inl, inr, flat_map, cases_lt, map_more, take_more, take-take, take_all, length-append, length-map, length-take-le, get_or_append_left, get_or_push, flat_map-append, slice_get_past, slice_get_within, slice_get-get_or, get_or_from_slice_get, Name, names_of, block_names, block_place, place_of, Identifier, Named, Numbered, identifiers_from, identifiers_of, identifier_of, Block, Function, Register, block_identifier, HasFewNames, seen, next_after, Adds, AreBlockStarts}
+use Rattle.std.proofs.lemmas.List.{append-nil}
 use Rattle.ir_core.specs.declared.operand.Register.TheVariants as registers
-use Rattle.ir_text.specs.PrintedText.{block_identifier}
 use Rattle.ir_printer.specs.declared.identifier.Identifier.{Identifier as Stored}
-use Rattle.ir_printer.specs.FewNames.{HasFewNames}
-use Rattle.ir_printer.specs.Series.{seen, next_after, Adds, AreBlockStarts}
 
 -- the identifiers of a concatenation of names
 pub identifiers_from-append : (next : ℕ) (xs ys : List Name) → identifiers_from next (xs ++ ys) ≡ identifiers_from next xs ++ identifiers_from (next_after next xs) ys

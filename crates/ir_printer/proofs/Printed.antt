@@ -1,9 +1,6 @@
 -- The texts of lists, as far as a loop has printed them.
-use Rattle.std.proofs.Common.{◌≡◌, ℕ, suc, ◌+◌, ◌<◌, ◌≤◌, false, cond, eqb, List, [], ◌∷◌, ◌++◌, length, take, get_or, refl, sym, ap, ◌∙◌, append_assoc, arith, rules, tests, zero-add}
-use Rattle.std.specs.List.{flat_map, join_by, enumerate_from}
-use Rattle.std.proofs.lemmas.List.{append-nil, take_more, take_all, flat_map_more, get_or_default, length-take-le}
-use Rattle.std.proofs.lemmas.List.Concat.{flat_map-append}
-use Rattle.std.proofs.lemmas.List.FromFn.{length-enumerate_from, get_or-enumerate_from}
+use Rattle.ir_printer.proofs.Common.{◌≡◌, ℕ, suc, ◌+◌, ◌<◌, ◌≤◌, false, cond, eqb, List, [], ◌∷◌, ◌++◌, length, take, get_or, refl, sym, ap, ◌∙◌, append_assoc, arith, rules, tests, zero-add, flat_map, join_by, enumerate_from, take_more, take_all, flat_map_more, get_or_default, length-take-le, flat_map-append, length-enumerate_from, get_or-enumerate_from}
+use Rattle.std.proofs.lemmas.List.{append-nil}
 
 -- the text of the first items, and then that of one more
 pub each_more : {X : Type 0} (text : X → List ℕ) (start before after : List ℕ) (xs : List X) (i : ℕ) (x : X) → i < length xs → x ≡ get_or xs i x → before ≡ start ++ flat_map text (take i xs) → after ≡ before ++ text x

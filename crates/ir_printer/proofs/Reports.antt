@@ -1,13 +1,6 @@
 -- The report on the entries printed so far.
-use Rattle.std.proofs.Common.{◌≡◌, ℕ, ◌≤◌, Bool, List, [], ◌∷◌, length, drop, None, Some, refl, sym, ap, ◌∙◌, Bor}
-use Rattle.std.specs.Prelude.{Option, MatchOption}
-use Rattle.std.specs.Option.{option_copied}
-use Rattle.std.proofs.lemmas.List.{drop_all}
-use Rattle.ir_core.specs.declared.module.Entry.{Entry}
+use Rattle.ir_printer.proofs.Common.{◌≡◌, ℕ, ◌≤◌, Bool, List, [], ◌∷◌, length, drop, None, Some, refl, sym, ap, ◌∙◌, Bor, Option, MatchOption, option_copied, drop_all, Entry, Function, entries_report, rest_of_report}
 use Rattle.ir_core.specs.declared.module.Entry.TheVariants as entries
-use Rattle.ir_core.specs.declared.function.Function.{Function}
-use Rattle.ir_text.specs.Report.{entries_report}
-use Rattle.ir_printer.specs.Rest.{rest_of_report}
 
 -- without counts, or without limits, no line is written
 no_counts : (es : List Entry) (limited : List Bool) → entries_report es [] limited ≡ []

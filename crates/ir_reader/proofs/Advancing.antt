@@ -1,30 +1,6 @@
 -- The entries at the front of a text, and the tokens that are left behind them.
-use Rattle.std.proofs.Common.{◌≡◌, ℕ, ◌<◌, ◌≤◌, true, false, not, Bool, IsTrue, List, [], ◌∷◌, ◌++◌, length, Option, Ok, refl, ap, sym, subst, ◌∙◌, append_assoc, append-nil}
-use Rattle.std.specs.Prelude.{IfSome}
-use Rattle.std.specs.Bool.{then_some}
-use Rattle.refusal.specs.declared.fault.Fault.{Fault}
-use Rattle.refusal.specs.declared.refusal.Refusal.{Refusal}
-use Rattle.refusal.specs.declared.refusal.Refusal.TheVariants.{Refused, NoMemory}
-use Rattle.refusal.specs.Refusals.{IfRefused, Fails}
-use Rattle.ir_tokens.specs.declared.fault.IrFaultKind.{IrFaultKind}
-use Rattle.ir_tokens.specs.declared.reader.TokenReader.{TokenReader}
-use Rattle.ir_tokens.specs.Order.{AreTokens}
-use Rattle.ir_tokens.specs.ReaderPlaces.{HasPassed, HasCome}
-use Rattle.ir_tokens.specs.SeenTokens.{seen}
-use Rattle.ir_tokens.specs.Tokens.{Placed, End}
+use Rattle.ir_reader.proofs.Common.{◌≡◌, ℕ, ◌<◌, ◌≤◌, true, false, not, Bool, IsTrue, List, [], ◌∷◌, ◌++◌, length, Option, Ok, refl, ap, sym, subst, ◌∙◌, append_assoc, append-nil, IfSome, then_some, Fault, Refusal, Refused, NoMemory, IfRefused, Fails, IrFaultKind, TokenReader, AreTokens, HasPassed, HasCome, seen, Placed, End, RawEntry, Part, Each, Is, each_at, each-more, each-fault, SpellsEntry, is_end, begins_entry, entry_at, entries_at, module_from, most_bytes, IsRaw, IsTextFault, misfit, entry, entry_at-is, entry_at-of, entry_is_next, entry-takes, HasRead, HasLeft}
 use Rattle.ir_tokens.specs.declared.token.Placed.{Placed as ScannedPlaced}
-use Rattle.ir_tokens.specs.declared.raw.RawEntry.{RawEntry}
-use Rattle.ir_instructions.specs.Parts.{Part, Each, Is}
-use Rattle.ir_instructions.specs.Readers.{each_at}
-use Rattle.ir_instructions.proofs.Loops.{each-more, each-fault}
-use Rattle.ir_parse.specs.Grammar.{SpellsEntry}
-use Rattle.ir_parse.specs.ModuleReaders.{is_end, begins_entry, entry_at, entries_at, module_from}
-use Rattle.ir_parse.specs.Text.{most_bytes, IsRaw, IsTextFault, misfit}
-use Rattle.ir_parse.proofs.Framing.{entry}
-use Rattle.ir_parse.proofs.FunctionReadings.{entry_at-is}
-use Rattle.ir_parse.proofs.FunctionSpellings.{entry_at-of, entry_is_next}
-use Rattle.ir_parse.proofs.TakingParts.{entry-takes}
-use Rattle.ir_reader.specs.EntriesRead.{HasRead, HasLeft}
 
 each_push : {A : Type 0} (P : A → Part) (xs : List A) (x : A) (tokens between rest : List Placed) → Each P xs tokens between → P x between rest → Each P (xs ++ x ∷ []) tokens rest
 each_push P [] x tokens between rest same one = (rest, subst (λ l. P x l rest) (sym same) one, refl)

@@ -1,15 +1,5 @@
 -- It is decidable whether a walk comes to a block without passing another.
-use Rattle.std.proofs.Common.{◌≡◌, ◌⊎◌, inl, inr, ℕ, zero, suc, ◌<◌, List, [], ◌∷◌, length, refl, subst, arith}
-use Rattle.std.specs.Prelude.{Contains}
-use Rattle.std.proofs.Math.Decide.{map_dec}
-use Rattle.std.proofs.lemmas.Bool.{cases_eq}
-use Rattle.std.proofs.lemmas.Option.{slice_get_within}
-use Rattle.ir_core.specs.declared.function.Function.{Function}
-use Rattle.ir_core.specs.declared.function.Block.{Block}
-use Rattle.ir_core.specs.Blocks.{targets_of, Names}
-use Rattle.ir_core.specs.Walks.{IsWalk}
-use Rattle.ir_resolve.proofs.Checked.{contained_behind}
-use Rattle.ir_resolve.proofs.Deciding.{dec_both, dec_either, dec_not, dec_number, dec_one, dec_at}
+use Rattle.ir_reader.proofs.Common.{◌≡◌, ◌⊎◌, inl, inr, ℕ, zero, suc, ◌<◌, List, [], ◌∷◌, length, refl, subst, arith, Contains, map_dec, cases_eq, slice_get_within, Function, Block, targets_of, Names, IsWalk, contained_behind, dec_both, dec_either, dec_not, dec_number, dec_one, dec_at}
 
 pub dec_contains : (xs : List ℕ) (x : ℕ) → Dec (Contains xs x)
 dec_contains xs x = map_dec (λ (y, among, is). subst (Contains xs) is among) (λ among. (x, among, refl)) (dec_one (λ y. y ≡ x) xs (λ y. dec_number y x))

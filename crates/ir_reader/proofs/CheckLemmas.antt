@@ -1,47 +1,12 @@
 -- A module that is read meets the checks of functions and of modules.
-use Rattle.std.proofs.Common.{◌≡◌, inl, inr, ℕ, zero, suc, ◌<◌, List, [], ◌∷◌, length, take, Some, refl, sym, ap, subst, ◌∙◌, arith, Option, None, is_some}
-use Rattle.std.specs.Prelude.{slice_get}
-use Rattle.std.proofs.lemmas.Option.{slice_get_within}
-use Rattle.ops.specs.Flags.{flags_of, flags_of_cast}
-use Rattle.ir_core.specs.declared.module.Module.{Module}
+use Rattle.ir_reader.proofs.Common.{◌≡◌, inl, inr, ℕ, zero, suc, ◌<◌, List, [], ◌∷◌, length, take, Some, refl, sym, ap, subst, ◌∙◌, arith, Option, None, is_some, slice_get, slice_get_within, flags_of, flags_of_cast, Module, Function, Inst, Op, Operand, ReadsAreAssigned, Names, IsInst, IsPhi, EntriesFit, MeetsChecks, ModuleMeetsChecks, Identifier, Placed, RawModule, RawEntry, RawFunction, RawBlock, RawArguments, RawOp, TypedOperand, has_truth, SpellsArguments, SpellsTruthOf, SpellsIncoming, SpellsOp, SpellsInst, Part, Separated, SpellsBlock, SpellsBlocks, SpellsLabelledBlock, SpellsEntry, IsRaw, taken_flags, Duplicate, TypeClash, HasNoFault, Means, IncomingMeans, ArgumentsMean, OpMeans, InstMeans, Thing, Calls, IsWellWrittenOp, IsWellWritten, IsWellWrittenCall, resolved, OnlyPhisBefore, OpFits, ResolvesTo, IsFunctionOf, functions_of, IsEntryOf, IsModuleText, IsWellWrittenEntry}
 use Rattle.ir_core.specs.declared.module.Entry.TheVariants as entries
-use Rattle.ir_core.specs.declared.function.Function.{Function}
-use Rattle.ir_core.specs.declared.instruction.Inst.{Inst}
-use Rattle.ir_core.specs.declared.instruction.Op.{Op}
 use Rattle.ir_core.specs.declared.instruction.Op.TheVariants as core
-use Rattle.ir_core.specs.declared.operand.Operand.{Operand}
-use Rattle.ir_core.specs.Assigned.{ReadsAreAssigned}
-use Rattle.ir_core.specs.Blocks.{Names}
-use Rattle.ir_core.specs.Checks.{IsInst, IsPhi, EntriesFit, MeetsChecks, ModuleMeetsChecks}
-use Rattle.ir_tokens.specs.declared.called.Identifier.{Identifier}
-use Rattle.ir_tokens.specs.Tokens.{Placed}
-use Rattle.ir_tokens.specs.declared.raw.RawModule.{RawModule}
-use Rattle.ir_tokens.specs.declared.raw.RawEntry.{RawEntry}
 use Rattle.ir_tokens.specs.declared.raw.RawEntry.TheVariants as raw_entries
-use Rattle.ir_tokens.specs.declared.raw.RawFunction.{RawFunction}
-use Rattle.ir_tokens.specs.declared.raw.RawBlock.{RawBlock}
-use Rattle.ir_tokens.specs.declared.raw.RawArguments.{RawArguments}
 use Rattle.ir_tokens.specs.declared.raw.RawArguments.TheVariants as arguments
-use Rattle.ir_tokens.specs.declared.raw.RawOp.{RawOp}
-use Rattle.ir_tokens.specs.declared.raw.TypedOperand.{TypedOperand}
 use Rattle.ops.specs.declared.opcode.Unary.{Unary}
-use Rattle.ops.specs.Truths.{has_truth}
-use Rattle.ir_instructions.specs.CallGrammar.{SpellsArguments, SpellsTruthOf}
 use Rattle.ir_tokens.specs.declared.raw.RawOp.TheVariants as ops
-use Rattle.ir_instructions.specs.Grammar.{SpellsIncoming, SpellsOp, SpellsInst}
-use Rattle.ir_instructions.specs.Parts.{Part, Separated}
-use Rattle.ir_parse.specs.Grammar.{SpellsBlock, SpellsBlocks, SpellsLabelledBlock, SpellsEntry}
-use Rattle.ir_parse.specs.Text.{IsRaw}
-use Rattle.ir_instructions.proofs.TakenFlags.{taken_flags}
-use Rattle.ir_tokens.specs.declared.fault.IrFaultKind.TheVariants.{Duplicate, TypeClash}
-use Rattle.ir_resolve.specs.Faults.{HasNoFault}
-use Rattle.ir_resolve.specs.Means.{Means, IncomingMeans, ArgumentsMean, OpMeans, InstMeans}
-use Rattle.ir_resolve.specs.Written.{Thing, Calls}
-use Rattle.ir_resolve.specs.Formed.{IsWellWrittenOp, IsWellWritten, IsWellNamed as IsNamed, IsWellWrittenCall}
-use Rattle.ir_resolve.proofs.Resolved.{resolved}
-use Rattle.ir_reader.specs.Phis.{OnlyPhisBefore, OpFits}
-use Rattle.ir_reader.specs.Faults.{ResolvesTo, IsFunctionOf, functions_of, IsEntryOf, IsModuleText}
-use Rattle.ir_reader.specs.WellWritten.{IsWellWrittenEntry}
+use Rattle.ir_resolve.specs.Formed.{IsWellNamed as IsNamed}
 use Rattle.ir_reader.proofs.Formed.{PhisFit}
 use Rattle.ir_reader.proofs.Meaning.{block_written}
 use Rattle.ir_reader.proofs.Places.{order, there, somewhere, contained, take_at, zip_right, zip_length}

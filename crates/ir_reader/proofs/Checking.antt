@@ -1,27 +1,11 @@
 -- The checks of a function one by one: what holds if none has failed so far, and which fault is the first.
-use Rattle.std.proofs.Common.{◌≡◌, ℕ, Bool, List, refl}
-use Rattle.ir_core.specs.declared.function.Function.{Function}
-use Rattle.ir_core.specs.Assigned.{ReadsAreAssigned}
-use Rattle.ir_core.specs.Blocks.{Names}
-use Rattle.ir_tokens.specs.declared.raw.RawFunction.{RawFunction}
-use Rattle.refusal.specs.declared.fault.Fault.{Fault}
-use Rattle.ir_tokens.specs.declared.fault.IrFaultKind.{IrFaultKind}
-use Rattle.ir_resolve.specs.Faults.{HasNoFault, MarksFunction, IsFirstNameFault}
-use Rattle.ir_resolve.specs.FirstLines.{IsFirstLine}
-use Rattle.ir_resolve.specs.Means.{Means, InstMeans}
-use Rattle.ir_resolve.specs.Written.{Calls}
+use Rattle.ir_reader.proofs.Common.{◌≡◌, ℕ, Bool, List, refl, Function, ReadsAreAssigned, Names, RawFunction, Fault, IrFaultKind, HasNoFault, MarksFunction, IsFirstNameFault, IsFirstLine, Means, InstMeans, Calls, Refusal, IfRefused, BadPhiAt, EntryPredAt, IsUnassignedFault, ResolvesTo, NoLineHas, IsFunctionOf, IsFaultOfFunction, of_names, bad_phi, entry_pred, unassigned, IsWellWritten, stable}
 use Rattle.ir_tokens.specs.declared.fault.IrFaultKind.TheVariants as kinds
-use Rattle.refusal.specs.declared.refusal.Refusal.{Refusal}
 use Rattle.refusal.specs.declared.refusal.Refusal.TheVariants as errors
-use Rattle.refusal.specs.Refusals.{IfRefused}
-use Rattle.ir_reader.specs.FlowFaults.{BadPhiAt, EntryPredAt, IsUnassignedFault}
-use Rattle.ir_reader.specs.Faults.{ResolvesTo, NoLineHas, IsFunctionOf, IsFaultOfFunction, of_names, bad_phi, entry_pred, unassigned}
-use Rattle.ir_resolve.specs.Formed.{IsWellWritten}
 use Rattle.ir_reader.proofs.CheckLemmas.{meets}
 use Rattle.ir_reader.proofs.Formed.{PhisFit}
 use Rattle.ir_reader.proofs.Meaning.{block_written}
 use Rattle.ir_reader.proofs.Places.{zip_right}
-use Rattle.ir_resolve.proofs.Deciding.{stable}
 use Rattle.ir_reader.proofs.Fitting.{dec_fits}
 
 -- P holds of all lists of earlier functions for which the mark is right

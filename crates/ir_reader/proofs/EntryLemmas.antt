@@ -1,16 +1,5 @@
 -- Terminators that name the first block.
-use Rattle.std.proofs.Common.{◌≡◌, ◌↔◌, ℕ, nat_eq, List, Option, Some, IsTrue, ap, subst, ◌∙◌}
-use Rattle.std.specs.Prelude.{slice_get}
-use Rattle.std.specs.Bool.{then_some}
-use Rattle.indexmap.specs.IndexSet.{IndexSet, contains}
-use Rattle.ir_core.specs.declared.function.Function.{Function}
-use Rattle.ir_core.specs.Blocks.{Names}
-use Rattle.ir_tokens.specs.declared.raw.RawFunction.{RawFunction}
-use Rattle.ir_tokens.specs.declared.raw.RawBlock.{RawBlock}
-use Rattle.ir_resolve.specs.FirstLines.{IsFirst}
-use Rattle.ir_resolve.proofs.Firsts.{first_same, first_if}
-use Rattle.ir_reader.specs.FlowFaults.{EntryPredHere}
-use Rattle.ir_reader.specs.Predecessors.{ArePredecessors}
+use Rattle.ir_reader.proofs.Common.{◌≡◌, ◌↔◌, ℕ, nat_eq, List, Option, Some, IsTrue, ap, subst, ◌∙◌, slice_get, then_some, IndexSet, contains, Function, Names, RawFunction, RawBlock, IsFirst, first_same, first_if, EntryPredHere, ArePredecessors}
 use Rattle.ir_reader.proofs.Places.{same_at}
 
 -- the line of a block's terminator, if the block is in the set of the first block's predecessors

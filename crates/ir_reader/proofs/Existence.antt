@@ -1,36 +1,8 @@
 -- Each text spells a module or has a fault.
-use Rattle.std.proofs.Common.{◌≡◌, ◌⊎◌, inl, inr, ℕ, zero, suc, ◌+◌, ◌<◌, ◌≤◌, List, [], ◌∷◌, ◌++◌, length, take, Option, None, Some, refl, ap, arith}
-use Rattle.std.specs.Prelude.{slice_get, option_map, unwrap_or}
-use Rattle.std.proofs.lemmas.Bool.{cases_lt}
-use Rattle.std.proofs.lemmas.Option.{slice_get_within}
-use Rattle.ir_core.specs.declared.module.Module.{Module}
-use Rattle.ir_core.specs.declared.module.Entry.{Entry}
+use Rattle.ir_reader.proofs.Common.{◌≡◌, ◌⊎◌, inl, inr, ℕ, zero, suc, ◌+◌, ◌<◌, ◌≤◌, List, [], ◌∷◌, ◌++◌, length, take, Option, None, Some, refl, ap, arith, slice_get, option_map, unwrap_or, cases_lt, slice_get_within, Module, Entry, Function, Inst, Register, ReadsAreAssigned, IsFirstUnassigned, Names, IsInst, RawModule, RawEntry, RawFunction, RawBlock, RawInst, Fault, IrFaultKind, fault, most_bytes, IsRaw, too_long, TextsHaveOneReadingOrFault, FunctionsHaveOneMeaningOrFault, FirstOf, first_moved, first_on, first_by_place, first_at, dec_not, IsWellWritten, OpFits, BadPhiHere, BadPhiAt, EntryPredHere, EntryPredAt, IsWellWrittenEntry, ResolvesTo, NoLineHas, IsFunctionOf, IsFaultOfFunction, of_names, bad_phi, entry_pred, unassigned, functions_of, IsEntryOf, IsFaultOfEntry, IsFaultOfEntries, IsModuleText, IsFault, of_text, of_entries}
 use Rattle.ir_core.specs.declared.module.Entry.TheVariants as entries
-use Rattle.ir_core.specs.declared.function.Function.{Function}
-use Rattle.ir_core.specs.declared.instruction.Inst.{Inst}
-use Rattle.ir_core.specs.declared.operand.Register.{Register}
-use Rattle.ir_core.specs.Assigned.{ReadsAreAssigned, IsFirstUnassigned}
-use Rattle.ir_core.specs.Blocks.{Names}
-use Rattle.ir_core.specs.Checks.{IsInst}
-use Rattle.ir_tokens.specs.declared.raw.RawModule.{RawModule}
-use Rattle.ir_tokens.specs.declared.raw.RawEntry.{RawEntry}
 use Rattle.ir_tokens.specs.declared.raw.RawEntry.TheVariants as raw_entries
-use Rattle.ir_tokens.specs.declared.raw.RawFunction.{RawFunction}
-use Rattle.ir_tokens.specs.declared.raw.RawBlock.{RawBlock}
-use Rattle.ir_tokens.specs.declared.raw.RawInst.{RawInst}
-use Rattle.refusal.specs.declared.fault.Fault.{Fault}
-use Rattle.ir_tokens.specs.declared.fault.IrFaultKind.{IrFaultKind}
-use Rattle.ir_instructions.specs.Readers.{fault}
-use Rattle.ir_parse.specs.Text.{most_bytes, IsRaw, too_long}
-use Rattle.ir_parse.specs.Laws.{TextsHaveOneReadingOrFault}
-use Rattle.ir_resolve.specs.Laws.{FunctionsHaveOneMeaningOrFault}
-use Rattle.ir_resolve.proofs.Deciding.{FirstOf, first_moved, first_on, first_by_place, first_at, dec_not}
 use Rattle.ir_tokens.specs.declared.fault.IrFaultKind.TheVariants as kinds
-use Rattle.ir_resolve.specs.Formed.{IsWellWritten}
-use Rattle.ir_reader.specs.Phis.{OpFits}
-use Rattle.ir_reader.specs.FlowFaults.{BadPhiHere, BadPhiAt, EntryPredHere, EntryPredAt}
-use Rattle.ir_reader.specs.WellWritten.{IsWellWrittenEntry}
-use Rattle.ir_reader.specs.Faults.{ResolvesTo, NoLineHas, IsFunctionOf, IsFaultOfFunction, of_names, bad_phi, entry_pred, unassigned, functions_of, IsEntryOf, IsFaultOfEntry, IsFaultOfEntries, IsModuleText, IsFault, of_text, of_entries}
 use Rattle.ir_reader.proofs.Places.{there}
 use Rattle.ir_reader.proofs.Meaning.{written_read}
 use Rattle.ir_reader.proofs.CheckLemmas.{meets, all_well_written}

@@ -1,22 +1,8 @@
 -- It is decidable whether a phi fits.
-use Rattle.std.proofs.Common.{◌≡◌, ℕ, ◌<◌, List, length, Some, refl, ap, subst, ◌∙◌}
-use Rattle.std.specs.Prelude.{slice_get, Contains}
-use Rattle.std.proofs.Math.Decide.{map_dec, dec_lt}
-use Rattle.std.proofs.lemmas.Option.{slice_get_within}
-use Rattle.ops.specs.Number.{Number}
-use Rattle.ir_core.specs.declared.function.Function.{Function}
-use Rattle.ir_core.specs.declared.function.Block.{Block}
-use Rattle.ir_core.specs.declared.instruction.Inst.{Inst}
-use Rattle.ir_core.specs.declared.instruction.Op.{Op}
-use Rattle.ir_core.specs.declared.instruction.Op.TheVariants.{Binary, Compare, Unary, Select, Convert, Freeze, Phi}
-use Rattle.ir_core.specs.declared.operand.Operand.{Operand}
+use Rattle.ir_reader.proofs.Common.{◌≡◌, ℕ, ◌<◌, List, length, Some, refl, ap, subst, ◌∙◌, slice_get, Contains, map_dec, dec_lt, slice_get_within, Number, Function, Block, Inst, Op, Binary, Compare, Select, Convert, Freeze, Phi, Operand, Register, Names, IsInst, IsPhi, OnlyPhisBefore, PhiFits, OpFits, dec_both, dec_not, dec_number, dec_one, dec_at, stable}
+use Rattle.ir_core.specs.declared.instruction.Op.TheVariants.{Unary}
 use Rattle.ir_core.specs.declared.operand.Operand.TheVariants as operands
-use Rattle.ir_core.specs.declared.operand.Register.{Register}
 use Rattle.ir_core.specs.declared.operand.Register.TheVariants as registers
-use Rattle.ir_core.specs.Blocks.{Names}
-use Rattle.ir_core.specs.Checks.{IsInst, IsPhi}
-use Rattle.ir_reader.specs.Phis.{OnlyPhisBefore, PhiFits, OpFits}
-use Rattle.ir_resolve.proofs.Deciding.{dec_both, dec_not, dec_number, dec_one, dec_at, stable}
 use Rattle.ir_reader.proofs.Searching.{dec_below}
 use Rattle.ir_reader.proofs.Avoiding.{dec_names}
 

@@ -1,11 +1,6 @@
 -- The phis of a function that is formed.
-use Rattle.std.proofs.Common.{◌≡◌, ℕ, sym, subst, refl}
-use Rattle.ir_core.specs.declared.function.Function.{Function}
-use Rattle.ir_core.specs.declared.instruction.Inst.{Inst}
-use Rattle.ir_core.specs.declared.instruction.Op.{Op}
-use Rattle.ir_core.specs.declared.instruction.Op.TheVariants.{Binary, Compare, Unary, Select, Convert, Freeze, Phi}
-use Rattle.ir_core.specs.Checks.{IsInst, IsPhi, IsFormed}
-use Rattle.ir_reader.specs.Phis.{OpFits}
+use Rattle.ir_reader.proofs.Common.{◌≡◌, ℕ, sym, subst, refl, Function, Inst, Op, Binary, Compare, Select, Convert, Freeze, Phi, IsInst, IsPhi, IsFormed, OpFits}
+use Rattle.ir_core.specs.declared.instruction.Op.TheVariants.{Unary}
 
 -- all phis fit
 abbrev pub PhisFit : Function → Type 0

@@ -1,21 +1,5 @@
 -- What entries as written mean, and what they do with one more entry behind them.
-use Rattle.std.proofs.Common.{◌≡◌, ◌↔◌, ◌⊎◌, inl, inr, ℕ, ◌+◌, ◌<◌, ◌≤◌, Bool, List, [], ◌∷◌, ◌++◌, length, length-append, take, Some, Ok, IsTrue, refl, sym, subst, arith}
-use Rattle.std.specs.Prelude.{slice_get}
-use Rattle.std.proofs.lemmas.List.{take-append-le}
-use Rattle.std.proofs.Math.Seq.{take-append_seam}
-use Rattle.std.proofs.lemmas.Option.{slice_get_within}
-use Rattle.refusal.specs.declared.fault.Fault.{Fault}
-use Rattle.ir_core.specs.declared.module.Entry.{Entry}
-use Rattle.ir_tokens.specs.declared.fault.IrFaultKind.{IrFaultKind}
-use Rattle.ir_tokens.specs.Tokens.{Placed}
-use Rattle.ir_tokens.specs.declared.raw.RawEntry.{RawEntry}
-use Rattle.ir_resolve.specs.FaultKinds.{HasNameOf}
-use Rattle.ir_parse.specs.ModuleReaders.{entry_at}
-use Rattle.ir_parse.proofs.FunctionReadings.{entry_at-is}
-use Rattle.ir_reader.specs.declared.reading.Reading.{Reading}
-use Rattle.ir_reader.specs.EntriesRead.{HasLeft, IsReadingOf}
-use Rattle.ir_reader.specs.Faults.{functions_of, IsEntryOf, AreEntriesOf, IsFaultOfEntry, IsFaultOfEntries}
-use Rattle.ir_reader.specs.RepeatedNames.{MarksEntry, IsNameOf}
+use Rattle.ir_reader.proofs.Common.{◌≡◌, ◌↔◌, ◌⊎◌, inl, inr, ℕ, ◌+◌, ◌<◌, ◌≤◌, Bool, List, [], ◌∷◌, ◌++◌, length, length-append, take, Some, Ok, IsTrue, refl, sym, subst, arith, slice_get, take-append-le, take-append_seam, slice_get_within, Fault, Entry, IrFaultKind, Placed, RawEntry, HasNameOf, entry_at, entry_at-is, Reading, HasLeft, IsReadingOf, functions_of, IsEntryOf, AreEntriesOf, IsFaultOfEntry, IsFaultOfEntries, MarksEntry, IsNameOf}
 use Rattle.ir_reader.proofs.Advancing.{left_more}
 use Rattle.ir_reader.proofs.Places.{at_push, append_left, append_right, there}
 use Rattle.ir_reader.proofs.ReadEntries.{AreFirstEntries, first_entries_more, all_entries}

@@ -1,32 +1,10 @@
 -- A text spells one module or has one fault, and within the limit never does both.
-use Rattle.std.proofs.Common.{◌≡◌, ◌⊎◌, inl, inr, ℕ, suc, ◌<◌, ◌≤◌, List, [], ◌∷◌, length, take, Some, refl, sym, ap, subst, ◌∙◌, arith}
-use Rattle.std.specs.Prelude.{slice_get}
-use Rattle.std.proofs.lemmas.Option.{slice_get_within}
-use Rattle.ir_core.specs.declared.module.Module.{Module}
-use Rattle.ir_core.specs.declared.module.Entry.{Entry}
+use Rattle.ir_reader.proofs.Common.{◌≡◌, ◌⊎◌, inl, inr, ℕ, suc, ◌<◌, ◌≤◌, List, [], ◌∷◌, length, take, Some, refl, sym, ap, subst, ◌∙◌, arith, slice_get, slice_get_within, Module, Entry, Function, Register, IsFirstUnassigned, IsBefore, ReadsAreAssigned, RawModule, RawEntry, RawFunction, TextsHaveOneReadingOrFault, most_bytes, FunctionsHaveOneMeaningOrFault, IsFirstLine, Typed, Fault, IrFaultKind, Names, written_at, BadPhiAt, EntryPredAt, IsUnassignedFault, ResolvesTo, NoLineHas, IsFunctionOf, IsFaultOfFunction, of_names, bad_phi, entry_pred, unassigned, functions_of, IsEntryOf, AreEntriesOf, IsFaultOfEntry, IsFaultOfEntries, IsModuleText, IsFault, of_text, of_entries, TextsHaveOneModuleOrFault}
 use Rattle.ir_core.specs.declared.module.Entry.TheVariants as entries
-use Rattle.ir_core.specs.declared.function.Function.{Function}
-use Rattle.ir_core.specs.declared.operand.Register.{Register}
-use Rattle.ir_core.specs.Assigned.{IsFirstUnassigned, IsBefore, ReadsAreAssigned}
-use Rattle.ir_tokens.specs.declared.raw.RawModule.{RawModule}
-use Rattle.ir_tokens.specs.declared.raw.RawEntry.{RawEntry}
 use Rattle.ir_tokens.specs.declared.raw.RawEntry.TheVariants as raw_entries
-use Rattle.ir_tokens.specs.declared.raw.RawFunction.{RawFunction}
 use Rattle.ir_tokens.specs.declared.raw.RawValue.TheVariants as values
-use Rattle.ir_parse.specs.Laws.{TextsHaveOneReadingOrFault}
-use Rattle.ir_parse.specs.Text.{most_bytes}
-use Rattle.ir_resolve.specs.Laws.{FunctionsHaveOneMeaningOrFault}
-use Rattle.ir_resolve.specs.FirstLines.{IsFirstLine}
-use Rattle.ir_resolve.specs.TypedReads.{Typed}
-use Rattle.refusal.specs.declared.fault.Fault.{Fault}
-use Rattle.ir_tokens.specs.declared.fault.IrFaultKind.{IrFaultKind}
 use Rattle.ir_tokens.specs.declared.fault.IrFaultKind.TheVariants as kinds
-use Rattle.ir_core.specs.Blocks.{Names}
 use Rattle.ir_reader.proofs.Formed.{PhisFit, formed_fits}
-use Rattle.ir_reader.specs.Operands.{written_at}
-use Rattle.ir_reader.specs.FlowFaults.{BadPhiAt, EntryPredAt, IsUnassignedFault}
-use Rattle.ir_reader.specs.Faults.{ResolvesTo, NoLineHas, IsFunctionOf, IsFaultOfFunction, of_names, bad_phi, entry_pred, unassigned, functions_of, IsEntryOf, AreEntriesOf, IsFaultOfEntry, IsFaultOfEntries, IsModuleText, IsFault, of_text, of_entries}
-use Rattle.ir_reader.specs.Laws.{TextsHaveOneModuleOrFault}
 use Rattle.ir_reader.proofs.Places.{order, same_at, there}
 use Rattle.ir_reader.proofs.Existence.{module_or_fault}
 

@@ -1,47 +1,15 @@
 -- A function as written and the one that it means, by place.
-use Rattle.std.proofs.Common.{◌≡◌, inl, inr, ℕ, zero, suc, ◌<◌, ◌==◌, Bool, true, false, if◌then◌else◌, List, [], ◌∷◌, length, map, None, Some, refl, sym, ap, subst, ◌∙◌, arith}
-use Rattle.std.specs.Prelude.{slice_get, option_map}
-use Rattle.std.specs.List.{AllZip}
-use Rattle.std.proofs.lemmas.Bool.{cases_lt}
-use Rattle.std.proofs.lemmas.Option.{slice_get_past, same_Some}
-use Rattle.ops.specs.Number.{Number}
-use Rattle.ir_core.specs.declared.function.Function.{Function}
+use Rattle.ir_reader.proofs.Common.{◌≡◌, inl, inr, ℕ, zero, suc, ◌<◌, ◌==◌, Bool, true, false, if◌then◌else◌, List, [], ◌∷◌, length, map, None, Some, refl, sym, ap, subst, ◌∙◌, arith, slice_get, option_map, AllZip, cases_lt, slice_get_past, same_Some, Number, Function, Op, Operand, Register, Terminator, IsFirstUnassigned, targets_of, IsBlock, Names, Read, read, end_of, reads_of, reads_at_end, reads_by, reads_at, Identifier, RawFunction, RawBlock, RawArguments, RawOp, RawTerminator, RawOperand, RawValue, RawIncoming, RawCase, Thing, Calls, Typed, typed, read_by, read_at_end, read_by_call, Means, ValueMeans, BlockMeans, IncomingMeans, OpMeans, InstMeans, CaseMeans, EndMeans, BlockIsOf, ArgumentsMean, Fault, IrFaultKind, Refusal, IfRefused, IsUnassignedFault, written_by, written_at}
 use Rattle.ir_core.specs.declared.function.Block.{Block as CoreBlock}
-use Rattle.ir_core.specs.declared.instruction.Op.{Op}
 use Rattle.ir_core.specs.declared.instruction.Op.TheVariants as core
-use Rattle.ir_core.specs.declared.operand.Operand.{Operand}
 use Rattle.ir_core.specs.declared.operand.Operand.TheVariants as operands
-use Rattle.ir_core.specs.declared.operand.Register.{Register}
-use Rattle.ir_core.specs.declared.terminator.Terminator.{Terminator}
 use Rattle.ir_core.specs.declared.terminator.Terminator.TheVariants as ends
-use Rattle.ir_core.specs.Assigned.{IsFirstUnassigned}
-use Rattle.ir_core.specs.Blocks.{targets_of, IsBlock, Names}
-use Rattle.ir_core.specs.Reads.{Read, read, end_of, reads_of, reads_at_end, reads_by, reads_at}
-use Rattle.ir_tokens.specs.declared.called.Identifier.{Identifier}
-use Rattle.ir_tokens.specs.declared.raw.RawFunction.{RawFunction}
-use Rattle.ir_tokens.specs.declared.raw.RawBlock.{RawBlock}
-use Rattle.ir_tokens.specs.declared.raw.RawArguments.{RawArguments}
 use Rattle.ir_tokens.specs.declared.raw.RawArguments.TheVariants as arguments
-use Rattle.ir_tokens.specs.declared.raw.RawOp.{RawOp}
 use Rattle.ir_tokens.specs.declared.raw.RawOp.TheVariants as ops
-use Rattle.ir_tokens.specs.declared.raw.RawTerminator.{RawTerminator}
 use Rattle.ir_tokens.specs.declared.raw.RawTerminator.TheVariants as terminators
-use Rattle.ir_tokens.specs.declared.raw.RawOperand.{RawOperand}
-use Rattle.ir_tokens.specs.declared.raw.RawValue.{RawValue}
 use Rattle.ir_tokens.specs.declared.raw.RawValue.TheVariants as values
-use Rattle.ir_tokens.specs.declared.raw.RawIncoming.{RawIncoming}
-use Rattle.ir_tokens.specs.declared.raw.RawCase.{RawCase}
-use Rattle.ir_resolve.specs.Written.{Thing, Calls}
-use Rattle.ir_resolve.specs.TypedReads.{Typed, typed, read_by, read_at_end, read_by_call}
-use Rattle.ir_resolve.specs.Means.{Means, ValueMeans, BlockMeans, IncomingMeans, OpMeans, InstMeans, CaseMeans, EndMeans, BlockIsOf, ArgumentsMean}
-use Rattle.refusal.specs.declared.fault.Fault.{Fault}
-use Rattle.ir_tokens.specs.declared.fault.IrFaultKind.{IrFaultKind}
 use Rattle.ir_tokens.specs.declared.fault.IrFaultKind.TheVariants as kinds
-use Rattle.refusal.specs.declared.refusal.Refusal.{Refusal}
 use Rattle.refusal.specs.declared.refusal.Refusal.TheVariants as errors
-use Rattle.refusal.specs.Refusals.{IfRefused}
-use Rattle.ir_reader.specs.FlowFaults.{IsUnassignedFault}
-use Rattle.ir_reader.specs.Operands.{written_by, written_at}
 use Rattle.ir_reader.proofs.Places.{same_at, there, somewhere, zip_left, zip_right, zip_length}
 
 module _ (CallsThing : Identifier → Thing → Type 0) where

@@ -1,33 +1,6 @@
 -- Phis and their operands.
-use Rattle.std.proofs.Common.{◌≡◌, ◌≢◌, ◌⊎◌, ◌↔◌, inl, inr, ℕ, zero, suc, ◌+◌, ◌<◌, nat_eq, Bool, true, false, not, List, [], ◌∷◌, ◌++◌, take, length, get_or, Option, None, Some, IsTrue, refl, ap, sym, subst, ◌∙◌, arith}
-use Rattle.std.specs.Prelude.{slice_get, Contains, All, IsSome, ◌&&◌}
-use Rattle.std.specs.Bool.{then_some}
-use Rattle.std.proofs.lemmas.Bool.{false≢true, eqb-true}
-use Rattle.std.proofs.lemmas.Bool.Decides.{eqb_tells}
-use Rattle.std.proofs.lemmas.Cmp.{nat_eq_equiv}
-use Rattle.std.proofs.lemmas.List.{take_more, take_all}
-use Rattle.std.proofs.lemmas.List.Elements.{Contains-append_left, Contains-push, Contains-push_cases}
-use Rattle.std.proofs.lemmas.Map.Views.{list_any-from_Contains}
-use Rattle.std.proofs.lemmas.Option.{slice_get-get_or, same_Some}
-use Rattle.indexmap.proofs.CallerLemmas.{Contains-list_any}
-use Rattle.indexmap.specs.IndexMap.{IndexMap, get}
-use Rattle.indexmap.specs.IndexSet.{IndexSet, contains}
-use Rattle.ir_core.specs.declared.function.Function.{Function}
-use Rattle.ir_core.specs.declared.function.Block.{Block}
-use Rattle.ir_core.specs.declared.instruction.Inst.{Inst}
-use Rattle.ir_core.specs.declared.instruction.Op.{Op}
-use Rattle.ir_core.specs.declared.instruction.Op.TheVariants.{Binary, Compare, Unary, Select, Convert, Freeze, Phi}
-use Rattle.ir_core.specs.declared.operand.Operand.{Operand}
-use Rattle.ir_core.specs.Blocks.{IsBlock, Names}
-use Rattle.ir_core.specs.Checks.{IsPhi}
-use Rattle.ir_tokens.specs.declared.raw.RawFunction.{RawFunction}
-use Rattle.ir_tokens.specs.declared.raw.RawBlock.{RawBlock}
-use Rattle.ir_tokens.specs.declared.raw.RawInst.{RawInst}
-use Rattle.ir_resolve.specs.FirstLines.{IsFirst}
-use Rattle.ir_resolve.proofs.Firsts.{first_same, first_if}
-use Rattle.ir_reader.specs.Phis.{OpFits}
-use Rattle.ir_reader.specs.FlowFaults.{BadPhiHere}
-use Rattle.ir_reader.specs.Predecessors.{ArePredecessors, EntriesFitIn, OpFitsIn, FirstArePhis, BadPhiIn}
+use Rattle.ir_reader.proofs.Common.{◌≡◌, ◌≢◌, ◌⊎◌, ◌↔◌, inl, inr, ℕ, zero, suc, ◌+◌, ◌<◌, nat_eq, Bool, true, false, not, List, [], ◌∷◌, ◌++◌, take, length, get_or, Option, None, Some, IsTrue, refl, ap, sym, subst, ◌∙◌, arith, slice_get, Contains, All, IsSome, ◌&&◌, then_some, false≢true, eqb-true, eqb_tells, nat_eq_equiv, take_more, take_all, Contains-append_left, Contains-push, Contains-push_cases, list_any-from_Contains, slice_get-get_or, same_Some, Contains-list_any, IndexMap, get, IndexSet, contains, Function, Block, Inst, Op, Binary, Compare, Select, Convert, Freeze, Phi, Operand, IsBlock, Names, IsPhi, RawFunction, RawBlock, RawInst, IsFirst, first_same, first_if, OpFits, BadPhiHere, ArePredecessors, EntriesFitIn, OpFitsIn, FirstArePhis, BadPhiIn}
+use Rattle.ir_core.specs.declared.instruction.Op.TheVariants.{Unary}
 use Rattle.ir_reader.proofs.Places.{order, same_at, contained}
 
 -- ---- the operands of the first entries

@@ -1,24 +1,8 @@
 -- The entries of a module, one by one.
-use Rattle.std.proofs.Common.{◌≡◌, inl, inr, ℕ, zero, suc, ◌+◌, ◌<◌, Bool, List, [], ◌∷◌, ◌++◌, length, length-append, take, Some, refl, sym, ap, subst, ◌∙◌, arith}
-use Rattle.std.specs.Prelude.{slice_get}
-use Rattle.ir_core.specs.declared.module.Entry.{Entry}
+use Rattle.ir_reader.proofs.Common.{◌≡◌, inl, inr, ℕ, zero, suc, ◌+◌, ◌<◌, Bool, List, [], ◌∷◌, ◌++◌, length, length-append, take, Some, refl, sym, ap, subst, ◌∙◌, arith, slice_get, Entry, Function, Placed, RawEntry, RawFunction, RawBlock, Fault, IrFaultKind, SpellsBlocks, Part, Each, IsTextFault, Refusal, IfRefused, functions_of, IsEntryOf, AreEntriesOf, IsFunctionOf, IsFault, of_text, MarksEntry}
 use Rattle.ir_core.specs.declared.module.Entry.TheVariants as entries
-use Rattle.ir_core.specs.declared.function.Function.{Function}
-use Rattle.ir_tokens.specs.Tokens.{Placed}
-use Rattle.ir_tokens.specs.declared.raw.RawEntry.{RawEntry}
 use Rattle.ir_tokens.specs.declared.raw.RawEntry.TheVariants as raw_entries
-use Rattle.ir_tokens.specs.declared.raw.RawFunction.{RawFunction}
-use Rattle.ir_tokens.specs.declared.raw.RawBlock.{RawBlock}
-use Rattle.refusal.specs.declared.fault.Fault.{Fault}
-use Rattle.ir_tokens.specs.declared.fault.IrFaultKind.{IrFaultKind}
-use Rattle.ir_parse.specs.Grammar.{SpellsBlocks}
-use Rattle.ir_instructions.specs.Parts.{Part, Each}
-use Rattle.ir_parse.specs.Text.{IsTextFault}
-use Rattle.refusal.specs.declared.refusal.Refusal.{Refusal}
 use Rattle.refusal.specs.declared.refusal.Refusal.TheVariants as errors
-use Rattle.refusal.specs.Refusals.{IfRefused}
-use Rattle.ir_reader.specs.Faults.{functions_of, IsEntryOf, AreEntriesOf, IsFunctionOf, IsFault, of_text}
-use Rattle.ir_reader.specs.RepeatedNames.{MarksEntry}
 use Rattle.ir_reader.proofs.Places.{same_at, at_push}
 
 -- ---- each function has a block

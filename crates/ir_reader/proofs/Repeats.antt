@@ -1,19 +1,6 @@
 -- Names of functions among entries.
-use Rattle.std.proofs.Common.{◌≡◌, ◌⊎◌, ◌↔◌, inl, inr, ℕ, Bool, true, false, not, cond, List, [], ◌∷◌, ◌++◌, length, Some, IsTrue, refl, ap, sym, subst, ◌∙◌, arith}
-use Rattle.std.specs.Prelude.{slice_get, ◌||◌}
-use Rattle.std.specs.List.{list_any}
-use Rattle.std.specs.Str.{bytes_eq}
-use Rattle.std.proofs.lemmas.Bool.{false≢true}
-use Rattle.std.proofs.lemmas.List.Folds.{list_any-append}
-use Rattle.std.proofs.lemmas.Slice.Eq.{bytes_eq-Decides}
-use Rattle.std.specs.Prelude.{Vec}
-use Rattle.indexmap.specs.IndexSet.{insert_key}
-use Rattle.ir_tokens.specs.declared.raw.RawEntry.{RawEntry}
+use Rattle.ir_reader.proofs.Common.{◌≡◌, ◌⊎◌, ◌↔◌, inl, inr, ℕ, Bool, true, false, not, cond, List, [], ◌∷◌, ◌++◌, length, Some, IsTrue, refl, ap, sym, subst, ◌∙◌, arith, slice_get, ◌||◌, list_any, bytes_eq, false≢true, list_any-append, bytes_eq-Decides, Vec, insert_key, RawEntry, RawFunction, HasNameOf, functions_of, MarksEntry, IsNameOf}
 use Rattle.ir_tokens.specs.declared.raw.RawEntry.TheVariants as raw_entries
-use Rattle.ir_tokens.specs.declared.raw.RawFunction.{RawFunction}
-use Rattle.ir_resolve.specs.FaultKinds.{HasNameOf}
-use Rattle.ir_reader.specs.Faults.{functions_of}
-use Rattle.ir_reader.specs.RepeatedNames.{MarksEntry, IsNameOf}
 use Rattle.ir_reader.proofs.Places.{at_append, at_push, append_left, append_right}
 
 functions_of-append : (xs ys : List RawEntry) → functions_of (xs ++ ys) ≡ functions_of xs ++ functions_of ys

@@ -1,6 +1,5 @@
 -- The least number of which a decidable statement holds.
-use Rattle.std.proofs.Common.{◌⊎◌, inl, inr, ℕ, zero, suc, ◌<◌, sym, subst, arith}
-use Rattle.std.proofs.lemmas.Bool.{cases_eq}
+use Rattle.ir_reader.proofs.Common.{◌⊎◌, inl, inr, ℕ, zero, suc, ◌<◌, sym, subst, arith, cases_eq}
 
 abbrev pub Least : (ℕ → Type 0) → Type 0
 Least P = (m : ℕ) × P m × ((j : ℕ) → j < m → ¬ P j)

@@ -1,17 +1,5 @@
 -- Sets of predecessors, one for each block.
-use Rattle.std.proofs.Common.{◌≡◌, ◌⊎◌, ◌↔◌, inl, inr, ℕ, zero, suc, ◌+◌, ◌<◌, nat_eq, true, false, cond, List, [], ◌∷◌, ◌++◌, map, take, drop, length, get_or, set, Some, IsTrue, refl, ap, sym, subst, ◌∙◌, arith}
-use Rattle.std.specs.Prelude.{slice_get, Contains, All, Result, Ok, Err, OnOk}
-use Rattle.ops.specs.Number.{Number}
-use Rattle.std.proofs.lemmas.Bool.{false≢true}
-use Rattle.std.proofs.lemmas.Bool.Decides.{eqb_tells}
-use Rattle.std.proofs.lemmas.List.{take_more, length-set}
-use Rattle.std.proofs.lemmas.List.Elements.{Contains-append_left, Contains-append_right, Contains-append_cases}
-use Rattle.std.proofs.lemmas.Option.{slice_get_within}
-use Rattle.indexmap.specs.IndexSet.{IndexSet, contains, Updates}
-use Rattle.ir_core.specs.declared.function.Function.{Function}
-use Rattle.ir_core.specs.declared.function.Block.{Block}
-use Rattle.ir_core.specs.Blocks.{targets_of, Names}
-use Rattle.ir_reader.specs.Predecessors.{Holds, AddsTo, AddsOf, ArePredecessors}
+use Rattle.ir_reader.proofs.Common.{◌≡◌, ◌⊎◌, ◌↔◌, inl, inr, ℕ, zero, suc, ◌+◌, ◌<◌, nat_eq, true, false, cond, List, [], ◌∷◌, ◌++◌, map, take, drop, length, get_or, set, Some, IsTrue, refl, ap, sym, subst, ◌∙◌, arith, slice_get, Contains, All, Result, Ok, Err, OnOk, Number, false≢true, eqb_tells, take_more, length-set, Contains-append_left, Contains-append_right, Contains-append_cases, slice_get_within, IndexSet, contains, Updates, Function, Block, targets_of, Names, Holds, AddsTo, AddsOf, ArePredecessors}
 use Rattle.ir_reader.proofs.Places.{same_at, at_push, append_left, append_right}
 
 set_other : {X : Type 0} (xs : List X) (t c : ℕ) (x : X) → (c ≡ t → ⊥) → slice_get (set xs t x) c ≡ slice_get xs c

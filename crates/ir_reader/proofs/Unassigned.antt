@@ -1,20 +1,7 @@
 -- Every register is assigned wherever it is read, or there is a first read of one that isn't.
-use Rattle.std.proofs.Common.{◌≡◌, ◌⊎◌, inl, inr, ℕ, suc, ◌<◌, ◌≤◌, ◌==◌, Bool, true, false, if◌then◌else◌, List, [], ◌∷◌, length, Option, None, Some, refl, sym, ap, subst, ◌∙◌, arith}
-use Rattle.std.specs.Prelude.{slice_get, option_map, unwrap_or, Contains}
-use Rattle.std.proofs.Math.Decide.{map_dec, dec_lt}
-use Rattle.std.proofs.lemmas.Bool.{eqb-true}
-use Rattle.std.proofs.lemmas.Option.{slice_get_within}
-use Rattle.ir_core.specs.declared.function.Function.{Function}
-use Rattle.ir_core.specs.declared.function.Block.{Block}
-use Rattle.ir_core.specs.declared.instruction.Inst.{Inst}
-use Rattle.ir_core.specs.declared.operand.Operand.{Operand}
+use Rattle.ir_reader.proofs.Common.{◌≡◌, ◌⊎◌, inl, inr, ℕ, suc, ◌<◌, ◌≤◌, ◌==◌, Bool, true, false, if◌then◌else◌, List, [], ◌∷◌, length, Option, None, Some, refl, sym, ap, subst, ◌∙◌, arith, slice_get, option_map, unwrap_or, Contains, map_dec, dec_lt, eqb-true, slice_get_within, Function, Block, Inst, Operand, Register, IsAssigned, ReadIsAssigned, ReadsAreAssigned, IsBefore, IsFirstUnassigned, Read, end_of, reads_at_end, reads_by, reads_in, reads_at, IsRead, IsWalk, dec_both, dec_not, dec_number, dec_at, stable}
 use Rattle.ir_core.specs.declared.operand.Operand.TheVariants as operands
-use Rattle.ir_core.specs.declared.operand.Register.{Register}
 use Rattle.ir_core.specs.declared.operand.Register.TheVariants as registers
-use Rattle.ir_core.specs.Assigned.{IsAssigned, ReadIsAssigned, ReadsAreAssigned, IsBefore, IsFirstUnassigned}
-use Rattle.ir_core.specs.Reads.{Read, end_of, reads_at_end, reads_by, reads_in, reads_at, IsRead}
-use Rattle.ir_core.specs.Walks.{IsWalk}
-use Rattle.ir_resolve.proofs.Deciding.{dec_both, dec_not, dec_number, dec_at, stable}
 use Rattle.ir_reader.proofs.Searching.{dec_below, least}
 use Rattle.ir_reader.proofs.Avoiding.{dec_contains, dec_comes}
 

@@ -1,12 +1,5 @@
 -- Uses are added piece by piece.
-use Rattle.std.proofs.Common.{◌≡◌, ℕ, ◌+◌, ◌<◌, ◌≤◌, List, [], ◌∷◌, ◌++◌, take, length, get_or, sym, ap, ◌∙◌, append_assoc, append-nil}
-use Rattle.std.specs.List.{flat_map}
-use Rattle.std.proofs.lemmas.List.{take_more, take_all}
-use Rattle.ir_tokens.specs.declared.raw.RawInst.{RawInst}
-use Rattle.ir_tokens.specs.declared.raw.RawIdentifier.{RawIdentifier}
-use Rattle.ir_resolve.specs.declared.uses.Uses.{Uses}
-use Rattle.ir_resolve.specs.TypedReads.{Typed, read_by, named_by}
-use Rattle.ir_resolve.specs.Uses.{seen_reads, seen_targets, Adds}
+use Rattle.ir_resolve.proofs.Common.{◌≡◌, ℕ, ◌+◌, ◌<◌, ◌≤◌, List, [], ◌∷◌, ◌++◌, take, length, get_or, sym, ap, ◌∙◌, append_assoc, append-nil, flat_map, take_more, take_all, RawInst, RawIdentifier, Uses, Typed, read_by, named_by, seen_reads, seen_targets, Adds}
 
 pub adds_none : (a : Uses) → Adds a a [] []
 adds_none a = record { reads_added = sym (append-nil (seen_reads a)); targets_added = sym (append-nil (seen_targets a)) }

@@ -1,25 +1,7 @@
 -- What is not defined or clashes by the table does so in the function, and what the function is built of is defined.
-use Rattle.std.proofs.Common.{◌≡◌, ◌⊎◌, inl, inr, ℕ, zero, suc, List, [], ◌∷◌, get_or, Option, None, refl, sym, subst, arith}
-use Rattle.std.specs.Prelude.{Contains}
-use Rattle.std.specs.List.{flat_map, AllByRecursion}
-use Rattle.std.proofs.lemmas.List.Elements.{recursion_from_All, Contains-get_or, Contains-append_left, Contains-append_right}
-use Rattle.ir_tokens.specs.declared.called.Identifier.{Identifier}
-use Rattle.ir_core.specs.declared.operand.Register.{Register}
-use Rattle.ir_tokens.specs.declared.raw.RawFunction.{RawFunction}
-use Rattle.ir_tokens.specs.declared.raw.RawBlock.{RawBlock}
-use Rattle.ir_tokens.specs.declared.raw.RawInst.{RawInst}
-use Rattle.ir_tokens.specs.declared.raw.RawIdentifier.{RawIdentifier}
-use Rattle.ir_tokens.specs.declared.raw.RawCase.{RawCase}
-use Rattle.ir_tokens.specs.declared.raw.RawValue.{RawValue}
-use Rattle.ir_tokens.specs.declared.raw.RawTerminator.{RawTerminator}
+use Rattle.ir_resolve.proofs.Common.{◌≡◌, ◌⊎◌, inl, inr, ℕ, zero, suc, List, [], ◌∷◌, get_or, Option, None, refl, sym, subst, arith, Contains, flat_map, AllByRecursion, recursion_from_All, Contains-get_or, Contains-append_left, Contains-append_right, Identifier, Register, RawFunction, RawBlock, RawInst, RawIdentifier, RawCase, RawValue, RawTerminator, IsFirst, SomeAt, lesser, Thing, Value, Block, Calls, Typed, read_by, named_by, read_at_end, named_at_end, cases_of, read_in, named_in, literal_of, IsUnknownValue, IsUnknownBlock, UnknownIn, UnknownAt, CallsRegister, ValueClashes, ReadClashesIn, EndClashesAt, BlockClashesAt, TypeClashAt, Known, CallsIn, CallsRegisterIn, IsReadyInst, IsReadyEnd, IsReadyBlock, Tabulates}
 use Rattle.ir_tokens.specs.declared.raw.RawTerminator.TheVariants as terminators
-use Rattle.ir_resolve.specs.FirstLines.{IsFirst, SomeAt, lesser}
-use Rattle.ir_resolve.specs.Written.{Thing, Value, Block, Calls}
-use Rattle.ir_resolve.specs.TypedReads.{Typed, read_by, named_by, read_at_end, named_at_end, cases_of, read_in, named_in, reads_of, targets_of}
-use Rattle.ir_resolve.specs.FaultKinds.{literal_of, IsUnknownValue, IsUnknownBlock, UnknownIn, UnknownAt, CallsRegister, ValueClashes, ReadClashesIn, EndClashesAt, BlockClashesAt, TypeClashAt}
-use Rattle.ir_resolve.specs.Views.{Known, CallsIn, CallsRegisterIn}
-use Rattle.ir_resolve.specs.KnownNames.{IsReadyInst, IsReadyEnd, IsReadyBlock}
-use Rattle.ir_resolve.specs.NameTable.{Tabulates}
+use Rattle.ir_resolve.specs.TypedReads.{reads_of, targets_of}
 use Rattle.ir_resolve.proofs.Firsts.{first_either, first_same}
 
 some_weaker : {X : Type 0} (P Q : X → ℕ → Type 0) (xs : List X) → ((x : X) (line : ℕ) → P x line → Q x line) → (line : ℕ) → SomeAt xs P line → SomeAt xs Q line

@@ -1,12 +1,5 @@
 -- Decidable statements, and statements of lines that have a first line or none.
-use Rattle.std.proofs.Common.{◌≡◌, ◌⊎◌, inl, inr, ℕ, zero, suc, ◌+◌, ◌<◌, ◌==◌, Bool, true, false, List, [], ◌∷◌, length, take, Option, None, Some, refl, sym, subst, ◌∙◌, arith}
-use Rattle.std.specs.Prelude.{slice_get, Contains}
-use Rattle.std.specs.Cmp.Lexicographic.{pointwise, bytes_decides}
-use Rattle.std.proofs.Math.Decide.{map_dec}
-use Rattle.std.proofs.lemmas.Bool.{cases_eq, false≢true}
-use Rattle.std.proofs.lemmas.Option.{slice_get_within, same_Some}
-use Rattle.ir_resolve.specs.FirstLines.{IsFirst, SomeAt, lesser}
-use Rattle.ir_resolve.specs.FaultKinds.{SomeHas, RepeatsHere, Repeats}
+use Rattle.ir_resolve.proofs.Common.{◌≡◌, ◌⊎◌, inl, inr, ℕ, zero, suc, ◌+◌, ◌<◌, ◌==◌, Bool, true, false, List, [], ◌∷◌, length, take, Option, None, Some, refl, sym, subst, ◌∙◌, arith, slice_get, Contains, pointwise, bytes_decides, map_dec, cases_eq, false≢true, slice_get_within, same_Some, IsFirst, SomeAt, lesser, SomeHas, RepeatsHere, Repeats}
 use Rattle.ir_resolve.proofs.Firsts.{Before, first_same, first_either, first_more_place, first_all_places}
 use Rattle.ir_resolve.proofs.Checked.{contained_behind}
 

@@ -1,16 +1,5 @@
 -- A function as written has a first fault, or none and means a function.
-use Rattle.std.proofs.Common.{◌⊎◌, inl, inr, ℕ, ◌<◌, List, None, Some}
-use Rattle.ir_core.specs.declared.function.Function.{Function}
-use Rattle.ir_tokens.specs.declared.raw.RawFunction.{RawFunction}
-use Rattle.refusal.specs.declared.fault.Fault.{Fault}
-use Rattle.ir_tokens.specs.declared.fault.IrFaultKind.{IrFaultKind}
-use Rattle.ir_tokens.specs.declared.fault.IrFaultKind.TheVariants.{Numbering, Duplicate, Unknown, TypeClash}
-use Rattle.ir_resolve.specs.Written.{written_names}
-use Rattle.ir_resolve.specs.FaultKinds.{Repeats, HasName, IsWrittenOn}
-use Rattle.ir_resolve.specs.Means.{Means}
-use Rattle.ir_resolve.specs.Faults.{rank, HasFaultAt, HasNoFault, IsFirstNameFault}
-use Rattle.ir_resolve.specs.Views.{Known}
-use Rattle.ir_resolve.specs.NameTable.{Tabulates}
+use Rattle.ir_resolve.proofs.Common.{◌⊎◌, inl, inr, ℕ, ◌<◌, List, None, Some, Function, RawFunction, Fault, IrFaultKind, Numbering, Duplicate, Unknown, TypeClash, written_names, Repeats, HasName, IsWrittenOn, Means, rank, HasFaultAt, HasNoFault, IsFirstNameFault, Known, Tabulates}
 use Rattle.ir_resolve.proofs.Meaning.{means}
 use Rattle.ir_resolve.proofs.Checked.{ready}
 use Rattle.ir_resolve.proofs.Refusals.{clear_none, clear_1, clear_2, clear_3, clear_all}

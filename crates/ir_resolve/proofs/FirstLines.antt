@@ -1,39 +1,11 @@
 -- Each kind of fault of a function as written has a first line, or there is no fault of the kind.
-use Rattle.std.proofs.Common.{◌≡◌, ◌≢◌, ◌⊎◌, inl, inr, ℕ, Bool, true, false, List, length, is_some, Option, None, Some, refl, sym, ap, subst, ◌∙◌}
-use Rattle.std.specs.Prelude.{slice_get}
-use Rattle.std.proofs.Math.Decide.{map_dec, dec_lt}
-use Rattle.std.proofs.lemmas.Bool.{false≢true}
-use Rattle.std.proofs.lemmas.Option.{slice_get_within, same_Some}
-use Rattle.ops.specs.Number.{Number}
-use Rattle.ops.specs.declared.conversion.Cast.{Cast}
-use Rattle.ops.specs.declared.conversion.Cast.TheVariants.{Trunc, ZExt, SExt}
-use Rattle.ops.specs.Conversion.{CastFits}
-use Rattle.ir_tokens.specs.declared.called.Identifier.{Identifier}
-use Rattle.ir_tokens.specs.declared.called.Identifier.TheVariants.{Named, Numbered}
-use Rattle.ir_core.specs.declared.operand.Register.{Register}
-use Rattle.ir_tokens.specs.declared.raw.RawFunction.{RawFunction}
-use Rattle.ir_tokens.specs.declared.raw.RawBlock.{RawBlock}
-use Rattle.ir_tokens.specs.declared.raw.RawIdentifier.{RawIdentifier}
-use Rattle.ir_tokens.specs.declared.raw.RawInst.{RawInst}
-use Rattle.ir_tokens.specs.declared.raw.RawArguments.{RawArguments}
+use Rattle.ir_resolve.proofs.Common.{◌≡◌, ◌≢◌, ◌⊎◌, inl, inr, ℕ, Bool, true, false, List, length, is_some, Option, None, Some, refl, sym, ap, subst, ◌∙◌, slice_get, map_dec, dec_lt, false≢true, slice_get_within, same_Some, Number, Cast, Trunc, ZExt, SExt, CastFits, Identifier, Named, Numbered, Register, RawFunction, RawBlock, RawIdentifier, RawInst, RawArguments, RawOp, RawCall, TypedOperand, RawTerminator, RawValue, RawCase, Entity, SomeAt, lesser, written_names, called_in, Typed, cases_of, IsMisnumbered, MisnumbersHere, NumberingAt, Repeats, HasName, IsWrittenOn, literal_of, HasNumber, IsCaseOn, HasNameOf, DuplicateAt, IsUnknownValue, IsUnknownBlock, UnknownIn, UnknownAt, LiteralClashes, ValueClashes, ReadClashesIn, OpClashesAt, CaseClashes, EndClashesAt, BlockClashesAt, TypeClashAt, TruthIsBit, ArgumentsFit, CallFits, Known, CallsIn, CallsRegisterIn, entity_in, register_of, block_of, Tabulates}
 use Rattle.ir_tokens.specs.declared.raw.RawArguments.TheVariants as arguments
-use Rattle.ir_tokens.specs.declared.raw.RawOp.{RawOp}
-use Rattle.ir_tokens.specs.declared.raw.RawCall.{RawCall}
-use Rattle.ir_tokens.specs.declared.raw.TypedOperand.{TypedOperand}
 use Rattle.ir_tokens.specs.declared.raw.RawOp.TheVariants as ops
-use Rattle.ir_tokens.specs.declared.raw.RawTerminator.{RawTerminator}
 use Rattle.ir_tokens.specs.declared.raw.RawTerminator.TheVariants as terminators
-use Rattle.ir_tokens.specs.declared.raw.RawValue.{RawValue}
 use Rattle.ir_tokens.specs.declared.raw.RawValue.TheVariants as values
-use Rattle.ir_tokens.specs.declared.raw.RawCase.{RawCase}
-use Rattle.ir_resolve.specs.declared.names.definition.Entity.{Entity}
 use Rattle.ir_resolve.specs.declared.names.definition.Entity.TheVariants as entities
-use Rattle.ir_resolve.specs.FirstLines.{SomeAt, lesser}
-use Rattle.ir_resolve.specs.Written.{written_names, called_in}
-use Rattle.ir_resolve.specs.TypedReads.{Typed, cases_of, reads_of, targets_of}
-use Rattle.ir_resolve.specs.FaultKinds.{IsMisnumbered, MisnumbersHere, NumberingAt, Repeats, HasName, IsWrittenOn, literal_of, HasNumber, IsCaseOn, HasNameOf, DuplicateAt, IsUnknownValue, IsUnknownBlock, UnknownIn, UnknownAt, LiteralClashes, ValueClashes, ReadClashesIn, OpClashesAt, CaseClashes, EndClashesAt, BlockClashesAt, TypeClashAt, TruthIsBit, ArgumentsFit, CallFits}
-use Rattle.ir_resolve.specs.Views.{Known, CallsIn, CallsRegisterIn, entity_in, register_of, block_of}
-use Rattle.ir_resolve.specs.NameTable.{Tabulates}
+use Rattle.ir_resolve.specs.TypedReads.{reads_of, targets_of}
 use Rattle.ir_resolve.proofs.Places.{place_of_contained, contained_at}
 use Rattle.ir_resolve.proofs.Unknowns.{value_unknown, block_unknown}
 use Rattle.ir_resolve.proofs.Checked.{unknown_first, clash_first}

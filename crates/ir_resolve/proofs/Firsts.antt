@@ -1,10 +1,5 @@
 -- The first line at which something holds of one of several items.
-use Rattle.std.proofs.Common.{◌≡◌, ◌⊎◌, inl, inr, ℕ, ◌+◌, ◌<◌, ◌≤◌, leb, Bool, true, false, cond, List, [], ◌∷◌, ◌++◌, map, take, length, get_or, Option, None, Some, ◌↔◌, IsTrue, refl, ap, sym, subst, ◌∙◌, arith}
-use Rattle.std.specs.Bool.{then_some}
-use Rattle.std.proofs.lemmas.Bool.{cases_lt, leb-true, leb-false, false≢true}
-use Rattle.std.proofs.lemmas.List.{take_more, map_more, take_all}
-use Rattle.std.proofs.lemmas.List.Elements.{Contains-append_left, Contains-push, Contains-push_cases}
-use Rattle.ir_resolve.specs.FirstLines.{IsFirst, IsFirstLine, SomeAt, lesser}
+use Rattle.ir_resolve.proofs.Common.{◌≡◌, ◌⊎◌, inl, inr, ℕ, ◌+◌, ◌<◌, ◌≤◌, leb, Bool, true, false, cond, List, [], ◌∷◌, ◌++◌, map, take, length, get_or, Option, None, Some, ◌↔◌, IsTrue, refl, ap, sym, subst, ◌∙◌, arith, then_some, cases_lt, leb-true, leb-false, false≢true, take_more, map_more, take_all, Contains-append_left, Contains-push, Contains-push_cases, IsFirst, IsFirstLine, SomeAt, lesser}
 
 pub first_same : (P Q : ℕ → Type 0) → ((line : ℕ) → P line → Q line) → ((line : ℕ) → Q line → P line) → (found : Option ℕ) → IsFirst P found → IsFirst Q found
 first_same P Q there back None none = λ line q. none line (back line q)

@@ -1,51 +1,15 @@
 -- A function that is meant, by one as written without a fault, meets its checks by names, widths and cases.
-use Rattle.std.proofs.Common.{◌≡◌, ◌≢◌, inl, inr, ℕ, ◌<◌, List, [], ◌∷◌, ◌++◌, map, get_or, Some, refl, sym, ap, ◌∙◌, arith, Bool, true, false, ◌&&◌, Option, None, is_some}
-use Rattle.std.specs.Prelude.{All, slice_get}
-use Rattle.std.specs.List.{AllZip, flat_map}
-use Rattle.std.proofs.lemmas.Bool.{cases_lt}
-use Rattle.std.proofs.lemmas.List.{map-append}
-use Rattle.std.proofs.lemmas.Option.{slice_get-get_or}
-use Rattle.ops.specs.declared.opcode.Unary.{Unary}
-use Rattle.ops.specs.Truths.{TruthFits, has_truth}
-use Rattle.ops.specs.Number.{Number}
-use Rattle.ops.specs.declared.conversion.Cast.{Cast}
-use Rattle.ops.specs.declared.conversion.Cast.TheVariants.{Trunc, ZExt, SExt}
-use Rattle.ir_tokens.specs.declared.called.Identifier.{Identifier}
-use Rattle.ir_core.specs.Names.{Name, block_names}
-use Rattle.ir_core.specs.Checks.{CasesDiffer, IsTyped, CasesFit}
-use Rattle.ops.specs.Conversion.{CastFits}
+use Rattle.ir_resolve.proofs.Common.{◌≡◌, ◌≢◌, inl, inr, ℕ, ◌<◌, List, [], ◌∷◌, ◌++◌, map, get_or, Some, refl, sym, ap, ◌∙◌, arith, Bool, true, false, ◌&&◌, Option, None, is_some, All, slice_get, AllZip, flat_map, cases_lt, map-append, slice_get-get_or, Unary, TruthFits, has_truth, Number, Cast, Trunc, ZExt, SExt, Identifier, Name, block_names, CasesDiffer, IsTyped, CasesFit, CastFits, Read, read, end_of, reads_at_end, Function, Parameter, Inst, Op, Operand, Terminator, RawParameter, RawIdentifier, RawBlock, RawInst, RawArguments, RawOp, TypedOperand, RawTerminator, RawValue, RawOperand, RawCase, Thing, given, written_in, Typed, read_by, read_at_end, named_at_end, cases_of, read_by_call, literal_of, result_width, Repeats, HasNumber, IsCaseOn, OpClashesAt, EndClashesAt, ArgumentsFit, truth_of, ValueMeans, BlockMeans, IncomingMeans, OpMeans, InstMeans, CaseMeans, EndMeans, BlockIsOf, ParameterMeans, ArgumentsMean, IsWellWrittenOp, IsWellWrittenCall}
 use Rattle.ir_core.specs.Blocks.{targets_of}
-use Rattle.ir_core.specs.Reads.{Read, read, end_of, reads_of, reads_at_end}
-use Rattle.ir_core.specs.declared.function.Function.{Function}
-use Rattle.ir_core.specs.declared.function.Parameter.{Parameter}
+use Rattle.ir_core.specs.Reads.{reads_of}
 use Rattle.ir_core.specs.declared.function.Block.{Block as CoreBlock}
-use Rattle.ir_core.specs.declared.instruction.Inst.{Inst}
-use Rattle.ir_core.specs.declared.instruction.Op.{Op}
 use Rattle.ir_core.specs.declared.instruction.Op.TheVariants as core
-use Rattle.ir_core.specs.declared.operand.Operand.{Operand}
 use Rattle.ir_core.specs.declared.operand.Operand.TheVariants as operands
-use Rattle.ir_core.specs.declared.terminator.Terminator.{Terminator}
 use Rattle.ir_core.specs.declared.terminator.Terminator.TheVariants as ends
-use Rattle.ir_tokens.specs.declared.raw.RawParameter.{RawParameter}
-use Rattle.ir_tokens.specs.declared.raw.RawIdentifier.{RawIdentifier}
-use Rattle.ir_tokens.specs.declared.raw.RawBlock.{RawBlock}
-use Rattle.ir_tokens.specs.declared.raw.RawInst.{RawInst}
-use Rattle.ir_tokens.specs.declared.raw.RawArguments.{RawArguments}
 use Rattle.ir_tokens.specs.declared.raw.RawArguments.TheVariants as arguments
-use Rattle.ir_tokens.specs.declared.raw.RawOp.{RawOp}
-use Rattle.ir_tokens.specs.declared.raw.TypedOperand.{TypedOperand}
 use Rattle.ir_tokens.specs.declared.raw.RawOp.TheVariants as ops
-use Rattle.ir_tokens.specs.declared.raw.RawTerminator.{RawTerminator}
 use Rattle.ir_tokens.specs.declared.raw.RawTerminator.TheVariants as terminators
-use Rattle.ir_tokens.specs.declared.raw.RawValue.{RawValue}
 use Rattle.ir_tokens.specs.declared.raw.RawValue.TheVariants as values
-use Rattle.ir_tokens.specs.declared.raw.RawOperand.{RawOperand}
-use Rattle.ir_tokens.specs.declared.raw.RawCase.{RawCase}
-use Rattle.ir_resolve.specs.Written.{Thing, given, written_in}
-use Rattle.ir_resolve.specs.TypedReads.{Typed, read_by, read_at_end, named_at_end, cases_of, read_by_call}
-use Rattle.ir_resolve.specs.FaultKinds.{literal_of, result_width, Repeats, HasNumber, IsCaseOn, OpClashesAt, EndClashesAt, ArgumentsFit, truth_of}
-use Rattle.ir_resolve.specs.Means.{ValueMeans, BlockMeans, IncomingMeans, OpMeans, InstMeans, CaseMeans, EndMeans, BlockIsOf, ParameterMeans, ArgumentsMean}
-use Rattle.ir_resolve.specs.Formed.{IsWellWrittenOp, IsWellWrittenCall}
 use Rattle.ir_resolve.proofs.Places.{contained_at, before_place}
 use Rattle.ir_resolve.proofs.Tabling.{once}
 use Rattle.ir_resolve.proofs.Pairs.{pair_of_second, made_pairs}

@@ -1,17 +1,5 @@
 -- Definitions and their keys, by index.
-use Rattle.std.proofs.Common.{◌≡◌, ℕ, suc, ◌<◌, List, [], ◌∷◌, map, length, get_or, Option, None, Some, refl, sym, ap, subst, ◌∙◌}
-use Rattle.std.specs.Prelude.{slice_get, option_map}
-use Rattle.std.proofs.lemmas.List.{length-map}
-use Rattle.std.proofs.lemmas.Option.{slice_get-map, slice_get-get_or}
-use Rattle.ir_core.specs.Names.{Name}
-use Rattle.ir_resolve.specs.Identifiers.{identifiers_from}
-use Rattle.ir_tokens.specs.declared.raw.RawIdentifier.{RawIdentifier}
-use Rattle.ir_resolve.specs.declared.names.key.Key.{Key}
-use Rattle.ir_resolve.specs.declared.names.definition.Definition.{Definition}
-use Rattle.ir_resolve.specs.FirstLines.{IsFirst}
-use Rattle.ir_resolve.specs.Written.{given, called_in}
-use Rattle.ir_resolve.specs.FaultKinds.{IsMisnumbered, MisnumbersHere}
-use Rattle.ir_resolve.specs.Views.{seen, seen_written, AreKeysOf}
+use Rattle.ir_resolve.proofs.Common.{◌≡◌, ℕ, suc, ◌<◌, List, [], ◌∷◌, map, length, get_or, Option, None, Some, refl, sym, ap, subst, ◌∙◌, slice_get, option_map, length-map, slice_get-map, slice_get-get_or, Name, identifiers_from, RawIdentifier, Key, Definition, IsFirst, given, called_in, IsMisnumbered, MisnumbersHere, seen, seen_written, AreKeysOf}
 use Rattle.ir_resolve.proofs.Firsts.{first_same}
 
 pub length-identifiers_from : (n : ℕ) (names : List Name) → length (identifiers_from n names) ≡ length names

@@ -1,3 +1,4 @@
+pub mod Common
 pub mod Firsts
 pub mod Repeats
 pub mod Lookups

@@ -1,18 +1,7 @@
 -- Lookups in the symbol table.
-use Rattle.std.proofs.Common.{◌≡◌, ◌⊎◌, ◌↔◌, inl, inr, Bool, true, false, cond, ◌||◌, IsTrue, is_some, List, [], ◌∷◌, ◌++◌, Option, None, Some, refl, sym, ap, subst, ◌∙◌}
-use Rattle.std.specs.Map.{lookup}
-use Rattle.std.specs.Cmp.Lexicographic.{bytes_decides}
-use Rattle.std.proofs.lemmas.Bool.{eqb-true, eq-eqb}
-use Rattle.std.proofs.lemmas.List.{map_push}
-use Rattle.indexmap.specs.IndexMap.{IndexMap, get, insert_entry}
-use Rattle.indexmap.proofs.CallerLemmas.{insert_entry-new}
-use Rattle.ir_tokens.specs.declared.called.Identifier.{Identifier}
-use Rattle.ir_tokens.specs.declared.called.Identifier.TheVariants.{Named, Numbered}
-use Rattle.ir_resolve.specs.declared.names.key.Key.{Key}
+use Rattle.ir_resolve.proofs.Common.{◌≡◌, ◌⊎◌, ◌↔◌, inl, inr, Bool, true, false, cond, ◌||◌, IsTrue, is_some, List, [], ◌∷◌, ◌++◌, Option, None, Some, refl, sym, ap, subst, ◌∙◌, lookup, bytes_decides, eqb-true, eq-eqb, map_push, IndexMap, get, insert_entry, insert_entry-new, Identifier, Named, Numbered, Key, Entity, seen, seen_entries, known_by, same, knows, Is, entity_in}
 use Rattle.ir_resolve.specs.declared.names.key.Key.TheVariants as keys
-use Rattle.ir_resolve.specs.declared.names.definition.Entity.{Entity}
 use Rattle.ir_resolve.specs.contracts.names.key.KeyPartialEq.TheImpl as derived
-use Rattle.ir_resolve.specs.Views.{seen, seen_entries, known_by, same, knows, Is, entity_in}
 
 abbrev pub eq : Key → Key → Bool
 eq = derived.eq-value.it

@@ -1,34 +1,13 @@
 -- Where identifiers refer to the same things, a function as written means the same.
-use Rattle.std.proofs.Common.{ℕ, List, [], ◌∷◌}
-use Rattle.std.specs.List.{AllZip}
-use Rattle.ops.specs.Number.{Number}
-use Rattle.ir_tokens.specs.declared.called.Identifier.{Identifier}
-use Rattle.ir_core.specs.declared.function.Function.{Function}
+use Rattle.ir_resolve.proofs.Common.{ℕ, List, [], ◌∷◌, AllZip, Number, Identifier, Function, Inst, Op, Operand, Terminator, RawFunction, RawBlock, RawInst, RawArguments, RawOp, RawTerminator, RawValue, RawIncoming, RawCase, Thing, Value, Block, Calls, ValueMeans, IncomingMeans, OpMeans, InstMeans, CaseMeans, EndMeans, BlockIsOf, MeansBy, Means, ArgumentsMean, Known, CallsIn, Tabulates}
 use Rattle.ir_core.specs.declared.function.Block.{Block as CoreBlock}
-use Rattle.ir_core.specs.declared.instruction.Inst.{Inst}
-use Rattle.ir_core.specs.declared.instruction.Op.{Op}
 use Rattle.ir_core.specs.declared.instruction.Op.TheVariants as core
-use Rattle.ir_core.specs.declared.operand.Operand.{Operand}
 use Rattle.ir_core.specs.declared.operand.Operand.TheVariants as operands
-use Rattle.ir_core.specs.declared.terminator.Terminator.{Terminator}
 use Rattle.ir_core.specs.declared.terminator.Terminator.TheVariants as ends
-use Rattle.ir_tokens.specs.declared.raw.RawFunction.{RawFunction}
-use Rattle.ir_tokens.specs.declared.raw.RawBlock.{RawBlock}
-use Rattle.ir_tokens.specs.declared.raw.RawInst.{RawInst}
-use Rattle.ir_tokens.specs.declared.raw.RawArguments.{RawArguments}
 use Rattle.ir_tokens.specs.declared.raw.RawArguments.TheVariants as arguments
-use Rattle.ir_tokens.specs.declared.raw.RawOp.{RawOp}
 use Rattle.ir_tokens.specs.declared.raw.RawOp.TheVariants as ops
-use Rattle.ir_tokens.specs.declared.raw.RawTerminator.{RawTerminator}
 use Rattle.ir_tokens.specs.declared.raw.RawTerminator.TheVariants as terminators
-use Rattle.ir_tokens.specs.declared.raw.RawValue.{RawValue}
 use Rattle.ir_tokens.specs.declared.raw.RawValue.TheVariants as values
-use Rattle.ir_tokens.specs.declared.raw.RawIncoming.{RawIncoming}
-use Rattle.ir_tokens.specs.declared.raw.RawCase.{RawCase}
-use Rattle.ir_resolve.specs.Written.{Thing, Value, Block, Calls}
-use Rattle.ir_resolve.specs.Means.{ValueMeans, IncomingMeans, OpMeans, InstMeans, CaseMeans, EndMeans, BlockIsOf, MeansBy, Means, ArgumentsMean}
-use Rattle.ir_resolve.specs.Views.{Known, CallsIn}
-use Rattle.ir_resolve.specs.NameTable.{Tabulates}
 
 zip_weaker : {X Y : Type 0} (R S : X → Y → Type 0) → ((x : X) (y : Y) → R x y → S x y) → (xs : List X) (ys : List Y) → AllZip R xs ys → AllZip S xs ys
 zip_weaker R S f [] [] all = tt

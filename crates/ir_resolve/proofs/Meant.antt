@@ -1,41 +1,14 @@
 -- A function as written whose registers and blocks are all defined means a function.
-use Rattle.std.proofs.Common.{◌≡◌, ℕ, List, [], ◌∷◌, map, Option, None, Some, refl, sym, ◌∙◌}
-use Rattle.std.specs.List.{AllZip, AllByRecursion}
-use Rattle.ops.specs.Flags.{no_flags}
-use Rattle.ops.specs.Number.{Number}
-use Rattle.ir_tokens.specs.declared.called.Identifier.{Identifier}
-use Rattle.ir_core.specs.declared.function.Function.{Function}
-use Rattle.ir_core.specs.declared.function.Parameter.{Parameter}
+use Rattle.ir_resolve.proofs.Common.{◌≡◌, ℕ, List, [], ◌∷◌, map, Option, None, Some, refl, sym, ◌∙◌, AllZip, AllByRecursion, no_flags, Number, Identifier, Function, Parameter, Inst, Op, Operand, Terminator, RawFunction, RawParameter, RawBlock, RawInst, RawArguments, RawOp, RawTerminator, RawValue, RawIncoming, RawCase, Entity, given, typed, read_by, named_by, read_by_call, literal_of, result_width, IsUnknownValue, IsUnknownBlock, truth_of, ValueMeans, BlockMeans, IncomingMeans, OpMeans, InstMeans, CaseMeans, EndMeans, BlockIsOf, ParameterMeans, MeansBy, ArgumentsMean, Known, CallsIn, entity_in, ReadsAreKnown, TargetsAreKnown, IsReadyInst, IsReadyEnd, IsReadyBlock}
 use Rattle.ir_core.specs.declared.function.Block.{Block as CoreBlock}
-use Rattle.ir_core.specs.declared.instruction.Inst.{Inst}
-use Rattle.ir_core.specs.declared.instruction.Op.{Op}
 use Rattle.ir_core.specs.declared.instruction.Op.TheVariants as core
-use Rattle.ir_core.specs.declared.operand.Operand.{Operand}
 use Rattle.ir_core.specs.declared.operand.Operand.TheVariants as operands
-use Rattle.ir_core.specs.declared.terminator.Terminator.{Terminator}
 use Rattle.ir_core.specs.declared.terminator.Terminator.TheVariants as ends
-use Rattle.ir_tokens.specs.declared.raw.RawFunction.{RawFunction}
-use Rattle.ir_tokens.specs.declared.raw.RawParameter.{RawParameter}
-use Rattle.ir_tokens.specs.declared.raw.RawBlock.{RawBlock}
-use Rattle.ir_tokens.specs.declared.raw.RawInst.{RawInst}
-use Rattle.ir_tokens.specs.declared.raw.RawArguments.{RawArguments}
 use Rattle.ir_tokens.specs.declared.raw.RawArguments.TheVariants as arguments
-use Rattle.ir_tokens.specs.declared.raw.RawOp.{RawOp}
 use Rattle.ir_tokens.specs.declared.raw.RawOp.TheVariants as ops
-use Rattle.ir_tokens.specs.declared.raw.RawTerminator.{RawTerminator}
 use Rattle.ir_tokens.specs.declared.raw.RawTerminator.TheVariants as terminators
-use Rattle.ir_tokens.specs.declared.raw.RawValue.{RawValue}
 use Rattle.ir_tokens.specs.declared.raw.RawValue.TheVariants as values
-use Rattle.ir_tokens.specs.declared.raw.RawIncoming.{RawIncoming}
-use Rattle.ir_tokens.specs.declared.raw.RawCase.{RawCase}
-use Rattle.ir_resolve.specs.declared.names.definition.Entity.{Entity}
 use Rattle.ir_resolve.specs.declared.names.definition.Entity.TheVariants as entities
-use Rattle.ir_resolve.specs.Written.{given}
-use Rattle.ir_resolve.specs.TypedReads.{typed, read_by, named_by, read_by_call}
-use Rattle.ir_resolve.specs.FaultKinds.{literal_of, result_width, IsUnknownValue, IsUnknownBlock, truth_of}
-use Rattle.ir_resolve.specs.Means.{ValueMeans, BlockMeans, IncomingMeans, OpMeans, InstMeans, CaseMeans, EndMeans, BlockIsOf, ParameterMeans, MeansBy, ArgumentsMean}
-use Rattle.ir_resolve.specs.Views.{Known, CallsIn, entity_in}
-use Rattle.ir_resolve.specs.KnownNames.{ReadsAreKnown, TargetsAreKnown, IsReadyInst, IsReadyEnd, IsReadyBlock}
 
 -- if each item is related to one, the list is related to a list
 some_zip : {X Y : Type 0} (R : X → Y → Type 0) → ((x : X) → (y : Y) × R x y) → (xs : List X) → (ys : List Y) × AllZip R xs ys

@@ -1,50 +1,13 @@
 -- A function as written means at most one function, and has at most one first fault.
-use Rattle.std.proofs.Common.{◌≡◌, inl, inr, ℕ, Bool, zero, suc, ◌≤◌, List, [], ◌∷◌, map, Some, refl, sym, ap, subst, ◌∙◌, arith}
-use Rattle.std.specs.List.{AllZip, zip}
-use Rattle.std.proofs.lemmas.Bool.{cases_lt}
-use Rattle.ops.specs.Number.{Number}
-use Rattle.ops.specs.declared.opcode.Opcode.{Opcode}
-use Rattle.ops.specs.declared.opcode.Unary.{Unary}
-use Rattle.ops.specs.declared.opcode.Flags.{Flags}
-use Rattle.ops.specs.declared.comparison.Pred.{Pred}
-use Rattle.ops.specs.declared.conversion.Cast.{Cast}
-use Rattle.ir_tokens.specs.declared.called.Identifier.{Identifier}
-use Rattle.ir_core.specs.declared.function.Function.{Function}
-use Rattle.ir_core.specs.declared.function.Parameter.{Parameter}
+use Rattle.ir_resolve.proofs.Common.{◌≡◌, inl, inr, ℕ, Bool, zero, suc, ◌≤◌, List, [], ◌∷◌, map, Some, refl, sym, ap, subst, ◌∙◌, arith, AllZip, zip, cases_lt, Number, Opcode, Unary, Flags, Pred, Cast, Identifier, Function, Parameter, Inst, Op, Operand, Register, Terminator, RawFunction, RawParameter, RawBlock, RawInst, RawArguments, RawOp, RawTerminator, RawValue, RawIncoming, RawCase, Fault, IrFaultKind, Numbering, Duplicate, Unknown, TypeClash, IsFirstLine, Thing, Value, Block, written_names, identifiers_of, Calls, literal_of, Repeats, HasName, IsWrittenOn, ValueMeans, IncomingMeans, OpMeans, InstMeans, CaseMeans, EndMeans, BlockIsOf, ParameterMeans, MeansBy, Means, ArgumentsMean, rank, HasFaultAt, HasNoFault, IsFirstNameFault, Known, Defined, definitions_of, Tabulates}
 use Rattle.ir_core.specs.declared.function.Block.{Block as CoreBlock}
-use Rattle.ir_core.specs.declared.instruction.Inst.{Inst}
-use Rattle.ir_core.specs.declared.instruction.Op.{Op}
 use Rattle.ir_core.specs.declared.instruction.Op.TheVariants as core
-use Rattle.ir_core.specs.declared.operand.Operand.{Operand}
 use Rattle.ir_core.specs.declared.operand.Operand.TheVariants as operands
-use Rattle.ir_core.specs.declared.operand.Register.{Register}
-use Rattle.ir_core.specs.declared.terminator.Terminator.{Terminator}
 use Rattle.ir_core.specs.declared.terminator.Terminator.TheVariants as ends
-use Rattle.ir_tokens.specs.declared.raw.RawFunction.{RawFunction}
-use Rattle.ir_tokens.specs.declared.raw.RawParameter.{RawParameter}
-use Rattle.ir_tokens.specs.declared.raw.RawBlock.{RawBlock}
-use Rattle.ir_tokens.specs.declared.raw.RawInst.{RawInst}
-use Rattle.ir_tokens.specs.declared.raw.RawArguments.{RawArguments}
 use Rattle.ir_tokens.specs.declared.raw.RawArguments.TheVariants as arguments
-use Rattle.ir_tokens.specs.declared.raw.RawOp.{RawOp}
 use Rattle.ir_tokens.specs.declared.raw.RawOp.TheVariants as ops
-use Rattle.ir_tokens.specs.declared.raw.RawTerminator.{RawTerminator}
 use Rattle.ir_tokens.specs.declared.raw.RawTerminator.TheVariants as terminators
-use Rattle.ir_tokens.specs.declared.raw.RawValue.{RawValue}
 use Rattle.ir_tokens.specs.declared.raw.RawValue.TheVariants as values
-use Rattle.ir_tokens.specs.declared.raw.RawIncoming.{RawIncoming}
-use Rattle.ir_tokens.specs.declared.raw.RawCase.{RawCase}
-use Rattle.refusal.specs.declared.fault.Fault.{Fault}
-use Rattle.ir_tokens.specs.declared.fault.IrFaultKind.{IrFaultKind}
-use Rattle.ir_tokens.specs.declared.fault.IrFaultKind.TheVariants.{Numbering, Duplicate, Unknown, TypeClash}
-use Rattle.ir_resolve.specs.FirstLines.{IsFirstLine}
-use Rattle.ir_resolve.specs.Written.{Thing, Value, Block, written_names, identifiers_of, Calls}
-use Rattle.ir_resolve.specs.FaultKinds.{literal_of, Repeats, HasName, IsWrittenOn}
-use Rattle.ir_resolve.specs.Means.{ValueMeans, IncomingMeans, OpMeans, InstMeans, CaseMeans, EndMeans, BlockIsOf, ParameterMeans, MeansBy, Means, ArgumentsMean}
-use Rattle.ir_resolve.specs.Faults.{rank, HasFaultAt, HasNoFault, IsFirstNameFault}
-use Rattle.ir_resolve.specs.Views.{Known}
-use Rattle.ir_resolve.specs.Definitions.{Defined, definitions_of}
-use Rattle.ir_resolve.specs.NameTable.{Tabulates}
 use Rattle.ir_resolve.proofs.Standing.{some_same}
 use Rattle.ir_resolve.proofs.Forming.{literal_meant}
 use Rattle.ir_resolve.proofs.Tabling.{tabulates}

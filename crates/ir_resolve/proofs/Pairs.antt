@@ -1,7 +1,5 @@
 -- Lists whose items are related one by one, and the items at an index.
-use Rattle.std.proofs.Common.{◌≡◌, ℕ, zero, suc, List, [], ◌∷◌, map, length, Some, refl, ap}
-use Rattle.std.specs.Prelude.{slice_get}
-use Rattle.std.specs.List.{AllZip}
+use Rattle.ir_resolve.proofs.Common.{◌≡◌, ℕ, zero, suc, List, [], ◌∷◌, map, length, Some, refl, ap, slice_get, AllZip}
 use Rattle.ir_resolve.proofs.Standing.{some_same}
 
 module _ {X Y : Type 0} (R : X → Y → Type 0) where

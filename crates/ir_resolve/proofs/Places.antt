@@ -1,8 +1,5 @@
 -- Items of a list and of its prefixes, by index.
-use Rattle.std.proofs.Common.{◌≡◌, ℕ, zero, suc, ◌<◌, List, [], ◌∷◌, length, take, Some, refl, sym, ap, ◌∙◌, arith}
-use Rattle.std.specs.Prelude.{Contains, slice_get}
-use Rattle.std.proofs.lemmas.List.{length-take}
-use Rattle.std.proofs.lemmas.Option.{slice_get_within, slice_get-get_or, get_or_from_slice_get}
+use Rattle.ir_resolve.proofs.Common.{◌≡◌, ℕ, zero, suc, ◌<◌, List, [], ◌∷◌, length, take, Some, refl, sym, ap, ◌∙◌, arith, Contains, slice_get, length-take, slice_get_within, slice_get-get_or, get_or_from_slice_get}
 
 pub place_of_contained : {X : Type 0} (xs : List X) (x : X) → Contains xs x → (j : ℕ) × (slice_get xs j ≡ Some x)
 place_of_contained xs x (j, lt, is) = (j, slice_get-get_or xs j x lt ∙ ap Some is)

@@ -1,25 +1,5 @@
 -- Which fault is the first, kind by kind.
-use Rattle.std.proofs.Common.{◌≡◌, ◌⊎◌, ℕ, ◌<◌, Bool, true, false, List, [], ◌∷◌, map, Option, None, refl, sym, ap, subst, ◌∙◌, arith}
-use Rattle.std.specs.Bool.{then_some}
-use Rattle.std.proofs.lemmas.Bool.{false≢true}
-use Rattle.std.specs.List.{zip}
-use Rattle.ir_tokens.specs.declared.raw.RawFunction.{RawFunction}
-use Rattle.refusal.specs.declared.fault.Fault.{Fault}
-use Rattle.ir_tokens.specs.declared.fault.IrFaultKind.{IrFaultKind}
-use Rattle.ir_tokens.specs.declared.fault.IrFaultKind.TheVariants.{Numbering, Duplicate, Unknown, TypeClash}
-use Rattle.refusal.specs.declared.refusal.Refusal.{Refusal}
-use Rattle.refusal.specs.declared.refusal.Refusal.TheVariants.{Refused, NoMemory}
-use Rattle.refusal.specs.Refusals.{IfRefused}
-use Rattle.ir_resolve.specs.declared.names.key.Key.{Key}
-use Rattle.ir_resolve.specs.declared.names.definition.Definition.{Definition}
-use Rattle.ir_resolve.specs.FirstLines.{IsFirst, IsFirstLine, SomeAt, lesser}
-use Rattle.ir_resolve.specs.Written.{written_names, called_in, identifiers_of}
-use Rattle.ir_resolve.specs.TypedReads.{cases_of}
-use Rattle.ir_resolve.specs.FaultKinds.{Repeats, HasName, IsWrittenOn, HasNumber, IsCaseOn, HasNameOf, MisnumbersHere, NumberingAt, DuplicateAt, UnknownAt, TypeClashAt}
-use Rattle.ir_resolve.specs.Views.{seen, seen_written, seen_definition, AreKeysOf, Known}
-use Rattle.ir_resolve.specs.Definitions.{Defined, definitions_of}
-use Rattle.ir_resolve.specs.NameTable.{IsFaultOfUses, unknown, clash}
-use Rattle.ir_resolve.specs.Faults.{rank, HasFaultAt, HasNoFault, IsFirstNameFault, MarksFunction}
+use Rattle.ir_resolve.proofs.Common.{◌≡◌, ◌⊎◌, ℕ, ◌<◌, Bool, true, false, List, [], ◌∷◌, map, Option, None, refl, sym, ap, subst, ◌∙◌, arith, then_some, false≢true, zip, RawFunction, Fault, IrFaultKind, Numbering, Duplicate, Unknown, TypeClash, Refusal, Refused, NoMemory, IfRefused, Key, Definition, IsFirst, IsFirstLine, SomeAt, lesser, written_names, called_in, identifiers_of, cases_of, Repeats, HasName, IsWrittenOn, HasNumber, IsCaseOn, HasNameOf, MisnumbersHere, NumberingAt, DuplicateAt, UnknownAt, TypeClashAt, seen, seen_written, seen_definition, AreKeysOf, Known, Defined, definitions_of, IsFaultOfUses, unknown, clash, rank, HasFaultAt, HasNoFault, IsFirstNameFault, MarksFunction}
 use Rattle.ir_resolve.proofs.Firsts.{first_either, first_if}
 use Rattle.ir_resolve.proofs.Tables.{none_of}
 use Rattle.ir_resolve.proofs.Standing.{written_definitions}

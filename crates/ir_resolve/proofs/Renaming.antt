@@ -1,15 +1,5 @@
 -- A key is in the table before exactly if its name was given before.
-use Rattle.std.proofs.Common.{◌≡◌, ◌↔◌, ℕ, ◌<◌, Bool, true, false, cond, IsTrue, List, take, map, Option, None, Some, refl, sym, ap, subst, ◌∙◌, arith}
-use Rattle.std.specs.Prelude.{Contains, slice_get, option_map}
-use Rattle.std.proofs.lemmas.Bool.{false≢true}
-use Rattle.std.proofs.lemmas.Option.{slice_get-map}
-use Rattle.ir_tokens.specs.declared.called.Identifier.{Identifier}
-use Rattle.ir_tokens.specs.declared.called.Identifier.TheVariants.{Named, Numbered}
-use Rattle.ir_tokens.specs.declared.raw.RawIdentifier.{RawIdentifier}
-use Rattle.ir_resolve.specs.FirstLines.{IsFirst}
-use Rattle.ir_resolve.specs.Written.{name_in, given, called_in}
-use Rattle.ir_resolve.specs.FaultKinds.{SomeHas, RepeatsHere, HasName, IsWrittenOn}
-use Rattle.ir_resolve.specs.Views.{Is}
+use Rattle.ir_resolve.proofs.Common.{◌≡◌, ◌↔◌, ℕ, ◌<◌, Bool, true, false, cond, IsTrue, List, take, map, Option, None, Some, refl, sym, ap, subst, ◌∙◌, arith, Contains, slice_get, option_map, false≢true, slice_get-map, Identifier, Named, Numbered, RawIdentifier, IsFirst, name_in, given, called_in, SomeHas, RepeatsHere, HasName, IsWrittenOn, Is}
 use Rattle.ir_resolve.proofs.Places.{place_before, before_place}
 use Rattle.ir_resolve.proofs.Series.{named_from, named_back, numbered_lt}
 

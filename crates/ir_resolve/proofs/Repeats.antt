@@ -1,11 +1,5 @@
 -- Items that have something that an earlier one has too.
-use Rattle.std.proofs.Common.{◌≡◌, ◌⊎◌, ◌↔◌, inl, inr, ℕ, ◌+◌, ◌<◌, List, [], ◌∷◌, ◌++◌, take, length, get_or, Option, Some, refl, ap, sym, subst, ◌∙◌, arith}
-use Rattle.std.specs.Prelude.{slice_get}
-use Rattle.std.proofs.lemmas.List.{take_more}
-use Rattle.std.proofs.lemmas.List.Elements.{Contains-append_left, Contains-push, Contains-push_cases}
-use Rattle.std.proofs.lemmas.Option.{slice_get_read}
-use Rattle.ir_resolve.specs.FirstLines.{IsFirst}
-use Rattle.ir_resolve.specs.FaultKinds.{SomeHas, RepeatsHere}
+use Rattle.ir_resolve.proofs.Common.{◌≡◌, ◌⊎◌, ◌↔◌, inl, inr, ℕ, ◌+◌, ◌<◌, List, [], ◌∷◌, ◌++◌, take, length, get_or, Option, Some, refl, ap, sym, subst, ◌∙◌, arith, slice_get, take_more, Contains-append_left, Contains-push, Contains-push_cases, slice_get_read, IsFirst, SomeHas, RepeatsHere}
 use Rattle.ir_resolve.proofs.Firsts.{first_same}
 
 module _ {X K : Type 0} (Has : X → K → Type 0) where

@@ -1,35 +1,12 @@
 -- A function that is meant, by one as written without a fault, is resolved.
-use Rattle.std.proofs.Common.{◌≡◌, inl, inr, ℕ, ◌<◌, ◌==◌, Bool, true, false, cond, [], ◌++◌, map, length, Option, None, Some, refl, sym, ap, subst, ◌∙◌, arith}
-use Rattle.std.specs.Prelude.{Contains, slice_get, option_map, option_and_then}
-use Rattle.std.specs.List.{flat_map}
-use Rattle.std.proofs.lemmas.Bool.{cases_lt}
-use Rattle.std.proofs.lemmas.List.{map-append}
-use Rattle.std.proofs.lemmas.List.Elements.{Contains-append_left, Contains-append_right}
-use Rattle.ops.specs.Number.{Number}
-use Rattle.ir_tokens.specs.declared.called.Identifier.{Identifier}
-use Rattle.ir_tokens.specs.declared.called.Identifier.TheVariants.{Named}
-use Rattle.ir_core.specs.Names.{block_names, names_of, width_of}
-use Rattle.ir_core.specs.Checks.{NamesDiffer, IsKnown, OperandHasWidth, IsInst, IsTyped, CasesFit}
-use Rattle.ir_core.specs.Blocks.{IsBlock, Names, targets_of}
-use Rattle.ir_core.specs.Reads.{Read, IsRead, reads_of, reads_at_end, reads_by, reads_in}
-use Rattle.ir_core.specs.declared.function.Function.{Function}
+use Rattle.ir_resolve.proofs.Common.{◌≡◌, inl, inr, ℕ, ◌<◌, ◌==◌, Bool, true, false, cond, [], ◌++◌, map, length, Option, None, Some, refl, sym, ap, subst, ◌∙◌, arith, Contains, slice_get, option_map, option_and_then, flat_map, cases_lt, map-append, Contains-append_left, Contains-append_right, Number, Identifier, Named, block_names, names_of, width_of, NamesDiffer, IsKnown, OperandHasWidth, IsInst, IsTyped, CasesFit, IsBlock, Names, Read, IsRead, reads_at_end, reads_by, reads_in, Function, Inst, Operand, Register, RawFunction, RawBlock, RawInst, RawValue, SomeAt, Calls, given, written_in, written_names, Typed, read_by, read_at_end, named_at_end, cases_of, read_in, literal_of, Repeats, HasName, IsWrittenOn, HasNumber, IsCaseOn, RegisterHasWidth, CallsRegister, TypeClashAt, ValueMeans, BlockMeans, InstMeans, BlockIsOf, ParameterMeans, Means, IsWellWrittenOp, IsWellWritten, IsWellNamed}
+use Rattle.ir_core.specs.Blocks.{targets_of}
+use Rattle.ir_core.specs.Reads.{reads_of}
 use Rattle.ir_core.specs.declared.function.Block.{Block as CoreBlock}
-use Rattle.ir_core.specs.declared.instruction.Inst.{Inst}
-use Rattle.ir_core.specs.declared.operand.Operand.{Operand}
 use Rattle.ir_core.specs.declared.operand.Operand.TheVariants as operands
-use Rattle.ir_core.specs.declared.operand.Register.{Register}
 use Rattle.ir_core.specs.declared.operand.Register.TheVariants as registers
-use Rattle.ir_tokens.specs.declared.raw.RawFunction.{RawFunction}
-use Rattle.ir_tokens.specs.declared.raw.RawBlock.{RawBlock}
-use Rattle.ir_tokens.specs.declared.raw.RawInst.{RawInst}
-use Rattle.ir_tokens.specs.declared.raw.RawValue.{RawValue}
 use Rattle.ir_tokens.specs.declared.raw.RawValue.TheVariants as values
-use Rattle.ir_resolve.specs.FirstLines.{SomeAt}
-use Rattle.ir_resolve.specs.Written.{Calls, given, written_in, written_names}
-use Rattle.ir_resolve.specs.TypedReads.{Typed, read_by, read_at_end, named_at_end, cases_of, read_in, reads_of as all_reads}
-use Rattle.ir_resolve.specs.FaultKinds.{literal_of, Repeats, HasName, IsWrittenOn, HasNumber, IsCaseOn, RegisterHasWidth, CallsRegister, TypeClashAt}
-use Rattle.ir_resolve.specs.Means.{ValueMeans, BlockMeans, InstMeans, BlockIsOf, ParameterMeans, Means}
-use Rattle.ir_resolve.specs.Formed.{IsWellWrittenOp, IsWellWritten, IsWellNamed}
+use Rattle.ir_resolve.specs.TypedReads.{reads_of as all_reads}
 use Rattle.ir_resolve.proofs.Places.{place_of_contained, contained_at}
 use Rattle.ir_resolve.proofs.Series.{named_from}
 use Rattle.ir_resolve.proofs.Tabling.{width_of_register, once}

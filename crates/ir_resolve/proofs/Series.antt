@@ -1,15 +1,6 @@
 -- The series of numbers for things without a name.
-use Rattle.std.proofs.Common.{◌≡◌, ℕ, zero, suc, ◌+◌, ◌<◌, ◌≤◌, List, [], ◌∷◌, ◌++◌, map, take, length, get_or, None, Some, refl, sym, ap, ◌∙◌, arith}
-use Rattle.std.specs.Prelude.{slice_get}
-use Rattle.std.proofs.lemmas.List.{take_more, map_push, length-map, length-take-le}
-use Rattle.ir_resolve.specs.declared.names.key.Key.{Key}
+use Rattle.ir_resolve.proofs.Common.{◌≡◌, ℕ, zero, suc, ◌+◌, ◌<◌, ◌≤◌, List, [], ◌∷◌, ◌++◌, map, take, length, get_or, None, Some, refl, sym, ap, ◌∙◌, arith, slice_get, take_more, map_push, length-map, length-take-le, Key, Definition, given, seen, seen_written, Name, Named, Numbered, identifiers_from}
 use Rattle.ir_resolve.specs.declared.names.key.Key.TheVariants as keys
-use Rattle.ir_resolve.specs.declared.names.definition.Definition.{Definition}
-use Rattle.ir_resolve.specs.Written.{given}
-use Rattle.ir_resolve.specs.Views.{seen, seen_written}
-use Rattle.ir_core.specs.Names.{Name}
-use Rattle.ir_tokens.specs.declared.called.Identifier.TheVariants.{Named, Numbered}
-use Rattle.ir_resolve.specs.Identifiers.{identifiers_from}
 
 -- the next number behind things with these names
 abbrev pub number_after : ℕ → List Name → ℕ

@@ -1,17 +1,6 @@
 -- The indices of parameters, blocks and results in text order.
-use Rattle.std.proofs.Common.{◌≡◌, ◌⊎◌, inl, inr, ℕ, zero, suc, ◌+◌, List, [], ◌∷◌, ◌++◌, map, take, length, Option, None, Some, refl, sym, ap, ◌∙◌, arith}
-use Rattle.std.specs.Prelude.{slice_get, option_map}
-use Rattle.std.specs.List.{flat_map, enumerate_from}
-use Rattle.std.proofs.lemmas.List.{length-append, length-map, map-append}
-use Rattle.std.proofs.lemmas.List.FromFn.{length-enumerate_from}
-use Rattle.std.proofs.lemmas.Option.{slice_get-map}
-use Rattle.ir_tokens.specs.declared.raw.RawFunction.{RawFunction}
-use Rattle.ir_tokens.specs.declared.raw.RawParameter.{RawParameter}
-use Rattle.ir_tokens.specs.declared.raw.RawBlock.{RawBlock}
-use Rattle.ir_tokens.specs.declared.raw.RawInst.{RawInst}
+use Rattle.ir_resolve.proofs.Common.{◌≡◌, ◌⊎◌, inl, inr, ℕ, zero, suc, ◌+◌, List, [], ◌∷◌, ◌++◌, map, take, length, Option, None, Some, refl, sym, ap, ◌∙◌, arith, slice_get, option_map, flat_map, enumerate_from, length-append, length-map, map-append, length-enumerate_from, slice_get-map, RawFunction, RawParameter, RawBlock, RawInst, written_in, written_names, Defined, parameter_defined, result_defined, block_defined, parameters_defined, definitions_of}
 use Rattle.ir_resolve.specs.declared.names.definition.Entity.TheVariants as entities
-use Rattle.ir_resolve.specs.Written.{written_in, written_names}
-use Rattle.ir_resolve.specs.Definitions.{Defined, parameter_defined, result_defined, block_defined, parameters_defined, definitions_of}
 
 -- ---- concatenated lists, and numbered lists
 

@@ -1,16 +1,5 @@
 -- The symbol table as it is filled in order.
-use Rattle.std.proofs.Common.{◌≡◌, ◌↔◌, ℕ, ◌+◌, ◌<◌, Bool, false, ◌||◌, cond, IsTrue, List, [], ◌∷◌, ◌++◌, length, map, take, get_or, Option, None, Some, refl, sym, ap, subst, ◌∙◌, arith}
-use Rattle.std.specs.Prelude.{option_map}
-use Rattle.std.specs.List.{zip}
-use Rattle.std.proofs.lemmas.List.{take_more, get_or-map, length-map, length-take}
-use Rattle.indexmap.proofs.ReorderLemmas.{zip_push}
-use Rattle.ir_tokens.specs.declared.called.Identifier.{Identifier}
-use Rattle.ir_resolve.specs.declared.names.key.Key.{Key}
-use Rattle.ir_resolve.specs.declared.names.definition.Entity.{Entity}
-use Rattle.ir_resolve.specs.declared.names.definition.Definition.{Definition}
-use Rattle.ir_resolve.specs.FirstLines.{IsFirst, lesser}
-use Rattle.ir_resolve.specs.FaultKinds.{SomeHas, RepeatsHere, HasName, IsWrittenOn}
-use Rattle.ir_resolve.specs.Views.{seen, seen_written, AreKeysOf, Known, same, Is}
+use Rattle.ir_resolve.proofs.Common.{◌≡◌, ◌↔◌, ℕ, ◌+◌, ◌<◌, Bool, false, ◌||◌, cond, IsTrue, List, [], ◌∷◌, ◌++◌, length, map, take, get_or, Option, None, Some, refl, sym, ap, subst, ◌∙◌, arith, option_map, zip, take_more, get_or-map, length-map, length-take, zip_push, Identifier, Key, Entity, Definition, IsFirst, lesser, SomeHas, RepeatsHere, HasName, IsWrittenOn, seen, seen_written, AreKeysOf, Known, same, Is}
 use Rattle.ir_resolve.proofs.Repeats.{known_more}
 use Rattle.ir_resolve.proofs.Lookups.{known_then}
 use Rattle.ir_resolve.proofs.Keys.{length-keys, written_at, called_at}

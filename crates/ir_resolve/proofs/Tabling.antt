@@ -1,25 +1,7 @@
 -- The table of the identifiers of all things says what the function's identifiers refer to.
-use Rattle.std.proofs.Common.{◌≡◌, inl, inr, ℕ, zero, suc, ◌+◌, ◌<◌, Bool, true, false, cond, List, [], ◌∷◌, map, length, Option, Some, refl, sym, ap, subst, ◌∙◌, arith}
-use Rattle.std.specs.Prelude.{slice_get, option_map}
-use Rattle.std.specs.List.{zip, enumerate_from}
-use Rattle.std.specs.Map.{lookup}
-use Rattle.std.proofs.lemmas.Map.Entries.{place_from_lookup}
-use Rattle.std.proofs.lemmas.List.{length-map}
-use Rattle.std.proofs.lemmas.List.FromFn.{length-enumerate_from}
-use Rattle.std.proofs.lemmas.Option.{slice_get-map, slice_get_within}
-use Rattle.ir_tokens.specs.declared.called.Identifier.{Identifier}
-use Rattle.ir_tokens.specs.declared.called.Identifier.TheVariants.{Named, Numbered}
-use Rattle.ir_core.specs.declared.operand.Register.{Register}
+use Rattle.ir_resolve.proofs.Common.{◌≡◌, inl, inr, ℕ, zero, suc, ◌+◌, ◌<◌, Bool, true, false, cond, List, [], ◌∷◌, map, length, Option, Some, refl, sym, ap, subst, ◌∙◌, arith, slice_get, option_map, zip, enumerate_from, lookup, place_from_lookup, length-map, length-enumerate_from, slice_get-map, slice_get_within, Identifier, Named, Numbered, Register, RawFunction, RawIdentifier, Entity, Thing, Value, Block, written_names, called_in, given, identifiers_of, HasThing, place_of, Calls, result_width, Repeats, HasName, IsWrittenOn, RegisterHasWidth, CallsRegister, Known, same, entity_in, CallsIn, CallsRegisterIn, Defined, parameter_defined, definitions_of, parameters_defined, blocks_defined, Tabulates}
 use Rattle.ir_core.specs.declared.operand.Register.TheVariants as registers
-use Rattle.ir_tokens.specs.declared.raw.RawFunction.{RawFunction}
-use Rattle.ir_tokens.specs.declared.raw.RawIdentifier.{RawIdentifier}
-use Rattle.ir_resolve.specs.declared.names.definition.Entity.{Entity}
 use Rattle.ir_resolve.specs.declared.names.definition.Entity.TheVariants as entities
-use Rattle.ir_resolve.specs.Written.{Thing, Value, Block, written_names, called_in, given, identifiers_of, HasThing, place_of, Calls}
-use Rattle.ir_resolve.specs.FaultKinds.{result_width, Repeats, HasName, IsWrittenOn, RegisterHasWidth, CallsRegister}
-use Rattle.ir_resolve.specs.Views.{Known, same, entity_in, CallsIn, CallsRegisterIn}
-use Rattle.ir_resolve.specs.Definitions.{Defined, parameter_defined, definitions_of, parameters_defined, blocks_defined}
-use Rattle.ir_resolve.specs.NameTable.{Tabulates}
 use Rattle.ir_resolve.proofs.Places.{before_place}
 use Rattle.ir_resolve.proofs.Series.{numbered_lt}
 use Rattle.ir_resolve.proofs.Renaming.{name_of_id}

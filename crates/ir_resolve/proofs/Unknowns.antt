@@ -1,15 +1,7 @@
 -- Uses of what is not defined.
-use Rattle.std.proofs.Common.{◌≡◌, ◌↔◌, ℕ, Bool, true, false, not, IsTrue, List, Option, None, Some, is_some, refl, sym, ap, subst, ◌∙◌}
-use Rattle.ir_tokens.specs.declared.called.Identifier.{Identifier}
-use Rattle.ir_core.specs.declared.operand.Register.{Register}
-use Rattle.ir_tokens.specs.declared.raw.RawIdentifier.{RawIdentifier}
-use Rattle.ir_tokens.specs.declared.raw.RawValue.{RawValue}
+use Rattle.ir_resolve.proofs.Common.{◌≡◌, ◌↔◌, ℕ, Bool, true, false, not, IsTrue, List, Option, None, Some, is_some, refl, sym, ap, subst, ◌∙◌, Identifier, Register, RawIdentifier, RawValue, Entity, Typed, IsUnknownValue, IsUnknownBlock, Known, entity_in, register_of, block_of, CallsRegisterIn, CallsIn}
 use Rattle.ir_tokens.specs.declared.raw.RawValue.TheVariants as values
-use Rattle.ir_resolve.specs.declared.names.definition.Entity.{Entity}
 use Rattle.ir_resolve.specs.declared.names.definition.Entity.TheVariants as entities
-use Rattle.ir_resolve.specs.TypedReads.{Typed}
-use Rattle.ir_resolve.specs.FaultKinds.{IsUnknownValue, IsUnknownBlock}
-use Rattle.ir_resolve.specs.Views.{Known, entity_in, register_of, block_of, CallsRegisterIn, CallsIn}
 
 -- the operand is a register that is not defined, and is on the line; the same for a block
 abbrev pub ReadIsUnknown : List Known → Typed → ℕ → Type 0

@@ -1,20 +1,10 @@
 -- A function that meets its checks is what its canonical form means.
-use Rattle.std.proofs.Common.{◌≡◌, ℕ, ◌<◌, length, Option, None, Some, IsSome, refl, arith}
-use Rattle.std.specs.Prelude.{slice_get, option_map, option_and_then}
-use Rattle.std.proofs.lemmas.Option.{slice_get_within}
+use Rattle.ir_round_trip.proofs.Common.{◌≡◌, ℕ, ◌<◌, length, Option, None, Some, IsSome, refl, arith, slice_get, option_map, option_and_then, slice_get_within, Parameter, Inst, IsFormed, width_of, RawFunction, Value, HasThing, Calls, InstMeans, BlockIsOf, ParameterMeans, MeansBy, Means, pair_of_second, same_length, Identifies}
 use Rattle.ir_core.specs.declared.function.Function.{Function}
-use Rattle.ir_core.specs.declared.function.Parameter.{Parameter}
 use Rattle.ir_core.specs.declared.function.Block.{Block as CoreBlock}
-use Rattle.ir_core.specs.declared.instruction.Inst.{Inst}
 use Rattle.ir_core.specs.declared.operand.Register.{Register}
 use Rattle.ir_core.specs.declared.operand.Register.TheVariants as registers
-use Rattle.ir_core.specs.Checks.{IsFormed}
-use Rattle.ir_core.specs.Names.{width_of}
-use Rattle.ir_tokens.specs.declared.raw.RawFunction.{RawFunction}
-use Rattle.ir_resolve.specs.Written.{Value, Block, HasThing, Calls}
-use Rattle.ir_resolve.specs.Means.{InstMeans, BlockIsOf, ParameterMeans, MeansBy, Means}
-use Rattle.ir_resolve.proofs.Pairs.{pair_of_second, same_length}
-use Rattle.ir_text.specs.CanonicalModule.{Identifies}
+use Rattle.ir_resolve.specs.Written.{Block}
 use Rattle.ir_round_trip.proofs.Naming.{calls}
 use Rattle.ir_round_trip.proofs.Known.{function}
 

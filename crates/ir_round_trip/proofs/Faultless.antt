@@ -1,36 +1,10 @@
 -- The canonical form of a function that meets its checks has no fault as it is written.
-use Rattle.std.proofs.Common.{◌≡◌, inl, inr, ℕ, List, length, Some, sym, ap, subst, ◌∙◌, arith}
-use Rattle.std.specs.Prelude.{Contains, slice_get, option_map, option_and_then}
-use Rattle.std.proofs.lemmas.List.Elements.{All-contains}
-use Rattle.std.proofs.lemmas.Option.{slice_get-map}
-use Rattle.ir_tokens.specs.declared.called.Identifier.{Identifier}
-use Rattle.ir_tokens.specs.declared.called.Identifier.TheVariants.{Named, Numbered}
+use Rattle.ir_round_trip.proofs.Common.{◌≡◌, inl, inr, ℕ, List, length, Some, sym, ap, subst, ◌∙◌, arith, Contains, slice_get, option_map, option_and_then, All-contains, slice_get-map, Identifier, Named, Numbered, Parameter, Inst, OperandHasWidth, IsFormed, Name, names_of, width_of, targets_of, Read, IsRead, reads_of, reads_at_end, RawFunction, RawBlock, RawInst, RawIdentifier, Numbering, Duplicate, Unknown, TypeClash, Value, name_in, given, written_names, Calls, Typed, read_by, read_at_end, named_by, named_at_end, NumberingAt, Repeats, HasName, IsWrittenOn, HasNameOf, DuplicateAt, UnknownAt, RegisterHasWidth, CallsRegister, ValueClashes, BlockClashesAt, TypeClashAt, ValueMeans, BlockMeans, InstMeans, BlockIsOf, ParameterMeans, Means, HasNoFault, place_of_contained, contained_at, place_before, some_same, pair_of_first, ReadMeans, reads_meant, reads_meant_at_end, targets_meant, table, TypesFit, BlockTypesFit, WritesFunction}
 use Rattle.ir_core.specs.declared.function.Function.{Function}
-use Rattle.ir_core.specs.declared.function.Parameter.{Parameter}
 use Rattle.ir_core.specs.declared.function.Block.{Block as CoreBlock}
-use Rattle.ir_core.specs.declared.instruction.Inst.{Inst}
 use Rattle.ir_core.specs.declared.operand.Register.{Register}
 use Rattle.ir_core.specs.declared.operand.Register.TheVariants as registers
-use Rattle.ir_core.specs.Checks.{OperandHasWidth, IsFormed}
-use Rattle.ir_core.specs.Names.{Name, names_of, width_of}
-use Rattle.ir_core.specs.Blocks.{targets_of}
-use Rattle.ir_core.specs.Reads.{Read, IsRead, reads_of, reads_at_end}
-use Rattle.ir_tokens.specs.declared.raw.RawFunction.{RawFunction}
-use Rattle.ir_tokens.specs.declared.raw.RawBlock.{RawBlock}
-use Rattle.ir_tokens.specs.declared.raw.RawInst.{RawInst}
-use Rattle.ir_tokens.specs.declared.raw.RawIdentifier.{RawIdentifier}
-use Rattle.ir_tokens.specs.declared.fault.IrFaultKind.TheVariants.{Numbering, Duplicate, Unknown, TypeClash}
-use Rattle.ir_resolve.specs.Written.{Value, name_in, given, written_names, Calls}
-use Rattle.ir_resolve.specs.TypedReads.{Typed, read_by, read_at_end, named_by, named_at_end, reads_of as all_reads}
-use Rattle.ir_resolve.specs.FaultKinds.{NumberingAt, Repeats, HasName, IsWrittenOn, HasNameOf, DuplicateAt, UnknownAt, RegisterHasWidth, CallsRegister, ValueClashes, BlockClashesAt, TypeClashAt}
-use Rattle.ir_resolve.specs.Means.{ValueMeans, BlockMeans, InstMeans, BlockIsOf, ParameterMeans, Means}
-use Rattle.ir_resolve.specs.Faults.{HasNoFault}
-use Rattle.ir_resolve.proofs.Places.{place_of_contained, contained_at, place_before}
-use Rattle.ir_resolve.proofs.Standing.{some_same}
-use Rattle.ir_resolve.proofs.Pairs.{pair_of_first}
-use Rattle.ir_resolve.proofs.Forming.{ReadMeans, reads_meant, reads_meant_at_end, targets_meant}
-use Rattle.ir_resolve.proofs.Once.{table}
-use Rattle.ir_text.specs.CanonicalModule.{TypesFit, BlockTypesFit, WritesFunction}
+use Rattle.ir_resolve.specs.TypedReads.{reads_of as all_reads}
 use Rattle.ir_round_trip.proofs.Naming.{names_are, identifiers_are}
 use Rattle.ir_round_trip.proofs.Known.{inst_reads, end_reads}
 use Rattle.ir_round_trip.proofs.Canonical.{is_meant}

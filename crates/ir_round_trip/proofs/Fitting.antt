@@ -1,37 +1,14 @@
 -- The canonical form of a function that meets its checks agrees in its types, and uses only what it defines.
-use Rattle.std.proofs.Common.{◌≡◌, inl, inr, ℕ, List, [], map, Some, refl, sym, ap, subst, ◌∙◌, arith}
-use Rattle.std.specs.Prelude.{slice_get}
-use Rattle.std.specs.List.{AllZip}
-use Rattle.std.proofs.lemmas.List.Elements.{All-contains}
+use Rattle.ir_round_trip.proofs.Common.{◌≡◌, inl, inr, ℕ, List, [], map, Some, refl, sym, ap, subst, ◌∙◌, arith, slice_get, AllZip, All-contains, Identifier, OperandHasWidth, IsTyped, CasesFit, Op, Operand, Terminator, RawIdentifier, RawOp, RawTerminator, RawValue, RawIncoming, RawCase, Thing, Value, named_by, cases_of, literal_of, result_width, LiteralClashes, IsUnknownValue, Repeats, HasNumber, IsCaseOn, OpClashesAt, EndClashesAt, ValueMeans, BlockMeans, IncomingMeans, OpMeans, CaseMeans, EndMeans, place_of_contained, contained_at, place_before, some_same, pair_of_first, made_pairs, literal_meant, TypesFit, EndTypesFit}
 use Rattle.ops.specs.Number.{Number}
-use Rattle.ir_tokens.specs.declared.called.Identifier.{Identifier}
-use Rattle.ir_core.specs.Checks.{OperandHasWidth, IsTyped, CasesFit}
 use Rattle.ir_core.specs.declared.function.Function.{Function}
-use Rattle.ir_core.specs.declared.instruction.Op.{Op}
 use Rattle.ir_core.specs.declared.instruction.Op.TheVariants as core
-use Rattle.ir_core.specs.declared.operand.Operand.{Operand}
 use Rattle.ir_core.specs.declared.operand.Operand.TheVariants as operands
 use Rattle.ir_core.specs.declared.operand.Register.{Register}
-use Rattle.ir_core.specs.declared.terminator.Terminator.{Terminator}
 use Rattle.ir_core.specs.declared.terminator.Terminator.TheVariants as ends
-use Rattle.ir_tokens.specs.declared.raw.RawIdentifier.{RawIdentifier}
-use Rattle.ir_tokens.specs.declared.raw.RawOp.{RawOp}
 use Rattle.ir_tokens.specs.declared.raw.RawOp.TheVariants as ops
-use Rattle.ir_tokens.specs.declared.raw.RawTerminator.{RawTerminator}
 use Rattle.ir_tokens.specs.declared.raw.RawTerminator.TheVariants as terminators
-use Rattle.ir_tokens.specs.declared.raw.RawValue.{RawValue}
 use Rattle.ir_tokens.specs.declared.raw.RawValue.TheVariants as values
-use Rattle.ir_tokens.specs.declared.raw.RawIncoming.{RawIncoming}
-use Rattle.ir_tokens.specs.declared.raw.RawCase.{RawCase}
-use Rattle.ir_resolve.specs.Written.{Thing, Value}
-use Rattle.ir_resolve.specs.TypedReads.{named_by, cases_of}
-use Rattle.ir_resolve.specs.FaultKinds.{literal_of, result_width, LiteralClashes, IsUnknownValue, Repeats, HasNumber, IsCaseOn, OpClashesAt, EndClashesAt}
-use Rattle.ir_resolve.specs.Means.{ValueMeans, BlockMeans, IncomingMeans, OpMeans, CaseMeans, EndMeans}
-use Rattle.ir_resolve.proofs.Places.{place_of_contained, contained_at, place_before}
-use Rattle.ir_resolve.proofs.Standing.{some_same}
-use Rattle.ir_resolve.proofs.Pairs.{pair_of_first, made_pairs}
-use Rattle.ir_resolve.proofs.Forming.{literal_meant}
-use Rattle.ir_text.specs.CanonicalModule.{TypesFit, EndTypesFit}
 
 module _ (C : Identifier → Thing → Type 0) where
   -- ---- values

@@ -1,15 +1,9 @@
 -- A cleaned function has its forms.
-use Rattle.std.proofs.Common.{Some, refl, sym, subst}
+use Rattle.ir_round_trip.proofs.Common.{Some, refl, sym, subst, Inst, Terminator, IsWidth, CasesHaveForms, FunctionHasForms, KeptMarks, moved_end, kept_function, KeepsNeeded, IsCleaned, CleanedFunctionsHaveForms}
 use Rattle.ir_core.specs.declared.function.Function.{Function}
 use Rattle.ir_core.specs.declared.function.Block.{Block}
-use Rattle.ir_core.specs.declared.instruction.Inst.{Inst}
-use Rattle.ir_core.specs.declared.terminator.Terminator.{Terminator}
 use Rattle.ir_core.specs.declared.terminator.Terminator.TheVariants as terminators
-use Rattle.ir_text.specs.Forms.{IsWidth, CasesHaveForms, FunctionHasForms}
-use Rattle.needed.specs.KeptFunction.{KeptMarks, moved_end, kept_function}
-use Rattle.needed.specs.Cleaned.{KeepsNeeded, IsCleaned}
 use Rattle.ir_round_trip.proofs.Instructions.{block_of_old, IsOld, inst_of_old}
-use Rattle.ir_round_trip.specs.Laws.{CleanedFunctionsHaveForms}
 use Rattle.ir_round_trip.proofs.KeptNames.{kept_names}
 use Rattle.ir_round_trip.proofs.KeptReads.{kept_reads}
 

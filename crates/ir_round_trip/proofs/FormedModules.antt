@@ -1,11 +1,6 @@
 -- A cleaned module has its forms.
-use Rattle.std.proofs.Common.{zero, suc, List, [], ◌∷◌, sym, subst, arith}
-use Rattle.std.specs.Prelude.{All}
-use Rattle.ir_core.specs.declared.module.Entry.{Entry}
+use Rattle.ir_round_trip.proofs.Common.{zero, suc, List, [], ◌∷◌, sym, subst, arith, All, Entry, EntryHasForms, IsKeptText, EntryCleaned, EntriesCleaned, CleanedModulesHaveForms}
 use Rattle.ir_core.specs.declared.module.Entry.TheVariants as entries
-use Rattle.ir_text.specs.Forms.{EntryHasForms, IsKeptText}
-use Rattle.needed.specs.Cleaned.{EntryCleaned, EntriesCleaned}
-use Rattle.ir_round_trip.specs.Laws.{CleanedModulesHaveForms}
 use Rattle.ir_round_trip.proofs.FormedFunctions.{cleaned_have_forms}
 
 entry_forms : (d e : Entry) → EntryHasForms d → EntryCleaned d e → EntryHasForms e

@@ -1,5 +1,5 @@
 -- The canonical form of a function that meets its checks is read as the function.
-use Rattle.ir_round_trip.specs.Laws.{CanonicalFunctionsMean}
+use Rattle.ir_round_trip.proofs.Common.{CanonicalFunctionsMean}
 use Rattle.ir_round_trip.proofs.Canonical.{is_meant}
 use Rattle.ir_round_trip.proofs.Faultless.{no_fault}
 

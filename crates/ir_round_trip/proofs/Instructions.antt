@@ -1,14 +1,7 @@
 -- The blocks of a cleaned function are those of the old one, each with some of its instructions.
-use Rattle.std.proofs.Common.{◌≡◌, ℕ, ◌+◌, true, Some, sym, ap, subst, ◌∙◌, arith}
-use Rattle.std.specs.Prelude.{slice_get}
+use Rattle.ir_round_trip.proofs.Common.{◌≡◌, ℕ, ◌+◌, true, Some, sym, ap, subst, ◌∙◌, arith, slice_get, Inst, IsBlock, IsInst, KeptMarks, moved_inst, kept_block, IsCleaned, IsKept, kept_back, block_back}
 use Rattle.ir_core.specs.declared.function.Function.{Function}
 use Rattle.ir_core.specs.declared.function.Block.{Block}
-use Rattle.ir_core.specs.declared.instruction.Inst.{Inst}
-use Rattle.ir_core.specs.Blocks.{IsBlock}
-use Rattle.ir_core.specs.Checks.{IsInst}
-use Rattle.needed.specs.KeptFunction.{KeptMarks, moved_inst, kept_block}
-use Rattle.needed.specs.Cleaned.{IsCleaned}
-use Rattle.needed.proofs.Counting.{IsKept, kept_back, block_back}
 
 -- block b of a cleaned function is the old one with its kept instructions alone
 pub block_of_old : (f g : Function) (c : IsCleaned f g) (b : ℕ) (new : Block) → IsBlock g b new → (block : Block) × IsBlock f b block × (kept_block c.0 b block ≡ new)

@@ -1,24 +1,8 @@
 -- The text of an item that was read has the form of an item: read alone, it is the same item.
-use Rattle.std.proofs.Common.{◌≡◌, ℕ, Bool, true, false, not, List, [], ◌∷◌, ◌++◌, None, refl, sym, ap, subst, ◌∙◌, inl}
-use Rattle.std.specs.Prelude.{codes, IsTrue}
-use Rattle.std.specs.Str.{bytes_eq}
-use Rattle.std.proofs.lemmas.List.{append-nil}
-use Rattle.scan.specs.Bytes.{begins_with, begins_name, is_digit, is_letter, is_name_byte}
-use Rattle.scan.specs.Gaps.{nothing}
-use Rattle.scan.specs.IrTokens.{is_word}
-use Rattle.scan.specs.Lines.{last_line}
-use Rattle.ir_tokens.specs.declared.place.Section.TheVariants.{InHeader}
+use Rattle.ir_round_trip.proofs.Common.{◌≡◌, ℕ, Bool, true, false, not, List, [], ◌∷◌, ◌++◌, None, refl, sym, ap, subst, ◌∙◌, inl, codes, IsTrue, bytes_eq, append-nil, begins_with, begins_name, is_digit, is_letter, is_name_byte, nothing, is_word, last_line, InHeader, TokensFrom, extent_of, Placed, Token, End, KeptGroup, Word, Group, Quoted, Mark, Is, LexemesAreTokens, Lexeme, HasForm, IsGroupText, AreLexemes, bytes_of, goes_on, placed_from, spelled, is_item_word, SpellsItem, of_word, of_word_and_group, of_number, of_group, of_quoted, of_key_and_value, IsItem}
 use Rattle.ir_tokens.specs.declared.place.Extent.TheVariants as extents
-use Rattle.ir_tokens.specs.Order.{TokensFrom}
-use Rattle.ir_tokens.specs.Places.{extent_of}
-use Rattle.ir_tokens.specs.Tokens.{Placed, Token, End, KeptGroup, Word, Number, Group, Quoted, Mark}
+use Rattle.ir_tokens.specs.Tokens.{Number}
 use Rattle.ir_instructions.specs.Punctuation as marks
-use Rattle.ir_instructions.specs.Parts.{Is}
-use Rattle.ir_text.specs.Laws.{LexemesAreTokens}
-use Rattle.ir_text.specs.Lexemes.{Lexeme, HasForm, IsGroupText, AreLexemes, bytes_of, goes_on, placed_from, spelled}
-use Rattle.ir_instructions.specs.Items.{is_item_word}
-use Rattle.ir_instructions.specs.ItemGrammar.{SpellsItem, of_word, of_word_and_group, of_number, of_group, of_quoted, of_key_and_value}
-use Rattle.ir_text.specs.Forms.{IsItem}
 use Rattle.ir_round_trip.proofs.StatementForms.{Yields, on_line}
 
 -- a token with no gap before it

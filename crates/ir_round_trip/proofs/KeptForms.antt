@@ -1,37 +1,10 @@
 -- A kept line of a text is a kept line also as a text by itself.
-use Rattle.std.proofs.Common.{◌≡◌, inl, inr, ℕ, zero, suc, ◌+◌, ◌-◌, ◌<◌, ◌≤◌, Bool, true, false, cond, not, eqb, ◌&&◌, ◌||◌, List, [], ◌∷◌, None, Some, length, take, drop, get_or, refl, sym, ap, subst, ◌∙◌, arith}
-use Rattle.std.specs.Prelude.{codes}
-use Rattle.std.specs.List.{list_any, prefix_len, suffix_len, take_while}
-use Rattle.std.specs.Str.{bytes_eq}
-use Rattle.std.proofs.Math.Seq.{drop-length, take-length}
-use Rattle.std.proofs.lemmas.Bool.{eqb-true, false≢true}
-use Rattle.std.proofs.lemmas.List.{append-nil, drop-drop, drop-take, get_or-take, length-drop, length-take-le, take-take, take_all}
-use Rattle.std.proofs.lemmas.List.Sums.{prefix_len-le-length, prefix_len_is, prefix_len_passes, suffix_len-take_no, suffix_len-take_yes}
-use Rattle.scan.specs.declared.ir.token.TokenKind.{TokenKind}
+use Rattle.ir_round_trip.proofs.Common.{◌≡◌, inl, inr, ℕ, zero, suc, ◌+◌, ◌-◌, ◌<◌, ◌≤◌, Bool, true, false, cond, not, eqb, ◌&&◌, ◌||◌, List, [], ◌∷◌, None, Some, length, take, drop, get_or, refl, sym, ap, subst, ◌∙◌, arith, codes, list_any, prefix_len, suffix_len, take_while, bytes_eq, drop-length, take-length, eqb-true, false≢true, append-nil, drop-drop, drop-take, get_or-take, length-drop, length-take-le, take-take, take_all, prefix_len-le-length, prefix_len_is, prefix_len_passes, suffix_len-take_no, suffix_len-take_yes, TokenKind, Span, is_blank, is_digit, nothing, HoldsZero, IsLongestToken, IsNextToken, spells, IsKeptLine, rest_to_feed, between, feeds, last_line, blanks_behind, is_negative, and_left, or_true, longest_some, feeds_append, Section, AtEntry, InHeader, InBody, HasExtent, IsTokenAt, itself, last, begins_kept, extent_of, is_on, kept_words, End, Kept, kept, IsKeptAlone, begun, in_line, line_stands, none_extends, end_is_next, IsKeptText}
 use Rattle.scan.specs.declared.ir.token.TokenKind.TheVariants as kinds
 use Rattle.scan.specs.declared.ir.token.Token.{Token as Scanned}
-use Rattle.scan.specs.declared.span.Span.{Span}
-use Rattle.scan.specs.Bytes.{is_blank, is_digit}
-use Rattle.scan.specs.Gaps.{nothing}
-use Rattle.scan.specs.IrTokens.{HoldsZero, IsLongestToken, IsNextToken, is_number, spells}
-use Rattle.scan.specs.Kept.{IsKeptLine, rest_to_feed}
-use Rattle.scan.specs.Lines.{between, feeds, last_line}
-use Rattle.scan.specs.Names.{blanks_behind}
-use Rattle.scan.specs.RuleTokens.{is_negative}
-use Rattle.scan.proofs.Fronts.{and_left, or_true}
-use Rattle.scan.proofs.ModulePlaces.{longest_some}
-use Rattle.scan.proofs.PlaceLemmas.{feeds_append}
-use Rattle.ir_tokens.specs.declared.place.Section.{Section}
-use Rattle.ir_tokens.specs.declared.place.Section.TheVariants.{AtEntry, InHeader, InBody}
+use Rattle.scan.specs.IrTokens.{is_number}
 use Rattle.ir_tokens.specs.declared.place.Extent.TheVariants as extents
-use Rattle.ir_tokens.specs.Order.{HasExtent, IsTokenAt, itself, last, token}
-use Rattle.ir_tokens.specs.Places.{begins_kept, extent_of, is_on, kept_words}
-use Rattle.ir_tokens.specs.Tokens.{End, Kept}
-use Rattle.ir_text.proofs.Feeds.{kept}
-use Rattle.ir_text.proofs.KeptLines.{IsKeptAlone, begun, in_line, line_stands}
-use Rattle.ir_text.proofs.Lexing.{none_extends}
-use Rattle.ir_text.proofs.Standing.{end_is_next}
-use Rattle.ir_text.specs.Forms.{IsKeptText}
+use Rattle.ir_tokens.specs.Order.{token}
 
 -- ---- the blanks at the end of a line
 

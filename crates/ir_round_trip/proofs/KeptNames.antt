@@ -1,12 +1,7 @@
 -- The names of a cleaned function are among those of the old one.
-use Rattle.std.proofs.Common.{ℕ, suc, Bool, true, false, inl, inr, List, [], ◌∷◌, ◌++◌, Contains, map}
-use Rattle.std.specs.List.{flat_map}
-use Rattle.std.proofs.lemmas.List.Elements.{Contains-append_left, Contains-append_right, Contains-append_cases}
+use Rattle.ir_round_trip.proofs.Common.{ℕ, suc, Bool, true, false, inl, inr, List, [], ◌∷◌, ◌++◌, Contains, map, flat_map, Contains-append_left, Contains-append_right, Contains-append_cases, Inst, Name, block_names, names_of, KeptMarks, moved_inst, kept_first, kept_insts, kept_blocks, kept_function}
 use Rattle.ir_core.specs.declared.function.Function.{Function}
 use Rattle.ir_core.specs.declared.function.Block.{Block}
-use Rattle.ir_core.specs.declared.instruction.Inst.{Inst}
-use Rattle.ir_core.specs.Names.{Name, block_names, names_of}
-use Rattle.needed.specs.KeptFunction.{KeptMarks, moved_inst, kept_first, kept_insts, kept_blocks, kept_function}
 
 abbrev Among : List Name → List Name → Type 0
 Among xs ys = (name : Name) → Contains xs name → Contains ys name

@@ -1,25 +1,11 @@
 -- The reads of a cleaned function have the forms of those of the old one.
-use Rattle.std.proofs.Common.{◌≡◌, ℕ, ◌==◌, Bool, true, false, cond, List, [], ◌∷◌, length, Option, None, Some, refl, sym, ap, subst, ◌∙◌, map}
-use Rattle.std.specs.Prelude.{slice_get, option_map}
-use Rattle.std.proofs.lemmas.Option.{slice_get-map}
+use Rattle.ir_round_trip.proofs.Common.{◌≡◌, ℕ, ◌==◌, Bool, true, false, cond, List, [], ◌∷◌, length, Option, None, Some, refl, sym, ap, subst, ◌∙◌, map, slice_get, option_map, slice_get-map, Inst, Op, Operand, Terminator, IsBlock, IsInst, Read, read, IsRead, end_of, reads_of, reads_at_end, reads_by, reads_in, OperandFits, ReadHasForms, FunctionHasForms, KeptMarks, moved_operand, moved_op, moved_end, kept_function, KeepsNeeded, mapped, reads_at-inst, reads_at-end, each_none}
 use Rattle.ir_core.specs.declared.function.Function.{Function}
 use Rattle.ir_core.specs.declared.function.Block.{Block}
-use Rattle.ir_core.specs.declared.instruction.Inst.{Inst}
-use Rattle.ir_core.specs.declared.instruction.Op.{Op}
 use Rattle.ir_core.specs.declared.instruction.Op.TheVariants.{Binary, Compare, Unary, Select, Convert, Freeze, Phi}
-use Rattle.ir_core.specs.declared.operand.Operand.{Operand}
 use Rattle.ir_core.specs.declared.operand.Operand.TheVariants as operands
-use Rattle.ir_core.specs.declared.terminator.Terminator.{Terminator}
 use Rattle.ir_core.specs.declared.terminator.Terminator.TheVariants as terminators
-use Rattle.ir_core.specs.Blocks.{IsBlock}
-use Rattle.ir_core.specs.Checks.{IsInst}
-use Rattle.ir_core.specs.Reads.{Read, read, IsRead, end_of, reads_of, reads_at_end, reads_by, reads_in}
-use Rattle.ir_text.specs.Forms.{OperandFits, ReadHasForms, FunctionHasForms}
-use Rattle.needed.specs.KeptFunction.{KeptMarks, moved_operand, moved_op, moved_end, kept_function}
-use Rattle.needed.specs.Cleaned.{KeepsNeeded}
-use Rattle.needed.proofs.Counting.{mapped}
 use Rattle.ir_round_trip.proofs.Instructions.{block_of_old, IsOld, inst_of_old}
-use Rattle.needed.proofs.Reading.{reads_at-inst, reads_at-end, each_none}
 
 -- each of these reads has its form
 abbrev HaveForms : List Read → Type 0

@@ -1,41 +1,18 @@
 -- If identifiers refer to the same registers and blocks of a function, and one reading of them means a function that
 -- meets its checks, the other means it too.
-use Rattle.std.proofs.Common.{◌≡◌, ℕ, suc, ◌<◌, List, [], ◌∷◌, map, length, Some, IsSome, if◌then◌else◌, refl, ap, ◌∙◌, arith}
-use Rattle.std.specs.Prelude.{slice_get}
-use Rattle.std.specs.List.{AllZip, AllByRecursion}
-use Rattle.std.proofs.lemmas.Bool.{eq-eqb}
-use Rattle.std.proofs.lemmas.Option.{slice_get_past, slice_get_within}
+use Rattle.ir_round_trip.proofs.Common.{◌≡◌, ℕ, suc, ◌<◌, List, [], ◌∷◌, map, length, Some, IsSome, if◌then◌else◌, refl, ap, ◌∙◌, arith, slice_get, AllZip, AllByRecursion, eq-eqb, slice_get_past, slice_get_within, Identifier, Inst, Op, Operand, Terminator, IsBlock, Names, targets_of, IsKnown, IsFormed, IsInst, width_of, Read, read, end_of, reads_of, reads_at_end, reads_by, reads_in, reads_at, RawFunction, RawBlock, RawArguments, RawOp, RawTerminator, RawValue, RawIncoming, RawCase, Thing, Value, ValueMeans, IncomingMeans, OpMeans, InstMeans, CaseMeans, EndMeans, BlockIsOf, MeansBy, ArgumentsMean, contained}
 use Rattle.ops.specs.Number.{Number}
-use Rattle.ir_tokens.specs.declared.called.Identifier.{Identifier}
 use Rattle.ir_core.specs.declared.function.Function.{Function}
 use Rattle.ir_core.specs.declared.function.Block.{Block as CoreBlock}
-use Rattle.ir_core.specs.declared.instruction.Inst.{Inst}
-use Rattle.ir_core.specs.declared.instruction.Op.{Op}
 use Rattle.ir_core.specs.declared.instruction.Op.TheVariants as core
-use Rattle.ir_core.specs.declared.operand.Operand.{Operand}
 use Rattle.ir_core.specs.declared.operand.Operand.TheVariants as operands
 use Rattle.ir_core.specs.declared.operand.Register.{Register}
-use Rattle.ir_core.specs.declared.terminator.Terminator.{Terminator}
 use Rattle.ir_core.specs.declared.terminator.Terminator.TheVariants as ends
-use Rattle.ir_core.specs.Blocks.{IsBlock, Names, targets_of}
-use Rattle.ir_core.specs.Checks.{IsKnown, IsFormed, IsInst}
-use Rattle.ir_core.specs.Names.{width_of}
-use Rattle.ir_core.specs.Reads.{Read, read, end_of, reads_of, reads_at_end, reads_by, reads_in, reads_at}
-use Rattle.ir_tokens.specs.declared.raw.RawFunction.{RawFunction}
-use Rattle.ir_tokens.specs.declared.raw.RawBlock.{RawBlock}
-use Rattle.ir_tokens.specs.declared.raw.RawArguments.{RawArguments}
 use Rattle.ir_tokens.specs.declared.raw.RawArguments.TheVariants as arguments
-use Rattle.ir_tokens.specs.declared.raw.RawOp.{RawOp}
 use Rattle.ir_tokens.specs.declared.raw.RawOp.TheVariants as ops
-use Rattle.ir_tokens.specs.declared.raw.RawTerminator.{RawTerminator}
 use Rattle.ir_tokens.specs.declared.raw.RawTerminator.TheVariants as terminators
-use Rattle.ir_tokens.specs.declared.raw.RawValue.{RawValue}
 use Rattle.ir_tokens.specs.declared.raw.RawValue.TheVariants as values
-use Rattle.ir_tokens.specs.declared.raw.RawIncoming.{RawIncoming}
-use Rattle.ir_tokens.specs.declared.raw.RawCase.{RawCase}
-use Rattle.ir_resolve.specs.Written.{Thing, Value, Block}
-use Rattle.ir_resolve.specs.Means.{ValueMeans, IncomingMeans, OpMeans, InstMeans, CaseMeans, EndMeans, BlockIsOf, MeansBy, ArgumentsMean}
-use Rattle.ir_reader.proofs.Places.{contained}
+use Rattle.ir_resolve.specs.Written.{Block}
 
 -- ---- operands, and blocks that are named, by place
 

@@ -1,3 +1,4 @@
+pub mod Common
 mod Naming
 mod Known
 mod Canonical

@@ -1,45 +1,16 @@
 -- The function that is meant has the forms that what is written has.
-use Rattle.std.proofs.Common.{◌≡◌, ℕ, ◌<◌, ◌==◌, Bool, true, false, if◌then◌else◌, List, [], ◌∷◌, length, map, Option, None, Some, refl, sym, subst, arith}
-use Rattle.std.specs.Prelude.{slice_get, All}
-use Rattle.std.specs.List.{AllByRecursion, AllZip, flat_map}
-use Rattle.std.proofs.lemmas.Option.{same_Some}
+use Rattle.ir_round_trip.proofs.Common.{◌≡◌, ℕ, ◌<◌, ◌==◌, Bool, true, false, if◌then◌else◌, List, [], ◌∷◌, length, map, Option, None, Some, refl, sym, subst, arith, slice_get, All, AllByRecursion, AllZip, flat_map, same_Some, Identifier, Named, Numbered, Inst, Op, Operand, Terminator, IsBlock, Name, names_of, read, end_of, reads_of, reads_at_end, reads_by, reads_in, reads_at, RawFunction, RawParameter, RawIdentifier, RawBlock, RawInst, RawArguments, RawOp, RawTerminator, RawValue, RawIncoming, Thing, Calls, name_in, given, written_in, written_names, literal_of, result_width, Means, ValueMeans, IncomingMeans, OpMeans, InstMeans, CaseMeans, EndMeans, BlockIsOf, ParameterMeans, ArgumentsMean, literal_meant, block_written, somewhere, zip_right, IsItem, IsName, IsWidth, NumberFits, OperandFits, ReadHasForms, CasesHaveForms, ParameterHasForms, FunctionHasForms}
 use Rattle.ops.specs.Number.{Number}
-use Rattle.ir_tokens.specs.declared.called.Identifier.{Identifier}
-use Rattle.ir_tokens.specs.declared.called.Identifier.TheVariants.{Named, Numbered}
 use Rattle.ir_core.specs.declared.function.Function.{Function}
 use Rattle.ir_core.specs.declared.function.Block.{Block as CoreBlock}
-use Rattle.ir_core.specs.declared.instruction.Inst.{Inst}
-use Rattle.ir_core.specs.declared.instruction.Op.{Op}
 use Rattle.ir_core.specs.declared.instruction.Op.TheVariants as core
-use Rattle.ir_core.specs.declared.operand.Operand.{Operand}
 use Rattle.ir_core.specs.declared.operand.Operand.TheVariants as operands
-use Rattle.ir_core.specs.declared.terminator.Terminator.{Terminator}
 use Rattle.ir_core.specs.declared.terminator.Terminator.TheVariants as ends
-use Rattle.ir_core.specs.Blocks.{IsBlock}
-use Rattle.ir_core.specs.Names.{Name, names_of}
-use Rattle.ir_core.specs.Reads.{read, end_of, reads_of, reads_at_end, reads_by, reads_in, reads_at}
-use Rattle.ir_tokens.specs.declared.raw.RawFunction.{RawFunction}
-use Rattle.ir_tokens.specs.declared.raw.RawParameter.{RawParameter}
-use Rattle.ir_tokens.specs.declared.raw.RawIdentifier.{RawIdentifier}
-use Rattle.ir_tokens.specs.declared.raw.RawBlock.{RawBlock}
-use Rattle.ir_tokens.specs.declared.raw.RawInst.{RawInst}
-use Rattle.ir_tokens.specs.declared.raw.RawArguments.{RawArguments}
 use Rattle.ir_tokens.specs.declared.raw.RawArguments.TheVariants as arguments
-use Rattle.ir_tokens.specs.declared.raw.RawOp.{RawOp}
 use Rattle.ir_tokens.specs.declared.raw.RawOp.TheVariants as ops
-use Rattle.ir_tokens.specs.declared.raw.RawTerminator.{RawTerminator}
 use Rattle.ir_tokens.specs.declared.raw.RawTerminator.TheVariants as terminators
-use Rattle.ir_tokens.specs.declared.raw.RawValue.{RawValue}
 use Rattle.ir_tokens.specs.declared.raw.RawValue.TheVariants as values
-use Rattle.ir_tokens.specs.declared.raw.RawIncoming.{RawIncoming}
-use Rattle.ir_resolve.specs.Written.{Thing, Calls, name_in, given, written_in, written_names}
-use Rattle.ir_resolve.specs.FaultKinds.{literal_of, result_width}
-use Rattle.ir_resolve.specs.Means.{Means, ValueMeans, IncomingMeans, OpMeans, InstMeans, CaseMeans, EndMeans, BlockIsOf, ParameterMeans, ArgumentsMean}
-use Rattle.ir_resolve.proofs.Forming.{literal_meant}
 use Rattle.ir_resolve.proofs.Resolved.{names_are}
-use Rattle.ir_reader.proofs.Meaning.{block_written}
-use Rattle.ir_reader.proofs.Places.{somewhere, zip_right}
-use Rattle.ir_text.specs.Forms.{IsItem, IsName, IsWidth, NumberFits, OperandFits, ReadHasForms, CasesHaveForms, ParameterHasForms, FunctionHasForms}
 use Rattle.ir_round_trip.proofs.Every.{every_all, every_append, every_at, every_map, every_zip}
 use Rattle.ir_round_trip.proofs.TokenForms.{CalledFormed}
 use Rattle.ir_round_trip.proofs.StatementForms.{ValueFormed, OpFormed, InstFormed, CaseFormed, EndFormed, ArgumentsFormed}

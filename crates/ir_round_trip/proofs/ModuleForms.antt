@@ -1,19 +1,6 @@
 -- What the parser gives for tokens that have their forms has its forms: the parts of functions, and modules.
-use Rattle.std.proofs.Common.{ℕ, List, [], ◌∷◌, Option, Some, None, sym, subst}
-use Rattle.std.specs.List.{AllByRecursion}
-use Rattle.ir_tokens.specs.Tokens.{Kept}
-use Rattle.ir_tokens.specs.declared.raw.RawEntry.{RawEntry}
+use Rattle.ir_round_trip.proofs.Common.{ℕ, List, [], ◌∷◌, Option, Some, None, sym, subst, AllByRecursion, Kept, RawEntry, RawFunction, RawParameter, RawIdentifier, RawBlock, SpellsRegister, Attachment, Part, Maybe, Each, SpellsLabel, SpellsBlock, SpellsLabelledBlock, SpellsBlocks, SpellsParameter, SpellsParameterList, SpellsParameters, SpellsBody, SpellsName, SpellsFunction, SpellsEntry, SpellsItem, LexemesAreTokens, IsItem, IsKeptText, IsName, IsWidth}
 use Rattle.ir_tokens.specs.declared.raw.RawEntry.TheVariants as entries
-use Rattle.ir_tokens.specs.declared.raw.RawFunction.{RawFunction}
-use Rattle.ir_tokens.specs.declared.raw.RawParameter.{RawParameter}
-use Rattle.ir_tokens.specs.declared.raw.RawIdentifier.{RawIdentifier}
-use Rattle.ir_tokens.specs.declared.raw.RawBlock.{RawBlock}
-use Rattle.ir_instructions.specs.Grammar.{SpellsRegister, Attachment}
-use Rattle.ir_instructions.specs.Parts.{Part, Maybe, Each}
-use Rattle.ir_parse.specs.Grammar.{SpellsLabel, SpellsBlock, SpellsLabelledBlock, SpellsBlocks, SpellsParameter, SpellsParameterList, SpellsParameters, SpellsBody, SpellsName, SpellsFunction, SpellsEntry}
-use Rattle.ir_instructions.specs.ItemGrammar.{SpellsItem}
-use Rattle.ir_text.specs.Laws.{LexemesAreTokens}
-use Rattle.ir_text.specs.Forms.{IsItem, IsKeptText, IsName, IsWidth}
 use Rattle.ir_round_trip.proofs.TokenForms.{CalledFormed, Formed}
 use Rattle.ir_round_trip.proofs.StatementForms.{Yields, after, before, both, on_line, token, each, separated, repeated, register, type, attachment, tail, InstFormed, insts, EndFormed, terminator}
 use Rattle.ir_round_trip.proofs.ItemForms.{item}

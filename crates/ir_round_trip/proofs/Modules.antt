@@ -1,24 +1,8 @@
 -- The canonical form of a module that meets its checks is read as the module.
-use Rattle.std.proofs.Common.{◌≡◌, ℕ, zero, suc, List, [], ◌∷◌, take, Some, refl, sym, ap, subst, ◌∙◌, arith}
-use Rattle.std.specs.Prelude.{slice_get}
-use Rattle.std.proofs.lemmas.Slice.Zip.{AllZip-long}
-use Rattle.ir_core.specs.declared.module.Module.{Module}
-use Rattle.ir_core.specs.declared.module.Entry.{Entry}
+use Rattle.ir_round_trip.proofs.Common.{◌≡◌, ℕ, zero, suc, List, [], ◌∷◌, take, Some, refl, sym, ap, subst, ◌∙◌, arith, slice_get, AllZip-long, Module, Entry, ModuleMeetsChecks, RawModule, RawEntry, RawFunction, HasNameOf, contained_at, place_before, some_same, pair_of_first, functions_of, IsEntryOf, PrintedTextsSpell, WritesEntry, WritesModule, CanonicalModulesRead, PrintedTextsRead}
 use Rattle.ir_core.specs.declared.module.Entry.TheVariants as entries
 use Rattle.ir_core.specs.declared.function.Function.{Function}
-use Rattle.ir_core.specs.Checks.{ModuleMeetsChecks}
-use Rattle.ir_tokens.specs.declared.raw.RawModule.{RawModule}
-use Rattle.ir_tokens.specs.declared.raw.RawEntry.{RawEntry}
 use Rattle.ir_tokens.specs.declared.raw.RawEntry.TheVariants as raw_entries
-use Rattle.ir_tokens.specs.declared.raw.RawFunction.{RawFunction}
-use Rattle.ir_resolve.specs.FaultKinds.{HasNameOf}
-use Rattle.ir_resolve.proofs.Places.{contained_at, place_before}
-use Rattle.ir_resolve.proofs.Standing.{some_same}
-use Rattle.ir_resolve.proofs.Pairs.{pair_of_first}
-use Rattle.ir_reader.specs.Faults.{functions_of, IsEntryOf}
-use Rattle.ir_text.specs.Laws.{PrintedTextsSpell}
-use Rattle.ir_text.specs.CanonicalModule.{WritesEntry, WritesModule}
-use Rattle.ir_round_trip.specs.Laws.{CanonicalModulesRead, PrintedTextsRead}
 use Rattle.ir_round_trip.proofs.Functions.{functions_mean}
 
 -- a function of the entries is one of the entries

@@ -1,18 +1,5 @@
 -- The bytes of a name that is read are from 1 to 255.
-use Rattle.std.proofs.Common.{◌≡◌, ◌⊎◌, inl, inr, ℕ, zero, suc, ◌+◌, ◌-◌, ◌*◌, ◌≤◌, leb, Bool, true, false, ◌&&◌, ◌||◌, cond, eqb, List, [], ◌∷◌, ◌++◌, length, take, refl, sym, ap, subst, ◌∙◌, arith}
-use Rattle.std.specs.Prelude.{Contains}
-use Rattle.std.specs.List.{AllByRecursion, list_all}
-use Rattle.std.proofs.lemmas.Bool.{eqb-true, false≢true, leb-true}
-use Rattle.std.proofs.lemmas.List.{length-append}
-use Rattle.std.proofs.Math.Seq.{take-append_seam}
-use Rattle.scan.specs.Bytes.{are_digits, begins_name, begins_with, is_digit, is_letter, is_name_byte}
-use Rattle.scan.specs.IrTokens.{HoldsZero}
-use Rattle.scan.specs.Quoted.{hex_value, in_quotes, is_hex, is_quoted, unquoted}
-use Rattle.scan.proofs.Fronts.{and_left, and_right, or_true}
-use Rattle.scan.proofs.NameLemmas.{name_cases, quoted_is}
-use Rattle.ir_tokens.specs.Identifiers.{identifier_of, name_of}
-use Rattle.ir_text.specs.Lexemes.{IsNameText}
-use Rattle.ir_text.specs.Forms.{IsName}
+use Rattle.ir_round_trip.proofs.Common.{◌≡◌, ◌⊎◌, inl, inr, ℕ, zero, suc, ◌+◌, ◌-◌, ◌*◌, ◌≤◌, leb, Bool, true, false, ◌&&◌, ◌||◌, cond, eqb, List, [], ◌∷◌, ◌++◌, length, take, refl, sym, ap, subst, ◌∙◌, arith, Contains, AllByRecursion, list_all, eqb-true, false≢true, leb-true, length-append, take-append_seam, are_digits, begins_name, begins_with, is_digit, is_letter, is_name_byte, HoldsZero, hex_value, in_quotes, is_hex, is_quoted, unquoted, and_left, and_right, or_true, name_cases, quoted_is, identifier_of, name_of, IsNameText, IsName}
 use Rattle.ir_round_trip.proofs.Every.{every_all, every_left}
 use Rattle.ir_round_trip.proofs.TokenForms.{CalledFormed}
 

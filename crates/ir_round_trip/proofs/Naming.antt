@@ -1,20 +1,9 @@
 -- In the canonical form of a function, the identifiers that are written are those of the function's things.
-use Rattle.std.proofs.Common.{◌≡◌, ℕ, zero, suc, List, [], ◌∷◌, ◌++◌, map, take, length, refl, sym, ap, ◌∙◌, arith}
-use Rattle.std.specs.Prelude.{slice_get}
-use Rattle.std.specs.List.{AllZip, flat_map}
-use Rattle.std.proofs.lemmas.List.{length-map, map-append}
-use Rattle.ir_tokens.specs.declared.called.Identifier.{Identifier}
+use Rattle.ir_round_trip.proofs.Common.{◌≡◌, ℕ, zero, suc, List, [], ◌∷◌, ◌++◌, map, take, length, refl, sym, ap, ◌∙◌, arith, slice_get, AllZip, flat_map, length-map, map-append, Identifier, block_names, names_of, block_place, place_of, identifiers_from, identifiers_of, RawFunction, Thing, Value, given, written_in, written_names, HasThing, Calls, BlockIsOf, ParameterMeans, MeansBy, same_length, parameter_names, names_in_blocks, Identifies}
 use Rattle.ir_core.specs.declared.function.Function.{Function}
 use Rattle.ir_core.specs.declared.operand.Register.{Register}
 use Rattle.ir_core.specs.declared.operand.Register.TheVariants as registers
-use Rattle.ir_core.specs.Names.{block_names, names_of, block_place, place_of}
-use Rattle.ir_resolve.specs.Identifiers.{identifiers_from, identifiers_of}
-use Rattle.ir_tokens.specs.declared.raw.RawFunction.{RawFunction}
-use Rattle.ir_resolve.specs.Written.{Thing, Value, Block, given, written_in, written_names, identifiers_of as written_identifiers, block_place as written_block_place, place_of as written_place, HasThing, Calls}
-use Rattle.ir_resolve.specs.Means.{BlockIsOf, ParameterMeans, MeansBy}
-use Rattle.ir_resolve.proofs.Pairs.{same_length}
-use Rattle.ir_resolve.proofs.Forming.{parameter_names, names_in_blocks}
-use Rattle.ir_text.specs.CanonicalModule.{Identifies}
+use Rattle.ir_resolve.specs.Written.{Block, identifiers_of as written_identifiers, block_place as written_block_place, place_of as written_place}
 
 zip_front : {X Y : Type 0} (R : X → Y → Type 0) (n : ℕ) (xs : List X) (ys : List Y) → AllZip R xs ys → AllZip R (take n xs) (take n ys)
 zip_front R zero xs ys all = tt

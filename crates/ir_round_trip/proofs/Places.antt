@@ -1,13 +1,5 @@
 -- The operands, and the blocks that are named, of a function as written, by place.
-use Rattle.std.proofs.Common.{◌≡◌, inl, inr, ℕ, suc, List, [], ◌∷◌, ◌++◌, Some, refl}
-use Rattle.std.specs.Prelude.{slice_get, Contains}
-use Rattle.std.specs.List.{flat_map}
-use Rattle.ir_tokens.specs.declared.raw.RawFunction.{RawFunction}
-use Rattle.ir_tokens.specs.declared.raw.RawBlock.{RawBlock}
-use Rattle.ir_tokens.specs.declared.raw.RawInst.{RawInst}
-use Rattle.ir_tokens.specs.declared.raw.RawOp.{RawOp}
-use Rattle.ir_tokens.specs.declared.raw.RawTerminator.{RawTerminator}
-use Rattle.ir_reader.proofs.Places.{at_append, somewhere}
+use Rattle.ir_round_trip.proofs.Common.{◌≡◌, inl, inr, ℕ, suc, List, [], ◌∷◌, ◌++◌, Some, refl, slice_get, Contains, flat_map, RawFunction, RawBlock, RawInst, RawOp, RawTerminator, at_append, somewhere}
 
 -- an item of concatenated lists, each made of one thing, is in the list of one of the things
 made_at : {X Y : Type 0} (g : X → List Y) (xs : List X) (p : ℕ) (y : Y) → slice_get (flat_map g xs) p ≡ Some y → (x : X) × ((k : ℕ) × (slice_get xs k ≡ Some x)) × ((q : ℕ) × (slice_get (g x) q ≡ Some y))

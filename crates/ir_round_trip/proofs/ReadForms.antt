@@ -1,18 +1,7 @@
 -- A module that is read of a text of bytes has the forms of a module.
-use Rattle.std.proofs.Common.{ℕ, ◌≤◌, List, take, get_or, sym, subst, arith}
-use Rattle.std.specs.Prelude.{All}
-use Rattle.std.specs.List.{AllByRecursion}
-use Rattle.std.proofs.lemmas.Option.{slice_get-get_or}
-use Rattle.ir_core.specs.declared.module.Module.{Module}
-use Rattle.ir_core.specs.declared.module.Entry.{Entry}
+use Rattle.ir_round_trip.proofs.Common.{ℕ, ◌≤◌, List, take, get_or, sym, subst, arith, All, AllByRecursion, slice_get-get_or, Module, Entry, RawEntry, RawFunction, IsEntryOf, IsModuleText, functions_of, there, LexemesAreTokens, EntryHasForms, ModuleHasForms, IsKeptText}
 use Rattle.ir_core.specs.declared.module.Entry.TheVariants as entries
-use Rattle.ir_tokens.specs.declared.raw.RawEntry.{RawEntry}
 use Rattle.ir_tokens.specs.declared.raw.RawEntry.TheVariants as raw_entries
-use Rattle.ir_tokens.specs.declared.raw.RawFunction.{RawFunction}
-use Rattle.ir_reader.specs.Faults.{IsEntryOf, IsModuleText, functions_of}
-use Rattle.ir_reader.proofs.Places.{there}
-use Rattle.ir_text.specs.Laws.{LexemesAreTokens}
-use Rattle.ir_text.specs.Forms.{EntryHasForms, ModuleHasForms, IsKeptText}
 use Rattle.ir_round_trip.proofs.Every.{all_every, every_at}
 use Rattle.ir_round_trip.proofs.MeantForms.{function_has_forms}
 use Rattle.ir_round_trip.proofs.ModuleForms.{EntryFormed, entries_formed}

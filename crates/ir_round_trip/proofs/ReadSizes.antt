@@ -1,25 +1,11 @@
 -- The module of a text has no more parts than the text has bytes.
-use Rattle.std.proofs.Common.{ℕ, ◌≤◌, List, length, take, subst, arith}
-use Rattle.std.proofs.lemmas.Option.{slice_get_within}
-use Rattle.ir_core.specs.declared.module.Entry.{Entry}
+use Rattle.ir_round_trip.proofs.Common.{ℕ, ◌≤◌, List, length, take, subst, arith, slice_get_within, Entry, Operand, Op, RawEntry, RawFunction, RawArguments, RawOp, Call, IncomingMeans, OpMeans, InstMeans, BlockIsOf, ParameterMeans, Means, ArgumentsMean, Calls, pair_of_second, same_length, IsEntryOf, functions_of, there, HasAtMost, ModuleTextsAreSmall}
 use Rattle.ir_core.specs.declared.module.Entry.TheVariants as core_entries
 use Rattle.ir_core.specs.declared.function.Function.{Function}
-use Rattle.ir_core.specs.declared.operand.Operand.{Operand}
-use Rattle.ir_core.specs.declared.instruction.Op.{Op}
 use Rattle.ir_core.specs.declared.instruction.Op.TheVariants as core
-use Rattle.ir_tokens.specs.declared.raw.RawEntry.{RawEntry}
 use Rattle.ir_tokens.specs.declared.raw.RawEntry.TheVariants as entries
-use Rattle.ir_tokens.specs.declared.raw.RawFunction.{RawFunction}
-use Rattle.ir_tokens.specs.declared.raw.RawArguments.{RawArguments}
 use Rattle.ir_tokens.specs.declared.raw.RawArguments.TheVariants as arguments
-use Rattle.ir_tokens.specs.declared.raw.RawOp.{RawOp}
-use Rattle.ir_tokens.specs.declared.raw.RawOp.TheVariants.{Binary, Compare, Call, Select, Convert, Freeze, Phi}
-use Rattle.ir_resolve.specs.Means.{IncomingMeans, OpMeans, InstMeans, BlockIsOf, ParameterMeans, Means, ArgumentsMean}
-use Rattle.ir_resolve.specs.Written.{Calls}
-use Rattle.ir_resolve.proofs.Pairs.{pair_of_second, same_length}
-use Rattle.ir_reader.specs.Faults.{IsEntryOf, functions_of}
-use Rattle.ir_reader.proofs.Places.{there}
-use Rattle.ir_round_trip.specs.Laws.{HasAtMost, ModuleTextsAreSmall}
+use Rattle.ir_tokens.specs.declared.raw.RawOp.TheVariants.{Binary, Compare, Select, Convert, Freeze, Phi}
 use Rattle.ir_round_trip.proofs.Every.{every_at}
 use Rattle.ir_round_trip.proofs.WrittenSizes.{few_tokens, OpFew, InstFew, BlockFew, FunctionFew, EntryFew, entries_few}
 

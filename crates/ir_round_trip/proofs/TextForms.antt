@@ -1,16 +1,8 @@
 -- The tokens of a text of bytes have their forms.
-use Rattle.std.proofs.Common.{◌≡◌, ◌≤◌, ℕ, ◌-◌, false, List, [], ◌∷◌, length, take, drop, refl, sym, subst, arith}
-use Rattle.std.proofs.lemmas.Bool.{false≢true}
-use Rattle.std.proofs.lemmas.List.{take-append-drop}
-use Rattle.scan.specs.declared.ir.token.TokenKind.{TokenKind}
+use Rattle.ir_round_trip.proofs.Common.{◌≡◌, ◌≤◌, ℕ, ◌-◌, false, List, [], ◌∷◌, length, take, drop, refl, sym, subst, arith, false≢true, take-append-drop, TokenKind, between, Section, IsTokenAt, itself, kept_line, kept_group, unclosed, bad_byte, TokensFrom, last, Placed, Token, End, Other, Bad, Kept, KeptGroup, Label, Word, Group, Metadata, Quoted, Mark, mark_of, token_of, bytes_of, HasItsForm, token_form, is_kept, none_kept}
 use Rattle.scan.specs.declared.ir.token.TokenKind.TheVariants as kinds
-use Rattle.scan.specs.Lines.{between}
-use Rattle.ir_tokens.specs.declared.place.Section.{Section}
-use Rattle.ir_tokens.specs.Order.{IsTokenAt, itself, kept_line, kept_group, unclosed, bad_byte, TokensFrom, last, token}
-use Rattle.ir_tokens.specs.Tokens.{Placed, Token, End, Other, Bad, Kept, KeptGroup, Label, Word, Number, Register, Function, Group, Metadata, Quoted, Mark, mark_of, token_of}
-use Rattle.ir_text.specs.Lexemes.{bytes_of}
-use Rattle.ir_text.proofs.Forms.{HasItsForm, token_form}
-use Rattle.ir_text.proofs.KeptLines.{is_kept, none_kept}
+use Rattle.ir_tokens.specs.Order.{token}
+use Rattle.ir_tokens.specs.Tokens.{Number, Register, Function}
 use Rattle.ir_round_trip.proofs.Every.{every_append, every_left, every_right}
 use Rattle.ir_round_trip.proofs.KeptForms.{kept_alone, kept_text}
 use Rattle.ir_round_trip.proofs.NameForms.{AreBytes, called_formed}

@@ -1,14 +1,7 @@
 -- What holds of each token of a text: its bytes have the form of its kind.
-use Rattle.std.proofs.Common.{◌≡◌, true, List, [], ◌∷◌}
-use Rattle.scan.specs.IrTokens.{HoldsZero, is_group, is_word}
-use Rattle.scan.specs.Quoted.{is_quoted}
-use Rattle.ir_tokens.specs.declared.called.Identifier.{Identifier}
-use Rattle.ir_tokens.specs.declared.called.Identifier.TheVariants.{Named, Numbered}
-use Rattle.ir_tokens.specs.Identifiers.{identifier_of}
+use Rattle.ir_round_trip.proofs.Common.{◌≡◌, true, List, [], ◌∷◌, HoldsZero, is_group, is_word, is_quoted, Identifier, Named, Numbered, identifier_of, Placed, Token, End, Other, Bad, Kept, KeptGroup, Label, Word, Group, Metadata, Quoted, Mark, IsGroupText, IsName, IsKeptText}
 use Rattle.ir_tokens.specs.Numbers.{is_number}
-use Rattle.ir_tokens.specs.Tokens.{Placed, Token, End, Other, Bad, Kept, KeptGroup, Label, Word, Number, Register, Function, Group, Metadata, Quoted, Mark}
-use Rattle.ir_text.specs.Lexemes.{IsGroupText}
-use Rattle.ir_text.specs.Forms.{IsName, IsKeptText}
+use Rattle.ir_tokens.specs.Tokens.{Number, Register, Function}
 
 -- if the identifier is a name, it has its form
 abbrev pub CalledFormed : Identifier → Type 0

@@ -1,27 +1,10 @@
 -- The syntax tree of a text has no more parts than the text has bytes.
-use Rattle.std.proofs.Common.{ℕ, suc, ◌+◌, ◌<◌, ◌≤◌, List, [], ◌∷◌, length, Option, ap, refl, arith}
-use Rattle.std.specs.List.{AllByRecursion}
-use Rattle.ir_tokens.specs.declared.place.Section.{Section}
-use Rattle.ir_tokens.specs.Order.{TokensFrom, last, token}
-use Rattle.ir_tokens.specs.Tokens.{Placed, Mark}
-use Rattle.ir_tokens.proofs.Moving.{token_moves, token_within}
-use Rattle.ir_tokens.specs.declared.raw.RawEntry.{RawEntry}
+use Rattle.ir_round_trip.proofs.Common.{ℕ, suc, ◌+◌, ◌<◌, ◌≤◌, List, [], ◌∷◌, length, Option, ap, refl, arith, AllByRecursion, Section, TokensFrom, last, Placed, Mark, token_moves, token_within, RawEntry, RawFunction, RawParameter, RawBlock, RawIdentifier, RawInst, RawOp, Call, Attachment, SpellsIncoming, SpellsOp, SpellsInst, Part, ◌⨾◌, Maybe, Each, Comma, Separated, Shorter, NoLonger, weaker, a_token, no_part, maybe, a_type, attachment-shorter, further_incoming-shorter, inst-shorter, SpellsLabel, SpellsBlock, SpellsLabelledBlock, SpellsBlocks, SpellsParameter, SpellsParameterList, SpellsParameters, SpellsFunction, SpellsEntry, SpellsItem, item-shorter, block-shorter, further_parameter-shorter, entry-shorter}
+use Rattle.ir_tokens.specs.Order.{token}
 use Rattle.ir_tokens.specs.declared.raw.RawEntry.TheVariants as entries
-use Rattle.ir_tokens.specs.declared.raw.RawFunction.{RawFunction}
-use Rattle.ir_tokens.specs.declared.raw.RawParameter.{RawParameter}
-use Rattle.ir_tokens.specs.declared.raw.RawBlock.{RawBlock}
-use Rattle.ir_tokens.specs.declared.raw.RawIdentifier.{RawIdentifier}
-use Rattle.ir_tokens.specs.declared.raw.RawInst.{RawInst}
-use Rattle.ir_tokens.specs.declared.raw.RawOp.{RawOp}
-use Rattle.ir_tokens.specs.declared.raw.RawOp.TheVariants.{Binary, Compare, Call, Select, Convert, Freeze, Phi}
-use Rattle.ir_instructions.specs.Grammar.{Attachment, SpellsIncoming, SpellsOp, SpellsInst}
+use Rattle.ir_tokens.specs.declared.raw.RawOp.TheVariants.{Binary, Compare, Select, Convert, Freeze, Phi}
 use Rattle.ir_instructions.specs.Punctuation as marks
-use Rattle.ir_instructions.specs.Parts.{Part, ◌⨾◌, Maybe, Each, Comma, Separated}
-use Rattle.ir_instructions.proofs.Shorter.{Shorter, NoLonger, weaker, both, on_line, token as one_token, a_token, no_part, maybe, each, repeated, a_type, attachment-shorter, tail, terminator, further_incoming-shorter, inst-shorter, insts}
-use Rattle.ir_parse.specs.Grammar.{SpellsLabel, SpellsBlock, SpellsLabelledBlock, SpellsBlocks, SpellsParameter, SpellsParameterList, SpellsParameters, SpellsFunction, SpellsEntry}
-use Rattle.ir_instructions.specs.ItemGrammar.{SpellsItem}
-use Rattle.ir_instructions.proofs.ItemSizes.{item-shorter}
-use Rattle.ir_parse.proofs.ShorterParts.{block-shorter, further_parameter-shorter, entry-shorter}
+use Rattle.ir_instructions.proofs.Shorter.{both, on_line, token as one_token, each, repeated, tail, terminator, insts}
 
 -- ---- tokens
 

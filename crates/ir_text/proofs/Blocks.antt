@@ -1,32 +1,10 @@
 -- Blocks: their printed text is read as the block.
-use Rattle.std.proofs.Common.{◌≡◌, ℕ, suc, zero, ◌<◌, Bool, true, false, eqb, cond, [], ◌++◌, length, Option, None, Some, codes, refl, sym, ap, subst, ◌∙◌, append_assoc, arith, rules, tests, eq-eqb}
-use Rattle.std.specs.Prelude.{slice_get, IsSome}
-use Rattle.std.specs.List.{enumerate_from, AllZip}
-use Rattle.std.proofs.lemmas.List.Elements.{All-from_recursion}
+use Rattle.ir_text.proofs.Common.{◌≡◌, ℕ, suc, zero, ◌<◌, Bool, true, false, eqb, cond, [], ◌++◌, length, Option, None, Some, codes, refl, sym, ap, subst, ◌∙◌, append_assoc, arith, rules, tests, eq-eqb, slice_get, IsSome, enumerate_from, AllZip, All-from_recursion, Inst, Terminator, IsBlock, targets_of, CasesFit, IsInst, Name, names_of, block_place, Read, reads_of, reads_at, reads_by, reads_in, reads_at_end, IsRead, RawBlock, RawIdentifier, RawInst, SpellsInst, Maybe, SpellsLabel, SpellsBlock, InstMeans, EndMeans, BlockIsOf, given, contained_at, named_from, some_same, CasesHaveForms, NumberFits, block_identifier, identifier_text, label_text, head_text, first_head_text, inst_text, end_text, block_text, Identifies, BlockTypesFit, EndTypesFit, TypesFit}
 use Rattle.ops.specs.Number.{Number}
 use Rattle.ir_core.specs.declared.function.Function.{Function}
 use Rattle.ir_core.specs.declared.function.Block.{Block as CoreBlock}
-use Rattle.ir_core.specs.declared.instruction.Inst.{Inst}
-use Rattle.ir_core.specs.declared.terminator.Terminator.{Terminator}
 use Rattle.ir_core.specs.declared.terminator.Terminator.TheVariants as ends
-use Rattle.ir_core.specs.Blocks.{IsBlock, targets_of}
-use Rattle.ir_core.specs.Checks.{CasesFit, IsInst}
-use Rattle.ir_core.specs.Names.{Name, names_of, block_place}
-use Rattle.ir_core.specs.Reads.{Read, reads_of, reads_at, reads_by, reads_in, reads_at_end, IsRead}
-use Rattle.ir_tokens.specs.declared.raw.RawBlock.{RawBlock}
-use Rattle.ir_tokens.specs.declared.raw.RawIdentifier.{RawIdentifier}
-use Rattle.ir_tokens.specs.declared.raw.RawInst.{RawInst}
-use Rattle.ir_instructions.specs.Grammar.{SpellsInst}
-use Rattle.ir_instructions.specs.Parts.{Maybe}
-use Rattle.ir_parse.specs.Grammar.{SpellsLabel, SpellsBlock}
-use Rattle.ir_resolve.specs.Means.{InstMeans, EndMeans, BlockIsOf}
-use Rattle.ir_resolve.specs.Written.{Block, given}
-use Rattle.ir_resolve.proofs.Places.{contained_at}
-use Rattle.ir_resolve.proofs.Series.{named_from}
-use Rattle.ir_resolve.proofs.Standing.{some_same}
-use Rattle.ir_text.specs.Forms.{CasesHaveForms, NumberFits}
-use Rattle.ir_text.specs.PrintedText.{block_identifier, identifier_text, label_text, head_text, first_head_text, inst_text, end_text, block_text}
-use Rattle.ir_text.specs.CanonicalModule.{Identifies, BlockTypesFit, EndTypesFit, TypesFit}
+use Rattle.ir_resolve.specs.Written.{Block}
 use Rattle.ir_text.proofs.Prints.{Body, Prints, Reads, prints_as, prints_map, prints_nothing, prints_next, prints_lines, behind_space, before_space}
 use Rattle.ir_text.proofs.Tokens.{label_in_body, feed, indent, line_ends}
 use Rattle.ir_text.proofs.Calling.{IsPrintable, IsCalled, is_called, block_named}

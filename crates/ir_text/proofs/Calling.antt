@@ -1,30 +1,12 @@
 -- The identifiers of parameters, blocks and results, and how they are printed and read.
-use Rattle.std.proofs.Common.{◌≡◌, ℕ, zero, suc, ◌+◌, ◌<◌, ◌≤◌, ◌^◌, List, [], ◌∷◌, ◌++◌, Option, None, Some, map, take, length, refl, sym, ap, subst, ◌∙◌, zero-add, arith}
-use Rattle.std.specs.Prelude.{slice_get, option_map, option_and_then}
+use Rattle.ir_text.proofs.Common.{◌≡◌, ℕ, zero, suc, ◌+◌, ◌<◌, ◌≤◌, ◌^◌, List, [], ◌∷◌, ◌++◌, Option, None, Some, map, take, length, refl, sym, ap, subst, ◌∙◌, zero-add, arith, slice_get, option_map, option_and_then, length-map, recursion_from_All, slice_get-map, Identifier, Named, Numbered, identifier_of, Parameter, Inst, IsBlock, IsFormed, Name, names_of, block_names, block_place, place_of, width_of, identifiers_from, identifiers_of, name_in, contained_at, get_right, get_left, some_same, mapped, IsName, FunctionHasForms, IsNameText, identifier_text}
 use Rattle.std.specs.List.{flat_map}
-use Rattle.std.proofs.lemmas.List.{length-append, length-map}
-use Rattle.std.proofs.lemmas.List.Elements.{recursion_from_All}
-use Rattle.std.proofs.lemmas.Option.{slice_get-map}
-use Rattle.ir_tokens.specs.declared.called.Identifier.{Identifier}
-use Rattle.ir_tokens.specs.declared.called.Identifier.TheVariants.{Named, Numbered}
-use Rattle.ir_tokens.specs.Identifiers.{identifier_of}
+use Rattle.std.proofs.lemmas.List.{length-append}
 use Rattle.ir_core.specs.declared.function.Function.{Function}
-use Rattle.ir_core.specs.declared.function.Parameter.{Parameter}
 use Rattle.ir_core.specs.declared.function.Block.{Block}
-use Rattle.ir_core.specs.declared.instruction.Inst.{Inst}
 use Rattle.ir_core.specs.declared.operand.Register.{Register}
 use Rattle.ir_core.specs.declared.operand.Register.TheVariants as registers
-use Rattle.ir_core.specs.Blocks.{IsBlock}
-use Rattle.ir_core.specs.Checks.{IsFormed}
-use Rattle.ir_core.specs.Names.{Name, names_of, block_names, block_place, place_of, width_of}
-use Rattle.ir_resolve.specs.Identifiers.{identifiers_from, identifiers_of}
-use Rattle.ir_resolve.specs.Written.{name_in}
-use Rattle.ir_resolve.proofs.Places.{contained_at}
-use Rattle.ir_resolve.proofs.Standing.{get_right, get_left, some_same, mapped}
-use Rattle.ir_text.specs.Forms.{IsName, FunctionHasForms}
-use Rattle.ir_text.specs.Lexemes.{IsNameText}
 use Rattle.ir_text.proofs.NameForms.{AreNameBytes, name_text_form, name_text_calls, decimal_form, decimal_calls}
-use Rattle.ir_text.specs.PrintedText.{identifier_text}
 
 -- what a function needs to be printed
 pub record IsPrintable (f : Function) : Type 0 where

@@ -1,47 +1,15 @@
 -- Calls of intrinsics: their printed text is read as the call. A call ends its line, since what stood behind its `)` on
 -- the line would be an item of it.
-use Rattle.std.proofs.Common.{◌≡◌, ℕ, ◌+◌, ◌<◌, ◌^◌, Bool, true, false, ◌&&◌, eqb, ne_eqb, decimal, List, [], ◌∷◌, ◌++◌, Option, None, Some, codes, refl, sym, ap, subst, append_assoc, arith}
-use Rattle.scan.specs.Bytes.{begins_name, begins_word, is_blank, is_digit, is_letter, is_name_byte, is_space}
-use Rattle.scan.specs.IrTokens.{is_plain_name, is_word}
-use Rattle.scan.specs.Lines.{feeds}
-use Rattle.ops.specs.declared.opcode.Opcode.{Opcode}
-use Rattle.ops.specs.declared.opcode.Opcode.TheVariants.{UMin, UMax, SMin, SMax}
-use Rattle.ops.specs.declared.opcode.Unary.{Unary}
-use Rattle.ops.specs.declared.opcode.Unary.TheVariants.{Abs, CtPop, CtLz, CtTz}
-use Rattle.ops.specs.declared.opcode.Flags.{Flags}
-use Rattle.ops.specs.Flags.{no_flags}
-use Rattle.ops.specs.Intrinsics.{is_intrinsic}
-use Rattle.ops.specs.Keywords.{opcode_keyword, unary_keyword}
+use Rattle.ir_text.proofs.Common.{◌≡◌, ℕ, ◌+◌, ◌<◌, ◌^◌, Bool, true, false, ◌&&◌, eqb, ne_eqb, decimal, List, [], ◌∷◌, ◌++◌, Option, None, Some, codes, refl, sym, ap, subst, append_assoc, arith, begins_name, begins_word, is_blank, is_digit, is_letter, is_name_byte, is_space, is_plain_name, is_word, feeds, Opcode, UMin, UMax, SMin, SMax, Unary, Abs, CtPop, CtLz, CtTz, Flags, no_flags, is_intrinsic, opcode_keyword, unary_keyword, TruthFits, has_truth, Section, InBody, place_behind, Placed, End, Word, Mark, RawOp, TypedOperand, Op, Operand, Intrinsic, StopsOn, SpellsCallee, SpellsClose, SpellsTruthOf, unmarked, SpellsType, SpellsOperand, SpellsOp, intrinsic_keyword, IsTypeWord, Part, Is, ◌⨾◌, LiteralClashes, TruthIsBit, result_width, truth_of, OpMeans, some_same, Identifies, TypesFit, IsWidth, Lexeme, placed_from, type_text, typed_text, truth_text, callee_text}
 use Rattle.ops.specs.Number.{Number}
-use Rattle.ops.specs.Truths.{TruthFits, has_truth}
-use Rattle.ir_tokens.specs.declared.place.Section.{Section}
-use Rattle.ir_tokens.specs.declared.place.Section.TheVariants.{InBody}
-use Rattle.ir_tokens.specs.Places.{place_behind}
-use Rattle.ir_tokens.specs.Tokens.{Placed, End, Word, Mark}
 use Rattle.ir_tokens.specs.declared.raw.RawArguments.TheVariants as arguments
-use Rattle.ir_tokens.specs.declared.raw.RawOp.{RawOp}
 use Rattle.ir_tokens.specs.declared.raw.RawOp.TheVariants as ops
 use Rattle.ir_tokens.specs.declared.raw.RawValue.TheVariants as values
-use Rattle.ir_tokens.specs.declared.raw.TypedOperand.{TypedOperand}
 use Rattle.ir_core.specs.declared.function.Function.{Function}
-use Rattle.ir_core.specs.declared.instruction.Op.{Op}
 use Rattle.ir_core.specs.declared.instruction.Op.TheVariants as core
-use Rattle.ir_core.specs.declared.operand.Operand.{Operand}
-use Rattle.ir_instructions.specs.declared.intrinsic.Intrinsic.{Intrinsic}
 use Rattle.ir_instructions.specs.declared.intrinsic.Intrinsic.TheVariants as intrinsics
-use Rattle.ir_instructions.specs.CallGrammar.{StopsOn, SpellsCallee, SpellsClose, SpellsTruthOf, unmarked}
-use Rattle.ir_instructions.specs.Grammar.{SpellsType, SpellsOperand, SpellsOp}
-use Rattle.ir_instructions.specs.Intrinsics.{intrinsic_keyword, is_called}
-use Rattle.ir_instructions.specs.Keywords.{IsTypeWord}
-use Rattle.ir_instructions.specs.Parts.{Part, Is, ◌⨾◌}
+use Rattle.ir_instructions.specs.Intrinsics.{is_called}
 use Rattle.ir_instructions.specs.Punctuation as marks
-use Rattle.ir_resolve.specs.FaultKinds.{LiteralClashes, TruthIsBit, result_width, truth_of}
-use Rattle.ir_resolve.specs.Means.{OpMeans}
-use Rattle.ir_resolve.proofs.Standing.{some_same}
-use Rattle.ir_text.specs.CanonicalModule.{Identifies, TypesFit}
-use Rattle.ir_text.specs.Forms.{IsWidth}
-use Rattle.ir_text.specs.Lexemes.{Lexeme, placed_from}
-use Rattle.ir_text.specs.PrintedText.{type_text, typed_text, truth_text, callee_text}
 use Rattle.ir_text.proofs.NameForms.{plain}
 use Rattle.ir_text.proofs.NumberForms.{decimal_digits, decimal_value-decimal, digits_names, plain_type}
 use Rattle.ir_text.proofs.Operands.{MeansOperand, type_prints}

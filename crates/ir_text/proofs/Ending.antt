@@ -1,17 +1,8 @@
 -- A token that is the longest prefix of a text stays so before bytes that don't continue it.
-use Rattle.std.proofs.Common.{◌≡◌, ℕ, zero, suc, ◌+◌, ◌-◌, ◌<◌, ◌≤◌, Bool, true, false, not, ◌&&◌, ◌||◌, List, [], ◌∷◌, ◌++◌, length, take, drop, refl, sym, ap, subst, ◌∙◌, ◌⊎◌, ⊎_elim, append_assoc, take-append-drop, length-append, arith}
-use Rattle.std.specs.List.{list_all}
-use Rattle.std.proofs.Math.Seq.{drop-length, take-append-add, take-length}
-use Rattle.std.proofs.lemmas.Bool.{false≢true}
-use Rattle.std.proofs.lemmas.List.{drop-append-le, take-append-le}
-use Rattle.std.proofs.lemmas.List.Folds.{list_all-append}
-use Rattle.scan.specs.declared.ir.token.TokenKind.{TokenKind}
+use Rattle.ir_text.proofs.Common.{◌≡◌, ℕ, zero, suc, ◌+◌, ◌-◌, ◌<◌, ◌≤◌, Bool, true, false, not, ◌&&◌, ◌||◌, List, [], ◌∷◌, ◌++◌, length, take, drop, refl, sym, ap, subst, ◌∙◌, ◌⊎◌, ⊎_elim, append_assoc, take-append-drop, arith, list_all, drop-length, take-append-add, take-length, false≢true, drop-append-le, take-append-le, list_all-append, TokenKind, begins_with, is_digit, is_name_byte, is_run, IsLongestToken, marks, spells, is_among, is_negative, and_left, and_right, which, goes_on}
+use Rattle.std.proofs.Common.{length-append}
 use Rattle.scan.specs.declared.ir.token.TokenKind.TheVariants as kinds
-use Rattle.scan.specs.Bytes.{begins_with, is_digit, is_name_byte, is_run}
-use Rattle.scan.specs.IrTokens.{IsLongestToken, is_number, marks, spells}
-use Rattle.scan.specs.RuleTokens.{is_among, is_negative}
-use Rattle.scan.proofs.Fronts.{and_left, and_right, which}
-use Rattle.ir_text.specs.Lexemes.{goes_on}
+use Rattle.scan.specs.IrTokens.{is_number}
 use Rattle.ir_text.proofs.Shapes.{is_lone, lone_ends, longer_by, name_goes_on, shape}
 
 -- ---- what stands behind a token

@@ -1,28 +1,10 @@
 -- Terminators: their printed text is read as the terminator.
-use Rattle.std.proofs.Common.{◌≡◌, ℕ, suc, true, false, List, [], ◌∷◌, Some, codes, refl, sym, ap, subst, ◌∙◌}
-use Rattle.std.specs.Prelude.{slice_get, option_map}
-use Rattle.std.proofs.lemmas.Option.{slice_get-map}
-use Rattle.std.specs.List.{list_all, AllZip, AllByRecursion}
-use Rattle.std.proofs.lemmas.List.Elements.{All-from_recursion}
-use Rattle.scan.specs.Bytes.{begins_name, begins_word, is_blank, is_letter, is_name_byte, is_space}
-use Rattle.scan.specs.IrTokens.{is_word}
+use Rattle.ir_text.proofs.Common.{◌≡◌, ℕ, suc, true, false, List, [], ◌∷◌, Some, codes, refl, sym, ap, subst, ◌∙◌, slice_get, option_map, slice_get-map, list_all, AllZip, AllByRecursion, All-from_recursion, begins_name, begins_word, is_blank, is_letter, is_name_byte, is_space, is_word, Terminator, IsBlock, targets_of, Read, read, reads_at_end, RawCase, RawTerminator, Return, Unreachable, Jump, Branch, Switch, SpellsCase, SpellsTerminator, Part, CaseMeans, EndMeans, IsWidth, NumberFits, case_text, end_text, Identifies, EndTypesFit}
 use Rattle.ops.specs.Number.{Number}
 use Rattle.ir_core.specs.declared.function.Function.{Function}
 use Rattle.ir_core.specs.declared.function.Block.{Block as CoreBlock}
-use Rattle.ir_core.specs.declared.terminator.Terminator.{Terminator}
 use Rattle.ir_core.specs.declared.terminator.Terminator.TheVariants as ends
-use Rattle.ir_core.specs.Blocks.{IsBlock, targets_of}
-use Rattle.ir_core.specs.Reads.{Read, read, reads_at_end}
-use Rattle.ir_tokens.specs.declared.raw.RawCase.{RawCase}
-use Rattle.ir_tokens.specs.declared.raw.RawTerminator.{RawTerminator}
-use Rattle.ir_tokens.specs.declared.raw.RawTerminator.TheVariants.{Return, Unreachable, Jump, Branch, Switch}
-use Rattle.ir_instructions.specs.Grammar.{SpellsCase, SpellsTerminator}
-use Rattle.ir_instructions.specs.Parts.{Part}
-use Rattle.ir_resolve.specs.Means.{CaseMeans, EndMeans}
-use Rattle.ir_text.specs.Forms.{IsWidth, NumberFits}
 use Rattle.ir_text.proofs.Placing.{space_stops}
-use Rattle.ir_text.specs.PrintedText.{case_text, end_text}
-use Rattle.ir_text.specs.CanonicalModule.{Identifies, EndTypesFit}
 use Rattle.ir_text.proofs.Prints.{Body, Prints, Reads, prints_map, prints_weak, prints_then, prints_next, prints_lines, behind_space, opens_with}
 use Rattle.ir_text.proofs.Tokens.{in_body, word_in_body, open_in_body, close_in_body, blank, indent, spaced, mark_line_ends, line_ends, comma_space}
 use Rattle.ir_text.proofs.Calling.{IsPrintable}

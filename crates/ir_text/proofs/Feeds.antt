@@ -1,17 +1,6 @@
 -- The bytes of a token have no line feed.
-use Rattle.std.proofs.Common.{◌≡◌, ℕ, ◌-◌, Bool, true, false, List, [], ◌∷◌, ◌++◌, length, take, drop, refl, sym, ap, ◌∙◌, take-append-drop, arith}
-use Rattle.std.specs.List.{list_all}
-use Rattle.std.proofs.Math.Seq.{take-length}
-use Rattle.std.proofs.lemmas.List.{take_all}
-use Rattle.scan.specs.declared.ir.token.TokenKind.{TokenKind}
-use Rattle.scan.specs.Kept.{IsBalanced}
-use Rattle.scan.specs.Lines.{feeds}
-use Rattle.scan.specs.Quoted.{is_quotable}
-use Rattle.scan.proofs.Fronts.{and_both, run_passes}
-use Rattle.scan.proofs.KeptLemmas.{group_feeds}
-use Rattle.scan.proofs.PlaceLemmas.{feeds_append, no_feeds}
-use Rattle.ir_tokens.specs.Tokens.{Token, End, Other, Bad, Kept, KeptGroup, Label, Word, Number, Register, Function, Group, Metadata, Quoted, Mark}
-use Rattle.ir_text.specs.Lexemes.{HasForm, bytes_of, goes_on}
+use Rattle.ir_text.proofs.Common.{◌≡◌, ℕ, ◌-◌, Bool, true, false, List, [], ◌∷◌, ◌++◌, length, take, drop, refl, sym, ap, ◌∙◌, take-append-drop, arith, list_all, take-length, take_all, TokenKind, IsBalanced, feeds, is_quotable, and_both, run_passes, group_feeds, feeds_append, no_feeds, Token, End, Other, Bad, Kept, KeptGroup, Label, Word, Group, Metadata, Quoted, Mark, HasForm, bytes_of, goes_on}
+use Rattle.ir_tokens.specs.Tokens.{Number, Register, Function}
 use Rattle.ir_text.proofs.KeptLines.{IsKeptAlone, alone, in_line}
 use Rattle.ir_text.proofs.Shapes.{IsShaped, feed_goes_not_on, feed_no_lead, is_lead, is_lone, is_sigil, lone, quoted, run, shape, sigiled}
 use Rattle.ir_text.proofs.Spelled.{IsSpelled, function_spelled, group_spelled, label_spelled, mark_spelled, metadata_spelled, number_spelled, quoted_spelled, register_spelled, word_spelled}

@@ -1,29 +1,10 @@
 -- The tokens of a text have the forms of their kinds, in every text and context.
-use Rattle.std.proofs.Common.{◌≡◌, ℕ, ◌+◌, ◌-◌, ◌<◌, ◌≤◌, true, false, not, eqb, ◌&&◌, ◌||◌, List, [], ◌∷◌, ◌++◌, codes, length, take, drop, refl, sym, ap, ◌∙◌, ◌⊎◌, ⊎_elim, length-append, length-take, take-add, drop-drop, eqb-true, arith}
-use Rattle.std.specs.List.{AllByRecursion, list_all}
-use Rattle.std.specs.Str.{bytes_eq}
-use Rattle.std.proofs.lemmas.Bool.{false≢true}
-use Rattle.std.proofs.lemmas.Slice.Eq.{bytes_eq-Decides}
-use Rattle.scan.specs.declared.ir.token.TokenKind.{TokenKind}
+use Rattle.ir_text.proofs.Common.{◌≡◌, ℕ, ◌+◌, ◌-◌, ◌<◌, ◌≤◌, true, false, not, eqb, ◌&&◌, ◌||◌, List, [], ◌∷◌, ◌++◌, codes, length, take, drop, refl, sym, ap, ◌∙◌, ◌⊎◌, ⊎_elim, length-take, take-add, drop-drop, eqb-true, arith, AllByRecursion, list_all, bytes_eq, false≢true, bytes_eq-Decides, TokenKind, Span, are_digits, begins_with, is_name_byte, Begins, BeginsNoToken, HoldsZero, IsLongestToken, is_behind, is_function, is_label, is_metadata, is_name, is_register, marks, spells, IsGroup, between, in_quotes, is_negative, and_left, and_right, which, seen, Section, AtEntry, InHeader, InBody, IsTokenAt, TokensFrom, bad_byte, itself, kept_group, kept_line, last, token, unclosed, begins_kept, extent_of, is_on, Placed, Token, is_last, mark_of, token_of, HasForm, IsGroupText}
+use Rattle.std.proofs.Common.{length-append}
 use Rattle.scan.specs.declared.ir.token.TokenKind.TheVariants as kinds
-use Rattle.scan.specs.declared.span.Span.{Span}
-use Rattle.scan.specs.Bytes.{are_digits, begins_with, is_name_byte}
-use Rattle.scan.specs.IrTokens.{Begins, BeginsNoToken, HoldsZero, IsLongestToken, is_behind, is_function, is_label, is_metadata, is_name, is_register, marks, spells}
 use Rattle.scan.specs.IrTokens as scanned
-use Rattle.scan.specs.Kept.{IsGroup}
-use Rattle.scan.specs.Lines.{between}
-use Rattle.scan.specs.Quoted.{in_quotes}
-use Rattle.scan.specs.RuleTokens.{is_negative}
-use Rattle.scan.proofs.Fronts.{and_left, and_right, which}
-use Rattle.scan.proofs.ModulePlaces.{seen}
-use Rattle.ir_tokens.specs.declared.place.Section.{Section}
-use Rattle.ir_tokens.specs.declared.place.Section.TheVariants.{AtEntry, InHeader, InBody}
 use Rattle.ir_tokens.specs.declared.place.Extent.TheVariants as extents
 use Rattle.ir_tokens.specs.Numbers.{is_number}
-use Rattle.ir_tokens.specs.Order.{IsTokenAt, TokensFrom, bad_byte, itself, kept_group, kept_line, last, token, unclosed}
-use Rattle.ir_tokens.specs.Places.{begins_kept, extent_of, is_on}
-use Rattle.ir_tokens.specs.Tokens.{Placed, Token, is_last, mark_of, token_of}
-use Rattle.ir_text.specs.Lexemes.{HasForm, IsGroupText}
 use Rattle.ir_text.proofs.KeptLines.{is_kept}
 use Rattle.ir_text.proofs.Shapes.{last_byte, of_among}
 use Rattle.ir_text.proofs.Zeros.{in_quotes-behind, in_quotes-label, same_zeros}

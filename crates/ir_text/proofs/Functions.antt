@@ -1,31 +1,9 @@
 -- Functions: their printed text is read as the function.
-use Rattle.std.proofs.Common.{◌≡◌, inl, inr, ℕ, suc, zero, ◌+◌, ◌<◌, true, List, [], ◌∷◌, ◌++◌, length, map, take, Option, Some, codes, refl, sym, ap, subst, ◌∙◌, arith}
-use Rattle.std.specs.Prelude.{slice_get, IsSome}
-use Rattle.std.specs.List.{flat_map, enumerate_from, AllZip}
-use Rattle.std.proofs.lemmas.List.{length-append, length-map, take_more}
-use Rattle.std.proofs.lemmas.List.Elements.{All-from_recursion}
-use Rattle.std.proofs.lemmas.Grind.{flat_map-append}
-use Rattle.std.proofs.lemmas.List.FromFn.{length-enumerate_from}
-use Rattle.std.proofs.lemmas.Option.{slice_get-map, slice_get_within, get_or_from_slice_get}
-use Rattle.ir_tokens.specs.Tokens.{Placed}
+use Rattle.ir_text.proofs.Common.{◌≡◌, inl, inr, ℕ, suc, zero, ◌+◌, ◌<◌, true, List, [], ◌∷◌, ◌++◌, length, map, take, Option, Some, codes, refl, sym, ap, subst, ◌∙◌, arith, slice_get, IsSome, enumerate_from, AllZip, length-map, take_more, All-from_recursion, flat_map-append, length-enumerate_from, slice_get-map, slice_get_within, get_or_from_slice_get, Placed, Inst, IsBlock, block_names, block_place, identifiers_of, RawFunction, RawParameter, RawBlock, RawInst, RawIdentifier, Each, SpellsBlock, SpellsLabelledBlock, SpellsBlocks, SpellsFunction, ParameterMeans, BlockIsOf, written_in, written_names, get_cases, mapped, some_same, block_text, function_text, Identifies, BlockTypesFit, WritesFunction}
+use Rattle.std.specs.List.{flat_map}
+use Rattle.std.proofs.lemmas.List.{length-append}
 use Rattle.ir_core.specs.declared.function.Function.{Function}
 use Rattle.ir_core.specs.declared.function.Block.{Block as CoreBlock}
-use Rattle.ir_core.specs.declared.instruction.Inst.{Inst}
-use Rattle.ir_core.specs.Blocks.{IsBlock}
-use Rattle.ir_core.specs.Names.{block_names, block_place}
-use Rattle.ir_resolve.specs.Identifiers.{identifiers_of}
-use Rattle.ir_tokens.specs.declared.raw.RawFunction.{RawFunction}
-use Rattle.ir_tokens.specs.declared.raw.RawParameter.{RawParameter}
-use Rattle.ir_tokens.specs.declared.raw.RawBlock.{RawBlock}
-use Rattle.ir_tokens.specs.declared.raw.RawInst.{RawInst}
-use Rattle.ir_tokens.specs.declared.raw.RawIdentifier.{RawIdentifier}
-use Rattle.ir_instructions.specs.Parts.{Each}
-use Rattle.ir_parse.specs.Grammar.{SpellsBlock, SpellsLabelledBlock, SpellsBlocks, SpellsFunction}
-use Rattle.ir_resolve.specs.Means.{ParameterMeans, BlockIsOf}
-use Rattle.ir_resolve.specs.Written.{written_in, written_names}
-use Rattle.ir_resolve.proofs.Standing.{get_cases, mapped, some_same}
-use Rattle.ir_text.specs.PrintedText.{block_text, function_text}
-use Rattle.ir_text.specs.CanonicalModule.{Identifies, BlockTypesFit, WritesFunction}
 use Rattle.ir_text.proofs.Prints.{Fresh, Body, Prints, Reads, prints_map, prints_next, prints_lines}
 use Rattle.ir_text.proofs.Tokens.{body_ends, ends_line, feed}
 use Rattle.ir_text.proofs.Calling.{IsPrintable}

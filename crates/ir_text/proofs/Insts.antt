@@ -1,47 +1,12 @@
 -- Instructions: their printed text is read as the instruction.
-use Rattle.std.proofs.Common.{◌≡◌, ℕ, suc, ◌<◌, Bool, true, false, cond, ◌&&◌, List, [], ◌∷◌, ◌++◌, Some, codes, length, refl, sym, ap, subst, ◌∙◌, append_assoc, arith}
-use Rattle.std.specs.Prelude.{slice_get, option_map, filter}
-use Rattle.std.specs.List.{flat_map, join_by, AllZip}
-use Rattle.std.proofs.lemmas.Option.{slice_get-map}
-use Rattle.scan.specs.Bytes.{begins_name, begins_word, is_letter, is_name_byte}
-use Rattle.scan.specs.IrTokens.{is_word}
-use Rattle.ops.specs.declared.opcode.Opcode.{Opcode}
-use Rattle.ops.specs.declared.opcode.Opcode.TheVariants.{Add, Sub, Mul, UDiv, SDiv, URem, SRem, Shl, LShr, AShr, And, Or, Xor, UMin, UMax, SMin, SMax}
-use Rattle.ops.specs.declared.opcode.Flags.{Flags}
-use Rattle.ops.specs.declared.comparison.Pred.{Pred}
-use Rattle.ops.specs.declared.comparison.Pred.TheVariants.{Eq, Ne, Ugt, Uge, Ult, Ule, Sgt, Sge, Slt, Sle}
-use Rattle.ops.specs.declared.conversion.Cast.{Cast}
-use Rattle.ops.specs.declared.conversion.Cast.TheVariants.{Trunc, ZExt, SExt}
-use Rattle.ops.specs.declared.keywords.flag.Flag.{Flag}
-use Rattle.ops.specs.declared.keywords.flag.Flag.TheVariants.{Nuw, Nsw, Exact, NNeg, Disjoint, SameSign}
-use Rattle.ops.specs.Intrinsics.{is_intrinsic}
-use Rattle.ops.specs.Flags.{AreWithin, no_flags, flags_of, flags_of_cast, flags_of_icmp, icmp_flags}
-use Rattle.ops.specs.FlagKeywords.{flag_keyword, every_flag, has_flag}
-use Rattle.ops.proofs.FlagKeywordLemmas.{flags_in_order, icmp_flags-fit}
-use Rattle.ops.specs.Keywords.{opcode_keyword, cast_keyword, predicate_keyword}
-use Rattle.ir_tokens.specs.Tokens.{Word}
+use Rattle.ir_text.proofs.Common.{◌≡◌, ℕ, suc, ◌<◌, Bool, true, false, cond, ◌&&◌, List, [], ◌∷◌, ◌++◌, Some, codes, length, refl, sym, ap, subst, ◌∙◌, append_assoc, arith, slice_get, option_map, filter, join_by, AllZip, slice_get-map, begins_name, begins_word, is_letter, is_name_byte, is_word, Opcode, Add, Sub, Mul, UDiv, SDiv, URem, SRem, Shl, LShr, AShr, And, Or, Xor, UMin, UMax, SMin, SMax, Flags, Pred, Eq, Ne, Ugt, Uge, Ult, Ule, Sgt, Sge, Slt, Sle, Cast, Trunc, ZExt, SExt, Flag, Nuw, Nsw, Exact, NNeg, Disjoint, SameSign, is_intrinsic, AreWithin, no_flags, flags_of, flags_of_cast, flags_of_icmp, icmp_flags, flag_keyword, every_flag, has_flag, flags_in_order, icmp_flags-fit, opcode_keyword, cast_keyword, predicate_keyword, Word, Inst, Op, Operand, IsBlock, OperandHasWidth, IsTyped, place_of, Read, read, reads_of, end_of, RawInst, RawIncoming, SpellsType, SpellsOperand, SpellsFlags, SpellsIncoming, SpellsOp, SpellsInst, Part, Is, ◌⨾◌, Each, Comma, Separated, IncomingMeans, InstMeans, Value, IsWidth, ReadHasForms, register_text, operand_text, typed_text, flag_text, flags_text, incoming_text, callee_text, binary_text, op_text, inst_text, Identifies, TypesFit}
+use Rattle.std.specs.List.{flat_map}
 use Rattle.ir_core.specs.declared.function.Function.{Function}
 use Rattle.ir_core.specs.declared.function.Block.{Block as CoreBlock}
-use Rattle.ir_core.specs.declared.instruction.Inst.{Inst}
-use Rattle.ir_core.specs.declared.instruction.Op.{Op}
 use Rattle.ir_core.specs.declared.instruction.Op.TheVariants as core
-use Rattle.ir_core.specs.declared.operand.Operand.{Operand}
 use Rattle.ir_core.specs.declared.operand.Register.TheVariants as registers
-use Rattle.ir_core.specs.Blocks.{IsBlock}
-use Rattle.ir_core.specs.Checks.{OperandHasWidth, IsTyped}
-use Rattle.ir_core.specs.Names.{place_of}
-use Rattle.ir_core.specs.Reads.{Read, read, reads_of, end_of}
-use Rattle.ir_tokens.specs.declared.raw.RawInst.{RawInst}
 use Rattle.ir_tokens.specs.declared.raw.RawOp.TheVariants as ops
-use Rattle.ir_tokens.specs.declared.raw.RawIncoming.{RawIncoming}
-use Rattle.ir_instructions.specs.Grammar.{SpellsType, SpellsOperand, SpellsFlags, SpellsIncoming, SpellsOp, SpellsInst}
-use Rattle.ir_instructions.specs.Parts.{Part, Is, ◌⨾◌, Each, Comma, Separated}
-use Rattle.ir_resolve.specs.Means.{IncomingMeans, InstMeans}
-use Rattle.ir_resolve.specs.Written.{Value}
-use Rattle.ir_text.specs.Forms.{IsWidth, ReadHasForms}
 use Rattle.ir_text.proofs.Placing.{space_stops, comma_stops}
-use Rattle.ir_text.specs.PrintedText.{register_text, operand_text, typed_text, flag_text, flags_text, incoming_text, callee_text, binary_text, op_text, inst_text}
-use Rattle.ir_text.specs.CanonicalModule.{Identifies, TypesFit}
 use Rattle.ir_text.proofs.Prints.{Body, Prints, Reads, prints_as, prints_map, prints_nothing, prints_then, prints_next, prints_lines, behind_space, Opens, opens_with, opens_none, opens_each}
 use Rattle.ir_text.proofs.Tokens.{in_body, word_in_body, equals_in_body, open_in_body, close_in_body, blank, indent, spaced, mark_spaced, line_ends, mark_line_ends, comma_space}
 use Rattle.ir_text.proofs.Calls.{MeansOp, call_of_two, call_of_one}

@@ -1,29 +1,12 @@
 -- Items, parameters and headers of functions: their printed text is read as what they are.
-use Rattle.std.proofs.Common.{◌≡◌, ℕ, suc, true, false, List, [], ◌∷◌, ◌++◌, Some, codes, refl, subst}
-use Rattle.std.specs.Prelude.{slice_get}
-use Rattle.std.specs.List.{flat_map, enumerate_from, join_by, All, AllZip, AllByRecursion}
-use Rattle.std.proofs.lemmas.List.Elements.{recursion_from_All}
-use Rattle.ir_tokens.specs.Tokens.{Placed, Word, Mark}
+use Rattle.ir_text.proofs.Common.{◌≡◌, ℕ, suc, true, false, List, [], ◌∷◌, ◌++◌, Some, codes, refl, subst, slice_get, enumerate_from, join_by, All, AllZip, AllByRecursion, recursion_from_All, Placed, Word, Mark, Parameter, place_of, RawIdentifier, RawParameter, SpellsType, Part, Is, ◌⨾◌, Each, Comma, SpellsParameter, SpellsParameterList, SpellsName, SpellsItem, of_word, of_word_and_group, of_number, of_group, of_quoted, of_key_and_value, ParameterMeans, Value, IsName, IsItem, ParameterHasForms, name_text, function_name_text, item_text, parameter_text, header_text, Identifies}
+use Rattle.std.specs.List.{flat_map}
 use Rattle.ir_core.specs.declared.function.Function.{Function}
-use Rattle.ir_core.specs.declared.function.Parameter.{Parameter}
 use Rattle.ir_core.specs.declared.operand.Register.TheVariants as registers
-use Rattle.ir_core.specs.Names.{place_of}
-use Rattle.ir_tokens.specs.declared.raw.RawIdentifier.{RawIdentifier}
-use Rattle.ir_tokens.specs.declared.raw.RawParameter.{RawParameter}
-use Rattle.ir_instructions.specs.Grammar.{SpellsType}
-use Rattle.ir_instructions.specs.Parts.{Part, Is, ◌⨾◌, Each, Comma}
 use Rattle.ir_instructions.specs.Punctuation as marks
-use Rattle.ir_parse.specs.Grammar.{SpellsParameter, SpellsParameterList, SpellsName}
-use Rattle.ir_instructions.specs.ItemGrammar.{SpellsItem, of_word, of_word_and_group, of_number, of_group, of_quoted, of_key_and_value}
-use Rattle.ir_resolve.specs.Means.{ParameterMeans}
-use Rattle.ir_resolve.specs.Written.{Value}
-use Rattle.ir_text.specs.Forms.{IsName, IsItem, ParameterHasForms}
-use Rattle.ir_text.specs.NameText.{name_text}
 use Rattle.ir_text.proofs.Forms.{HasItsForm, forms_of}
 use Rattle.ir_text.proofs.NameForms.{name_text_form, name_text_calls}
 use Rattle.ir_text.proofs.Placing.{space_stops, comma_stops, equals_stops, open_paren_stops, close_paren_stops}
-use Rattle.ir_text.specs.PrintedText.{function_name_text, item_text, parameter_text, header_text}
-use Rattle.ir_text.specs.CanonicalModule.{Identifies}
 use Rattle.ir_text.proofs.Prints.{Fresh, Header, Called, Body, Prints, Reads, prints_as, prints_map, prints_nothing, prints_then, prints_next, prints_each, behind_space, Opens, opens_with, opens_each}
 use Rattle.ir_text.proofs.Tokens.{in_header, word_in_header, number_in_header, group_in_header, quoted_in_header, word_and_group, function_in_header, bracket_behind_name, comma_in_header, close_in_header, equals_in_header, body_begins, define_begins, blank, spaced, mark_spaced, mark_line_ends}
 use Rattle.ir_text.proofs.Calling.{IsPrintable, bytes_of_name, is_called, parameter_named}

@@ -1,31 +1,10 @@
 -- A text that is exactly one kept line is a kept line also within another text.
-use Rattle.std.proofs.Common.{◌≡◌, ℕ, ◌+◌, ◌-◌, ◌<◌, ◌≤◌, Bool, true, false, cond, not, eqb, ◌&&◌, ◌||◌, List, [], ◌∷◌, ◌++◌, None, length, take, drop, take_while, refl, sym, ap, subst, ◌∙◌, ◌⊎◌, ⊎_elim, append_assoc, length-append, length-take, length-take-le, length-drop, take-append-drop, drop-drop, eqb-true, arith}
-use Rattle.std.specs.List.{prefix_len}
-use Rattle.std.proofs.lemmas.Bool.{false≢true}
-use Rattle.std.proofs.lemmas.List.{drop-append-le, take-append-le, take_all}
-use Rattle.std.proofs.lemmas.List.Sums.{take_while-cons}
-use Rattle.scan.specs.declared.ir.token.TokenKind.{TokenKind}
+use Rattle.ir_text.proofs.Common.{◌≡◌, ℕ, ◌+◌, ◌-◌, ◌<◌, ◌≤◌, Bool, true, false, cond, not, eqb, ◌&&◌, ◌||◌, List, [], ◌∷◌, ◌++◌, None, length, take, drop, take_while, refl, sym, ap, subst, ◌∙◌, ◌⊎◌, ⊎_elim, append_assoc, length-take, length-take-le, length-drop, take-append-drop, drop-drop, eqb-true, arith, prefix_len, false≢true, drop-append-le, take-append-le, take_all, take_while-cons, TokenKind, Span, begins_name, begins_with, begins_word, is_letter, is_name_byte, IsGap, Begins, BeginsNoToken, HoldsZero, IsLongestToken, IsNextToken, is_metadata, is_word, IsKeptLine, rest_to_feed, between, feeds, blanks_behind, is_among, and_both, and_left, or_true, which, among_begins, seen, run_within, Section, AtEntry, InHeader, InBody, AreTokens, HasExtent, IsTokenAt, TokensFrom, bad_byte, itself, kept_group, kept_line, last, token, unclosed, begins_kept, extent_of, kept_words, End, Kept, Placed, Token, token_of, goes_on, is_at_line_end, takes_line}
+use Rattle.std.proofs.Common.{length-append}
 use Rattle.scan.specs.declared.ir.token.TokenKind.TheVariants as kinds
 use Rattle.scan.specs.declared.ir.token.Token.{Token as Scanned}
-use Rattle.scan.specs.declared.span.Span.{Span}
-use Rattle.scan.specs.Bytes.{begins_name, begins_with, begins_word, is_letter, is_name_byte}
-use Rattle.scan.specs.Gaps.{IsGap}
-use Rattle.scan.specs.IrTokens.{Begins, BeginsNoToken, HoldsZero, IsLongestToken, IsNextToken, is_metadata, is_word}
-use Rattle.scan.specs.Kept.{IsKeptLine, rest_to_feed}
-use Rattle.scan.specs.Lines.{between, feeds}
-use Rattle.scan.specs.Names.{blanks_behind}
-use Rattle.scan.specs.RuleTokens.{is_among}
-use Rattle.scan.proofs.Fronts.{and_both, and_left, or_true, which}
-use Rattle.scan.proofs.LawLemmas.{among_begins}
-use Rattle.scan.proofs.ModulePlaces.{seen}
-use Rattle.scan.proofs.PlaceLemmas.{begins_some as has_byte, run_within}
-use Rattle.ir_tokens.specs.declared.place.Section.{Section}
-use Rattle.ir_tokens.specs.declared.place.Section.TheVariants.{AtEntry, InHeader, InBody}
+use Rattle.scan.proofs.PlaceLemmas.{begins_some as has_byte}
 use Rattle.ir_tokens.specs.declared.place.Extent.TheVariants as extents
-use Rattle.ir_tokens.specs.Order.{AreTokens, HasExtent, IsTokenAt, TokensFrom, bad_byte, itself, kept_group, kept_line, last, token, unclosed}
-use Rattle.ir_tokens.specs.Places.{begins_kept, extent_of, kept_words}
-use Rattle.ir_tokens.specs.Tokens.{End, Kept, Placed, Token, token_of}
-use Rattle.ir_text.specs.Lexemes.{goes_on, is_at_line_end, takes_line}
 use Rattle.ir_text.proofs.Ending.{longest_within}
 use Rattle.ir_text.proofs.Shapes.{feed_goes_not_on}
 use Rattle.ir_text.proofs.Standing.{ahead_is, between_is, scanned_at, token_is_next}

@@ -1,22 +1,9 @@
 -- The text of lexemes is lexed as their tokens.
-use Rattle.std.proofs.Common.{◌≡◌, ℕ, ◌+◌, ◌-◌, Bool, true, false, not, List, [], ◌∷◌, ◌++◌, length, take, refl, sym, ap, subst, ◌∙◌, append_assoc, length-append, arith}
-use Rattle.std.specs.List.{list_all}
-use Rattle.std.proofs.Math.Seq.{drop-length}
-use Rattle.std.proofs.lemmas.Bool.{false≢true}
-use Rattle.std.proofs.lemmas.List.{take_all}
+use Rattle.ir_text.proofs.Common.{◌≡◌, ℕ, ◌+◌, ◌-◌, Bool, true, false, not, List, [], ◌∷◌, ◌++◌, length, take, refl, sym, ap, subst, ◌∙◌, append_assoc, arith, list_all, drop-length, false≢true, take_all, is_space, IsLastGap, feeds, last_line, feeds_append, Section, AtEntry, InHeader, InBody, IsTokenAt, TokensFrom, itself, last, token, begins_kept, extent_of, place_behind, Token, End, Other, Bad, Kept, KeptGroup, Label, Word, Group, Metadata, Quoted, Mark, is_last, AreLexemes, HasForm, Lexeme, MayStand, bytes_of, line_behind, placed_from, spelled, LexemesAreTokens}
+use Rattle.std.proofs.Common.{length-append}
 use Rattle.scan.specs.declared.ir.token.TokenKind.TheVariants as kinds
-use Rattle.scan.specs.Bytes.{is_space}
-use Rattle.scan.specs.Gaps.{IsLastGap}
-use Rattle.scan.specs.Lines.{feeds, last_line}
-use Rattle.scan.proofs.PlaceLemmas.{feeds_append}
-use Rattle.ir_tokens.specs.declared.place.Section.{Section}
-use Rattle.ir_tokens.specs.declared.place.Section.TheVariants.{AtEntry, InHeader, InBody}
 use Rattle.ir_tokens.specs.declared.place.Extent.TheVariants as extents
-use Rattle.ir_tokens.specs.Order.{IsTokenAt, TokensFrom, itself, last, token}
-use Rattle.ir_tokens.specs.Places.{begins_kept, extent_of, place_behind}
-use Rattle.ir_tokens.specs.Tokens.{Token, End, Other, Bad, Kept, KeptGroup, Label, Word, Number, Register, Function, Group, Metadata, Quoted, Mark, is_last}
-use Rattle.ir_text.specs.Lexemes.{AreLexemes, HasForm, Lexeme, MayStand, bytes_of, line_behind, placed_from, spelled}
-use Rattle.ir_text.specs.Laws.{LexemesAreTokens}
+use Rattle.ir_tokens.specs.Tokens.{Number, Register, Function}
 use Rattle.ir_text.proofs.Feeds.{no_feed}
 use Rattle.ir_text.proofs.KeptLines.{alone, line_stands}
 use Rattle.ir_text.proofs.Spelled.{function_spelled, group_spelled, label_spelled, metadata_spelled, number_spelled, quoted_spelled, register_spelled, word_spelled}

@@ -1,28 +1,11 @@
 -- Modules: their printed text is read as the module.
-use Rattle.std.proofs.Common.{◌≡◌, ℕ, suc, ◌+◌, true, List, [], ◌∷◌, ◌++◌, None, Some, refl, sym, subst, inl}
-use Rattle.std.specs.Prelude.{slice_get}
-use Rattle.std.specs.List.{list_all, AllZip}
+use Rattle.ir_text.proofs.Common.{◌≡◌, ℕ, suc, ◌+◌, true, List, [], ◌∷◌, ◌++◌, None, Some, refl, sym, subst, inl, slice_get, list_all, AllZip, is_blank, is_space, last_line, AtEntry, TokensFrom, AreTokens, Placed, End, Module, Entry, ModuleMeetsChecks, Each, SpellsEntry, IsKeptText, EntryHasForms, ModuleHasForms, placed_from, HasFewThings, PrintedTextsSpell, entry_text, between_text, entries_text, text_of, WritesEntry}
 use Rattle.std.proofs.lemmas.List.{append-nil}
-use Rattle.scan.specs.Bytes.{is_blank, is_space}
-use Rattle.scan.specs.Lines.{last_line}
-use Rattle.ir_tokens.specs.declared.place.Section.TheVariants.{AtEntry}
-use Rattle.ir_tokens.specs.Order.{TokensFrom, AreTokens}
-use Rattle.ir_tokens.specs.Tokens.{Placed, End}
-use Rattle.ir_core.specs.declared.module.Module.{Module}
-use Rattle.ir_core.specs.declared.module.Entry.{Entry}
 use Rattle.ir_core.specs.declared.module.Entry.TheVariants as entries
-use Rattle.ir_core.specs.Checks.{ModuleMeetsChecks}
 use Rattle.ir_tokens.specs.declared.raw.RawEntry.TheVariants as raw_entries
-use Rattle.ir_instructions.specs.Parts.{Each}
-use Rattle.ir_parse.specs.Grammar.{SpellsEntry}
-use Rattle.ir_text.specs.Forms.{IsKeptText, EntryHasForms, ModuleHasForms}
-use Rattle.ir_text.specs.Lexemes.{placed_from}
 use Rattle.ir_text.proofs.Lexing.{lexemes_are_tokens}
 use Rattle.ir_text.proofs.Placing.{first_line}
 use Rattle.ir_text.proofs.Standing.{gap_is}
-use Rattle.ir_text.specs.Laws.{HasFewThings, PrintedTextsSpell}
-use Rattle.ir_text.specs.PrintedText.{entry_text, between_text, entries_text, text_of}
-use Rattle.ir_text.specs.CanonicalModule.{WritesEntry}
 use Rattle.ir_text.proofs.Streams.{Streams, streams_as, streams_end}
 use Rattle.ir_text.proofs.Prints.{Fresh, Prints, Reads, prints_map, prints_nothing, prints_next, before_space}
 use Rattle.ir_text.proofs.Tokens.{kept_prints}

@@ -1,19 +1,6 @@
 -- Names: their printed text is read as the name.
-use Rattle.std.proofs.Common.{◌≡◌, ◌≢◌, ℕ, ◌+◌, ◌/◌, ◌%◌, ◌^◌, ◌<◌, ◌≤◌, ltb, leb, Bool, true, false, not, eqb, ◌&&◌, ◌||◌, decimal, List, [], ◌∷◌, ◌++◌, flat_map, refl, sym, ap, subst, ◌∙◌, ⊎_elim, eq-eqb, eqb-true, le-leb, leb-true, ltb-false, ltb-true, mod-lt, ne_eqb, arith}
-use Rattle.std.specs.List.{AllByRecursion, Contains, list_all, list_any}
-use Rattle.std.proofs.lemmas.Bool.{false≢true}
-use Rattle.std.proofs.lemmas.List.Folds.{list_all-append}
-use Rattle.scan.specs.Bytes.{are_digits, begins_with, begins_name, is_digit, is_letter, is_name_byte, is_printable}
-use Rattle.scan.specs.IrTokens.{is_name, is_plain_name}
-use Rattle.scan.specs.Quoted.{hex_value, in_quotes, is_hex, is_quotable, is_quoted, unquoted}
-use Rattle.scan.proofs.Fronts.{and_both, and_left, and_right, which}
-use Rattle.scan.proofs.NameLemmas.{in_quotes-quoted, quoted_from}
-use Rattle.scan.proofs.QuotedLemmas.{reads_hex, reads_plain, zero_found}
-use Rattle.ir_tokens.specs.declared.called.Identifier.TheVariants.{Named, Numbered}
-use Rattle.ir_tokens.specs.Identifiers.{identifier_of, name_of}
-use Rattle.ir_tokens.specs.Numbers.{decimal_value}
-use Rattle.ir_text.specs.Lexemes.{IsNameText}
-use Rattle.ir_text.specs.NameText.{escaped, hex_digit, name_text, quoted_text}
+use Rattle.ir_text.proofs.Common.{◌≡◌, ◌≢◌, ℕ, ◌+◌, ◌/◌, ◌%◌, ◌^◌, ◌<◌, ◌≤◌, ltb, leb, Bool, true, false, not, eqb, ◌&&◌, ◌||◌, decimal, List, [], ◌∷◌, ◌++◌, refl, sym, ap, subst, ◌∙◌, ⊎_elim, eq-eqb, eqb-true, le-leb, leb-true, ltb-false, ltb-true, mod-lt, ne_eqb, arith, AllByRecursion, Contains, list_all, list_any, false≢true, list_all-append, are_digits, begins_with, begins_name, is_digit, is_letter, is_name_byte, is_printable, is_name, is_plain_name, hex_value, in_quotes, is_hex, is_quotable, is_quoted, unquoted, and_both, and_left, and_right, which, in_quotes-quoted, quoted_from, reads_hex, reads_plain, zero_found, Named, Numbered, identifier_of, name_of, decimal_value, IsNameText, escaped, hex_digit, name_text, quoted_text}
+use Rattle.std.proofs.Common.{flat_map}
 use Rattle.ir_text.proofs.NumberForms.{decimal_digits, decimal_value-decimal, digits_names}
 use Rattle.ir_text.proofs.Spelled.{before_last}
 use Rattle.ir_text.proofs.Zeros.{names_no_quote, plain_no_zero}

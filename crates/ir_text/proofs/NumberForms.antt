@@ -1,21 +1,7 @@
 -- Numbers: their printed text is read as the number.
-use Rattle.std.proofs.Common.{◌≡◌, ◌≢◌, ℕ, zero, suc, ◌+◌, ◌-◌, ◌*◌, ◌/◌, ◌%◌, ◌^◌, ◌<◌, ◌≤◌, ltb, leb, Bool, true, false, eqb, ◌&&◌, ℤ, pos, negsuc, neg_ℤ, decimal, List, [], ◌∷◌, ◌++◌, Some, refl, sym, ap, subst, ◌∙◌, ⊎_elim, eqb-true, le-leb, ltb-false, mod-lt, mod-eq_of_lt, ne_eqb, pow_mono, take, codes, arith}
-use Rattle.std.specs.List.{list_all}
-use Rattle.std.specs.Str.{bytes_eq}
-use Rattle.std.proofs.lemmas.Bool.{false≢true}
-use Rattle.std.proofs.lemmas.Fmt.{decimal_by_steps}
-use Rattle.std.proofs.lemmas.Grind.{fold-append}
-use Rattle.std.proofs.lemmas.Int.{ints}
-use Rattle.std.proofs.lemmas.List.Folds.{list_all-append}
-use Rattle.ops.specs.Integer.{residue}
+use Rattle.ir_text.proofs.Common.{◌≡◌, ◌≢◌, ℕ, zero, suc, ◌+◌, ◌-◌, ◌*◌, ◌/◌, ◌%◌, ◌^◌, ◌<◌, ◌≤◌, ltb, leb, Bool, true, false, eqb, ◌&&◌, ℤ, pos, negsuc, neg_ℤ, decimal, List, [], ◌∷◌, ◌++◌, Some, refl, sym, ap, subst, ◌∙◌, ⊎_elim, eqb-true, le-leb, ltb-false, mod-lt, mod-eq_of_lt, ne_eqb, pow_mono, take, codes, arith, list_all, bytes_eq, false≢true, decimal_by_steps, fold-append, ints, list_all-append, residue, pow_doubled, are_digits, begins_with, begins_word, begins_name, is_digit, is_letter, is_name_byte, is_word, and_both, and_left, and_right, which, digit_name, list_all-along, constant_of, decimal_value, is_in_range, number_of, number_text}
 use Rattle.ops.specs.Number.{Number}
-use Rattle.ops.proofs.Signed.{pow_doubled}
-use Rattle.scan.specs.Bytes.{are_digits, begins_with, begins_word, begins_name, is_digit, is_letter, is_name_byte}
-use Rattle.scan.specs.IrTokens.{is_word}
-use Rattle.scan.proofs.Fronts.{and_both, and_left, and_right, which}
-use Rattle.scan.proofs.ModuleFronts.{digit_name, list_all-along}
-use Rattle.ir_tokens.specs.Numbers.{constant_of, decimal_value, is_in_range, is_number, number_of}
-use Rattle.ir_text.specs.NumberText.{number_text}
+use Rattle.ir_tokens.specs.Numbers.{is_number}
 
 -- ---- digits
 

@@ -1,9 +1,5 @@
 -- Lists with indices, and lists whose items are related one by one.
-use Rattle.std.proofs.Common.{◌≡◌, ℕ, suc, zero, ◌+◌, ◌<◌, List, [], ◌∷◌, length, None, Some, refl, sym, ap, subst, ◌∙◌, arith}
-use Rattle.std.specs.Prelude.{slice_get}
-use Rattle.std.specs.List.{enumerate_from, All, AllZip, AllByRecursion}
-use Rattle.std.proofs.lemmas.Option.{get_or_from_slice_get, slice_get_within}
-use Rattle.ir_resolve.proofs.Standing.{get_numbered, mapped, some_same}
+use Rattle.ir_text.proofs.Common.{◌≡◌, ℕ, suc, zero, ◌+◌, ◌<◌, List, [], ◌∷◌, length, None, Some, refl, sym, ap, subst, ◌∙◌, arith, slice_get, enumerate_from, All, AllZip, AllByRecursion, get_or_from_slice_get, slice_get_within, get_numbered, mapped, some_same}
 
 -- ---- the item at an index
 

@@ -1,33 +1,15 @@
 -- Types, registers, blocks and operands: their printed text is read as what they are.
-use Rattle.std.proofs.Common.{◌≡◌, inl, inr, ℕ, ◌<◌, ◌≤◌, ◌^◌, false, ◌∷◌, Some, codes, refl, sym, ap, subst, ◌∙◌, arith, decimal}
-use Rattle.std.proofs.lemmas.Bool.{cases_eq}
-use Rattle.scan.specs.Bytes.{begins_name, begins_word, is_letter, is_name_byte}
-use Rattle.scan.specs.IrTokens.{is_word}
+use Rattle.ir_text.proofs.Common.{◌≡◌, inl, inr, ℕ, ◌<◌, ◌≤◌, ◌^◌, false, ◌∷◌, Some, codes, refl, sym, ap, subst, ◌∙◌, arith, decimal, cases_eq, begins_name, begins_word, is_letter, is_name_byte, is_word, Word, Operand, IsBlock, OperandHasWidth, Name, place_of, block_place, RawIdentifier, RawOperand, RawValue, SpellsRegister, SpellsTarget, SpellsType, SpellsOperand, IsCaseValue, ◌⨾◌, literal_of, ValueMeans, Thing, Value, name_in, IsWidth, NumberFits, OperandFits, number_text, block_identifier, identifier_text, register_text, block_name_text, target_text, type_text, operand_text, typed_text, Identifies}
 use Rattle.ops.specs.Number.{Number}
-use Rattle.ir_tokens.specs.Tokens.{Word, Number as NumberToken, Register as RegisterToken}
+use Rattle.ir_tokens.specs.Tokens.{Number as NumberToken, Register as RegisterToken}
 use Rattle.ir_core.specs.declared.function.Function.{Function}
 use Rattle.ir_core.specs.declared.function.Block.{Block as CoreBlock}
-use Rattle.ir_core.specs.declared.operand.Operand.{Operand}
 use Rattle.ir_core.specs.declared.operand.Operand.TheVariants as operands
 use Rattle.ir_core.specs.declared.operand.Register.{Register}
-use Rattle.ir_core.specs.Blocks.{IsBlock}
-use Rattle.ir_core.specs.Checks.{OperandHasWidth}
-use Rattle.ir_core.specs.Names.{Name, place_of, block_place}
 use Rattle.ir_resolve.specs.Identifiers.{identifier_of as core_identifier_of}
-use Rattle.ir_tokens.specs.declared.raw.RawIdentifier.{RawIdentifier}
-use Rattle.ir_tokens.specs.declared.raw.RawOperand.{RawOperand}
-use Rattle.ir_tokens.specs.declared.raw.RawValue.{RawValue}
 use Rattle.ir_tokens.specs.declared.raw.RawValue.TheVariants as values
-use Rattle.ir_instructions.specs.Grammar.{SpellsRegister, SpellsTarget, SpellsType, SpellsOperand, IsCaseValue}
-use Rattle.ir_instructions.specs.Parts.{◌⨾◌}
-use Rattle.ir_resolve.specs.FaultKinds.{literal_of}
-use Rattle.ir_resolve.specs.Means.{ValueMeans}
-use Rattle.ir_resolve.specs.Written.{Thing, Value, Block, name_in}
-use Rattle.ir_text.specs.Forms.{IsWidth, NumberFits, OperandFits}
-use Rattle.ir_text.specs.NumberText.{number_text}
+use Rattle.ir_resolve.specs.Written.{Block}
 use Rattle.ir_text.proofs.NumberForms.{decimal_digits, decimal_value-decimal, type_form, number_form, number_reads}
-use Rattle.ir_text.specs.PrintedText.{block_identifier, identifier_text, register_text, block_name_text, target_text, type_text, operand_text, typed_text}
-use Rattle.ir_text.specs.CanonicalModule.{Identifies}
 use Rattle.ir_text.proofs.Prints.{Mode, Body, Prints, Reads, prints_as, prints_map, prints_next}
 use Rattle.ir_text.proofs.Tokens.{Inside, in_body, word_inside, word_in_body, number_in_body, register_inside, spaced}
 use Rattle.ir_text.proofs.Calling.{IsPrintable, IsCalled, is_called, block_named, register_named}

@@ -1,13 +1,6 @@
 -- Where tokens may be written, by context and by the bytes behind them.
-use Rattle.std.proofs.Common.{◌≡◌, ◌≢◌, ℕ, ◌<◌, true, false, eqb, List, Option, Some, None, codes, refl, ⊎_elim, eq-eqb, eqb-true, arith}
-use Rattle.std.specs.Str.{bytes_eq}
-use Rattle.std.proofs.lemmas.Slice.Eq.{bytes_eq-Decides}
-use Rattle.scan.specs.Bytes.{begins_name, is_digit, is_letter, is_name_byte}
-use Rattle.scan.proofs.Fronts.{which}
-use Rattle.ir_tokens.specs.declared.place.Section.TheVariants.{AtEntry, InHeader, InBody}
+use Rattle.ir_text.proofs.Common.{◌≡◌, ◌≢◌, ℕ, ◌<◌, true, false, eqb, List, Option, Some, None, codes, refl, ⊎_elim, eq-eqb, eqb-true, arith, bytes_eq, bytes_eq-Decides, begins_name, is_digit, is_letter, is_name_byte, which, AtEntry, InHeader, InBody, begins_kept, extent_of, goes_on, takes_group, takes_line}
 use Rattle.ir_tokens.specs.declared.place.Extent.TheVariants as extents
-use Rattle.ir_tokens.specs.Places.{begins_kept, extent_of}
-use Rattle.ir_text.specs.Lexemes.{goes_on, takes_group, takes_line}
 
 -- ---- what stands behind a token
 

@@ -1,16 +1,6 @@
 -- Texts that are read as parts of a module wherever they may be written, and how they are concatenated.
-use Rattle.std.proofs.Common.{◌≡◌, ℕ, suc, ◌+◌, Bool, true, false, List, [], ◌∷◌, ◌++◌, Option, Some, None, refl, sym, subst, append_assoc}
-use Rattle.std.specs.Prelude.{slice_get}
-use Rattle.std.specs.List.{list_all, flat_map, AllZip}
-use Rattle.std.proofs.Math.Nat.{add_assoc}
-use Rattle.scan.specs.Bytes.{begins_with, is_space}
-use Rattle.scan.specs.Lines.{feeds}
-use Rattle.ir_tokens.specs.declared.place.Section.{Section}
-use Rattle.ir_tokens.specs.declared.place.Section.TheVariants.{AtEntry, InHeader, InBody}
-use Rattle.ir_tokens.specs.Places.{place_behind}
-use Rattle.ir_tokens.specs.Tokens.{Placed, Token}
-use Rattle.ir_instructions.specs.Parts.{Part, Is, Nothing, ◌⨾◌, Each}
-use Rattle.ir_text.specs.Lexemes.{goes_on, bytes_of, takes_line, HasForm, MayStand}
+use Rattle.ir_text.proofs.Common.{◌≡◌, ℕ, suc, ◌+◌, Bool, true, false, List, [], ◌∷◌, ◌++◌, Option, Some, None, refl, sym, subst, append_assoc, slice_get, list_all, AllZip, add_assoc, begins_with, is_space, feeds, Section, AtEntry, InHeader, InBody, place_behind, Placed, Token, Part, Is, Nothing, ◌⨾◌, Each, goes_on, bytes_of, takes_line, HasForm, MayStand}
+use Rattle.std.specs.List.{flat_map}
 use Rattle.ir_text.proofs.Streams.{Streams, streams_as, behind_gap, with_token}
 
 -- ---- contexts

@@ -1,21 +1,7 @@
 -- The shapes of tokens; only bytes of names and `:` can continue a token.
-use Rattle.std.proofs.Common.{◌≡◌, ◌≢◌, ℕ, suc, ◌-◌, Bool, true, false, not, eqb, ◌&&◌, ◌||◌, List, [], ◌∷◌, ◌++◌, length, get_or, take, refl, sym, ap, subst, ◌∙◌, ◌⊎◌, ⊎_elim, append_assoc, eqb-true, arith}
-use Rattle.std.specs.List.{AllByRecursion, list_all, list_any}
-use Rattle.std.specs.Str.{bytes_eq}
-use Rattle.std.proofs.lemmas.Bool.{false≢true}
-use Rattle.std.proofs.lemmas.List.Folds.{list_all-append}
-use Rattle.std.proofs.lemmas.Slice.Eq.{bytes_eq-Decides}
-use Rattle.scan.specs.declared.ir.token.TokenKind.{TokenKind}
+use Rattle.ir_text.proofs.Common.{◌≡◌, ◌≢◌, ℕ, suc, ◌-◌, Bool, true, false, not, eqb, ◌&&◌, ◌||◌, List, [], ◌∷◌, ◌++◌, length, get_or, take, refl, sym, ap, subst, ◌∙◌, ◌⊎◌, ⊎_elim, append_assoc, eqb-true, arith, AllByRecursion, list_all, list_any, bytes_eq, false≢true, list_all-append, bytes_eq-Decides, TokenKind, begins_name, begins_with, begins_word, is_digit, is_letter, is_name_byte, is_run, is_behind, is_function, is_group, is_label, is_metadata, is_name, is_register, is_word, marks, spells, in_quotes, is_quotable, is_quoted, is_among, is_literal, and_both, and_left, and_right, or_true, which, digit_name, list_all-along, literal_names, spells-empty, name_cases, quoted_is, goes_on}
 use Rattle.scan.specs.declared.ir.token.TokenKind.TheVariants as kinds
-use Rattle.scan.specs.Bytes.{begins_name, begins_with, begins_word, is_digit, is_letter, is_name_byte, is_run}
-use Rattle.scan.specs.IrTokens.{is_behind, is_function, is_group, is_label, is_metadata, is_name, is_number, is_register, is_word, marks, spells}
-use Rattle.scan.specs.Quoted.{in_quotes, is_quotable, is_quoted}
-use Rattle.scan.specs.RuleTokens.{is_among, is_literal}
-use Rattle.scan.proofs.Fronts.{and_both, and_left, and_right, or_true, which}
-use Rattle.scan.proofs.ModuleFronts.{digit_name, list_all-along, literal_names}
-use Rattle.scan.proofs.ModuleTokens.{spells-empty}
-use Rattle.scan.proofs.NameLemmas.{name_cases, quoted_is}
-use Rattle.ir_text.specs.Lexemes.{goes_on}
+use Rattle.scan.specs.IrTokens.{is_number}
 
 -- ---- bytes
 

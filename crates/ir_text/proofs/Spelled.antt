@@ -1,20 +1,10 @@
 -- The bytes of a token that has a form are a token of its kind.
-use Rattle.std.proofs.Common.{◌≡◌, ℕ, ◌-◌, true, eqb, List, [], ◌∷◌, ◌++◌, length, get_or, take, refl, sym, ap, ◌∙◌, length-append, take_at, eqb-true, arith}
-use Rattle.std.specs.List.{list_all}
-use Rattle.std.proofs.Math.Seq.{get_or-append_seam}
-use Rattle.std.proofs.lemmas.Bool.{false≢true}
-use Rattle.scan.specs.declared.ir.token.TokenKind.{TokenKind}
+use Rattle.ir_text.proofs.Common.{◌≡◌, ℕ, ◌-◌, true, eqb, List, [], ◌∷◌, ◌++◌, length, get_or, take, refl, sym, ap, ◌∙◌, take_at, eqb-true, arith, list_all, get_or-append_seam, false≢true, TokenKind, begins_word, begins_with, is_digit, is_name_byte, is_run, HoldsZero, is_function, is_group, is_label, is_metadata, is_name, is_register, is_word, marks, spells, is_among, is_literal, is_negative, and_both, and_left, and_right, among_begins, digit_name, list_all-along, literal_names, Token, Label, Word, Group, Metadata, Quoted, Mark, token_of, HasForm, IsNameText, bytes_of}
+use Rattle.std.proofs.Common.{length-append}
 use Rattle.scan.specs.declared.ir.token.TokenKind.TheVariants as kinds
-use Rattle.scan.specs.Bytes.{begins_word, begins_with, is_digit, is_name_byte, is_run}
-use Rattle.scan.specs.IrTokens.{HoldsZero, is_function, is_group, is_label, is_metadata, is_name, is_register, is_word, marks, spells}
 use Rattle.scan.specs.IrTokens as scanned
-use Rattle.scan.specs.RuleTokens.{is_among, is_literal, is_negative}
-use Rattle.scan.proofs.Fronts.{and_both, and_left, and_right}
-use Rattle.scan.proofs.LawLemmas.{among_begins}
-use Rattle.scan.proofs.ModuleFronts.{digit_name, list_all-along, literal_names}
 use Rattle.ir_tokens.specs.Numbers.{is_number}
-use Rattle.ir_tokens.specs.Tokens.{Token, Label, Word, Number, Register, Function, Group, Metadata, Quoted, Mark, token_of}
-use Rattle.ir_text.specs.Lexemes.{HasForm, IsNameText, bytes_of}
+use Rattle.ir_tokens.specs.Tokens.{Number, Register, Function}
 use Rattle.ir_text.proofs.Zeros.{in_quotes-behind, in_quotes-label, is_no_quote, names_no_quote, plain_no_zero, same_zeros}
 
 -- the token extends no further than its bytes, which are a token of this kind

@@ -1,31 +1,9 @@
 -- Where the bytes of a token are written in a text, that token is lexed.
-use Rattle.std.proofs.Common.{◌≡◌, ◌≢◌, ℕ, ◌+◌, ◌-◌, ◌≤◌, true, false, not, eqb, ◌||◌, List, [], ◌∷◌, ◌++◌, length, take, drop, refl, sym, ap, subst, ◌∙◌, ◌⊎◌, inl, ⊎_elim, append_assoc, append-nil, length-append, length-take, take_at, drop_at, drop-drop, arith}
-use Rattle.std.specs.List.{list_all}
-use Rattle.std.proofs.Math.Seq.{drop-append_seam, drop-length}
-use Rattle.std.proofs.lemmas.Bool.{false≢true}
-use Rattle.scan.specs.declared.ir.token.TokenKind.{TokenKind}
+use Rattle.ir_text.proofs.Common.{◌≡◌, ◌≢◌, ℕ, ◌+◌, ◌-◌, ◌≤◌, true, false, not, eqb, ◌||◌, List, [], ◌∷◌, ◌++◌, length, take, drop, refl, sym, ap, subst, ◌∙◌, ◌⊎◌, inl, ⊎_elim, append_assoc, length-take, take_at, drop_at, drop-drop, arith, list_all, drop-append_seam, drop-length, false≢true, TokenKind, begins_with, is_space, IsGap, IsLastGap, nothing, space, HoldsZero, IsLongestToken, IsNextToken, line_at, between, feeds, last_line, line_of, marks, IsBalanced, IsGroup, is_among, and_left, and_right, or_true, which, group_at, among_begins, next_token, no_end, begins_token, short_holds_none, Behind, feeds_append, Section, AtEntry, InHeader, InBody, IsTokenAt, itself, kept_group, extent_of, Token, KeptGroup, Mark, token_of, bytes_of, goes_on, takes_group}
+use Rattle.std.proofs.Common.{append-nil, length-append}
 use Rattle.scan.specs.declared.ir.token.TokenKind.TheVariants as kinds
 use Rattle.scan.specs.declared.ir.token.Token.{Token as Scanned}
-use Rattle.scan.specs.Bytes.{begins_with, is_space}
-use Rattle.scan.specs.Gaps.{IsGap, IsLastGap, nothing, space}
-use Rattle.scan.specs.IrTokens.{HoldsZero, IsLongestToken, IsNextToken, line_at}
-use Rattle.scan.specs.Lines.{between, feeds, last_line, line_of}
-use Rattle.scan.specs.IrTokens.{marks}
-use Rattle.scan.specs.Kept.{IsBalanced, IsGroup}
-use Rattle.scan.specs.RuleTokens.{is_among}
-use Rattle.scan.proofs.Fronts.{and_left, and_right, or_true, which}
-use Rattle.scan.proofs.KeptLemmas.{group_at}
-use Rattle.scan.proofs.LawLemmas.{among_begins}
-use Rattle.scan.proofs.ModulePlaces.{next_token, no_end}
-use Rattle.scan.proofs.ModuleTokens.{begins_token, short_holds_none}
-use Rattle.scan.proofs.PlaceLemmas.{Behind, feeds_append}
-use Rattle.ir_tokens.specs.declared.place.Section.{Section}
-use Rattle.ir_tokens.specs.declared.place.Section.TheVariants.{AtEntry, InHeader, InBody}
 use Rattle.ir_tokens.specs.declared.place.Extent.TheVariants as extents
-use Rattle.ir_tokens.specs.Order.{IsTokenAt, itself, kept_group}
-use Rattle.ir_tokens.specs.Places.{extent_of}
-use Rattle.ir_tokens.specs.Tokens.{Token, KeptGroup, Mark, token_of}
-use Rattle.ir_text.specs.Lexemes.{bytes_of, goes_on, takes_group}
 use Rattle.ir_text.proofs.Ending.{longest_within, lone_token, whole_token}
 use Rattle.ir_text.proofs.Spelled.{IsSpelled, mark_spelled}
 use Rattle.ir_text.proofs.Shapes.{is_lone}

@@ -1,15 +1,5 @@
 -- Texts in a context with the tokens that they are lexed as, and how a gap or a token is put in front of one.
-use Rattle.std.proofs.Common.{◌≡◌, ℕ, ◌+◌, true, List, [], ◌∷◌, ◌++◌, refl, sym, ap, subst, ◌∙◌, append_assoc, add-zero}
-use Rattle.std.specs.List.{list_all}
-use Rattle.std.proofs.Math.Nat.{add_assoc}
-use Rattle.std.proofs.lemmas.List.Folds.{list_all-append}
-use Rattle.std.proofs.lemmas.List.Sums.{sum_by-append}
-use Rattle.scan.specs.Bytes.{is_space}
-use Rattle.scan.specs.Lines.{feeds}
-use Rattle.ir_tokens.specs.declared.place.Section.{Section}
-use Rattle.ir_tokens.specs.Places.{place_behind}
-use Rattle.ir_tokens.specs.Tokens.{Placed, Token, End}
-use Rattle.ir_text.specs.Lexemes.{Lexeme, bytes_of, spelled, placed_from, HasForm, MayStand, AreLexemes}
+use Rattle.ir_text.proofs.Common.{◌≡◌, ℕ, ◌+◌, true, List, [], ◌∷◌, ◌++◌, refl, sym, ap, subst, ◌∙◌, append_assoc, add-zero, list_all, add_assoc, list_all-append, sum_by-append, is_space, feeds, Section, place_behind, Placed, Token, End, Lexeme, bytes_of, spelled, placed_from, HasForm, MayStand, AreLexemes}
 
 -- In this context, where the text before it ends on this line, the text is lexed as these tokens. The last is the end,
 -- on the line `last`.

@@ -1,19 +1,8 @@
 -- Tokens of a printed module, by context.
-use Rattle.std.proofs.Common.{◌≡◌, ◌≢◌, ℕ, suc, ◌+◌, eqb, true, false, List, [], ◌∷◌, ◌++◌, Option, Some, None, codes, refl, sym, subst, append_assoc, add-zero, arith}
-use Rattle.std.specs.List.{list_all}
-use Rattle.scan.specs.Bytes.{begins_name, begins_word, is_blank, is_digit, is_letter, is_name_byte, is_space}
-use Rattle.scan.specs.IrTokens.{is_word, is_group}
-use Rattle.scan.specs.Quoted.{is_quoted}
-use Rattle.scan.specs.Lines.{feeds}
-use Rattle.ir_tokens.specs.declared.place.Section.{Section}
-use Rattle.ir_tokens.specs.declared.place.Section.TheVariants.{AtEntry, InHeader, InBody}
+use Rattle.ir_text.proofs.Common.{◌≡◌, ◌≢◌, ℕ, suc, ◌+◌, eqb, true, false, List, [], ◌∷◌, ◌++◌, Option, Some, None, codes, refl, sym, subst, append_assoc, add-zero, arith, list_all, begins_name, begins_word, is_blank, is_digit, is_letter, is_name_byte, is_space, is_word, is_group, is_quoted, feeds, Section, AtEntry, InHeader, InBody, AreTokens, place_behind, End, Kept, KeptGroup, Label, Word, Group, Quoted, Mark, Part, Is, ◌⨾◌, Comma, takes_line, IsNameText, HasForm, MayStand}
 use Rattle.ir_tokens.specs.Numbers.{is_number}
-use Rattle.ir_tokens.specs.Order.{AreTokens}
-use Rattle.ir_tokens.specs.Places.{place_behind}
-use Rattle.ir_tokens.specs.Tokens.{End, Kept, KeptGroup, Label, Word, Number, Register, Function, Group, Quoted, Mark}
-use Rattle.ir_instructions.specs.Parts.{Part, Is, ◌⨾◌, Comma}
+use Rattle.ir_tokens.specs.Tokens.{Number, Register, Function}
 use Rattle.ir_instructions.specs.Punctuation as marks
-use Rattle.ir_text.specs.Lexemes.{takes_line, IsNameText, HasForm, MayStand}
 use Rattle.ir_text.proofs.Placing.{itself_in_body, itself_behind_no_word_in_body, itself_in_header, itself_behind_no_word, itself_at_entry, define_begins_none, later_line, same_line, space_stops, feed_stops}
 use Rattle.ir_text.proofs.Streams.{Streams, streams_as, behind_gap, with_token}
 use Rattle.ir_text.proofs.Prints.{Mode, Fresh, Used, Header, Called, Body, Callee, Stands, TakesGap, Stop, Prints, prints_token, before_space}

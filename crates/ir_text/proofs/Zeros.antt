@@ -1,14 +1,5 @@
 -- The text between the quotes of a token.
-use Rattle.std.proofs.Common.{◌≡◌, ℕ, suc, ◌+◌, Bool, true, false, not, eqb, List, [], ◌∷◌, ◌++◌, drop, refl, sym, ap, subst, ◌∙◌, ⊎_elim, append_assoc, add-one, one-add, eqb-true, arith}
-use Rattle.std.specs.List.{Contains, before_first, list_all, prefix_len}
-use Rattle.std.proofs.lemmas.Bool.{false≢true}
-use Rattle.std.proofs.lemmas.List.Folds.{list_all-append}
-use Rattle.scan.specs.Bytes.{begins_name, is_digit, is_letter, is_name_byte}
-use Rattle.scan.specs.IrTokens.{HoldsZero, is_name}
-use Rattle.scan.specs.Quoted.{in_quotes, unquoted}
-use Rattle.scan.proofs.Fronts.{and_both, and_left, and_right, which}
-use Rattle.scan.proofs.ModuleFronts.{list_all-along}
-use Rattle.scan.proofs.NameLemmas.{in_quotes-quoted}
+use Rattle.ir_text.proofs.Common.{◌≡◌, ℕ, suc, ◌+◌, Bool, true, false, not, eqb, List, [], ◌∷◌, ◌++◌, drop, refl, sym, ap, subst, ◌∙◌, ⊎_elim, append_assoc, add-one, one-add, eqb-true, arith, Contains, before_first, list_all, prefix_len, false≢true, list_all-append, begins_name, is_digit, is_letter, is_name_byte, HoldsZero, is_name, in_quotes, unquoted, and_both, and_left, and_right, which, list_all-along, in_quotes-quoted}
 use Rattle.ir_text.proofs.Shapes.{NameShape, differs, in_pair, name_shape, plain}
 
 -- the byte is no quote

@@ -1,8 +1,5 @@
 -- Numbers as decimal digits spell them.
-use Rattle.std.proofs.Common.{◌≡◌, ℕ, zero, suc, ◌+◌, ◌-◌, ◌*◌, ◌<◌, ◌≤◌, List, [], ◌∷◌, length, get_or, take, fold, ap, arith}
-use Rattle.std.proofs.lemmas.List.Sums.{fold_more}
-use Rattle.std.proofs.lemmas.List.{take_all}
-use Rattle.ir_tokens.specs.Numbers.{decimal_value}
+use Rattle.ir_tokens.proofs.Common.{◌≡◌, ℕ, zero, suc, ◌+◌, ◌-◌, ◌*◌, ◌<◌, ◌≤◌, List, [], ◌∷◌, length, get_or, take, fold, ap, arith, fold_more, take_all, decimal_value}
 
 abbrev step : ℕ → ℕ → ℕ
 step n digit = 10 * n + (digit - 48)

@@ -1,24 +1,9 @@
 -- A token that isn't the last has at least one byte, and ends within the text.
-use Rattle.std.proofs.Common.{◌≡◌, ◌≢◌, ℕ, ◌+◌, ◌-◌, ◌<◌, ◌≤◌, Bool, false, not, eqb, List, [], ◌∷◌, length, drop, sym, ap, ◌∙◌, ◌⊎◌, ⊎_elim, arith}
-use Rattle.std.proofs.lemmas.Bool.{false≢true}
-use Rattle.std.proofs.lemmas.List.{length-take, length-drop, length-append}
-use Rattle.std.proofs.lemmas.List.Sums.{prefix_len-le-length}
-use Rattle.std.proofs.lemmas.List.Folds.{length-prefix_len}
-use Rattle.scan.specs.declared.ir.token.TokenKind.{TokenKind}
+use Rattle.ir_tokens.proofs.Common.{◌≡◌, ◌≢◌, ℕ, ◌+◌, ◌-◌, ◌<◌, ◌≤◌, Bool, false, not, eqb, List, [], ◌∷◌, length, drop, sym, ap, ◌∙◌, ◌⊎◌, ⊎_elim, arith, false≢true, length-take, length-drop, length-append, prefix_len-le-length, length-prefix_len, TokenKind, Span, Begins, BeginsNoToken, IsLongestToken, IsGroup, rest_to_feed, between, longest_some, Section, AtEntry, InHeader, InBody, Extent, HasExtent, IsTokenAt, itself, kept_line, kept_group, unclosed, bad_byte, begins_kept, extent_of, Placed, token_of, is_last}
 use Rattle.scan.specs.declared.ir.token.TokenKind.TheVariants as kinds
 use Rattle.scan.specs.declared.ir.token.Token.{Token as Scanned}
-use Rattle.scan.specs.declared.span.Span.{Span}
-use Rattle.scan.specs.IrTokens.{Begins, BeginsNoToken, IsLongestToken}
-use Rattle.scan.specs.Kept.{IsGroup, rest_to_feed}
-use Rattle.scan.specs.Lines.{between}
-use Rattle.scan.proofs.ModulePlaces.{longest_some, seen}
-use Rattle.ir_tokens.specs.declared.place.Section.{Section}
-use Rattle.ir_tokens.specs.declared.place.Section.TheVariants.{AtEntry, InHeader, InBody}
-use Rattle.ir_tokens.specs.declared.place.Extent.{Extent}
+use Rattle.scan.proofs.ModulePlaces.{seen}
 use Rattle.ir_tokens.specs.declared.place.Extent.TheVariants as extents
-use Rattle.ir_tokens.specs.Order.{HasExtent, IsTokenAt, itself, kept_line, kept_group, unclosed, bad_byte}
-use Rattle.ir_tokens.specs.Places.{begins_kept, extent_of}
-use Rattle.ir_tokens.specs.Tokens.{Placed, token_of, is_last}
 
 -- ---- a token by itself
 

@@ -1,24 +1,6 @@
 -- At each place of a text there is a token or a fault.
-use Rattle.std.proofs.Common.{◌≡◌, ◌≢◌, ℕ, zero, suc, ◌+◌, ◌-◌, ◌<◌, ◌≤◌, Bool, true, false, eqb, List, Result, Ok, Err, length, take, drop, refl, sym, ap, ◌∙◌, ⊎_elim, ◌⊎◌, inl, inr, arith}
-use Rattle.std.specs.List.{list_any}
-use Rattle.std.proofs.lemmas.Bool.{false≢true}
-use Rattle.std.proofs.lemmas.List.{length-take, nil_from_length}
-use Rattle.scan.specs.declared.bad_byte.BadByte.{BadByte}
-use Rattle.scan.specs.declared.ir.token.TokenKind.{TokenKind}
+use Rattle.ir_tokens.proofs.Common.{◌≡◌, ◌≢◌, ℕ, zero, suc, ◌+◌, ◌-◌, ◌<◌, ◌≤◌, Bool, true, false, eqb, List, Result, Ok, Err, length, take, drop, refl, sym, ap, ◌∙◌, ⊎_elim, ◌⊎◌, inl, inr, arith, list_any, false≢true, length-take, nil_from_length, BadByte, TokenKind, Token, begins_with, is_bad, Begins, BeginsBadly, HoldsZero, IsLongestFront, IsLongestToken, line_at, spells, IsNextOfModule, feeds, in_quotes, unquoted, behind_gap, in_gap, which, GapTo, gap_to, next_bad, next_token, begins_other, begins_token, longest_token, short_holds_none, Behind, zero_contained, zero_found}
 use Rattle.scan.specs.declared.ir.token.TokenKind.TheVariants as kinds
-use Rattle.scan.specs.declared.ir.token.Token.{Token}
-use Rattle.scan.specs.Bytes.{begins_with, is_bad}
-use Rattle.scan.specs.IrTokens.{Begins, BeginsBadly, HoldsZero, IsLongestFront, IsLongestToken, line_at, spells}
-use Rattle.scan.specs.Laws.{IsNextOfModule}
-use Rattle.scan.specs.Lines.{feeds}
-use Rattle.scan.specs.Quoted.{in_quotes, unquoted}
-use Rattle.scan.specs.GapFronts.{behind_gap, in_gap}
-use Rattle.scan.proofs.Fronts.{which}
-use Rattle.scan.proofs.GapLemmas.{GapTo, gap_to}
-use Rattle.scan.proofs.ModulePlaces.{next_bad, next_token}
-use Rattle.scan.proofs.ModuleTokens.{begins_other, begins_token, longest_token, short_holds_none}
-use Rattle.scan.proofs.PlaceLemmas.{Behind}
-use Rattle.scan.proofs.QuotedLemmas.{zero_contained, zero_found}
 
 -- ---- the longest prefix that is a token
 

@@ -1,13 +1,5 @@
 -- The tokens of one entry, read one by one.
-use Rattle.std.proofs.Common.{◌≡◌, ℕ, ◌<◌, ◌≤◌, Bool, false, List, [], ◌∷◌, ◌++◌, length, take, Option, inl, inr, refl, sym, ap, subst, ◌∙◌, arith}
-use Rattle.std.proofs.lemmas.Bool.{cases_lt}
-use Rattle.std.proofs.lemmas.List.{take_all, take-append-le, length-append}
-use Rattle.std.proofs.lemmas.List.Sums.{fold-append}
-use Rattle.ir_tokens.specs.declared.place.Section.{Section}
-use Rattle.ir_tokens.specs.declared.place.Section.TheVariants.{AtEntry, InHeader, InBody}
-use Rattle.ir_tokens.specs.Places.{place_behind}
-use Rattle.ir_tokens.specs.ReaderPlaces.{place_behind_all, MayBegin, IsOneEntry}
-use Rattle.ir_tokens.specs.Tokens.{Placed}
+use Rattle.ir_tokens.proofs.Common.{◌≡◌, ℕ, ◌<◌, ◌≤◌, Bool, false, List, [], ◌∷◌, ◌++◌, length, take, Option, inl, inr, refl, sym, ap, subst, ◌∙◌, arith, cases_lt, take_all, take-append-le, length-append, fold-append, Section, AtEntry, InHeader, InBody, place_behind, place_behind_all, MayBegin, IsOneEntry, Placed}
 
 -- no entry may begin behind any of these tokens, and `behind` is the context behind them all
 pub record Within (place : Section) (tokens : List Placed) (behind : Section) : Type 0 where

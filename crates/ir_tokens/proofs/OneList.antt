@@ -1,18 +1,7 @@
 -- A text has no two lists of tokens.
-use Rattle.std.proofs.Common.{◌≡◌, ℕ, ◌+◌, ◌≤◌, true, false, List, [], ◌∷◌, Result, Ok, Err, length, refl, sym, ap, subst, ◌∙◌, ◌⊎◌, inl, inr}
-use Rattle.std.proofs.lemmas.Bool.{false≢true}
-use Rattle.scan.specs.declared.bad_byte.BadByte.{BadByte}
+use Rattle.ir_tokens.proofs.Common.{◌≡◌, ℕ, ◌+◌, ◌≤◌, true, false, List, [], ◌∷◌, Result, Ok, Err, length, refl, sym, ap, subst, ◌∙◌, ◌⊎◌, inl, inr, false≢true, BadByte, Span, IsKeptLine, IsGroup, HasNoGroup, rest_to_feed, IsNextOfModule, OneModuleTokenAtAPlace, OneGroupAtAPlace, between, Section, Extent, IsTokenAt, itself, kept_line, kept_group, unclosed, bad_byte, TokensFrom, last, token, extent_of, place_behind, Placed, Kept, KeptGroup, Other, Bad, token_of, is_last}
 use Rattle.scan.specs.declared.ir.token.Token.{Token as Scanned}
-use Rattle.scan.specs.declared.span.Span.{Span}
-use Rattle.scan.specs.Kept.{IsKeptLine, IsGroup, HasNoGroup, rest_to_feed}
-use Rattle.scan.specs.Laws.{IsNextOfModule, OneModuleTokenAtAPlace, OneGroupAtAPlace}
-use Rattle.scan.specs.Lines.{between}
-use Rattle.ir_tokens.specs.declared.place.Section.{Section}
-use Rattle.ir_tokens.specs.declared.place.Extent.{Extent}
 use Rattle.ir_tokens.specs.declared.place.Extent.TheVariants as extents
-use Rattle.ir_tokens.specs.Order.{IsTokenAt, itself, kept_line, kept_group, unclosed, bad_byte, TokensFrom, last, token}
-use Rattle.ir_tokens.specs.Places.{extent_of, place_behind}
-use Rattle.ir_tokens.specs.Tokens.{Placed, Kept, KeptGroup, Other, Bad, token_of, is_last}
 use Rattle.ir_tokens.proofs.Moving.{token_within}
 
 -- ---- one token at a place

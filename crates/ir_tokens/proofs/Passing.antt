@@ -1,9 +1,5 @@
 -- A reader moves over one more token.
-use Rattle.std.proofs.Common.{◌≡◌, ℕ, true, false, List, [], ◌∷◌, ◌++◌, sym, ap, subst, ◌∙◌, append_assoc}
-use Rattle.ir_tokens.specs.declared.place.Section.{Section}
-use Rattle.ir_tokens.specs.Order.{IsTokenAt, AreTokens, last}
-use Rattle.ir_tokens.specs.Places.{place_behind}
-use Rattle.ir_tokens.specs.Tokens.{Placed, is_last}
+use Rattle.ir_tokens.proofs.Common.{◌≡◌, ℕ, true, false, List, [], ◌∷◌, ◌++◌, sym, ap, subst, ◌∙◌, append_assoc, Section, IsTokenAt, AreTokens, last, place_behind, Placed, is_last}
 use Rattle.ir_tokens.proofs.Reading.{SoFar, token_read}
 
 pub token_passed : (text own : List ℕ) (place : Section) (at end : ℕ) (front some new : List Placed) (t : Placed) → own ≡ text → new ≡ some ++ t ∷ [] → SoFar text place at (front ++ some) → IsTokenAt own place at t end → is_last t.1 ≡ false → SoFar text (place_behind place t) end (front ++ new)

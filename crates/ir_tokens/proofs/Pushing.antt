@@ -1,8 +1,5 @@
 -- Lists to which an item is appended, or that are truncated again.
-use Rattle.std.proofs.Common.{◌≡◌, ℕ, Bool, true, false, not, List, [], ◌∷◌, ◌++◌, length, sym, ap, ◌∙◌, append_assoc}
-use Rattle.std.proofs.lemmas.Bool.{false≢true}
-use Rattle.std.specs.Prelude.{if◌then◌else◌, take}
-use Rattle.std.proofs.Math.Seq.{take-append_seam}
+use Rattle.ir_tokens.proofs.Common.{◌≡◌, ℕ, Bool, true, false, not, List, [], ◌∷◌, ◌++◌, length, sym, ap, ◌∙◌, append_assoc, false≢true, if◌then◌else◌, take, take-append_seam}
 
 module _ {A : Type 0} where
   -- an append that succeeds, and one that is refused memory

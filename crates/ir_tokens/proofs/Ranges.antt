@@ -1,9 +1,5 @@
 -- Numbers that are out of range at every width.
-use Rattle.std.proofs.Common.{◌≡◌, ℕ, ◌-◌, ◌^◌, ◌≤◌, false, List, None, refl, arith}
-use Rattle.std.specs.Prelude.{ℤ, pos, negsuc, unsigned_abs}
-use Rattle.std.proofs.Math.Pow.{pow_mono}
-use Rattle.std.proofs.lemmas.Int.{ints}
-use Rattle.ir_tokens.specs.Numbers.{constant_of, is_in_range, number_of}
+use Rattle.ir_tokens.proofs.Common.{◌≡◌, ℕ, ◌-◌, ◌^◌, ◌≤◌, false, List, None, refl, arith, ℤ, pos, negsuc, unsigned_abs, pow_mono, ints, constant_of, is_in_range, number_of}
 
 out_of_range : (N : ℕ) (z : ℤ) → N ≤ 64 → 2 ^ 64 ≤ unsigned_abs z → is_in_range N z ≡ false
 unfolding is_in_range

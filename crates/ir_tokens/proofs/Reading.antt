@@ -1,9 +1,5 @@
 -- Reading one more token of a text.
-use Rattle.std.proofs.Common.{◌≡◌, ℕ, false, List, [], ◌∷◌, ◌++◌, sym, subst, append_assoc}
-use Rattle.ir_tokens.specs.declared.place.Section.{Section}
-use Rattle.ir_tokens.specs.Order.{IsTokenAt, TokensFrom, AreTokens, token}
-use Rattle.ir_tokens.specs.Places.{place_behind}
-use Rattle.ir_tokens.specs.Tokens.{Placed, is_last}
+use Rattle.ir_tokens.proofs.Common.{◌≡◌, ℕ, false, List, [], ◌∷◌, ◌++◌, sym, subst, append_assoc, Section, IsTokenAt, TokensFrom, AreTokens, token, place_behind, Placed, is_last}
 
 -- the tokens in front, and then any tokens of the text from this offset on, are tokens of the whole text
 abbrev pub SoFar : List ℕ → Section → ℕ → List Placed → Type 0

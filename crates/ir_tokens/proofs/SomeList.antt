@@ -1,20 +1,7 @@
 -- A text has a list of tokens.
-use Rattle.std.proofs.Common.{◌≡◌, ℕ, zero, suc, ◌+◌, ◌-◌, ◌<◌, ◌≤◌, true, false, List, [], ◌∷◌, Option, Some, None, Result, Ok, Err, length, drop, refl, ⊎_elim, ◌⊎◌, inl, inr, arith}
-use Rattle.scan.specs.declared.bad_byte.BadByte.{BadByte}
+use Rattle.ir_tokens.proofs.Common.{◌≡◌, ℕ, zero, suc, ◌+◌, ◌-◌, ◌<◌, ◌≤◌, true, false, List, [], ◌∷◌, Option, Some, None, Result, Ok, Err, length, drop, refl, ⊎_elim, ◌⊎◌, inl, inr, arith, BadByte, Span, IsNextToken, IsGroup, HasNoGroup, rest_to_feed, IsNextOfModule, blanks_behind, which, closing, closed, not_closed, group_at, no_group_at, Section, Extent, HasExtent, IsTokenAt, itself, kept_line, kept_group, unclosed, bad_byte, TokensFrom, last, token, place_behind, Placed, is_last}
 use Rattle.scan.specs.declared.ir.token.Token.{Token as Scanned}
-use Rattle.scan.specs.declared.span.Span.{Span}
-use Rattle.scan.specs.IrTokens.{IsNextToken}
-use Rattle.scan.specs.Kept.{IsGroup, HasNoGroup, rest_to_feed}
-use Rattle.scan.specs.Laws.{IsNextOfModule}
-use Rattle.scan.specs.Names.{blanks_behind}
-use Rattle.scan.proofs.Fronts.{which}
-use Rattle.scan.proofs.KeptLemmas.{closing, closed, not_closed, group_at, no_group_at}
-use Rattle.ir_tokens.specs.declared.place.Section.{Section}
-use Rattle.ir_tokens.specs.declared.place.Extent.{Extent}
 use Rattle.ir_tokens.specs.declared.place.Extent.TheVariants as extents
-use Rattle.ir_tokens.specs.Order.{HasExtent, IsTokenAt, itself, kept_line, kept_group, unclosed, bad_byte, TokensFrom, last, token}
-use Rattle.ir_tokens.specs.Places.{place_behind}
-use Rattle.ir_tokens.specs.Tokens.{Placed, is_last}
 use Rattle.ir_tokens.proofs.Moving.{token_moves, token_within}
 use Rattle.ir_tokens.proofs.Nexts.{next_exists}
 

@@ -1,38 +1,11 @@
 -- Viable prefixes of the arguments of calls.
-use Rattle.std.proofs.Common.{◌≡◌, ℕ, suc, Bool, true, false, cond, List, [], ◌∷◌, ◌++◌, length, Option, Some, None, Ok, Err, refl, sym, ap, subst, ◌∙◌, ◌⊎◌, inl, inr, append_assoc, arith}
-use Rattle.std.specs.Prelude.{codes}
-use Rattle.ops.specs.declared.keywords.flag.Flag.{Flag}
-use Rattle.ops.specs.declared.keywords.flag.Flag.TheVariants.{Nuw, Nsw, Exact, NNeg, Disjoint, SameSign}
-use Rattle.ops.specs.FlagKeywords.{flag_keyword}
-use Rattle.ops.specs.declared.opcode.Unary.{Unary}
-use Rattle.ops.specs.Truths.{has_truth}
-use Rattle.ir_tokens.specs.Identifiers.{identifier_of}
-use Rattle.ir_tokens.specs.Tokens.{Token, Placed, Word, Number, Register, Function, Group, Quoted}
-use Rattle.ir_tokens.specs.declared.raw.RawOperand.{RawOperand}
-use Rattle.ir_tokens.specs.declared.raw.RawValue.{RawValue}
+use Rattle.ir_viable_prefixes.proofs.Common.{◌≡◌, ℕ, suc, Bool, true, false, cond, List, [], ◌∷◌, ◌++◌, length, Option, Some, None, Ok, Err, refl, sym, ap, subst, ◌∙◌, ◌⊎◌, inl, inr, append_assoc, arith, codes, Flag, Nuw, Nsw, Exact, NNeg, Disjoint, SameSign, flag_keyword, Unary, has_truth, identifier_of, Token, Placed, Word, Number, Register, Function, Group, Quoted, RawOperand, RawValue, TypedOperand, Fault, IrFaultKind, Syntax, LeftOut, Intrinsic, begins_inner_item, ends_argument, inner_items_at, argument_at, no_truth_kind, truth_value_at, truth_argument_at, further_truth_at, truth_at, two_arguments_at, one_argument_at, arguments_at, SpellsOperand, IsValueToken, begins_item, item_at, is_item_word, IsTypeWord, type_in, truth_in, value_in, leaves_out, Read, Reader, fault, unexpected, goes_on, ◌>>=◌, done, each_at, inner_items_at-is, truth_value_at-is, same_behind, operand_at-is, bind_ok, type_in-of, EndsArgument, comma}
 use Rattle.ir_tokens.specs.declared.raw.RawValue.TheVariants as values
-use Rattle.ir_tokens.specs.declared.raw.TypedOperand.{TypedOperand}
-use Rattle.refusal.specs.declared.fault.Fault.{Fault}
-use Rattle.ir_tokens.specs.declared.fault.IrFaultKind.{IrFaultKind}
-use Rattle.ir_tokens.specs.declared.fault.IrFaultKind.TheVariants.{Syntax, LeftOut}
 use Rattle.ir_instructions.specs.declared.place.Expected.TheVariants as places
-use Rattle.ir_instructions.specs.declared.intrinsic.Intrinsic.{Intrinsic}
 use Rattle.ir_instructions.specs.declared.intrinsic.Intrinsic.TheVariants as intrinsics
-use Rattle.ir_instructions.specs.CallReaders.{begins_inner_item, ends_argument, inner_items_at, argument_at, no_truth_kind, truth_value_at, truth_argument_at, further_truth_at, truth_at, two_arguments_at, one_argument_at, arguments_at}
-use Rattle.ir_instructions.specs.Grammar.{SpellsOperand, IsValueToken}
-use Rattle.ir_instructions.specs.ItemReaders.{begins_item, item_at}
-use Rattle.ir_instructions.specs.Items.{is_item_word}
-use Rattle.ir_instructions.specs.Keywords.{IsTypeWord, type_in, truth_in, value_in}
-use Rattle.ir_instructions.specs.Places.{leaves_out, misfit}
-use Rattle.ir_instructions.specs.Readers.{Read, Reader, fault, unexpected, goes_on, ◌>>=◌, done, each_at}
+use Rattle.ir_instructions.specs.Places.{misfit}
 use Rattle.ir_instructions.specs.TokenReaders.{type_at, operand_at}
 use Rattle.ir_instructions.specs.Punctuation as marks
-use Rattle.ir_instructions.proofs.CallReadings.{inner_items_at-is, truth_value_at-is}
-use Rattle.ir_instructions.proofs.Loops.{same_behind}
-use Rattle.ir_instructions.proofs.Readings.{operand_at-is}
-use Rattle.ir_instructions.proofs.Steps.{bind_ok}
-use Rattle.ir_instructions.proofs.WordLemmas.{type_in-of}
-use Rattle.ir_viable_prefixes.specs.Calls.{EndsArgument, comma}
 use Rattle.ir_viable_prefixes.specs.Misfits as nouns
 use Rattle.ir_viable_prefixes.proofs.Choices.{same-good}
 use Rattle.ir_viable_prefixes.proofs.FlagRuns.{NoFlag, NoFlagLast, ReadsApart}

@@ -1,47 +1,14 @@
 -- Where instructions read items, they do so in calls.
-use Rattle.std.proofs.Common.{◌≡◌, ◌≢◌, ◌≤◌, ℕ, suc, Bool, true, false, cond, eqb, List, [], ◌∷◌, ◌++◌, length, Option, Some, None, Ok, Err, refl, sym, ap, subst, ◌∙◌, inr, append_assoc, arith, length-append}
-use Rattle.std.proofs.lemmas.Bool.{eqb-true}
-use Rattle.std.proofs.lemmas.List.{append-nil, append_cancel_right}
-use Rattle.std.specs.Prelude.{codes}
-use Rattle.ops.specs.declared.opcode.Unary.{Unary}
-use Rattle.ops.specs.Truths.{has_truth}
+use Rattle.ir_viable_prefixes.proofs.Common.{◌≡◌, ◌≢◌, ◌≤◌, ℕ, suc, Bool, true, false, cond, eqb, List, [], ◌∷◌, ◌++◌, length, Option, Some, None, Ok, Err, refl, sym, ap, subst, ◌∙◌, inr, append_assoc, arith, length-append, eqb-true, append-nil, append_cancel_right, codes, Unary, has_truth, identifier_of, Token, Placed, KeptGroup, Word, Number, Function, Group, Quoted, Mark, RawIdentifier, RawInst, RawOp, RawOperand, TypedOperand, Syntax, LeftOut, Fault, IrFaultKind, Intrinsic, Operation, begins_inner_item, ends_argument, inner_items_at, argument_at, truth_value_at, truth_argument_at, further_truth_at, truth_at, two_arguments_at, one_argument_at, arguments_at, callee_named, or_no_callee, callee_at, late_items_at, close_at, call_word_at, IsValueToken, SpellsOperand, SpellsItem, MayFollowItem, of_word_and_group, of_number, of_group, of_quoted, of_key_and_value, begins_item, item_at, items_at, no_word_at, last_items_at, is_item_word, operation_in, operation_word, type_in, Part, Each, Read, Reader, fault, unexpected, goes_on, ◌>>=◌, done, each_at, inner_items_at-is, truth_value_at-is, items_at-is, last_items_at-is, MayFollowItems, item_at-of, items_at-of, last_items_at-of, item_may_follow, each-done, type_at-is, operand_at-is, type_at-of, bind_ok, read_as, inst-takes, EndsArgument, comma, close}
 use Rattle.scan.specs.Bytes as bytes
-use Rattle.ir_tokens.specs.Identifiers.{identifier_of}
-use Rattle.ir_tokens.specs.Tokens.{Token, Placed, KeptGroup, Word, Number, Function, Group, Quoted, Mark}
-use Rattle.ir_tokens.specs.declared.raw.RawIdentifier.{RawIdentifier}
-use Rattle.ir_tokens.specs.declared.raw.RawInst.{RawInst}
-use Rattle.ir_tokens.specs.declared.raw.RawOp.{RawOp}
-use Rattle.ir_tokens.specs.declared.raw.RawOperand.{RawOperand}
-use Rattle.ir_tokens.specs.declared.raw.TypedOperand.{TypedOperand}
-use Rattle.ir_tokens.specs.declared.fault.IrFaultKind.TheVariants.{Syntax, LeftOut}
-use Rattle.refusal.specs.declared.fault.Fault.{Fault}
-use Rattle.ir_tokens.specs.declared.fault.IrFaultKind.{IrFaultKind}
-use Rattle.ir_instructions.specs.declared.intrinsic.Intrinsic.{Intrinsic}
 use Rattle.ir_instructions.specs.declared.intrinsic.Intrinsic.TheVariants as intrinsics
 use Rattle.ir_instructions.specs.declared.place.Expected.TheVariants as places
-use Rattle.ir_instructions.specs.declared.word.Operation.{Operation}
 use Rattle.ir_instructions.specs.declared.word.Operation.TheVariants as operations
-use Rattle.ir_instructions.specs.CallReaders.{begins_inner_item, ends_argument, inner_items_at, argument_at, truth_value_at, truth_argument_at, further_truth_at, truth_at, two_arguments_at, one_argument_at, arguments_at, callee_named, or_no_callee, callee_at, late_items_at, close_at, call_word_at}
-use Rattle.ir_instructions.specs.Grammar.{IsValueToken, SpellsOperand}
-use Rattle.ir_instructions.specs.ItemGrammar.{SpellsItem, MayFollowItem, of_word, of_word_and_group, of_number, of_group, of_quoted, of_key_and_value}
-use Rattle.ir_instructions.specs.ItemReaders.{begins_item, item_at, items_at, no_word_at, last_items_at}
-use Rattle.ir_instructions.specs.Items.{is_item_word}
-use Rattle.ir_instructions.specs.Keywords.{operation_in, operation_word, type_in}
+use Rattle.ir_instructions.specs.ItemGrammar.{of_word}
 use Rattle.ir_instructions.specs.InstructionReaders as parsing
-use Rattle.ir_instructions.specs.Parts.{Part, Each}
 use Rattle.ir_instructions.specs.Places.{misfit}
 use Rattle.ir_instructions.specs.Punctuation as marks
-use Rattle.ir_instructions.specs.Readers.{Read, Reader, fault, unexpected, goes_on, ◌>>=◌, done, each_at}
 use Rattle.ir_instructions.specs.TokenReaders.{mark_at, operand_at, type_at}
-use Rattle.ir_instructions.proofs.CallReadings.{inner_items_at-is, truth_value_at-is}
-use Rattle.ir_instructions.proofs.ItemReadings.{items_at-is, last_items_at-is}
-use Rattle.ir_instructions.proofs.ItemSpellings.{MayFollowItems, item_at-of, items_at-of, last_items_at-of, item_may_follow}
-use Rattle.ir_instructions.proofs.Loops.{each-done}
-use Rattle.ir_instructions.proofs.Readings.{type_at-is, operand_at-is}
-use Rattle.ir_instructions.proofs.Spellings.{type_at-of}
-use Rattle.ir_instructions.proofs.Steps.{bind_ok, read_as}
-use Rattle.ir_instructions.proofs.Takings.{inst-takes}
-use Rattle.ir_viable_prefixes.specs.Calls.{EndsArgument, comma, close}
 use Rattle.ir_viable_prefixes.proofs.Arguments.{operand_reads, truth_reads, operand_in-good, truth_in-good, typed, argument_from, truth_argument_from, argument-good, truth_argument-good, truth-good, arguments-good}
 use Rattle.ir_viable_prefixes.proofs.Calls.{Typed, typed-good, Arguments, Called, callee_sample, callee_takes, called_sample, CalleeOr, call_word-good, call_word_read}
 use Rattle.ir_viable_prefixes.proofs.Closed.{Closes, closes_behind, mark_closes}

@@ -1,43 +1,13 @@
 -- Viable prefixes of calls. The fault of a callee that is no intrinsic is at the word `call`.
-use Rattle.std.proofs.Common.{◌≡◌, ℕ, Bool, true, false, cond, List, [], ◌∷◌, ◌++◌, Option, Some, None, Ok, Err, refl, sym, ap, subst, ◌∙◌, ◌⊎◌, inl, inr, append_assoc}
-use Rattle.std.proofs.lemmas.List.{append-nil, append_cancel_right}
-use Rattle.std.specs.Prelude.{codes}
-use Rattle.std.specs.Str.{bytes_eq}
-use Rattle.std.proofs.lemmas.Slice.Eq.{bytes_eq-Decides}
+use Rattle.ir_viable_prefixes.proofs.Common.{◌≡◌, ℕ, Bool, true, false, cond, List, [], ◌∷◌, ◌++◌, Option, Some, None, Ok, Err, refl, sym, ap, subst, ◌∙◌, ◌⊎◌, inl, inr, append_assoc, append-nil, append_cancel_right, codes, bytes_eq, bytes_eq-Decides, Flag, Nuw, Nsw, Exact, NNeg, Disjoint, SameSign, flag_keyword, identifier_of, name_of, Token, Placed, Word, Number, Function, RawOp, Call, Fault, IrFaultKind, LeftOut, Intrinsic, Items, arguments_at, callee_named, callee_at, late_items_at, close_at, call_at, call_word_at, marked_call_at, intrinsic_in, named_in, keyword_in, plain_width_in, SpellsItem, items_at, is_item_word, IsTypeWord, ending_word, type_in, Each, ◌⨾◌, SpellsType, is_word, Read, Reader, fault, unexpected, goes_on, ◌>>=◌, items_at-is, same_behind, type_at-is, bind_ok, read_as, CallStands}
 use Rattle.scan.specs.Bytes as bytes
-use Rattle.ops.specs.declared.keywords.flag.Flag.{Flag}
-use Rattle.ops.specs.declared.keywords.flag.Flag.TheVariants.{Nuw, Nsw, Exact, NNeg, Disjoint, SameSign}
-use Rattle.ops.specs.FlagKeywords.{flag_keyword}
-use Rattle.ir_tokens.specs.Identifiers.{identifier_of, name_of}
-use Rattle.ir_tokens.specs.Tokens.{Token, Placed, Word, Number, Function}
-use Rattle.ir_tokens.specs.declared.raw.RawOp.{RawOp}
-use Rattle.ir_tokens.specs.declared.raw.RawOp.TheVariants.{Call}
-use Rattle.refusal.specs.declared.fault.Fault.{Fault}
-use Rattle.ir_tokens.specs.declared.fault.IrFaultKind.{IrFaultKind}
-use Rattle.ir_tokens.specs.declared.fault.IrFaultKind.TheVariants.{LeftOut}
-use Rattle.ir_instructions.specs.declared.intrinsic.Intrinsic.{Intrinsic}
 use Rattle.ir_instructions.specs.declared.place.Expected.TheVariants as places
 use Rattle.ir_instructions.specs.declared.word.Ending.{Ending as Word_ending}
 use Rattle.ir_instructions.specs.declared.word.Ending.TheVariants as endings
 use Rattle.ir_instructions.specs.declared.word.Operation.TheVariants as operations
-use Rattle.ir_instructions.specs.CallGrammar.{Items}
-use Rattle.ir_instructions.specs.CallReaders.{arguments_at, callee_named, callee_at, late_items_at, close_at, call_at, call_word_at, marked_call_at}
-use Rattle.ir_instructions.specs.Intrinsics.{intrinsic_in, named_in, keyword_in, plain_width_in}
-use Rattle.ir_instructions.specs.ItemGrammar.{SpellsItem}
-use Rattle.ir_instructions.specs.ItemReaders.{items_at}
-use Rattle.ir_instructions.specs.Items.{is_item_word}
-use Rattle.ir_instructions.specs.Keywords.{IsTypeWord, ending_word, type_in}
-use Rattle.ir_instructions.specs.Parts.{Each, ◌⨾◌}
-use Rattle.ir_instructions.specs.PieceGrammar.{SpellsType}
-use Rattle.ir_instructions.specs.Places.{is_word, misfit}
-use Rattle.ir_instructions.specs.Readers.{Read, Reader, fault, unexpected, goes_on, ◌>>=◌}
+use Rattle.ir_instructions.specs.Places.{misfit}
 use Rattle.ir_instructions.specs.TokenReaders.{mark_at, type_at}
 use Rattle.ir_instructions.specs.Punctuation as marks
-use Rattle.ir_instructions.proofs.ItemReadings.{items_at-is}
-use Rattle.ir_instructions.proofs.Loops.{same_behind}
-use Rattle.ir_instructions.proofs.Readings.{type_at-is}
-use Rattle.ir_instructions.proofs.Steps.{bind_ok, read_as}
-use Rattle.ir_viable_prefixes.specs.Calls.{CallStands}
 use Rattle.ir_viable_prefixes.specs.Misfits as nouns
 use Rattle.ir_viable_prefixes.proofs.Arguments.{arguments-good}
 use Rattle.ir_viable_prefixes.proofs.Endings.{Ending, Closing, closing-open}

@@ -1,13 +1,6 @@
 -- Parsers that choose a production by lookahead.
-use Rattle.std.proofs.Common.{◌≡◌, ℕ, Bool, true, false, cond, List, [], ◌∷◌, ◌++◌, Ok, Err, refl, sym, ap, subst, ◌∙◌, ◌⊎◌, inl, inr, append_assoc}
-use Rattle.ir_tokens.specs.Tokens.{Token, Placed, Word, Number, Function, Group}
-use Rattle.ir_tokens.specs.declared.fault.IrFaultKind.{IrFaultKind}
-use Rattle.refusal.specs.declared.fault.Fault.{Fault}
+use Rattle.ir_viable_prefixes.proofs.Common.{◌≡◌, ℕ, Bool, true, false, cond, List, [], ◌∷◌, ◌++◌, Ok, Err, refl, sym, ap, subst, ◌∙◌, ◌⊎◌, inl, inr, append_assoc, Token, Placed, Word, Number, Function, Group, IrFaultKind, Fault, begins_record, Read, Reader, ending_word, predicate_keyword}
 use Rattle.ir_instructions.specs.declared.word.Ending.{Ending}
-use Rattle.ir_instructions.specs.Places.{begins_record}
-use Rattle.ir_instructions.specs.Readers.{Read, Reader}
-use Rattle.ir_instructions.specs.Keywords.{ending_word}
-use Rattle.ops.specs.Keywords.{predicate_keyword}
 use Rattle.ir_viable_prefixes.proofs.Outcomes.{Follow, Next, next_map, StopsBefore, Halts, CompletesBegun, Sample, Fit, FitsEnd, RefusesAt, RefusesPlaced, RefusesEnd, Bad, a_truth, no_truth, Again, NoValue, no_number, no_word, no_truth_value, no_group, no_quoted, InCall, of_callee, of_value, of_truth, New, Why, Reasons, ReasonsIf, OutcomeIf, Outcome, Good, GoodIf, GoodOpen}
 use Rattle.ir_viable_prefixes.proofs.FlagRuns.{either_apart}
 use Rattle.ir_viable_prefixes.proofs.Reasons.{a_type, a_pred, an_end, a_group, Like, like_map, NoRecord, NoGroup, Maps, reason_map}

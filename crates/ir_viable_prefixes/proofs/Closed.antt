@@ -1,10 +1,6 @@
 -- Parsers that end with a token of their own: they read the same whatever stands behind it, on whatever line.
-use Rattle.std.proofs.Common.{◌≡◌, ℕ, Bool, true, false, cond, eqb, List, [], ◌∷◌, ◌++◌, Ok, Err, refl, sym, ap, subst, ◌∙◌, append_assoc}
-use Rattle.ir_tokens.specs.Tokens.{Placed, Mark}
-use Rattle.ir_tokens.specs.declared.fault.IrFaultKind.TheVariants.{Syntax}
+use Rattle.ir_viable_prefixes.proofs.Common.{◌≡◌, ℕ, Bool, true, false, cond, eqb, List, [], ◌∷◌, ◌++◌, Ok, Err, refl, sym, ap, subst, ◌∙◌, append_assoc, Placed, Mark, Syntax, Read, Reader, fault, ◌>>=◌, done, bind_ok, read_as}
 use Rattle.ir_instructions.specs.InstructionReaders.{mark_at}
-use Rattle.ir_instructions.specs.Readers.{Read, Reader, fault, ◌>>=◌, done}
-use Rattle.ir_instructions.proofs.Steps.{bind_ok, read_as}
 use Rattle.ir_viable_prefixes.proofs.Outcomes.{Follow, Ended, StopsBefore, ReasonsIf, IsReadIf, OutcomeIf, GoodIf}
 
 -- what the parser reads of the tokens of a text is a prefix, which it reads so whatever stands behind it

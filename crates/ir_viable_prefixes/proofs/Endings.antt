@@ -1,27 +1,11 @@
 -- Viable prefixes of what stands behind a call: the items on the line of its `)`, and attachments.
-use Rattle.std.proofs.Common.{◌≡◌, ◌≢◌, ◌<◌, ℕ, zero, suc, Bool, true, false, ◌&&◌, cond, eqb, eq-eqb, List, [], ◌∷◌, ◌++◌, length, Ok, Err, refl, sym, ap, subst, ◌∙◌, inl, inr, append_assoc, arith}
-use Rattle.std.proofs.lemmas.Bool.{eqb-true}
-use Rattle.std.specs.Prelude.{codes}
+use Rattle.ir_viable_prefixes.proofs.Common.{◌≡◌, ◌≢◌, ◌<◌, ℕ, zero, suc, Bool, true, false, ◌&&◌, cond, eqb, eq-eqb, List, [], ◌∷◌, ◌++◌, length, Ok, Err, refl, sym, ap, subst, ◌∙◌, inl, inr, append_assoc, arith, eqb-true, codes, is_plain_name, is_number, Token, Placed, KeptGroup, Word, Number, Function, Group, Metadata, Quoted, Mark, is_last, Fault, IrFaultKind, Syntax, is_on_line, begins_late_item, late_value_at, late_quoted_at, late_group_at, late_item_at, each_late_item_at, some_token_at, late_items_at, close_at, begins_item, ending_word, leaves_out, Read, Reader, fault, unexpected, goes_on, ◌>>=◌, done, tail_attachment_at, repeat-more, repeat-fault, repeat-done, read_as, tail-takes, late-takes, EndsArgument, close}
 use Rattle.scan.specs.Bytes as bytes
-use Rattle.scan.specs.IrTokens.{is_plain_name}
-use Rattle.ir_tokens.specs.Numbers.{is_number}
-use Rattle.ir_tokens.specs.Tokens.{Token, Placed, KeptGroup, Word, Number, Function, Group, Metadata, Quoted, Mark, is_last}
-use Rattle.refusal.specs.declared.fault.Fault.{Fault}
-use Rattle.ir_tokens.specs.declared.fault.IrFaultKind.{IrFaultKind}
-use Rattle.ir_tokens.specs.declared.fault.IrFaultKind.TheVariants.{Syntax}
 use Rattle.ir_instructions.specs.declared.place.Expected.TheVariants as places
-use Rattle.ir_instructions.specs.CallReaders.{is_on_line, begins_late_item, late_value_at, late_quoted_at, late_group_at, late_item_at, each_late_item_at, some_token_at, late_items_at, close_at}
-use Rattle.ir_instructions.specs.ItemReaders.{begins_item}
 use Rattle.ir_instructions.specs.declared.word.Ending.{Ending as Word_ending}
-use Rattle.ir_instructions.specs.Keywords.{ending_word}
-use Rattle.ir_instructions.specs.Places.{leaves_out, misfit}
-use Rattle.ir_instructions.specs.Readers.{Read, Reader, fault, unexpected, goes_on, ◌>>=◌, done}
-use Rattle.ir_instructions.specs.TokenReaders.{is_mark, mark_at, metadata_at, attachment_at, tail_attachment_at, tail_at}
+use Rattle.ir_instructions.specs.Places.{misfit}
+use Rattle.ir_instructions.specs.TokenReaders.{is_mark, mark_at, metadata_at, attachment_at, tail_at}
 use Rattle.ir_instructions.specs.Punctuation as marks
-use Rattle.ir_instructions.proofs.Loops.{repeat-more, repeat-fault, repeat-done}
-use Rattle.ir_instructions.proofs.Steps.{read_as}
-use Rattle.ir_instructions.proofs.Takings.{tail-takes, late-takes}
-use Rattle.ir_viable_prefixes.specs.Calls.{EndsArgument, close}
 use Rattle.ir_viable_prefixes.proofs.Choices.{tested_next}
 use Rattle.ir_viable_prefixes.proofs.FlagRuns.{IsLeft, Splits, apart_splits, both_splits, loop_splits, LeavesNothingOut, fault_left, done_nothing, both_nothing, loop_nothing}
 use Rattle.ir_viable_prefixes.proofs.Items.{fixed_left, syntax_left, item_next}

@@ -1,28 +1,14 @@
 -- Viable prefixes of entries. Where an entry may begin, the entries may also end.
-use Rattle.std.proofs.Common.{◌≡◌, ◌<◌, ℕ, suc, Bool, true, false, cond, List, [], ◌∷◌, ◌++◌, length, Option, Some, None, Ok, Err, refl, sym, ap, subst, ◌∙◌, ◌⊎◌, inl, inr, append_assoc, arith}
-use Rattle.std.specs.Prelude.{codes}
-use Rattle.std.specs.Str.{bytes_eq}
-use Rattle.ir_tokens.specs.Tokens.{Token, Placed, End, Kept, Word, Mark}
-use Rattle.ir_tokens.specs.declared.raw.RawEntry.{RawEntry}
+use Rattle.ir_viable_prefixes.proofs.Common.{◌≡◌, ◌<◌, ℕ, suc, Bool, true, false, cond, List, [], ◌∷◌, ◌++◌, length, Option, Some, None, Ok, Err, refl, sym, ap, subst, ◌∙◌, ◌⊎◌, inl, inr, append_assoc, arith, codes, bytes_eq, Token, Placed, End, Kept, Word, Mark, RawEntry, Fault, IrFaultKind, LeftOut, leaves_out, shown, Read, Reader, fault, unexpected, ◌>>=◌, done, repeat_at, another_at, repeat-done, entry-takes, read_as, Flag, Nuw, Nsw, Exact, NNeg, Disjoint, SameSign, flag_keyword}
 use Rattle.ir_tokens.specs.declared.raw.RawEntry.TheVariants as entries
-use Rattle.refusal.specs.declared.fault.Fault.{Fault}
-use Rattle.ir_tokens.specs.declared.fault.IrFaultKind.{IrFaultKind}
-use Rattle.ir_tokens.specs.declared.fault.IrFaultKind.TheVariants.{LeftOut}
 use Rattle.ir_instructions.specs.declared.place.Expected.TheVariants as places
-use Rattle.ir_instructions.specs.Places.{leaves_out, misfit, shown}
-use Rattle.ir_instructions.specs.Readers.{Read, Reader, fault, unexpected, ◌>>=◌, done, repeat_at, another_at}
-use Rattle.ir_instructions.proofs.Loops.{repeat-done}
+use Rattle.ir_instructions.specs.Places.{misfit}
 use Rattle.ir_parse.specs.ModuleReaders as parsing
-use Rattle.ir_parse.proofs.TakingParts.{entry-takes}
 use Rattle.ir_viable_prefixes.proofs.Choices.{AsksNext, Tested, Opens, SaysOfRecords, transfer, begun_test, reasons_moved}
-use Rattle.ir_instructions.proofs.Steps.{read_as}
 use Rattle.ir_viable_prefixes.proofs.Closed.{Closes, closes_done}
 use Rattle.ir_viable_prefixes.proofs.Functions.{function-good, function-closes}
 use Rattle.ir_viable_prefixes.proofs.Outcomes.{Follow, Anything, Ended, ended_behind, StopsAt, StopsBefore, stops, Sample, Why, Reasons, IsReadIf, Lifts, Outcome, outcome_both, reasons_first, reasons_second, Takes, takes, refuses, token_outcome, Good, done-good, ◌then◌, TakesNoFlag, RefusesEach, token_apart, apart_new}
 use Rattle.ir_viable_prefixes.proofs.FlagRuns.{ReadsApart, both_apart}
-use Rattle.ops.specs.declared.keywords.flag.Flag.{Flag}
-use Rattle.ops.specs.declared.keywords.flag.Flag.TheVariants.{Nuw, Nsw, Exact, NNeg, Disjoint, SameSign}
-use Rattle.ops.specs.FlagKeywords.{flag_keyword}
 use Rattle.ir_viable_prefixes.proofs.Reasons.{like_word, like_type, like_function, like_width, like_number}
 use Rattle.ir_viable_prefixes.proofs.Repeats.{Steps, steps_of, another_apart, loop_sample, loop_lifts, one_step, repeat_outcomes}
 

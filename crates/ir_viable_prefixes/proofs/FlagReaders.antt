@@ -1,28 +1,8 @@
 -- Viable prefixes of flags. A flag that is refused is among those before it.
-use Rattle.std.proofs.Common.{◌≡◌, ℕ, suc, Bool, true, false, List, [], ◌∷◌, ◌++◌, length, Option, Some, None, Ok, Err, refl, sym, ap, subst, ◌∙◌, ◌⊎◌, inl, inr, is_some, arith}
-use Rattle.std.proofs.lemmas.List.{append-nil, append_cancel_right}
-use Rattle.ops.specs.declared.opcode.Flags.{Flags}
-use Rattle.ops.specs.Flags.{no_flags}
-use Rattle.ir_tokens.specs.Tokens.{Token, Placed, Word, Mark}
-use Rattle.refusal.specs.declared.fault.Fault.{Fault}
-use Rattle.ir_tokens.specs.declared.fault.IrFaultKind.{IrFaultKind}
-use Rattle.ir_tokens.specs.declared.fault.IrFaultKind.TheVariants.{Syntax, LeftOut}
+use Rattle.ir_viable_prefixes.proofs.Common.{◌≡◌, ℕ, suc, Bool, true, false, List, [], ◌∷◌, ◌++◌, length, Option, Some, None, Ok, Err, refl, sym, ap, subst, ◌∙◌, ◌⊎◌, inl, inr, is_some, arith, append-nil, append_cancel_right, Flags, no_flags, Token, Placed, Word, Mark, Fault, IrFaultKind, Syntax, LeftOut, OutOfRange, Flag, Nuw, Nsw, Exact, NNeg, Disjoint, SameSign, Is, Each, begins_record, Read, Reader, fault, ◌>>=◌, repeat_at, repeat-is, repeat-more, repeat-done, ending_word, type_in, bind_ok, read_as, same_front, flag_in, flag_keyword, has_flag, with_flag, flag-takes, type_is_no_flag, flag_in-is}
 use Rattle.ir_instructions.specs.declared.word.Ending.{Ending}
 use Rattle.ir_instructions.specs.declared.word.Ending.TheVariants as endings
-use Rattle.ir_instructions.specs.declared.word.TypeWord.TheVariants.{OutOfRange}
-use Rattle.ops.specs.declared.keywords.flag.Flag.{Flag}
-use Rattle.ops.specs.declared.keywords.flag.Flag.TheVariants.{Nuw, Nsw, Exact, NNeg, Disjoint, SameSign}
 use Rattle.ir_instructions.specs.InstructionReaders as parsing
-use Rattle.ir_instructions.specs.Parts.{Is, Each}
-use Rattle.ir_instructions.specs.Places.{begins_record}
-use Rattle.ir_instructions.specs.Readers.{Read, Reader, fault, ◌>>=◌, repeat_at}
-use Rattle.ir_instructions.proofs.Loops.{repeat-is, repeat-more, repeat-done}
-use Rattle.ir_instructions.specs.Keywords.{ending_word, type_in}
-use Rattle.ir_instructions.proofs.Steps.{bind_ok, read_as, same_front}
-use Rattle.ops.specs.FlagKeywords.{flag_in, flag_keyword, has_flag, with_flag}
-use Rattle.ir_instructions.proofs.Takings.{flag-takes}
-use Rattle.ir_instructions.proofs.WordLemmas.{type_is_no_flag}
-use Rattle.ops.proofs.FlagKeywordLemmas.{flag_in-is}
 use Rattle.ir_viable_prefixes.proofs.Choices.{AsksNext, Tested, Opens, SaysOfRecords}
 use Rattle.ir_viable_prefixes.proofs.Outcomes.{Follow, Anything, Ended, Why, Reasons, Lifts, IsReadIf, IsRefused, New, free_second, OutcomeIf, Takes, takes, refuses, taken, repeats_behind, GoodIf, Sample, sample_both, Fit, Bad, Again, RefusesAt, RefusesEach, CompletesBegun, ReasonsIf, reasons_second, fits_first, ◌then◌, outcome_both}
 use Rattle.ir_viable_prefixes.proofs.FlagRuns.{FollowsFlag, IsAgain, NoFlag, NoFlagNext, IsLeft, leaves_both, new_behind}

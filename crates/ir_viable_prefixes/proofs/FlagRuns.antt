@@ -1,16 +1,5 @@
 -- Runs of flags, and parsers in sequence that split none.
-use Rattle.std.proofs.Common.{◌≡◌, ℕ, zero, suc, Bool, true, false, cond, List, [], ◌∷◌, ◌++◌, Ok, Err, refl, sym, ap, subst, ◌∙◌, ◌⊎◌, inl, inr, append_assoc}
-use Rattle.std.proofs.lemmas.List.{append-nil}
-use Rattle.refusal.specs.declared.fault.Fault.{Fault}
-use Rattle.ir_tokens.specs.Tokens.{Token, Placed, Word}
-use Rattle.ir_tokens.specs.declared.fault.IrFaultKind.{IrFaultKind}
-use Rattle.ir_tokens.specs.declared.fault.IrFaultKind.TheVariants.{Syntax, LeftOut}
-use Rattle.ir_instructions.specs.Parts.{Is, Each}
-use Rattle.ir_instructions.specs.Readers.{Read, Reader, fault, goes_on, ◌>>=◌, done, steps_at, repeat_at}
-use Rattle.ir_instructions.proofs.Loops.{repeat-is}
-use Rattle.ir_instructions.proofs.Steps.{bind_ok, read_as}
-use Rattle.ops.specs.declared.keywords.flag.Flag.{Flag}
-use Rattle.ops.specs.FlagKeywords.{flag_keyword}
+use Rattle.ir_viable_prefixes.proofs.Common.{◌≡◌, ℕ, zero, suc, Bool, true, false, cond, List, [], ◌∷◌, ◌++◌, Ok, Err, refl, sym, ap, subst, ◌∙◌, ◌⊎◌, inl, inr, append_assoc, append-nil, Fault, Token, Placed, Word, IrFaultKind, Syntax, LeftOut, Is, Each, Read, Reader, fault, goes_on, ◌>>=◌, done, steps_at, repeat_at, repeat-is, bind_ok, read_as, Flag, flag_keyword}
 
 -- the last tokens are keywords of flags, of which the first is this word
 abbrev pub FollowsFlag : List Placed → List ℕ → Type 0

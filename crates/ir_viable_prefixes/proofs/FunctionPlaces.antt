@@ -1,32 +1,11 @@
 -- Where modules read items: in the headers of functions, and in calls.
-use Rattle.std.proofs.Common.{◌≡◌, ◌<◌, ℕ, zero, suc, Bool, true, false, cond, List, [], ◌∷◌, ◌++◌, length, Option, Some, None, Ok, Err, refl, sym, ap, subst, ◌∙◌, inr, append_assoc, arith, length-append}
-use Rattle.std.specs.Prelude.{codes}
-use Rattle.std.specs.Str.{bytes_eq}
-use Rattle.ir_tokens.specs.declared.called.Identifier.{Identifier}
-use Rattle.ir_tokens.specs.declared.called.Identifier.TheVariants.{Named, Numbered}
-use Rattle.ir_tokens.specs.Identifiers.{identifier_of}
-use Rattle.ir_tokens.specs.Tokens.{Token, Placed, Kept, Label, Word, Register, Function, Group, Mark}
-use Rattle.ir_tokens.specs.declared.raw.RawBlock.{RawBlock}
-use Rattle.ir_tokens.specs.declared.raw.RawEntry.{RawEntry}
+use Rattle.ir_viable_prefixes.proofs.Common.{◌≡◌, ◌<◌, ℕ, zero, suc, Bool, true, false, cond, List, [], ◌∷◌, ◌++◌, length, Option, Some, None, Ok, Err, refl, sym, ap, subst, ◌∙◌, inr, append_assoc, arith, length-append, codes, bytes_eq, Identifier, Named, Numbered, identifier_of, Token, Placed, Kept, Label, Word, Register, Function, Group, Mark, RawBlock, RawEntry, RawFunction, RawIdentifier, RawInst, RawParameter, RawTerminator, Fault, IrFaultKind, Syntax, LeftOut, attachments_at, identified, insts_at, inst_at, is_metadata, is_register, terminator_at, Read, Reader, fault, unexpected, goes_on, ◌>>=◌, done, another_at, each_at, repeat-done, each-done, read_as, block-takes, parameter-takes, EndsArgument, comma, close}
 use Rattle.ir_tokens.specs.declared.raw.RawEntry.TheVariants as entries
-use Rattle.ir_tokens.specs.declared.raw.RawFunction.{RawFunction}
-use Rattle.ir_tokens.specs.declared.raw.RawIdentifier.{RawIdentifier}
-use Rattle.ir_tokens.specs.declared.raw.RawInst.{RawInst}
-use Rattle.ir_tokens.specs.declared.raw.RawParameter.{RawParameter}
-use Rattle.ir_tokens.specs.declared.raw.RawTerminator.{RawTerminator}
-use Rattle.refusal.specs.declared.fault.Fault.{Fault}
-use Rattle.ir_tokens.specs.declared.fault.IrFaultKind.{IrFaultKind}
-use Rattle.ir_tokens.specs.declared.fault.IrFaultKind.TheVariants.{Syntax, LeftOut}
 use Rattle.ir_instructions.specs.declared.place.Expected.TheVariants as places
-use Rattle.ir_instructions.specs.InstructionReaders.{attachment_at, attachments_at, identified, insts_at, inst_at, is_mark, is_metadata, is_register, mark_at, tail_at, terminator_at, type_at}
+use Rattle.ir_instructions.specs.InstructionReaders.{attachment_at, is_mark, mark_at, tail_at, type_at}
 use Rattle.ir_instructions.specs.Places.{misfit}
 use Rattle.ir_instructions.specs.Punctuation as marks
-use Rattle.ir_instructions.specs.Readers.{Read, Reader, fault, unexpected, goes_on, ◌>>=◌, done, another_at, each_at}
-use Rattle.ir_instructions.proofs.Loops.{repeat-done, each-done}
-use Rattle.ir_instructions.proofs.Steps.{read_as}
 use Rattle.ir_parse.specs.ModuleReaders as parsing
-use Rattle.ir_parse.proofs.TakingParts.{block-takes, parameter-takes}
-use Rattle.ir_viable_prefixes.specs.Calls.{EndsArgument, comma, close}
 use Rattle.ir_viable_prefixes.proofs.CallPlaces.{last_items_ready, last_items_words, items_ready, header_then, type_closes, type_fares, type_places, type_follows, type_not_at_once, type_refuses_ends, mark_not_at_once, mark_then, done_not_at_once, insts_places}
 use Rattle.ir_viable_prefixes.proofs.Closed.{Closes, closes_behind, closes_done, mark_closes}
 use Rattle.ir_viable_prefixes.proofs.Entries.{entry_token_at, behind_entry, same_entry, IsFirst, entry_token_takes, behind_entry-good, Begins, OrFirst, entry_outcome, entry_steps, Loop, another_outcome, EndsText}

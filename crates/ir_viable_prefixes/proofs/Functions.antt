@@ -1,36 +1,13 @@
 -- Viable prefixes of blocks, parameters and functions.
-use Rattle.std.proofs.Common.{◌≡◌, ℕ, Bool, true, false, eqb, List, [], ◌∷◌, Option, Some, None, Ok, Err, refl, sym, subst, ◌⊎◌, inl, inr}
-use Rattle.std.specs.Prelude.{codes}
-use Rattle.std.proofs.lemmas.Bool.{eqb-true}
+use Rattle.ir_viable_prefixes.proofs.Common.{◌≡◌, ℕ, Bool, true, false, eqb, List, [], ◌∷◌, Option, Some, None, Ok, Err, refl, sym, subst, ◌⊎◌, inl, inr, codes, eqb-true, Identifier, Named, Numbered, identifier_of, name_of, Token, Placed, Label, Word, Number, Register, Function, Metadata, Mark, RawBlock, RawIdentifier, RawParameter, Fault, IrFaultKind, LeftOut, callee_named, intrinsic_in, attachments_at, identified, insts_at, is_metadata, is_register, terminator_at, begins_record, Read, Reader, fault, unexpected, ◌>>=◌, done, each_at, Pred, Flag, predicate_keyword, RawTerminator, ending_in, ending_word, type_in, is_item_word, block-takes, parameter-takes, flag_keyword}
 use Rattle.scan.specs.Bytes as bytes
-use Rattle.ir_tokens.specs.declared.called.Identifier.{Identifier}
-use Rattle.ir_tokens.specs.declared.called.Identifier.TheVariants.{Named, Numbered}
-use Rattle.ir_tokens.specs.Identifiers.{identifier_of, name_of}
-use Rattle.ir_tokens.specs.Tokens.{Token, Placed, Label, Word, Number, Register, Function, Metadata, Mark}
-use Rattle.ir_tokens.specs.declared.raw.RawBlock.{RawBlock}
-use Rattle.ir_tokens.specs.declared.raw.RawIdentifier.{RawIdentifier}
-use Rattle.ir_tokens.specs.declared.raw.RawParameter.{RawParameter}
-use Rattle.refusal.specs.declared.fault.Fault.{Fault}
-use Rattle.ir_tokens.specs.declared.fault.IrFaultKind.{IrFaultKind}
-use Rattle.ir_tokens.specs.declared.fault.IrFaultKind.TheVariants.{LeftOut}
 use Rattle.ir_instructions.specs.declared.place.Expected.TheVariants as places
-use Rattle.ir_instructions.specs.CallReaders.{callee_named}
-use Rattle.ir_instructions.specs.Intrinsics.{intrinsic_in}
-use Rattle.ir_instructions.specs.InstructionReaders.{attachments_at, identified, insts_at, is_mark, is_metadata, is_register, tail_at, terminator_at}
-use Rattle.ir_instructions.specs.Places.{begins_record, misfit}
-use Rattle.ir_instructions.specs.Readers.{Read, Reader, fault, unexpected, ◌>>=◌, done, each_at}
-use Rattle.ops.specs.declared.comparison.Pred.{Pred}
+use Rattle.ir_instructions.specs.InstructionReaders.{is_mark, tail_at}
+use Rattle.ir_instructions.specs.Places.{misfit}
 use Rattle.ops.specs.declared.comparison.Pred.TheVariants as preds
-use Rattle.ops.specs.declared.keywords.flag.Flag.{Flag}
 use Rattle.ops.specs.declared.keywords.flag.Flag.TheVariants as flags
-use Rattle.ops.specs.Keywords.{predicate_keyword}
-use Rattle.ir_tokens.specs.declared.raw.RawTerminator.{RawTerminator}
-use Rattle.ir_instructions.specs.Keywords.{ending_in, ending_word, type_in}
 use Rattle.ir_instructions.specs.Punctuation as marks
-use Rattle.ir_instructions.specs.Items.{is_item_word}
 use Rattle.ir_parse.specs.ModuleReaders as parsing
-use Rattle.ir_parse.proofs.TakingParts.{block-takes, parameter-takes}
-use Rattle.ops.specs.FlagKeywords.{flag_keyword}
 use Rattle.ir_viable_prefixes.proofs.Choices.{AsksNext, Tested, Opens, SaysOfRecords, reasons_transferred, either-good}
 use Rattle.ir_viable_prefixes.proofs.Closed.{Closes, closes_behind, closes_done, mark_closes}
 use Rattle.ir_viable_prefixes.proofs.Instructions.{insts-open}

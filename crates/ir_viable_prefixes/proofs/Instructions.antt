@@ -1,30 +1,11 @@
 -- Viable prefixes of instructions. A `,` behind a `phi` begins an incoming value or an attachment, and the token behind
 -- the `,` decides which.
-use Rattle.std.proofs.Common.{◌≡◌, ◌<◌, ◌≤◌, ℕ, zero, suc, Bool, true, false, List, [], ◌∷◌, ◌++◌, length, Option, Some, None, Ok, Err, refl, sym, ap, subst, ◌∙◌, inl, inr, arith, length-append}
-use Rattle.ir_tokens.specs.Tokens.{Token, Placed, Word, Register, Mark}
-use Rattle.ir_tokens.specs.declared.raw.RawOp.{RawOp}
-use Rattle.ir_tokens.specs.declared.raw.RawOp.TheVariants.{Phi}
-use Rattle.ir_tokens.specs.declared.raw.RawIncoming.{RawIncoming}
-use Rattle.ir_tokens.specs.declared.raw.RawInst.{RawInst}
-use Rattle.refusal.specs.declared.fault.Fault.{Fault}
-use Rattle.ir_tokens.specs.declared.fault.IrFaultKind.{IrFaultKind}
-use Rattle.std.specs.Prelude.{codes}
-use Rattle.std.proofs.lemmas.List.{append_cancel_right}
-use Rattle.ir_instructions.specs.declared.word.Operation.{Operation}
+use Rattle.ir_viable_prefixes.proofs.Common.{◌≡◌, ◌<◌, ◌≤◌, ℕ, zero, suc, Bool, true, false, List, [], ◌∷◌, ◌++◌, length, Option, Some, None, Ok, Err, refl, sym, ap, subst, ◌∙◌, inl, inr, arith, length-append, Token, Placed, Word, Register, Mark, RawOp, Phi, RawIncoming, RawInst, Fault, IrFaultKind, codes, append_cancel_right, Operation, call_word_at, Read, Reader, goes_on, ◌>>=◌, done, repeat_at, another_at, operation_in, operation_word, same_behind, each-done, repeat-done, mark_at-is, bind_ok, read_as, operation_in-is, tail-takes, incoming-takes, inst-takes, CallStands}
 use Rattle.ir_instructions.specs.declared.word.Operation.TheVariants as operations
 use Rattle.ir_instructions.specs.InstructionReaders as parsing
-use Rattle.ir_instructions.specs.CallReaders.{call_word_at}
-use Rattle.ir_instructions.specs.Readers.{Read, Reader, goes_on, ◌>>=◌, done, repeat_at, another_at}
-use Rattle.ir_instructions.specs.Keywords.{operation_in, operation_word}
 use Rattle.ir_instructions.specs.Punctuation as marks
-use Rattle.ir_instructions.proofs.Loops.{same_behind, each-done, repeat-done}
-use Rattle.ir_instructions.proofs.Readings.{mark_at-is}
-use Rattle.ir_instructions.proofs.Steps.{bind_ok, read_as}
-use Rattle.ir_instructions.proofs.WordLemmas.{operation_in-is}
 use Rattle.ir_instructions.proofs.Shorter.{token}
-use Rattle.ir_instructions.proofs.Takings.{tail-takes, incoming-takes, inst-takes}
 use Rattle.ir_viable_prefixes.proofs.Choices.{Tested, tested_next, And, Either, either_outcome, either_sample, reasons_transferred, same-good, same_open}
-use Rattle.ir_viable_prefixes.specs.Calls.{CallStands}
 use Rattle.ir_viable_prefixes.specs.Calls as calls
 use Rattle.ir_viable_prefixes.proofs.Calls.{CalleeOr, StandsTyped, StandsMarked, MarkedWhy, callee_second, callee_told, Called, called_sample, called_outcome, called_splits, call_from, marked_sample, marked_outcome, marked_splits, marked_from}
 use Rattle.ir_viable_prefixes.proofs.Endings.{Ending, ending-good}

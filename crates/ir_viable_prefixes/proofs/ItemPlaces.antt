@@ -1,20 +1,6 @@
 -- Where a parser reads a group of attributes, items stand. Which items these are is told by what the parser makes of a
 -- value or a word in the group's place.
-use Rattle.std.proofs.Common.{◌≡◌, ◌<◌, ℕ, zero, suc, Bool, true, false, List, [], ◌∷◌, ◌++◌, length, Ok, Err, refl, sym, ap, subst, ◌∙◌, ◌⊎◌, inl, inr, append_assoc, arith, length-append}
-use Rattle.std.proofs.lemmas.List.{append_cancel_right}
-use Rattle.ir_tokens.specs.Tokens.{Token, Placed, End, Word, Group}
-use Rattle.ir_tokens.specs.declared.raw.RawOperand.{RawOperand}
-use Rattle.refusal.specs.declared.fault.Fault.{Fault}
-use Rattle.ir_tokens.specs.declared.fault.IrFaultKind.{IrFaultKind}
-use Rattle.ir_instructions.specs.CallReaders.{begins_inner_item, ends_argument}
-use Rattle.ir_instructions.specs.ItemGrammar.{SpellsItem, MayFollowItem}
-use Rattle.ir_instructions.specs.ItemReaders.{begins_item}
-use Rattle.ir_instructions.specs.Items.{is_item_word}
-use Rattle.ir_instructions.specs.Parts.{Each}
-use Rattle.ir_instructions.specs.Readers.{Read, Reader, goes_on, ◌>>=◌, done, repeat_at}
-use Rattle.ir_instructions.proofs.Loops.{repeat-done}
-use Rattle.ir_instructions.proofs.Steps.{ok_is}
-use Rattle.ir_viable_prefixes.specs.Calls.{EndsArgument}
+use Rattle.ir_viable_prefixes.proofs.Common.{◌≡◌, ◌<◌, ℕ, zero, suc, Bool, true, false, List, [], ◌∷◌, ◌++◌, length, Ok, Err, refl, sym, ap, subst, ◌∙◌, ◌⊎◌, inl, inr, append_assoc, arith, length-append, append_cancel_right, Token, Placed, End, Word, Group, RawOperand, Fault, IrFaultKind, begins_inner_item, ends_argument, SpellsItem, MayFollowItem, begins_item, is_item_word, Each, Read, Reader, goes_on, ◌>>=◌, done, repeat_at, repeat-done, ok_is, EndsArgument}
 use Rattle.ir_viable_prefixes.proofs.Closed.{Closes}
 use Rattle.ir_viable_prefixes.proofs.NoGroups.{Free, not_free, Groupless}
 use Rattle.ir_viable_prefixes.proofs.Outcomes.{Follow, Next, Ended, StopsBefore, stops, stops_same, Completes, CompletesBegun, Sample, sample_both, RefusesPlaced, a_truth, Why, Reasons, ReasonsIf, OutcomeIf, GoodIf, GoodOpen, done-good}

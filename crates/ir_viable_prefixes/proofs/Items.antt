@@ -1,30 +1,13 @@
 -- Viable prefixes of items.
-use Rattle.std.proofs.Common.{◌≡◌, ℕ, suc, Bool, true, false, eqb, List, [], ◌∷◌, ◌++◌, length, Ok, Err, refl, sym, ap, subst, ◌∙◌, inl, inr, cond, append_assoc, arith}
-use Rattle.std.proofs.lemmas.List.{append-nil, append_cancel_right}
-use Rattle.std.specs.Prelude.{codes}
-use Rattle.ir_tokens.specs.Tokens.{Token, Placed, End, Other, Bad as Bad_token, KeptGroup, Word, Number, Function, Group, Quoted, Mark, is_last}
+use Rattle.ir_viable_prefixes.proofs.Common.{◌≡◌, ℕ, suc, Bool, true, false, eqb, List, [], ◌∷◌, ◌++◌, length, Ok, Err, refl, sym, ap, subst, ◌∙◌, inl, inr, cond, append_assoc, arith, append-nil, append_cancel_right, codes, Token, Placed, End, Other, KeptGroup, Word, Number, Function, Group, Quoted, Mark, is_last, IrFaultKind, Syntax, LeftOut, Part, Each, is_word, leaves_out, Read, Reader, fault, unexpected, ◌>>=◌, done, another_at, each_at, Flag, Nuw, Nsw, Exact, NNeg, Disjoint, SameSign, flag_keyword, ending_word, type_in, SpellsItem, MayFollowItem, of_word_and_group, of_number, of_group, of_quoted, of_key_and_value, is_item_word, repeat-is, each-more, each-done, read_as, type_in-of, items_at-is, items_at-of, item-takes}
+use Rattle.ir_tokens.specs.Tokens.{Bad as Bad_token}
 use Rattle.ir_tokens.specs.declared.raw.RawValue.TheVariants as values
-use Rattle.ir_tokens.specs.declared.fault.IrFaultKind.{IrFaultKind}
-use Rattle.ir_tokens.specs.declared.fault.IrFaultKind.TheVariants.{Syntax, LeftOut}
 use Rattle.ir_instructions.specs.declared.place.Expected.TheVariants as places
 use Rattle.ir_instructions.specs.InstructionReaders.{is_mark, mark_at}
-use Rattle.ir_instructions.specs.Parts.{Part, Each}
-use Rattle.ir_instructions.specs.Places.{is_word, leaves_out, misfit}
-use Rattle.ir_instructions.specs.Readers.{Read, Reader, fault, unexpected, ◌>>=◌, done, another_at, each_at}
-use Rattle.ops.specs.declared.keywords.flag.Flag.{Flag}
-use Rattle.ops.specs.declared.keywords.flag.Flag.TheVariants.{Nuw, Nsw, Exact, NNeg, Disjoint, SameSign}
-use Rattle.ops.specs.FlagKeywords.{flag_keyword}
-use Rattle.ir_instructions.specs.Keywords.{ending_word, type_in}
+use Rattle.ir_instructions.specs.Places.{misfit}
 use Rattle.ir_instructions.specs.Punctuation as marks
-use Rattle.ir_instructions.specs.ItemGrammar.{SpellsItem, MayFollowItem, of_word, of_word_and_group, of_number, of_group, of_quoted, of_key_and_value}
-use Rattle.ir_instructions.specs.Items.{is_item_word}
+use Rattle.ir_instructions.specs.ItemGrammar.{of_word}
 use Rattle.ir_instructions.specs.ItemReaders as parsing
-use Rattle.ir_instructions.proofs.Loops.{repeat-is, each-more, each-done}
-use Rattle.ir_instructions.proofs.Steps.{read_as}
-use Rattle.ir_instructions.proofs.WordLemmas.{type_in-of}
-use Rattle.ir_instructions.proofs.ItemReadings.{items_at-is}
-use Rattle.ir_instructions.proofs.ItemSpellings.{items_at-of}
-use Rattle.ir_instructions.proofs.ItemSizes.{item-takes}
 use Rattle.ir_viable_prefixes.specs.Misfits as nouns
 use Rattle.ir_viable_prefixes.proofs.Choices.{AsksNext, Tested, tested_next, Opens, OpensRecords, either-good, reasons_transferred}
 use Rattle.ir_viable_prefixes.proofs.Outcomes.{Again, Follow, Next, next_map, Anything, Ended, StopsEach, stops, stops_next, Sample, sample_both, Fit, RefusesAt, Bad, bad_second, Why, Reasons, ReasonsIf, Halts, OutcomeIf, Outcome, outcome_both, reasons_first, Takes, takes, refuses, one_token, MayTake, may_take, leaves, token_or_none, Good, GoodIf, done-good, ◌then◌, TakesNoFlag, LeavesFlags, apart_new, nothing_new, reasons_lift, token_outcome}

@@ -1,29 +1,12 @@
 -- Parsers that read no group of attributes on a line of its own.
-use Rattle.std.proofs.Common.{◌≡◌, ◌≢◌, ℕ, Bool, true, false, cond, List, [], ◌∷◌, ◌++◌, Ok, refl, sym, ap, subst, ◌∙◌, append_assoc}
-use Rattle.std.specs.Prelude.{codes}
-use Rattle.std.specs.List.{AllByRecursion}
-use Rattle.ops.specs.declared.conversion.Cast.{Cast}
-use Rattle.ops.specs.declared.opcode.Flags.{Flags}
+use Rattle.ir_viable_prefixes.proofs.Common.{◌≡◌, ◌≢◌, ℕ, Bool, true, false, cond, List, [], ◌∷◌, ◌++◌, Ok, refl, sym, ap, subst, ◌∙◌, append_assoc, codes, AllByRecursion, Cast, Flags, flags_of, flags_of_cast, flags_of_icmp, pred_in, Token, Placed, Word, Number, Register, Group, Metadata, Mark, RawValue, Operation, begins_late_item, late_item_at, some_token_at, late_items_at, IsValueToken, ending_in, Reader, ◌>>=◌, done, or_left_out, repeat_at, another_at, each_at, late_item-is, repeat-is, mark_at-is, keyword_at-is, register_at-is, type_at-is, operand_at-is, case_value_at-is, attachment_at-is, bind_ok, read_as, not_left_out}
 use Rattle.ops.specs.declared.opcode.Opcode.{Opcode}
-use Rattle.ops.specs.Flags.{flags_of, flags_of_cast, flags_of_icmp}
-use Rattle.ops.specs.Keywords.{pred_in}
-use Rattle.ir_tokens.specs.Tokens.{Token, Placed, Word, Number, Register, Group, Metadata, Mark}
-use Rattle.ir_tokens.specs.declared.raw.RawValue.{RawValue}
 use Rattle.ir_tokens.specs.declared.raw.RawValue.TheVariants as values
 use Rattle.ir_instructions.specs.declared.word.Ending.{Ending}
 use Rattle.ir_instructions.specs.declared.word.Ending.TheVariants as endings
-use Rattle.ir_instructions.specs.declared.word.Operation.{Operation}
 use Rattle.ir_instructions.specs.declared.word.Operation.TheVariants as operations
-use Rattle.ir_instructions.specs.CallReaders.{begins_late_item, late_item_at, some_token_at, late_items_at}
-use Rattle.ir_instructions.specs.Grammar.{IsValueToken}
 use Rattle.ir_instructions.specs.InstructionReaders as parsing
-use Rattle.ir_instructions.specs.Keywords.{ending_in}
 use Rattle.ir_instructions.specs.Punctuation as marks
-use Rattle.ir_instructions.specs.Readers.{Reader, ◌>>=◌, done, or_left_out, repeat_at, another_at, each_at}
-use Rattle.ir_instructions.proofs.CallReadings.{late_item-is}
-use Rattle.ir_instructions.proofs.Loops.{repeat-is}
-use Rattle.ir_instructions.proofs.Readings.{mark_at-is, keyword_at-is, register_at-is, type_at-is, operand_at-is, case_value_at-is, attachment_at-is}
-use Rattle.ir_instructions.proofs.Steps.{bind_ok, read_as, not_left_out}
 use Rattle.ir_viable_prefixes.proofs.FlagReaders.{AreOwn, flags_are}
 
 -- ---- tokens among which no such group is

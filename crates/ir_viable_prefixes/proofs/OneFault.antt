@@ -1,12 +1,5 @@
 -- Of tokens that do not fit only one fault is told: it is told of the first misfit, of which only one fault is said.
-use Rattle.std.proofs.Common.{◌≡◌, ℕ, List, [], ◌∷◌, ◌++◌, refl, sym, ap, subst, ◌∙◌, ◌⊎◌, inl, inr, append_assoc}
-use Rattle.std.proofs.lemmas.List.{append_cancel_left}
-use Rattle.ir_tokens.specs.Tokens.{Placed}
-use Rattle.refusal.specs.declared.fault.Fault.{Fault}
-use Rattle.ir_tokens.specs.declared.fault.IrFaultKind.{IrFaultKind}
-use Rattle.ir_instructions.specs.Readers.{fault}
-use Rattle.ir_viable_prefixes.specs.Fits.{Fits}
-use Rattle.ir_viable_prefixes.specs.Laws.{IsSaid, of_token, in_call, IsTold, IsFirstMisfit}
+use Rattle.ir_viable_prefixes.proofs.Common.{◌≡◌, ℕ, List, [], ◌∷◌, ◌++◌, refl, sym, ap, subst, ◌∙◌, ◌⊎◌, inl, inr, append_assoc, append_cancel_left, Placed, Fault, IrFaultKind, fault, Fits, IsSaid, of_token, in_call, IsTold, IsFirstMisfit}
 use Rattle.ir_viable_prefixes.proofs.Told.{begun_fits}
 
 -- two tokens of one list are at the same index, or one of them is before the other

@@ -1,20 +1,7 @@
 -- Two kinds of fault that are said of one token are the same.
-use Rattle.std.proofs.Common.{◌≡◌, ℕ, ◌<◌, ◌^◌, true, false, List, refl, sym, ap, subst, ◌∙◌, pos, arith}
-use Rattle.std.specs.Prelude.{codes, IsSome}
-use Rattle.std.proofs.lemmas.Int.{ints}
-use Rattle.std.proofs.lemmas.Nat.{pow_pos}
-use Rattle.ir_tokens.specs.Numbers.{constant_of, is_in_range, number_of}
-use Rattle.ir_tokens.specs.Tokens.{Token, Placed, End, Bad as Bad_token, Word, Number, is_last}
-use Rattle.ir_tokens.specs.declared.fault.IrFaultKind.{IrFaultKind}
-use Rattle.ir_tokens.specs.declared.fault.IrFaultKind.TheVariants.{BadByte, Syntax, LeftOut, Width, ConstRange}
-use Rattle.ir_instructions.specs.Keywords.{type_in}
-use Rattle.ir_instructions.specs.Places.{begins_record, begins_type}
-use Rattle.ir_instructions.specs.declared.word.TypeWord.TheVariants.{OutOfRange}
-use Rattle.ops.specs.declared.keywords.flag.Flag.{Flag}
-use Rattle.ops.specs.declared.keywords.flag.Flag.TheVariants.{Nuw, Nsw, Exact, NNeg, Disjoint, SameSign}
-use Rattle.ops.specs.FlagKeywords.{flag_keyword}
-use Rattle.ir_viable_prefixes.specs.Fits.{FitsBehind}
-use Rattle.ir_viable_prefixes.specs.Misfits.{AnotherFits, of_word, of_mark, of_function, IsLeftOut, another, mark_of_record, entry, IsRepeated, IsNothingElse, IsWrongWidth, IsWrongNumber, IsMisfit, type}
+use Rattle.ir_viable_prefixes.proofs.Common.{◌≡◌, ℕ, ◌<◌, ◌^◌, true, false, List, refl, sym, ap, subst, ◌∙◌, pos, arith, codes, IsSome, ints, pow_pos, constant_of, is_in_range, number_of, Token, Placed, End, Word, Number, is_last, IrFaultKind, BadByte, Syntax, LeftOut, Width, ConstRange, type_in, begins_record, begins_type, OutOfRange, Flag, Nuw, Nsw, Exact, NNeg, Disjoint, SameSign, flag_keyword, FitsBehind, AnotherFits, of_mark, of_function, IsLeftOut, mark_of_record, entry, IsRepeated, IsNothingElse, IsWrongWidth, IsWrongNumber, IsMisfit, type}
+use Rattle.ir_tokens.specs.Tokens.{Bad as Bad_token}
+use Rattle.ir_viable_prefixes.specs.Misfits.{of_word, another}
 
 -- where the text may end, no number fits
 abbrev pub EndsHaveNoNumbers : List Placed → Type 0

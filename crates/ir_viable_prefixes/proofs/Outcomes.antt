@@ -1,27 +1,9 @@
 -- What a parser (reader) makes of tokens, said so that it composes for parsers in sequence: it reads a prefix (front)
 -- of them whatever stands further behind, or it refuses the token behind a front which other tokens can complete.
 -- Tokens that might stand in the place of others stand on a line of their own.
-use Rattle.std.proofs.Common.{◌≡◌, ◌≢◌, ℕ, true, false, List, [], ◌∷◌, ◌++◌, Some, None, Ok, Err, refl, sym, ap, subst, ◌∙◌, ◌⊎◌, inl, inr, append_assoc}
-use Rattle.std.specs.Prelude.{codes}
-use Rattle.std.proofs.lemmas.List.{append-nil, append_cancel_right}
+use Rattle.ir_viable_prefixes.proofs.Common.{◌≡◌, ◌≢◌, ℕ, true, false, List, [], ◌∷◌, ◌++◌, Some, None, Ok, Err, refl, sym, ap, subst, ◌∙◌, ◌⊎◌, inl, inr, append_assoc, codes, append-nil, append_cancel_right, identifier_of, constant_of, Token, Placed, Word, Number, Function, Group, Quoted, Mark, is_last, IrFaultKind, Syntax, LeftOut, ConstRange, Fault, begins_record, callee_named, IsTypeWord, ending_word, Pred, predicate_keyword, Read, Reader, fault, goes_on, ◌>>=◌, done, bind_ok, ok_is, read_as, Flag, flag_keyword, CallStands, EndsArgument}
 use Rattle.ops.specs.Number.{Number as Numeral}
-use Rattle.ir_tokens.specs.Identifiers.{identifier_of}
-use Rattle.ir_tokens.specs.Numbers.{constant_of}
-use Rattle.ir_tokens.specs.Tokens.{Token, Placed, Word, Number, Function, Group, Quoted, Mark, is_last}
-use Rattle.ir_tokens.specs.declared.fault.IrFaultKind.{IrFaultKind}
-use Rattle.ir_tokens.specs.declared.fault.IrFaultKind.TheVariants.{Syntax, LeftOut, ConstRange}
-use Rattle.refusal.specs.declared.fault.Fault.{Fault}
 use Rattle.ir_instructions.specs.declared.word.Ending.{Ending}
-use Rattle.ir_instructions.specs.Places.{begins_record}
-use Rattle.ir_instructions.specs.CallReaders.{callee_named}
-use Rattle.ir_instructions.specs.Keywords.{IsTypeWord, ending_word}
-use Rattle.ops.specs.declared.comparison.Pred.{Pred}
-use Rattle.ops.specs.Keywords.{predicate_keyword}
-use Rattle.ir_instructions.specs.Readers.{Read, Reader, fault, goes_on, ◌>>=◌, done}
-use Rattle.ir_instructions.proofs.Steps.{bind_ok, ok_is, read_as}
-use Rattle.ops.specs.declared.keywords.flag.Flag.{Flag}
-use Rattle.ops.specs.FlagKeywords.{flag_keyword}
-use Rattle.ir_viable_prefixes.specs.Calls.{CallStands, EndsArgument}
 use Rattle.ir_viable_prefixes.specs.Misfits as nouns
 use Rattle.ir_viable_prefixes.proofs.FlagRuns.{FollowsFlag, IsAgain, NoFlag, NoFlagNext, Parted, new_behind, none_repeated, ReadsApart, Splits, apart_splits, both_splits, leaves_both, done_apart, both_apart, IsLeft, LeavesNothingOut}
 use Rattle.ir_viable_prefixes.proofs.Reasons.{a_type, a_pred, an_end, a_group, Like, like_word, NoRecord, NoGroup, Maps, Reason, reason_map}

@@ -1,12 +1,5 @@
 -- A parser that reads some tokens first, and then does what another does.
-use Rattle.std.proofs.Common.{◌≡◌, ℕ, Bool, true, false, List, [], ◌∷◌, ◌++◌, Ok, Err, refl, sym, ap, subst, ◌∙◌, ◌⊎◌, inl, inr, append_assoc}
-use Rattle.std.proofs.lemmas.List.{append-nil}
-use Rattle.ir_tokens.specs.Tokens.{Token, Placed, KeptGroup, Word, Number, Function, Group, Mark}
-use Rattle.refusal.specs.declared.fault.Fault.{Fault}
-use Rattle.ir_tokens.specs.declared.fault.IrFaultKind.{IrFaultKind}
-use Rattle.ir_instructions.specs.Places.{begins_record}
-use Rattle.ir_instructions.specs.Keywords.{ending_word}
-use Rattle.ir_instructions.specs.Readers.{Read, Reader}
+use Rattle.ir_viable_prefixes.proofs.Common.{◌≡◌, ℕ, Bool, true, false, List, [], ◌∷◌, ◌++◌, Ok, Err, refl, sym, ap, subst, ◌∙◌, ◌⊎◌, inl, inr, append_assoc, append-nil, Token, Placed, KeptGroup, Word, Number, Function, Group, Mark, Fault, IrFaultKind, begins_record, ending_word, Read, Reader}
 use Rattle.ir_viable_prefixes.proofs.FlagRuns.{IsLeft}
 use Rattle.ir_viable_prefixes.proofs.Outcomes.{Again, Follow, Next, Anything, StopsBefore, Halts, Completes, CompletesBegun, Fit, FitsEnd, RefusesAt, RefusesEnd, Bad, a_truth, no_truth, NoValue, no_number, no_word, no_truth_value, no_group, no_quoted, InCall, of_callee, of_value, of_truth, Why, ReasonsIf, Reasons, New, IsRefused, OutcomeIf, repeats_behind, stands_behind}
 use Rattle.ir_viable_prefixes.proofs.Reasons.{a_type, a_pred, a_group, Like, like_word, like_type, like_function, like_width, like_number, NoRecord, NoGroup, Maps, reason_map}

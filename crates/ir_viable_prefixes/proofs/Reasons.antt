@@ -1,21 +1,12 @@
 -- Why a parser refuses a token, in terms of the other tokens that it takes there.
-use Rattle.std.proofs.Common.{◌≡◌, ℕ, Bool, true, false, cond, List, Some, None, refl, ◌⊎◌, inl, inr}
-use Rattle.std.proofs.lemmas.Bool.{eqb-true}
-use Rattle.std.specs.Prelude.{codes}
+use Rattle.ir_viable_prefixes.proofs.Common.{◌≡◌, ℕ, Bool, true, false, cond, List, Some, None, refl, ◌⊎◌, inl, inr, eqb-true, codes, identifier_of, constant_of, Token, End, Other, Word, Number, Function, Group, Mark, IrFaultKind, BadByte, Syntax, LeftOut, Width, ConstRange, OutOfRange, callee_named, begins_record, begins_type, is_word, leaves_out, shown, IsTypeWord, ending_word, type_in, IsNoun}
 use Rattle.ops.specs.Number.{Number as Numeral}
-use Rattle.ir_tokens.specs.Identifiers.{identifier_of}
-use Rattle.ir_tokens.specs.Numbers.{constant_of}
-use Rattle.ir_tokens.specs.Tokens.{Token, End, Other, Bad as Bad_token, Word, Number, Function, Group, Mark}
-use Rattle.ir_tokens.specs.declared.fault.IrFaultKind.{IrFaultKind}
-use Rattle.ir_tokens.specs.declared.fault.IrFaultKind.TheVariants.{BadByte, Syntax, LeftOut, Width, ConstRange}
+use Rattle.ir_tokens.specs.Tokens.{Bad as Bad_token}
 use Rattle.ir_instructions.specs.declared.place.Expected.TheVariants as places
 use Rattle.ir_instructions.specs.declared.word.Ending.{Ending}
-use Rattle.ir_instructions.specs.declared.word.TypeWord.TheVariants.{Other as Nothing, OutOfRange}
-use Rattle.ir_instructions.specs.CallReaders.{callee_named}
-use Rattle.ir_instructions.specs.Places.{begins_record, begins_type, is_word, leaves_out, misfit, shown}
-use Rattle.ir_instructions.specs.Keywords.{IsTypeWord, ending_word, type_in}
+use Rattle.ir_instructions.specs.declared.word.TypeWord.TheVariants.{Other as Nothing}
+use Rattle.ir_instructions.specs.Places.{misfit}
 use Rattle.ir_instructions.specs.Punctuation as marks
-use Rattle.ir_viable_prefixes.specs.Misfits.{IsNoun}
 
 -- ---- sample tokens of each sort
 

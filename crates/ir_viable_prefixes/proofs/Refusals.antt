@@ -1,45 +1,13 @@
 -- At which token the fault of a text is.
-use Rattle.std.proofs.Common.{◌≡◌, ◌≢◌, ◌≤◌, ℕ, Bool, true, false, List, [], ◌∷◌, ◌++◌, length, Result, Ok, Err, refl, sym, ap, subst, ◌∙◌, ◌⊎◌, inl, inr, append_assoc, arith}
-use Rattle.std.proofs.lemmas.List.{append-nil}
-use Rattle.std.specs.Prelude.{codes, Option, Some, None, IsSome, is_some}
+use Rattle.ir_viable_prefixes.proofs.Common.{◌≡◌, ◌≢◌, ◌≤◌, ℕ, Bool, true, false, List, [], ◌∷◌, ◌++◌, length, Result, Ok, Err, refl, sym, ap, subst, ◌∙◌, ◌⊎◌, inl, inr, append_assoc, arith, append-nil, codes, Option, Some, None, IsSome, is_some, Identifier, Named, Numbered, identifier_of, constant_of, Section, TextsHaveOneListOfTokens, line_at, between, TokenKind, IsTokenAt, itself, kept_line, kept_group, unclosed, bad_byte, TokensFrom, AreTokens, Token, Placed, End, Other, Word, Number, Function, Group, Mark, token_of, is_last, RawEntry, RawModule, IrFaultKind, BadByte, Syntax, LeftOut, Width, ConstRange, Fault, Unreachable, Intrinsic, callee_named, intrinsic_in, intrinsic_in-is, intrinsic_in-of, begins_record, begins_type, leaves_out, Read, ending_word, Eq, predicate_keyword, SpellsModule, ModulesAreReadAsSpelled, entries_at, module_from, module_of, most_bytes, IsTextFault, too_long, Fits, FitsBehind, AttributesFit, NamesIntrinsic, CalleeFits, EndsArgument, ValueFits, IsNoValue, IsToldInCall, IsSaid, of_token, in_call, IsFirstMisfit, FaultsAreWhereTextsDoNotFit, TypeFits, TerminatorFits, AnotherFits, IsLeftOut, IsRepeated, IsNothingElse, IsWrongWidth, IsWrongNumber, IsMisfit}
 use Rattle.ops.specs.Number.{Number as Numeral}
-use Rattle.ir_tokens.specs.declared.called.Identifier.{Identifier}
-use Rattle.ir_tokens.specs.declared.called.Identifier.TheVariants.{Named, Numbered}
-use Rattle.ir_tokens.specs.Identifiers.{identifier_of}
-use Rattle.ir_tokens.specs.Numbers.{constant_of}
-use Rattle.ir_tokens.specs.declared.place.Section.{Section}
-use Rattle.ir_tokens.specs.Laws.{TextsHaveOneListOfTokens}
-use Rattle.scan.specs.IrTokens.{line_at}
-use Rattle.scan.specs.Lines.{between}
-use Rattle.scan.specs.declared.ir.token.TokenKind.{TokenKind}
 use Rattle.scan.specs.declared.ir.token.TokenKind.TheVariants as kinds
-use Rattle.ir_tokens.specs.Order.{IsTokenAt, itself, kept_line, kept_group, unclosed, bad_byte, TokensFrom, last, token, AreTokens}
-use Rattle.ir_tokens.specs.Tokens.{Token, Placed, End, Other, Bad as Bad_token, Word, Number, Function, Group, Mark, token_of, is_last}
-use Rattle.ir_tokens.specs.declared.raw.RawEntry.{RawEntry}
-use Rattle.ir_tokens.specs.declared.raw.RawModule.{RawModule}
-use Rattle.ir_tokens.specs.declared.fault.IrFaultKind.{IrFaultKind}
-use Rattle.ir_tokens.specs.declared.fault.IrFaultKind.TheVariants.{BadByte, Syntax, LeftOut, Width, ConstRange}
-use Rattle.refusal.specs.declared.fault.Fault.{Fault}
+use Rattle.ir_tokens.specs.Order.{last, token}
+use Rattle.ir_tokens.specs.Tokens.{Bad as Bad_token}
 use Rattle.ir_instructions.specs.declared.place.Expected.TheVariants as places
-use Rattle.ir_instructions.specs.declared.word.Ending.TheVariants.{Unreachable}
-use Rattle.ir_instructions.specs.declared.intrinsic.Intrinsic.{Intrinsic}
-use Rattle.ir_instructions.specs.CallReaders.{callee_named}
-use Rattle.ir_instructions.specs.Intrinsics.{intrinsic_in}
-use Rattle.ir_instructions.proofs.NameReadings.{intrinsic_in-is, intrinsic_in-of}
-use Rattle.ir_instructions.specs.Places.{begins_record, begins_type, leaves_out, misfit as misfit_at}
-use Rattle.ir_instructions.specs.Readers.{Read}
-use Rattle.ir_instructions.specs.Keywords.{ending_word}
-use Rattle.ops.specs.declared.comparison.Pred.TheVariants.{Eq}
-use Rattle.ops.specs.Keywords.{predicate_keyword}
-use Rattle.ir_parse.specs.Grammar.{SpellsModule}
-use Rattle.ir_parse.specs.Laws.{ModulesAreReadAsSpelled}
-use Rattle.ir_parse.specs.ModuleReaders.{entries_at, module_from, module_of}
-use Rattle.ir_parse.specs.Text.{most_bytes, IsTextFault, too_long, misfit}
-use Rattle.ir_viable_prefixes.specs.Fits.{Fits, FitsBehind, AttributesFit}
-use Rattle.ir_viable_prefixes.specs.Calls.{NamesIntrinsic, CalleeFits, EndsArgument, ValueFits, IsNoValue, IsToldInCall}
+use Rattle.ir_instructions.specs.Places.{misfit as misfit_at}
+use Rattle.ir_parse.specs.Text.{misfit}
 use Rattle.ir_viable_prefixes.specs.Calls as calls
-use Rattle.ir_viable_prefixes.specs.Laws.{IsSaid, of_token, in_call, IsFirstMisfit, FaultsAreWhereTextsDoNotFit}
-use Rattle.ir_viable_prefixes.specs.Misfits.{TypeFits, TerminatorFits, AnotherFits, IsLeftOut, IsRepeated, IsNothingElse, IsWrongWidth, IsWrongNumber, IsMisfit}
 use Rattle.ir_viable_prefixes.specs.Misfits as nouns
 use Rattle.ir_viable_prefixes.proofs.Entries.{EndsAt, EndsText, OrEnds, entries_outcome, entries_sample}
 use Rattle.ir_viable_prefixes.proofs.Outcomes.{Next, Anything, Ended, CompletesBegun, Fit, FitsEnd, RefusesAt, RefusesPlaced, RefusesEnd, Bad, Again, a_truth, no_truth, NoValue, no_number, no_word, no_truth_value, no_group, no_quoted, InCall, of_callee, of_value, of_truth, New, IsRefused, Outcome}

@@ -1,10 +1,5 @@
 -- Repeated productions.
-use Rattle.std.proofs.Common.{◌≡◌, ◌<◌, ℕ, zero, suc, Bool, true, false, List, [], ◌∷◌, ◌++◌, length, Ok, Err, refl, sym, ap, subst, ◌∙◌, append_assoc, arith}
-use Rattle.ir_tokens.specs.Tokens.{Token, Placed}
-use Rattle.refusal.specs.declared.fault.Fault.{Fault}
-use Rattle.ir_tokens.specs.declared.fault.IrFaultKind.{IrFaultKind}
-use Rattle.ir_instructions.specs.Readers.{Read, Reader, goes_on, ◌>>=◌, done, TakesSome, steps_at, repeat_at, another_at, each_at}
-use Rattle.ir_instructions.proofs.Loops.{repeat-more, repeat-done}
+use Rattle.ir_viable_prefixes.proofs.Common.{◌≡◌, ◌<◌, ℕ, zero, suc, Bool, true, false, List, [], ◌∷◌, ◌++◌, length, Ok, Err, refl, sym, ap, subst, ◌∙◌, append_assoc, arith, Token, Placed, Fault, IrFaultKind, Read, Reader, goes_on, ◌>>=◌, done, TakesSome, steps_at, repeat_at, another_at, each_at, repeat-more, repeat-done}
 use Rattle.ir_viable_prefixes.proofs.FlagRuns.{ReadsApart, done_apart, both_apart, loop_apart}
 use Rattle.ir_viable_prefixes.proofs.Choices.{AsksNext, Tested, tested_next, Opens, OpensRecords, opens_wider, transfer, And, reasons_moved}
 use Rattle.ir_viable_prefixes.proofs.Outcomes.{Follow, next_map, Ended, Sample, Why, Reasons, ReasonsIf, Lifts, OutcomeIf, StaysNew, apart_new, outcome_both, reasons_lift, reasons_first, reasons_second, GoodIf, done-good}

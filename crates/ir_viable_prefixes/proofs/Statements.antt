@@ -1,31 +1,11 @@
 -- Viable prefixes of instructions and terminators.
-use Rattle.std.proofs.Common.{◌≡◌, ℕ, Bool, true, false, not, eqb, List, [], ◌∷◌, Option, Some, None, refl, sym, subst, ◌∙◌, inl, inr}
-use Rattle.std.proofs.lemmas.Bool.{eqb-true}
-use Rattle.std.specs.Prelude.{codes}
-use Rattle.std.specs.Str.{bytes_eq}
-use Rattle.std.proofs.lemmas.Slice.Eq.{bytes_eq-Decides}
+use Rattle.ir_viable_prefixes.proofs.Common.{◌≡◌, ℕ, Bool, true, false, not, eqb, List, [], ◌∷◌, Option, Some, None, refl, sym, subst, ◌∙◌, inl, inr, eqb-true, codes, bytes_eq, bytes_eq-Decides, Cast, is_plain_name, is_number, Token, Placed, Word, Register, Metadata, Mark, is_last, RawIdentifier, True, RawTerminator, Jump, OutOfRange, begins_record, begins_type, Reader, ◌>>=◌, done, each_at, ending_in, ending_word, type_in, value_in, truth_in, flags_of, flags_of_cast, flags_of_icmp, Flag, flag_in, flag_keyword, attachment-takes, tail-takes, case-takes}
 use Rattle.ops.specs.declared.opcode.Opcode.{Opcode}
-use Rattle.ops.specs.declared.conversion.Cast.{Cast}
 use Rattle.scan.specs.Bytes as bytes
-use Rattle.scan.specs.IrTokens.{is_plain_name}
-use Rattle.ir_tokens.specs.Numbers.{is_number}
-use Rattle.ir_tokens.specs.Tokens.{Token, Placed, Word, Register, Metadata, Mark, is_last}
-use Rattle.ir_tokens.specs.declared.raw.RawIdentifier.{RawIdentifier}
-use Rattle.ir_tokens.specs.declared.raw.RawValue.TheVariants.{True}
-use Rattle.ir_tokens.specs.declared.raw.RawTerminator.{RawTerminator}
-use Rattle.ir_tokens.specs.declared.raw.RawTerminator.TheVariants.{Jump}
 use Rattle.ir_instructions.specs.declared.word.Ending.{Ending}
 use Rattle.ir_instructions.specs.declared.word.Ending.TheVariants as endings
-use Rattle.ir_instructions.specs.declared.word.TypeWord.TheVariants.{OutOfRange}
 use Rattle.ir_instructions.specs.InstructionReaders as parsing
-use Rattle.ir_instructions.specs.Places.{begins_record, begins_type}
-use Rattle.ir_instructions.specs.Readers.{Reader, ◌>>=◌, done, each_at}
-use Rattle.ir_instructions.specs.Keywords.{ending_in, ending_word, type_in, value_in, truth_in}
-use Rattle.ops.specs.Flags.{flags_of, flags_of_cast, flags_of_icmp}
-use Rattle.ops.specs.declared.keywords.flag.Flag.{Flag}
-use Rattle.ops.specs.FlagKeywords.{flag_in, flag_keyword}
 use Rattle.ir_instructions.specs.Punctuation as marks
-use Rattle.ir_instructions.proofs.Takings.{attachment-takes, tail-takes, case-takes}
 use Rattle.ir_viable_prefixes.proofs.Choices.{AsksNext, Tested, Opens, SaysOfRecords, And, either_outcome, either_sample, same-good}
 use Rattle.ir_viable_prefixes.specs.Misfits as nouns
 use Rattle.ir_viable_prefixes.proofs.Outcomes.{Follow, Anything, Ended, Fit, RefusesEach, ReasonsIf, OutcomeIf, takes, GoodIf, Good, done-good, ◌then◌, taken, both}

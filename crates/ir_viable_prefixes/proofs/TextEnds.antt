@@ -1,19 +1,8 @@
 -- Where the text may end, the tokens are whole entries, and a token that is refused there begins none.
-use Rattle.std.proofs.lemmas.List.{append_cancel_right}
-use Rattle.std.proofs.Common.{◌≡◌, ◌<◌, ℕ, zero, suc, true, false, List, [], ◌∷◌, ◌++◌, length, Option, Ok, Err, refl, sym, ap, subst, ◌∙◌, append_assoc, arith, length-append}
-use Rattle.std.specs.Prelude.{codes}
-use Rattle.std.specs.Str.{bytes_eq}
-use Rattle.ir_tokens.specs.Tokens.{Token, Placed, End, Other, Bad as Bad_token, Word, Number, Function, is_last}
-use Rattle.ir_tokens.specs.declared.raw.RawEntry.{RawEntry}
-use Rattle.ir_tokens.specs.declared.fault.IrFaultKind.TheVariants.{Syntax, LeftOut}
-use Rattle.refusal.specs.declared.fault.Fault.{Fault}
-use Rattle.ir_tokens.specs.declared.fault.IrFaultKind.{IrFaultKind}
+use Rattle.ir_viable_prefixes.proofs.Common.{append_cancel_right, ◌≡◌, ◌<◌, ℕ, zero, suc, true, false, List, [], ◌∷◌, ◌++◌, length, Option, Ok, Err, refl, sym, ap, subst, ◌∙◌, append_assoc, arith, length-append, codes, bytes_eq, Token, Placed, End, Other, Word, Number, Function, is_last, RawEntry, Syntax, LeftOut, Fault, IrFaultKind, leaves_out, Read, Reader, fault, unexpected, goes_on, ◌>>=◌, done, another_at, IsTypeWord, repeat-done, ok_is}
+use Rattle.ir_tokens.specs.Tokens.{Bad as Bad_token}
 use Rattle.ir_instructions.specs.declared.place.Expected.TheVariants as places
-use Rattle.ir_instructions.specs.Places.{leaves_out, misfit}
-use Rattle.ir_instructions.specs.Readers.{Read, Reader, fault, unexpected, goes_on, ◌>>=◌, done, another_at}
-use Rattle.ir_instructions.specs.Keywords.{IsTypeWord}
-use Rattle.ir_instructions.proofs.Loops.{repeat-done}
-use Rattle.ir_instructions.proofs.Steps.{ok_is}
+use Rattle.ir_instructions.specs.Places.{misfit}
 use Rattle.ir_parse.specs.ModuleReaders as parsing
 use Rattle.ir_viable_prefixes.proofs.Entries.{entry_token_at, behind_entry, same_entry, IsFirst, entry_token_takes, behind_entry-good, Begins, OrFirst, Loop, entry_steps, another_outcome, another-closes}
 use Rattle.ir_viable_prefixes.proofs.Outcomes.{Anything, Ended, RefusesAt, RefusesPlaced, IsReadIf, Outcome, Takes, takes, refuses, refuses_by}

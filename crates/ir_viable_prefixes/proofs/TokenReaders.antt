@@ -1,44 +1,19 @@
 -- Viable prefixes of single tokens.
-use Rattle.std.proofs.Common.{◌≡◌, ℕ, Bool, true, false, eqb, eq-eqb, List, [], ◌∷◌, Option, Some, None, Ok, Err, refl, ◌≤◌, arith, sym, subst, inl, inr}
-use Rattle.std.specs.Prelude.{codes}
-use Rattle.std.specs.Str.{bytes_eq}
+use Rattle.ir_viable_prefixes.proofs.Common.{◌≡◌, ℕ, Bool, true, false, eqb, eq-eqb, List, [], ◌∷◌, Option, Some, None, Ok, Err, refl, ◌≤◌, arith, sym, subst, inl, inr, codes, bytes_eq, Pred, Eq, Trunc, ZExt, SExt, Add, Sub, Mul, UDiv, SDiv, URem, SRem, Shl, LShr, AShr, Or, Xor, UMin, UMax, SMin, SMax, constant_of, Token, Placed, Word, Number, Register, Function, Group, Metadata, Mark, RawValue, Syntax, LeftOut, ConstRange, Flag, Operation, TypeWord, keyword_at, register_at, case_value_at, pred_at, Reader, fault, unexpected, Fault, IrFaultKind, IsValueToken, begins_type, is_word, IsTypeWord, ending_word, operation_word, type_in, operation_in, truth_in, value_in, ending_in, predicate_keyword, pred_in, flag_keyword, operation_in-is, type_in-of, word_is, Nuw, Nsw, Exact, NNeg, Disjoint, SameSign, IsNoun}
 use Rattle.ops.specs.Number.{Number as Numeral}
-use Rattle.ops.specs.declared.comparison.Pred.{Pred}
-use Rattle.ops.specs.declared.comparison.Pred.TheVariants.{Eq}
 use Rattle.ops.specs.declared.comparison.Pred.TheVariants as preds
-use Rattle.ops.specs.declared.conversion.Cast.TheVariants.{Trunc, ZExt, SExt}
-use Rattle.ops.specs.declared.opcode.Opcode.TheVariants.{Add, Sub, Mul, UDiv, SDiv, URem, SRem, Shl, LShr, AShr, And, Or, Xor, UMin, UMax, SMin, SMax}
+use Rattle.ops.specs.declared.opcode.Opcode.TheVariants.{And}
 use Rattle.scan.specs.Bytes as bytes
-use Rattle.ir_tokens.specs.Numbers.{constant_of}
-use Rattle.ir_tokens.specs.Tokens.{Token, Placed, Word, Number, Register, Function, Group, Metadata, Mark}
-use Rattle.ir_tokens.specs.declared.raw.RawValue.{RawValue}
 use Rattle.ir_tokens.specs.declared.raw.RawValue.TheVariants as values
-use Rattle.ir_tokens.specs.declared.fault.IrFaultKind.TheVariants.{Syntax, LeftOut, ConstRange}
 use Rattle.ir_tokens.specs.declared.fault.IrFaultKind.TheVariants as misfits
 use Rattle.ir_instructions.specs.declared.place.Expected.TheVariants as places
 use Rattle.ir_instructions.specs.declared.word.Ending.{Ending}
 use Rattle.ir_instructions.specs.declared.word.Ending.TheVariants as endings
-use Rattle.ops.specs.declared.keywords.flag.Flag.{Flag}
 use Rattle.ops.specs.declared.keywords.flag.Flag.TheVariants as flags
-use Rattle.ir_instructions.specs.declared.word.Operation.{Operation}
 use Rattle.ir_instructions.specs.declared.word.Operation.TheVariants as operations
-use Rattle.ir_instructions.specs.declared.word.TypeWord.{TypeWord}
 use Rattle.ir_instructions.specs.declared.word.TypeWord.TheVariants as types
-use Rattle.ir_instructions.specs.InstructionReaders.{mark_at, keyword_at, register_at, type_at, operand_at, case_value_at, metadata_at, pred_at}
-use Rattle.ir_instructions.specs.Readers.{Reader, fault, unexpected}
-use Rattle.refusal.specs.declared.fault.Fault.{Fault}
-use Rattle.ir_tokens.specs.declared.fault.IrFaultKind.{IrFaultKind}
-use Rattle.ir_instructions.specs.Grammar.{IsValueToken}
-use Rattle.ir_instructions.specs.Places.{begins_type, is_word, misfit}
-use Rattle.ir_instructions.specs.Keywords.{IsTypeWord, ending_word, operation_word, type_in, operation_in, truth_in, value_in, ending_in}
-use Rattle.ops.specs.Keywords.{predicate_keyword, pred_in}
-use Rattle.ops.specs.FlagKeywords.{flag_keyword}
-use Rattle.ir_instructions.proofs.WordLemmas.{operation_in-is, type_in-of}
-use Rattle.ops.proofs.KeywordLemmas.{word_is}
-use Rattle.ops.specs.declared.keywords.flag.Flag.{Flag}
-use Rattle.ops.specs.declared.keywords.flag.Flag.TheVariants.{Nuw, Nsw, Exact, NNeg, Disjoint, SameSign}
-use Rattle.ops.specs.FlagKeywords.{flag_keyword}
-use Rattle.ir_viable_prefixes.specs.Misfits.{IsNoun}
+use Rattle.ir_instructions.specs.InstructionReaders.{mark_at, type_at, operand_at, metadata_at}
+use Rattle.ir_instructions.specs.Places.{misfit}
 use Rattle.ir_viable_prefixes.specs.Misfits as nouns
 use Rattle.ir_viable_prefixes.proofs.Outcomes.{Again, Follow, Anything, Fit, RefusesAt, RefusesEach, Bad, a_truth, Reasons, ReasonsIf, Takes, takes, refuses, fits_alone, Good, GoodIf, one_token, TakesNoFlag}
 use Rattle.ir_viable_prefixes.proofs.Reasons.{a_type, an_end, Widths, widths, no_other_widths, Like, like_word, like_type, like_function, like_width, like_number, word_reason, fixed_reason, choice_reason, type_reason, instruction_reason}

@@ -1,34 +1,10 @@
 -- A fault in a call that is told of a token is the one that the parser of modules finds there.
-use Rattle.std.proofs.Common.{◌≡◌, ℕ, Bool, true, false, not, ◌&&◌, List, [], ◌∷◌, ◌++◌, Option, Some, None, Result, Ok, Err, refl, sym, ap, subst, ◌∙◌, ◌⊎◌, inl, inr, append_assoc}
-use Rattle.std.specs.Prelude.{codes}
-use Rattle.std.specs.Str.{bytes_eq}
+use Rattle.ir_viable_prefixes.proofs.Common.{◌≡◌, ℕ, Bool, true, false, not, ◌&&◌, List, [], ◌∷◌, ◌++◌, Option, Some, None, Result, Ok, Err, refl, sym, ap, subst, ◌∙◌, ◌⊎◌, inl, inr, append_assoc, codes, bytes_eq, constant_of, Token, Placed, End, KeptGroup, Word, Number, Function, Group, Quoted, Mark, is_last, RawEntry, RawModule, RawOperand, Fault, IrFaultKind, Syntax, LeftOut, ConstRange, Items, ends_argument, no_truth_kind, SpellsItem, MayFollowItem, of_word_and_group, of_number, of_group, of_quoted, of_key_and_value, begins_item, is_item_word, type_in, Each, ◌⨾◌, SpellsType, is_word, Read, Reader, fault, goes_on, another_at, repeat-is, SpellsModule, ModulesAreReadAsSpelled, BeginsCall, plain, tail, no_tail, CallStands, CalleeFits, EndsArgument, comma, close, BeginsWithEnd, ValueFits, IsNoValue, IsToldInCall, Fits, FitsBehind, AttributesFit}
 use Rattle.ops.specs.Number.{Number as Numeral}
-use Rattle.ir_tokens.specs.Numbers.{constant_of}
-use Rattle.ir_tokens.specs.Tokens.{Token, Placed, End, KeptGroup, Word, Number, Function, Group, Quoted, Mark, is_last}
-use Rattle.ir_tokens.specs.declared.raw.RawEntry.{RawEntry}
-use Rattle.ir_tokens.specs.declared.raw.RawModule.{RawModule}
-use Rattle.ir_tokens.specs.declared.raw.RawOperand.{RawOperand}
-use Rattle.refusal.specs.declared.fault.Fault.{Fault}
-use Rattle.ir_tokens.specs.declared.fault.IrFaultKind.{IrFaultKind}
-use Rattle.ir_tokens.specs.declared.fault.IrFaultKind.TheVariants.{Syntax, LeftOut, ConstRange}
-use Rattle.ir_instructions.specs.CallGrammar.{Items}
-use Rattle.ir_instructions.specs.CallReaders.{ends_argument, no_truth_kind}
-use Rattle.ir_instructions.specs.ItemGrammar.{SpellsItem, MayFollowItem, of_word, of_word_and_group, of_number, of_group, of_quoted, of_key_and_value}
-use Rattle.ir_instructions.specs.ItemReaders.{begins_item}
-use Rattle.ir_instructions.specs.Items.{is_item_word}
-use Rattle.ir_instructions.specs.Keywords.{type_in}
-use Rattle.ir_instructions.specs.Parts.{Each, ◌⨾◌}
-use Rattle.ir_instructions.specs.PieceGrammar.{SpellsType}
-use Rattle.ir_instructions.specs.Places.{is_word}
+use Rattle.ir_instructions.specs.ItemGrammar.{of_word}
 use Rattle.ir_instructions.specs.Punctuation as marks
-use Rattle.ir_instructions.specs.Readers.{Read, Reader, fault, goes_on, another_at}
-use Rattle.ir_instructions.proofs.Loops.{repeat-is}
-use Rattle.ir_parse.specs.Grammar.{SpellsModule}
-use Rattle.ir_parse.specs.Laws.{ModulesAreReadAsSpelled}
 use Rattle.ir_parse.specs.ModuleReaders as parsing
-use Rattle.ir_viable_prefixes.specs.Calls.{BeginsCall, plain, tail, no_tail, CallStands, CalleeFits, EndsArgument, comma, close, BeginsWithEnd, ValueFits, IsNoValue, IsToldInCall}
 use Rattle.ir_viable_prefixes.specs.Calls as calls
-use Rattle.ir_viable_prefixes.specs.Fits.{Fits, FitsBehind, AttributesFit}
 use Rattle.ir_viable_prefixes.proofs.Entries.{EndsText, OrEnds, entries_outcome}
 use Rattle.ir_viable_prefixes.proofs.FunctionPlaces.{entries_places}
 use Rattle.ir_viable_prefixes.proofs.ItemPlaces.{RefusesEnds, ReadsEnds, Argument, IsPlace, header, parameter, argument, the_group, the_end, Whole, Goes, left_of}

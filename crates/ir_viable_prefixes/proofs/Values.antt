@@ -1,28 +1,11 @@
 -- Viable prefixes of an argument's items and value: the value is what stands directly before the end.
-use Rattle.std.proofs.Common.{◌≡◌, ◌<◌, ◌≤◌, ℕ, zero, suc, Bool, true, false, not, ◌&&◌, ◌||◌, eqb, List, [], ◌∷◌, ◌++◌, length, Option, Some, None, Ok, Err, refl, sym, ap, subst, ◌∙◌, ◌⊎◌, inl, inr, arith}
-use Rattle.std.specs.Prelude.{codes}
-use Rattle.std.proofs.lemmas.Bool.{eqb-true}
+use Rattle.ir_viable_prefixes.proofs.Common.{◌≡◌, ◌<◌, ◌≤◌, ℕ, zero, suc, Bool, true, false, not, ◌&&◌, ◌||◌, eqb, List, [], ◌∷◌, ◌++◌, length, Option, Some, None, Ok, Err, refl, sym, ap, subst, ◌∙◌, ◌⊎◌, inl, inr, arith, codes, eqb-true, flag_keyword, constant_of, Token, Placed, KeptGroup, Word, Number, Function, Group, Quoted, Mark, is_last, RawOperand, Fault, IrFaultKind, Syntax, LeftOut, ConstRange, begins_inner_item, ends_argument, no_truth_kind, begins_item, item_at, word_item_at, quoted_item_at, quoted_value_at, ending_word, begins_record, begins_type, Read, Reader, fault, unexpected, goes_on, ◌>>=◌, done, another_at, each_at, each-more, each-done, repeat-fault, repeat-is, bind_ok, inner-takes, EndsArgument, comma, close}
 use Rattle.ops.specs.Number.{Number as Numeral}
-use Rattle.ops.specs.FlagKeywords.{flag_keyword}
 use Rattle.ir_tokens.specs.declared.raw.RawValue.TheVariants as values
-use Rattle.ir_tokens.specs.Numbers.{constant_of}
-use Rattle.ir_tokens.specs.Tokens.{Token, Placed, KeptGroup, Word, Number, Function, Group, Quoted, Mark, is_last}
-use Rattle.ir_tokens.specs.declared.raw.RawOperand.{RawOperand}
-use Rattle.refusal.specs.declared.fault.Fault.{Fault}
-use Rattle.ir_tokens.specs.declared.fault.IrFaultKind.{IrFaultKind}
-use Rattle.ir_tokens.specs.declared.fault.IrFaultKind.TheVariants.{Syntax, LeftOut, ConstRange}
-use Rattle.ir_instructions.specs.CallReaders.{begins_inner_item, ends_argument, no_truth_kind}
-use Rattle.ir_instructions.specs.ItemReaders.{begins_item, item_at, word_item_at, quoted_item_at, quoted_value_at}
 use Rattle.ir_instructions.specs.declared.place.Expected.TheVariants as places
-use Rattle.ir_instructions.specs.Keywords.{ending_word}
-use Rattle.ir_instructions.specs.Places.{begins_record, begins_type, misfit}
-use Rattle.ir_instructions.specs.Readers.{Read, Reader, fault, unexpected, goes_on, ◌>>=◌, done, another_at, each_at}
+use Rattle.ir_instructions.specs.Places.{misfit}
 use Rattle.ir_instructions.specs.TokenReaders.{is_mark, mark_at}
 use Rattle.ir_instructions.specs.Punctuation as marks
-use Rattle.ir_instructions.proofs.Loops.{each-more, each-done, repeat-fault, repeat-is}
-use Rattle.ir_instructions.proofs.Steps.{bind_ok}
-use Rattle.ir_instructions.proofs.Takings.{inner-takes}
-use Rattle.ir_viable_prefixes.specs.Calls.{EndsArgument, comma, close}
 use Rattle.ir_viable_prefixes.specs.Misfits as nouns
 use Rattle.ir_viable_prefixes.proofs.FlagRuns.{NoFlag, IsLeft}
 use Rattle.ir_viable_prefixes.proofs.Items.{fixed_left, item_next}

@@ -1,15 +1,5 @@
 -- The instructions that may be drawn are binary operations whose left operand is the register x.
-use Rattle.std.proofs.Common.{◌≡◌, ℕ, ◌/◌, ◌^◌, ◌<◌, ◌≤◌, ◌==◌, Bool, true, false, if◌then◌else◌, refl, arith, pow_pos, mod-lt}
-use Rattle.std.proofs.Math.Pow.{pow_mono}
-use Rattle.ops.specs.Flags.{no_flags}
-use Rattle.ops.specs.Integer.{minus_one}
-use Rattle.ops.specs.declared.opcode.Opcode.{Opcode}
-use Rattle.ops.specs.declared.opcode.Opcode.TheVariants.{Add, Sub, Mul, UDiv, Shl, And, Xor}
-use Rattle.ir_core.specs.declared.instruction.Op.{Op}
-use Rattle.ir_core.specs.declared.instruction.Op.TheVariants.{Binary}
-use Rattle.ir_core.specs.declared.operand.Operand.{Operand}
-use Rattle.load_gen.specs.Draws.{next_state, drawn}
-use Rattle.load_gen.specs.Generated.{number, operation}
+use Rattle.load_gen.proofs.Common.{◌≡◌, ℕ, ◌/◌, ◌^◌, ◌<◌, ◌≤◌, ◌==◌, Bool, true, false, if◌then◌else◌, refl, arith, pow_pos, mod-lt, pow_mono, no_flags, minus_one, Opcode, Add, Sub, Mul, UDiv, Shl, And, Xor, Op, Binary, Operand, next_state, drawn, number, operation}
 
 -- a drawn number is below the count
 pub drawn_below : (s k : ℕ) → 0 < k → drawn s k < k

@@ -1,16 +1,6 @@
 -- The functions of a generated module.
-use Rattle.std.proofs.Common.{◌≡◌, ℕ, zero, suc, ◌^◌, ◌<◌, ◌≤◌, List, [], ◌∷◌, ◌++◌, length, Some, refl, sym, ap, subst, ◌∙◌, arith, inl, inr, All, codes, decimal, length-append, slice_get}
-use Rattle.std.proofs.lemmas.Bool.{cases_lt}
-use Rattle.std.proofs.lemmas.Fmt.{decimal_injective}
-use Rattle.std.proofs.lemmas.List.Elements.{All-nil, All-push}
-use Rattle.std.proofs.lemmas.Option.{same_Some, slice_get_within}
-use Rattle.ir_core.specs.declared.module.Entry.{Entry}
+use Rattle.load_gen.proofs.Common.{◌≡◌, ℕ, zero, suc, ◌^◌, ◌<◌, ◌≤◌, List, [], ◌∷◌, ◌++◌, length, Some, refl, sym, ap, subst, ◌∙◌, arith, inl, inr, All, codes, decimal, length-append, slice_get, cases_lt, decimal_injective, All-nil, All-push, same_Some, slice_get_within, Entry, Function, MeetsChecks, IsRead, state_before, function, functions, IsGenerated, GeneratedModulesMeetChecks, GeneratedNumbersFit, IsOfTwenty, GeneratedFunctionsAreSmall, GeneratedEntriesAreOfTwenty, GeneratedEntriesAreCounted}
 use Rattle.ir_core.specs.declared.module.Entry.TheVariants as entries
-use Rattle.ir_core.specs.declared.function.Function.{Function}
-use Rattle.ir_core.specs.Checks.{MeetsChecks}
-use Rattle.ir_core.specs.Reads.{IsRead}
-use Rattle.load_gen.specs.Generated.{state_before, function, functions}
-use Rattle.load_gen.specs.Laws.{IsGenerated, GeneratedModulesMeetChecks, GeneratedNumbersFit, IsOfTwenty, GeneratedFunctionsAreSmall, GeneratedEntriesAreOfTwenty, GeneratedEntriesAreCounted}
 use Rattle.load_gen.proofs.ListPlaces.{at_left, at_right}
 use Rattle.load_gen.proofs.Formed.{number_fits, twenty, small, meets_checks}
 

@@ -1,20 +1,6 @@
 -- A generated function meets its checks.
-use Rattle.std.proofs.Common.{◌≡◌, ℕ, zero, suc, ◌+◌, ◌^◌, ◌<◌, ◌≤◌, List, [], ◌∷◌, length, None, Some, refl, sym, ap, subst, ◌∙◌, arith, inl, inr, map, All, Contains, IsSome, IfSome, slice_get}
-use Rattle.std.proofs.lemmas.List.Elements.{All-from_recursion}
-use Rattle.std.proofs.lemmas.Option.{same_Some}
-use Rattle.ops.specs.Number.{Number}
-use Rattle.ir_core.specs.declared.function.Block.{Block}
-use Rattle.ir_core.specs.declared.function.Function.{Function}
-use Rattle.ir_core.specs.declared.instruction.Inst.{Inst}
-use Rattle.ir_core.specs.declared.instruction.Op.TheVariants.{Phi}
-use Rattle.ir_core.specs.declared.operand.Operand.{Operand}
+use Rattle.load_gen.proofs.Common.{◌≡◌, ℕ, zero, suc, ◌+◌, ◌^◌, ◌<◌, ◌≤◌, List, [], ◌∷◌, length, None, Some, refl, sym, ap, subst, ◌∙◌, arith, inl, inr, map, All, Contains, IsSome, IfSome, slice_get, All-from_recursion, same_Some, Number, Block, Function, Inst, Phi, Operand, ReadIsAssigned, IsBlock, Names, IsInst, IsKnown, OperandHasWidth, IsTyped, CasesFit, IsPhi, EntriesFit, IsFormed, MeetsChecks, Read, IsRead, next_state, drawn, number, a, in_loop, listed, drawn_inst, state_after, width, loop_insts, blocks, function}
 use Rattle.ir_core.specs.declared.operand.Operand.TheVariants as operands
-use Rattle.ir_core.specs.Assigned.{ReadIsAssigned}
-use Rattle.ir_core.specs.Blocks.{IsBlock, Names}
-use Rattle.ir_core.specs.Checks.{IsInst, IsKnown, OperandHasWidth, IsTyped, CasesFit, IsPhi, EntriesFit, IsFormed, MeetsChecks}
-use Rattle.ir_core.specs.Reads.{Read, IsRead}
-use Rattle.load_gen.specs.Draws.{next_state, drawn}
-use Rattle.load_gen.specs.Generated.{number, a, in_loop, listed, drawn_inst, state_after, width, loop_insts, blocks, function}
 use Rattle.load_gen.proofs.ListPlaces.{first_in, later_in, among_two}
 use Rattle.load_gen.proofs.DrawnOps.{IsOn, operation_is}
 use Rattle.load_gen.proofs.InstPlaces.{HoldsInLoop, each_place, loop_length}

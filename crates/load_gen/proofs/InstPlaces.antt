@@ -1,12 +1,5 @@
 -- Which instruction stands at which place of a generated loop.
-use Rattle.std.proofs.Common.{◌≡◌, ℕ, false, zero, suc, ◌+◌, ◌-◌, ◌<◌, ◌≤◌, List, [], ◌∷◌, ◌++◌, length, Option, None, Some, refl, sym, ap, subst, ◌∙◌, arith, inl, inr, codes, length-append, slice_get}
-use Rattle.std.proofs.lemmas.Bool.{cases_lt}
-use Rattle.ops.specs.Flags.{no_flags}
-use Rattle.ops.specs.declared.opcode.Opcode.TheVariants.{Add}
-use Rattle.ops.specs.declared.comparison.Pred.TheVariants.{Ult}
-use Rattle.ir_core.specs.declared.instruction.Inst.{Inst}
-use Rattle.ir_core.specs.declared.instruction.Op.TheVariants.{Binary, Compare, Phi}
-use Rattle.load_gen.specs.Generated.{number, a, b, in_loop, drawn_inst, drawn_insts, state_after, fixed, loop_insts}
+use Rattle.load_gen.proofs.Common.{◌≡◌, ℕ, false, zero, suc, ◌+◌, ◌-◌, ◌<◌, ◌≤◌, List, [], ◌∷◌, ◌++◌, length, Option, None, Some, refl, sym, ap, subst, ◌∙◌, arith, inl, inr, codes, length-append, slice_get, cases_lt, no_flags, Add, Ult, Inst, Binary, Compare, Phi, number, a, b, in_loop, drawn_inst, drawn_insts, state_after, fixed, loop_insts}
 use Rattle.load_gen.proofs.ListPlaces.{at_left, at_right}
 
 pub drawn_length : (W s n : ℕ) → length (drawn_insts W s n) ≡ n

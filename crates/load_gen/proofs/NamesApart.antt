@@ -1,11 +1,5 @@
 -- The names in a generated function differ.
-use Rattle.std.proofs.Common.{◌≡◌, ℕ, zero, suc, Bool, true, false, not, ◌&&◌, List, [], ◌∷◌, None, Some, refl, sym, ap, subst, bytes_eq, slice_get}
-use Rattle.std.specs.Fmt.{digits}
-use Rattle.std.proofs.lemmas.Option.{same_Some}
-use Rattle.std.proofs.lemmas.Slice.Eq.{bytes_eq-Decides}
-use Rattle.ir_core.specs.Checks.{NamesDiffer}
-use Rattle.ir_core.specs.Names.{Name, names_of}
-use Rattle.load_gen.specs.Generated.{drawn_inst, drawn_insts, loop_insts, blocks, function}
+use Rattle.load_gen.proofs.Common.{◌≡◌, ℕ, zero, suc, Bool, true, false, not, ◌&&◌, List, [], ◌∷◌, None, Some, refl, sym, ap, subst, bytes_eq, slice_get, digits, same_Some, bytes_eq-Decides, NamesDiffer, Name, names_of, drawn_inst, drawn_insts, loop_insts, blocks, function}
 
 -- the text is no name of these
 abbrev is_absent : List ℕ → List Name → Bool

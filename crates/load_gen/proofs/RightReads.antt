@@ -1,24 +1,8 @@
 -- Each operand that a generated function reads is a register of its width that is assigned there, or a number of its
 -- width.
-use Rattle.std.proofs.Common.{◌≡◌, ℕ, zero, suc, ◌+◌, ◌^◌, ◌<◌, ◌≤◌, ◌==◌, Bool, true, false, if◌then◌else◌, List, [], ◌∷◌, length, Option, Some, refl, sym, subst, ◌∙◌, arith, inl, inr, ◌⊎◌, All, Contains, codes, option_map}
-use Rattle.std.proofs.Math.Pow.{pow_mono}
-use Rattle.std.proofs.lemmas.List.Elements.{All-nil, All-cons}
-use Rattle.std.proofs.lemmas.Option.{same_Some}
-use Rattle.ir_core.specs.declared.function.Block.{Block}
-use Rattle.ir_core.specs.declared.function.Function.{Function}
-use Rattle.ir_core.specs.declared.instruction.Inst.{Inst}
-use Rattle.ir_core.specs.declared.instruction.Op.{Op}
-use Rattle.ir_core.specs.declared.operand.Operand.{Operand}
+use Rattle.load_gen.proofs.Common.{◌≡◌, ℕ, zero, suc, ◌+◌, ◌^◌, ◌<◌, ◌≤◌, ◌==◌, Bool, true, false, if◌then◌else◌, List, [], ◌∷◌, length, Option, Some, refl, sym, subst, ◌∙◌, arith, inl, inr, ◌⊎◌, All, Contains, codes, option_map, pow_mono, All-nil, All-cons, same_Some, Block, Function, Inst, Op, Operand, Branch, IsAssigned, HasInst, IsBlock, Names, targets_of, width_of, Read, read, end_of, IsRead, reads_of, reads_by, reads_at, IsWalk, next_state, drawn, number, a, b, in_loop, listed, operation, drawn_inst, state_after, width, loop_insts, blocks, function}
 use Rattle.ir_core.specs.declared.operand.Operand.TheVariants as operands
 use Rattle.ir_core.specs.declared.operand.Register.TheVariants as registers
-use Rattle.ir_core.specs.declared.terminator.Terminator.TheVariants.{Branch}
-use Rattle.ir_core.specs.Assigned.{IsAssigned}
-use Rattle.ir_core.specs.Blocks.{HasInst, IsBlock, Names, targets_of}
-use Rattle.ir_core.specs.Names.{width_of}
-use Rattle.ir_core.specs.Reads.{Read, read, end_of, IsRead, reads_of, reads_by, reads_at}
-use Rattle.ir_core.specs.Walks.{IsWalk}
-use Rattle.load_gen.specs.Draws.{next_state, drawn}
-use Rattle.load_gen.specs.Generated.{number, a, b, in_loop, listed, operation, drawn_inst, state_after, width, loop_insts, blocks, function}
 use Rattle.load_gen.proofs.ListPlaces.{all_get, first_in, among_one, among_two}
 use Rattle.load_gen.proofs.DrawnOps.{IsOn, operation_is, drawn_below}
 use Rattle.load_gen.proofs.InstPlaces.{HoldsInLoop, each_place, loop_length}

@@ -1,17 +1,6 @@
 -- How large generated modules are.
-use Rattle.std.proofs.Common.{◌≡◌, ◌∙◌, ℕ, ◌*◌, List, [], ◌∷◌, length, ap, sym, refl, arith}
-use Rattle.std.specs.Prelude.{All, sum, sum_by}
-use Rattle.std.proofs.lemmas.List.Elements.{All-head, All-tail}
-use Rattle.std.proofs.lemmas.List.Sums.{sum_by-cons, sum-map}
-use Rattle.ir_core.specs.declared.module.Entry.{Entry}
+use Rattle.load_text.proofs.Common.{◌≡◌, ◌∙◌, ℕ, ◌*◌, List, [], ◌∷◌, length, ap, sym, refl, arith, All, sum, sum_by, All-head, All-tail, sum_by-cons, sum-map, Entry, Function, Block, generated, IsOfTwenty, GeneratedEntriesAreOfTwenty, GeneratedEntriesAreCounted, GeneratedFunctionsAreSmall, ModuleIsCountable, default_steps, instructions_of_entry, instructions_in}
 use Rattle.ir_core.specs.declared.module.Entry.TheVariants as entries
-use Rattle.ir_core.specs.declared.function.Function.{Function}
-use Rattle.ir_core.specs.declared.function.Block.{Block}
-use Rattle.load_gen.specs.Generated.{generated}
-use Rattle.load_gen.specs.Laws.{IsOfTwenty, GeneratedEntriesAreOfTwenty, GeneratedEntriesAreCounted, GeneratedFunctionsAreSmall}
-use Rattle.strategy_core.specs.Countable.{ModuleIsCountable}
-use Rattle.command_line.specs.Limits.{default_steps}
-use Rattle.load_text.specs.Load.{instructions_of_entry, instructions_in}
 
 -- ---- how many instructions there are
 

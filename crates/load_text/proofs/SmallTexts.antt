@@ -1,22 +1,6 @@
 -- A text spells no more rules than it has bytes: each rule has a name, behind the five bytes of `Name:`.
-use Rattle.std.proofs.Common.{◌≡◌, ◌≢◌, ℕ, suc, ◌+◌, ◌-◌, ◌≤◌, Bool, true, false, cond, eqb, List, [], ◌∷◌, ◌++◌, length, refl, sym, ap, subst, ◌∙◌, arith}
-use Rattle.std.specs.Prelude.{codes, drop}
-use Rattle.std.specs.Str.{bytes_eq}
-use Rattle.std.proofs.lemmas.List.{length-take}
-use Rattle.std.proofs.lemmas.Slice.Eq.{bytes_eq-Decides}
-use Rattle.scan.specs.declared.rule_token.RuleKind.{RuleKind}
+use Rattle.load_text.proofs.Common.{◌≡◌, ◌≢◌, ℕ, suc, ◌+◌, ◌-◌, ◌≤◌, Bool, true, false, cond, eqb, List, [], ◌∷◌, ◌++◌, length, refl, sym, ap, subst, ◌∙◌, arith, codes, drop, bytes_eq, length-take, bytes_eq-Decides, RuleKind, RuleToken, rest_of_line, IsNextRuleToken, Context, Version, context_behind, is_opcode, Limits, Token, Line, Name, Bad, Place, AtName, AtToken, TokensFrom, ends, token, name, bad_token, bad_name, token_of, token_on, token_at, word_of, is_called, bytes_at, place_behind, RawRule, SpellsRules, SpellsFile, RuleTextsAreSmall}
 use Rattle.scan.specs.declared.rule_token.RuleKind.TheVariants as kinds
-use Rattle.scan.specs.declared.rule_token.RuleToken.{RuleToken}
-use Rattle.scan.specs.Names.{rest_of_line}
-use Rattle.scan.specs.RuleTokens.{IsNextRuleToken}
-use Rattle.rule_tokens.specs.declared.context.Context.{Context}
-use Rattle.rule_tokens.specs.declared.version.Version.{Version}
-use Rattle.rule_tokens.specs.Contexts.{context_behind, is_opcode}
-use Rattle.rule_tokens.specs.Limits.{Limits}
-use Rattle.rule_tokens.specs.Tokens.{Token, Line, Name, Bad, Place, AtName, AtToken, TokensFrom, ends, token, name, bad_token, bad_name, token_of, token_on, token_at, word_of, is_called, bytes_at, place_behind}
-use Rattle.rule_parse.specs.declared.raw.RawRule.{RawRule}
-use Rattle.rule_parse.specs.Grammar.{SpellsRules, SpellsFile}
-use Rattle.load_text.specs.Laws.{RuleTextsAreSmall}
 
 -- how many of the tokens are names of rules
 abbrev names_in : List Token → ℕ

@@ -1,31 +1,10 @@
 -- What is read off from the root of a match down.
-use Rattle.std.proofs.Common.{◌≡◌, inl, inr, ℕ, ◌+◌, ◌<◌, ◌≤◌, List, length, Option, Some, Ok, Err, sym, ap, subst, ◌∙◌, arith}
-use Rattle.std.specs.Prelude.{slice_get, IfOk, Result}
-use Rattle.std.proofs.lemmas.Bool.{cases_eq}
-use Rattle.std.proofs.lemmas.Option.{slice_get_cases, slice_get_within, get_or_from_slice_get, same_Some}
-use Rattle.ir_core.specs.Names.{width_of}
-use Rattle.ir_core.specs.declared.function.Function.{Function}
+use Rattle.matcher.proofs.Common.{◌≡◌, inl, inr, ℕ, ◌+◌, ◌<◌, ◌≤◌, List, length, Option, Some, Ok, Err, sym, ap, subst, ◌∙◌, arith, slice_get, IfOk, Result, cases_eq, slice_get_cases, slice_get_within, get_or_from_slice_get, same_Some, width_of, Function, IsRule, SourceMayRead, operands_of, Argument, Rule, Statement, Contains-from_get, HasClasses, IsNamedInSource, HasNoFault, MatchesInAnyOrder, AreSlotsOf, IsFilledAs, Keeps, Knows, KnowsFrom, KnowsName, KnowsOperand, KnowsStatement, OperandsMatch, Binding, Slots, statement_at, SourceOperand, source_operand, met_at, place_of, all_filled, width_of_inst}
 use Rattle.ir_core.specs.declared.operand.Register.TheVariants as registers
-use Rattle.rule_core.specs.Checks.{IsRule, SourceMayRead}
-use Rattle.rule_core.specs.Positions.{operands_of}
-use Rattle.rule_core.specs.declared.rule.Argument.{Argument}
 use Rattle.rule_core.specs.declared.rule.Argument.TheVariants as arguments
 use Rattle.rule_core.specs.declared.rule.Operand.{Operand}
 use Rattle.rule_core.specs.declared.rule.Register.TheVariants as names
-use Rattle.rule_core.specs.declared.rule.Rule.{Rule}
-use Rattle.rule_core.specs.declared.rule.Statement.{Statement}
-use Rattle.rule_core.proofs.Members.{Contains-from_get}
-use Rattle.rule_typing.specs.Classes.{HasClasses, IsNamedInSource}
-use Rattle.rule_typing.specs.Faults.{HasNoFault}
-use Rattle.bindings.specs.Match.{MatchesInAnyOrder}
-use Rattle.matcher.specs.Slots.{AreSlotsOf, IsFilledAs, Keeps, Knows, KnowsFrom, KnowsName, KnowsOperand, KnowsStatement, OperandsMatch}
-use Rattle.bindings.specs.declared.binding.Binding.{Binding}
-use Rattle.matcher.specs.declared.slots.Slots.{Slots}
-use Rattle.bindings.proofs.Bound.{statement_at}
-use Rattle.bindings.proofs.Fitting.{SourceOperand, source_operand, met_at}
 use Rattle.matcher.proofs.Knowing.{keeps_statement}
-use Rattle.bindings.proofs.Lists.{place_of, all_filled}
-use Rattle.bindings.proofs.Reading.{width_of_inst}
 use Rattle.matcher.proofs.Widths.{as_many, stable}
 
 -- the root is bound to the instruction at which the match is

@@ -1,19 +1,9 @@
 -- What slots are filled with.
-use Rattle.std.proofs.Common.{◌≡◌, inl, inr, ℕ, ◌<◌, List, length, get_or, slice_set, Option, Some, refl, sym, ap, subst, ◌∙◌, arith}
-use Rattle.std.specs.Prelude.{slice_get, All}
-use Rattle.std.proofs.lemmas.Bool.{cases_eq}
-use Rattle.std.proofs.lemmas.Option.{slice_get-get_or}
-use Rattle.rule_core.specs.Positions.{operands_of}
-use Rattle.rule_core.specs.declared.rule.Argument.{Argument}
+use Rattle.matcher.proofs.Common.{◌≡◌, inl, inr, ℕ, ◌<◌, List, length, get_or, slice_set, Option, Some, refl, sym, ap, subst, ◌∙◌, arith, slice_get, All, cases_eq, slice_get-get_or, operands_of, Argument, Statement, AreAsMany, HasName, HasOperand, HasStatement, Keeps, Knows, KnowsName, KnowsOperand, KnowsStatement, Binding, Slots, set_here, set_elsewhere}
 use Rattle.rule_core.specs.declared.rule.Argument.TheVariants as arguments
 use Rattle.rule_core.specs.declared.rule.Operand.{Operand}
 use Rattle.rule_core.specs.declared.rule.Register.{Register as Name}
 use Rattle.rule_core.specs.declared.rule.Register.TheVariants as names
-use Rattle.rule_core.specs.declared.rule.Statement.{Statement}
-use Rattle.matcher.specs.Slots.{AreAsMany, HasName, HasOperand, HasStatement, Keeps, Knows, KnowsName, KnowsOperand, KnowsStatement}
-use Rattle.bindings.specs.declared.binding.Binding.{Binding}
-use Rattle.matcher.specs.declared.slots.Slots.{Slots}
-use Rattle.bindings.proofs.Lists.{set_here, set_elsewhere}
 
 -- a name whose slot is filled keeps it
 pub keeps_name : (m : Binding) (old new : Slots) (a : Argument) → Keeps m old new → KnowsName old m a → KnowsName new m a

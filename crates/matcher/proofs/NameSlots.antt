@@ -1,14 +1,9 @@
 -- The slots of names.
-use Rattle.std.proofs.Common.{◌≡◌, ℕ, ◌<◌, length, Some, sym, subst}
-use Rattle.std.specs.Vec.{with_item}
+use Rattle.matcher.proofs.Common.{◌≡◌, ℕ, ◌<◌, length, Some, sym, subst, with_item, Register, Binding, HasName, Knows, KnowsName, Slots}
 use Rattle.ir_core.specs.declared.operand.Operand.{Operand}
-use Rattle.ir_core.specs.declared.operand.Register.{Register}
 use Rattle.rule_core.specs.declared.rule.Argument.TheVariants as arguments
 use Rattle.rule_core.specs.declared.rule.Register.{Register as Name}
 use Rattle.rule_core.specs.declared.rule.Register.TheVariants as names
-use Rattle.bindings.specs.declared.binding.Binding.{Binding}
-use Rattle.matcher.specs.Slots.{HasName, Knows, KnowsName}
-use Rattle.matcher.specs.declared.slots.Slots.{Slots}
 
 -- the slot of a name
 pub has_input : (slots : Slots) (name : Name) (i : ℕ) → name ≡ names.Input i → HasName slots (arguments.Register name) → i < length slots.inputs.items

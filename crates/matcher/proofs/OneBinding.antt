@@ -1,39 +1,13 @@
 -- A rule matches at an instruction with one binding at most.
-use Rattle.std.proofs.Common.{◌≡◌, inl, inr, ℕ, zero, suc, ◌+◌, ◌<◌, ◌≤◌, List, length, Some, sym, ap, subst, ◌∙◌, arith}
-use Rattle.std.specs.Prelude.{slice_get}
-use Rattle.std.proofs.lemmas.Bool.{cases_eq}
-use Rattle.std.proofs.lemmas.Option.{slice_get_cases, slice_get_within, same_Some}
-use Rattle.ir_core.specs.Checks.{IsInst}
-use Rattle.ir_core.specs.Reads.{Read, IsRead}
-use Rattle.ir_core.specs.declared.function.Function.{Function}
-use Rattle.ir_core.specs.declared.instruction.Inst.{Inst}
+use Rattle.matcher.proofs.Common.{◌≡◌, inl, inr, ℕ, zero, suc, ◌+◌, ◌<◌, ◌≤◌, List, length, Some, sym, ap, subst, ◌∙◌, arith, slice_get, cases_eq, slice_get_cases, slice_get_within, same_Some, IsInst, IsRead, Function, Inst, Register, Number, IsRule, SourceMayRead, Fixed, operands_of, Argument, Rule, Statement, Contains-from_get, IsNamedInSource, HasNoFault, MatchesHaveOneBinding, MatchesInAnyOrder, StandsFor, OperandMatches, StatementMatches, Binding, same_place, SourceOperand, source_operand, met_at, place_of, same_list, same_inst, in_any_order}
+use Rattle.ir_core.specs.Reads.{Read}
 use Rattle.ir_core.specs.declared.operand.Operand.{Operand}
 use Rattle.ir_core.specs.declared.operand.Operand.TheVariants as operands
-use Rattle.ir_core.specs.declared.operand.Register.{Register}
 use Rattle.ir_core.specs.declared.operand.Register.TheVariants as registers
-use Rattle.ops.specs.Number.{Number}
-use Rattle.rule_core.specs.Checks.{IsRule, SourceMayRead}
-use Rattle.rule_core.specs.Positions.{Fixed, operands_of}
-use Rattle.rule_core.specs.declared.rule.Argument.{Argument}
 use Rattle.rule_core.specs.declared.rule.Argument.TheVariants as arguments
 use Rattle.rule_core.specs.declared.rule.Operand.{Operand as RuleOperand}
 use Rattle.rule_core.specs.declared.rule.Register.TheVariants as names
-use Rattle.rule_core.specs.declared.rule.Rule.{Rule}
-use Rattle.rule_core.specs.declared.rule.Statement.{Statement}
-use Rattle.rule_core.proofs.Members.{Contains-from_get}
-use Rattle.rule_typing.specs.Classes.{IsNamedInSource}
-use Rattle.rule_typing.specs.Faults.{HasNoFault}
-use Rattle.matcher.specs.Laws.{MatchesHaveOneBinding}
-use Rattle.bindings.specs.Match.{MatchesInAnyOrder}
-use Rattle.bindings.specs.Operands.{StandsFor, OperandMatches}
-use Rattle.bindings.specs.Statements.{StatementMatches}
-use Rattle.bindings.specs.declared.binding.Binding.{Binding}
-use Rattle.bindings.proofs.Bound.{same_place}
 use Rattle.matcher.proofs.Candidates.{root_bound}
-use Rattle.bindings.proofs.Fitting.{SourceOperand, source_operand, met_at}
-use Rattle.bindings.proofs.Lists.{place_of, same_list}
-use Rattle.bindings.proofs.Reading.{same_inst}
-use Rattle.bindings.proofs.Roots.{in_any_order}
 use Rattle.matcher.proofs.Widths.{as_many, stable}
 
 one_register : (a : Operand) (r q : Register) → a ≡ operands.Register r → a ≡ operands.Register q → r ≡ q

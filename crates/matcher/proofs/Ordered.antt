@@ -1,14 +1,5 @@
 -- Matches without regard to the order of instructions are matches in a function that meets its checks.
-use Rattle.std.proofs.Common.{ℕ, Option, None, Some, Ok, Err}
-use Rattle.std.specs.Prelude.{IfOk, IfSome, IfNone, Result}
-use Rattle.ir_core.specs.Checks.{MeetsChecks}
-use Rattle.ir_core.specs.declared.function.Function.{Function}
-use Rattle.rule_core.specs.Checks.{IsRule}
-use Rattle.rule_core.specs.declared.rule.Rule.{Rule}
-use Rattle.bindings.specs.Match.{IsMatch, MatchesInAnyOrder}
-use Rattle.bindings.specs.declared.binding.Binding.{Binding}
-use Rattle.bindings.proofs.Roots.{in_any_order}
-use Rattle.bindings.specs.Laws.{TemporariesStandBefore}
+use Rattle.matcher.proofs.Common.{ℕ, Option, None, Some, Ok, Err, IfOk, IfSome, IfNone, Result, MeetsChecks, Function, IsRule, Rule, IsMatch, MatchesInAnyOrder, Binding, in_any_order, TemporariesStandBefore}
 
 module _ (stand_before : TemporariesStandBefore) (f : Function) (b k : ℕ) (rule : Rule) (checks : MeetsChecks f) (good : IsRule rule) where
   pub found_in_order : {E : Type 0} (r : Result (Option Binding) E) → IfOk r (λ found. IfSome found (MatchesInAnyOrder f b k rule)) → IfOk r (λ found. IfSome found (IsMatch f b k rule))

@@ -1,11 +1,5 @@
 -- Where a rule can match at all.
-use Rattle.std.proofs.Common.{ℕ}
-use Rattle.ir_core.specs.declared.function.Function.{Function}
-use Rattle.rule_core.specs.Checks.{IsRule}
-use Rattle.rule_core.specs.declared.rule.Rule.{Rule}
-use Rattle.bindings.specs.Checks.{IsRootOperation}
-use Rattle.bindings.specs.Match.{MatchesInAnyOrder}
-use Rattle.bindings.specs.declared.binding.Binding.{Binding}
+use Rattle.matcher.proofs.Common.{ℕ, Function, IsRule, Rule, IsRootOperation, MatchesInAnyOrder, Binding}
 use Rattle.bindings.proofs.Roots as roots
 
 -- a rule matches only at instructions with its root's operation

@@ -1,23 +1,9 @@
 -- Slots for all that a source names.
-use Rattle.std.proofs.Common.{◌≡◌, ℕ, ◌+◌, ◌-◌, ◌<◌, List, length, get_or, slice_set, Option, Some, sym, ap, subst, ◌∙◌, arith}
-use Rattle.std.specs.Prelude.{slice_get, Contains}
-use Rattle.std.proofs.lemmas.Option.{slice_get-get_or, slice_get_within}
+use Rattle.matcher.proofs.Common.{◌≡◌, ℕ, ◌+◌, ◌-◌, ◌<◌, List, length, get_or, slice_set, Option, Some, sym, ap, subst, ◌∙◌, arith, slice_get, Contains, slice_get-get_or, slice_get_within, IsRule, SourceMayRead, Fixed, operands_of, IsTyping, Argument, Rule, Statement, Contains-from_get, source_statement, class_stands, operand_class_stands, HasClasses, AreAsMany, AreSlotsOf, HasName, KnowsFrom, Binding, Slots, set_here}
 use Rattle.ir_core.specs.declared.operand.Register.{Register as Result}
-use Rattle.rule_core.specs.Checks.{IsRule, SourceMayRead}
-use Rattle.rule_core.specs.Positions.{Fixed, operands_of}
-use Rattle.rule_core.specs.Typing.{IsTyping}
-use Rattle.rule_core.specs.declared.rule.Argument.{Argument}
 use Rattle.rule_core.specs.declared.rule.Argument.TheVariants as arguments
 use Rattle.rule_core.specs.declared.rule.Register.TheVariants as names
-use Rattle.rule_core.specs.declared.rule.Rule.{Rule}
-use Rattle.rule_core.specs.declared.rule.Statement.{Statement}
-use Rattle.rule_core.proofs.Members.{Contains-from_get, source_statement, class_stands, operand_class_stands}
-use Rattle.rule_typing.specs.Classes.{HasClasses}
-use Rattle.matcher.specs.Slots.{AreAsMany, AreSlotsOf, HasName, KnowsFrom}
-use Rattle.bindings.specs.declared.binding.Binding.{Binding}
-use Rattle.matcher.specs.declared.slots.Slots.{Slots}
 use Rattle.matcher.proofs.Knowing.{has_statement}
-use Rattle.bindings.proofs.Lists.{set_here}
 
 -- what a source statement may read has a slot
 has_name : (rule : Rule) (slots : Slots) (k : ℕ) (a : Argument) → k < length rule.source → length slots.statements.items ≡ length rule.source → length slots.inputs.items ≡ length rule.inputs → length slots.constants.items ≡ length rule.constants

@@ -1,39 +1,14 @@
 -- A match stays where what it depends on does.
-use Rattle.std.proofs.Common.{◌≡◌, ℕ, zero, suc, ◌<◌, List, [], ◌∷◌, length, map, Some, refl, sym, ap, subst, ◌∙◌, arith}
-use Rattle.std.specs.Prelude.{Contains, slice_get}
-use Rattle.std.proofs.lemmas.List.{length-map}
-use Rattle.std.proofs.lemmas.Option.{same_Some, slice_get_within}
-use Rattle.ir_core.specs.Checks.{IsInst}
-use Rattle.ir_core.specs.Reads.{Read, IsRead, reads_of}
-use Rattle.ir_core.specs.declared.function.Function.{Function}
-use Rattle.ir_core.specs.declared.instruction.Inst.{Inst}
-use Rattle.ir_core.specs.declared.instruction.Op.{Op}
+use Rattle.moved_matches.proofs.Common.{◌≡◌, ℕ, zero, suc, ◌<◌, List, [], ◌∷◌, length, map, Some, refl, sym, ap, subst, ◌∙◌, arith, Contains, slice_get, length-map, same_Some, slice_get_within, IsInst, Read, IsRead, reads_of, Function, Inst, Op, Operand, Register, contains_at, Argument, Rule, Statement, from_map, get_from_map, get-map, Substitution, IsDefinite, substituted_operand, substituted_op, substituted_inst, IsUsedOnce, MatchesWhere, OperandMatches, StandsFor, AreKept, IsSameOperation, StatementMatches, promises_of_inst, promises_of_statement, Binding, reads_at_inst, same_inst, StandsAt, StandsThere, moved_binding, register_or, MatchesStay}
 use Rattle.ir_core.specs.declared.instruction.Op.TheVariants as ops
-use Rattle.ir_core.specs.declared.operand.Operand.{Operand}
 use Rattle.ir_core.specs.declared.operand.Operand.TheVariants as operands
-use Rattle.ir_core.specs.declared.operand.Register.{Register}
 use Rattle.ir_core.specs.declared.operand.Register.TheVariants as registers
-use Rattle.ir_meaning.proofs.Pieces.{contains_at}
-use Rattle.rule_core.specs.declared.rule.Argument.{Argument}
 use Rattle.rule_core.specs.declared.rule.Argument.TheVariants as arguments
 use Rattle.rule_core.specs.declared.rule.Formula.TheVariants as formulas
 use Rattle.rule_core.specs.declared.rule.Op.{Op as RuleOp}
 use Rattle.rule_core.specs.declared.rule.Op.TheVariants as rule_ops
 use Rattle.rule_core.specs.declared.rule.Operand.{Operand as RuleOperand}
 use Rattle.rule_core.specs.declared.rule.Register.TheVariants as names
-use Rattle.rule_core.specs.declared.rule.Rule.{Rule}
-use Rattle.rule_core.specs.declared.rule.Statement.{Statement}
-use Rattle.rule_typing.proofs.Images.{from_map, get_from_map, get-map}
-use Rattle.substitution.specs.Substitution.{Substitution, IsDefinite, substituted_operand, substituted_op, substituted_inst}
-use Rattle.use_counts.specs.Uses.{IsUsedOnce}
-use Rattle.bindings.specs.Match.{MatchesWhere}
-use Rattle.bindings.specs.Operands.{OperandMatches, StandsFor}
-use Rattle.bindings.specs.Promises.{AreKept}
-use Rattle.bindings.specs.Statements.{IsSameOperation, StatementMatches, promises_of_inst, promises_of_statement}
-use Rattle.bindings.specs.declared.binding.Binding.{Binding}
-use Rattle.bindings.proofs.Reading.{reads_at_inst, same_inst}
-use Rattle.moved_matches.specs.Moved.{StandsAt, StandsThere, moved_binding, register_or}
-use Rattle.moved_matches.specs.Laws.{MatchesStay}
 
 -- a substitution leaves the operation of an instruction, and its flags
 same_operation : (to : Substitution) (s : RuleOp) (op : Op) → IsSameOperation s op → IsSameOperation s (substituted_op to op)

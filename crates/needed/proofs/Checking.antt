@@ -1,30 +1,8 @@
 -- A cleaned function meets the checks that the old one met.
-use Rattle.std.proofs.Common.{◌≡◌, ℕ, zero, suc, ◌+◌, ◌<◌, ◌≤◌, ◌==◌, Bool, true, false, cond, inl, inr, List, [], ◌∷◌, ◌++◌, length, Option, None, Some, refl, sym, ap, subst, ◌∙◌, arith, Contains, map}
-use Rattle.std.specs.Prelude.{slice_get, option_map, option_and_then, unwrap_or, IsSome}
-use Rattle.std.specs.List.{flat_map}
-use Rattle.std.proofs.lemmas.Option.{slice_get-map}
-use Rattle.std.proofs.lemmas.Bool.{eqb-true}
-use Rattle.ops.specs.Number.{Number}
-use Rattle.ir_core.specs.declared.function.Function.{Function}
-use Rattle.ir_core.specs.declared.function.Block.{Block}
-use Rattle.ir_core.specs.declared.instruction.Inst.{Inst}
-use Rattle.ir_core.specs.declared.instruction.Op.{Op}
-use Rattle.ir_core.specs.declared.instruction.Op.TheVariants.{Binary, Compare, Unary, Select, Convert, Freeze, Phi}
-use Rattle.ir_core.specs.declared.operand.Operand.{Operand}
+use Rattle.needed.proofs.Common.{◌≡◌, ℕ, zero, suc, ◌+◌, ◌<◌, ◌≤◌, ◌==◌, Bool, true, false, cond, inl, inr, List, [], ◌∷◌, ◌++◌, length, Option, None, Some, refl, sym, ap, subst, ◌∙◌, arith, Contains, map, slice_get, option_map, option_and_then, unwrap_or, IsSome, flat_map, slice_get-map, eqb-true, Number, Function, Block, Inst, Op, Binary, Compare, Unary, Select, Convert, Freeze, Phi, Operand, Register, Terminator, IsAssigned, targets_of, IsBlock, Names, HasInst, IsInst, NamesDiffer, IsKnown, OperandHasWidth, IsTyped, CasesFit, IsPhi, EntriesFit, IsFormed, MeetsChecks, block_names, names_of, width_of, Read, read, IsRead, end_of, reads_of, reads_at_end, reads_by, reads_in, reads_at, IsWalk, KeptMarks, kept_before, moved_register, moved_operand, moved_op, moved_inst, moved_end, kept_first, kept_insts, kept_block, kept_blocks, kept_function, KeepsNeeded, IsCleaned, CleanedNumbersWereThere}
 use Rattle.ir_core.specs.declared.operand.Operand.TheVariants as operands
-use Rattle.ir_core.specs.declared.operand.Register.{Register}
 use Rattle.ir_core.specs.declared.operand.Register.TheVariants as registers
-use Rattle.ir_core.specs.declared.terminator.Terminator.{Terminator}
 use Rattle.ir_core.specs.declared.terminator.Terminator.TheVariants as terminators
-use Rattle.ir_core.specs.Assigned.{IsAssigned}
-use Rattle.ir_core.specs.Blocks.{targets_of, IsBlock, Names, HasInst}
-use Rattle.ir_core.specs.Checks.{IsInst, NamesDiffer, IsKnown, OperandHasWidth, IsTyped, CasesFit, IsPhi, EntriesFit, IsFormed, MeetsChecks}
-use Rattle.ir_core.specs.Names.{block_names, names_of, width_of}
-use Rattle.ir_core.specs.Reads.{Read, read, IsRead, end_of, reads_of, reads_at_end, reads_by, reads_in, reads_at}
-use Rattle.ir_core.specs.Walks.{IsWalk}
-use Rattle.needed.specs.KeptFunction.{KeptMarks, kept_before, moved_register, moved_operand, moved_op, moved_inst, moved_end, kept_first, kept_insts, kept_block, kept_blocks, kept_function}
-use Rattle.needed.specs.Cleaned.{KeepsNeeded, IsCleaned}
-use Rattle.needed.specs.Laws.{CleanedNumbersWereThere}
 use Rattle.needed.proofs.Counting.{count-monotone, count-below, below_or, mapped, contained_at, contains_at, length-kept, kept_at, IsKept, kept_back, get-block, block_at, block_back}
 use Rattle.needed.proofs.Reading.{reads_at-inst, reads_at-end, Stays, OperandStays, ReadsStay, inst_reads_stay, end_reads_stay}
 

@@ -1,13 +1,5 @@
 -- The indices of instructions once only some of them are kept.
-use Rattle.std.proofs.Common.{◌≡◌, ℕ, zero, suc, ◌+◌, ◌-◌, ◌<◌, ◌≤◌, Bool, true, false, cond, ◌⊎◌, inl, inr, List, [], ◌∷◌, length, Option, None, Some, refl, sym, ap, subst, ◌∙◌, arith, Contains}
-use Rattle.std.specs.Prelude.{slice_get, option_map}
-use Rattle.std.proofs.lemmas.Bool.{cases_eq}
-use Rattle.std.proofs.lemmas.Option.{same_Some, slice_get_within, slice_get-get_or, get_or_from_slice_get}
-use Rattle.ir_core.specs.declared.function.Function.{Function}
-use Rattle.ir_core.specs.declared.function.Block.{Block}
-use Rattle.ir_core.specs.declared.instruction.Inst.{Inst}
-use Rattle.ir_core.specs.Blocks.{IsBlock}
-use Rattle.needed.specs.KeptFunction.{KeptMarks, kept_before, moved_inst, kept_first, kept_insts, kept_block, kept_blocks, kept_function}
+use Rattle.needed.proofs.Common.{◌≡◌, ℕ, zero, suc, ◌+◌, ◌-◌, ◌<◌, ◌≤◌, Bool, true, false, cond, ◌⊎◌, inl, inr, List, [], ◌∷◌, length, Option, None, Some, refl, sym, ap, subst, ◌∙◌, arith, Contains, slice_get, option_map, cases_eq, same_Some, slice_get_within, slice_get-get_or, get_or_from_slice_get, Function, Block, Inst, IsBlock, KeptMarks, kept_before, moved_inst, kept_first, kept_insts, kept_block, kept_blocks, kept_function}
 
 -- ---- how many are kept
 

@@ -1,34 +1,9 @@
 -- What registers hold on a walk through the blocks, in the old function and in the cleaned one.
-use Rattle.std.proofs.Common.{◌≡◌, ℕ, zero, suc, ◌<◌, ◌==◌, ◌&&◌, Bool, true, false, cond, ◌⊎◌, inl, inr, List, [], ◌∷◌, length, Option, Some, refl, sym, ap, subst, ◌∙◌, arith, Contains, map}
-use Rattle.std.specs.Prelude.{slice_get, option_map}
-use Rattle.std.proofs.lemmas.Bool.{cases_eq, eq-eqb, ne_eqb, and_from, and_right}
-use Rattle.std.proofs.lemmas.Nat.{pow_pos}
-use Rattle.std.proofs.lemmas.Option.{slice_get-map}
-use Rattle.ops.specs.Instruction.{instruction}
-use Rattle.ops.specs.Comparison.{comparison, selection}
-use Rattle.ops.specs.Conversion.{conversion}
-use Rattle.ops.specs.Unary.{unary}
-use Rattle.ops.specs.declared.value.Value.{Value}
+use Rattle.needed.proofs.Common.{◌≡◌, ℕ, zero, suc, ◌<◌, ◌==◌, ◌&&◌, Bool, true, false, cond, ◌⊎◌, inl, inr, List, [], ◌∷◌, length, Option, Some, refl, sym, ap, subst, ◌∙◌, arith, Contains, map, slice_get, option_map, cases_eq, eq-eqb, ne_eqb, and_from, and_right, pow_pos, slice_get-map, instruction, comparison, selection, conversion, unary, Value, Effect, Function, Parameter, Block, Op, Binary, Compare, Unary, Select, Convert, Freeze, Phi, Operand, Register, IsAssigned, IsBlock, HasInst, IsPhi, Read, read, end_of, reads_of, AreArguments, Registers, arguments, holding, OperandGives, Freezes, OpGives, PhiGives, AnyNumber, IsWalk, KeptMarks, kept_before, moved_register, moved_operand, moved_op}
 use Rattle.ops.specs.declared.value.Value.TheVariants as values
-use Rattle.ops.specs.declared.value.Effect.{Effect}
 use Rattle.ops.specs.declared.value.Effect.TheVariants as effects
-use Rattle.ir_core.specs.declared.function.Function.{Function}
-use Rattle.ir_core.specs.declared.function.Parameter.{Parameter}
-use Rattle.ir_core.specs.declared.function.Block.{Block}
-use Rattle.ir_core.specs.declared.instruction.Op.{Op}
-use Rattle.ir_core.specs.declared.instruction.Op.TheVariants.{Binary, Compare, Unary, Select, Convert, Freeze, Phi}
-use Rattle.ir_core.specs.declared.operand.Operand.{Operand}
 use Rattle.ir_core.specs.declared.operand.Operand.TheVariants as operands
-use Rattle.ir_core.specs.declared.operand.Register.{Register}
 use Rattle.ir_core.specs.declared.operand.Register.TheVariants as registers
-use Rattle.ir_core.specs.Assigned.{IsAssigned}
-use Rattle.ir_core.specs.Blocks.{IsBlock, HasInst}
-use Rattle.ir_core.specs.Checks.{IsPhi}
-use Rattle.ir_core.specs.Reads.{Read, read, end_of, reads_of}
-use Rattle.ir_core.specs.Refines.{AreArguments}
-use Rattle.ir_core.specs.Run.{Registers, arguments, holding, OperandGives, Freezes, OpGives, PhiGives, AnyNumber}
-use Rattle.ir_core.specs.Walks.{IsWalk}
-use Rattle.needed.specs.KeptFunction.{KeptMarks, kept_before, moved_register, moved_operand, moved_op}
 use Rattle.needed.proofs.Counting.{same_place, mapped, contained_at, contains_at}
 use Rattle.needed.proofs.Reading.{Stays, OperandStays, ReadsStay}
 

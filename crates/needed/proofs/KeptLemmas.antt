@@ -1,17 +1,7 @@
 -- The new indices of kept instructions, by counts of marks.
-use Rattle.std.proofs.Common.{◌≡◌, ℕ, zero, suc, ◌+◌, ◌<◌, ◌≤◌, Bool, true, false, List, [], ◌∷◌, ◌++◌, length, take, drop, Some, refl, sym, ap, subst, ◌∙◌, ◌⊎◌, inl, inr, arith, get_or, count_by}
-use Rattle.std.specs.Prelude.{slice_get}
-use Rattle.std.proofs.Math.Seq.{drop-cons}
-use Rattle.std.proofs.lemmas.Bool.{cases_eq}
-use Rattle.std.proofs.lemmas.Option.{get_or_from_slice_get}
-use Rattle.std.proofs.lemmas.List.{length_push}
-use Rattle.std.proofs.lemmas.List.Sums.{count_by_more_yes, count_by_more_no}
+use Rattle.needed.proofs.Common.{◌≡◌, ℕ, zero, suc, ◌+◌, ◌<◌, ◌≤◌, Bool, true, false, List, [], ◌∷◌, ◌++◌, length, take, drop, Some, refl, sym, ap, subst, ◌∙◌, ◌⊎◌, inl, inr, arith, get_or, count_by, slice_get, drop-cons, cases_eq, get_or_from_slice_get, length_push, count_by_more_yes, count_by_more_no, Register, KeptMarks, kept_before, moved_register, number_of, marks_by, IsNumbered, AreCounts}
 use Rattle.ir_core.specs.declared.operand.Operand.TheVariants as operands
-use Rattle.ir_core.specs.declared.operand.Register.{Register}
 use Rattle.ir_core.specs.declared.operand.Register.TheVariants as registers
-use Rattle.needed.specs.KeptFunction.{KeptMarks, kept_before, moved_register}
-use Rattle.needed.specs.InstNumbers.{number_of, marks_by, IsNumbered}
-use Rattle.needed.specs.NeededMarks.{AreCounts}
 use Rattle.needed.proofs.Counting.{count-kept, count-dropped}
 use Rattle.needed.proofs.MarkLemmas.{get_or-read}
 

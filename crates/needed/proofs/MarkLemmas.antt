@@ -1,18 +1,7 @@
 -- Marking the instructions that define operands, one by one.
-use Rattle.std.proofs.Common.{◌≡◌, ℕ, zero, suc, ◌+◌, ◌<◌, Bool, true, false, cond, ◌⊎◌, inl, inr, List, [], ◌∷◌, ◌++◌, length, take, get_or, Some, refl, sym, ap, subst, ◌∙◌, arith, All, Contains, append_assoc, append-nil, count_by, length-append, map}
-use Rattle.std.specs.Prelude.{slice_get, option_map}
-use Rattle.std.proofs.Math.ListN.{set, length-set}
-use Rattle.std.proofs.lemmas.Bool.{cases_eq}
-use Rattle.std.proofs.lemmas.List.{get_or-set_same, get_or-set_other, take_more, map-append}
-use Rattle.std.proofs.lemmas.List.Elements.{All-get_or, Contains-append_left, Contains-append_right, Contains-append_cases}
-use Rattle.std.proofs.lemmas.List.Sums.{sum_by-set}
-use Rattle.std.proofs.lemmas.Option.{same_Some, slice_get-get_or, slice_get-map, slice_get_within, slice_get_read, get_or_from_slice_get}
-use Rattle.ir_core.specs.declared.operand.Operand.{Operand}
+use Rattle.needed.proofs.Common.{◌≡◌, ℕ, zero, suc, ◌+◌, ◌<◌, Bool, true, false, cond, ◌⊎◌, inl, inr, List, [], ◌∷◌, ◌++◌, length, take, get_or, Some, refl, sym, ap, subst, ◌∙◌, arith, All, Contains, append_assoc, append-nil, count_by, length-append, map, slice_get, option_map, set, length-set, cases_eq, get_or-set_same, get_or-set_other, take_more, map-append, All-get_or, Contains-append_left, Contains-append_right, Contains-append_cases, sum_by-set, same_Some, slice_get-get_or, slice_get-map, slice_get_within, slice_get_read, get_or_from_slice_get, Operand, Search, number_of, IsNumbered, IsMarked, unmarked, Marked}
 use Rattle.ir_core.specs.declared.operand.Operand.TheVariants as operands
 use Rattle.ir_core.specs.declared.operand.Register.TheVariants as registers
-use Rattle.needed.specs.declared.search.Search.{Search}
-use Rattle.needed.specs.InstNumbers.{number_of, IsNumbered}
-use Rattle.needed.specs.NeededMarks.{IsMarked, unmarked, Marked}
 use Rattle.needed.proofs.Counting.{contained_at, contains_first}
 
 abbrev pub result_of : ℕ → ℕ → Operand

@@ -1,35 +1,11 @@
 -- The simulation of a run of the cleaned function by one of the old function.
-use Rattle.std.proofs.Common.{◌≡◌, ℕ, zero, suc, ◌+◌, ◌<◌, ◌==◌, Bool, true, false, cond, ◌⊎◌, inl, inr, List, [], ◌∷◌, length, Option, None, Some, refl, sym, ap, subst, ◌∙◌, arith, Contains, map}
-use Rattle.std.specs.Prelude.{slice_get, option_map}
-use Rattle.std.proofs.lemmas.Option.{slice_get-map}
-use Rattle.ops.proofs.Values.{AllowsValue-refl}
-use Rattle.ops.specs.Number.{Number}
-use Rattle.ops.specs.declared.value.Value.{Value}
+use Rattle.needed.proofs.Common.{◌≡◌, ℕ, zero, suc, ◌+◌, ◌<◌, ◌==◌, Bool, true, false, cond, ◌⊎◌, inl, inr, List, [], ◌∷◌, length, Option, None, Some, refl, sym, ap, subst, ◌∙◌, arith, Contains, map, slice_get, option_map, slice_get-map, AllowsValue-refl, Number, Value, Effect, Function, Block, Inst, Op, Binary, Compare, Unary, Select, Convert, Freeze, Phi, Operand, Register, Terminator, Outcome, IsAssigned, ReadIsAssigned, targets_of, IsBlock, Names, IsPhi, IsInst, EntriesFit, MeetsChecks, read, end_of, reads_of, reads_at_end, AreArguments, AllowsOutcome, Refines, Registers, arguments, has_noundef, breaks_noundef, Ending, Undefines, Returns, Goes, returning, going_by, branch_target, switch_target, GoesOn, Leads, IfPhi, OpGives, PhiGives, EndGives, Follows, Enters, Passes, RunsFrom, Starts, holding, AnyNumber, OperandGives, IsWalk, KeptMarks, kept_before, moved_operand, moved_op, moved_inst, moved_end, kept_first, kept_insts, kept_block, kept_blocks, kept_function, KeepsNeeded, IsCleaned}
 use Rattle.ops.specs.declared.value.Value.TheVariants as values
-use Rattle.ops.specs.declared.value.Effect.{Effect}
 use Rattle.ops.specs.declared.value.Effect.TheVariants as effects
-use Rattle.ir_core.specs.declared.function.Function.{Function}
-use Rattle.ir_core.specs.declared.function.Block.{Block}
-use Rattle.ir_core.specs.declared.instruction.Inst.{Inst}
-use Rattle.ir_core.specs.declared.instruction.Op.{Op}
-use Rattle.ir_core.specs.declared.instruction.Op.TheVariants.{Binary, Compare, Unary, Select, Convert, Freeze, Phi}
-use Rattle.ir_core.specs.declared.operand.Operand.{Operand}
 use Rattle.ir_core.specs.declared.operand.Operand.TheVariants as operands
-use Rattle.ir_core.specs.declared.operand.Register.{Register}
 use Rattle.ir_core.specs.declared.operand.Register.TheVariants as registers
-use Rattle.ir_core.specs.declared.terminator.Terminator.{Terminator}
 use Rattle.ir_core.specs.declared.terminator.Terminator.TheVariants as terminators
-use Rattle.ir_core.specs.declared.outcome.Outcome.{Outcome}
 use Rattle.ir_core.specs.declared.outcome.Outcome.TheVariants as outcomes
-use Rattle.ir_core.specs.Assigned.{IsAssigned, ReadIsAssigned}
-use Rattle.ir_core.specs.Blocks.{targets_of, IsBlock, Names}
-use Rattle.ir_core.specs.Checks.{IsPhi, IsInst, EntriesFit, MeetsChecks}
-use Rattle.ir_core.specs.Reads.{read, end_of, reads_of, reads_at_end}
-use Rattle.ir_core.specs.Refines.{AreArguments, AllowsOutcome, Refines}
-use Rattle.ir_core.specs.Run.{Registers, arguments, has_noundef, breaks_noundef, Ending, Undefines, Returns, Goes, returning, going_by, branch_target, switch_target, GoesOn, Leads, IfPhi, OpGives, PhiGives, EndGives, Follows, Enters, Passes, RunsFrom, Starts, holding, AnyNumber, OperandGives}
-use Rattle.ir_core.specs.Walks.{IsWalk}
-use Rattle.needed.specs.KeptFunction.{KeptMarks, kept_before, moved_operand, moved_op, moved_inst, moved_end, kept_first, kept_insts, kept_block, kept_blocks, kept_function}
-use Rattle.needed.specs.Cleaned.{KeepsNeeded, IsCleaned}
 use Rattle.needed.proofs.Counting.{count-kept, count-dropped, contained_at, contains_at, contains_first, contains_later, rest_here, rest_next, block_back}
 use Rattle.needed.proofs.Reading.{IsThere, own_place, ReadsStay, inst_reads_stay, end_reads_stay, inst_reads_assigned}
 use Rattle.needed.proofs.Holding.{IsHeld, Held, assigned_held, held_next, held_on, held_first, OperandHeld, operand_held, ReadsHeld, operand_gives, op_gives, Agree, agree_kept, agree_dropped, operand_back, op_back, phi_back}

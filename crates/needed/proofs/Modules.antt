@@ -1,14 +1,6 @@
 -- The laws of dead code elimination for modules.
-use Rattle.std.proofs.Common.{◌≡◌, ℕ, zero, suc, List, [], ◌∷◌, Some, refl, sym, ap, subst, ◌∙◌}
-use Rattle.std.specs.Prelude.{slice_get}
-use Rattle.std.proofs.lemmas.Option.{same_Some}
-use Rattle.ir_core.specs.declared.module.Entry.{Entry}
+use Rattle.needed.proofs.Common.{◌≡◌, ℕ, zero, suc, List, [], ◌∷◌, Some, refl, sym, ap, subst, ◌∙◌, slice_get, same_Some, Entry, Function, MeetsChecks, EntryRefines, EntriesRefine, IsCleaned, EntryCleaned, EntriesCleaned, CleanedModulesRefine, CleanedModulesMeetChecks}
 use Rattle.ir_core.specs.declared.module.Entry.TheVariants as entries
-use Rattle.ir_core.specs.declared.function.Function.{Function}
-use Rattle.ir_core.specs.Checks.{MeetsChecks}
-use Rattle.ir_core.specs.Refines.{EntryRefines, EntriesRefine}
-use Rattle.needed.specs.Cleaned.{IsCleaned, EntryCleaned, EntriesCleaned}
-use Rattle.needed.specs.Laws.{CleanedModulesRefine, CleanedModulesMeetChecks}
 use Rattle.needed.proofs.Matching.{cleaned_refines}
 use Rattle.needed.proofs.Checking.{cleaned_meets}
 

@@ -1,24 +1,7 @@
 -- Reads at a place: which of them are of registers that are kept and assigned.
-use Rattle.std.proofs.Common.{◌≡◌, ℕ, zero, suc, true, cond, List, [], ◌∷◌, length, Option, Some, refl, sym, ap, subst, ◌∙◌, arith}
-use Rattle.std.specs.Prelude.{slice_get, option_map, unwrap_or}
-use Rattle.std.proofs.lemmas.Bool.{eq-eqb}
-use Rattle.std.proofs.lemmas.Option.{slice_get_past, slice_get_within, same_Some}
-use Rattle.ir_core.specs.declared.function.Function.{Function}
-use Rattle.ir_core.specs.declared.function.Block.{Block}
-use Rattle.ir_core.specs.declared.instruction.Inst.{Inst}
-use Rattle.ir_core.specs.declared.instruction.Op.{Op}
-use Rattle.ir_core.specs.declared.instruction.Op.TheVariants.{Binary, Compare, Unary, Select, Convert, Freeze, Phi}
-use Rattle.ir_core.specs.declared.operand.Operand.{Operand}
+use Rattle.needed.proofs.Common.{◌≡◌, ℕ, zero, suc, true, cond, List, [], ◌∷◌, length, Option, Some, refl, sym, ap, subst, ◌∙◌, arith, slice_get, option_map, unwrap_or, eq-eqb, slice_get_past, slice_get_within, same_Some, Function, Block, Inst, Op, Binary, Compare, Unary, Select, Convert, Freeze, Phi, Operand, Register, IsAssigned, ReadIsAssigned, IsBlock, HasInst, IsPhi, MeetsChecks, Read, read, IsRead, end_of, reads_of, reads_at_end, reads_by, reads_in, reads_at, IsNeeded, KeptMarks, KeepsNeeded}
 use Rattle.ir_core.specs.declared.operand.Operand.TheVariants as operands
-use Rattle.ir_core.specs.declared.operand.Register.{Register}
 use Rattle.ir_core.specs.declared.operand.Register.TheVariants as registers
-use Rattle.ir_core.specs.Assigned.{IsAssigned, ReadIsAssigned}
-use Rattle.ir_core.specs.Blocks.{IsBlock, HasInst}
-use Rattle.ir_core.specs.Checks.{IsPhi, MeetsChecks}
-use Rattle.ir_core.specs.Reads.{Read, read, IsRead, end_of, reads_of, reads_at_end, reads_by, reads_in, reads_at}
-use Rattle.needed.specs.Needed.{IsNeeded}
-use Rattle.needed.specs.KeptFunction.{KeptMarks}
-use Rattle.needed.specs.Cleaned.{KeepsNeeded}
 
 pub reads_at-inst : (f : Function) (b k : ℕ) (block : Block) (inst : Inst) → IsBlock f b block → slice_get block.insts k ≡ Some inst → reads_at f b k ≡ reads_of f b k inst.width inst.op
 reads_at-inst f b k block inst at here = ap (reads_in f b k) at ∙ ap (reads_by f b k block) here

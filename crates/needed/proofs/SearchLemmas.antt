@@ -1,29 +1,8 @@
 -- The search for live instructions by a worklist.
-use Rattle.std.proofs.Common.{◌≡◌, ℕ, zero, suc, ◌+◌, ◌<◌, true, false, ◌⊎◌, inl, inr, List, [], ◌∷◌, ◌++◌, length, get_or, Option, None, Some, refl, sym, ap, subst, ◌∙◌, arith, All, Contains, map}
-use Rattle.std.specs.Prelude.{slice_get, option_map, option_and_then, IsSome}
-use Rattle.std.proofs.lemmas.Bool.{cases_eq}
-use Rattle.std.proofs.lemmas.List.Elements.{Contains-append_left, Contains-append_right, Contains-append_cases}
-use Rattle.std.proofs.lemmas.Option.{slice_get-map, slice_get_within, slice_get-get_or}
-use Rattle.ir_core.specs.declared.function.Function.{Function}
-use Rattle.ir_core.specs.declared.function.Block.{Block}
-use Rattle.ir_core.specs.declared.instruction.Inst.{Inst}
-use Rattle.ir_core.specs.declared.instruction.Op.{Op}
-use Rattle.ir_core.specs.declared.instruction.Op.TheVariants.{Binary, Compare, Unary, Select, Convert, Freeze, Phi}
-use Rattle.ir_core.specs.declared.operand.Operand.{Operand}
+use Rattle.needed.proofs.Common.{◌≡◌, ℕ, zero, suc, ◌+◌, ◌<◌, true, false, ◌⊎◌, inl, inr, List, [], ◌∷◌, ◌++◌, length, get_or, Option, None, Some, refl, sym, ap, subst, ◌∙◌, arith, All, Contains, map, slice_get, option_map, option_and_then, IsSome, cases_eq, Contains-append_left, Contains-append_right, Contains-append_cases, slice_get-map, slice_get_within, slice_get-get_or, Function, Block, Inst, Op, Binary, Compare, Unary, Select, Convert, Freeze, Phi, Operand, Register, Terminator, IsBlock, HasInst, IsKnown, Read, read, IsRead, end_of, reads_of, reads_at_end, reads_in, reads_at, IsNeeded, by_end, by_inst, ReadsRegister, KeepsNeeded, operands_of, operands_at_end, AreNumbers, number_of, IsNumbered, BlockIsNumbered, marks_by, IsMarked, Marked, IsSound, IsSearched, Search}
 use Rattle.ir_core.specs.declared.operand.Operand.TheVariants as operands
-use Rattle.ir_core.specs.declared.operand.Register.{Register}
 use Rattle.ir_core.specs.declared.operand.Register.TheVariants as registers
-use Rattle.ir_core.specs.declared.terminator.Terminator.{Terminator}
 use Rattle.ir_core.specs.declared.terminator.Terminator.TheVariants as terminators
-use Rattle.ir_core.specs.Blocks.{IsBlock, HasInst}
-use Rattle.ir_core.specs.Checks.{IsKnown}
-use Rattle.ir_core.specs.Reads.{Read, read, IsRead, end_of, reads_of, reads_at_end, reads_in, reads_at}
-use Rattle.needed.specs.Needed.{IsNeeded, by_end, by_inst, ReadsRegister}
-use Rattle.needed.specs.Cleaned.{KeepsNeeded}
-use Rattle.needed.specs.Operands.{operands_of, operands_at_end}
-use Rattle.needed.specs.InstNumbers.{AreNumbers, number_of, IsNumbered, BlockIsNumbered, marks_by}
-use Rattle.needed.specs.NeededMarks.{IsMarked, Marked, IsSound, IsSearched}
-use Rattle.needed.specs.declared.search.Search.{Search}
 use Rattle.needed.proofs.Counting.{mapped, contained_at, contains_at}
 use Rattle.needed.proofs.Reading.{reads_at-inst, reads_at-end, end_of-is}
 use Rattle.needed.proofs.NumberLemmas.{number-within, same_number, item_read}

@@ -1,10 +1,5 @@
 -- Kept instructions are moved to the front of their list, in order.
-use Rattle.std.proofs.Common.{◌≡◌, ℕ, zero, suc, ◌+◌, ◌<◌, ◌≤◌, true, false, List, [], ◌∷◌, ◌++◌, length, take, drop, refl, sym, ap, ◌∙◌, arith, get_or, append_assoc}
-use Rattle.std.proofs.Math.ListN.{set, length-set}
-use Rattle.std.proofs.Math.Seq.{drop-cons}
-use Rattle.std.proofs.lemmas.List.{drop-set-lt, get_or-set_same}
-use Rattle.ir_core.specs.declared.instruction.Inst.{Inst}
-use Rattle.needed.specs.KeptFunction.{KeptMarks, kept_first, kept_insts, moved_inst}
+use Rattle.needed.proofs.Common.{◌≡◌, ℕ, zero, suc, ◌+◌, ◌<◌, ◌≤◌, true, false, List, [], ◌∷◌, ◌++◌, length, take, drop, refl, sym, ap, ◌∙◌, arith, get_or, append_assoc, set, length-set, drop-cons, drop-set-lt, get_or-set_same, Inst, KeptMarks, kept_first, kept_insts, moved_inst}
 
 -- the first `count` items are what is kept of the first `place`, and from there on all are as they were
 pub record Settled (kept : KeptMarks) (b : ℕ) (all : List Inst) (place count : ℕ) (items : List Inst) : Type 0 where

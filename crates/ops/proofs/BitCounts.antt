@@ -1,13 +1,5 @@
 -- The bits of a number one by one, and how many are counted.
-use Rattle.std.proofs.Common.{◌≡◌, ℕ, zero, suc, ◌+◌, ◌-◌, ◌/◌, ◌%◌, ◌^◌, ◌<◌, ◌≤◌, min, Bool, true, false, cond, not, List, [], ◌∷◌, ◌++◌, length, refl, sym, ap, ◌∙◌, inl, inr, ◌⊎◌, arith}
-use Rattle.std.specs.Prelude.{◌==◌, filter, reverse, count_ones}
-use Rattle.std.specs.List.{prefix_len}
-use Rattle.std.proofs.lemmas.List.{length-reverse, reverse-append}
-use Rattle.std.proofs.lemmas.Nat.{leading_top, leading_length, leading_le, ones-le}
-use Rattle.std.proofs.lemmas.Bool.Decides.{nat_tests}
-use lib.Count.{count_leading_zeros, count_trailing_zeros, under, ones_step, leading_of_zero, leading_unique}
-use native.Mathlib.Nat.{eq-zero-or-pos}
-use Rattle.ops.specs.Counts.{binary_digits, ctpop, ctlz, cttz}
+use Rattle.ops.proofs.Common.{◌≡◌, ℕ, zero, suc, ◌+◌, ◌-◌, ◌/◌, ◌%◌, ◌^◌, ◌<◌, ◌≤◌, min, Bool, true, false, cond, not, List, [], ◌∷◌, ◌++◌, length, refl, sym, ap, ◌∙◌, inl, inr, ◌⊎◌, arith, ◌==◌, filter, reverse, count_ones, prefix_len, length-reverse, reverse-append, leading_top, leading_length, leading_le, ones-le, nat_tests, count_leading_zeros, count_trailing_zeros, under, ones_step, leading_of_zero, leading_unique, eq-zero-or-pos, binary_digits, ctpop, ctlz, cttz}
 
 half_below : (n a : ℕ) → a < 2 ^ suc n → a / 2 < 2 ^ n
 half_below n a h = omega (arith, native.Mathlib.Nat.two-pow-succ n)

@@ -1,16 +1,6 @@
 -- Keywords of flags: a flag that is found is spelled by its keyword, a flag that is spelled is found, and flags that
 -- are read one by one are among those that the instruction takes.
-use Rattle.std.proofs.Common.{◌≡◌, ℕ, Bool, true, false, cond, ◌&&◌, List, [], ◌∷◌, None, Some, IsTrue, refl, sym, ap, subst}
-use Rattle.std.specs.Prelude.{filter}
-use Rattle.std.specs.Str.{bytes_eq}
-use Rattle.ops.specs.declared.opcode.Flags.{Flags}
-use Rattle.ops.specs.declared.comparison.Pred.{Pred}
-use Rattle.ops.specs.declared.comparison.Pred.TheVariants.{Eq, Ne, Ugt, Uge, Ult, Ule, Sgt, Sge, Slt, Sle}
-use Rattle.ops.specs.Flags.{no_flags, AreWithin, flags_of_icmp, icmp_flags}
-use Rattle.ops.specs.declared.keywords.flag.Flag.{Flag}
-use Rattle.ops.specs.declared.keywords.flag.Flag.TheVariants.{Nuw, Nsw, Exact, NNeg, Disjoint, SameSign}
-use Rattle.ops.specs.FlagKeywords.{flag_keyword, every_flag, has_flag, with_flag, flag_in, AddsFlags}
-use Rattle.ops.specs.Keywords.{predicate_keyword}
+use Rattle.ops.proofs.Common.{◌≡◌, ℕ, Bool, true, false, cond, ◌&&◌, List, [], ◌∷◌, None, Some, IsTrue, refl, sym, ap, subst, filter, bytes_eq, Flags, Pred, Eq, Ne, Ugt, Uge, Ult, Ule, Sgt, Sge, Slt, Sle, no_flags, AreWithin, flags_of_icmp, icmp_flags, Flag, Nuw, Nsw, Exact, NNeg, Disjoint, SameSign, flag_keyword, every_flag, has_flag, with_flag, flag_in, AddsFlags, predicate_keyword}
 use Rattle.ops.proofs.FlagSets.{both, same_set}
 use Rattle.ops.proofs.KeywordLemmas.{same_word, found-passes}
 

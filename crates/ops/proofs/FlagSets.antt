@@ -1,7 +1,5 @@
 -- Equality of sets of flags.
-use Rattle.std.proofs.Common.{◌≡◌, Bool, true, false, ◌&&◌, IsTrue, refl, sym, ◌∙◌}
-use Rattle.std.specs.Bool.{beq}
-use Rattle.ops.specs.declared.opcode.Flags.{Flags}
+use Rattle.ops.proofs.Common.{◌≡◌, Bool, true, false, ◌&&◌, IsTrue, refl, sym, ◌∙◌, beq, Flags}
 
 pub both : (a b : Bool) → (a && b) ≡ true → (a ≡ true) × (b ≡ true)
 both true b e = (refl, e)

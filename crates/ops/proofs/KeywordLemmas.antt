@@ -1,11 +1,5 @@
 -- Tables of keywords: the entry that is found is spelled by the word, and each word that is spelled is found.
-use Rattle.std.proofs.Common.{◌≡◌, ℕ, Bool, true, false, cond, List, [], ◌∷◌, Option, Some, refl, subst}
-use Rattle.std.specs.Prelude.{find}
-use Rattle.std.specs.Str.{bytes_eq}
-use Rattle.std.proofs.lemmas.Slice.Eq.{bytes_eq-Decides}
-use Rattle.ops.specs.declared.comparison.Pred.{Pred}
-use Rattle.ops.specs.declared.comparison.Pred.TheVariants.{Eq, Ne, Ugt, Uge, Ult, Ule, Sgt, Sge, Slt, Sle}
-use Rattle.ops.specs.Keywords.{predicate_keyword, predicates, pred_in}
+use Rattle.ops.proofs.Common.{◌≡◌, ℕ, Bool, true, false, cond, List, [], ◌∷◌, Option, Some, refl, subst, find, bytes_eq, bytes_eq-Decides, Pred, Eq, Ne, Ugt, Uge, Ult, Ule, Sgt, Sge, Slt, Sle, predicate_keyword, predicates, pred_in}
 
 pub same_word : (word wanted : List ℕ) → bytes_eq word wanted ≡ true → word ≡ wanted
 same_word word wanted e = (bytes_eq-Decides word wanted).0 e

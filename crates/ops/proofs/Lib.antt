@@ -1,3 +1,4 @@
+pub mod Common
 pub mod BitCounts
 pub mod Monotone
 pub mod Quotients

@@ -1,21 +1,5 @@
 -- Instructions are monotone: operands that allow others give an effect, or a value, that allows what those give.
-use Rattle.std.proofs.Common.{ℕ, Bool, true, false, cond, ◌&&◌, ◌||◌}
-use Rattle.std.specs.Prelude.{◌==◌}
-use Rattle.ops.specs.declared.value.Value.{Value}
-use Rattle.ops.specs.declared.value.Value.TheVariants.{Poison, Bits}
-use Rattle.ops.specs.declared.value.Effect.TheVariants.{Undefined, Gives}
-use Rattle.ops.specs.declared.opcode.Opcode.{Opcode}
-use Rattle.ops.specs.declared.opcode.Opcode.TheVariants.{UDiv, SDiv, URem, SRem}
-use Rattle.ops.specs.declared.opcode.Flags.{Flags}
-use Rattle.ops.specs.Number.{Number}
-use Rattle.ops.specs.Value.{AllowsValue, AllowsEffect}
-use Rattle.ops.specs.Integer.{minus_one, least}
-use Rattle.ops.specs.Division.{udiv, sdiv, urem, srem}
-use Rattle.ops.specs.Instruction.{instruction, on_numbers, on_poison}
-use Rattle.ops.specs.Comparison.{comparison, selection}
-use Rattle.ops.specs.Conversion.{conversion}
-use Rattle.ops.specs.Unary.{unary}
-use Rattle.ops.specs.Laws.{InstructionIsMonotone, ComparisonIsMonotone, ConversionIsMonotone, UnaryIsMonotone, SelectionIsMonotone}
+use Rattle.ops.proofs.Common.{ℕ, Bool, true, false, cond, ◌&&◌, ◌||◌, ◌==◌, Value, Poison, Bits, Undefined, Gives, Opcode, UDiv, SDiv, URem, SRem, Flags, Number, AllowsValue, AllowsEffect, minus_one, least, udiv, sdiv, urem, srem, instruction, on_numbers, on_poison, comparison, selection, conversion, unary, InstructionIsMonotone, ComparisonIsMonotone, ConversionIsMonotone, UnaryIsMonotone, SelectionIsMonotone}
 use Rattle.ops.proofs.Values.{AllowsValue-refl, AllowsEffect-refl, AllowsEffect-trans}
 
 -- an unsigned division of poison allows one of a number by the same divisor

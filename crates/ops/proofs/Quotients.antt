@@ -1,12 +1,5 @@
 -- Quotients rounded towards zero, and their remainders, as the code's `/` and `%` give them.
-use Rattle.std.proofs.Common.{ℕ, zero, suc, ◌≡◌, ◌≢◌, ◌/◌, ◌%◌, ◌^◌, ◌<◌, ◌≤◌, ◌∙◌, ap, sym, refl, true, false, eqb, ltb, arith, div-le_self}
-use Rattle.std.proofs.Math.Nat.{mod-le}
-use Rattle.std.specs.Prelude.{ℤ, pos, negsuc, neg_ℤ, ◌+ℤ◌, ◌-ℤ◌, ◌*ℤ◌, unsigned_abs, int_div, int_rem, FitsSigned}
-use Rattle.std.specs.Int.{w128, cast_unsigned, cast_signed}
-use Rattle.std.proofs.lemmas.Int.{ints, quot-rem, quot_is, rem_is, fits_signed_from_abs, to_z-of_z}
-use Rattle.std.proofs.lemmas.Bool.Decides.{nat_tests}
-use Rattle.ops.specs.Integer.{signed}
-use Rattle.ops.specs.Division.{quotient, remainder, divides, has_no_quotient}
+use Rattle.ops.proofs.Common.{ℕ, zero, suc, ◌≡◌, ◌≢◌, ◌/◌, ◌%◌, ◌^◌, ◌<◌, ◌≤◌, ◌∙◌, ap, sym, refl, true, false, eqb, ltb, arith, div-le_self, mod-le, ℤ, pos, negsuc, neg_ℤ, ◌+ℤ◌, ◌-ℤ◌, ◌*ℤ◌, unsigned_abs, int_div, int_rem, FitsSigned, w128, cast_unsigned, cast_signed, ints, quot-rem, quot_is, rem_is, fits_signed_from_abs, to_z-of_z, nat_tests, signed, quotient, remainder, divides, has_no_quotient}
 use Rattle.ops.proofs.Signed.{signed-zero}
 
 abs-neg : (n : ℕ) → unsigned_abs (neg_ℤ (pos n)) ≡ n

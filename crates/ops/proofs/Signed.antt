@@ -1,11 +1,5 @@
 -- Numbers in two's complement, and 2 to the power of a width.
-use Rattle.std.proofs.Common.{ℕ, ◌≡◌, ◌*◌, ◌-◌, ◌^◌, ◌<◌, ◌≤◌, ◌+◌, cond, ltb, ap, sym, ◌∙◌, arith, add-one}
-use Rattle.std.specs.Prelude.{ℤ, pos, negsuc, neg_ℤ, ◌-ℤ◌, ◌↔◌, unsigned_abs}
-use Rattle.std.proofs.Math.Nat.{mod-lt, pow-succ'}
-use Rattle.std.proofs.lemmas.Nat.{pow_pos}
-use Rattle.std.proofs.lemmas.Int.{ints}
-use Rattle.std.proofs.lemmas.Bool.Decides.{nat_tests}
-use Rattle.ops.specs.Integer.{signed, residue}
+use Rattle.ops.proofs.Common.{ℕ, ◌≡◌, ◌*◌, ◌-◌, ◌^◌, ◌<◌, ◌≤◌, ◌+◌, cond, ltb, ap, sym, ◌∙◌, arith, add-one, ℤ, pos, negsuc, neg_ℤ, ◌-ℤ◌, ◌↔◌, unsigned_abs, mod-lt, pow-succ', pow_pos, ints, nat_tests, signed, residue}
 
 pub residue-lt : (N : ℕ) (z : ℤ) → residue N z < 2 ^ N
 unfolding residue

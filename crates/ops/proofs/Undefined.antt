@@ -1,18 +1,5 @@
 -- Where the effect is undefined behaviour.
-use Rattle.std.proofs.Common.{ℕ, ◌≡◌, ◌^◌, ◌-◌, ◌<◌, ◌≤◌, ◌⊎◌, inl, inr, ⊎_elim, Bool, true, false, cond, Decides, refl}
-use Rattle.std.specs.Prelude.{◌↔◌, ◌==◌, pos, negsuc, neg_ℤ}
-use Rattle.std.proofs.lemmas.Bool.Decides.{Decides-eqb, Decides-like, Decides-and, Decides-or}
-use Rattle.ops.specs.declared.value.Value.{Value}
-use Rattle.ops.specs.declared.value.Value.TheVariants.{Poison, Bits}
-use Rattle.ops.specs.declared.value.Effect.TheVariants.{Undefined, Gives}
-use Rattle.ops.specs.declared.opcode.Opcode.{Opcode}
-use Rattle.ops.specs.declared.opcode.Opcode.TheVariants.{UDiv, SDiv, URem, SRem}
-use Rattle.ops.specs.declared.opcode.Flags.{Flags}
-use Rattle.ops.specs.Number.{Number}
-use Rattle.ops.specs.Integer.{signed, minus_one, least}
-use Rattle.ops.specs.Division.{udiv, sdiv, urem, srem}
-use Rattle.ops.specs.Instruction.{instruction, on_numbers, on_poison}
-use Rattle.ops.specs.Laws.{UndefinedIsOfDivisions, IsUndefinedDivision}
+use Rattle.ops.proofs.Common.{ℕ, ◌≡◌, ◌^◌, ◌-◌, ◌<◌, ◌≤◌, ◌⊎◌, inl, inr, ⊎_elim, Bool, true, false, cond, Decides, refl, ◌↔◌, ◌==◌, pos, negsuc, neg_ℤ, Decides-eqb, Decides-like, Decides-and, Decides-or, Value, Poison, Bits, Undefined, Gives, Opcode, UDiv, SDiv, URem, SRem, Flags, Number, signed, minus_one, least, udiv, sdiv, urem, srem, instruction, on_numbers, on_poison, UndefinedIsOfDivisions, IsUndefinedDivision}
 use Rattle.ops.proofs.Signed.{signed-zero, signed-minus_one, signed-least}
 
 -- the tests of the definition, on signed numbers

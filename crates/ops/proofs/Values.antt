@@ -1,8 +1,5 @@
 -- What one value or effect allows.
-use Rattle.std.proofs.Common.{refl, ◌∙◌}
-use Rattle.ops.specs.declared.value.Value.TheVariants.{Poison, Bits}
-use Rattle.ops.specs.declared.value.Effect.TheVariants.{Undefined, Gives}
-use Rattle.ops.specs.Laws.{AllowsValueIsReflexive, AllowsValueIsTransitive, AllowsEffectIsReflexive, AllowsEffectIsTransitive}
+use Rattle.ops.proofs.Common.{refl, ◌∙◌, Poison, Bits, Undefined, Gives, AllowsValueIsReflexive, AllowsValueIsTransitive, AllowsEffectIsReflexive, AllowsEffectIsTransitive}
 
 -- a value allows itself, and what the values that it allows do
 pub AllowsValue-refl : AllowsValueIsReflexive

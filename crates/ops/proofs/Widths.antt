@@ -1,29 +1,5 @@
 -- The widths that instructions keep.
-use Rattle.std.proofs.Common.{ℕ, zero, suc, ◌^◌, ◌<◌, ◌≤◌, ◌/◌, ◌%◌, Bool, true, false, cond, not, ◌&&◌, nat_le, refl, arith, div-le_self}
-use Rattle.std.proofs.Math.Nat.{mod-lt, mod-le}
-use Rattle.std.proofs.lemmas.Nat.{pow_pos, pow_below, and_le_l, or_lt, xor_lt}
-use Rattle.std.specs.Prelude.{ℤ, pos, ◌==◌, unsigned_abs}
-use Rattle.std.specs.Int.{int_div_euclid}
-use Rattle.ops.specs.declared.value.Value.{Value}
-use Rattle.ops.specs.declared.value.Value.TheVariants.{Poison, Bits}
-use Rattle.ops.specs.declared.value.Effect.TheVariants.{Undefined, Gives}
-use Rattle.ops.specs.declared.opcode.Opcode.{Opcode}
-use Rattle.ops.specs.declared.opcode.Opcode.TheVariants.{Add, Sub, Mul, UDiv, SDiv, URem, SRem, Shl, LShr, AShr, And, Or, Xor, UMin, UMax, SMin, SMax}
-use Rattle.ops.specs.declared.opcode.Flags.{Flags}
-use Rattle.ops.specs.declared.opcode.Unary.{Unary}
-use Rattle.ops.specs.declared.opcode.Unary.TheVariants.{Abs, CtPop, CtLz, CtTz}
-use Rattle.ops.specs.declared.conversion.Cast.TheVariants.{Trunc, ZExt, SExt}
-use Rattle.ops.specs.Value.{IsValueOf, IsEffectOf}
-use Rattle.ops.specs.Integer.{bits, signed, residue}
-use Rattle.ops.specs.Arithmetic.{arithmetic}
-use Rattle.ops.specs.Division.{udiv, sdiv, urem, srem, exactly, divides, quotient, has_no_quotient}
-use Rattle.ops.specs.Shifts.{shl, lshr, ashr}
-use Rattle.ops.specs.Bitwise.{or}
-use Rattle.ops.specs.Unary.{unary, at_number}
-use Rattle.ops.specs.Instruction.{instruction, on_numbers, on_poison}
-use Rattle.ops.specs.Comparison.{comparison, selection, holds}
-use Rattle.ops.specs.Conversion.{conversion, converted}
-use Rattle.ops.specs.Laws.{InstructionKeepsWidth, ComparisonIsOneBit, ConversionHasWidth, UnaryKeepsWidth, SelectionKeepsWidth}
+use Rattle.ops.proofs.Common.{ℕ, zero, suc, ◌^◌, ◌<◌, ◌≤◌, ◌/◌, ◌%◌, Bool, true, false, cond, not, ◌&&◌, nat_le, refl, arith, div-le_self, mod-lt, mod-le, pow_pos, pow_below, and_le_l, or_lt, xor_lt, ℤ, pos, ◌==◌, unsigned_abs, int_div_euclid, Value, Poison, Bits, Undefined, Gives, Opcode, Add, Sub, Mul, UDiv, SDiv, URem, SRem, Shl, LShr, AShr, And, Or, Xor, UMin, UMax, SMin, SMax, Flags, Unary, Abs, CtPop, CtLz, CtTz, Trunc, ZExt, SExt, IsValueOf, IsEffectOf, bits, signed, residue, arithmetic, udiv, sdiv, urem, srem, exactly, divides, quotient, has_no_quotient, shl, lshr, ashr, or, unary, at_number, instruction, on_numbers, on_poison, comparison, selection, holds, conversion, converted, InstructionKeepsWidth, ComparisonIsOneBit, ConversionHasWidth, UnaryKeepsWidth, SelectionKeepsWidth}
 use Rattle.ops.proofs.Signed.{residue-lt, absolute-lt}
 use Rattle.ops.proofs.BitCounts.{ctpop-most, ctlz-most, cttz-most}
 

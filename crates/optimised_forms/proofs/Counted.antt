@@ -1,8 +1,5 @@
 -- The sizes of the module of a text within the limit fit 32 bits.
-use Rattle.std.proofs.Common.{length, get_or, arith}
-use Rattle.std.proofs.lemmas.Option.{slice_get-get_or}
-use Rattle.ir_round_trip.specs.Laws.{HasAtMost, ModuleTextsAreSmall}
-use Rattle.optimised_forms.specs.Laws.{ModuleTextsAreCountable}
+use Rattle.optimised_forms.proofs.Common.{length, get_or, arith, slice_get-get_or, HasAtMost, ModuleTextsAreSmall, ModuleTextsAreCountable}
 
 pub texts_are_countable : ModuleTextsAreSmall → ModuleTextsAreCountable
 texts_are_countable small text m steps short few is k f at =

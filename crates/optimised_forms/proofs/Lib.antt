@@ -1,3 +1,4 @@
+pub mod Common
 mod Names
 mod Widths
 mod Rewritten

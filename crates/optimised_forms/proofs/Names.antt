@@ -1,20 +1,5 @@
 -- The names of a rewritten function are among those of the old one.
-use Rattle.std.proofs.Common.{◌≡◌, ℕ, inl, inr, List, [], ◌∷◌, Some, refl, ap, subst, ◌∙◌, Contains, map}
-use Rattle.std.specs.List.{flat_map}
-use Rattle.std.proofs.lemmas.List.Elements.{Contains-append_left, Contains-append_right, Contains-append_cases}
-use Rattle.ir_core.specs.Blocks.{IsBlock}
-use Rattle.ir_core.specs.Checks.{IsInst}
-use Rattle.ir_core.specs.Names.{Name, block_names, names_of}
-use Rattle.ir_core.specs.declared.function.Function.{Function}
-use Rattle.ir_core.specs.declared.function.Block.{Block}
-use Rattle.ir_core.specs.declared.instruction.Inst.{Inst}
-use Rattle.ir_meaning.proofs.Pieces.{cases_in, contains_at, place_in}
-use Rattle.rule_core.proofs.Members.{Contains-flat_map, flat_map-from}
-use Rattle.substitution.specs.Fits.{Fits}
-use Rattle.substitution.specs.Rewritten.{rewritten_function}
-use Rattle.substitution.specs.declared.rewrite.Rewrite.{Rewrite}
-use Rattle.substitution.proofs.Pieces.{in_map, map_in}
-use Rattle.substitution.proofs.Placing.{block_back, inst_back}
+use Rattle.optimised_forms.proofs.Common.{◌≡◌, ℕ, inl, inr, List, [], ◌∷◌, Some, refl, ap, subst, ◌∙◌, Contains, map, flat_map, Contains-append_left, Contains-append_right, Contains-append_cases, IsBlock, IsInst, Name, block_names, names_of, Function, Block, Inst, cases_in, contains_at, place_in, Contains-flat_map, flat_map-from, Fits, rewritten_function, Rewrite, in_map, map_in, block_back, inst_back}
 
 abbrev own_names : Function → List Name
 own_names f = map (λ p. p.name) f.parameters

@@ -1,14 +1,6 @@
 -- Literals of a module with the forms of a printed text are numbers of their widths.
-use Rattle.std.proofs.Common.{◌≡◌, ℕ, Some, subst}
-use Rattle.std.specs.Prelude.{slice_get}
-use Rattle.std.proofs.lemmas.Option.{slice_get_within, get_or_from_slice_get}
-use Rattle.ir_core.specs.declared.function.Function.{Function}
-use Rattle.ir_core.specs.declared.module.Entry.{Entry}
+use Rattle.optimised_forms.proofs.Common.{◌≡◌, ℕ, Some, subst, slice_get, slice_get_within, get_or_from_slice_get, Function, Entry, Module, NumbersFit, OperandFits, FunctionHasForms, EntryHasForms, ModuleHasForms, FormedModulesNumbersFit}
 use Rattle.ir_core.specs.declared.module.Entry.TheVariants as entries
-use Rattle.ir_core.specs.declared.module.Module.{Module}
-use Rattle.ir_meaning.specs.HistoryLaws.{NumbersFit}
-use Rattle.ir_text.specs.Forms.{OperandFits, FunctionHasForms, EntryHasForms, ModuleHasForms}
-use Rattle.optimised_forms.specs.Laws.{FormedModulesNumbersFit}
 
 pub numbers_fit : (f : Function) → FunctionHasForms f → NumbersFit f
 numbers_fit f forms b k i r n is number = subst OperandFits number (forms.reads b k i r is).operand

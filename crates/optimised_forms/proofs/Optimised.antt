@@ -1,19 +1,6 @@
 -- The plain strategy keeps the forms of a printed text.
-use Rattle.std.proofs.Common.{◌≡◌, ℕ, zero, suc, Bool, List, Some, get_or}
-use Rattle.std.specs.Prelude.{slice_get}
-use Rattle.std.proofs.lemmas.Option.{slice_get-get_or}
-use Rattle.ir_core.specs.declared.function.Function.{Function}
-use Rattle.ir_core.specs.declared.module.Entry.{Entry}
+use Rattle.optimised_forms.proofs.Common.{◌≡◌, ℕ, zero, suc, Bool, List, Some, get_or, slice_get, slice_get-get_or, Function, Entry, Rule, AreReady, Row, CleanedFunctionsHaveForms, FunctionHasForms, EntryHasForms, Pair, AreOptimised, none, kept, function, PartLaws, IsKept, strategy_keeps, OptimisedModulesHaveForms, RewrittenFunctionsHaveForms}
 use Rattle.ir_core.specs.declared.module.Entry.TheVariants as entries
-use Rattle.rule_core.specs.declared.rule.Rule.{Rule}
-use Rattle.bindings.specs.Ready.{AreReady}
-use Rattle.verdict_core.specs.declared.verdicts.Row.{Row}
-use Rattle.ir_round_trip.specs.Laws.{CleanedFunctionsHaveForms}
-use Rattle.ir_text.specs.Forms.{FunctionHasForms, EntryHasForms}
-use Rattle.strategy_core.specs.Asked.{Pair}
-use Rattle.strategy_core.specs.PlainStrategy.{AreOptimised, none, kept, function}
-use Rattle.strategy_core.proofs.Refining.{PartLaws, IsKept, strategy_keeps}
-use Rattle.optimised_forms.specs.Laws.{OptimisedModulesHaveForms, RewrittenFunctionsHaveForms}
 use Rattle.optimised_forms.proofs.Numbers.{entry_forms, modules_fit}
 
 module _ (rules : List Rule) (table : List Row) where

@@ -1,23 +1,8 @@
 -- Rewriting keeps the forms of a function.
-use Rattle.std.proofs.Common.{◌≡◌, ◌<◌, ◌^◌, refl, sym, subst}
-use Rattle.ops.specs.Number.{Number}
-use Rattle.ir_core.specs.declared.function.Block.{Block}
-use Rattle.ir_core.specs.declared.instruction.Inst.{Inst}
-use Rattle.ir_core.specs.declared.operand.Operand.{Operand}
+use Rattle.optimised_forms.proofs.Common.{◌≡◌, ◌<◌, ◌^◌, refl, sym, subst, Number, Block, Inst, Operand, Terminator, NumbersFit, Fits, stands_for, rewritten_function, Substitution, substituted_end, Rewrite, block_back, rewrite_of, rewrite_fits, OperandFits, CasesHaveForms, FunctionHasForms, RewrittenFunctionsHaveForms}
 use Rattle.ir_core.specs.declared.operand.Operand.TheVariants as operands
-use Rattle.ir_core.specs.declared.terminator.Terminator.{Terminator}
 use Rattle.ir_core.specs.declared.terminator.Terminator.TheVariants as terminators
-use Rattle.ir_meaning.specs.HistoryLaws.{NumbersFit}
-use Rattle.substitution.specs.Fits.{Fits}
-use Rattle.substitution.specs.Rewritten.{stands_for, rewritten_function}
-use Rattle.substitution.specs.Substitution.{Substitution, substituted_end}
-use Rattle.substitution.specs.declared.rewrite.Rewrite.{Rewrite}
 use Rattle.substitution.proofs.Checking as substitution
-use Rattle.substitution.proofs.Placing.{block_back}
-use Rattle.rewriter.specs.Put.{rewrite_of}
-use Rattle.rewriter.proofs.Fitting.{rewrite_fits}
-use Rattle.ir_text.specs.Forms.{OperandFits, CasesHaveForms, FunctionHasForms}
-use Rattle.optimised_forms.specs.Laws.{RewrittenFunctionsHaveForms}
 use Rattle.optimised_forms.proofs.Names.{names_back}
 use Rattle.optimised_forms.proofs.Numbers.{numbers_fit}
 use Rattle.optimised_forms.proofs.Widths.{inst_width, read_width}

@@ -1,38 +1,10 @@
 -- The operands of a rewritten function have widths of integer types.
-use Rattle.std.proofs.Common.{◌≡◌, ℕ, zero, suc, ◌==◌, Bool, true, false, cond, inl, inr, List, [], ◌∷◌, length, Option, None, Some, refl, sym, ap, subst, ◌∙◌, map, arith}
-use Rattle.std.specs.Prelude.{slice_get, Contains}
-use Rattle.std.proofs.lemmas.List.Elements.{Contains-get_or}
-use Rattle.std.proofs.lemmas.Option.{same_Some}
-use Rattle.ir_core.specs.Blocks.{IsBlock}
-use Rattle.ir_core.specs.Checks.{IsInst}
-use Rattle.ir_core.specs.Reads.{Read, read, IsRead, end_of, reads_of, reads_at_end, reads_by, reads_in}
-use Rattle.ir_core.specs.declared.function.Function.{Function}
-use Rattle.ir_core.specs.declared.function.Block.{Block}
-use Rattle.ir_core.specs.declared.instruction.Inst.{Inst}
-use Rattle.ir_core.specs.declared.instruction.Op.{Op}
+use Rattle.optimised_forms.proofs.Common.{◌≡◌, ℕ, zero, suc, ◌==◌, Bool, true, false, cond, inl, inr, List, [], ◌∷◌, length, Option, None, Some, refl, sym, ap, subst, ◌∙◌, map, arith, slice_get, Contains, Contains-get_or, same_Some, IsBlock, IsInst, Read, read, IsRead, end_of, reads_of, reads_at_end, reads_by, reads_in, Function, Block, Inst, Op, Operand, Terminator, operands_of, classes_of, IsTyping, Rule, Statement, Contains-from_get, target_statement, class_stands, operand_class_stands, stands_for, rewritten_function, Substitution, substituted_entries, substituted_op, substituted_end, Rewrite, inst_reads, end_reads, InstPut, block_back, inst_back, Binding, class_width, rewrite_of, PutFor, put_from, all_aligned, IsNoCopy, put_op, IsWidth, ReadHasForms, FunctionHasForms}
 use Rattle.ir_core.specs.declared.instruction.Op.TheVariants as ops
-use Rattle.ir_core.specs.declared.operand.Operand.{Operand}
-use Rattle.ir_core.specs.declared.terminator.Terminator.{Terminator}
 use Rattle.ir_core.specs.declared.terminator.Terminator.TheVariants as terminators
-use Rattle.rule_core.specs.Positions.{operands_of, classes_of}
-use Rattle.rule_core.specs.Typing.{IsTyping}
 use Rattle.rule_core.specs.declared.rule.Op.{Op as RuleOp}
 use Rattle.rule_core.specs.declared.rule.Op.TheVariants as rule_ops
 use Rattle.rule_core.specs.declared.rule.Operand.{Operand as RuleOperand}
-use Rattle.rule_core.specs.declared.rule.Rule.{Rule}
-use Rattle.rule_core.specs.declared.rule.Statement.{Statement}
-use Rattle.rule_core.proofs.Members.{Contains-from_get, target_statement, class_stands, operand_class_stands}
-use Rattle.substitution.specs.Rewritten.{stands_for, rewritten_function}
-use Rattle.substitution.specs.Substitution.{Substitution, substituted_entries, substituted_op, substituted_end}
-use Rattle.substitution.specs.declared.rewrite.Rewrite.{Rewrite}
-use Rattle.substitution.proofs.Arriving.{inst_reads}
-use Rattle.substitution.proofs.Assigning.{end_reads}
-use Rattle.substitution.proofs.Placing.{InstPut, block_back, inst_back}
-use Rattle.bindings.specs.declared.binding.Binding.{Binding}
-use Rattle.rewriter.specs.Put.{class_width, rewrite_of}
-use Rattle.rewriter.proofs.Placed.{PutFor, put_from, all_aligned}
-use Rattle.rewriter.proofs.Putting.{IsNoCopy, put_op}
-use Rattle.ir_text.specs.Forms.{IsWidth, ReadHasForms, FunctionHasForms}
 
 abbrev HaveWidths : List Read → Type 0
 HaveWidths [] = Unit {0}

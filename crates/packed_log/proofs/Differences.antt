@@ -1,9 +1,5 @@
 -- Hints that are added to bytes, difference by difference.
-use Rattle.std.proofs.Common.{◌≡◌, ℕ, ◌+◌, ◌^◌, ◌<◌, ◌≤◌, List, [], ◌∷◌, ◌++◌, take, get_or, length, All, refl, sym, ap, subst, ◌∙◌, arith}
-use Rattle.std.proofs.lemmas.List.{take_all, take_more}
-use Rattle.std.proofs.lemmas.List.Elements.{All-nil, All-push}
-use Rattle.packed_log.specs.Steps.{moved, numbers_from}
-use Rattle.packed_log.specs.Words.{Adds, AreHints}
+use Rattle.packed_log.proofs.Common.{◌≡◌, ℕ, ◌+◌, ◌^◌, ◌<◌, ◌≤◌, List, [], ◌∷◌, ◌++◌, take, get_or, length, All, refl, sym, ap, subst, ◌∙◌, arith, take_all, take_more, All-nil, All-push, moved, numbers_from, Adds, AreHints}
 use Rattle.packed_log.proofs.Lists.{ListSoFar, list_done}
 
 -- the last of the numbers, or the number before them where there are none

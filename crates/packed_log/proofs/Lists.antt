@@ -1,9 +1,5 @@
 -- Lists of numbers as bytes: their length, then the numbers.
-use Rattle.std.proofs.Common.{◌≡◌, ℕ, zero, suc, ◌+◌, ◌^◌, ◌<◌, List, [], ◌∷◌, ◌++◌, All, refl, sym, ap, subst, ◌∙◌, append_assoc, arith, add-one}
-use Rattle.std.proofs.lemmas.List.{append-nil}
-use Rattle.std.proofs.lemmas.List.Elements.{All-head, All-tail}
-use Rattle.packed_log.specs.Numbers.{first_number, behind_number, numbers, behind, first_list, behind_list}
-use Rattle.packed_log.specs.Words.{Adds, IsNumber}
+use Rattle.packed_log.proofs.Common.{◌≡◌, ℕ, zero, suc, ◌+◌, ◌^◌, ◌<◌, List, [], ◌∷◌, ◌++◌, All, refl, sym, ap, subst, ◌∙◌, append_assoc, arith, add-one, append-nil, All-head, All-tail, first_number, behind_number, numbers, behind, first_list, behind_list, Adds, IsNumber}
 
 pub numbers_more : (count : ℕ) (bytes : List ℕ) → numbers (suc count) bytes ≡ numbers count bytes ++ first_number (behind count bytes) ∷ []
 numbers_more zero bytes = refl

@@ -1,10 +1,5 @@
 -- Bytes that are read as one number (LEB128).
-use Rattle.std.proofs.Common.{◌≡◌, ℕ, zero, suc, ◌+◌, ◌-◌, ◌*◌, ◌/◌, ◌%◌, ◌<◌, ◌≤◌, List, [], ◌∷◌, ◌++◌, take, drop, get_or, length, All, refl, sym, ap, subst, ◌∙◌, append_assoc, arith}
-use Rattle.std.proofs.lemmas.List.{append-nil, drop_all, drop_more}
-use Rattle.std.proofs.lemmas.List.Elements.{All-head, All-tail}
-use Rattle.std.proofs.lemmas.Bool.Decides.{nat_tests}
-use Rattle.packed_log.specs.Numbers.{first_number, behind_number}
-use Rattle.packed_log.specs.Words.{Adds, IsNumber}
+use Rattle.packed_log.proofs.Common.{◌≡◌, ℕ, zero, suc, ◌+◌, ◌-◌, ◌*◌, ◌/◌, ◌%◌, ◌<◌, ◌≤◌, List, [], ◌∷◌, ◌++◌, take, drop, get_or, length, All, refl, sym, ap, subst, ◌∙◌, append_assoc, arith, append-nil, drop_all, drop_more, All-head, All-tail, nat_tests, first_number, behind_number, Adds, IsNumber}
 
 last_byte : (n : ℕ) → n < 128 → IsNumber n (n ∷ [])
 last_byte n small = record { first = λ rest. grind (arith, nat_tests); behind = λ rest. grind (arith, nat_tests) }

@@ -1,11 +1,5 @@
 -- Steps that are packed and unpacked one by one.
-use Rattle.std.proofs.Common.{◌≡◌, ℕ, ◌+◌, ◌<◌, ◌≤◌, List, [], ◌∷◌, ◌++◌, take, drop, get_or, length, refl, sym, ap, subst, ◌∙◌, append_assoc}
-use Rattle.std.proofs.lemmas.List.{append-nil, take_all, take_more, drop_all, drop_more}
-use Rattle.clauses.specs.Literal.{Lit}
-use Rattle.clauses.specs.declared.step.Step.{Step}
-use Rattle.packed_log.specs.Numbers.{behind_list}
-use Rattle.packed_log.specs.Steps.{first_hints, steps, HintsFit, AllHintsFit}
-use Rattle.packed_log.specs.Words.{Adds, AreHints}
+use Rattle.packed_log.proofs.Common.{◌≡◌, ℕ, ◌+◌, ◌<◌, ◌≤◌, List, [], ◌∷◌, ◌++◌, take, drop, get_or, length, refl, sym, ap, subst, ◌∙◌, append_assoc, append-nil, take_all, take_more, drop_all, drop_more, Lit, Step, behind_list, first_hints, steps, HintsFit, AllHintsFit, Adds, AreHints}
 
 -- the bytes behind the hints of the steps of these clauses
 abbrev behind_hints : List (List Lit) → List ℕ → List ℕ

@@ -1,8 +1,5 @@
 -- Hints that are read off the bytes, difference by difference.
-use Rattle.std.proofs.Common.{◌≡◌, ℕ, zero, suc, ◌+◌, ◌^◌, ◌<◌, ◌≤◌, List, [], ◌∷◌, ◌++◌, All, refl, sym, ap, subst, ◌∙◌, arith, add-one}
-use Rattle.std.proofs.lemmas.List.Elements.{All-head, All-tail}
-use Rattle.packed_log.specs.Numbers.{first_number, behind_number, numbers, behind, first_list, behind_list}
-use Rattle.packed_log.specs.Steps.{moved, numbers_from, first_hints, HintsFit}
+use Rattle.packed_log.proofs.Common.{◌≡◌, ℕ, zero, suc, ◌+◌, ◌^◌, ◌<◌, ◌≤◌, List, [], ◌∷◌, ◌++◌, All, refl, sym, ap, subst, ◌∙◌, arith, add-one, All-head, All-tail, first_number, behind_number, numbers, behind, first_list, behind_list, moved, numbers_from, first_hints, HintsFit}
 use Rattle.packed_log.proofs.Lists.{numbers_more, behind_more, of_each}
 use Rattle.packed_log.proofs.Differences.{last_of, last_of_more, numbers_from_more}
 

@@ -1,12 +1,5 @@
 -- Labels of a list in which all are given anew, and of a new list.
-use Rattle.std.proofs.Common.{◌≡◌, ℕ, zero, suc, ◌+◌, ◌-◌, ◌*◌, ◌<◌, ◌≤◌, cond, eqb, inl, inr, List, [], ◌∷◌, length, get_or, refl, sym, ap, subst, ◌∙◌, arith}
-use Rattle.std.specs.List.{range_with_len}
-use Rattle.std.proofs.lemmas.Bool.{cases_eq, cond-true, cond-false, eq-eqb, ne_eqb}
-use Rattle.std.proofs.lemmas.List.{get_or_past}
-use Rattle.std.proofs.lemmas.List.FromFn.{length-range_with_len, get_or-range_with_len}
-use Rattle.places.specs.declared.links.Node.{Node}
-use Rattle.places.specs.Orders.{none}
-use Rattle.places.specs.Links.{node_of, no_node, AreLinked, IsListing, first_node_at}
+use Rattle.places.proofs.Common.{◌≡◌, ℕ, zero, suc, ◌+◌, ◌-◌, ◌*◌, ◌<◌, ◌≤◌, cond, eqb, inl, inr, List, [], ◌∷◌, length, get_or, refl, sym, ap, subst, ◌∙◌, arith, range_with_len, cases_eq, cond-true, cond-false, eq-eqb, ne_eqb, get_or_past, length-range_with_len, get_or-range_with_len, Node, none, node_of, no_node, AreLinked, IsListing, first_node_at}
 use Rattle.places.proofs.Members.{at_place}
 use Rattle.places.proofs.Linking.{linked-room}
 

@@ -1,9 +1,5 @@
 -- One more number, linked in before another.
-use Rattle.std.proofs.Common.{◌≡◌, ℕ, suc, ◌<◌, ◌≤◌, cond, eqb, inl, inr, List, [], ◌∷◌, length, refl, sym, ap, subst, ◌∙◌, arith, Contains}
-use Rattle.std.proofs.lemmas.Bool.{cases_eq, cond-true, cond-false, eq-eqb, ne_eqb}
-use Rattle.places.specs.declared.links.Node.{Node}
-use Rattle.places.specs.Orders.{none, put_before}
-use Rattle.places.specs.Links.{node_of, AreLinked, IsListing}
+use Rattle.places.proofs.Common.{◌≡◌, ℕ, suc, ◌<◌, ◌≤◌, cond, eqb, inl, inr, List, [], ◌∷◌, length, refl, sym, ap, subst, ◌∙◌, arith, Contains, cases_eq, cond-true, cond-false, eq-eqb, ne_eqb, Node, none, put_before, node_of, AreLinked, IsListing}
 use Rattle.places.proofs.Members.{contains_none, contains_tail, put-here, put-later, length-put, put-has}
 
 -- Number m is linked in before number at, behind p.

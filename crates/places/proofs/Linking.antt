@@ -1,12 +1,5 @@
 -- What links say of the number at a place: its neighbours, and that labels increase.
-use Rattle.std.proofs.Common.{◌≡◌, ℕ, zero, suc, ◌+◌, ◌<◌, ◌≤◌, cond, eqb, ◌⊎◌, inl, inr, List, [], ◌∷◌, length, get_or, None, Some, refl, sym, ap, subst, ◌∙◌, arith}
-use Rattle.std.specs.Prelude.{◌↔◌, slice_get}
-use Rattle.std.proofs.lemmas.Bool.{cases_lt, cases_order, cond-true, cond-false, eq-eqb, ne_eqb}
-use Rattle.std.proofs.lemmas.List.{get_or_past}
-use Rattle.std.proofs.lemmas.Option.{slice_get-get_or, slice_get_past}
-use Rattle.places.specs.declared.links.Node.{Node}
-use Rattle.places.specs.Orders.{none, place_in}
-use Rattle.places.specs.Links.{node_of, AreLinked, IsListing, walked, numbers_from}
+use Rattle.places.proofs.Common.{◌≡◌, ℕ, zero, suc, ◌+◌, ◌<◌, ◌≤◌, cond, eqb, ◌⊎◌, inl, inr, List, [], ◌∷◌, length, get_or, None, Some, refl, sym, ap, subst, ◌∙◌, arith, ◌↔◌, slice_get, cases_lt, cases_order, cond-true, cond-false, eq-eqb, ne_eqb, get_or_past, slice_get-get_or, slice_get_past, Node, none, place_in, node_of, AreLinked, IsListing, walked, numbers_from}
 use Rattle.places.proofs.Members.{AtPlace}
 
 pub linked-head : (nodes : List Node) (d q a : ℕ) (ns : List ℕ) → AreLinked nodes d q a ns → a ≡ get_or ns 0 none

@@ -1,7 +1,5 @@
 -- Rows of flags: none set, one more row, and a flag that is set.
-use Rattle.std.proofs.Common.{◌≡◌, ℕ, zero, suc, true, [], ◌∷◌, ◌++◌, get_or, Some, refl, subst}
-use Rattle.std.specs.Prelude.{slice_get}
-use Rattle.places.specs.Sets.{Rows, Has}
+use Rattle.places.proofs.Common.{◌≡◌, ℕ, zero, suc, true, [], ◌∷◌, ◌++◌, get_or, Some, refl, subst, slice_get, Rows, Has}
 
 -- one more row without flags
 pub empty_row : (rows : Rows) (b : ℕ) → get_or (rows ++ [] ∷ []) b [] ≡ get_or rows b []

@@ -1,11 +1,5 @@
 -- What nodes are once a field of one is written.
-use Rattle.std.proofs.Common.{◌≡◌, ℕ, suc, ◌+◌, ◌*◌, ◌<◌, ◌≤◌, cond, eqb, ◌⊎◌, None, Some, Contains, inl, inr, List, [], ◌∷◌, ◌++◌, length, get_or, set, take, drop, Result, Ok, Err, refl, sym, ap, subst, ◌∙◌, arith, length-set, length-append, get_or-set_same, get_or-set_other}
-use Rattle.std.specs.Prelude.{◌↔◌, slice_get, OnErr}
-use Rattle.std.proofs.lemmas.Bool.{cases_eq, cases_lt, cond-true, cond-false, eq-eqb, ne_eqb}
-use Rattle.std.proofs.lemmas.List.{get_or_past, get_or_append_left, get_or_push, set_past, take_at}
-use Rattle.places.specs.declared.links.Node.{Node}
-use Rattle.places.specs.Orders.{none, place_in, put_before}
-use Rattle.places.specs.Links.{node_of, no_node, IsListing, numbers_from, with_label, linked_in}
+use Rattle.places.proofs.Common.{◌≡◌, ℕ, suc, ◌+◌, ◌*◌, ◌<◌, ◌≤◌, cond, eqb, ◌⊎◌, None, Some, Contains, inl, inr, List, [], ◌∷◌, ◌++◌, length, get_or, set, take, drop, Result, Ok, Err, refl, sym, ap, subst, ◌∙◌, arith, length-set, length-append, get_or-set_same, get_or-set_other, ◌↔◌, slice_get, OnErr, cases_eq, cases_lt, cond-true, cond-false, eq-eqb, ne_eqb, get_or_past, get_or_append_left, get_or_push, set_past, take_at, Node, none, place_in, put_before, node_of, no_node, IsListing, numbers_from, with_label, linked_in}
 use Rattle.places.proofs.Linking.{numbers-listing, linked-within, linked-after, linked-up, linked-before, some-at, labels-order}
 use Rattle.places.proofs.Members.{at_place}
 use Rattle.places.proofs.Labelling.{SameLinks, AreLabelled}

@@ -1,14 +1,5 @@
 -- Ranks of places, and ranks in a heap while an entry is sifted up or down.
-use Rattle.std.proofs.Common.{◌≡◌, ℕ, zero, suc, ◌+◌, ◌-◌, ◌*◌, ◌/◌, ◌<◌, ◌≤◌, ◌⊎◌, inl, inr, List, [], ◌∷◌, ◌++◌, length, get_or, sum_by, sym, ap, subst, ◌∙◌, arith, All, Contains}
-use Rattle.std.proofs.Math.Nat.{mul-le-mul_right}
-use Rattle.std.proofs.lemmas.Bool.{cases_eq, cases_lt, cases_order}
-use Rattle.std.proofs.lemmas.List.{get_or_append_left, get_or_default, get_or_past, length_push}
-use Rattle.std.proofs.lemmas.List.Sums.{get_or-le-sum_by}
-use Rattle.std.specs.List.{swap}
-use Rattle.std.proofs.lemmas.List.Edits.{Swapped, swapped_from_swap}
-use Rattle.places.specs.declared.place.Place.{Place}
-use Rattle.places.specs.Orders.{place_in}
-use Rattle.places.specs.Heaps.{IsNumbered, ComesBefore, IsHeap, IsBelow, nowhere, place_at, rank, rank_at, IsRising, IsSinking, IsLeastBelow}
+use Rattle.places.proofs.Common.{◌≡◌, ℕ, zero, suc, ◌+◌, ◌-◌, ◌*◌, ◌/◌, ◌<◌, ◌≤◌, ◌⊎◌, inl, inr, List, [], ◌∷◌, ◌++◌, length, get_or, sum_by, sym, ap, subst, ◌∙◌, arith, All, Contains, mul-le-mul_right, cases_eq, cases_lt, cases_order, get_or_append_left, get_or_default, get_or_past, length_push, get_or-le-sum_by, swap, Swapped, swapped_from_swap, Place, place_in, IsNumbered, ComesBefore, IsHeap, IsBelow, nowhere, place_at, rank, rank_at, IsRising, IsSinking, IsLeastBelow}
 use Rattle.places.proofs.Members.{place-here, place-later, contains_none}
 
 place_in-most : (ns : List ℕ) (n : ℕ) → place_in ns n ≤ length ns

@@ -1,16 +1,5 @@
 -- How often a place is in a heap.
-use Rattle.std.proofs.Common.{◌≡◌, ℕ, zero, suc, ◌<◌, Bool, true, cond, eqb, ◌&&◌, ◌⊎◌, inl, inr, List, [], ◌∷◌, get_or, Some, sym, ap, subst, ◌∙◌, arith, All, Contains}
-use Rattle.std.specs.Prelude.{slice_get}
-use Rattle.std.specs.List.Sorted.{IsPermutation}
-use Rattle.std.proofs.lemmas.Bool.{cases_eq, cases_Bool, cond-true, cond-false, eq-eqb, ne_eqb, and_from, and_left, and_right, true≢false}
-use Rattle.std.proofs.lemmas.Option.{same_Some}
-use Rattle.std.proofs.lemmas.List.Elements.{All-contains}
-use Rattle.std.proofs.lemmas.List.Sums.{sum_by-cons}
-use Rattle.std.proofs.lemmas.List.Sorted.{sum_by_pushed, sum_by_popped, Contains-permutation, IsPermutation-sym}
-use Rattle.places.specs.declared.place.Place.{Place}
-use Rattle.places.specs.Heaps.{ComesBefore}
-use Rattle.places.specs.Worklist.{tally, AreMarked, IsFirst}
-use Rattle.places.specs.Sets.{Rows, Has, IsPlace, IsAdded, IsRemoved, IsSameSet}
+use Rattle.places.proofs.Common.{◌≡◌, ℕ, zero, suc, ◌<◌, Bool, true, cond, eqb, ◌&&◌, ◌⊎◌, inl, inr, List, [], ◌∷◌, get_or, Some, sym, ap, subst, ◌∙◌, arith, All, Contains, slice_get, IsPermutation, cases_eq, cases_Bool, cond-true, cond-false, eq-eqb, ne_eqb, and_from, and_left, and_right, true≢false, same_Some, All-contains, sum_by-cons, sum_by_pushed, sum_by_popped, Contains-permutation, IsPermutation-sym, Place, ComesBefore, tally, AreMarked, IsFirst, Rows, Has, IsPlace, IsAdded, IsRemoved, IsSameSet}
 use Rattle.places.proofs.Members.{contains_first, contains_later, contains_tail, contains_none}
 
 abbrev pub counts : ℕ → ℕ → Place → ℕ

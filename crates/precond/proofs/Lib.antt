@@ -1,3 +1,4 @@
+pub mod Common
 pub mod Numbered
 pub mod Ready
 pub mod Stored

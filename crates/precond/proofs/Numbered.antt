@@ -1,12 +1,5 @@
 -- The precondition holds exactly where each of the terms' values is a number and the formula holds.
-use Rattle.std.proofs.Common.{◌≡◌, ◌↔◌, ℕ, ◌+◌, ◌<◌, ◌≤◌, below_more, true, false, IsTrue, List, length, Some, refl, sym, subst, ◌∙◌, arith}
-use Rattle.std.specs.Prelude.{slice_get}
-use Rattle.std.proofs.lemmas.Option.{same_Some, slice_get_within}
-use Rattle.ops.specs.Number.{Number}
-use Rattle.ops.specs.declared.value.Value.{Value}
-use Rattle.ops.specs.declared.value.Value.TheVariants.{Poison, Bits}
-use Rattle.rule_core.specs.Terms.{HasNumber}
-use Rattle.precond.specs.Numbers.{HaveNumbers}
+use Rattle.precond.proofs.Common.{◌≡◌, ◌↔◌, ℕ, ◌+◌, ◌<◌, ◌≤◌, below_more, true, false, IsTrue, List, length, Some, refl, sym, subst, ◌∙◌, arith, slice_get, same_Some, slice_get_within, Number, Value, Poison, Bits, HasNumber, HaveNumbers}
 
 -- the values before a place are numbers
 abbrev pub FirstHaveNumbers : List Value → ℕ → Type 0

@@ -1,23 +1,7 @@
 -- Each node of a precondition can be evaluated once the terms and the nodes before it have been.
-use Rattle.std.proofs.Common.{◌≡◌, ℕ, pos, ◌<◌, List, length, Some, sym, ◌∙◌, arith, get_or}
-use Rattle.std.specs.Prelude.{slice_get}
-use Rattle.std.proofs.lemmas.Option.{slice_get-get_or}
-use Rattle.ops.specs.Number.{Number}
-use Rattle.ops.specs.declared.value.Value.{Value}
-use Rattle.ops.specs.declared.value.Value.TheVariants.{Poison}
-use Rattle.rule_core.specs.declared.rule.Rule.{Rule}
-use Rattle.rule_core.specs.declared.rule.Term.{Term}
+use Rattle.precond.proofs.Common.{◌≡◌, ℕ, pos, ◌<◌, List, length, Some, sym, ◌∙◌, arith, get_or, slice_get, slice_get-get_or, Number, Value, Poison, Rule, Term, Formula, compared_terms, IsTyping, IsRule, MayBeFormula, ConstantsFit, constant_values, Contains-from_get, term_class_stands, constant_term, class_width, constant_values_fit, CanBeRead, AreReady}
 use Rattle.rule_core.specs.declared.rule.Node.TheVariants as nodes
-use Rattle.rule_core.specs.declared.rule.Formula.{Formula}
 use Rattle.rule_core.specs.declared.rule.Formula.TheVariants as formulas
-use Rattle.rule_core.specs.Positions.{compared_terms}
-use Rattle.rule_core.specs.Typing.{IsTyping}
-use Rattle.rule_core.specs.Checks.{IsRule, MayBeFormula}
-use Rattle.rule_core.specs.Valid.{ConstantsFit}
-use Rattle.rule_core.specs.Terms.{constant_values}
-use Rattle.rule_core.proofs.Members.{Contains-from_get, term_class_stands, constant_term}
-use Rattle.rule_core.proofs.Ready.{class_width, constant_values_fit}
-use Rattle.precond.specs.Readiness.{CanBeRead, AreReady}
 
 module _ (rule : Rule) (typing : List ℕ) (constants : List Number) (checked : IsRule rule) (typed : IsTyping rule typing) (fits : ConstantsFit rule typing constants) where
   node_at : (a : ℕ) → a < length rule.terms → (t : Term) × (slice_get rule.terms a ≡ Some t)

@@ -1,10 +1,5 @@
 -- An evaluation in order, written to an array from its front.
-use Rattle.std.proofs.Common.{◌≡◌, ℕ, ◌+◌, ◌-◌, ◌<◌, List, [], ◌∷◌, ◌++◌, length, take, Some, sym}
-use Rattle.std.specs.Prelude.{slice_get}
-use Rattle.std.proofs.Math.ListN.{set}
-use Rattle.std.proofs.lemmas.List.{take_more_set}
-use Rattle.rule_core.specs.Terms.{in_turn}
-use Rattle.rule_core.proofs.Turns.{in_turn-step}
+use Rattle.precond.proofs.Common.{◌≡◌, ℕ, ◌+◌, ◌-◌, ◌<◌, List, [], ◌∷◌, ◌++◌, length, take, Some, sym, slice_get, set, take_more_set, in_turn, in_turn-step}
 
 module _ {X Y : Type 0} (gives : List Y → X → Y) (xs : List X) (ys : List Y) where
   -- one more result is written

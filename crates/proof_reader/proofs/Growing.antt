@@ -1,20 +1,6 @@
 -- The proofs so far are good, and one more is tested.
-use Rattle.std.proofs.Common.{◌≡◌, inl, inr, ℕ, zero, suc, ◌+◌, ◌<◌, ◌≤◌, List, [], ◌∷◌, ◌++◌, length, take, Some, refl, sym, ap, subst, ◌∙◌, arith}
-use Rattle.std.specs.Prelude.{slice_get}
-use Rattle.std.specs.List.{AllByRecursion}
-use Rattle.std.proofs.Math.Seq.{take-append_seam}
-use Rattle.std.proofs.lemmas.Bool.{cases_lt}
-use Rattle.std.proofs.lemmas.List.{append_assoc, take-append-le}
-use Rattle.std.proofs.lemmas.Option.{same_Some, slice_get_within}
-use Rattle.scan.specs.Lines.{feeds}
-use Rattle.rule_core.specs.declared.rule.Rule.{Rule}
-use Rattle.proof_text.specs.declared.proof.Proof.{Proof}
-use Rattle.proof_text.specs.Faults.{LogFault, IsTextOf}
-use Rattle.proof_text.specs.Limits.{most_bytes}
-use Rattle.proof_text.specs.Texts.{text_of}
-use Rattle.proof_text.specs.WellFormed.{IsWellFormed}
-use Rattle.proof_reader.specs.Faults.{IsGood, AreGood, IsAtProof}
-use Rattle.proof_reader.specs.Reading.{RefusesProof}
+use Rattle.proof_reader.proofs.Common.{◌≡◌, inl, inr, ℕ, zero, suc, ◌+◌, ◌<◌, ◌≤◌, List, [], ◌∷◌, ◌++◌, length, take, Some, refl, sym, ap, subst, ◌∙◌, arith, slice_get, AllByRecursion, take-append_seam, cases_lt, take-append-le, same_Some, slice_get_within, feeds, Rule, Proof, LogFault, IsTextOf, most_bytes, text_of, IsWellFormed, IsGood, AreGood, IsAtProof, RefusesProof}
+use Rattle.std.proofs.lemmas.List.{append_assoc}
 use Rattle.proof_reader.proofs.Lines.{lines_more, lines_few}
 
 stands_at : {X : Type 0} (xs : List X) (x : X) (ys : List X) → slice_get (xs ++ x ∷ ys) (length xs) ≡ Some x

@@ -1,18 +1,5 @@
 -- Which proofs the keys in the set are of.
-use Rattle.std.proofs.Common.{◌≡◌, ℕ, zero, suc, Bool, true, false, List, [], ◌∷◌, ◌++◌, map, Some, refl, sym, ap, subst, ◌∙◌, nat_eq, arith}
-use Rattle.std.specs.Prelude.{◌||◌, not, slice_get}
-use Rattle.std.specs.Bool.{Decides}
-use Rattle.std.specs.List.{list_any}
-use Rattle.std.specs.Str.{bytes_eq}
-use Rattle.std.proofs.lemmas.Bool.Decides.{Decides-and, Decides-eqb}
-use Rattle.std.proofs.lemmas.Option.{same_Some}
-use Rattle.std.proofs.lemmas.Slice.Eq.{bytes_eq-Decides}
-use Rattle.rule_core.specs.declared.rule.Rule.{Rule}
-use Rattle.rule_core.specs.Checks.{AreDistinct}
-use Rattle.proof_text.specs.declared.proof.Proof.{Proof}
-use Rattle.proof_reader.specs.Names.{HasNameAt}
-use Rattle.proof_reader.specs.Faults.{IsAmong}
-use Rattle.proof_reader.specs.Reading.{Key, is_same_key, AreKeysOf}
+use Rattle.proof_reader.proofs.Common.{◌≡◌, ℕ, zero, suc, Bool, true, false, List, [], ◌∷◌, ◌++◌, map, Some, refl, sym, ap, subst, ◌∙◌, nat_eq, arith, ◌||◌, not, slice_get, Decides, list_any, bytes_eq, Decides-and, Decides-eqb, same_Some, bytes_eq-Decides, Rule, AreDistinct, Proof, HasNameAt, IsAmong, Key, is_same_key, AreKeysOf}
 use Rattle.proof_reader.proofs.RuleNames.{name_at}
 
 decided : (x y : Key) → Decides (is_same_key x y) ((x.0 ≡ y.0) × (x.1.items ≡ y.1.items))

@@ -1,22 +1,5 @@
 -- How many lines the text of proofs has.
-use Rattle.std.proofs.Common.{◌≡◌, ℕ, suc, ◌+◌, ◌≤◌, Bool, true, false, eqb, List, [], ◌∷◌, ◌++◌, length, length-append, flat_map, codes, refl, sym, ap, ap₂, ◌∙◌, ⊎_elim, arith}
-use Rattle.std.specs.Prelude.{if◌then◌else◌}
-use Rattle.std.specs.List.{AllByRecursion}
-use Rattle.std.proofs.lemmas.Bool.{eqb-true, false≢true}
-use Rattle.std.proofs.lemmas.List.{append-nil}
-use Rattle.std.proofs.lemmas.List.Concat.{flat_map-append}
-use Rattle.scan.specs.Bytes.{is_digit, is_printable, is_blank}
-use Rattle.scan.specs.Lines.{feeds}
-use Rattle.scan.proofs.Fronts.{which}
-use Rattle.scan.proofs.PlaceLemmas.{feeds_append}
-use Rattle.clauses.specs.Literal.{Lit}
-use Rattle.clauses.specs.declared.step.Step.{Step}
-use Rattle.proof_text.specs.declared.proof.Proof.{Proof}
-use Rattle.proof_text.specs.Numerals.{numeral}
-use Rattle.proof_text.specs.Texts.{literal_text, clause_text, hints_text, step_text, log_text, widths_text, head_text, proof_text, text_of}
-use Rattle.proof_text.specs.WellFormed.{in_name, IsName, IsWellFormed}
-use Rattle.proof_text.proofs.Decodings.{no_digit_10}
-use Rattle.proof_text.proofs.Numerals.{numeral_digits}
+use Rattle.proof_reader.proofs.Common.{◌≡◌, ℕ, suc, ◌+◌, ◌≤◌, Bool, true, false, eqb, List, [], ◌∷◌, ◌++◌, length, length-append, flat_map, codes, refl, sym, ap, ap₂, ◌∙◌, ⊎_elim, arith, if◌then◌else◌, AllByRecursion, eqb-true, false≢true, append-nil, flat_map-append, is_digit, is_printable, is_blank, feeds, which, feeds_append, Lit, Step, Proof, numeral, literal_text, clause_text, hints_text, step_text, log_text, widths_text, head_text, proof_text, text_of, in_name, IsName, IsWellFormed, no_digit_10, numeral_digits}
 
 two : (xs ys : List ℕ) (m n : ℕ) → feeds xs ≡ m → feeds ys ≡ n → feeds (xs ++ ys) ≡ m + n
 two xs ys m n e f = feeds_append xs ys ∙ ap₂ (λ (a b : ℕ). a + b) e f

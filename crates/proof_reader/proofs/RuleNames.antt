@@ -1,15 +1,5 @@
 -- The map of rules by their names, as it is filled.
-use Rattle.std.proofs.Common.{◌≡◌, inl, inr, ℕ, zero, suc, ◌+◌, ◌<◌, Bool, true, false, cond, List, [], ◌∷◌, length, take, get_or, Option, Some, None, sym, ap, subst, ◌∙◌, arith}
-use Rattle.std.specs.Prelude.{slice_get, MatchOption, map}
-use Rattle.std.specs.Str.{bytes_eq}
-use Rattle.std.proofs.lemmas.Bool.{cases_lt, false≢true}
-use Rattle.std.proofs.lemmas.Option.{slice_get-get_or, same_Some, slice_get_within}
-use Rattle.std.proofs.lemmas.Slice.Eq.{bytes_eq-Decides}
-use Rattle.rule_core.specs.declared.rule.Rule.{Rule}
-use Rattle.rule_core.specs.Checks.{AreDistinct}
-use Rattle.proof_text.specs.declared.proof.Proof.{Proof}
-use Rattle.proof_reader.specs.Names.{HasNameAt, IsNamed}
-use Rattle.proof_reader.specs.Faults.{IsRuleOf}
+use Rattle.proof_reader.proofs.Common.{◌≡◌, inl, inr, ℕ, zero, suc, ◌+◌, ◌<◌, Bool, true, false, cond, List, [], ◌∷◌, length, take, get_or, Option, Some, None, sym, ap, subst, ◌∙◌, arith, slice_get, MatchOption, map, bytes_eq, cases_lt, false≢true, slice_get-get_or, same_Some, slice_get_within, bytes_eq-Decides, Rule, AreDistinct, Proof, HasNameAt, IsNamed, IsRuleOf}
 
 at_take : {X : Type 0} (n : ℕ) (xs : List X) (k : ℕ) (x : X) → slice_get (take n xs) k ≡ Some x → (k < n) × (slice_get xs k ≡ Some x)
 at_take zero xs k x at = absurd (let none : k < 0 = slice_get_within [] k x at in omega arith)

@@ -1,15 +1,5 @@
 -- Texts in front of others are the same only where what they write is.
-use Rattle.std.proofs.Common.{◌≡◌, ◌≢◌, ℕ, Bool, true, false, if◌then◌else◌, List, [], ◌∷◌, ◌++◌, flat_map, length, codes, refl, ap, subst, sym, ◌∙◌, append_assoc, arith}
-use Rattle.std.specs.List.{AllByRecursion}
-use Rattle.std.proofs.lemmas.List.{append-nil, append_cancel_left, append_cancel_right}
-use Rattle.scan.specs.Bytes.{is_digit, is_printable, is_blank}
-use Rattle.clauses.specs.Literal.{Lit}
-use Rattle.clauses.specs.declared.step.Step.{Step}
-use Rattle.proof_text.specs.declared.proof.Proof.{Proof}
-use Rattle.proof_text.specs.Numerals.{numeral}
-use Rattle.proof_text.specs.Texts.{literal_text, clause_text, hints_text, step_text, log_text, widths_text, head_text, proof_text, text_of}
-use Rattle.proof_text.specs.WellFormed.{in_name, IsName, IsWellFormed, AreWellFormed}
-use Rattle.proof_text.specs.Reading.{Lacks, line_text}
+use Rattle.proof_text.proofs.Common.{◌≡◌, ◌≢◌, ℕ, Bool, true, false, if◌then◌else◌, List, [], ◌∷◌, ◌++◌, flat_map, length, codes, refl, ap, subst, sym, ◌∙◌, append_assoc, arith, AllByRecursion, append-nil, append_cancel_left, append_cancel_right, is_digit, is_printable, is_blank, Lit, Step, Proof, numeral, literal_text, clause_text, hints_text, step_text, log_text, widths_text, head_text, proof_text, text_of, in_name, IsName, IsWellFormed, AreWellFormed, Lacks, line_text}
 use Rattle.proof_text.proofs.Numerals.{numeral_digits, begins, one, on, two_numbers, same, longer, shorter, split}
 
 -- ---- bytes that are no digits

@@ -1,14 +1,5 @@
 -- How the lines are read that proofs begin with, and where that stops.
-use Rattle.std.proofs.Common.{◌≡◌, ◌≢◌, ℕ, ◌⊎◌, inl, inr, true, false, List, [], ◌∷◌, ◌++◌, codes, refl, ap, subst, sym, ◌∙◌, Option, Some, None, arith}
-use Rattle.std.specs.List.{AllByRecursion}
-use Rattle.std.specs.Prelude.{MatchOption, IfNone}
-use Rattle.std.proofs.lemmas.List.{append-nil, append_cancel_left}
-use Rattle.std.proofs.lemmas.Bool.Decides.{nat_tests}
-use Rattle.scan.specs.Bytes.{is_digit, is_printable, is_blank}
-use Rattle.proof_text.specs.Numerals.{numeral}
-use Rattle.proof_text.specs.Texts.{widths_text, head_text}
-use Rattle.proof_text.specs.WellFormed.{in_name, IsName, AreWidths}
-use Rattle.proof_text.specs.Reading.{GoesOn, StopsAt, Stops, Fixed, Lists, Heads, NotNext, EndsName, NoLine, NoWidths, NoParts, Lacks, line_text}
+use Rattle.proof_text.proofs.Common.{◌≡◌, ◌≢◌, ℕ, ◌⊎◌, inl, inr, true, false, List, [], ◌∷◌, ◌++◌, codes, refl, ap, subst, sym, ◌∙◌, Option, Some, None, arith, AllByRecursion, MatchOption, IfNone, append-nil, append_cancel_left, nat_tests, is_digit, is_printable, is_blank, numeral, widths_text, head_text, in_name, IsName, AreWidths, GoesOn, StopsAt, Stops, Fixed, Lists, Heads, NotNext, EndsName, NoLine, NoWidths, NoParts, Lacks, line_text}
 use Rattle.proof_text.proofs.Numerals.{numeral_digits, same, longer, shorter, split}
 use Rattle.proof_text.proofs.Decodings.{no_digit_93, same_widths, lacks_bracket, head_whole, head_is, same_backs}
 use Rattle.proof_text.proofs.Readings.{Next, stops_behind}

@@ -1,3 +1,4 @@
+pub mod Common
 pub mod Decodings
 pub mod HeadReadings
 pub mod Lines

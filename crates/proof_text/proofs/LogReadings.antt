@@ -1,14 +1,5 @@
 -- How logs and proofs are read, and where that stops.
-use Rattle.std.proofs.Common.{◌≡◌, ℕ, zero, suc, ◌+◌, ◌-◌, ◌^◌, ◌<◌, ◌≤◌, inl, inr, List, [], ◌∷◌, ◌++◌, length, flat_map, codes, refl, ap, subst, sym, ◌∙◌, append_assoc, length-append, arith}
-use Rattle.std.specs.List.{AllByRecursion}
-use Rattle.std.proofs.lemmas.List.{append-nil, append_cancel_left}
-use Rattle.clauses.specs.declared.step.Step.{Step}
-use Rattle.proof_text.specs.declared.proof.Proof.{Proof}
-use Rattle.proof_text.specs.Limits.{most_bytes}
-use Rattle.proof_text.specs.Numerals.{numeral}
-use Rattle.proof_text.specs.Texts.{clause_text, step_text, log_text, head_text, proof_text}
-use Rattle.proof_text.specs.WellFormed.{IsStep, IsName, AreWidths}
-use Rattle.proof_text.specs.Reading.{Stops, Fixed, Numbers, IsEnd, held, Steps, Logs, Heads, Proofs}
+use Rattle.proof_text.proofs.Common.{◌≡◌, ℕ, zero, suc, ◌+◌, ◌-◌, ◌^◌, ◌<◌, ◌≤◌, inl, inr, List, [], ◌∷◌, ◌++◌, length, flat_map, codes, refl, ap, subst, sym, ◌∙◌, append_assoc, length-append, arith, AllByRecursion, append-nil, append_cancel_left, Step, Proof, most_bytes, numeral, clause_text, step_text, log_text, head_text, proof_text, IsStep, IsName, AreWidths, Stops, Fixed, Numbers, IsEnd, held, Steps, Logs, Heads, Proofs}
 use Rattle.proof_text.proofs.Lines.{flat_push}
 use Rattle.proof_text.proofs.Decodings.{no_digit_10, same_numbers, same_steps, log_is, log_whole, same_heads}
 use Rattle.proof_text.proofs.Readings.{Next, stops_behind, some_bytes}

@@ -1,9 +1,5 @@
 -- Names at the front of a text, and the last bracket of a line.
-use Rattle.std.proofs.Common.{◌≡◌, ◌≢◌, ℕ, zero, suc, ◌+◌, ◌-◌, ◌<◌, ◌≤◌, Bool, true, false, cond, List, [], ◌∷◌, ◌++◌, length, take, drop, get_or, length-append, refl, ap, subst, sym, ◌∙◌, arith}
-use Rattle.std.specs.List.{prefix_len}
-use Rattle.std.proofs.lemmas.List.{take-append-drop}
-use Rattle.proof_text.specs.WellFormed.{in_name, IsName}
-use Rattle.proof_text.specs.Reading.{EndsName, Lacks}
+use Rattle.proof_text.proofs.Common.{◌≡◌, ◌≢◌, ℕ, zero, suc, ◌+◌, ◌-◌, ◌<◌, ◌≤◌, Bool, true, false, cond, List, [], ◌∷◌, ◌++◌, length, take, drop, get_or, length-append, refl, ap, subst, sym, ◌∙◌, arith, prefix_len, take-append-drop, in_name, IsName, EndsName, Lacks}
 
 pub name_parts : (text : List ℕ) (n : ℕ) → text ≡ take n text ++ drop n text
 name_parts text n = sym (take-append-drop n text)

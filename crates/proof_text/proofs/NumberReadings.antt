@@ -1,10 +1,5 @@
 -- How numbers are read, and where that stops.
-use Rattle.std.proofs.Common.{◌≡◌, ◌≢◌, ℕ, zero, suc, ◌+◌, ◌*◌, ◌-◌, ◌<◌, ◌≤◌, inl, inr, true, false, List, [], ◌∷◌, ◌++◌, refl, ap, subst, sym, ◌∙◌, append_assoc, arith}
-use Rattle.std.proofs.lemmas.List.{append-nil}
-use Rattle.std.proofs.lemmas.Bool.Decides.{nat_tests}
-use Rattle.scan.specs.Bytes.{is_digit}
-use Rattle.proof_text.specs.Numerals.{numeral}
-use Rattle.proof_text.specs.Reading.{GoesOn, Stops, Numbers, IsHeld, IsEnd, held, ReadsNumber, BeginsNoNumber, IsLonger, IsLongest}
+use Rattle.proof_text.proofs.Common.{◌≡◌, ◌≢◌, ℕ, zero, suc, ◌+◌, ◌*◌, ◌-◌, ◌<◌, ◌≤◌, inl, inr, true, false, List, [], ◌∷◌, ◌++◌, refl, ap, subst, sym, ◌∙◌, append_assoc, arith, append-nil, nat_tests, is_digit, numeral, GoesOn, Stops, Numbers, IsHeld, IsEnd, held, ReadsNumber, BeginsNoNumber, IsLonger, IsLongest}
 use Rattle.proof_text.proofs.Numerals.{numeral_one, numeral_more, begins, one, on, two_numbers, digit_of_numeral}
 use Rattle.proof_text.proofs.Readings.{same_first}
 

@@ -1,13 +1,5 @@
 -- The digits of numbers: what begins with them, and how one more makes a greater number.
-use Rattle.std.proofs.Common.{◌≡◌, ℕ, zero, suc, ◌+◌, ◌*◌, ◌-◌, ◌/◌, ◌%◌, ◌^◌, ◌<◌, ◌≤◌, true, false, List, [], ◌∷◌, ◌++◌, map, get_or, decimal, refl, ap, sym, ◌∙◌, arith}
-use Rattle.std.specs.List.{AllByRecursion}
-use Rattle.std.specs.Int.Digits.{digits_of, number_from_digits_after}
-use Rattle.std.proofs.lemmas.Bool.Decides.{nat_tests}
-use Rattle.std.proofs.lemmas.Fmt.{decimal_digit, decimal-digits_of}
-use Rattle.std.proofs.lemmas.List.{map-append}
-use Rattle.std.proofs.lemmas.Int.Digits.{digits_of_step, all_below_base_digits_of, first_digits_of, number_after_append, number_after_ge, number_digits_of}
-use Rattle.scan.specs.Bytes.{is_digit}
-use Rattle.proof_text.specs.Numerals.{numeral}
+use Rattle.proof_text.proofs.Common.{◌≡◌, ℕ, zero, suc, ◌+◌, ◌*◌, ◌-◌, ◌/◌, ◌%◌, ◌^◌, ◌<◌, ◌≤◌, true, false, List, [], ◌∷◌, ◌++◌, map, get_or, decimal, refl, ap, sym, ◌∙◌, arith, AllByRecursion, digits_of, number_from_digits_after, nat_tests, decimal_digit, decimal-digits_of, map-append, digits_of_step, all_below_base_digits_of, first_digits_of, number_after_append, number_after_ge, number_digits_of, is_digit, numeral}
 
 -- ---- what is written of a number of 64 bits
 

@@ -1,10 +1,5 @@
 -- Where readings stop: of a part, and so of what it is a part of.
-use Rattle.std.proofs.Common.{◌≡◌, ◌≢◌, ℕ, zero, suc, ◌+◌, ◌-◌, ◌<◌, ◌≤◌, ◌==◌, Bool, true, false, Result, Ok, Err, List, [], ◌∷◌, ◌++◌, length, get_or, take, drop, refl, ap, subst, sym, ◌∙◌, append_assoc, length-append, arith}
-use Rattle.std.specs.Result.{IsErr, IsErrAnd, IfErr}
-use Rattle.std.proofs.lemmas.List.{append_cancel_left}
-use Rattle.proof_text.specs.Reading.{Language, GoesOn, Stops, StopsIn, Fixed, NotNext}
-use Rattle.refusal.specs.declared.refusal.Refusal.{Refusal}
-use Rattle.refusal.specs.declared.refusal.Refusal.TheVariants.{Refused, NoMemory}
+use Rattle.proof_text.proofs.Common.{◌≡◌, ◌≢◌, ℕ, zero, suc, ◌+◌, ◌-◌, ◌<◌, ◌≤◌, ◌==◌, Bool, true, false, Result, Ok, Err, List, [], ◌∷◌, ◌++◌, length, get_or, take, drop, refl, ap, subst, sym, ◌∙◌, append_assoc, length-append, arith, IsErr, IsErrAnd, IfErr, append_cancel_left, Language, GoesOn, Stops, StopsIn, Fixed, NotNext, Refusal, Refused, NoMemory}
 
 -- behind the front that was read of a word of L, a word of M comes next
 pub record Next (L : Language) (front : List ℕ) (M : Language) : Type 0 where

@@ -1,17 +1,5 @@
 -- How lists of numbers, literals, clauses, hints and steps are read, and where that stops.
-use Rattle.std.proofs.Common.{◌≡◌, ◌≢◌, ℕ, ◌≤◌, ◌⊎◌, inl, inr, Bool, true, false, if◌then◌else◌, List, [], ◌∷◌, ◌++◌, flat_map, codes, refl, ap, subst, sym, ◌∙◌, append_assoc, Result, Ok, Err, IfOk, arith}
-use Rattle.std.specs.List.{AllByRecursion}
-use Rattle.std.proofs.lemmas.List.{append-nil}
-use Rattle.std.specs.Result.{IfErr}
-use Rattle.refusal.specs.declared.refusal.Refusal.{Refusal}
-use Rattle.scan.specs.Bytes.{is_digit}
-use Rattle.clauses.specs.Literal.{Lit}
-use Rattle.clauses.specs.declared.step.Step.{Step}
-use Rattle.proof_text.specs.Limits.{most_number, most_variable}
-use Rattle.proof_text.specs.Numerals.{numeral}
-use Rattle.proof_text.specs.Texts.{literal_text, clause_text, hints_text, widths_text}
-use Rattle.proof_text.specs.WellFormed.{IsLiteral, IsNumber, AreWidths}
-use Rattle.proof_text.specs.Reading.{Language, Stops, Fixed, Numbers, IsHeld, IsEnd, held, ReadsNumber, Lists, Literals, Clauses, Hints, Steps, NotNext, Takes, StopsIn}
+use Rattle.proof_text.proofs.Common.{◌≡◌, ◌≢◌, ℕ, ◌≤◌, ◌⊎◌, inl, inr, Bool, true, false, if◌then◌else◌, List, [], ◌∷◌, ◌++◌, flat_map, codes, refl, ap, subst, sym, ◌∙◌, append_assoc, Result, Ok, Err, IfOk, arith, AllByRecursion, append-nil, IfErr, Refusal, is_digit, Lit, Step, most_number, most_variable, numeral, literal_text, clause_text, hints_text, widths_text, IsLiteral, IsNumber, AreWidths, Language, Stops, Fixed, Numbers, IsHeld, IsEnd, held, ReadsNumber, Lists, Literals, Clauses, Hints, Steps, NotNext, Takes, StopsIn}
 use Rattle.proof_text.proofs.Lines.{flat_push}
 use Rattle.proof_text.proofs.Decodings.{no_digit_32, no_digit_45, same_numbers, widths_cons, same_literals, no_literal, clause_cons, same_clauses, hints_cons, not_first}
 use Rattle.proof_text.proofs.Readings.{Next, stops_behind, stops_in, same_first}

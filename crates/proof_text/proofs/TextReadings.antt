@@ -1,16 +1,5 @@
 -- How texts are read, where that stops, and that a text has one reading.
-use Rattle.std.proofs.Common.{◌≡◌, ◌≢◌, ℕ, ◌+◌, ◌-◌, ◌<◌, ◌≤◌, List, [], ◌∷◌, ◌++◌, length, take, get_or, refl, ap, subst, sym, ◌∙◌, append_assoc, length-append, arith}
-use Rattle.std.proofs.lemmas.List.{append-nil}
-use Rattle.scan.specs.Lines.{feeds, last_line}
-use Rattle.proof_text.specs.declared.proof.Proof.{Proof}
-use Rattle.proof_text.specs.declared.fault.LogFaultKind.{LogFaultKind}
-use Rattle.proof_text.specs.declared.fault.LogFaultKind.TheVariants.{Syntax}
-use Rattle.proof_text.specs.Limits.{most_bytes}
-use Rattle.proof_text.specs.Texts.{proof_text, text_of}
-use Rattle.proof_text.specs.WellFormed.{IsWellFormed, AreWellFormed}
-use Rattle.proof_text.specs.Faults.{LogFault, IsTextOf, Fits, kind_of, IsAtByte, IsAtEnd, IsLogFault, too_long, at_byte, at_end}
-use Rattle.proof_text.specs.Laws.{TextsHaveOneReading, WrittenIsRead}
-use Rattle.proof_text.specs.Reading.{GoesOn, StopsAt, Stops, Proofs, FaultAt}
+use Rattle.proof_text.proofs.Common.{◌≡◌, ◌≢◌, ℕ, ◌+◌, ◌-◌, ◌<◌, ◌≤◌, List, [], ◌∷◌, ◌++◌, length, take, get_or, refl, ap, subst, sym, ◌∙◌, append_assoc, length-append, arith, append-nil, feeds, last_line, Proof, LogFaultKind, Syntax, most_bytes, proof_text, text_of, IsWellFormed, AreWellFormed, LogFault, IsTextOf, Fits, kind_of, IsAtByte, IsAtEnd, IsLogFault, too_long, at_byte, at_end, TextsHaveOneReading, WrittenIsRead, GoesOn, StopsAt, Stops, Proofs, FaultAt}
 use Rattle.proof_text.proofs.Lines.{flat_push}
 use Rattle.proof_text.proofs.Numerals.{same, longer, shorter, split}
 use Rattle.proof_text.proofs.Decodings.{rest_of, one_list}

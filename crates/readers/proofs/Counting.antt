@@ -1,15 +1,6 @@
 -- How counts of uses change, operand by operand.
-use Rattle.std.proofs.Common.{◌≡◌, inl, inr, ℕ, ◌+◌, ◌<◌, ◌≤◌, cond, List, [], ◌∷◌, length, get_or, take, sym, ap, subst, ◌∙◌, arith}
-use Rattle.std.specs.Prelude.{Contains}
-use Rattle.std.proofs.lemmas.Bool.{cond-true, cond-false}
-use Rattle.std.proofs.lemmas.List.Elements.{Contains-get_or}
-use Rattle.std.proofs.lemmas.List.Sums.{sum_by-cons, sum_by_more, sum_by_more_le}
-use Rattle.ir_core.specs.declared.operand.Operand.{Operand}
+use Rattle.readers.proofs.Common.{◌≡◌, inl, inr, ℕ, ◌+◌, ◌<◌, ◌≤◌, cond, List, [], ◌∷◌, length, get_or, take, sym, ap, subst, ◌∙◌, arith, Contains, cond-true, cond-false, Contains-get_or, sum_by-cons, sum_by_more, sum_by_more_le, Operand, Register, HasNumber, count_of, Uses, AreCounted, HasNumbers, IsSetTo, names, times}
 use Rattle.ir_core.specs.declared.operand.Operand.TheVariants as operands
-use Rattle.ir_core.specs.declared.operand.Register.{Register}
-use Rattle.use_counts.specs.Tables.{HasNumber, count_of}
-use Rattle.use_counts.specs.declared.uses.Uses.{Uses}
-use Rattle.readers.specs.Counts.{AreCounted, HasNumbers, IsSetTo, names, times}
 use Rattle.readers.proofs.Naming.{is_same_register, names_not, names_self}
 
 abbrev pub one_if : Register → Operand → ℕ

@@ -1,24 +1,7 @@
 -- The use lists of a function, place by place.
-use Rattle.std.proofs.Common.{◌≡◌, ◌⊎◌, ◌↔◌, inl, inr, ℕ, zero, suc, ◌+◌, ◌<◌, ◌≤◌, List, [], ◌∷◌, length, get_or, replicate, map, sym, ap, subst, ◌∙◌, arith}
-use Rattle.std.specs.Prelude.{Contains, IsSome, option_map, slice_get}
-use Rattle.std.proofs.lemmas.Bool.{cases_eq, cases_lt}
-use Rattle.std.proofs.lemmas.List.{get_or-replicate, get_or_past, length-map, length-replicate}
-use Rattle.std.proofs.lemmas.Option.{get_or_from_slice_get, same_Some, slice_get-map, slice_get_cases, slice_get_within}
-use Rattle.ir_core.specs.Blocks.{IsBlock}
-use Rattle.ir_core.specs.Checks.{IsKnown}
-use Rattle.ir_core.specs.Reads.{Read, IsRead, end_of}
-use Rattle.ir_core.specs.declared.function.Block.{Block}
-use Rattle.ir_core.specs.declared.function.Function.{Function}
-use Rattle.ir_core.specs.declared.function.Parameter.{Parameter}
+use Rattle.readers.proofs.Common.{◌≡◌, ◌⊎◌, ◌↔◌, inl, inr, ℕ, zero, suc, ◌+◌, ◌<◌, ◌≤◌, List, [], ◌∷◌, length, get_or, replicate, map, sym, ap, subst, ◌∙◌, arith, Contains, IsSome, option_map, slice_get, cases_eq, cases_lt, get_or-replicate, get_or_past, length-map, length-replicate, get_or_from_slice_get, same_Some, slice_get-map, slice_get_cases, slice_get_within, IsBlock, IsKnown, Read, IsRead, end_of, Block, Function, Parameter, Register, operands_at, none, AreListed, AreReadersOf, HasList, IsPlaceIn, IsReader, arena_place, listed_for, Place, Readers, end_of-is}
 use Rattle.ir_core.specs.declared.operand.Operand.TheVariants as operands
-use Rattle.ir_core.specs.declared.operand.Register.{Register}
 use Rattle.ir_core.specs.declared.operand.Register.TheVariants as registers
-use Rattle.readers.specs.Counts.{operands_at}
-use Rattle.places.specs.Orders.{none}
-use Rattle.readers.specs.Readers.{AreListed, AreReadersOf, HasList, IsPlaceIn, IsReader, arena_place, listed_for}
-use Rattle.places.specs.declared.place.Place.{Place}
-use Rattle.readers.specs.declared.uses.Readers.{Readers}
-use Rattle.needed.proofs.Reading.{end_of-is}
 use Rattle.readers.proofs.Changing.{known_has}
 use Rattle.readers.proofs.Places.{known_reads}
 use Rattle.readers.proofs.Reading.{reads_written, same_place, written_reads}

@@ -1,16 +1,6 @@
 -- How use lists change, operand by operand.
-use Rattle.std.proofs.Common.{◌≡◌, ◌⊎◌, ◌↔◌, inl, inr, ℕ, ◌+◌, ◌<◌, ◌≤◌, List, [], ◌∷◌, ◌++◌, length, get_or, set, take, drop, refl, sym, ap, subst, ◌∙◌, arith}
-use Rattle.std.specs.Prelude.{Contains}
-use Rattle.std.specs.List.{filter_map}
-use Rattle.std.proofs.lemmas.List.{append-nil, get_or_default, drop-set-lt, drop_more, length-set, take_more, take_more_set}
-use Rattle.std.proofs.lemmas.List.Elements.{Contains-append_left, Contains-push, Contains-push_cases, filter_map-append}
-use Rattle.ir_core.specs.declared.operand.Operand.{Operand}
+use Rattle.readers.proofs.Common.{◌≡◌, ◌⊎◌, ◌↔◌, inl, inr, ℕ, ◌+◌, ◌<◌, ◌≤◌, List, [], ◌∷◌, ◌++◌, length, get_or, set, take, drop, refl, sym, ap, subst, ◌∙◌, arith, Contains, filter_map, append-nil, get_or_default, drop-set-lt, drop_more, length-set, take_more, take_more_set, Contains-append_left, Contains-push, Contains-push_cases, filter_map-append, Operand, Register, register_of, AreListed, HasList, HaveLists, IsListed, IsListedAmong, listed_for, Place, Readers}
 use Rattle.ir_core.specs.declared.operand.Operand.TheVariants as operands
-use Rattle.ir_core.specs.declared.operand.Register.{Register}
-use Rattle.readers.specs.Counts.{register_of}
-use Rattle.readers.specs.Readers.{AreListed, HasList, HaveLists, IsListed, IsListedAmong, listed_for}
-use Rattle.places.specs.declared.place.Place.{Place}
-use Rattle.readers.specs.declared.uses.Readers.{Readers}
 use Rattle.readers.proofs.Naming.{is_same_register}
 use Rattle.readers.proofs.Counting.{next_contained}
 

@@ -1,12 +1,7 @@
 -- Equal registers, and operands that are a register.
-use Rattle.std.proofs.Common.{◌≡◌, ◌⊎◌, inl, inr, ℕ, true, false, eqb, refl, ap, sym, subst}
-use Rattle.std.proofs.lemmas.Bool.{and_from, and_parts, cases_Bool, eq-eqb, eqb-true, false_from_ne_true}
-use Rattle.ir_core.specs.declared.operand.Operand.{Operand}
+use Rattle.readers.proofs.Common.{◌≡◌, ◌⊎◌, inl, inr, ℕ, true, false, eqb, refl, ap, sym, subst, and_from, and_parts, cases_Bool, eq-eqb, eqb-true, false_from_ne_true, Operand, Register, same_register, names}
 use Rattle.ir_core.specs.declared.operand.Operand.TheVariants as operands
-use Rattle.ir_core.specs.declared.operand.Register.{Register}
 use Rattle.ir_core.specs.declared.operand.Register.TheVariants as registers
-use Rattle.readers.specs.Changes.{same_register}
-use Rattle.readers.specs.Counts.{names}
 
 pub same_register_is : (r s : Register) → same_register r s ≡ true → r ≡ s
 same_register_is (registers.Parameter p) (registers.Parameter q) e = ap (λ (n : ℕ). registers.Parameter n) (eqb-true p q e)

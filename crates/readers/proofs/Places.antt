@@ -1,31 +1,6 @@
 -- What is read at each place of an arena, and what becomes of its tables where the operands at one place change.
-use Rattle.std.proofs.Common.{◌≡◌, ◌⊎◌, ◌↔◌, inl, inr, ℕ, ◌+◌, ◌<◌, ◌≤◌, ◌^◌, List, length, get_or, Some, All, refl, sym, ap, subst, ◌∙◌, arith}
-use Rattle.std.specs.Prelude.{Contains, option_map, slice_get, sum_by}
-use Rattle.std.proofs.lemmas.Bool.{cases_eq}
-use Rattle.std.proofs.lemmas.List.Sums.{get_or-le-sum_by}
-use Rattle.std.proofs.lemmas.Option.{get_or_from_slice_get, slice_get-get_or, slice_get-map, slice_get_cases, slice_get_within}
-use Rattle.assigned_flow.specs.Successors.{successors_of}
-use Rattle.bindings.specs.Facts.{AreFactsOf}
-use Rattle.bindings.specs.declared.facts.FunctionFacts.{FunctionFacts}
-use Rattle.ir_core.specs.Blocks.{IsBlock}
-use Rattle.ir_core.specs.Checks.{IsKnown}
-use Rattle.ir_core.specs.Reads.{Read, IsRead, reads_at}
-use Rattle.ir_core.specs.declared.function.Block.{Block}
-use Rattle.ir_core.specs.declared.function.Function.{Function}
-use Rattle.ir_core.specs.declared.instruction.Inst.{Inst}
-use Rattle.ir_core.specs.declared.operand.Operand.{Operand}
+use Rattle.readers.proofs.Common.{◌≡◌, ◌⊎◌, ◌↔◌, inl, inr, ℕ, ◌+◌, ◌<◌, ◌≤◌, ◌^◌, List, length, get_or, Some, All, refl, sym, ap, subst, ◌∙◌, arith, Contains, option_map, slice_get, sum_by, cases_eq, get_or-le-sum_by, get_or_from_slice_get, slice_get-get_or, slice_get-map, slice_get_cases, slice_get_within, successors_of, AreFactsOf, FunctionFacts, IsBlock, IsKnown, Read, IsRead, reads_at, Block, Function, Inst, Operand, Register, operands_of, contained_at, contains_at, end_of-is, count_of, Uses, AreCounted, HasNumbers, operands_at, times, times_in, times_in_function, none, AreReadersOf, HasList, IsListed, IsPlaceIn, arena_place, listed_for, Place, Readers}
 use Rattle.ir_core.specs.declared.operand.Operand.TheVariants as operands
-use Rattle.ir_core.specs.declared.operand.Register.{Register}
-use Rattle.needed.specs.Operands.{operands_of}
-use Rattle.needed.proofs.Counting.{contained_at, contains_at}
-use Rattle.needed.proofs.Reading.{end_of-is}
-use Rattle.use_counts.specs.Tables.{count_of}
-use Rattle.use_counts.specs.declared.uses.Uses.{Uses}
-use Rattle.readers.specs.Counts.{AreCounted, HasNumbers, operands_at, times, times_in, times_in_function}
-use Rattle.places.specs.Orders.{none}
-use Rattle.readers.specs.Readers.{AreReadersOf, HasList, IsListed, IsPlaceIn, arena_place, listed_for}
-use Rattle.places.specs.declared.place.Place.{Place}
-use Rattle.readers.specs.declared.uses.Readers.{Readers}
 use Rattle.readers.proofs.Changing.{HasAll, known_kept}
 use Rattle.readers.proofs.Naming.{is_same_register}
 use Rattle.readers.proofs.Reading.{arena_place_end, arena_place_inst, operands_at_inst, operands_at_terminator, read_at_written, read_in_block, read_in_inst, reads_written, same_place, written, written_reads}

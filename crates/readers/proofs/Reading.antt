@@ -1,24 +1,6 @@
 -- What is read at places of an arena.
-use Rattle.std.proofs.Common.{◌≡◌, ◌⊎◌, inl, inr, ℕ, ◌<◌, eqb, List, [], length, get_or, Option, None, Some, map, sym, ap, ◌∙◌, arith}
-use Rattle.std.specs.Prelude.{Contains, slice_get, option_map, unwrap_or}
-use Rattle.std.proofs.lemmas.Bool.{cases_eq, cond-true, cond-false, eq-eqb, ne_eqb}
-use Rattle.std.proofs.lemmas.Option.{slice_get-map, slice_get_cases, unwrap_or-slice_get}
-use Rattle.ir_core.specs.Blocks.{IsBlock}
-use Rattle.ir_core.specs.Reads.{Read, IsRead, end_of, reads_at, reads_at_end, reads_by, reads_in}
-use Rattle.ir_core.specs.declared.function.Block.{Block}
-use Rattle.ir_core.specs.declared.function.Function.{Function}
-use Rattle.ir_core.specs.declared.instruction.Inst.{Inst}
-use Rattle.ir_core.specs.declared.operand.Operand.{Operand}
+use Rattle.readers.proofs.Common.{◌≡◌, ◌⊎◌, inl, inr, ℕ, ◌<◌, eqb, List, [], length, get_or, Option, None, Some, map, sym, ap, ◌∙◌, arith, Contains, slice_get, option_map, unwrap_or, cases_eq, cond-true, cond-false, eq-eqb, ne_eqb, slice_get-map, slice_get_cases, unwrap_or-slice_get, IsBlock, Read, IsRead, end_of, reads_at, reads_at_end, reads_by, reads_in, Block, Function, Inst, Operand, Register, ReadsRegister, operands_of, operands_at_end, contained_at, contains_at, mapped, end_reads, inst_reads, operands_at, none, arena_place, Place}
 use Rattle.ir_core.specs.declared.operand.Operand.TheVariants as operands
-use Rattle.ir_core.specs.declared.operand.Register.{Register}
-use Rattle.needed.specs.Needed.{ReadsRegister}
-use Rattle.needed.specs.Operands.{operands_of, operands_at_end}
-use Rattle.needed.proofs.Counting.{contained_at, contains_at, mapped}
-use Rattle.needed.proofs.SearchLemmas.{end_reads, inst_reads}
-use Rattle.readers.specs.Counts.{operands_at}
-use Rattle.places.specs.Orders.{none}
-use Rattle.readers.specs.Readers.{arena_place}
-use Rattle.places.specs.declared.place.Place.{Place}
 
 -- the operands that are read at place k of block b
 abbrev pub written : Function → ℕ → ℕ → List Operand

@@ -1,16 +1,6 @@
 -- Tables with an entry for each register, of which one is written.
-use Rattle.std.proofs.Common.{◌≡◌, ◌↔◌, inl, inr, ℕ, ◌<◌, List, [], length, get_or, slice_set, refl, sym, ap, subst, ◌∙◌, arith, get_or-set_other, get_or-set_same}
-use Rattle.std.proofs.lemmas.Bool.{cases_eq}
-use Rattle.std.proofs.lemmas.List.{length-set, get_or_past}
-use Rattle.std.proofs.lemmas.Bool.{cases_lt}
-use Rattle.ir_core.specs.declared.operand.Register.{Register}
+use Rattle.readers.proofs.Common.{◌≡◌, ◌↔◌, inl, inr, ℕ, ◌<◌, List, [], length, get_or, slice_set, refl, sym, ap, subst, ◌∙◌, arith, get_or-set_other, get_or-set_same, cases_eq, length-set, get_or_past, cases_lt, Register, HasNumber, count_of, Uses, IsSetTo, HasList, IsListSetTo, IsListed, IsListedAmong, listed_for, Place, Readers}
 use Rattle.ir_core.specs.declared.operand.Register.TheVariants as registers
-use Rattle.use_counts.specs.Tables.{HasNumber, count_of}
-use Rattle.use_counts.specs.declared.uses.Uses.{Uses}
-use Rattle.readers.specs.Counts.{IsSetTo}
-use Rattle.readers.specs.Readers.{HasList, IsListSetTo, IsListed, IsListedAmong, listed_for}
-use Rattle.places.specs.declared.place.Place.{Place}
-use Rattle.readers.specs.declared.uses.Readers.{Readers}
 
 -- a row for the parameters, and one for the results of each block
 module _ {A : Type 0} (d : A) where

@@ -1,28 +1,6 @@
 -- The count of a register is how many uses of it there are: the list of all its uses, in order.
-use Rattle.std.proofs.Common.{◌≡◌, ◌⊎◌, inl, inr, ℕ, zero, suc, ◌+◌, ◌<◌, Bool, true, cond, List, [], ◌∷◌, ◌++◌, length, get_or, Some, refl, sym, ap, subst, ◌∙◌, arith, length-append, zero-add}
-use Rattle.std.specs.Prelude.{AllPairs, Contains, option_map, slice_get, sum_by}
-use Rattle.std.proofs.lemmas.Bool.{cases_Bool}
-use Rattle.std.proofs.lemmas.List.Elements.{Contains-append_cases, Contains-append_left, Contains-append_right, Contains-get_or}
-use Rattle.std.proofs.lemmas.List.Sums.{sum_by-cons}
-use Rattle.std.proofs.lemmas.Option.{same_Some, slice_get-map, slice_get_within}
-use Rattle.ir_core.specs.Blocks.{IsBlock}
-use Rattle.ir_core.specs.Checks.{IsKnown}
-use Rattle.ir_core.specs.Reads.{Read, reads_at}
-use Rattle.ir_core.specs.declared.function.Block.{Block}
-use Rattle.ir_core.specs.declared.function.Function.{Function}
-use Rattle.ir_core.specs.declared.instruction.Inst.{Inst}
-use Rattle.ir_core.specs.declared.operand.Operand.{Operand}
+use Rattle.readers.proofs.Common.{◌≡◌, ◌⊎◌, inl, inr, ℕ, zero, suc, ◌+◌, ◌<◌, Bool, true, cond, List, [], ◌∷◌, ◌++◌, length, get_or, Some, refl, sym, ap, subst, ◌∙◌, arith, length-append, zero-add, AllPairs, Contains, option_map, slice_get, sum_by, cases_Bool, Contains-append_cases, Contains-append_left, Contains-append_right, Contains-get_or, sum_by-cons, same_Some, slice_get-map, slice_get_within, IsBlock, IsKnown, Read, reads_at, Block, Function, Inst, Operand, Register, operands_of, operands_at_end, contains_first, contains_later, end_of-is, end_reads, inst_reads, AreCounts, HasNumber, count_of, IsNamedAt, IsUseCount, StandsBefore, UsePlace, Uses, use_counts_are_one, names, times, times_in, times_in_function}
 use Rattle.ir_core.specs.declared.operand.Operand.TheVariants as operands
-use Rattle.ir_core.specs.declared.operand.Register.{Register}
-use Rattle.needed.specs.Operands.{operands_of, operands_at_end}
-use Rattle.needed.proofs.Counting.{contains_first, contains_later}
-use Rattle.needed.proofs.Reading.{end_of-is}
-use Rattle.needed.proofs.SearchLemmas.{end_reads, inst_reads}
-use Rattle.use_counts.specs.Tables.{AreCounts, HasNumber, count_of}
-use Rattle.use_counts.specs.Uses.{IsNamedAt, IsUseCount, StandsBefore, UsePlace}
-use Rattle.use_counts.specs.declared.uses.Uses.{Uses}
-use Rattle.use_counts.proofs.OneCount.{use_counts_are_one}
-use Rattle.readers.specs.Counts.{names, times, times_in, times_in_function}
 use Rattle.readers.proofs.Counting.{one_if}
 use Rattle.readers.proofs.Naming.{names_is, names_self}
 use Rattle.readers.proofs.Reading.{read_at_written, read_in_block, read_in_inst, written}

@@ -1,65 +1,13 @@
 -- Each run through the inserted instructions is allowed by an effect of the root, where the rule is valid.
-use Rattle.std.proofs.Common.{◌≡◌, ℕ, suc, ◌+◌, ◌-◌, ◌<◌, ◌≤◌, inl, inr, List, [], ◌∷◌, length, map, take, Option, Some, refl, sym, ap, subst, ◌∙◌, arith}
-use Rattle.std.specs.Prelude.{slice_get, Contains}
-use Rattle.std.specs.List.{range_with_len}
-use Rattle.std.specs.Option.{option_map}
-use Rattle.std.proofs.lemmas.Bool.{cases_eq, cases_lt}
-use Rattle.std.proofs.lemmas.List.{length-map, take_all}
-use Rattle.std.proofs.lemmas.Option.{same_Some, slice_get-map, slice_get-get_or}
-use Rattle.ops.specs.Number.{Number}
-use Rattle.ops.specs.Value.{AllowsValue, AllowsEffect, IsValueOf}
-use Rattle.ops.specs.declared.value.Value.{Value}
+use Rattle.rewriter.proofs.Common.{◌≡◌, ℕ, suc, ◌+◌, ◌-◌, ◌<◌, ◌≤◌, inl, inr, List, [], ◌∷◌, length, map, take, Option, Some, refl, sym, ap, subst, ◌∙◌, arith, slice_get, Contains, range_with_len, option_map, cases_eq, cases_lt, length-map, take_all, same_Some, slice_get-map, slice_get-get_or, Number, AllowsValue, AllowsEffect, IsValueOf, Value, Effect, AllowsEffect-trans, IsAssigned, HasInst, IsInst, MeetsChecks, Read, reads_of, Registers, AnyNumber, OperandGives, OpGives, IsWalk, IsReached, Function, Inst, Register, some_at, contains_at, IsRule, Choice, choices_among, LeavesOpen, Held, Given, Ending, Undefines, Holds, given_by, at_start, temporaries_of, holding_source, holding_target, StatementGives, ArgumentGives, Follows, TemporariesEnd, SourceGives, TargetGives, GivesLast, Setting, SettingFits, SourceChoicesFit, witness_number, HaveEffects, IsValid, Rule, Statement, HeldFits, GivenFits, ChoiceIsReady, ArgumentIsReady, source_given, Contains-from_get, source_ready, follows_once, temporaries_fit, temporaries_same, choices_fit, EquationHolds, not_both_assigned, one_inst, has_inst, NumbersFit, PutIsAllowed, AllowsPut, MayHold, stands_for, RunsThrough, Rewrite, value_of, pulled_back, inst_reads, IsTheRoot, stands_root, stands_other, moved_unmoved, is_moved, IsMatch, StatementMatches, Binding, rewrite_of}
 use Rattle.ops.specs.declared.value.Value.TheVariants as values
-use Rattle.ops.specs.declared.value.Effect.{Effect}
 use Rattle.ops.specs.declared.value.Effect.TheVariants as effects
-use Rattle.ops.proofs.Values.{AllowsEffect-trans}
-use Rattle.ir_core.specs.Assigned.{IsAssigned}
-use Rattle.ir_core.specs.Blocks.{HasInst}
-use Rattle.ir_core.specs.Checks.{IsInst, MeetsChecks}
-use Rattle.ir_core.specs.Reads.{Read, reads_of}
-use Rattle.ir_core.specs.Run.{Registers, AnyNumber, OperandGives, OpGives}
-use Rattle.ir_core.specs.Walks.{IsWalk, IsReached}
-use Rattle.ir_core.specs.declared.function.Function.{Function}
-use Rattle.ir_core.specs.declared.instruction.Inst.{Inst}
 use Rattle.ir_core.specs.declared.operand.Operand.{Operand}
 use Rattle.ir_core.specs.declared.operand.Operand.TheVariants as operands
-use Rattle.ir_core.specs.declared.operand.Register.{Register}
 use Rattle.ir_core.specs.declared.operand.Register.TheVariants as registers
-use Rattle.ir_meaning.proofs.Pieces.{some_at, contains_at}
-use Rattle.rule_core.specs.Checks.{IsRule}
-use Rattle.rule_core.specs.declared.rule.Choice.{Choice}
-use Rattle.rule_core.specs.Positions.{choices_among, LeavesOpen}
-use Rattle.rule_core.specs.Run.{Held, Given, Ending, Undefines, Holds, given_by, at_start, temporaries_of, holding_source, holding_target, StatementGives, ArgumentGives, Follows, TemporariesEnd, SourceGives, TargetGives, GivesLast}
-use Rattle.rule_core.specs.Valid.{Setting, SettingFits, SourceChoicesFit, witness_number, HaveEffects, IsValid}
 use Rattle.rule_core.specs.declared.rule.Op.TheVariants as rule_ops
 use Rattle.rule_core.specs.declared.rule.Operand.{Operand as RuleOperand}
-use Rattle.rule_core.specs.declared.rule.Rule.{Rule}
-use Rattle.rule_core.specs.declared.rule.Statement.{Statement}
-use Rattle.rule_core.specs.Readiness.{HeldFits, GivenFits, ChoiceIsReady, ArgumentIsReady, OpIsReady, StatementIsReady}
-use Rattle.rule_core.proofs.Givens.{source_given}
-use Rattle.rule_core.proofs.Members.{Contains-from_get}
-use Rattle.rule_core.proofs.Ready.{source_ready}
-use Rattle.rule_core.proofs.Once.{follows_once}
-use Rattle.rule_core.proofs.Outcomes.{temporaries_fit}
-use Rattle.rule_core.proofs.Unchosen.{temporaries_same}
-use Rattle.rule_core.proofs.Witnesses.{choices_fit}
-use Rattle.ir_meaning.specs.HistoryLaws.{EquationHolds}
-use Rattle.ir_meaning.proofs.Assignments.{not_both_assigned}
-use Rattle.ir_meaning.proofs.Equations.{one_inst}
-use Rattle.ir_meaning.proofs.Steps.{has_inst}
-use Rattle.ir_meaning.specs.HistoryLaws.{NumbersFit}
-use Rattle.substitution.specs.Laws.{PutIsAllowed}
-use Rattle.substitution.specs.Allows.{AllowsPut}
-use Rattle.substitution.specs.Held.{MayHold}
-use Rattle.substitution.specs.Rewritten.{stands_for, RunsThrough}
-use Rattle.substitution.specs.declared.rewrite.Rewrite.{Rewrite}
-use Rattle.substitution.specs.Substitution.{value_of, pulled_back}
-use Rattle.substitution.proofs.Arriving.{inst_reads}
-use Rattle.substitution.proofs.Placing.{IsTheRoot, stands_root, stands_other, moved_unmoved, is_moved}
-use Rattle.bindings.specs.Match.{IsMatch}
-use Rattle.bindings.specs.Statements.{StatementMatches}
-use Rattle.bindings.specs.declared.binding.Binding.{Binding}
-use Rattle.rewriter.specs.Put.{rewrite_of}
+use Rattle.rule_core.specs.Readiness.{OpIsReady, StatementIsReady}
 use Rattle.rewriter.proofs.Computing.{IsComputed}
 use Rattle.rewriter.proofs.Effects.{source_gives}
 use Rattle.rewriter.proofs.Matched.{computed_no_phi, reads_here, same_is_computed}

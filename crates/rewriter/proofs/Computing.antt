@@ -1,39 +1,18 @@
 -- What operations of rules and of functions compute from their inputs: the values of their operands, and for a freeze
 -- the number that it gives in the place of poison.
-use Rattle.std.proofs.Common.{◌≡◌, ◌⊎◌, inl, inr, ℕ, Bool, zero, suc, List, [], ◌∷◌, None, Some, refl, sym, ap, subst, ◌∙◌}
-use Rattle.std.specs.Prelude.{slice_get, slice_index}
-use Rattle.std.proofs.lemmas.Option.{same_Some, get_or_from_slice_get}
-use Rattle.std.proofs.lemmas.Nat.{pow_pos}
-use Rattle.ops.specs.Integer.{bits}
-use Rattle.ops.specs.Number.{Number}
-use Rattle.ops.specs.Value.{AllowsValue, AllowsEffect}
-use Rattle.ops.specs.Instruction.{instruction}
-use Rattle.ops.specs.Comparison.{comparison, selection}
-use Rattle.ops.specs.Conversion.{conversion}
-use Rattle.ops.specs.Unary.{unary}
+use Rattle.rewriter.proofs.Common.{◌≡◌, ◌⊎◌, inl, inr, ℕ, Bool, zero, suc, List, [], ◌∷◌, None, Some, refl, sym, ap, subst, ◌∙◌, slice_get, slice_index, same_Some, get_or_from_slice_get, pow_pos, bits, Number, AllowsValue, AllowsEffect, instruction, selection, conversion, unary, Opcode, Flags, Pred, Cast, Value, Effect, instruction-monotone, comparison-monotone, conversion-monotone, unary-monotone, selection-monotone, Read, read, reads_of, Registers, AnyNumber, IsChosen, OperandGives, Freezes, OpGives, Function, Phi, operands_of, Held, Given, frozen, IsSameOperation}
+use Rattle.ops.specs.Comparison.{comparison}
 use Rattle.ops.specs.declared.opcode.Unary.{Unary as Intrinsic}
-use Rattle.ops.specs.declared.opcode.Opcode.{Opcode}
-use Rattle.ops.specs.declared.opcode.Flags.{Flags}
-use Rattle.ops.specs.declared.comparison.Pred.{Pred}
-use Rattle.ops.specs.declared.conversion.Cast.{Cast}
-use Rattle.ops.specs.declared.value.Value.{Value}
 use Rattle.ops.specs.declared.value.Value.TheVariants as values
-use Rattle.ops.specs.declared.value.Effect.{Effect}
 use Rattle.ops.specs.declared.value.Effect.TheVariants as effects
-use Rattle.ops.proofs.Monotone.{instruction-monotone, comparison-monotone, conversion-monotone, unary-monotone, selection-monotone}
-use Rattle.ir_core.specs.Reads.{Read, read, reads_of}
-use Rattle.ir_core.specs.Run.{Registers, AnyNumber, IsChosen, OperandGives, Freezes, OpGives}
-use Rattle.ir_core.specs.declared.function.Function.{Function}
 use Rattle.ir_core.specs.declared.instruction.Op.{Op}
 use Rattle.ir_core.specs.declared.operand.Operand.TheVariants as operands
-use Rattle.ir_core.specs.declared.instruction.Op.TheVariants.{Binary, Compare, Unary, Select, Convert, Freeze, Phi}
-use Rattle.rule_core.specs.Positions.{operands_of}
-use Rattle.rule_core.specs.Run.{Held, Given, OperandGives as RuleOperandGives, OpGives as RuleOpGives, frozen}
+use Rattle.ir_core.specs.declared.instruction.Op.TheVariants.{Binary, Compare, Unary, Select, Convert, Freeze}
+use Rattle.rule_core.specs.Run.{OperandGives as RuleOperandGives, OpGives as RuleOpGives}
 use Rattle.rule_core.specs.declared.rule.Argument.TheVariants as arguments
 use Rattle.rule_core.specs.declared.rule.Op.{Op as RuleOp}
 use Rattle.rule_core.specs.declared.rule.Op.TheVariants as rule_ops
 use Rattle.rule_core.specs.declared.rule.Operand.{Operand as RuleOperand}
-use Rattle.bindings.specs.Statements.{IsSameOperation}
 
 -- ---- freezes
 

@@ -1,19 +1,6 @@
 -- Statements that become instructions, counted and in order.
-use Rattle.std.proofs.Common.{◌≡◌, ℕ, ◌+◌, ◌-◌, ◌<◌, ◌≤◌, Bool, true, false, not, List, [], ◌∷◌, ◌++◌, length, length-append, take, None, Some, refl, sym, ap, ◌∙◌, arith, get_or, flat_map, append_assoc, append-nil}
-use Rattle.std.specs.Prelude.{slice_get}
-use Rattle.std.proofs.lemmas.Grind.{flat_map-append}
-use Rattle.std.proofs.lemmas.List.{take_more, take_all}
-use Rattle.std.proofs.lemmas.List.Sums.{count_by_more_yes, count_by_more_no}
-use Rattle.std.proofs.lemmas.Option.{slice_get-get_or}
-use Rattle.ir_core.specs.Names.{Name}
-use Rattle.ir_core.specs.declared.instruction.Inst.{Inst}
+use Rattle.rewriter.proofs.Common.{◌≡◌, ℕ, ◌+◌, ◌-◌, ◌<◌, ◌≤◌, Bool, true, false, not, List, [], ◌∷◌, ◌++◌, length, length-append, take, None, Some, refl, sym, ap, ◌∙◌, arith, get_or, flat_map, append_assoc, append-nil, slice_get, flat_map-append, take_more, take_all, count_by_more_yes, count_by_more_no, slice_get-get_or, Name, Inst, in_turn, Rule, Statement, in_turn-step, in_turn-length, Binding, is_copy, count_put, result_put, results_put, insts_with, insts_put}
 use Rattle.ir_core.specs.declared.operand.Operand.{Operand}
-use Rattle.rule_core.specs.Terms.{in_turn}
-use Rattle.rule_core.specs.declared.rule.Rule.{Rule}
-use Rattle.rule_core.specs.declared.rule.Statement.{Statement}
-use Rattle.rule_core.proofs.Turns.{in_turn-step, in_turn-length}
-use Rattle.bindings.specs.declared.binding.Binding.{Binding}
-use Rattle.rewriter.specs.Put.{is_copy, count_put, result_put, results_put, insts_with, insts_put}
 
 module _ (rule : Rule) (binding : Binding) where
   -- the operands for the registers of the first i target statements, and how many of these become instructions

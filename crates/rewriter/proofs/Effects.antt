@@ -1,17 +1,6 @@
 -- Effects of the halves of a rule, from how their statements end.
-use Rattle.std.proofs.Common.{◌≡◌, ℕ, suc, ◌-◌, ◌<◌, List, [], ◌∷◌, ◌++◌, length, take, length-append, Some, refl, sym, ap, subst, ◌∙◌, arith}
-use Rattle.std.specs.Prelude.{slice_get}
-use Rattle.std.proofs.Math.Seq.{take-suc}
-use Rattle.std.proofs.lemmas.List.{take_all}
-use Rattle.std.proofs.lemmas.Option.{slice_get_within, get_or_from_slice_get}
-use Rattle.ops.specs.Number.{Number}
-use Rattle.ops.specs.declared.value.Value.{Value}
-use Rattle.ops.specs.declared.value.Effect.{Effect}
+use Rattle.rewriter.proofs.Common.{◌≡◌, ℕ, suc, ◌-◌, ◌<◌, List, [], ◌∷◌, ◌++◌, length, take, length-append, Some, refl, sym, ap, subst, ◌∙◌, arith, slice_get, take-suc, take_all, slice_get_within, get_or_from_slice_get, Number, Value, Effect, Held, Given, Ending, Undefines, Holds, GoesOn, given_by, at_start, temporaries_of, holding_source, StatementGives, Follows, SourceGives, GivesLast, Rule, Statement, get_right}
 use Rattle.ops.specs.declared.value.Effect.TheVariants as effects
-use Rattle.rule_core.specs.Run.{Held, Given, Ending, Undefines, Holds, GoesOn, given_by, at_start, temporaries_of, holding_source, StatementGives, Follows, SourceGives, GivesLast}
-use Rattle.rule_core.specs.declared.rule.Rule.{Rule}
-use Rattle.rule_core.specs.declared.rule.Statement.{Statement}
-use Rattle.substitution.proofs.Pieces.{get_right}
 
 -- statements run from where others before them end
 follows_append : (typing : List ℕ) (given : Given) (holding : Held → Value → Held) (first more : List Statement) (start mid : Held) (end : Ending)

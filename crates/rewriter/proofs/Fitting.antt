@@ -1,33 +1,11 @@
 -- The instructions that a rule inserts in the place of its root fit the function.
-use Rattle.std.proofs.Common.{◌≡◌, ◌≢◌, ℕ, zero, suc, ◌+◌, ◌-◌, ◌<◌, ◌≤◌, ◌^◌, inl, inr, Bool, true, false, List, [], ◌∷◌, length, map, Option, Some, None, refl, sym, ap, subst, ◌∙◌, arith, get_or}
-use Rattle.std.specs.Prelude.{slice_get, slice_index_or, Contains, if◌then◌else◌}
-use Rattle.std.specs.Option.{option_map_or}
-use Rattle.std.proofs.lemmas.Bool.{cases_lt}
-use Rattle.std.proofs.lemmas.Option.{same_Some, slice_get-map, slice_get-get_or, slice_get_within, get_or_from_slice_get}
-use Rattle.ops.specs.Conversion.{CastFits}
-use Rattle.ops.specs.Integer.{residue}
-use Rattle.ops.specs.Number.{Number}
-use Rattle.ops.specs.Value.{IsValueOf}
-use Rattle.ops.specs.declared.opcode.Flags.{Flags}
-use Rattle.ops.specs.declared.conversion.Cast.{Cast}
+use Rattle.rewriter.proofs.Common.{◌≡◌, ◌≢◌, ℕ, zero, suc, ◌+◌, ◌-◌, ◌<◌, ◌≤◌, ◌^◌, inl, inr, Bool, true, false, List, [], ◌∷◌, length, map, Option, Some, None, refl, sym, ap, subst, ◌∙◌, arith, get_or, slice_get, slice_index_or, Contains, if◌then◌else◌, option_map_or, cases_lt, same_Some, slice_get-map, slice_get-get_or, slice_get_within, get_or_from_slice_get, CastFits, residue, Number, IsValueOf, Flags, Cast, Value, IsAssigned, IsInst, IsPhi, IsTyped, MeetsChecks, OperandHasWidth, width_of, Read, reads_of, Function, Inst, Register, some_at, IsRule, TargetMayRead, FlagsFitOp, ReadsNoUndefAlone, operands_of, IsStatementOf, IsOperandAmong, name, reads, reads_constant, source_assigns, target_assigns, assigns_root, operand, copy, truth, truncated, zero_extended, sign_extended, constant_values, value_at, HasNumber, Argument, Rule, Statement, Term, residue_lt, Contains-from_get, Contains-flat_map, target_statement, target_operand, source_operand, class_stands, operand_class_stands, constant_values_fit, one_inst, NumbersFit, Fits, IsOfItsWidth, IsOld, MayBeRead, Rewrite, mapped, width_at, IsMatch, StatementMatches, Binding, literal_of, is_copy, argument_put, class_width, operand_put, insts_put, rewrite_of}
 use Rattle.ops.specs.declared.conversion.Cast.TheVariants as casts
-use Rattle.ops.specs.declared.value.Value.{Value}
 use Rattle.ops.specs.declared.value.Value.TheVariants as values
-use Rattle.ir_core.specs.Assigned.{IsAssigned}
-use Rattle.ir_core.specs.Checks.{IsInst, IsPhi, IsTyped, MeetsChecks, OperandHasWidth}
-use Rattle.ir_core.specs.Names.{width_of}
-use Rattle.ir_core.specs.Reads.{Read, reads_of}
-use Rattle.ir_core.specs.declared.function.Function.{Function}
-use Rattle.ir_core.specs.declared.instruction.Inst.{Inst}
 use Rattle.ir_core.specs.declared.operand.Operand.{Operand}
 use Rattle.ir_core.specs.declared.operand.Operand.TheVariants as operands
-use Rattle.ir_core.specs.declared.operand.Register.{Register}
 use Rattle.ir_core.specs.declared.operand.Register.TheVariants as registers
-use Rattle.ir_meaning.proofs.Pieces.{some_at}
-use Rattle.rule_core.specs.Checks.{IsRule, TargetMayRead, FlagsFitOp, ReadsNoUndefAlone}
-use Rattle.rule_core.specs.Positions.{operands_of, IsStatementOf, IsOperandAmong, name, reads, reads_constant, source_assigns, target_assigns, assigns_root, operand, copy, comparison, truth, truncated, zero_extended, sign_extended}
-use Rattle.rule_core.specs.Terms.{constant_values, value_at, HasNumber}
-use Rattle.rule_core.specs.declared.rule.Argument.{Argument}
+use Rattle.rule_core.specs.Positions.{comparison}
 use Rattle.rule_core.specs.declared.rule.Argument.TheVariants as arguments
 use Rattle.rule_core.specs.declared.rule.Name.TheVariants as rule_names
 use Rattle.rule_core.specs.declared.rule.Node.TheVariants as nodes
@@ -35,22 +13,7 @@ use Rattle.rule_core.specs.declared.rule.Op.{Op as RuleOp}
 use Rattle.rule_core.specs.declared.rule.Op.TheVariants as rule_ops
 use Rattle.rule_core.specs.declared.rule.Operand.{Operand as RuleOperand}
 use Rattle.rule_core.specs.declared.rule.Register.TheVariants as names
-use Rattle.rule_core.specs.declared.rule.Rule.{Rule}
-use Rattle.rule_core.specs.declared.rule.Statement.{Statement}
-use Rattle.rule_core.specs.declared.rule.Term.{Term}
-use Rattle.rule_core.proofs.Fits.{residue_lt}
-use Rattle.rule_core.proofs.Members.{Contains-from_get, Contains-flat_map, target_statement, target_operand, source_operand, class_stands, operand_class_stands}
-use Rattle.rule_core.proofs.Ready.{constant_values_fit, class_width as width_of_class}
-use Rattle.ir_meaning.proofs.Equations.{one_inst}
-use Rattle.ir_meaning.specs.HistoryLaws.{NumbersFit}
-use Rattle.substitution.specs.Fits.{Fits, IsOfItsWidth, IsOld, MayBeRead}
-use Rattle.substitution.specs.declared.rewrite.Rewrite.{Rewrite}
-use Rattle.substitution.proofs.Pieces.{mapped}
-use Rattle.substitution.proofs.Standing.{width_at}
-use Rattle.bindings.specs.Match.{IsMatch}
-use Rattle.bindings.specs.Statements.{StatementMatches}
-use Rattle.bindings.specs.declared.binding.Binding.{Binding}
-use Rattle.rewriter.specs.Put.{literal_of, is_copy, argument_put, class_width, operand_put, insts_put, rewrite_of}
+use Rattle.rule_core.proofs.Ready.{class_width as width_of_class}
 use Rattle.rewriter.proofs.Allowed.{reached, input_assigned, statements_settled, stands_itself}
 use Rattle.rewriter.proofs.Matched.{computed_no_phi, same_is_computed}
 use Rattle.rewriter.proofs.Putting.{IsNoCopy, results, results_length, put_before, result_at, result_put_at, result_is, count_more, count_grows, put_op, put_inst, ReadFor, put_reads, put_is_computed}

@@ -1,28 +1,7 @@
 -- An instruction with more flags gives the same as with fewer, or poison.
-use Rattle.std.proofs.Common.{◌≡◌, ℕ, ℤ, Bool, true, false, cond, not, ◌&&◌, ◌||◌, ap}
-use Rattle.std.specs.Prelude.{◌==◌, ◌^◌, nat_le, bit_and, bit_or, bit_xor}
-use Rattle.ops.specs.declared.value.Value.{Value}
-use Rattle.ops.specs.declared.value.Value.TheVariants.{Poison, Bits}
-use Rattle.ops.specs.declared.value.Effect.TheVariants.{Undefined, Gives}
-use Rattle.ops.specs.declared.opcode.Opcode.{Opcode}
-use Rattle.ops.specs.declared.opcode.Opcode.TheVariants.{Add, Sub, Mul, UDiv, SDiv, URem, SRem, Shl, LShr, AShr, And, Or, Xor, UMin, UMax, SMin, SMax}
+use Rattle.rewriter.proofs.Common.{◌≡◌, ℕ, ℤ, Bool, true, false, cond, not, ◌&&◌, ◌||◌, ap, ◌==◌, ◌^◌, nat_le, bit_and, bit_or, bit_xor, Value, Poison, Bits, Undefined, Gives, Opcode, Add, Sub, Mul, UDiv, SDiv, URem, SRem, Shl, LShr, AShr, And, Or, Xor, UMin, UMax, SMin, SMax, Flags, Pred, Cast, Trunc, ZExt, SExt, AreWithin, icmp_flags, AllowsValue, AllowsEffect, bits, signed, negative, fits_unsigned, fits_signed, residue, arithmetic, exactly, udiv, sdiv, urem, srem, shl, lshr, ashr, or, holds, signs_differ, conversion, converted, breaks_flags, unary, at_number, poison_where_true, instruction, on_numbers, on_poison, AllowsValue-refl, AllowsEffect-refl}
 use Rattle.ops.specs.declared.opcode.Unary.{Unary as Intrinsic}
-use Rattle.ops.specs.declared.opcode.Flags.{Flags}
-use Rattle.ops.specs.declared.comparison.Pred.{Pred}
-use Rattle.ops.specs.declared.conversion.Cast.{Cast}
-use Rattle.ops.specs.declared.conversion.Cast.TheVariants.{Trunc, ZExt, SExt}
-use Rattle.ops.specs.Flags.{AreWithin, icmp_flags}
-use Rattle.ops.specs.Value.{AllowsValue, AllowsEffect}
-use Rattle.ops.specs.Integer.{bits, signed, negative, fits_unsigned, fits_signed, residue}
-use Rattle.ops.specs.Arithmetic.{arithmetic}
-use Rattle.ops.specs.Division.{exactly, udiv, sdiv, urem, srem}
-use Rattle.ops.specs.Shifts.{shl, lshr, ashr}
-use Rattle.ops.specs.Bitwise.{or}
-use Rattle.ops.specs.Comparison.{comparison, holds, signs_differ}
-use Rattle.ops.specs.Conversion.{conversion, converted, breaks_flags}
-use Rattle.ops.specs.Unary.{unary, at_number, poison_where_true}
-use Rattle.ops.specs.Instruction.{instruction, on_numbers, on_poison}
-use Rattle.ops.proofs.Values.{AllowsValue-refl, AllowsEffect-refl}
+use Rattle.ops.specs.Comparison.{comparison}
 
 -- if the first flag is set, so is the second
 abbrev Within : Bool → Bool → Type 0

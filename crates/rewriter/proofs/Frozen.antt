@@ -1,15 +1,7 @@
 -- An argument of a rule that is ready gives a value of its width.
-use Rattle.std.proofs.Common.{◌≡◌, ℕ, true, false, List, refl, sym, subst, ◌∙◌, arith}
-use Rattle.std.proofs.lemmas.Option.{same_Some, get_or_from_slice_get}
-use Rattle.ops.specs.Number.{Number}
-use Rattle.ops.specs.Value.{IsValueOf}
-use Rattle.ops.specs.declared.value.Value.{Value}
+use Rattle.rewriter.proofs.Common.{◌≡◌, ℕ, true, false, List, refl, sym, subst, ◌∙◌, arith, same_Some, get_or_from_slice_get, Number, IsValueOf, Value, ArgumentIsReady, Held, Given, ArgumentGives, Argument, residue_lt, number_or_zero_fits}
 use Rattle.ops.specs.declared.value.Value.TheVariants as values
-use Rattle.rule_core.specs.Readiness.{ArgumentIsReady}
-use Rattle.rule_core.specs.Run.{Held, Given, ArgumentGives}
-use Rattle.rule_core.specs.declared.rule.Argument.{Argument}
 use Rattle.rule_core.specs.declared.rule.Argument.TheVariants as arguments
-use Rattle.rule_core.proofs.Fits.{residue_lt, number_or_zero_fits}
 
 -- a number that is equal to one of this width is of this width
 number_fits : (N : ℕ) (n m : Number) (v : Value) → n ≡ m → v ≡ values.Bits m → IsValueOf N (values.Bits n) → IsValueOf N v

@@ -1,3 +1,4 @@
+pub mod Common
 pub mod Flags
 pub mod Computing
 pub mod Matched

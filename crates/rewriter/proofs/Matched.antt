@@ -1,26 +1,11 @@
 -- What a statement that matches an instruction computes there.
-use Rattle.std.proofs.Common.{◌≡◌, ℕ, zero, suc, ◌<◌, List, [], ◌∷◌, length, Some, refl, sym, ap, subst, arith}
-use Rattle.std.specs.Prelude.{slice_get, slice_index}
-use Rattle.std.proofs.lemmas.Option.{same_Some, get_or_from_slice_get, slice_get_within}
-use Rattle.ops.specs.Value.{AllowsEffect}
-use Rattle.ops.specs.Instruction.{instruction}
-use Rattle.ops.specs.declared.opcode.Opcode.{Opcode}
-use Rattle.ops.specs.declared.value.Value.{Value}
-use Rattle.ops.proofs.Values.{AllowsEffect-refl}
-use Rattle.ir_core.specs.Checks.{IsPhi}
-use Rattle.ir_core.specs.Reads.{Read, read, reads_of}
-use Rattle.ir_core.specs.declared.function.Function.{Function}
+use Rattle.rewriter.proofs.Common.{◌≡◌, ℕ, zero, suc, ◌<◌, List, [], ◌∷◌, length, Some, refl, sym, ap, subst, arith, slice_get, slice_index, same_Some, get_or_from_slice_get, slice_get_within, AllowsEffect, instruction, Opcode, Value, AllowsEffect-refl, IsPhi, Read, read, reads_of, Function, Phi, some_at, operands_of, IsSameOperation, promises_of_statement, promises_of_inst, AreKept, Promises}
 use Rattle.ir_core.specs.declared.instruction.Op.{Op}
 use Rattle.ir_core.specs.declared.operand.Operand.{Operand}
-use Rattle.ir_core.specs.declared.instruction.Op.TheVariants.{Binary, Compare, Unary, Select, Convert, Freeze, Phi}
-use Rattle.ir_meaning.proofs.Pieces.{some_at}
-use Rattle.rule_core.specs.Positions.{operands_of}
+use Rattle.ir_core.specs.declared.instruction.Op.TheVariants.{Binary, Compare, Unary, Select, Convert, Freeze}
 use Rattle.rule_core.specs.declared.rule.Op.{Op as RuleOp}
 use Rattle.rule_core.specs.declared.rule.Op.TheVariants as rule_ops
 use Rattle.rule_core.specs.declared.rule.Operand.{Operand as RuleOperand}
-use Rattle.bindings.specs.Statements.{IsSameOperation, promises_of_statement, promises_of_inst}
-use Rattle.bindings.specs.Promises.{AreKept}
-use Rattle.bindings.specs.declared.promises.Promises.{Promises}
 use Rattle.rewriter.proofs.Flags.{more_flags_allow, more_cast_flags_allow, more_truth_allows, more_samesign_allows}
 use Rattle.rewriter.proofs.Computing.{Computation, Compares, Calls, Selects, Converts, Freezing, effect_of, computed, computed_by, IsComputed}
 

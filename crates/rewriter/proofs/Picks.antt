@@ -1,26 +1,11 @@
 -- The numbers that are taken for the choices of a rule, in the order of the text: those of a statement are among its
 -- inputs.
-use Rattle.std.proofs.Common.{◌≡◌, ℕ, zero, suc, ◌+◌, ◌<◌, inl, inr, List, [], ◌∷◌, ◌++◌, length, length-append, map, append-nil, Some, refl, sym, ap, ◌∙◌, arith}
-use Rattle.std.specs.Prelude.{slice_get, slice_index, Contains, flat_map}
-use Rattle.std.specs.List.{range_with_len}
-use Rattle.std.proofs.lemmas.List.{map-append}
-use Rattle.std.proofs.lemmas.List.FromFn.{get_or-range_with_len}
-use Rattle.std.proofs.lemmas.Nat.{pow_pos}
-use Rattle.std.proofs.lemmas.Option.{same_Some, slice_get_within, get_or_from_slice_get}
-use Rattle.ops.specs.Number.{Number}
-use Rattle.ops.specs.Value.{IsValueOf}
-use Rattle.ops.specs.declared.value.Value.{Value}
+use Rattle.rewriter.proofs.Common.{◌≡◌, ℕ, zero, suc, ◌+◌, ◌<◌, inl, inr, List, [], ◌∷◌, ◌++◌, length, length-append, map, append-nil, Some, refl, sym, ap, ◌∙◌, arith, slice_get, slice_index, Contains, flat_map, range_with_len, map-append, get_or-range_with_len, pow_pos, same_Some, slice_get_within, get_or_from_slice_get, Number, IsValueOf, Value, Choice, operands_of, undef_in, frozen_in, choices_of, choices_among, Argument, Copy, Statement, get_left, get_right, get_cases, Contains-from_get, Contains-flat_map}
 use Rattle.ops.specs.declared.value.Value.TheVariants as values
-use Rattle.rule_core.specs.declared.rule.Choice.{Choice}
-use Rattle.rule_core.specs.Positions.{operands_of, undef_in, frozen_in, choices_of, choices_among}
-use Rattle.rule_core.specs.declared.rule.Argument.{Argument}
 use Rattle.rule_core.specs.declared.rule.Argument.TheVariants as arguments
 use Rattle.rule_core.specs.declared.rule.Op.{Op}
-use Rattle.rule_core.specs.declared.rule.Op.TheVariants.{Binary, Compare, Unary, Select, Convert, Freeze, Copy}
+use Rattle.rule_core.specs.declared.rule.Op.TheVariants.{Binary, Compare, Unary, Select, Convert, Freeze}
 use Rattle.rule_core.specs.declared.rule.Operand.{Operand}
-use Rattle.rule_core.specs.declared.rule.Statement.{Statement}
-use Rattle.substitution.proofs.Pieces.{get_left, get_right, get_cases}
-use Rattle.rule_core.proofs.Members.{Contains-from_get, Contains-flat_map}
 use Rattle.rewriter.proofs.Computing.{number_of, inputs_of}
 
 -- the choices among operands, and their indices

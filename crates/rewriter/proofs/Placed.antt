@@ -1,13 +1,5 @@
 -- At which places the instructions of target statements are inserted.
-use Rattle.std.proofs.Common.{◌≡◌, ℕ, zero, suc, ◌+◌, ◌⊎◌, inl, inr, true, false, List, [], ◌∷◌, ◌++◌, length, Some, None, refl, sym, ap, subst, ◌∙◌, arith, append-nil, add-zero}
-use Rattle.std.specs.Prelude.{slice_get}
-use Rattle.std.proofs.lemmas.Option.{same_Some}
-use Rattle.ir_core.specs.Names.{Name}
-use Rattle.ir_core.specs.declared.instruction.Inst.{Inst}
-use Rattle.rule_core.specs.declared.rule.Rule.{Rule}
-use Rattle.rule_core.specs.declared.rule.Statement.{Statement}
-use Rattle.bindings.specs.declared.binding.Binding.{Binding}
-use Rattle.rewriter.specs.Put.{is_copy, class_width, insts_of_op, insts_with, insts_put}
+use Rattle.rewriter.proofs.Common.{◌≡◌, ℕ, zero, suc, ◌+◌, ◌⊎◌, inl, inr, true, false, List, [], ◌∷◌, ◌++◌, length, Some, None, refl, sym, ap, subst, ◌∙◌, arith, append-nil, add-zero, slice_get, same_Some, Name, Inst, Rule, Statement, Binding, is_copy, class_width, insts_of_op, insts_with, insts_put}
 use Rattle.rewriter.proofs.Putting.{IsNoCopy, put_before, count_more, count_same, put_inst, insts_are, insts_none}
 
 first_or : {X : Type 0} (x : X) (xs : List X) (i : ℕ) (y : X) → slice_get (x ∷ xs) i ≡ Some y → ((i ≡ 0) × (y ≡ x)) ⊎ ((j : ℕ) × (i ≡ suc j) × (slice_get xs j ≡ Some y))

@@ -1,39 +1,17 @@
 -- The operands for the registers of target statements, and what the inserted instructions read.
-use Rattle.std.proofs.Common.{◌≡◌, ℕ, zero, suc, ◌+◌, ◌<◌, ◌≤◌, inl, inr, true, false, not, List, [], ◌∷◌, ◌++◌, length, take, length-take, Some, None, refl, sym, ap, subst, ◌∙◌, arith, get_or, zero-add, add-one, append-nil}
-use Rattle.std.specs.Prelude.{slice_get, slice_index_or, Contains}
-use Rattle.std.specs.Option.{option_map_or}
-use Rattle.std.proofs.lemmas.Bool.{cases_lt}
-use Rattle.std.proofs.lemmas.List.Sums.{count_by_more_yes, count_by_more_no}
-use Rattle.std.proofs.lemmas.Option.{same_Some, slice_get-get_or, slice_get_within, get_or_from_slice_get}
-use Rattle.ops.specs.declared.value.Value.{Value}
+use Rattle.rewriter.proofs.Common.{◌≡◌, ℕ, zero, suc, ◌+◌, ◌<◌, ◌≤◌, inl, inr, true, false, not, List, [], ◌∷◌, ◌++◌, length, take, length-take, Some, None, refl, sym, ap, subst, ◌∙◌, arith, get_or, zero-add, add-one, append-nil, slice_get, slice_index_or, Contains, option_map_or, cases_lt, count_by_more_yes, count_by_more_no, same_Some, slice_get-get_or, slice_get_within, get_or_from_slice_get, Value, Name, Read, read, reads_of, Function, Inst, Register, TargetMayRead, operands_of, IsStatementOf, binary_left, binary_right, compared, one_operand, select_true, select_false, freeze, condition, in_turn, constant_values, value_at, IsTyping, Argument, Rule, Statement, Contains-from_get, operand_class_stands, in_turn-length, at_place, before_place, Binding, literal_of, is_copy, count_put, argument_put, class_width, operand_put, result_of_op, result_put, results_put, insts_of_op, insts_with, insts_put}
 use Rattle.ops.specs.declared.value.Value.TheVariants as values
-use Rattle.ir_core.specs.Names.{Name}
-use Rattle.ir_core.specs.Reads.{Read, read, reads_of}
-use Rattle.ir_core.specs.declared.function.Function.{Function}
-use Rattle.ir_core.specs.declared.instruction.Inst.{Inst}
 use Rattle.ir_core.specs.declared.instruction.Op.{Op}
 use Rattle.ir_core.specs.declared.instruction.Op.TheVariants as ops
 use Rattle.ir_core.specs.declared.operand.Operand.{Operand}
 use Rattle.ir_core.specs.declared.operand.Operand.TheVariants as operands
-use Rattle.ir_core.specs.declared.operand.Register.{Register}
 use Rattle.ir_core.specs.declared.operand.Register.TheVariants as registers
-use Rattle.rule_core.specs.Checks.{TargetMayRead}
-use Rattle.rule_core.specs.Positions.{operands_of, IsStatementOf, binary_left, binary_right, compared, one_operand, select_true, select_false, freeze, condition}
-use Rattle.rule_core.specs.Terms.{in_turn, constant_values, value_at}
-use Rattle.rule_core.specs.Typing.{IsTyping}
-use Rattle.rule_core.specs.declared.rule.Argument.{Argument}
 use Rattle.rule_core.specs.declared.rule.Argument.TheVariants as arguments
 use Rattle.rule_core.specs.declared.rule.Op.{Op as RuleOp}
 use Rattle.rule_core.specs.declared.rule.Op.TheVariants as rule_ops
 use Rattle.rule_core.specs.declared.rule.Operand.{Operand as RuleOperand}
 use Rattle.rule_core.specs.declared.rule.Register.TheVariants as names
-use Rattle.rule_core.specs.declared.rule.Rule.{Rule}
-use Rattle.rule_core.specs.declared.rule.Statement.{Statement}
-use Rattle.rule_core.proofs.Members.{Contains-from_get, operand_class_stands}
 use Rattle.rule_core.proofs.Ready.{class_width as width_of_class}
-use Rattle.rule_core.proofs.Turns.{in_turn-length, at_place, before_place}
-use Rattle.bindings.specs.declared.binding.Binding.{Binding}
-use Rattle.rewriter.specs.Put.{literal_of, is_copy, count_put, argument_put, class_width, operand_put, result_of_op, result_put, results_put, insts_of_op, insts_with, insts_put}
 use Rattle.rewriter.proofs.Computing.{computed, computed_by, IsComputed, choice_operand, inputs_of, taken_by}
 
 -- the operation is no copy

@@ -1,19 +1,11 @@
 -- All that the target reads is bound, where a rule was read from a file and its names are bound.
-use Rattle.std.proofs.Common.{◌≡◌, ℕ, ◌≤◌, [], ◌∷◌, Some, refl, arith}
-use Rattle.std.specs.Prelude.{slice_get, Contains}
-use Rattle.rule_core.specs.Checks.{IsRule, TargetMayRead}
-use Rattle.rule_core.specs.Positions.{operands_of, IsStatementOf}
-use Rattle.rule_core.specs.declared.rule.Argument.{Argument}
+use Rattle.rewriter.proofs.Common.{◌≡◌, ℕ, ◌≤◌, [], ◌∷◌, Some, refl, arith, slice_get, Contains, IsRule, TargetMayRead, operands_of, IsStatementOf, Argument, Copy, Rule, Statement, Contains-from_get, target_statement, class_stands, operand_class_stands, Binding, IsBound, OperandIsReady}
 use Rattle.rule_core.specs.declared.rule.Argument.TheVariants as arguments
 use Rattle.rule_core.specs.declared.rule.Op.{Op}
-use Rattle.rule_core.specs.declared.rule.Op.TheVariants.{Binary, Compare, Unary, Select, Convert, Freeze, Copy}
+use Rattle.rule_core.specs.declared.rule.Op.TheVariants.{Binary, Compare, Unary, Select, Convert, Freeze}
 use Rattle.rule_core.specs.declared.rule.Operand.{Operand}
 use Rattle.rule_core.specs.declared.rule.Register.TheVariants as names
-use Rattle.rule_core.specs.declared.rule.Rule.{Rule}
-use Rattle.rule_core.specs.declared.rule.Statement.{Statement}
-use Rattle.rule_core.proofs.Members.{Contains-from_get, target_statement, class_stands, operand_class_stands}
-use Rattle.bindings.specs.declared.binding.Binding.{Binding}
-use Rattle.rewriter.specs.Ready.{IsBound, OperandIsReady, OpIsReady, StatementIsReady}
+use Rattle.rewriter.specs.Ready.{OpIsReady, StatementIsReady}
 
 module _ (rule : Rule) (binding : Binding) where
   by_operand : (k : ℕ) (op : Op) → ((o : Operand) → Contains (operands_of op) o → OperandIsReady rule binding k o) → OpIsReady rule binding k op

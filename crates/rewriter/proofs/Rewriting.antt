@@ -1,15 +1,5 @@
 -- A function to which a valid rule is applied refines the old one.
-use Rattle.std.proofs.Common.{sym, subst}
-use Rattle.ir_core.specs.Checks.{MeetsChecks}
-use Rattle.ir_core.specs.Refines.{Refines}
-use Rattle.ir_core.specs.declared.function.Function.{Function}
-use Rattle.ir_meaning.specs.HistoryLaws.{NumbersFit}
-use Rattle.substitution.specs.Fits.{Fits}
-use Rattle.substitution.specs.declared.rewrite.Rewrite.{Rewrite}
-use Rattle.substitution.proofs.Checking.{meets_checks, numbers_fit}
-use Rattle.substitution.proofs.Refining.{functions_refine_where_allowed}
-use Rattle.rewriter.specs.Laws.{RewrittenFunctionsMeetChecks, RewrittenFunctionsRefine, RewrittenNumbersFit}
-use Rattle.rewriter.specs.Put.{rewrite_of}
+use Rattle.rewriter.proofs.Common.{sym, subst, MeetsChecks, Refines, Function, NumbersFit, Fits, Rewrite, meets_checks, numbers_fit, functions_refine_where_allowed, RewrittenFunctionsMeetChecks, RewrittenFunctionsRefine, RewrittenNumbersFit, rewrite_of}
 use Rattle.rewriter.proofs.Allowed.{put_is_allowed}
 use Rattle.rewriter.proofs.Fitting.{rewrite_fits}
 

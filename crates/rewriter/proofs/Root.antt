@@ -1,39 +1,17 @@
 -- The root's effect, on what registers hold in the function, allows that of the rule's source.
-use Rattle.std.proofs.Common.{◌≡◌, ◌≢◌, ℕ, inl, inr, Bool, List, Some, refl, sym, ap, subst, ◌∙◌}
-use Rattle.std.specs.Prelude.{slice_get, Contains}
-use Rattle.std.proofs.lemmas.Option.{same_Some}
-use Rattle.ops.specs.Number.{Number}
-use Rattle.ops.specs.Value.{AllowsValue, AllowsEffect, IsValueOf}
-use Rattle.ops.specs.declared.value.Value.{Value}
+use Rattle.rewriter.proofs.Common.{◌≡◌, ◌≢◌, ℕ, inl, inr, Bool, List, Some, refl, sym, ap, subst, ◌∙◌, slice_get, Contains, same_Some, Number, AllowsValue, AllowsEffect, IsValueOf, Value, Effect, AllowsValue-refl, AllowsEffect-trans, Read, read, reads_of, Registers, AnyNumber, OperandGives, Freezes, OpGives, IsChosen, Function, Register, IsRule, SourceMayRead, operands_of, LeavesOpen, ChoiceIsReady, Held, Given, StatementGives, ArgumentGives, frozen, IsTyping, Argument, Rule, Statement, Contains-from_get, statement_open, operand_open, freeze_chosen, StandsFor, OperandMatches, StatementMatches, IsSameOperation, Binding}
 use Rattle.ops.specs.declared.value.Value.TheVariants as values
-use Rattle.ops.specs.declared.value.Effect.{Effect}
 use Rattle.ops.specs.declared.value.Effect.TheVariants as effects
-use Rattle.ops.proofs.Values.{AllowsValue-refl, AllowsEffect-trans}
-use Rattle.ir_core.specs.Reads.{Read, read, reads_of}
-use Rattle.ir_core.specs.Run.{Registers, AnyNumber, OperandGives, Freezes, OpGives, IsChosen}
-use Rattle.ir_core.specs.declared.function.Function.{Function}
 use Rattle.ir_core.specs.declared.instruction.Op.{Op}
 use Rattle.ir_core.specs.declared.instruction.Op.TheVariants as ops
 use Rattle.ir_core.specs.declared.operand.Operand.{Operand}
 use Rattle.ir_core.specs.declared.operand.Operand.TheVariants as operands
-use Rattle.ir_core.specs.declared.operand.Register.{Register}
-use Rattle.rule_core.specs.Checks.{IsRule, SourceMayRead}
-use Rattle.rule_core.specs.Positions.{operands_of, LeavesOpen}
-use Rattle.rule_core.specs.Readiness.{ChoiceIsReady}
-use Rattle.rule_core.specs.Run.{Held, Given, StatementGives, OperandGives as RuleOperandGives, OpGives as RuleOpGives, ArgumentGives, frozen}
-use Rattle.rule_core.specs.Typing.{IsTyping}
-use Rattle.rule_core.specs.declared.rule.Argument.{Argument}
+use Rattle.rule_core.specs.Run.{OperandGives as RuleOperandGives, OpGives as RuleOpGives}
 use Rattle.rule_core.specs.declared.rule.Argument.TheVariants as arguments
 use Rattle.rule_core.specs.declared.rule.Op.{Op as RuleOp}
 use Rattle.rule_core.specs.declared.rule.Op.TheVariants as rule_ops
 use Rattle.rule_core.specs.declared.rule.Operand.{Operand as RuleOperand}
 use Rattle.rule_core.specs.declared.rule.Register.TheVariants as names
-use Rattle.rule_core.specs.declared.rule.Rule.{Rule}
-use Rattle.rule_core.specs.declared.rule.Statement.{Statement}
-use Rattle.rule_core.proofs.Members.{Contains-from_get, statement_open, operand_open, freeze_chosen}
-use Rattle.bindings.specs.Operands.{StandsFor, OperandMatches}
-use Rattle.bindings.specs.Statements.{StatementMatches, IsSameOperation}
-use Rattle.bindings.specs.declared.binding.Binding.{Binding}
 use Rattle.rewriter.proofs.Computing.{effect_of, computed, computed_by, IsComputed, IsFreeze, freeze_or, inputs_of, plain_inputs, plain_reads, collected, rule_gives, op_gives, effects_allow}
 use Rattle.rewriter.proofs.Matched.{read_there, operand_there, inst_allows}
 use Rattle.rewriter.proofs.Source.{IsDefined, Standing, argument_gives, operand_matches, widths_agree, may_read, among, truth_width, is_computed}

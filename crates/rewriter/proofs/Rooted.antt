@@ -1,24 +1,8 @@
 -- What follows from a match for a rewrite: the root is there, all names are bound, and few instructions are inserted.
-use Rattle.std.proofs.Common.{◌≡◌, ℕ, ◌-◌, ◌≤◌, List, [], ◌∷◌, length, length-append, Some, None, Result, Ok, Err, subst, arith}
-use Rattle.std.specs.Prelude.{slice_get, OnOk}
-use Rattle.std.proofs.lemmas.Option.{slice_get_within}
-use Rattle.ir_core.specs.Blocks.{HasInst}
-use Rattle.ir_core.specs.Checks.{IsInst}
-use Rattle.ir_core.specs.Names.{Name}
-use Rattle.ir_core.specs.declared.function.Function.{Function}
-use Rattle.ir_core.specs.declared.instruction.Inst.{Inst}
-use Rattle.ir_meaning.proofs.Pieces.{some_at}
-use Rattle.rule_core.specs.Checks.{IsRule}
+use Rattle.rewriter.proofs.Common.{◌≡◌, ℕ, ◌-◌, ◌≤◌, List, [], ◌∷◌, length, length-append, Some, None, Result, Ok, Err, subst, arith, slice_get, OnOk, slice_get_within, HasInst, IsInst, Name, Function, Inst, some_at, IsRule, Copy, Rule, Statement, IsMatch, StatementMatches, Binding, class_width, insts_of_op, insts_with, insts_put, IsBound}
 use Rattle.rule_core.specs.declared.rule.Op.{Op as RuleOp}
-use Rattle.rule_core.specs.declared.rule.Op.TheVariants.{Binary, Compare, Unary, Select, Convert, Freeze, Copy}
-use Rattle.rule_core.specs.declared.rule.Rule.{Rule}
-use Rattle.rule_core.specs.declared.rule.Statement.{Statement}
-use Rattle.bindings.specs.Match.{IsMatch}
-use Rattle.bindings.specs.Statements.{StatementMatches}
-use Rattle.bindings.specs.declared.binding.Binding.{Binding}
+use Rattle.rule_core.specs.declared.rule.Op.TheVariants.{Binary, Compare, Unary, Select, Convert, Freeze}
 use Rattle.bindings.proofs.Fitting.{constants_fit}
-use Rattle.rewriter.specs.Put.{class_width, insts_of_op, insts_with, insts_put}
-use Rattle.rewriter.specs.Ready.{IsBound}
 
 -- an answer with a property has what follows from it
 pub on_ok : {T E P Q : Type 0} (r : Result T E) → (P → Q) → OnOk r P → OnOk r Q

@@ -1,45 +1,14 @@
 -- What registers hold where the function comes to the root, and the numbers that were taken for the target's choices,
 -- are a setting of the rule that fits.
-use Rattle.std.proofs.Common.{◌≡◌, ℕ, suc, ◌<◌, ◌≤◌, ◌^◌, inl, inr, List, length, Some, None, refl, sym, ap, subst, ◌∙◌, arith, get_or}
-use Rattle.std.specs.Prelude.{slice_get}
-use Rattle.std.specs.Option.{unwrap_or, option_map}
-use Rattle.std.proofs.lemmas.Bool.{cases_lt}
-use Rattle.std.proofs.lemmas.List.{length-map}
-use Rattle.std.proofs.lemmas.Option.{same_Some, slice_get-map, slice_get-get_or, slice_get_within}
-use Rattle.ops.specs.Integer.{bits}
-use Rattle.ops.specs.Number.{Number}
-use Rattle.ops.specs.Value.{IsValueOf}
-use Rattle.ops.specs.declared.value.Value.{Value}
+use Rattle.rewriter.proofs.Common.{◌≡◌, ℕ, suc, ◌<◌, ◌≤◌, ◌^◌, inl, inr, List, length, Some, None, refl, sym, ap, subst, ◌∙◌, arith, get_or, slice_get, unwrap_or, option_map, cases_lt, length-map, same_Some, slice_get-map, slice_get-get_or, slice_get_within, bits, Number, IsValueOf, Value, MeetsChecks, OperandHasWidth, Read, IsRead, Registers, Function, HoldWidths, place_in, IsRule, TargetMayRead, operands_of, operands_among, choices_among, LeavesOpen, IsOperandAmong, name, reads, reads_constant, chooses, operand, constant_values, value_at, HasNumber, InputsFit, ConstantsFit, SettingFits, Rule, Statement, Term, Contains-from_get, flat_map-from, source_operand, target_operand, constant_values_fit, NumbersFit, IsOfItsWidth, inst_reads, IsMatch, StandsFor, OperandMatches, StatementMatches, Binding}
 use Rattle.ops.specs.declared.value.Value.TheVariants as values
-use Rattle.ir_core.specs.Checks.{MeetsChecks, OperandHasWidth}
-use Rattle.ir_core.specs.Reads.{Read, IsRead}
-use Rattle.ir_core.specs.Run.{Registers}
-use Rattle.ir_core.specs.declared.function.Function.{Function}
 use Rattle.ir_core.specs.declared.operand.Operand.{Operand}
 use Rattle.ir_core.specs.declared.operand.Operand.TheVariants as operands
-use Rattle.ir_meaning.specs.Laws.{HoldWidths}
-use Rattle.ir_meaning.proofs.Pieces.{place_in}
-use Rattle.rule_core.specs.Checks.{IsRule, TargetMayRead}
-use Rattle.rule_core.specs.Positions.{operands_of, operands_among, choices_among, LeavesOpen, IsOperandAmong, name, reads, reads_constant, chooses, operand}
-use Rattle.rule_core.specs.Terms.{constant_values, value_at, HasNumber}
-use Rattle.rule_core.specs.Valid.{InputsFit, ConstantsFit, SettingFits}
 use Rattle.rule_core.specs.declared.rule.Argument.TheVariants as arguments
 use Rattle.rule_core.specs.declared.rule.Name.TheVariants as rule_names
 use Rattle.rule_core.specs.declared.rule.Node.TheVariants as nodes
 use Rattle.rule_core.specs.declared.rule.Operand.{Operand as RuleOperand}
 use Rattle.rule_core.specs.declared.rule.Register.TheVariants as names
-use Rattle.rule_core.specs.declared.rule.Rule.{Rule}
-use Rattle.rule_core.specs.declared.rule.Statement.{Statement}
-use Rattle.rule_core.specs.declared.rule.Term.{Term}
-use Rattle.rule_core.proofs.Members.{Contains-from_get, flat_map-from, source_operand, target_operand}
-use Rattle.rule_core.proofs.Ready.{constant_values_fit}
-use Rattle.ir_meaning.specs.HistoryLaws.{NumbersFit}
-use Rattle.substitution.specs.Fits.{IsOfItsWidth}
-use Rattle.substitution.proofs.Arriving.{inst_reads}
-use Rattle.bindings.specs.Match.{IsMatch}
-use Rattle.bindings.specs.Operands.{StandsFor, OperandMatches}
-use Rattle.bindings.specs.Statements.{StatementMatches}
-use Rattle.bindings.specs.declared.binding.Binding.{Binding}
 use Rattle.rewriter.proofs.Matched.{read_there, same_is_computed, reads_here}
 use Rattle.rewriter.proofs.Source.{input_value, input_values}
 use Rattle.rewriter.proofs.Target.{TermFits}

@@ -1,47 +1,16 @@
 -- The source of a rule that matches runs on what registers hold where the function comes to the root.
-use Rattle.std.proofs.Common.{◌≡◌, ◌≢◌, ℕ, suc, ◌+◌, ◌-◌, ◌<◌, inl, inr, Bool, List, [], ◌∷◌, ◌++◌, length, map, take, length-take, length-append, Some, refl, sym, ap, subst, ◌∙◌, arith}
-use Rattle.std.specs.Prelude.{slice_get, Contains, if◌then◌else◌}
-use Rattle.std.specs.Option.{unwrap_or, option_map}
-use Rattle.std.proofs.lemmas.Bool.{cases_lt}
-use Rattle.std.proofs.lemmas.Option.{same_Some, slice_get-map}
-use Rattle.ops.specs.Integer.{residue, bits}
-use Rattle.ops.specs.Number.{Number}
-use Rattle.ops.specs.Value.{AllowsValue, AllowsEffect}
-use Rattle.ops.specs.declared.value.Value.{Value}
+use Rattle.rewriter.proofs.Common.{◌≡◌, ◌≢◌, ℕ, suc, ◌+◌, ◌-◌, ◌<◌, inl, inr, Bool, List, [], ◌∷◌, ◌++◌, length, map, take, length-take, length-append, Some, refl, sym, ap, subst, ◌∙◌, arith, slice_get, Contains, if◌then◌else◌, unwrap_or, option_map, cases_lt, same_Some, slice_get-map, residue, bits, Number, AllowsValue, AllowsEffect, Value, Effect, AllowsValue-refl, AllowsEffect-trans, IsInst, Read, reads_of, Registers, AnyNumber, OperandGives, Function, Inst, Register, IsRule, SourceMayRead, MayStandInSource, operands_of, IsOperandAmong, truth, Held, Given, Holds, given_by, at_start, holding_source, TemporariesEnd, Follows, StatementGives, ArgumentGives, IsTyping, Argument, Rule, Statement, Contains-from_get, source_operand, Contains-flat_map, get_taken, EquationHolds, value_of, get_left, get_right, inst_reads, StandsFor, OperandMatches, StatementMatches, TargetNamesTemporary, Binding}
 use Rattle.ops.specs.declared.value.Value.TheVariants as values
-use Rattle.ops.specs.declared.value.Effect.{Effect}
 use Rattle.ops.specs.declared.value.Effect.TheVariants as effects
-use Rattle.ops.proofs.Values.{AllowsValue-refl, AllowsEffect-trans}
-use Rattle.ir_core.specs.Checks.{IsInst}
-use Rattle.ir_core.specs.Reads.{Read, reads_of}
-use Rattle.ir_core.specs.Run.{Registers, AnyNumber, OperandGives}
-use Rattle.ir_core.specs.declared.function.Function.{Function}
-use Rattle.ir_core.specs.declared.instruction.Inst.{Inst}
 use Rattle.ir_core.specs.declared.operand.Operand.{Operand}
 use Rattle.ir_core.specs.declared.operand.Operand.TheVariants as operands
-use Rattle.ir_core.specs.declared.operand.Register.{Register}
 use Rattle.ir_core.specs.declared.operand.Register.TheVariants as registers
-use Rattle.rule_core.specs.Checks.{IsRule, SourceMayRead, MayStandInSource}
-use Rattle.rule_core.specs.Positions.{operands_of, IsOperandAmong, truth}
-use Rattle.rule_core.specs.Run.{Held, Given, Holds, given_by, at_start, holding_source, TemporariesEnd, Follows, StatementGives, OperandGives as RuleOperandGives, ArgumentGives}
-use Rattle.rule_core.specs.Typing.{IsTyping}
-use Rattle.rule_core.specs.declared.rule.Argument.{Argument}
+use Rattle.rule_core.specs.Run.{OperandGives as RuleOperandGives}
 use Rattle.rule_core.specs.declared.rule.Argument.TheVariants as arguments
 use Rattle.rule_core.specs.declared.rule.Op.{Op as RuleOp}
 use Rattle.rule_core.specs.declared.rule.Op.TheVariants as rule_ops
 use Rattle.rule_core.specs.declared.rule.Operand.{Operand as RuleOperand}
 use Rattle.rule_core.specs.declared.rule.Register.TheVariants as names
-use Rattle.rule_core.specs.declared.rule.Rule.{Rule}
-use Rattle.rule_core.specs.declared.rule.Statement.{Statement}
-use Rattle.rule_core.proofs.Members.{Contains-from_get, source_operand, Contains-flat_map}
-use Rattle.rule_core.proofs.Givens.{get_taken}
-use Rattle.ir_meaning.specs.HistoryLaws.{EquationHolds}
-use Rattle.substitution.specs.Substitution.{value_of}
-use Rattle.substitution.proofs.Pieces.{get_left, get_right}
-use Rattle.substitution.proofs.Arriving.{inst_reads}
-use Rattle.bindings.specs.Operands.{StandsFor, OperandMatches}
-use Rattle.bindings.specs.Statements.{StatementMatches, TargetNamesTemporary}
-use Rattle.bindings.specs.declared.binding.Binding.{Binding}
 use Rattle.rewriter.proofs.Computing.{Computation, effect_of, computed, computed_by, IsComputed, IsFreeze, inputs_of, plain_inputs, plain_reads, collected, rule_gives, op_computes, effects_allow, effects_same}
 use Rattle.rewriter.proofs.Matched.{same_is_computed, read_there, inst_allows, inst_same}
 

@@ -1,16 +1,7 @@
 -- The target's statements but the last one, as the code reads them.
-use Rattle.std.proofs.Common.{◌≡◌, ℕ, ◌<◌, List, length, take, drop, Some, refl, sym, ap, ◌∙◌, arith, get_or}
-use Rattle.std.specs.Prelude.{slice_get}
-use Rattle.std.proofs.lemmas.List.{take-append-drop}
-use Rattle.std.proofs.lemmas.Option.{slice_get_read, slice_get_within, get_or_from_slice_get}
+use Rattle.rewriter.proofs.Common.{◌≡◌, ℕ, ◌<◌, List, length, take, drop, Some, refl, sym, ap, ◌∙◌, arith, get_or, slice_get, take-append-drop, slice_get_read, slice_get_within, get_or_from_slice_get, IsRule, Rule, Statement, get_left, Binding, results_put, IsBound}
 use Rattle.ir_core.specs.declared.operand.Operand.{Operand}
-use Rattle.rule_core.specs.Checks.{IsRule}
-use Rattle.rule_core.specs.declared.rule.Rule.{Rule}
-use Rattle.rule_core.specs.declared.rule.Statement.{Statement}
-use Rattle.substitution.proofs.Pieces.{get_left}
-use Rattle.bindings.specs.declared.binding.Binding.{Binding}
-use Rattle.rewriter.specs.Put.{results_put}
-use Rattle.rewriter.specs.Ready.{IsBound, StatementIsReady}
+use Rattle.rewriter.specs.Ready.{StatementIsReady}
 use Rattle.rewriter.proofs.Counting.{results-length}
 use Rattle.rewriter.proofs.Readying.{statement_ready}
 

@@ -1,48 +1,17 @@
 -- The rule's target does what the inserted instructions do, with the numbers that these take for choices.
-use Rattle.std.proofs.Common.{◌≡◌, ℕ, zero, suc, ◌+◌, ◌<◌, ◌≤◌, ◌⊎◌, inl, inr, true, false, List, [], ◌∷◌, ◌++◌, length, length-append, append_assoc, Option, Some, refl, sym, ap, subst, ◌∙◌, arith, get_or}
-use Rattle.std.specs.Prelude.{slice_get, slice_index_or, Contains, if◌then◌else◌}
-use Rattle.std.specs.Option.{option_map, option_map_or}
-use Rattle.std.proofs.lemmas.Bool.{cases_lt}
-use Rattle.std.proofs.lemmas.List.{length-map}
-use Rattle.std.proofs.lemmas.Option.{same_Some, slice_get-get_or, slice_get-map, slice_get_within, get_or_from_slice_get}
-use Rattle.ops.specs.Integer.{residue, bits}
-use Rattle.ops.specs.Number.{Number}
-use Rattle.ops.specs.Value.{IsValueOf}
-use Rattle.ops.specs.declared.value.Value.{Value}
+use Rattle.rewriter.proofs.Common.{◌≡◌, ℕ, zero, suc, ◌+◌, ◌<◌, ◌≤◌, ◌⊎◌, inl, inr, true, false, List, [], ◌∷◌, ◌++◌, length, length-append, append_assoc, Option, Some, refl, sym, ap, subst, ◌∙◌, arith, get_or, slice_get, slice_index_or, Contains, if◌then◌else◌, option_map, option_map_or, cases_lt, length-map, same_Some, slice_get-get_or, slice_get-map, slice_get_within, get_or_from_slice_get, residue, bits, Number, IsValueOf, Value, Effect, Name, Read, read, Registers, AnyNumber, holding, IsChosen, OperandGives, OpGives, Function, Inst, Register, IsRule, TargetMayRead, ReadsNoUndefAlone, Choice, operands_of, choices_of, choices_among, LeavesOpen, IsOperandAmong, IsStatementOf, copy, Held, Given, Ending, Undefines, Holds, given_by, holding_target, Follows, StatementGives, ArgumentGives, constant_values, value_at, number_or_zero, IsTyping, Argument, Rule, Statement, Contains-from_get, Contains-flat_map, flat_map-from, target_statement, class_stands, statement_open, RunsOn, RunsThrough, get_left, get_right, get_cases, held_here, held_elsewhere, NamesTemporary, TargetNamesTemporary, Binding, literal_of, is_copy, argument_put, class_width, operand_put, insts_with, insts_put}
 use Rattle.ops.specs.declared.value.Value.TheVariants as values
-use Rattle.ops.specs.declared.value.Effect.{Effect}
 use Rattle.ops.specs.declared.value.Effect.TheVariants as effects
-use Rattle.ir_core.specs.Names.{Name}
-use Rattle.ir_core.specs.Reads.{Read, read}
-use Rattle.ir_core.specs.Run.{Registers, AnyNumber, holding, IsChosen, OperandGives, OpGives}
-use Rattle.ir_core.specs.declared.function.Function.{Function}
-use Rattle.ir_core.specs.declared.instruction.Inst.{Inst}
 use Rattle.ir_core.specs.declared.operand.Operand.{Operand}
 use Rattle.ir_core.specs.declared.operand.Operand.TheVariants as operands
-use Rattle.ir_core.specs.declared.operand.Register.{Register}
 use Rattle.ir_core.specs.declared.operand.Register.TheVariants as registers
-use Rattle.rule_core.specs.Checks.{IsRule, TargetMayRead, ReadsNoUndefAlone}
-use Rattle.rule_core.specs.declared.rule.Choice.{Choice}
-use Rattle.rule_core.specs.Positions.{operands_of, choices_of, choices_among, LeavesOpen, IsOperandAmong, IsStatementOf, copy}
-use Rattle.rule_core.specs.Run.{Held, Given, Ending, Undefines, Holds, given_by, holding_target, Follows, StatementGives, OperandGives as RuleOperandGives, OpGives as RuleOpGives, ArgumentGives}
-use Rattle.rule_core.specs.Terms.{constant_values, value_at, number_or_zero}
-use Rattle.rule_core.specs.Typing.{IsTyping}
-use Rattle.rule_core.specs.declared.rule.Argument.{Argument}
+use Rattle.rule_core.specs.Run.{OperandGives as RuleOperandGives, OpGives as RuleOpGives}
 use Rattle.rule_core.specs.declared.rule.Argument.TheVariants as arguments
 use Rattle.rule_core.specs.declared.rule.Op.{Op as RuleOp}
 use Rattle.rule_core.specs.declared.rule.Op.TheVariants as rule_ops
 use Rattle.rule_core.specs.declared.rule.Operand.{Operand as RuleOperand}
 use Rattle.rule_core.specs.declared.rule.Register.TheVariants as names
-use Rattle.rule_core.specs.declared.rule.Rule.{Rule}
-use Rattle.rule_core.specs.declared.rule.Statement.{Statement}
-use Rattle.rule_core.proofs.Members.{Contains-from_get, Contains-flat_map, flat_map-from, target_statement, class_stands, statement_open}
 use Rattle.rule_core.proofs.Ready.{class_width as width_of_class}
-use Rattle.substitution.specs.Rewritten.{RunsOn, RunsThrough}
-use Rattle.substitution.proofs.Pieces.{get_left, get_right, get_cases}
-use Rattle.ir_meaning.proofs.Steps.{held_here, held_elsewhere}
-use Rattle.bindings.specs.Statements.{NamesTemporary, TargetNamesTemporary}
-use Rattle.bindings.specs.declared.binding.Binding.{Binding}
-use Rattle.rewriter.specs.Put.{literal_of, is_copy, argument_put, class_width, operand_put, insts_with, insts_put}
 use Rattle.rewriter.proofs.Computing.{Computation, effect_of, computed, IsComputed, number_of, choice_operand, inputs_of, taken_by, collected, rule_gives, op_computes, effects_same, no_values}
 use Rattle.rewriter.proofs.Source.{IsDefined}
 use Rattle.rewriter.proofs.Picks.{places, open_in, undefs_of, picked, picked_length, picked_at, picked_from, PickedFrom, InOrder, in_order_left, in_order_right, statement_open_in, undefs_apart, input_open, zero_for, zeros, zero_from, zero_fits}

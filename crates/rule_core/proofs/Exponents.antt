@@ -1,15 +1,5 @@
 -- The exponent of a power of two, found from below.
-use Rattle.std.proofs.Common.{◌≡◌, ◌≢◌, ℕ, zero, suc, ◌<◌, ◌≤◌, ◌*◌, ◌^◌, ◌%◌, Bool, true, false, List, length, Option, Some, None, inl, inr, refl, ap, sym, subst, ◌∙◌, arith, get_or, zero-add, eq-eqb}
-use Rattle.std.specs.Prelude.{◌==◌, ◌↔◌, slice_get}
-use Rattle.std.specs.List.{range_with_len, position_or_len}
-use Rattle.std.proofs.lemmas.Bool.{eqb-true, ne_eqb, cases_lt}
-use Rattle.std.proofs.Math.Nat.{mod-eq_of_lt, eq-or-lt_of_le}
-use Rattle.std.proofs.Math.Pow.{pow-lt}
-use Rattle.std.proofs.lemmas.List.Folds.{find_at}
-use Rattle.std.proofs.lemmas.List.Sums.{position_or_len_is, passes_at_first}
-use Rattle.std.proofs.lemmas.List.FromFn.{length-range_with_len, get_or-range_with_len}
-use Rattle.std.proofs.lemmas.Option.{slice_get-get_or, slice_get_past, slice_get_within, get_or_from_slice_get}
-use Rattle.rule_core.specs.Terms.{exponent}
+use Rattle.rule_core.proofs.Common.{◌≡◌, ◌≢◌, ℕ, zero, suc, ◌<◌, ◌≤◌, ◌*◌, ◌^◌, ◌%◌, Bool, true, false, List, length, Option, Some, None, inl, inr, refl, ap, sym, subst, ◌∙◌, arith, get_or, zero-add, eq-eqb, ◌==◌, ◌↔◌, slice_get, range_with_len, position_or_len, eqb-true, ne_eqb, cases_lt, mod-eq_of_lt, eq-or-lt_of_le, pow-lt, find_at, position_or_len_is, passes_at_first, length-range_with_len, get_or-range_with_len, slice_get-get_or, slice_get_past, slice_get_within, get_or_from_slice_get, exponent}
 
 is_power : ℕ → ℕ → Bool
 is_power a k = 2 ^ k == a

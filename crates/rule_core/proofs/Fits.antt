@@ -1,29 +1,7 @@
 -- What nodes of terms give are values of their widths.
-use Rattle.std.proofs.Common.{◌≡◌, ℕ, ℤ, pos, negsuc, zero, suc, ◌⊎◌, inl, inr, ◌-◌, ◌<◌, ◌≤◌, ◌^◌, true, false, List, [], ◌∷◌, ◌++◌, length, take, length-take, None, Some, refl, sym, ap, subst, ◌∙◌, arith, get_or, add-one}
-use Rattle.std.specs.Prelude.{slice_get, slice_index, nat_lt, if◌then◌else◌}
-use Rattle.std.specs.Option.{option_map_or}
-use Rattle.std.proofs.Math.Nat.{mod-lt}
-use Rattle.std.proofs.lemmas.Nat.{pow_pos}
-use Rattle.std.proofs.lemmas.Bool.Decides.{nat_tests}
-use Rattle.std.proofs.lemmas.List.{take_all}
-use Rattle.std.proofs.lemmas.Option.{slice_get-get_or, get_or_from_slice_get, same_Some}
-use Rattle.ops.specs.Flags.{no_flags}
-use Rattle.ops.specs.Value.{IsValueOf, IsEffectOf}
-use Rattle.ops.specs.Instruction.{instruction}
-use Rattle.ops.specs.Integer.{residue, bits, minus_one, least}
-use Rattle.ops.specs.declared.opcode.Opcode.TheVariants.{Sub, Xor}
-use Rattle.ops.specs.declared.value.Value.{Value}
-use Rattle.ops.specs.declared.value.Value.TheVariants.{Poison, Bits}
-use Rattle.ops.specs.declared.value.Effect.{Effect}
+use Rattle.rule_core.proofs.Common.{◌≡◌, ℕ, ℤ, pos, negsuc, zero, suc, ◌⊎◌, inl, inr, ◌-◌, ◌<◌, ◌≤◌, ◌^◌, true, false, List, [], ◌∷◌, ◌++◌, length, take, length-take, None, Some, refl, sym, ap, subst, ◌∙◌, arith, get_or, add-one, slice_get, slice_index, nat_lt, if◌then◌else◌, option_map_or, mod-lt, pow_pos, nat_tests, take_all, slice_get-get_or, get_or_from_slice_get, same_Some, no_flags, IsValueOf, IsEffectOf, instruction, residue, bits, minus_one, least, Sub, Xor, Value, Poison, Bits, Effect, IsEffectOf-instruction, Term, Node, Function, Negate, Not, Log2, Abs, Meanings, number_or_zero, number_at, value_at, value_given, within, exponent, function_at, function_value, node_gives, term_value, values_of, TermsFit}
 use Rattle.ops.specs.declared.value.Effect.TheVariants as effects
-use Rattle.ops.proofs.Widths.{IsEffectOf-instruction}
-use Rattle.rule_core.specs.declared.rule.Term.{Term}
-use Rattle.rule_core.specs.declared.rule.Node.{Node}
 use Rattle.rule_core.specs.declared.rule.Node.TheVariants as nodes
-use Rattle.rule_core.specs.declared.rule.Function.{Function}
-use Rattle.rule_core.specs.declared.rule.Function.TheVariants.{Negate, Not, Log2, Abs}
-use Rattle.rule_core.specs.Terms.{Meanings, number_or_zero, number_at, value_at, value_given, within, exponent, function_at, function_value, node_gives, term_value, values_of}
-use Rattle.rule_core.specs.Readiness.{TermsFit}
 use Rattle.rule_core.proofs.Exponents.{exponent_fits}
 use Rattle.rule_core.proofs.Turns.{in_turn-length, in_turn-step}
 

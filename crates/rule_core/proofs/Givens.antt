@@ -1,25 +1,6 @@
 -- What statements read beside registers is there, of its width: numbers of constants and of a half's choices, and
 -- terms.
-use Rattle.std.proofs.Common.{◌≡◌, ℕ, suc, ◌-◌, ◌<◌, List, [], length, take, length-take, Some, sym, ap, subst, ◌∙◌, arith, get_or}
-use Rattle.std.specs.Prelude.{slice_get, Contains, map}
-use Rattle.std.specs.List.{range_with_len}
-use Rattle.std.proofs.lemmas.List.{get_or-take}
-use Rattle.std.proofs.lemmas.List.FromFn.{length-range_with_len, get_or-range_with_len}
-use Rattle.std.proofs.lemmas.Option.{slice_get-get_or, slice_get_within, get_or_from_slice_get}
-use Rattle.ops.specs.Number.{Number}
-use Rattle.ops.specs.Value.{IsValueOf}
-use Rattle.ops.specs.declared.value.Value.{Value}
-use Rattle.ops.specs.declared.value.Value.TheVariants.{Bits}
-use Rattle.rule_core.specs.declared.rule.Rule.{Rule}
-use Rattle.rule_core.specs.declared.rule.Statement.{Statement}
-use Rattle.rule_core.specs.declared.rule.Choice.{Choice}
-use Rattle.rule_core.specs.Positions.{choices_of, choices_among, LeavesOpen, chooses}
-use Rattle.rule_core.specs.Typing.{IsTyping}
-use Rattle.rule_core.specs.Checks.{IsRule, ChoicesInOrder, SourceMayRead, MayStandInSource}
-use Rattle.rule_core.specs.Run.{given_by}
-use Rattle.rule_core.specs.Valid.{ConstantsFit, SourceChoicesFit, TargetChoicesFit}
-use Rattle.rule_core.specs.Terms.{constant_values}
-use Rattle.rule_core.specs.Readiness.{GivenFits}
+use Rattle.rule_core.proofs.Common.{◌≡◌, ℕ, suc, ◌-◌, ◌<◌, List, [], length, take, length-take, Some, sym, ap, subst, ◌∙◌, arith, get_or, slice_get, Contains, map, range_with_len, get_or-take, length-range_with_len, get_or-range_with_len, slice_get-get_or, slice_get_within, get_or_from_slice_get, Number, IsValueOf, Value, Bits, Rule, Statement, Choice, choices_of, choices_among, LeavesOpen, chooses, IsTyping, IsRule, ChoicesInOrder, SourceMayRead, MayStandInSource, given_by, ConstantsFit, SourceChoicesFit, TargetChoicesFit, constant_values, GivenFits}
 use Rattle.rule_core.proofs.Members.{Contains-from_get, Contains-map, flat_map-from, statement_open, choice_opens, reads_undef, freezes}
 use Rattle.rule_core.proofs.Ready.{constant_values_fit}
 

@@ -1,3 +1,4 @@
+pub mod Common
 pub mod Exponents
 pub mod Fits
 pub mod Givens

@@ -1,22 +1,7 @@
 -- What stands in a rule: its statements, their operands, and the classes of both.
-use Rattle.std.proofs.Common.{◌≡◌, ℕ, zero, suc, ◌+◌, ◌<◌, List, [], ◌∷◌, ◌++◌, inl, inr, length, take, length-append, append_assoc, add_assoc, zero-add, suc-add, Some, refl, sym, ap, ◌∙◌, arith, get_or}
-use Rattle.std.specs.Prelude.{slice_get, Contains, map, flat_map}
-use Rattle.std.proofs.lemmas.Option.{slice_get_within, get_or_from_slice_get}
-use Rattle.std.proofs.lemmas.Grind.{flat_map-append}
-use Rattle.std.proofs.lemmas.List.Elements.{Contains-append_left, Contains-append_right, Contains-append_cases}
-use Rattle.rule_core.specs.declared.rule.Rule.{Rule}
-use Rattle.rule_core.specs.declared.rule.Statement.{Statement}
-use Rattle.rule_core.specs.declared.rule.Op.{Op}
-use Rattle.rule_core.specs.declared.rule.Op.TheVariants.{Freeze}
-use Rattle.rule_core.specs.declared.rule.Operand.{Operand}
-use Rattle.rule_core.specs.declared.rule.Argument.{Argument}
+use Rattle.rule_core.proofs.Common.{◌≡◌, ℕ, zero, suc, ◌+◌, ◌<◌, List, [], ◌∷◌, ◌++◌, inl, inr, length, take, length-append, append_assoc, add_assoc, zero-add, suc-add, Some, refl, sym, ap, ◌∙◌, arith, get_or, slice_get, Contains, map, flat_map, slice_get_within, get_or_from_slice_get, flat_map-append, Contains-append_left, Contains-append_right, Contains-append_cases, Rule, Statement, Op, Freeze, Operand, Argument, Term, Node, Register, Choice, operands_of, operands_among, operands_in, IsOperandAmong, undef_in, frozen_in, choices_of, choices_among, LeavesOpen, classes_of_statement, classes_of_term, classes_of, terms_in, IsStatementOf, IsTermOf}
 use Rattle.rule_core.specs.declared.rule.Argument.TheVariants as arguments
-use Rattle.rule_core.specs.declared.rule.Term.{Term}
-use Rattle.rule_core.specs.declared.rule.Node.{Node}
 use Rattle.rule_core.specs.declared.rule.Node.TheVariants as nodes
-use Rattle.rule_core.specs.declared.rule.Register.{Register}
-use Rattle.rule_core.specs.declared.rule.Choice.{Choice}
-use Rattle.rule_core.specs.Positions.{operands_of, operands_among, operands_in, IsOperandAmong, undef_in, frozen_in, choices_of, choices_among, LeavesOpen, classes_of_statement, classes_of_term, classes_of, terms_in, IsStatementOf, IsTermOf}
 
 -- what is at a place of a list is an element of it
 pub Contains-from_get : {X : Type 0} (xs : List X) (k : ℕ) (x : X) → slice_get xs k ≡ Some x → Contains xs x

@@ -1,18 +1,7 @@
 -- A run is a function: each operand, operation and list of statements comes to one end.
-use Rattle.std.proofs.Common.{◌≡◌, ℕ, List, [], ◌∷◌, sym, ◌∙◌}
-use Rattle.std.proofs.lemmas.Option.{same_Some}
-use Rattle.ops.specs.Number.{Number}
-use Rattle.ops.specs.declared.value.Value.{Value}
-use Rattle.ops.specs.declared.value.Effect.{Effect}
+use Rattle.rule_core.proofs.Common.{◌≡◌, ℕ, List, [], ◌∷◌, sym, ◌∙◌, same_Some, Number, Value, Effect, Rule, Statement, Op, Binary, Compare, Unary, Select, Convert, Freeze, Copy, Operand, Argument, Held, Ending, Undefines, Holds, GoesOn, Leads, GivesLast, Given, given_by, at_start, temporaries_of, holding_source, holding_target, ArgumentGives, OperandGives, OpGives, StatementGives, Follows, SourceGives, TargetGoesOn, TargetGives}
 use Rattle.ops.specs.declared.value.Effect.TheVariants as effects
-use Rattle.rule_core.specs.declared.rule.Rule.{Rule}
-use Rattle.rule_core.specs.declared.rule.Statement.{Statement}
-use Rattle.rule_core.specs.declared.rule.Op.{Op}
-use Rattle.rule_core.specs.declared.rule.Op.TheVariants.{Binary, Compare, Unary, Select, Convert, Freeze, Copy}
-use Rattle.rule_core.specs.declared.rule.Operand.{Operand}
-use Rattle.rule_core.specs.declared.rule.Argument.{Argument}
 use Rattle.rule_core.specs.declared.rule.Argument.TheVariants as arguments
-use Rattle.rule_core.specs.Run.{Held, Ending, Undefines, Holds, GoesOn, Leads, GivesLast, Given, given_by, at_start, temporaries_of, holding_source, holding_target, ArgumentGives, OperandGives, OpGives, StatementGives, Follows, SourceGives, TargetGoesOn, TargetGives}
 
 module _ (typing : List ℕ) (given : Given) where
   argument_once : (held : Held) (N : ℕ) (x : Argument) (v w : Value) → ArgumentGives typing given held N x v → ArgumentGives typing given held N x w → v ≡ w

@@ -1,33 +1,9 @@
 -- At each setting that fits, a rule's halves have one effect each.
-use Rattle.std.proofs.Common.{◌≡◌, ℕ, suc, ◌+◌, ◌-◌, ◌<◌, ◌≤◌, true, false, ◌⊎◌, inl, inr, List, [], ◌∷◌, length, take, length-take, length-append, add-zero, add-suc, suc-add, zero-add, Some, refl, sym, ap, subst, ◌∙◌, arith, get_or}
-use Rattle.std.specs.Prelude.{slice_get, map}
-use Rattle.std.proofs.lemmas.List.{take_all}
-use Rattle.std.proofs.lemmas.Option.{slice_get-get_or, get_or_from_slice_get, same_Some}
-use Rattle.ops.specs.Number.{Number}
-use Rattle.ops.specs.Value.{IsValueOf, IsEffectOf}
-use Rattle.ops.proofs.Widths.{IsEffectOf-instruction, IsValueOf-comparison, IsValueOf-conversion, IsValueOf-selection, IsValueOf-unary}
-use Rattle.ops.specs.Instruction.{instruction}
-use Rattle.ops.specs.Comparison.{comparison, selection}
-use Rattle.ops.specs.Conversion.{conversion}
+use Rattle.rule_core.proofs.Common.{◌≡◌, ℕ, suc, ◌+◌, ◌-◌, ◌<◌, ◌≤◌, true, false, ◌⊎◌, inl, inr, List, [], ◌∷◌, length, take, length-take, length-append, add-zero, add-suc, suc-add, zero-add, Some, refl, sym, ap, subst, ◌∙◌, arith, get_or, slice_get, map, take_all, slice_get-get_or, get_or_from_slice_get, same_Some, Number, IsValueOf, IsEffectOf, IsEffectOf-instruction, IsValueOf-comparison, IsValueOf-conversion, IsValueOf-selection, IsValueOf-unary, instruction, selection, conversion, residue, bits, Value, Poison, Bits, Effect, Rule, Statement, Op, Binary, Compare, Unary, Select, Convert, Freeze, Copy, Argument, IsTyping, IsRule, Held, Given, given_by, frozen, TemporariesEnd, Ending, Undefines, Holds, GivesLast, at_start, temporaries_of, holding_source, holding_target, ArgumentGives, OpGives, StatementGives, Follows, SourceGives, TargetGoesOn, TargetGives, number_or_zero, value_at, InputsFit, ConstantsFit, SourceChoicesFit, TargetChoicesFit, Setting, SettingFits, witness_number, HaveEffects, RulesHaveOneOutcome, GivenFits, ArgumentIsReady, OpIsReady, StatementIsReady, HeldFits}
+use Rattle.ops.specs.Comparison.{comparison}
 use Rattle.ops.specs.Unary.{unary}
-use Rattle.ops.specs.Integer.{residue, bits}
-use Rattle.ops.specs.declared.value.Value.{Value}
-use Rattle.ops.specs.declared.value.Value.TheVariants.{Poison, Bits}
-use Rattle.ops.specs.declared.value.Effect.{Effect}
 use Rattle.ops.specs.declared.value.Effect.TheVariants as effects
-use Rattle.rule_core.specs.declared.rule.Rule.{Rule}
-use Rattle.rule_core.specs.declared.rule.Statement.{Statement}
-use Rattle.rule_core.specs.declared.rule.Op.{Op}
-use Rattle.rule_core.specs.declared.rule.Op.TheVariants.{Binary, Compare, Unary, Select, Convert, Freeze, Copy}
-use Rattle.rule_core.specs.declared.rule.Argument.{Argument}
 use Rattle.rule_core.specs.declared.rule.Argument.TheVariants as arguments
-use Rattle.rule_core.specs.Typing.{IsTyping}
-use Rattle.rule_core.specs.Checks.{IsRule}
-use Rattle.rule_core.specs.Run.{Held, Given, given_by, frozen, TemporariesEnd, Ending, Undefines, Holds, GivesLast, at_start, temporaries_of, holding_source, holding_target, ArgumentGives, OpGives, StatementGives, Follows, SourceGives, TargetGoesOn, TargetGives}
-use Rattle.rule_core.specs.Terms.{number_or_zero, value_at}
-use Rattle.rule_core.specs.Valid.{InputsFit, ConstantsFit, SourceChoicesFit, TargetChoicesFit, Setting, SettingFits, witness_number, HaveEffects}
-use Rattle.rule_core.specs.Laws.{RulesHaveOneOutcome}
-use Rattle.rule_core.specs.Readiness.{GivenFits, ArgumentIsReady, OpIsReady, StatementIsReady, HeldFits}
 use Rattle.rule_core.proofs.Members.{Contains-from_get}
 use Rattle.rule_core.proofs.Fits.{residue_lt, number_or_zero_fits}
 use Rattle.rule_core.proofs.Givens.{get_taken, source_given, given_before_root, target_given}

@@ -1,35 +1,10 @@
 -- Each statement of a rule, and each node of its terms, can be evaluated once those before it have been.
-use Rattle.std.proofs.Common.{◌≡◌, ℕ, pos, ◌+◌, ◌<◌, List, [], ◌∷◌, ◌++◌, length, take, Option, Some, Bool, subst, refl, sym, ◌∙◌, arith, get_or}
-use Rattle.std.specs.Prelude.{slice_get, Contains}
-use Rattle.std.proofs.lemmas.List.{take_all}
-use Rattle.std.proofs.lemmas.Option.{slice_get-get_or, slice_get_within, get_or_from_slice_get, same_Some}
-use Rattle.ops.specs.Number.{Number}
-use Rattle.ops.specs.Value.{IsValueOf}
-use Rattle.ops.specs.Conversion.{CastFits}
-use Rattle.ops.specs.declared.opcode.Flags.{Flags}
-use Rattle.ops.specs.declared.conversion.Cast.{Cast}
-use Rattle.ops.specs.declared.conversion.Cast.TheVariants.{Trunc, ZExt, SExt}
-use Rattle.ops.specs.declared.value.Value.{Value}
-use Rattle.ops.specs.declared.value.Value.TheVariants.{Poison, Bits}
-use Rattle.rule_core.specs.declared.rule.Rule.{Rule}
-use Rattle.rule_core.specs.declared.rule.Statement.{Statement}
-use Rattle.rule_core.specs.declared.rule.Op.{Op}
-use Rattle.rule_core.specs.declared.rule.Op.TheVariants.{Binary, Compare, Unary, Select, Convert, Freeze, Copy}
-use Rattle.rule_core.specs.declared.rule.Operand.{Operand}
-use Rattle.rule_core.specs.declared.rule.Argument.{Argument}
+use Rattle.rule_core.proofs.Common.{◌≡◌, ℕ, pos, ◌+◌, ◌<◌, List, [], ◌∷◌, ◌++◌, length, take, Option, Some, Bool, subst, refl, sym, ◌∙◌, arith, get_or, slice_get, Contains, take_all, slice_get-get_or, slice_get_within, get_or_from_slice_get, same_Some, Number, IsValueOf, CastFits, Flags, Cast, Trunc, ZExt, SExt, Value, Poison, Bits, Rule, Statement, Op, Binary, Compare, Unary, Select, Convert, Freeze, Copy, Operand, Argument, Term, Node, operands_of, operands_in, classes_of, choices_of, IsStatementOf, IsOperandAmong, Names, reads, reads_constant, source_assigns, target_assigns, term_constant, binary_left, binary_right, compared, one_operand, select_true, select_false, freeze, copy, name, term, operand, left, right, condition, truth, truncated, zero_extended, sign_extended, IsTyping, IsRule, SourceMayRead, TargetMayRead, MayBeTerm, FlagsFitOp, Held, Given, InputsFit, ConstantsFit, of_constants, values_of, constant_values, ChoiceIsReady, ArgumentIsReady, OpIsReady, StatementIsReady, ValuesFit, HeldFits, TermsFit, GivenFits, NodeIsReady, TermIsReady}
 use Rattle.rule_core.specs.declared.rule.Argument.TheVariants as arguments
 use Rattle.rule_core.specs.declared.rule.Register.TheVariants as registers
 use Rattle.rule_core.specs.declared.rule.Name.TheVariants as names
-use Rattle.rule_core.specs.declared.rule.Term.{Term}
-use Rattle.rule_core.specs.declared.rule.Node.{Node}
 use Rattle.rule_core.specs.declared.rule.Node.TheVariants as nodes
-use Rattle.rule_core.specs.Positions.{operands_of, operands_in, classes_of, choices_of, IsStatementOf, IsOperandAmong, Names, reads, reads_constant, source_assigns, target_assigns, term_constant, binary_left, binary_right, compared, one_operand, select_true, select_false, freeze, copy, name, term, operand, unary, left, right, comparison, condition, truth, truncated, zero_extended, sign_extended}
-use Rattle.rule_core.specs.Typing.{IsTyping}
-use Rattle.rule_core.specs.Checks.{IsRule, SourceMayRead, TargetMayRead, MayBeTerm, FlagsFitOp}
-use Rattle.rule_core.specs.Run.{Held, Given}
-use Rattle.rule_core.specs.Valid.{InputsFit, ConstantsFit}
-use Rattle.rule_core.specs.Terms.{of_constants, values_of, constant_values}
-use Rattle.rule_core.specs.Readiness.{ChoiceIsReady, ArgumentIsReady, OpIsReady, StatementIsReady, ValuesFit, HeldFits, TermsFit, GivenFits, NodeIsReady, TermIsReady}
+use Rattle.rule_core.specs.Positions.{unary, comparison}
 use Rattle.rule_core.proofs.Members.{Contains-from_get, Contains-flat_map, source_statement, target_statement, operand_stands, class_stands, operand_class_stands, term_class_stands, measured_class_stands, constant_term, freeze_chosen, statement_open, operand_open}
 use Rattle.rule_core.proofs.Fits.{NodeFits, Fit-none, Fit-push, first_fit, first_length, all_fit}
 

@@ -1,15 +1,6 @@
 -- What `run_source` and `run_target` return, from how far their statements ran.
-use Rattle.std.proofs.Common.{◌≡◌, ℕ, ◌-◌, ◌<◌, List, [], length, Option, None, Some, refl, sym, ◌∙◌, ap, arith, get_or}
-use Rattle.std.proofs.lemmas.List.{take_all}
-use Rattle.std.proofs.lemmas.Option.{slice_get_read}
-use Rattle.ops.specs.Number.{Number}
-use Rattle.ops.specs.declared.value.Value.{Value}
-use Rattle.ops.specs.declared.value.Effect.{Effect}
+use Rattle.rule_core.proofs.Common.{◌≡◌, ℕ, ◌-◌, ◌<◌, List, [], length, Option, None, Some, refl, sym, ◌∙◌, ap, arith, get_or, take_all, slice_get_read, Number, Value, Effect, Rule, constant_values, Undefines, Holds, GivesLast, given_by, SourceGives, TargetGives, TargetGoesOn, SourceRan, TargetRan}
 use Rattle.ops.specs.declared.value.Effect.TheVariants as effects
-use Rattle.rule_core.specs.declared.rule.Rule.{Rule}
-use Rattle.rule_core.specs.Terms.{constant_values}
-use Rattle.rule_core.specs.Run.{Undefines, Holds, GivesLast, given_by, SourceGives, TargetGives, TargetGoesOn}
-use Rattle.rule_core.specs.Readiness.{SourceRan, TargetRan}
 
 -- the values of the terms, for parts that are equal to these
 pub terms_are : (rule : Rule) (typing classes : List ℕ) (constants numbers : List Number) (items terms : List Value)

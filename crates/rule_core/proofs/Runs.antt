@@ -1,13 +1,5 @@
 -- Runs of statements, one by one.
-use Rattle.std.proofs.Common.{◌≡◌, ℕ, suc, ◌+◌, ◌<◌, ◌≤◌, List, ◌∷◌, length, drop, take, Some, sym, ap, ◌∙◌, arith, get_or, drop-cons, add-one}
-use Rattle.std.specs.Prelude.{slice_get}
-use Rattle.std.proofs.Common.{length-take}
-use Rattle.std.proofs.lemmas.List.{get_or-take}
-use Rattle.std.proofs.lemmas.Option.{get_or_from_slice_get}
-use Rattle.ops.specs.declared.value.Value.{Value}
-use Rattle.ops.specs.declared.value.Effect.{Effect}
-use Rattle.rule_core.specs.declared.rule.Statement.{Statement}
-use Rattle.rule_core.specs.Run.{Held, Given, Ending, GoesOn, StatementGives, Follows}
+use Rattle.rule_core.proofs.Common.{◌≡◌, ℕ, suc, ◌+◌, ◌<◌, ◌≤◌, List, ◌∷◌, length, drop, take, Some, sym, ap, ◌∙◌, arith, get_or, drop-cons, add-one, slice_get, length-take, get_or-take, get_or_from_slice_get, Value, Effect, Statement, Held, Given, Ending, GoesOn, StatementGives, Follows}
 
 -- a run from statement i on: the statement has its effect, and the run from the next one follows
 pub Follows-step : (typing : List ℕ) (given : Given) (holding : Held → Value → Held) (statements : List Statement) (i : ℕ) (s : Statement) (held : Held) (e : Effect) (end : Ending)

@@ -1,10 +1,5 @@
 -- Evaluations in order (`in_turn`): each element gives one result, from those before it.
-use Rattle.std.proofs.Common.{◌≡◌, ℕ, zero, suc, ◌+◌, ◌<◌, ◌≤◌, List, [], ◌∷◌, ◌++◌, length, take, drop, length-append, length-take, add-zero, zero-add, add-one, Some, refl, sym, ap, ◌∙◌, arith, get_or}
-use Rattle.std.specs.Prelude.{slice_get}
-use Rattle.std.proofs.Math.Seq.{take-suc}
-use Rattle.std.proofs.lemmas.List.{take-append-drop}
-use Rattle.std.proofs.lemmas.Option.{same_Some, slice_get-get_or, slice_get_within, get_or_from_slice_get}
-use Rattle.rule_core.specs.Terms.{in_turn}
+use Rattle.rule_core.proofs.Common.{◌≡◌, ℕ, zero, suc, ◌+◌, ◌<◌, ◌≤◌, List, [], ◌∷◌, ◌++◌, length, take, drop, length-append, length-take, add-zero, zero-add, add-one, Some, refl, sym, ap, ◌∙◌, arith, get_or, slice_get, take-suc, take-append-drop, same_Some, slice_get-get_or, slice_get_within, get_or_from_slice_get, in_turn}
 use Rattle.rule_core.proofs.Members.{get-append_left, get-append_right}
 
 module _ {X Y : Type 0} (gives : List Y → X → Y) where

@@ -1,22 +1,7 @@
 -- Statements without choices run the same whatever numbers the choices have.
-use Rattle.std.proofs.Common.{◌≡◌, ℕ, suc, ◌-◌, ◌<◌, List, [], ◌∷◌, ◌++◌, length, drop, Some, refl, arith}
-use Rattle.std.specs.Prelude.{slice_get, Contains}
-use Rattle.std.proofs.lemmas.List.{take-append-drop}
-use Rattle.ops.specs.Number.{Number}
-use Rattle.ops.specs.declared.value.Value.{Value}
-use Rattle.ops.specs.declared.value.Effect.{Effect}
+use Rattle.rule_core.proofs.Common.{◌≡◌, ℕ, suc, ◌-◌, ◌<◌, List, [], ◌∷◌, ◌++◌, length, drop, Some, refl, arith, slice_get, Contains, take-append-drop, Number, Value, Effect, Rule, Statement, Op, Binary, Compare, Unary, Select, Convert, Freeze, Copy, Operand, Argument, Choice, operands_of, choices_of, IsRule, Held, Ending, Undefines, GoesOn, Given, given_by, at_start, temporaries_of, holding_source, ArgumentGives, OperandGives, OpGives, Follows, TemporariesEnd, SourceGives}
 use Rattle.ops.specs.declared.value.Effect.TheVariants as effects
-use Rattle.rule_core.specs.declared.rule.Rule.{Rule}
-use Rattle.rule_core.specs.declared.rule.Statement.{Statement}
-use Rattle.rule_core.specs.declared.rule.Op.{Op}
-use Rattle.rule_core.specs.declared.rule.Op.TheVariants.{Binary, Compare, Unary, Select, Convert, Freeze, Copy}
-use Rattle.rule_core.specs.declared.rule.Operand.{Operand}
-use Rattle.rule_core.specs.declared.rule.Argument.{Argument}
 use Rattle.rule_core.specs.declared.rule.Argument.TheVariants as arguments
-use Rattle.rule_core.specs.declared.rule.Choice.{Choice}
-use Rattle.rule_core.specs.Positions.{operands_of, choices_of}
-use Rattle.rule_core.specs.Checks.{IsRule}
-use Rattle.rule_core.specs.Run.{Held, Ending, Undefines, GoesOn, Given, given_by, at_start, temporaries_of, holding_source, ArgumentGives, OperandGives, OpGives, Follows, TemporariesEnd, SourceGives}
 use Rattle.rule_core.proofs.Members.{Contains-from_get, undef_chosen, freeze_chosen}
 use Rattle.rule_core.proofs.Givens.{get_taken, opens_root}
 use Rattle.rule_core.proofs.Once.{follows_once}

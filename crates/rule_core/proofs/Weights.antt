@@ -1,14 +1,7 @@
 -- How many nodes a rule has at most, from its count of operands, names, literals, operators and functions.
-use Rattle.std.proofs.Common.{ℕ, ◌+◌, ◌≤◌, List, [], ◌∷◌, length, length-append, arith}
-use Rattle.std.specs.Prelude.{sum_by}
-use Rattle.std.proofs.lemmas.List.Sums.{sum_by-cons}
-use Rattle.rule_core.specs.declared.rule.Rule.{Rule}
-use Rattle.rule_core.specs.declared.rule.Node.{Node}
+use Rattle.rule_core.proofs.Common.{ℕ, ◌+◌, ◌≤◌, List, [], ◌∷◌, length, length-append, arith, sum_by, sum_by-cons, Rule, Node, Formula, terms_in, IsRule, node_weight, term_weight, formula_weight}
 use Rattle.rule_core.specs.declared.rule.Node.TheVariants as nodes
-use Rattle.rule_core.specs.declared.rule.Formula.{Formula}
 use Rattle.rule_core.specs.declared.rule.Formula.TheVariants as formulas
-use Rattle.rule_core.specs.Positions.{terms_in}
-use Rattle.rule_core.specs.Checks.{IsRule, node_weight, term_weight, formula_weight}
 
 counted : {X : Type 0} (f : X → ℕ) (xs : List X) → ((x : X) → 1 ≤ f x) → length xs ≤ sum_by f xs
 counted f [] some = omega arith

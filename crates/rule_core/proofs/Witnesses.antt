@@ -1,31 +1,10 @@
 -- The numbers that `Wit:` gives fit the source's choices.
-use Rattle.std.proofs.Common.{◌≡◌, ℕ, pos, zero, suc, ◌<◌, ◌^◌, List, [], ◌∷◌, length, None, Some, refl, sym, ap, ◌∙◌, arith, get_or}
-use Rattle.std.specs.Prelude.{slice_get, slice_index, Contains, map}
-use Rattle.std.specs.Option.{unwrap_or, option_map_or}
-use Rattle.std.proofs.lemmas.List.{length-map}
-use Rattle.std.proofs.lemmas.Nat.{pow_pos}
-use Rattle.std.proofs.lemmas.Option.{slice_get-get_or, slice_get_within, get_or_from_slice_get, same_Some}
-use Rattle.ops.specs.Number.{Number}
-use Rattle.ops.specs.Value.{IsValueOf}
-use Rattle.ops.specs.declared.value.Value.{Value}
-use Rattle.ops.specs.declared.value.Value.TheVariants.{Poison, Bits}
-use Rattle.rule_core.specs.declared.rule.Rule.{Rule}
-use Rattle.rule_core.specs.declared.rule.Statement.{Statement}
-use Rattle.rule_core.specs.declared.rule.Op.TheVariants.{Copy}
+use Rattle.rule_core.proofs.Common.{◌≡◌, ℕ, pos, zero, suc, ◌<◌, ◌^◌, List, [], ◌∷◌, length, None, Some, refl, sym, ap, ◌∙◌, arith, get_or, slice_get, slice_index, Contains, map, unwrap_or, option_map_or, length-map, pow_pos, slice_get-get_or, slice_get_within, get_or_from_slice_get, same_Some, Number, IsValueOf, Value, Poison, Bits, Rule, Statement, Copy, Register, Term, Node, IsTermOf, source_assigns, term_register, term_constant, term_choice, name, left, right, witness, IsTyping, IsRule, MayBeWitness, IsBeforeRoot, number_or_zero, number_at, value_at, term_value, Held, value_of, SourceChoicesFit, Setting, SettingFits, meanings_at, witness_values, witness_number, HeldFits, TermsFit}
 use Rattle.rule_core.specs.declared.rule.Argument.TheVariants as arguments
-use Rattle.rule_core.specs.declared.rule.Register.{Register}
 use Rattle.rule_core.specs.declared.rule.Register.TheVariants as registers
 use Rattle.rule_core.specs.declared.rule.Name.TheVariants as names
-use Rattle.rule_core.specs.declared.rule.Term.{Term}
-use Rattle.rule_core.specs.declared.rule.Node.{Node}
 use Rattle.rule_core.specs.declared.rule.Node.TheVariants as nodes
-use Rattle.rule_core.specs.Positions.{IsTermOf, source_assigns, term_register, term_constant, term_choice, name, unary, left, right, witness_term as witness_line, witness}
-use Rattle.rule_core.specs.Typing.{IsTyping}
-use Rattle.rule_core.specs.Checks.{IsRule, MayBeWitness, IsBeforeRoot}
-use Rattle.rule_core.specs.Terms.{number_or_zero, number_at, value_at, term_value}
-use Rattle.rule_core.specs.Run.{Held, value_of}
-use Rattle.rule_core.specs.Valid.{SourceChoicesFit, Setting, SettingFits, meanings_at, witness_values, witness_number}
-use Rattle.rule_core.specs.Readiness.{HeldFits, TermsFit}
+use Rattle.rule_core.specs.Positions.{unary, witness_term as witness_line}
 use Rattle.rule_core.proofs.Members.{Contains-from_get, witness_term}
 use Rattle.rule_core.proofs.Turns.{in_turn-length}
 use Rattle.rule_core.proofs.Fits.{NodeFits, number_or_zero_fits, all_fit}

@@ -1,16 +1,5 @@
 -- Groups with one rule more.
-use Rattle.std.proofs.Common.{◌≡◌, ◌⊎◌, inl, inr, ℕ, ◌<◌, List, [], ◌∷◌, ◌++◌, length, get_or, None, Some, refl, sym, ap, subst, ◌∙◌, arith}
-use Rattle.std.specs.Prelude.{Contains, slice_get, slice_set}
-use Rattle.std.proofs.lemmas.Bool.{cases_eq}
-use Rattle.std.proofs.lemmas.Option.{none-some, same_Some, slice_get_within}
-use Rattle.std.proofs.lemmas.List.Elements.{Contains-append_left, Contains-get_or, Contains-push, Contains-push_cases}
-use Rattle.std.proofs.lemmas.List.Quantifiers.{all_pairs_push}
-use Rattle.rule_core.proofs.Members.{get-append_left, get_behind}
-use Rattle.rule_core.specs.declared.rule.Rule.{Rule}
-use Rattle.rule_matches.specs.declared.roots.RootKind.{RootKind}
-use Rattle.rule_matches.specs.declared.roots.RulesByRoot.{RulesByRoot}
-use Rattle.rule_matches.specs.declared.roots.Group.{Group}
-use Rattle.rule_matches.specs.Roots.{AreByRoot, AreOfKind, HasRootKind, IsGroupOf, kind_of_root}
+use Rattle.rule_matches.proofs.Common.{◌≡◌, ◌⊎◌, inl, inr, ℕ, ◌<◌, List, [], ◌∷◌, ◌++◌, length, get_or, None, Some, refl, sym, ap, subst, ◌∙◌, arith, Contains, slice_get, slice_set, cases_eq, none-some, same_Some, slice_get_within, Contains-append_left, Contains-get_or, Contains-push, Contains-push_cases, all_pairs_push, get-append_left, get_behind, Rule, RootKind, RulesByRoot, Group, AreByRoot, AreOfKind, HasRootKind, IsGroupOf, kind_of_root}
 use Rattle.rule_matches.proofs.Places.{pushed_cases, set_cases, set_here, set_elsewhere}
 
 last_of : {X : Type 0} (xs : List X) (x : X) → slice_get (xs ++ x ∷ []) (length xs) ≡ Some x

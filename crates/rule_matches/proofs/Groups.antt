@@ -1,14 +1,6 @@
 -- The group of a kind of root, and so the rules that may match an instruction.
-use Rattle.std.proofs.Common.{◌≡◌, ℕ, ◌<◌, List, [], Option, None, Some, length, sym, ap, subst, ◌∙◌, arith}
-use Rattle.std.specs.Prelude.{HoldsAt, IfNone, IfSome, MatchOption}
-use Rattle.std.specs.List.{AllWithin}
-use Rattle.std.proofs.lemmas.Option.{same_Some, get_or_from_slice_get, slice_get_within}
+use Rattle.rule_matches.proofs.Common.{◌≡◌, ℕ, ◌<◌, List, [], Option, None, Some, length, sym, ap, subst, ◌∙◌, arith, HoldsAt, IfNone, IfSome, MatchOption, AllWithin, same_Some, get_or_from_slice_get, slice_get_within, Rule, RootKind, RulesByRoot, Group, AreByRoot, AreCandidates, AreOfKind, HasRootKind, IsGroupOf, kind_of_inst}
 use Rattle.ir_core.specs.declared.instruction.Op.{Op as InstOp}
-use Rattle.rule_core.specs.declared.rule.Rule.{Rule}
-use Rattle.rule_matches.specs.declared.roots.RootKind.{RootKind}
-use Rattle.rule_matches.specs.declared.roots.RulesByRoot.{RulesByRoot}
-use Rattle.rule_matches.specs.declared.roots.Group.{Group}
-use Rattle.rule_matches.specs.Roots.{AreByRoot, AreCandidates, AreOfKind, HasRootKind, IsGroupOf, kind_of_inst}
 use Rattle.rule_matches.proofs.Places.{some_at}
 
 -- what the search for a group answers

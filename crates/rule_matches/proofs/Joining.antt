@@ -1,17 +1,5 @@
 -- The matches of one part of a function, followed by those of the next.
-use Rattle.std.proofs.Common.{◌≡◌, ◌⊎◌, inl, inr, ℕ, zero, suc, ◌<◌, ◌≤◌, List, [], ◌∷◌, ◌++◌, length, get_or, take, Some, refl, sym, ap, subst, ◌∙◌, arith}
-use Rattle.std.specs.Prelude.{All, AllPairs, Contains, slice_get}
-use Rattle.std.proofs.lemmas.Bool.{cases_eq, cases_lt}
-use Rattle.std.proofs.lemmas.List.{get_or-take, length-take-le}
-use Rattle.std.proofs.lemmas.List.Elements.{All-append, All-contains, Contains-append_left, Contains-append_right, Contains-get_or}
-use Rattle.std.proofs.lemmas.List.Kept.{AllPairs-cons}
-use Rattle.std.proofs.lemmas.Option.{get_or_from_slice_get, slice_get-get_or, slice_get_within}
-use Rattle.ir_core.specs.Assigned.{IsBefore}
-use Rattle.ir_core.specs.declared.function.Function.{Function}
-use Rattle.rule_core.specs.declared.rule.Rule.{Rule}
-use Rattle.rule_core.proofs.Givens.{Contains-take}
-use Rattle.bindings.specs.declared.rule_match.Match.{Match}
-use Rattle.bindings.specs.Matches.{MatchesAmong, IsMatchAmong, ComesBefore, AreMatches, AreMatchesAmong, AreMatchesWhere}
+use Rattle.rule_matches.proofs.Common.{◌≡◌, ◌⊎◌, inl, inr, ℕ, zero, suc, ◌<◌, ◌≤◌, List, [], ◌∷◌, ◌++◌, length, get_or, take, Some, refl, sym, ap, subst, ◌∙◌, arith, All, AllPairs, Contains, slice_get, cases_eq, cases_lt, get_or-take, length-take-le, All-append, All-contains, Contains-append_left, Contains-append_right, Contains-get_or, AllPairs-cons, get_or_from_slice_get, slice_get-get_or, slice_get_within, IsBefore, Function, Rule, Contains-take, Match, MatchesAmong, IsMatchAmong, ComesBefore, AreMatches, AreMatchesAmong, AreMatchesWhere}
 
 pub pairs_first : {X : Type 0} (R : X → X → Type 0) (x : X) (xs : List X) → AllPairs R (x ∷ xs) → All (R x) xs
 pairs_first R x xs h k d lt = h 0 (suc k) d (omega arith) (omega arith)

@@ -1,22 +1,5 @@
 -- The matches at an instruction, rule by rule.
-use Rattle.std.proofs.Common.{◌≡◌, ◌⊎◌, inl, inr, ℕ, ◌+◌, ◌<◌, ◌≤◌, List, [], ◌∷◌, ◌++◌, length, get_or, take, Some, refl, sym, ap, subst, ◌∙◌, arith}
-use Rattle.std.specs.Prelude.{AllPairs, Contains, slice_get}
-use Rattle.std.proofs.lemmas.List.{get_or-take, length-take-le, take_all, take_more}
-use Rattle.std.proofs.lemmas.List.Elements.{Contains-append_left, Contains-push, Contains-push_cases}
-use Rattle.std.proofs.lemmas.Option.{get_or_from_slice_get, same_Some, slice_get-get_or}
-use Rattle.ir_core.specs.Checks.{IsInst}
-use Rattle.ir_core.specs.declared.function.Function.{Function}
-use Rattle.ir_core.specs.declared.instruction.Inst.{Inst}
-use Rattle.rule_core.specs.declared.rule.Rule.{Rule}
-use Rattle.bindings.specs.Match.{MatchesInAnyOrder}
-use Rattle.bindings.specs.declared.binding.Binding.{Binding}
-use Rattle.matcher.proofs.OneBinding.{one_in_any_order}
-use Rattle.bindings.proofs.Reading.{same_inst}
-use Rattle.bindings.specs.declared.rule_match.Match.{Match}
-use Rattle.rule_matches.specs.Found.{IsOf}
-use Rattle.bindings.specs.Matches.{AreMatchesInAnyOrder, ComesBefore, IsAt, IsMatchInAnyOrder}
-use Rattle.bindings.specs.Ready.{AreReady}
-use Rattle.rule_matches.specs.Roots.{AreCandidates, kind_of_inst}
+use Rattle.rule_matches.proofs.Common.{◌≡◌, ◌⊎◌, inl, inr, ℕ, ◌+◌, ◌<◌, ◌≤◌, List, [], ◌∷◌, ◌++◌, length, get_or, take, Some, refl, sym, ap, subst, ◌∙◌, arith, AllPairs, Contains, slice_get, get_or-take, length-take-le, take_all, take_more, Contains-append_left, Contains-push, Contains-push_cases, get_or_from_slice_get, same_Some, slice_get-get_or, IsInst, Function, Inst, Rule, MatchesInAnyOrder, Binding, one_in_any_order, same_inst, Match, IsOf, AreMatchesInAnyOrder, ComesBefore, IsAt, IsMatchInAnyOrder, AreReady, AreCandidates, kind_of_inst}
 use Rattle.rule_matches.proofs.Joining.{joined, none_where, one_where, same_where}
 use Rattle.rule_matches.proofs.Rooting.{root_stands}
 

@@ -1,14 +1,6 @@
 -- Matches without regard to the order of instructions are matches in a function that meets its checks.
-use Rattle.std.proofs.Common.{List, get_or, Ok, Err}
-use Rattle.std.specs.Prelude.{IfOk, Result}
-use Rattle.ir_core.specs.Checks.{MeetsChecks}
-use Rattle.ir_core.specs.declared.function.Function.{Function}
-use Rattle.rule_core.specs.declared.rule.Rule.{Rule}
+use Rattle.rule_matches.proofs.Common.{List, get_or, Ok, Err, IfOk, Result, MeetsChecks, Function, Rule, TemporariesStandBefore, Match, AreMatchesInAnyOrder, AreMatchesWhere, IsMatchAmong, IsMatchInAnyOrder, AreReady}
 use Rattle.bindings.proofs.Roots as roots
-use Rattle.bindings.specs.Laws.{TemporariesStandBefore}
-use Rattle.bindings.specs.declared.rule_match.Match.{Match}
-use Rattle.bindings.specs.Matches.{AreMatchesInAnyOrder, AreMatchesWhere, IsMatchAmong, IsMatchInAnyOrder}
-use Rattle.bindings.specs.Ready.{AreReady}
 
 pub in_any_order : (rules : List Rule) (f : Function) (m : Match) → IsMatchAmong rules f m → IsMatchInAnyOrder rules f m
 in_any_order rules f m is = record { rule = is.rule; is_rule = is.is_rule; matches = roots.in_any_order f m.binding.block m.binding.place is.rule m.binding is.matches }

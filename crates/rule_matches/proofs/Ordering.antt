@@ -1,13 +1,5 @@
 -- Two lists of the same matches in order are equal.
-use Rattle.std.proofs.Common.{◌≡◌, ◌⊎◌, inl, inr, ℕ, zero, suc, List, [], ◌∷◌, ◌++◌, take, drop, Some, refl, sym, ap, subst, ◌∙◌, arith}
-use Rattle.std.specs.Prelude.{AllPairs, Contains, slice_get}
-use Rattle.std.proofs.lemmas.List.Elements.{All-contains}
-use Rattle.std.proofs.lemmas.Option.{same_Some, slice_get-get_or}
-use Rattle.ir_core.specs.declared.function.Function.{Function}
-use Rattle.rule_core.specs.declared.rule.Rule.{Rule}
-use Rattle.bindings.specs.declared.rule_match.Match.{Match}
-use Rattle.bindings.specs.Matches.{AreMatchesWhere, ComesBefore, IsMatchAmong}
-use Rattle.rule_matches.specs.Laws.{MatchesBeforeStandFirst}
+use Rattle.rule_matches.proofs.Common.{◌≡◌, ◌⊎◌, inl, inr, ℕ, zero, suc, List, [], ◌∷◌, ◌++◌, take, drop, Some, refl, sym, ap, subst, ◌∙◌, arith, AllPairs, Contains, slice_get, All-contains, same_Some, slice_get-get_or, Function, Rule, Match, AreMatchesWhere, ComesBefore, IsMatchAmong, MatchesBeforeStandFirst}
 use Rattle.rule_matches.proofs.Joining.{before_chosen, not_both, pairs_first, pairs_later, same_where}
 
 -- an element is the first, or one of the others

@@ -1,26 +1,10 @@
 -- A rule matches only at instructions of its root's kind.
-use Rattle.std.proofs.Common.{◌≡◌, ℕ, suc, ◌-◌, ◌<◌, List, Option, Some, length, refl, sym, ap, subst, ◌∙◌, arith}
-use Rattle.std.proofs.lemmas.Option.{slice_get_within}
-use Rattle.std.specs.Prelude.{slice_get, option_and_then, option_map, unwrap_or}
-use Rattle.ir_core.specs.Reads.{end_of}
-use Rattle.ir_core.specs.declared.function.Block.{Block}
-use Rattle.ir_core.specs.declared.function.Function.{Function}
-use Rattle.ir_core.specs.declared.instruction.Inst.{Inst}
+use Rattle.rule_matches.proofs.Common.{◌≡◌, ℕ, suc, ◌-◌, ◌<◌, List, Option, Some, length, refl, sym, ap, subst, ◌∙◌, arith, slice_get_within, slice_get, option_and_then, option_map, unwrap_or, end_of, Block, Function, Inst, IsInst, Rule, Statement, IsSameOperation, StatementMatches, Match, RootKind, Binary, Compare, Unary, Select, Convert, Freeze, AreReady, MatchesAmong, kind_of_statement, kind_of_inst, kind_of_root, HasRootKind}
 use Rattle.ir_core.specs.declared.instruction.Op.{Op as InstOp}
 use Rattle.ir_core.specs.declared.instruction.Op.TheVariants as ops
-use Rattle.ir_core.specs.Checks.{IsInst}
 use Rattle.rule_matches.proofs.Places.{some_at}
 use Rattle.rule_core.specs.declared.rule.Op.{Op as RuleOp}
 use Rattle.rule_core.specs.declared.rule.Op.TheVariants as rule_ops
-use Rattle.rule_core.specs.declared.rule.Rule.{Rule}
-use Rattle.rule_core.specs.declared.rule.Statement.{Statement}
-use Rattle.bindings.specs.Statements.{IsSameOperation, StatementMatches}
-use Rattle.bindings.specs.declared.rule_match.Match.{Match}
-use Rattle.rule_matches.specs.declared.roots.RootKind.{RootKind}
-use Rattle.rule_matches.specs.declared.roots.RootKind.TheVariants.{Binary, Compare, Unary, Select, Convert, Freeze}
-use Rattle.bindings.specs.Ready.{AreReady}
-use Rattle.bindings.specs.Matches.{MatchesAmong}
-use Rattle.rule_matches.specs.Roots.{kind_of_statement, kind_of_inst, kind_of_root, HasRootKind}
 
 -- statements and instructions with the same operation are of one kind
 kind_same : (s : RuleOp) (i : InstOp) → IsSameOperation s i → (kind : RootKind) × (kind_of_statement s ≡ Some kind) × (kind_of_inst i ≡ Some kind)

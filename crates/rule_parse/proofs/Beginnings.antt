@@ -1,34 +1,10 @@
 -- What operands begin with.
-use Rattle.std.proofs.Common.{◌≡◌, ℕ, true, false, eqb, List, [], ◌∷◌, ◌++◌, None, refl}
-use Rattle.std.specs.Prelude.{codes}
-use Rattle.std.specs.List.{list_all}
-use Rattle.std.specs.Str.{bytes_eq}
-use Rattle.std.proofs.lemmas.Bool.{eqb-true}
-use Rattle.ops.specs.declared.opcode.Flags.{Flags}
-use Rattle.rule_core.specs.declared.rule.Function.{Function}
-use Rattle.rule_core.specs.declared.rule.Function.TheVariants.{Negate, Not, Log2, Abs}
-use Rattle.ops.specs.FlagKeywords.{flag_in}
-use Rattle.scan.specs.Bytes.{is_digit}
-use Rattle.scan.specs.RuleTokens.{is_constant}
-use Rattle.scan.proofs.Fronts.{and_left}
-use Rattle.rule_tokens.specs.Numbers.{type_in}
-use Rattle.rule_tokens.specs.Tokens.{Token, Register, Word, Number, Mark}
-use Rattle.rule_terms.specs.declared.place.TermPlace.TheVariants.{Constant}
-use Rattle.rule_terms.specs.declared.raw.RawNode.{RawNode}
+use Rattle.rule_parse.proofs.Common.{◌≡◌, ℕ, true, false, eqb, List, [], ◌∷◌, ◌++◌, None, refl, codes, list_all, bytes_eq, eqb-true, Flags, Function, Negate, Not, Log2, flag_in, is_digit, is_constant, and_left, type_in, Token, Register, Word, Number, Mark, Constant, RawNode, SpellsLeaf, SpellsTerm, leaf, width, parenthesised, called, prefixed, tighter, joined, IsCalled, Half, Source, Target, RawArgument, SpellsTermOperand, SpellsArgument, operation_in, is_truth_flag, Version, One, Two, Limits}
+use Rattle.rule_core.specs.declared.rule.Function.TheVariants.{Abs}
 use Rattle.rule_terms.specs.declared.raw.RawNode.TheVariants as raw_nodes
-use Rattle.rule_terms.specs.Grammar.{SpellsLeaf, SpellsTerm, leaf, width, parenthesised, called, prefixed, tighter, joined}
-use Rattle.rule_terms.specs.Keywords.{IsCalled}
-use Rattle.rule_parse.specs.declared.half.Half.{Half}
-use Rattle.rule_parse.specs.declared.half.Half.TheVariants.{Source, Target}
-use Rattle.rule_parse.specs.declared.raw.RawArgument.{RawArgument}
 use Rattle.rule_parse.specs.declared.raw.RawArgument.TheVariants as arguments
-use Rattle.rule_parse.specs.Grammar.{SpellsTermOperand, SpellsArgument}
-use Rattle.rule_parse.specs.Keywords.{operation_in, is_truth_flag}
 use Rattle.ops.specs.declared.opcode.Unary.{Unary as Intrinsic}
 use Rattle.ops.specs.declared.opcode.Unary.TheVariants as intrinsics
-use Rattle.rule_tokens.specs.declared.version.Version.{Version}
-use Rattle.rule_tokens.specs.declared.version.Version.TheVariants.{One, Two}
-use Rattle.rule_tokens.specs.Limits.{Limits}
 
 module _ (limits : Limits) where
   -- a word that is no type, no opcode and no flag

@@ -1,12 +1,6 @@
 -- The tokens with the limit end with the first one with which more than 256 count in a rule.
-use Rattle.std.proofs.Common.{◌≡◌, ℕ, zero, suc, ◌+◌, ◌≤◌, Bool, true, false, List, [], ◌∷◌, ◌++◌, Option, Some, None, inl, inr, refl, sym, ap, subst, ◌∙◌, arith}
-use Rattle.std.specs.Prelude.{◌⊎◌, ◌||◌, if◌then◌else◌}
-use Rattle.std.specs.List.{list_any}
-use Rattle.rule_tokens.specs.Tokens.{Token, Line, Excess}
-use Rattle.rule_parse.specs.NodeCounts.{counted, last_rule, counted_at_end, IsWithinLimit, IsCut}
-use Rattle.rule_parse.specs.OneReading.{TokensAreKeptUpToTheLimit}
-use Rattle.rule_parse.specs.CutTokens.{is_counted, ends_before_line, begins_rule, one_less, room_behind, or_excess, limited_to}
-use Rattle.rule_parse.specs.Limits.{most_nodes}
+use Rattle.rule_parse.proofs.Common.{◌≡◌, ℕ, zero, suc, ◌+◌, ◌≤◌, Bool, true, false, List, [], ◌∷◌, ◌++◌, Option, Some, None, inl, inr, refl, sym, ap, subst, ◌∙◌, arith, ◌⊎◌, ◌||◌, if◌then◌else◌, list_any, Token, Line, counted, last_rule, counted_at_end, IsWithinLimit, IsCut, TokensAreKeptUpToTheLimit, is_counted, ends_before_line, begins_rule, one_less, room_behind, or_excess, limited_to, most_nodes}
+use Rattle.rule_tokens.specs.Tokens.{Excess}
 
 -- ---- counting token by token
 

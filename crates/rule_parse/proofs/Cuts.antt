@@ -1,10 +1,7 @@
 -- From tokens with the limit back to the text's: those in front of `Excess` are the text's own, and those that count
 -- use up the room.
-use Rattle.std.proofs.Common.{◌≡◌, ℕ, zero, suc, ◌+◌, ◌≤◌, Bool, true, false, not, List, [], ◌∷◌, ◌++◌, Option, Some, None, refl, sym, ap, subst, ◌∙◌, append_assoc, arith}
-use Rattle.std.specs.Prelude.{codes, if◌then◌else◌}
-use Rattle.scan.specs.RuleTokens.{is_among}
-use Rattle.rule_tokens.specs.Tokens.{Token, Line, Head, Register, Word, Opcode, Number, Arrow, Mark, Excess}
-use Rattle.rule_parse.specs.CutTokens.{is_node_word, plain_marks, ends_before_line, one_less, room_behind, or_excess, limited_to}
+use Rattle.rule_parse.proofs.Common.{◌≡◌, ℕ, zero, suc, ◌+◌, ◌≤◌, Bool, true, false, not, List, [], ◌∷◌, ◌++◌, Option, Some, None, refl, sym, ap, subst, ◌∙◌, append_assoc, arith, codes, if◌then◌else◌, is_among, Token, Line, Head, Register, Word, Number, Arrow, Mark, is_node_word, plain_marks, ends_before_line, one_less, room_behind, or_excess, limited_to}
+use Rattle.rule_tokens.specs.Tokens.{Opcode, Excess}
 
 -- ---- tokens of texts
 

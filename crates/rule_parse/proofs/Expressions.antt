@@ -1,25 +1,6 @@
 -- The expressions of `Wit:`: the parser reads them exactly as the grammar spells them.
-use Rattle.std.proofs.Common.{◌≡◌, ℕ, zero, suc, ◌≤◌, true, false, List, [], ◌∷◌, ◌++◌, length, drop, Ok, refl, sym, ap, ◌∙◌, ⊎_elim, append_assoc, length-append, arith}
-use Rattle.std.specs.Prelude.{codes}
-use Rattle.std.proofs.lemmas.List.{append-nil}
-use Rattle.rule_tokens.specs.Steps.{◌>>=◌}
-use Rattle.rule_tokens.specs.PartReaders.{line_end}
-use Rattle.rule_tokens.specs.Tokens.{Token, Line, Mark}
-use Rattle.rule_tokens.proofs.Ends.{EndsLine, line_end-of}
-use Rattle.rule_tokens.proofs.Steps.{done, bind_ok, bound, read_as, chosen}
-use Rattle.rule_tokens.proofs.Takes.{Takes, line_end-is}
-use Rattle.rule_terms.specs.declared.place.TermPlace.TheVariants.{Witness}
-use Rattle.rule_terms.specs.declared.raw.RawNode.{RawNode}
-use Rattle.rule_terms.specs.Chains.{next_is, chain_of}
-use Rattle.rule_terms.specs.Grammar.{EndsTerm}
-use Rattle.rule_terms.specs.TermReaders.{term_at}
-use Rattle.rule_terms.specs.Keywords.{operator_in}
-use Rattle.rule_terms.proofs.ChainLemmas.{Shortens, next_is-is}
-use Rattle.rule_parse.specs.Grammar.{SpellsExpression, SpellsMoreExpressions, SpellsExpressions}
-use Rattle.rule_parse.specs.RuleReaders.{expression_at, more_expressions, expressions_at}
+use Rattle.rule_parse.proofs.Common.{◌≡◌, ℕ, zero, suc, ◌≤◌, true, false, List, [], ◌∷◌, ◌++◌, length, drop, Ok, refl, sym, ap, ◌∙◌, ⊎_elim, append_assoc, length-append, arith, codes, append-nil, ◌>>=◌, line_end, Token, Line, Mark, EndsLine, line_end-of, done, bind_ok, bound, read_as, chosen, Takes, line_end-is, Witness, RawNode, next_is, chain_of, EndsTerm, term_at, operator_in, Shortens, next_is-is, SpellsExpression, SpellsMoreExpressions, SpellsExpressions, expression_at, more_expressions, expressions_at, term_at-is, term_at-of, Limits}
 use Rattle.rule_parse.proofs.OpSpellings.{line_ends_term}
-use Rattle.rule_terms.proofs.Spellings.{term_at-is, term_at-of}
-use Rattle.rule_tokens.specs.Limits.{Limits}
 
 module _ (limits : Limits) where
   -- one expression is added to those before

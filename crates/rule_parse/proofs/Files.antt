@@ -1,22 +1,5 @@
 -- Rule files: the line of the version, and the rules behind it.
-use Rattle.std.proofs.Common.{◌≡◌, ℕ, true, false, inl, inr, List, [], ◌∷◌, ◌++◌, length, Ok, refl, ap, ◌∙◌, ⊎_elim}
-use Rattle.std.specs.Prelude.{codes}
-use Rattle.std.specs.Str.{bytes_eq}
-use Rattle.std.proofs.Math.Nat.{le_refl}
-use Rattle.ops.proofs.KeywordLemmas.{same_word}
-use Rattle.rule_parse.specs.declared.raw.RawRule.{RawRule}
-use Rattle.rule_parse.specs.Grammar.{SpellsRules, SpellsVersion, SpellsFile}
-use Rattle.rule_parse.specs.RuleReaders.{version_number_at, version_at, all_rules}
-use Rattle.rule_tokens.specs.declared.version.Version.{Version}
-use Rattle.rule_tokens.specs.declared.version.Version.TheVariants.{One}
-use Rattle.rule_tokens.specs.Limits.{Limits}
-use Rattle.rule_tokens.specs.PartReaders.{or_left_out, line_end}
-use Rattle.rule_tokens.specs.Tokens.{Token, Line, Head, Number}
-use Rattle.rule_tokens.specs.Versions.{version_in}
-use Rattle.rule_tokens.proofs.Ends.{EndsLine, line_end-of}
-use Rattle.rule_tokens.proofs.Steps.{done, bound, read_as, not_left_out, chosen}
-use Rattle.rule_tokens.proofs.Takes.{Takes, line_end-is}
-use Rattle.rule_tokens.proofs.Versions.{version_in-is, version_in-of}
+use Rattle.rule_parse.proofs.Common.{◌≡◌, ℕ, true, false, inl, inr, List, [], ◌∷◌, ◌++◌, length, Ok, refl, ap, ◌∙◌, ⊎_elim, codes, bytes_eq, le_refl, same_word, RawRule, SpellsRules, SpellsVersion, SpellsFile, version_number_at, version_at, all_rules, Version, One, Limits, or_left_out, line_end, Token, Line, Head, Number, version_in, EndsLine, line_end-of, done, bound, read_as, not_left_out, chosen, Takes, line_end-is, version_in-is, version_in-of}
 use Rattle.rule_parse.proofs.Readings.{rules_at-is}
 use Rattle.rule_parse.proofs.Spellings.{rules_at-of}
 

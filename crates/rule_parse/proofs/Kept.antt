@@ -1,11 +1,8 @@
 -- The loop that keeps tokens up to the first one that passes the limit.
-use Rattle.std.proofs.Common.{◌≡◌, ℕ, ◌+◌, ◌<◌, ◌≤◌, Bool, List, [], ◌∷◌, ◌++◌, length, get_or, drop, Some, None, refl, sym, ap, ◌∙◌, append_assoc}
-use Rattle.std.proofs.lemmas.List.{append-nil, map-append, drop_more, drop_all}
+use Rattle.rule_parse.proofs.Common.{◌≡◌, ℕ, ◌+◌, ◌<◌, ◌≤◌, Bool, List, [], ◌∷◌, ◌++◌, length, get_or, drop, Some, None, refl, sym, ap, ◌∙◌, append_assoc, append-nil, map-append, drop_more, drop_all, seen, seen_token, Token, ends_before_line, room_behind, limited_to}
 use Rattle.rule_tokens.specs.declared.token.Token.{Token as Scanned}
 use Rattle.rule_tokens.specs.declared.token.Token.TheVariants as scanned
-use Rattle.rule_tokens.specs.SeenTokens.{seen, seen_token}
-use Rattle.rule_tokens.specs.Tokens.{Token, Excess}
-use Rattle.rule_parse.specs.CutTokens.{ends_before_line, room_behind, limited_to}
+use Rattle.rule_tokens.specs.Tokens.{Excess}
 
 pub kept-more : (kept after tokens : List Scanned) (room left i : ℕ) (begins behind : Bool) (d : Scanned) (total : List Token) → i < length tokens
     → Some left ≡ room_behind room begins (seen_token (get_or tokens i d)) → behind ≡ ends_before_line (seen_token (get_or tokens i d)) → after ≡ kept ++ get_or tokens i d ∷ []

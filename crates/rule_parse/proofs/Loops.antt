@@ -1,23 +1,6 @@
 -- Loops that read one part after another, against readers that recurse.
-use Rattle.std.proofs.Common.{◌≡◌, ℕ, zero, suc, ◌+◌, ◌-◌, ◌<◌, ◌≤◌, List, [], ◌∷◌, ◌++◌, length, drop, true, false, Some, Result, Ok, Err, refl, sym, ap, ◌∙◌, append_assoc, length-append, arith}
-use Rattle.std.proofs.lemmas.List.{append-nil}
-use Rattle.ops.specs.declared.opcode.Flags.{Flags}
-use Rattle.ops.specs.declared.keywords.flag.Flag.{Flag}
-use Rattle.ops.specs.FlagKeywords.{has_flag, with_flag}
-use Rattle.rule_tokens.specs.RuleFaults.{RuleFault, RuleError}
-use Rattle.refusal.specs.declared.refusal.Refusal.TheVariants.{Refused, NoMemory}
-use Rattle.rule_tokens.specs.declared.fault.RuleFaultKind.TheVariants.{Syntax, TooMany}
-use Rattle.rule_parse.specs.declared.half.Half.{Half}
-use Rattle.rule_parse.specs.declared.raw.RawRule.{RawRule}
-use Rattle.rule_parse.specs.declared.raw.RawStatement.{RawStatement}
-use Rattle.refusal.specs.Refusals.{Fails}
-use Rattle.rule_tokens.specs.Steps.{◌>>=◌}
-use Rattle.rule_tokens.specs.PartReaders.{Read, fault}
-use Rattle.rule_parse.specs.RuleReaders.{next_flag, flags_at, IsNoStatement, statement_at, statements_at, rule_at, rules_at, rules_of}
-use Rattle.rule_tokens.specs.Tokens.{Token, Line, Register}
+use Rattle.rule_parse.proofs.Common.{◌≡◌, ℕ, zero, suc, ◌+◌, ◌-◌, ◌<◌, ◌≤◌, List, [], ◌∷◌, ◌++◌, length, drop, true, false, Some, Result, Ok, Err, refl, sym, ap, ◌∙◌, append_assoc, length-append, arith, append-nil, Flags, Flag, has_flag, with_flag, RuleFault, RuleError, Refused, NoMemory, Syntax, TooMany, Half, RawRule, RawStatement, Fails, ◌>>=◌, Read, fault, next_flag, flags_at, IsNoStatement, statement_at, statements_at, rule_at, rules_at, rules_of, Token, Line, Register, Version, Limits}
 use Rattle.rule_parse.proofs.Readings.{rule_at-shorter}
-use Rattle.rule_tokens.specs.declared.version.Version.{Version}
-use Rattle.rule_tokens.specs.Limits.{Limits}
 
 module _ (limits : Limits) (version : Version) where
   -- what the recursion reads, with what the loop has read in front

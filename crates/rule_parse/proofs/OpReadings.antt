@@ -1,51 +1,14 @@
 -- What the parser reads as a statement is what the grammar spells with the tokens that it takes.
-use Rattle.std.proofs.Common.{◌≡◌, ℕ, Bool, true, false, List, [], ◌∷◌, ◌++◌, map, Option, Some, None, Result, Ok, Err, refl, sym, ap, subst, ◌∙◌, ⊎_elim}
-use Rattle.std.specs.Prelude.{codes, drop, if◌then◌else◌}
-use Rattle.std.specs.Str.{bytes_eq}
+use Rattle.rule_parse.proofs.Common.{◌≡◌, ℕ, Bool, true, false, List, [], ◌∷◌, ◌++◌, map, Option, Some, None, Result, Ok, Err, refl, sym, ap, subst, ◌∙◌, ⊎_elim, codes, drop, if◌then◌else◌, bytes_eq, Flags, Pred, Cast, no_flags, flags_of, flags_of_cast, flags_of_icmp, icmp_flags, Flag, predicate_keyword, pred_in, AddsFlags, flag_keyword, has_flag, with_flag, same_word, pred_in-is, flag_in-is, flags_are_icmp, taken_flags, Syntax, RuleFault, Half, Source, Target, RawOp, Copy, RawOperand, RawArgument, Operation, is_constant, Constant, RawNode, SpellsWholeTerm, mark_at, term_at, ◌>>=◌, SpellsType, SpellsArgument, SpellsUntyped, SpellsOperand, SpellsPair, SpellsFlags, SpellsTruth, SpellsOpcode, SpellsTo, SpellsOp, literal_value, fault, name_within, type_at, maybe_type, line_end, register_at, known_or_misplaced, source_word, term_argument_at, argument_at, typed_at, operand_at, to_at, next_flag, flag_or_end, flags_at, pair_at, binary_at, pred_at, compare_at, is_truth_next, truth_at, unary_at, select_at, convert_at, freeze_at, copy_at, operation_at, other_at, operation_or_other, op_at, Is, Comma, ◌⨾◌, Maybe, Token, Register, Word, Number, Mark, operation_in, source_word_in, argument_of, done, bind_ok, bound, read_as, passed, refused_not, not_left_out, chosen, Takes, taken_to, one, word_as, name_within-is, type_at-is, maybe_type-is, line_end-is, term_at-is, mark_at-is, Version, Limits}
 use Rattle.ops.specs.declared.opcode.Opcode.{Opcode}
 use Rattle.ops.specs.declared.opcode.Unary.{Unary as Intrinsic}
-use Rattle.ops.specs.declared.opcode.Flags.{Flags}
-use Rattle.ops.specs.declared.comparison.Pred.{Pred}
-use Rattle.ops.specs.declared.conversion.Cast.{Cast}
-use Rattle.ops.specs.Flags.{no_flags, flags_of, flags_of_cast, flags_of_icmp, icmp_flags}
-use Rattle.ops.specs.declared.keywords.flag.Flag.{Flag}
-use Rattle.ops.specs.Keywords.{predicate_keyword, pred_in}
-use Rattle.ops.specs.FlagKeywords.{AddsFlags, flag_keyword, has_flag, with_flag}
-use Rattle.ops.proofs.KeywordLemmas.{same_word, pred_in-is}
-use Rattle.ops.proofs.FlagKeywordLemmas.{flag_in-is, flags_are_icmp, taken_flags}
-use Rattle.rule_tokens.specs.declared.fault.RuleFaultKind.TheVariants.{Syntax}
-use Rattle.rule_tokens.specs.RuleFaults.{RuleFault}
-use Rattle.rule_parse.specs.declared.half.Half.{Half}
-use Rattle.rule_parse.specs.declared.half.Half.TheVariants.{Source, Target}
-use Rattle.rule_parse.specs.declared.raw.RawOp.{RawOp}
-use Rattle.rule_parse.specs.declared.raw.RawOp.TheVariants.{Binary, Compare, Unary, Select, Convert, Freeze, Copy}
-use Rattle.rule_parse.specs.declared.raw.RawOperand.{RawOperand}
-use Rattle.rule_parse.specs.declared.raw.RawArgument.{RawArgument}
+use Rattle.rule_parse.specs.declared.raw.RawOp.TheVariants.{Binary, Compare, Unary, Select, Convert, Freeze}
 use Rattle.rule_parse.specs.declared.raw.RawArgument.TheVariants as arguments
-use Rattle.rule_parse.specs.declared.word.Operation.{Operation}
 use Rattle.rule_parse.specs.declared.word.Operation.TheVariants as operations
-use Rattle.scan.specs.RuleTokens.{is_constant}
-use Rattle.rule_terms.specs.declared.place.TermPlace.TheVariants.{Constant}
-use Rattle.rule_terms.specs.declared.raw.RawNode.{RawNode}
 use Rattle.rule_terms.specs.declared.raw.RawNode.TheVariants as raw_nodes
-use Rattle.rule_terms.specs.Grammar.{SpellsWholeTerm}
-use Rattle.rule_terms.specs.TermReaders.{mark_at, term_at}
-use Rattle.rule_tokens.specs.Steps.{◌>>=◌}
-use Rattle.rule_tokens.specs.TypeTokens.{SpellsType}
-use Rattle.rule_parse.specs.Grammar.{SpellsArgument, SpellsUntyped, SpellsOperand, SpellsPair, SpellsFlags, SpellsTruth, SpellsOpcode, SpellsTo, SpellsOp}
-use Rattle.rule_tokens.specs.Numbers.{literal_value}
-use Rattle.rule_tokens.specs.PartReaders.{fault, name_within, type_at, maybe_type, line_end}
-use Rattle.rule_parse.specs.RuleReaders.{register_at, known_or_misplaced, source_word, term_argument_at, argument_at, typed_at, operand_at, to_at, next_flag, flag_or_end, flags_at, pair_at, binary_at, pred_at, compare_at, is_truth_next, truth_at, unary_at, select_at, convert_at, freeze_at, copy_at, operation_at, other_at, operation_or_other, op_at}
-use Rattle.rule_tokens.specs.Parts.{Is, Comma, ◌⨾◌, Maybe}
-use Rattle.rule_tokens.specs.Tokens.{Token, Register, Word, Opcode as OpcodeToken, Number, Mark}
-use Rattle.rule_parse.specs.Keywords.{operation_in, source_word_in, argument_of}
-use Rattle.rule_tokens.proofs.Steps.{done, bind_ok, bound, read_as, passed, refused_not, not_left_out, chosen}
-use Rattle.rule_tokens.proofs.Takes.{Takes, taken_to, both, nothing, one, word_as, name_within-is, type_at-is, maybe_type-is, line_end-is}
+use Rattle.rule_tokens.specs.Tokens.{Opcode as OpcodeToken}
+use Rattle.rule_tokens.proofs.Takes.{both, nothing}
 use Rattle.rule_parse.proofs.Pieces.{IsOpcode, operation_in-is, truth_flag-is, source_word_in-is}
-use Rattle.rule_terms.proofs.Spellings.{term_at-is}
-use Rattle.rule_terms.proofs.Starts.{mark_at-is}
-use Rattle.rule_tokens.specs.declared.version.Version.{Version}
-use Rattle.rule_tokens.specs.Limits.{Limits}
 
 module _ (limits : Limits) where
   -- ---- operands

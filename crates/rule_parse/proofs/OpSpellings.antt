@@ -1,45 +1,12 @@
 -- What the grammar spells as a statement is read, where the line of its last token ends behind it.
-use Rattle.std.specs.Prelude.{codes}
-use Rattle.std.proofs.Common.{◌≡◌, ◌≤◌, ℕ, length, Bool, true, false, List, [], ◌∷◌, ◌++◌, map, Option, Some, None, Ok, refl, ◌∙◌, append_assoc}
-use Rattle.ops.specs.declared.opcode.Flags.{Flags}
+use Rattle.rule_parse.proofs.Common.{codes, ◌≡◌, ◌≤◌, ℕ, length, Bool, true, false, List, [], ◌∷◌, ◌++◌, map, Option, Some, None, Ok, refl, ◌∙◌, append_assoc, Flags, Pred, no_flags, flags_of, flags_of_cast, flags_of_icmp, icmp_flags, Flag, predicate_keyword, AddsFlags, flag_keyword, with_flag, pred_in-of, flag_in-of, predicate_is_no_flag, is_constant, Half, Source, Target, RawOp, Copy, RawOperand, RawArgument, Operation, SpellsType, SpellsTermOperand, SpellsArgument, SpellsUntyped, SpellsOperand, SpellsPair, SpellsFlags, SpellsTruth, SpellsTo, SpellsOp, maybe_type, source_word, term_argument_at, argument_at, typed_at, operand_at, to_at, next_flag, flags_at, pair_at, binary_at, pred_at, compare_at, is_truth_next, truth_at, unary_at, select_at, convert_at, freeze_at, copy_at, operation_at, op_at, Maybe, Comma, Token, Line, Register, Word, Number, Mark, is_known, opcode_token, truth_word, source_word_in, Constant, EndsTerm, mark_at, term_at, operator_in, mark_at-of, term_at-of, EndsLine, name_within-of, type_at-of, line_end-of, type_in-of, Version, Limits}
 use Rattle.ops.specs.declared.opcode.Unary.{Unary as Intrinsic}
 use Rattle.ops.specs.declared.opcode.Unary.TheVariants as intrinsics
-use Rattle.ops.specs.declared.comparison.Pred.{Pred}
-use Rattle.ops.specs.Flags.{no_flags, flags_of, flags_of_cast, flags_of_icmp, icmp_flags}
-use Rattle.ops.specs.declared.keywords.flag.Flag.{Flag}
-use Rattle.ops.specs.Keywords.{predicate_keyword}
-use Rattle.ops.specs.FlagKeywords.{AddsFlags, flag_keyword, with_flag}
-use Rattle.ops.proofs.KeywordLemmas.{pred_in-of}
-use Rattle.ops.proofs.FlagKeywordLemmas.{flag_in-of, predicate_is_no_flag}
-use Rattle.scan.specs.RuleTokens.{is_constant}
-use Rattle.rule_parse.specs.declared.half.Half.{Half}
-use Rattle.rule_parse.specs.declared.half.Half.TheVariants.{Source, Target}
-use Rattle.rule_parse.specs.declared.raw.RawOp.{RawOp}
-use Rattle.rule_parse.specs.declared.raw.RawOp.TheVariants.{Binary, Compare, Unary, Select, Convert, Freeze, Copy}
-use Rattle.rule_parse.specs.declared.raw.RawOperand.{RawOperand}
-use Rattle.rule_parse.specs.declared.raw.RawArgument.{RawArgument}
+use Rattle.rule_parse.specs.declared.raw.RawOp.TheVariants.{Binary, Compare, Unary, Select, Convert, Freeze}
 use Rattle.rule_parse.specs.declared.raw.RawArgument.TheVariants as arguments
-use Rattle.rule_parse.specs.declared.word.Operation.{Operation}
 use Rattle.rule_parse.specs.declared.word.Operation.TheVariants as operations
-use Rattle.rule_tokens.specs.TypeTokens.{SpellsType}
-use Rattle.rule_parse.specs.Grammar.{SpellsTermOperand, SpellsArgument, SpellsUntyped, SpellsOperand, SpellsPair, SpellsFlags, SpellsTruth, SpellsTo, SpellsOp}
-use Rattle.rule_tokens.specs.PartReaders.{maybe_type}
-use Rattle.rule_parse.specs.RuleReaders.{source_word, term_argument_at, argument_at, typed_at, operand_at, to_at, next_flag, flags_at, pair_at, binary_at, pred_at, compare_at, is_truth_next, truth_at, unary_at, select_at, convert_at, freeze_at, copy_at, operation_at, op_at}
-use Rattle.rule_tokens.specs.Parts.{Maybe, Comma}
-use Rattle.rule_tokens.specs.Tokens.{Token, Line, Register, Word, Number, Mark}
-use Rattle.rule_parse.specs.Keywords.{is_known, opcode_token, truth_word, source_word_in}
-use Rattle.rule_terms.specs.declared.place.TermPlace.TheVariants.{Constant}
-use Rattle.rule_terms.specs.Grammar.{EndsTerm}
-use Rattle.rule_terms.specs.TermReaders.{mark_at, term_at}
-use Rattle.rule_terms.specs.Keywords.{operator_in}
-use Rattle.rule_terms.proofs.Starts.{mark_at-of}
-use Rattle.rule_terms.proofs.Spellings.{term_at-of}
 use Rattle.rule_parse.proofs.Beginnings.{BeginsTerm, BeginsOperand, term_begins, argument_begins}
-use Rattle.rule_tokens.proofs.Ends.{EndsLine, name_within-of, type_at-of, line_end-of}
 use Rattle.rule_parse.proofs.Pieces.{operation_in-of, truth_flag-of, type_is_no_flag, type_is_no_truth_flag, type_is_no_operation}
-use Rattle.rule_tokens.proofs.Types.{type_in-of}
-use Rattle.rule_tokens.specs.declared.version.Version.{Version}
-use Rattle.rule_tokens.specs.Limits.{Limits}
 
 module _ (limits : Limits) where
   -- ---- types and operands

@@ -1,31 +1,10 @@
 -- Words: the parser takes them exactly as the grammar spells them.
-use Rattle.std.proofs.Common.{◌≡◌, ℕ, Bool, true, false, not, cond, List, [], ◌∷◌, Option, Some, None, refl, sym, ap, subst, ◌∙◌, ⊎_elim}
-use Rattle.std.specs.Prelude.{codes, ◌&&◌}
-use Rattle.std.proofs.lemmas.Bool.{and_parts}
-use Rattle.std.specs.Str.{bytes_eq}
-use Rattle.ops.specs.declared.opcode.Flags.{Flags}
-use Rattle.ops.specs.declared.opcode.Opcode.TheVariants.{Add, Sub, Mul, UDiv, SDiv, URem, SRem, Shl, LShr, AShr, And, Or, Xor, UMin, UMax, SMin, SMax}
+use Rattle.rule_parse.proofs.Common.{◌≡◌, ℕ, Bool, true, false, not, cond, List, [], ◌∷◌, Option, Some, None, refl, sym, ap, subst, ◌∙◌, ⊎_elim, codes, ◌&&◌, and_parts, bytes_eq, Flags, Add, Sub, Mul, UDiv, SDiv, URem, SRem, Shl, LShr, AShr, And, Or, Xor, UMin, UMax, SMin, SMax, CtPop, CtLz, CtTz, Trunc, ZExt, SExt, flag_in, same_word, word_is, found-passes, is_digit, are_digits, which, Source, RawArgument, Operation, SpellsArgument, IsWrittenType, Token, Word, operation_word, operations, is_known, is_apart, is_told, token_with, opcode_token, operation_in, truth_flag, is_truth_flag, source_word_in, chosen, Version, One, Two, Limits}
 use Rattle.ops.specs.declared.opcode.Unary.{Unary as Intrinsic}
-use Rattle.ops.specs.declared.opcode.Unary.TheVariants.{Abs, CtPop, CtLz, CtTz}
-use Rattle.ops.specs.declared.conversion.Cast.TheVariants.{Trunc, ZExt, SExt}
-use Rattle.ops.specs.FlagKeywords.{flag_in}
-use Rattle.ops.proofs.KeywordLemmas.{same_word, word_is, found-passes}
-use Rattle.scan.specs.Bytes.{is_digit, are_digits}
-use Rattle.scan.proofs.Fronts.{which}
-use Rattle.rule_parse.specs.declared.half.Half.TheVariants.{Source}
-use Rattle.rule_parse.specs.declared.raw.RawArgument.{RawArgument}
+use Rattle.ops.specs.declared.opcode.Unary.TheVariants.{Abs}
 use Rattle.rule_parse.specs.declared.raw.RawArgument.TheVariants as arguments
-use Rattle.rule_parse.specs.declared.word.Operation.{Operation}
 use Rattle.rule_parse.specs.declared.word.Operation.TheVariants.{Binary, Compare, Unary, Select, Convert, Freeze}
-use Rattle.rule_parse.specs.Grammar.{SpellsArgument}
-use Rattle.rule_tokens.specs.Numbers.{IsWrittenType}
-use Rattle.rule_tokens.specs.Tokens.{Token, Word}
-use Rattle.rule_parse.specs.Keywords.{operation_word, operations, is_known, is_apart, is_told, token_with, opcode_token, operation_in, truth_flag, is_truth_flag, source_word_in}
 use Rattle.rule_parse.proofs.Beginnings.{no_truth_flag}
-use Rattle.rule_tokens.proofs.Steps.{chosen}
-use Rattle.rule_tokens.specs.declared.version.Version.{Version}
-use Rattle.rule_tokens.specs.declared.version.Version.TheVariants.{One, Two}
-use Rattle.rule_tokens.specs.Limits.{Limits}
 
 module _ (limits : Limits) where
   -- ---- operations and truths

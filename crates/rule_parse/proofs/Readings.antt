@@ -1,31 +1,8 @@
 -- What the parser reads is what the grammar spells with the tokens that it takes.
-use Rattle.std.proofs.Common.{◌≡◌, ℕ, zero, suc, ◌<◌, ◌≤◌, Bool, true, false, cond, List, [], ◌∷◌, ◌++◌, length, Option, Some, None, Ok, Err, refl, sym, ap, subst, ◌∙◌, ⊎_elim, append_assoc, length-append, arith}
-use Rattle.std.specs.Prelude.{codes}
-use Rattle.std.specs.Str.{bytes_eq}
-use Rattle.ops.proofs.KeywordLemmas.{same_word}
-use Rattle.rule_tokens.specs.declared.fault.RuleFaultKind.TheVariants.{Syntax}
-use Rattle.rule_parse.specs.declared.half.Half.{Half}
-use Rattle.rule_parse.specs.declared.half.Half.TheVariants.{Source, Target}
-use Rattle.rule_parse.specs.declared.raw.RawRule.{RawRule}
-use Rattle.rule_parse.specs.declared.raw.RawStatement.{RawStatement}
-use Rattle.rule_parse.specs.declared.raw.RawPrecondition.{RawPrecondition}
-use Rattle.rule_parse.specs.declared.raw.RawWitness.{RawWitness}
-use Rattle.rule_terms.specs.FormulaReaders.{formula_at}
-use Rattle.rule_terms.specs.TermReaders.{mark_at}
-use Rattle.rule_terms.proofs.Starts.{mark_at-is}
-use Rattle.rule_tokens.specs.Parts.{Maybe}
-use Rattle.rule_tokens.specs.Steps.{◌>>=◌}
-use Rattle.rule_parse.specs.Grammar.{SpellsStatement, SpellsStatements, SpellsHalf, SpellsPrecondition, SpellsWitness, SpellsRule, SpellsRules}
-use Rattle.rule_tokens.specs.PartReaders.{fault, name_within}
-use Rattle.rule_parse.specs.RuleReaders.{op_at, statement_at, statements_at, name_text, name_at, behind_precondition, precondition_at, expressions_at, behind_witness, witness_at, source_at, arrow_at, target_at, rule_at, rules_at}
-use Rattle.rule_tokens.specs.Tokens.{Token, Line, Head, Name, Register, Arrow, Mark}
-use Rattle.rule_tokens.proofs.Takes.{Takes, nothing, name_within-is, line_end-is}
+use Rattle.rule_parse.proofs.Common.{◌≡◌, ℕ, zero, suc, ◌<◌, ◌≤◌, Bool, true, false, cond, List, [], ◌∷◌, ◌++◌, length, Option, Some, None, Ok, Err, refl, sym, ap, subst, ◌∙◌, ⊎_elim, append_assoc, length-append, arith, codes, bytes_eq, same_word, Syntax, Half, Source, Target, RawRule, RawStatement, RawPrecondition, RawWitness, formula_at, mark_at, mark_at-is, Maybe, ◌>>=◌, SpellsStatement, SpellsStatements, SpellsHalf, SpellsPrecondition, SpellsWitness, SpellsRule, SpellsRules, fault, name_within, op_at, statement_at, statements_at, name_text, name_at, behind_precondition, precondition_at, expressions_at, behind_witness, witness_at, source_at, arrow_at, target_at, rule_at, rules_at, Token, Line, Head, Name, Register, Arrow, Mark, Takes, name_within-is, line_end-is, formula_at-is, done, bind_ok, bound, read_as, chosen, Version, Limits}
+use Rattle.rule_tokens.proofs.Takes.{nothing}
 use Rattle.rule_parse.proofs.Expressions.{expressions_at-is}
 use Rattle.rule_parse.proofs.OpReadings.{op_at-is}
-use Rattle.rule_terms.proofs.FormulaReadings.{formula_at-is}
-use Rattle.rule_tokens.proofs.Steps.{done, bind_ok, bound, read_as, chosen}
-use Rattle.rule_tokens.specs.declared.version.Version.{Version}
-use Rattle.rule_tokens.specs.Limits.{Limits}
 
 module _ (limits : Limits) (version : Version) where
   -- ---- statements

@@ -1,23 +1,7 @@
 -- What the grammar spells is read, where the line of its last token ends behind it.
-use Rattle.std.proofs.Common.{◌≡◌, ℕ, zero, suc, ◌<◌, ◌≤◌, List, [], ◌∷◌, ◌++◌, length, Option, Some, None, Ok, refl, ap, ◌∙◌, append_assoc, length-append, arith}
-use Rattle.std.specs.Prelude.{codes}
-use Rattle.rule_parse.specs.declared.half.Half.{Half}
-use Rattle.rule_parse.specs.declared.half.Half.TheVariants.{Source, Target}
-use Rattle.rule_parse.specs.declared.raw.RawRule.{RawRule}
-use Rattle.rule_parse.specs.declared.raw.RawStatement.{RawStatement}
-use Rattle.rule_parse.specs.declared.raw.RawPrecondition.{RawPrecondition}
-use Rattle.rule_parse.specs.declared.raw.RawWitness.{RawWitness}
-use Rattle.rule_terms.proofs.Starts.{mark_at-of}
-use Rattle.rule_tokens.specs.Parts.{Maybe}
-use Rattle.rule_parse.specs.Grammar.{SpellsOp, SpellsStatements, SpellsHalf, SpellsPrecondition, SpellsWitness, SpellsRule, SpellsRules}
-use Rattle.rule_parse.specs.RuleReaders.{statement_at, statements_at, IsNoStatement, name_text, name_at, precondition_at, witness_at, source_at, arrow_at, target_at, rule_at, rules_at}
-use Rattle.rule_tokens.specs.Tokens.{Token, Line, Head, Name, Register, Arrow, Mark}
-use Rattle.rule_tokens.proofs.Ends.{EndsLine, name_within-of, line_end-of}
+use Rattle.rule_parse.proofs.Common.{◌≡◌, ℕ, zero, suc, ◌<◌, ◌≤◌, List, [], ◌∷◌, ◌++◌, length, Option, Some, None, Ok, refl, ap, ◌∙◌, append_assoc, length-append, arith, codes, Half, Source, Target, RawRule, RawStatement, RawPrecondition, RawWitness, mark_at-of, Maybe, SpellsOp, SpellsStatements, SpellsHalf, SpellsPrecondition, SpellsWitness, SpellsRule, SpellsRules, statement_at, statements_at, IsNoStatement, name_text, name_at, precondition_at, witness_at, source_at, arrow_at, target_at, rule_at, rules_at, Token, Line, Head, Name, Register, Arrow, Mark, EndsLine, name_within-of, line_end-of, formula_at-of, Version, Limits}
 use Rattle.rule_parse.proofs.Expressions.{expressions_at-of}
 use Rattle.rule_parse.proofs.OpSpellings.{op_at-of}
-use Rattle.rule_terms.proofs.FormulaSpellings.{formula_at-of}
-use Rattle.rule_tokens.specs.declared.version.Version.{Version}
-use Rattle.rule_tokens.specs.Limits.{Limits}
 
 module _ (limits : Limits) (version : Version) where
   -- ---- statements

@@ -1,30 +1,13 @@
 -- Terms and formulas have no more nodes and names than tokens that count.
-use Rattle.std.proofs.Common.{◌≡◌, ℕ, ◌+◌, true, false, List, [], ◌∷◌, ◌++◌, length, refl, ◌⊎◌, inl, inr, arith}
-use Rattle.std.specs.Prelude.{IsTrue, codes, sum_by, flat_map}
-use Rattle.std.proofs.lemmas.List.Sums.{sum_by-cons, sum_by-append}
+use Rattle.rule_parse.proofs.Common.{◌≡◌, ℕ, ◌+◌, true, false, List, [], ◌∷◌, ◌++◌, length, refl, ◌⊎◌, inl, inr, arith, IsTrue, codes, sum_by, flat_map, sum_by-cons, sum_by-append, Pred, Function, Negate, Not, Log2, is_among, is_constant, is_choice, ends_primary, Token, Register, Word, Mark, TermPlace, RawNode, RawFormula, last_place, SpellsLeaf, SpellsTerm, leaf, width, parenthesised, called, prefixed, tighter, joined, Standing, Level, SpellsFormula, compares, tests, one_use, turns, encloses, member, members, either, comparison_mark, predicates, operator_mark, IsPrefix, IsCalled, IsChoice, terms_of_formula, is_node_word, plain_marks, node_weight, formula_weight, Limits}
 use Rattle.ops.specs.declared.opcode.Opcode.{Opcode}
 use Rattle.ops.specs.declared.opcode.Opcode.TheVariants as opcodes
-use Rattle.ops.specs.declared.comparison.Pred.{Pred}
 use Rattle.ops.specs.declared.comparison.Pred.TheVariants as preds
-use Rattle.rule_core.specs.declared.rule.Function.{Function}
-use Rattle.rule_core.specs.declared.rule.Function.TheVariants.{Negate, Not, Log2, Abs}
-use Rattle.scan.specs.RuleTokens.{is_among, is_constant, is_choice, ends_primary}
-use Rattle.rule_tokens.specs.Tokens.{Token, Register, Word, Mark}
-use Rattle.rule_terms.specs.declared.place.TermPlace.{TermPlace}
-use Rattle.rule_terms.specs.declared.raw.RawNode.{RawNode}
+use Rattle.rule_core.specs.declared.rule.Function.TheVariants.{Abs}
 use Rattle.rule_terms.specs.declared.raw.RawNode.TheVariants as nodes
-use Rattle.rule_terms.specs.declared.raw.RawFormula.{RawFormula}
 use Rattle.rule_terms.specs.declared.raw.RawFormula.TheVariants as formulas
-use Rattle.rule_terms.specs.Grammar.{last_place, SpellsLeaf, SpellsTerm, leaf, width, parenthesised, called, prefixed, tighter, joined}
-use Rattle.rule_terms.specs.Formulas.{Standing, Level, SpellsFormula, compares, tests, one_use, turns, encloses, member, both, members, either}
-use Rattle.rule_terms.specs.FormulaKeywords.{comparison_mark}
-use Rattle.rule_terms.proofs.Predicates.{predicates}
-use Rattle.rule_terms.specs.Keywords.{operator_mark, IsPrefix, IsCalled, IsChoice}
-use Rattle.rule_parse.specs.Contents.{terms_of_formula}
-use Rattle.rule_parse.specs.CutTokens.{is_node_word, plain_marks}
-use Rattle.rule_parse.specs.Weight.{node_weight, formula_weight}
+use Rattle.rule_terms.specs.Formulas.{both}
 use Rattle.rule_parse.proofs.Cuts.{Weighs, join, at_least, word, number, register, node_word, operator, enclosed}
-use Rattle.rule_tokens.specs.Limits.{Limits}
 
 module _ (limits : Limits) where
   -- ---- words and marks that are counted

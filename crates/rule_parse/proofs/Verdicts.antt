@@ -1,23 +1,7 @@
 -- A text has one list of rules or one fault.
-use Rattle.std.proofs.Common.{◌≡◌, ℕ, List, Result, Ok, Err, refl, sym, ap, subst, ◌∙◌, ◌⊎◌, inl, inr, arith}
-use Rattle.std.specs.Prelude.{IfOk, IfErr}
-use Rattle.scan.specs.Laws.{OneTokenAtAPlace}
-use Rattle.rule_tokens.specs.RuleFaults.{RuleFault, RuleError}
-use Rattle.refusal.specs.declared.refusal.Refusal.TheVariants.{Refused, NoMemory}
-use Rattle.rule_parse.specs.declared.raw.RawRule.{RawRule}
-use Rattle.refusal.specs.Refusals.{Gives}
-use Rattle.rule_parse.specs.Grammar.{SpellsFile}
-use Rattle.rule_parse.specs.OneReading.{TextsHaveOneReadingOrFault}
-use Rattle.rule_parse.specs.CutTokens.{limited}
-use Rattle.rule_parse.specs.RuleReaders.{all_rules}
-use Rattle.refusal.specs.Refusals.{IfRefused}
-use Rattle.rule_parse.specs.Text.{IsWritten, IsTextFault}
-use Rattle.rule_tokens.specs.Tokens.{Token, AreTokens}
-use Rattle.rule_tokens.proofs.Readers.{one_reading, has_tokens}
+use Rattle.rule_parse.proofs.Common.{◌≡◌, ℕ, List, Result, Ok, Err, refl, sym, ap, subst, ◌∙◌, ◌⊎◌, inl, inr, arith, IfOk, IfErr, OneTokenAtAPlace, RuleFault, RuleError, Refused, NoMemory, RawRule, Gives, SpellsFile, TextsHaveOneReadingOrFault, limited, all_rules, IfRefused, IsWritten, IsTextFault, Token, AreTokens, one_reading, has_tokens, ok_is, rule_limits}
 use Rattle.rule_parse.proofs.Files.{all_rules-is, all_rules-of}
 use Rattle.rule_parse.proofs.Weight.{spelled_whole}
-use Rattle.rule_tokens.proofs.Steps.{ok_is}
-use Rattle.rule_tokens.specs.Limits.{rule_limits}
 
 -- what the parser gives of the text's tokens
 abbrev IsRead : List ℕ → Result (List RawRule) RuleFault → Type 0

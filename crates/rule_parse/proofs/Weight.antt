@@ -1,44 +1,12 @@
 -- A rule has no more operands, literals, names, operators and functions than tokens that count.
-use Rattle.std.proofs.Common.{◌≡◌, ℕ, zero, suc, inl, inr, ◌+◌, ◌≤◌, Bool, true, false, List, [], ◌∷◌, ◌++◌, map, Option, Some, None, refl, sym, ap, subst, ◌∙◌, arith}
-use Rattle.std.specs.Prelude.{codes, sum_by, flat_map, slice_get}
-use Rattle.std.specs.Option.{option_map_or}
-use Rattle.std.proofs.lemmas.List.Sums.{sum_by-cons, sum_by-append}
-use Rattle.std.proofs.lemmas.Grind.{flat_map-append}
-use Rattle.ops.specs.declared.keywords.flag.Flag.{Flag}
-use Rattle.ops.specs.Keywords.{predicate_keyword}
+use Rattle.rule_parse.proofs.Common.{◌≡◌, ℕ, zero, suc, inl, inr, ◌+◌, ◌≤◌, Bool, true, false, List, [], ◌∷◌, ◌++◌, map, Option, Some, None, refl, sym, ap, subst, ◌∙◌, arith, codes, sum_by, flat_map, slice_get, option_map_or, sum_by-cons, sum_by-append, flat_map-append, Flag, predicate_keyword, flag_keyword, is_digit, is_constant, is_choice, ends_primary, Maybe, SpellsType, Token, Line, Head, Name, Word, Number, Arrow, Mark, RawNode, Half, Source, Target, RawRule, RawStatement, RawPrecondition, RawWitness, RawOp, Copy, RawOperand, RawArgument, SpellsTermOperand, SpellsArgument, SpellsOperand, SpellsPair, SpellsTruth, SpellsOpcode, SpellsTo, SpellsOp, SpellsStatements, SpellsPrecondition, SpellsMoreExpressions, SpellsExpressions, SpellsWitness, SpellsRule, SpellsRules, SpellsFile, arguments_of, arguments_among, terms_of_argument, terms_of_formula, target_terms, terms_of, expressions_of, formula_of, WrittenRulesAreSmall, is_node_word, ends_before_line, room_behind, or_excess, limited_to, limited, most_nodes, argument_weight, node_weight, raw_weight, operation_word, is_apart, token_with, truth_word, argument_of, Operation, Version, Limits, rule_limits}
 use Rattle.ops.specs.declared.opcode.Unary.{Unary as Intrinsic}
-use Rattle.ops.specs.FlagKeywords.{flag_keyword}
-use Rattle.scan.specs.Bytes.{is_digit}
-use Rattle.scan.specs.RuleTokens.{is_constant, is_choice, ends_primary}
-use Rattle.rule_tokens.specs.Parts.{Maybe}
-use Rattle.rule_tokens.specs.TypeTokens.{SpellsType}
-use Rattle.rule_tokens.specs.Tokens.{Token, Line, Head, Name, Word, Number, Arrow, Mark}
-use Rattle.rule_terms.specs.declared.raw.RawNode.{RawNode}
 use Rattle.rule_terms.specs.declared.raw.RawNode.TheVariants as nodes
-use Rattle.rule_parse.specs.declared.half.Half.{Half}
-use Rattle.rule_parse.specs.declared.half.Half.TheVariants.{Source, Target}
-use Rattle.rule_parse.specs.declared.raw.RawRule.{RawRule}
-use Rattle.rule_parse.specs.declared.raw.RawStatement.{RawStatement}
-use Rattle.rule_parse.specs.declared.raw.RawPrecondition.{RawPrecondition}
-use Rattle.rule_parse.specs.declared.raw.RawWitness.{RawWitness}
-use Rattle.rule_parse.specs.declared.raw.RawOp.{RawOp}
-use Rattle.rule_parse.specs.declared.raw.RawOp.TheVariants.{Binary, Compare, Unary, Select, Convert, Freeze, Copy}
-use Rattle.rule_parse.specs.declared.raw.RawOperand.{RawOperand}
-use Rattle.rule_parse.specs.declared.raw.RawArgument.{RawArgument}
+use Rattle.rule_parse.specs.declared.raw.RawOp.TheVariants.{Binary, Compare, Unary, Select, Convert, Freeze}
 use Rattle.rule_parse.specs.declared.raw.RawArgument.TheVariants as arguments
-use Rattle.rule_parse.specs.Grammar.{SpellsTermOperand, SpellsArgument, SpellsOperand, SpellsPair, SpellsTruth, SpellsOpcode, SpellsTo, SpellsOp, SpellsStatements, SpellsPrecondition, SpellsMoreExpressions, SpellsExpressions, SpellsWitness, SpellsRule, SpellsRules, SpellsFile}
-use Rattle.rule_parse.specs.Contents.{arguments_of, arguments_among, terms_of_argument, terms_of_formula, target_terms, terms_of, expressions_of, formula_of}
-use Rattle.rule_parse.specs.OneReading.{WrittenRulesAreSmall}
-use Rattle.rule_parse.specs.CutTokens.{is_node_word, ends_before_line, room_behind, or_excess, limited_to, limited}
-use Rattle.rule_parse.specs.Limits.{most_nodes}
-use Rattle.rule_parse.specs.Weight.{argument_weight, node_weight, raw_weight}
-use Rattle.rule_parse.specs.Keywords.{operation_word, is_apart, token_with, truth_word, argument_of}
-use Rattle.rule_parse.specs.declared.word.Operation.{Operation}
 use Rattle.rule_parse.specs.declared.word.Operation.TheVariants as operations
 use Rattle.rule_parse.proofs.Cuts.{step, AreOfText, of_both, first_of, begins_of, Weighs, nothing, join, light, at_least, word, opcode, mark, number, register, node_word, assigned, behind_one, precondition_led, witness_led, arrow_led}
 use Rattle.rule_parse.proofs.TermWeights.{constant_counts, nodes_weight, nodes_weight-is, term_weighs, formulas_weight, formulas_weight-is, formula_weighs}
-use Rattle.rule_tokens.specs.declared.version.Version.{Version}
-use Rattle.rule_tokens.specs.Limits.{Limits, rule_limits}
 
 module _ (limits : Limits) where
   -- ---- operands

@@ -1,12 +1,5 @@
 -- The checks of a rule's assignments, as the code goes over them.
-use Rattle.std.proofs.Common.{◌≡◌, ◌⊎◌, inl, inr, ℕ, suc, ◌-◌, ◌<◌, ◌≤◌, List, length, Option, None, Some, refl, subst, arith}
-use Rattle.std.specs.Prelude.{slice_get, IsTrue, Bool}
-use Rattle.rule_parse.specs.declared.raw.RawRule.{RawRule}
-use Rattle.rule_parse.specs.declared.raw.RawStatement.{RawStatement}
-use Rattle.rule_reader.specs.Meaning.{AssignsAt, IsTemporary, IsRoot}
-use Rattle.rule_reader.specs.WellFormed.{IsWellFormed}
-use Rattle.rule_reader.specs.FaultKinds.{StandsAt, HasNameOf, AssignsAgain, DuplicateAt, MissesRoot, RootMissingAt}
-use Rattle.rule_reader.specs.Faults.{IsFirst, IsFirstLine}
+use Rattle.rule_reader.proofs.Common.{◌≡◌, ◌⊎◌, inl, inr, ℕ, suc, ◌-◌, ◌<◌, ◌≤◌, List, length, Option, None, Some, refl, subst, arith, slice_get, IsTrue, Bool, RawRule, RawStatement, AssignsAt, IsTemporary, IsRoot, IsWellFormed, StandsAt, HasNameOf, AssignsAgain, DuplicateAt, MissesRoot, RootMissingAt, IsFirst, IsFirstLine}
 use Rattle.rule_reader.proofs.Places.{same_at, there}
 use Rattle.rule_reader.proofs.Firsts.{first_here, first_left, first_right, first_none_of, lines_before}
 

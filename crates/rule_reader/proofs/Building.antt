@@ -1,30 +1,11 @@
 -- Resolving a rule as written whose names may all be used where they are.
-use Rattle.std.proofs.Common.{◌≡◌, ℕ, ◌+◌, ◌<◌, ◌≤◌, List, [], ◌∷◌, ◌++◌, length, Some, refl, sym, ap, subst, ◌∙◌, arith, take, drop, get_or}
-use Rattle.std.specs.Prelude.{slice_get, Contains, flat_map, sum_by}
-use Rattle.std.proofs.lemmas.List.{take-append-drop, take_all}
-use Rattle.std.proofs.lemmas.Grind.{flat_map-append}
-use Rattle.std.proofs.lemmas.List.Elements.{Contains-append_left, Contains-append_right}
-use Rattle.rule_parse.specs.declared.raw.RawRule.{RawRule}
-use Rattle.rule_parse.specs.declared.raw.RawStatement.{RawStatement}
-use Rattle.rule_parse.specs.declared.raw.RawArgument.{RawArgument}
-use Rattle.rule_parse.specs.declared.raw.RawArgument.TheVariants.{Register, Literal, Truth, Constant, Undef, Term}
-use Rattle.rule_terms.specs.declared.raw.RawNode.{RawNode}
+use Rattle.rule_reader.proofs.Common.{◌≡◌, ℕ, ◌+◌, ◌<◌, ◌≤◌, List, [], ◌∷◌, ◌++◌, length, Some, refl, sym, ap, subst, ◌∙◌, arith, take, drop, get_or, slice_get, Contains, flat_map, take-append-drop, take_all, flat_map-append, Contains-append_left, Contains-append_right, RawRule, RawStatement, RawArgument, Literal, Truth, Constant, Undef, RawNode, RawFormula, Contains-from_get, Contains-flat_map, Names, Counts, UseSite, Half, arguments_of, arguments_among, terms_of_argument, terms_of_formula, formula_of, target_terms, terms_of, nodes_in, past_all, counted_of, counted_among, no_counts, in_half, TermsMean, IsBehindOperands, AreInLineOrder, IsTerm, IsWellFormed, Each, ArgumentIsBound, TermIsBound, NodeIsBound, half_of, place_in, IsPlaceOf, HalfIsBound, AreFew, IsWhole, AreReady, NodeFits, HasReadyTerm, AddsTerms}
+use Rattle.std.proofs.Common.{sum_by}
+use Rattle.rule_parse.specs.declared.raw.RawArgument.TheVariants.{Register, Term}
 use Rattle.rule_terms.specs.declared.raw.RawNode.TheVariants as raw_nodes
-use Rattle.rule_terms.specs.declared.raw.RawFormula.{RawFormula}
 use Rattle.rule_core.specs.declared.rule.Term.{Term as Meant}
-use Rattle.rule_core.proofs.Members.{Contains-from_get, Contains-flat_map}
-use Rattle.rule_reader.specs.declared.names.Names.{Names}
-use Rattle.rule_reader.specs.declared.counts.Counts.{Counts}
-use Rattle.rule_reader.specs.declared.place.UseSite.{UseSite}
 use Rattle.rule_reader.specs.declared.place.UseSite.TheVariants as places
-use Rattle.rule_reader.specs.declared.place.Half.{Half}
 use Rattle.rule_reader.specs.declared.place.Half.TheVariants as halves
-use Rattle.rule_parse.specs.Contents.{arguments_of, arguments_among, terms_of_argument, terms_of_formula, formula_of, target_terms, terms_of}
-use Rattle.rule_reader.specs.Meaning.{nodes_in, past_all, counted_of, counted_among, no_counts, in_half, TermsMean}
-use Rattle.rule_terms.specs.Nodes.{IsBehindOperands}
-use Rattle.rule_reader.specs.WellFormed.{AreInLineOrder, IsTerm, IsWellFormed}
-use Rattle.rule_reader.specs.FaultKinds.{Each, ArgumentIsBound, TermIsBound, NodeIsBound}
-use Rattle.rule_reader.specs.KnownRules.{half_of, place_in, IsPlaceOf, HalfIsBound, AreFew, IsWhole, AreReady, NodeFits, HasReadyTerm, AddsTerms}
 use Rattle.rule_reader.proofs.Places.{read_at}
 use Rattle.rule_reader.proofs.Members.{each_at, each_of}
 use Rattle.rule_reader.proofs.Counting.{few_at, few_read, ready, arguments_more}

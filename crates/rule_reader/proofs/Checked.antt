@@ -1,56 +1,22 @@
 -- A rule that a rule as written without faults means is an `IsRule`.
-use Rattle.std.proofs.Common.{◌≡◌, inl, inr, ℕ, zero, suc, ◌+◌, ◌-◌, ◌<◌, ◌≤◌, Bool, List, [], ◌∷◌, ◌++◌, append_assoc, length, Some, refl, sym, ap, subst, ◌∙◌, arith, get_or}
-use Rattle.std.specs.Prelude.{slice_get, Contains, map, flat_map}
-use Rattle.std.specs.List.{range_with_len}
-use Rattle.std.proofs.lemmas.List.{length-map}
-use Rattle.std.proofs.lemmas.List.Elements.{Contains-append_left}
-use Rattle.std.proofs.lemmas.Option.{slice_get_within, slice_get-get_or, same_Some}
-use Rattle.std.proofs.lemmas.List.FromFn.{length-range_with_len}
-use Rattle.std.proofs.lemmas.Grind.{flat_map-append}
+use Rattle.rule_reader.proofs.Common.{◌≡◌, inl, inr, ℕ, zero, suc, ◌+◌, ◌-◌, ◌<◌, ◌≤◌, Bool, List, [], ◌∷◌, ◌++◌, append_assoc, length, Some, refl, sym, ap, subst, ◌∙◌, arith, get_or, slice_get, Contains, map, flat_map, range_with_len, length-map, Contains-append_left, slice_get_within, slice_get-get_or, same_Some, length-range_with_len, flat_map-append, Flags, Cast, FlagsFit, CastFlagsFit, TruthFits, RawRule, RawStatement, RawOp, RawArgument, RawNode, RawFormula, Rule, Statement, Op, Operand, Argument, Node, Formula, Turns, Both, Either, joint_of, OneUseIsOutermost, AreLastNodes, IsRule, SourceMayRead, TargetMayRead, TargetMayMeasure, MeasuresBeforeRoot, FormulaMayMeasure, HasKnownWidth, IsBeforeRoot, MayBeTerm, MayBeWitness, MayBeFormula, ReadsNoUndefAlone, ChoicesInOrder, names_of, operands_among, choices_among, Contains-from_get, Contains-flat_map, Counts, Names, arguments_of, arguments_among, formula_of, expressions_of, target_terms, terms_of, terms_of_argument, terms_of_formula, nodes_in, past, past_all, counted_of, counted_among, no_counts, in_half, with_counts, with_nodes, with_terms, last_nodes, UsesAt, IsRoot, AssignsAt, IsInput, ArgumentMeans, OpMeans, StatementMeans, NodeMeans, FormulaMeans, HasName, HalfMeans, TermsMean, Means, names_of_rule, IsBehindOperands, IsHalf, IsTerm, IsWellFormed, IsBehindFormulas, MayStandInTerm, MayStandInSource, raw_joint, MayUse, NodeIsBound, TermIsBound, ArgumentIsBound, FormulaIsBound, RootMissingAt, UnusedTempAt, UndefInsideAt, WitnessCountAt, IsFreeze, LeavesOpen, ReadsUndefAlone, NamesAreThere}
 use Rattle.ops.specs.declared.opcode.Opcode.{Opcode}
-use Rattle.ops.specs.declared.opcode.Flags.{Flags}
-use Rattle.ops.specs.declared.conversion.Cast.{Cast}
-use Rattle.ops.specs.Flags.{FlagsFit, CastFlagsFit}
-use Rattle.ops.specs.Truths.{TruthFits}
 use Rattle.ops.specs.declared.opcode.Unary.{Unary as Intrinsic}
-use Rattle.rule_parse.specs.declared.raw.RawRule.{RawRule}
-use Rattle.rule_parse.specs.declared.raw.RawStatement.{RawStatement}
-use Rattle.rule_parse.specs.declared.raw.RawOp.{RawOp}
 use Rattle.rule_parse.specs.declared.raw.RawOp.TheVariants as raw_ops
-use Rattle.rule_parse.specs.declared.raw.RawArgument.{RawArgument}
 use Rattle.rule_parse.specs.declared.raw.RawArgument.TheVariants as raw_arguments
-use Rattle.rule_terms.specs.declared.raw.RawNode.{RawNode}
 use Rattle.rule_terms.specs.declared.raw.RawNode.TheVariants as raw_nodes
-use Rattle.rule_terms.specs.declared.raw.RawFormula.{RawFormula}
 use Rattle.rule_terms.specs.declared.raw.RawFormula.TheVariants as raw_formulas
-use Rattle.rule_core.specs.declared.rule.Rule.{Rule}
-use Rattle.rule_core.specs.declared.rule.Statement.{Statement}
-use Rattle.rule_core.specs.declared.rule.Op.{Op}
 use Rattle.rule_core.specs.declared.rule.Op.TheVariants as ops
-use Rattle.rule_core.specs.declared.rule.Operand.{Operand}
-use Rattle.rule_core.specs.declared.rule.Argument.{Argument}
 use Rattle.rule_core.specs.declared.rule.Argument.TheVariants as arguments
 use Rattle.rule_core.specs.declared.rule.Register.{Register}
 use Rattle.rule_core.specs.declared.rule.Register.TheVariants as registers
 use Rattle.rule_core.specs.declared.rule.Term.{Term}
-use Rattle.rule_core.specs.declared.rule.Node.{Node}
 use Rattle.rule_core.specs.declared.rule.Node.TheVariants as nodes
-use Rattle.rule_core.specs.declared.rule.Formula.{Formula}
 use Rattle.rule_core.specs.declared.rule.Formula.TheVariants as formulas
-use Rattle.rule_core.specs.FormulaNodes.{Turns, Both, Either, joint_of, OneUseIsOutermost}
-use Rattle.rule_core.specs.TermNodes.{AreLastNodes}
-use Rattle.rule_core.specs.Checks.{IsRule, SourceMayRead, TargetMayRead, TargetMayMeasure, MeasuresBeforeRoot, FormulaMayMeasure, HasKnownWidth, IsBeforeRoot, MayBeTerm, MayBeWitness, MayBeFormula, MayStandInSource as MayBeInSource, FlagsFitOp, ReadsNoUndefAlone, ChoicesInOrder, StandsAt as StandsInRule, names_of}
-use Rattle.rule_core.specs.Positions.{operands_of as operands_meant, operands_among, choices_among}
-use Rattle.rule_core.proofs.Members.{Contains-from_get, Contains-flat_map}
-use Rattle.rule_reader.specs.declared.counts.Counts.{Counts}
-use Rattle.rule_reader.specs.declared.names.Names.{Names}
+use Rattle.rule_core.specs.Checks.{MayStandInSource as MayBeInSource, FlagsFitOp, StandsAt as StandsInRule}
+use Rattle.rule_core.specs.Positions.{operands_of as operands_meant}
 use Rattle.rule_reader.specs.declared.place.UseSite.TheVariants as places
-use Rattle.rule_parse.specs.Contents.{arguments_of, arguments_among, formula_of, expressions_of, target_terms, terms_of, terms_of_argument, terms_of_formula}
-use Rattle.rule_reader.specs.Meaning.{nodes_in, past, past_all, counted_of, counted_among, no_counts, in_half, with_counts, with_nodes, with_terms, last_nodes, UsesAt, IsRoot, AssignsAt, IsInput, ArgumentMeans, OpMeans, StatementMeans, NodeMeans, FormulaMeans, HasName, HalfMeans, TermsMean, Means, names_of_rule}
-use Rattle.rule_terms.specs.Nodes.{IsBehindOperands}
-use Rattle.rule_reader.specs.WellFormed.{IsHalf, IsTerm, IsWellFormed, IsBehindFormulas, MayStandInTerm, MayStandInSource, raw_joint, FlagsFitOp as FlagsFitRaw}
-use Rattle.rule_reader.specs.FaultKinds.{MayUse, NodeIsBound, TermIsBound, ArgumentIsBound, FormulaIsBound, RootMissingAt, UnusedTempAt, UndefInsideAt, WitnessCountAt, IsFreeze, LeavesOpen, ReadsUndefAlone}
-use Rattle.rule_reader.specs.KnownRules.{NamesAreThere}
+use Rattle.rule_reader.specs.WellFormed.{FlagsFitOp as FlagsFitRaw}
 use Rattle.rule_reader.proofs.Places.{order, same_at, there, map_at, somewhere, zip_right}
 use Rattle.rule_reader.proofs.SameWeight.{same_weight}
 use Rattle.rule_reader.proofs.There.{IsThere, term_there}

@@ -1,26 +1,8 @@
 -- From check to check: what is known of a rule that has passed some, and what its first fault is.
-use Rattle.std.proofs.Common.{◌≡◌, inl, inr, ℕ, suc, ◌<◌, List, [], ◌∷◌, Some, refl, sym, subst, arith}
-use Rattle.std.specs.Prelude.{slice_get, Bool, true, false}
-use Rattle.std.proofs.lemmas.Bool.{false≢true}
-use Rattle.rule_core.specs.Checks.{IsRule}
-use Rattle.rule_tokens.specs.RuleFaults.{RuleFault, RuleError}
-use Rattle.refusal.specs.declared.refusal.Refusal.TheVariants.{Refused}
-use Rattle.refusal.specs.Refusals.{IfRefused}
-use Rattle.rule_reader.specs.WellFormed.{IsWellFormed}
-use Rattle.rule_reader.specs.RepeatedNames.{MarksRule}
-use Rattle.std.proofs.lemmas.Option.{slice_get_within}
-use Rattle.rule_parse.specs.declared.raw.RawRule.{RawRule}
-use Rattle.rule_parse.specs.declared.raw.RawStatement.{RawStatement}
-use Rattle.rule_core.specs.declared.rule.Rule.{Rule}
-use Rattle.rule_typing.specs.declared.classes.ClassFault.{ClassFault}
+use Rattle.rule_reader.proofs.Common.{◌≡◌, inl, inr, ℕ, suc, ◌<◌, List, [], ◌∷◌, Some, refl, sym, subst, arith, slice_get, Bool, true, false, false≢true, IsRule, RuleFault, RuleError, Refused, IfRefused, IsWellFormed, MarksRule, slice_get_within, RawRule, RawStatement, Rule, ClassFault, IsClassified, HasTooManyClasses, HasNoTyping, HasOpenClass, Means, ClassesAt, DuplicateAt, UnboundAt, RootMissingAt, RedefinesAt, UnusedTempAt, UndefInsideAt, WitnessCountAt, Check, Duplicate, Unbound, RootMissing, UnusedTemp, UndefInside, WitnessCount, ManyClasses, NoType, OpenType, rank, kind_of, class_check, FailsAt, IsFirstLine, IsFirstRuleFault, IsRuleOf, NamesAreThere, IsClassifiedAs, IsClassFault}
 use Rattle.rule_typing.specs.declared.classes.ClassFault.TheVariants as class_faults
-use Rattle.rule_typing.specs.Classes.{IsClassified}
-use Rattle.rule_typing.specs.Faults.{IsFault as IsFaultOfClasses, HasTooManyClasses, HasNoTyping, HasOpenClass}
-use Rattle.rule_reader.specs.Meaning.{Means}
-use Rattle.rule_reader.specs.FaultKinds.{ClassesAt, DuplicateAt, UnboundAt, RootMissingAt, RedefinesAt, UnusedTempAt, UndefInsideAt, WitnessCountAt}
-use Rattle.rule_reader.specs.Faults.{Check, Duplicate, Unbound, RootMissing, Redefines, UnusedTemp, UndefInside, WitnessCount, ManyClasses, NoType, OpenType, rank, kind_of, class_check, FailsAt, IsFirstLine, IsFirstRuleFault, IsRuleOf}
-use Rattle.rule_reader.specs.KnownRules.{NamesAreThere}
-use Rattle.rule_reader.specs.ClassFaults.{IsClassifiedAs, IsClassFault}
+use Rattle.rule_typing.specs.Faults.{IsFault as IsFaultOfClasses}
+use Rattle.rule_reader.specs.Faults.{Redefines}
 use Rattle.rule_reader.proofs.Checked.{IsBound, checked_rule}
 use Rattle.rule_reader.proofs.There.{names_there}
 use Rattle.rule_reader.proofs.Classes.{same_meaning}

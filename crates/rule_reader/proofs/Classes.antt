@@ -1,28 +1,11 @@
 -- Rules that differ in nothing but their classes have one meaning, and the numbers of classes are determined.
-use Rattle.std.proofs.Common.{◌≡◌, ℕ, ◌+◌, List, [], ◌∷◌, length, sym, ap, subst, ◌∙◌}
-use Rattle.std.specs.List.{AllZip}
-use Rattle.rule_parse.specs.declared.raw.RawRule.{RawRule}
-use Rattle.rule_parse.specs.declared.raw.RawStatement.{RawStatement}
-use Rattle.rule_parse.specs.declared.raw.RawOp.{RawOp}
+use Rattle.rule_reader.proofs.Common.{◌≡◌, ℕ, ◌+◌, List, [], ◌∷◌, length, sym, ap, subst, ◌∙◌, AllZip, RawRule, RawStatement, RawOp, RawOperand, RawNode, Rule, Statement, Op, Operand, Node, classes_of_statement, classes_of_term, numbered_op, numbered_statement, numbered_statements, numbered_node, numbered_term, numbered_terms, numbered, Names, Counts, terms_of, expressions_of, formula_of, past, past_all, counted_of, no_counts, with_counts, with_nodes, AreNames, ArgumentMeans, OperandMeans, OpMeans, StatementMeans, NodeMeans, PreconditionMeans, HalfMeans, TermsMean, Means, names_of_rule}
 use Rattle.rule_parse.specs.declared.raw.RawOp.TheVariants as raw_ops
-use Rattle.rule_parse.specs.declared.raw.RawOperand.{RawOperand}
-use Rattle.rule_terms.specs.declared.raw.RawNode.{RawNode}
 use Rattle.rule_terms.specs.declared.raw.RawNode.TheVariants as raw_nodes
-use Rattle.rule_core.specs.declared.rule.Rule.{Rule}
-use Rattle.rule_core.specs.declared.rule.Statement.{Statement}
-use Rattle.rule_core.specs.declared.rule.Op.{Op}
 use Rattle.rule_core.specs.declared.rule.Op.TheVariants as ops
-use Rattle.rule_core.specs.declared.rule.Operand.{Operand}
 use Rattle.rule_core.specs.declared.rule.Register.{Register}
 use Rattle.rule_core.specs.declared.rule.Term.{Term}
-use Rattle.rule_core.specs.declared.rule.Node.{Node}
 use Rattle.rule_core.specs.declared.rule.Node.TheVariants as nodes
-use Rattle.rule_core.specs.Positions.{classes_of_statement, classes_of_term}
-use Rattle.rule_typing.specs.Relabelled.{numbered_op, numbered_statement, numbered_statements, numbered_node, numbered_term, numbered_terms, numbered}
-use Rattle.rule_reader.specs.declared.names.Names.{Names}
-use Rattle.rule_reader.specs.declared.counts.Counts.{Counts}
-use Rattle.rule_parse.specs.Contents.{terms_of, expressions_of, formula_of}
-use Rattle.rule_reader.specs.Meaning.{past, past_all, counted_of, no_counts, with_counts, with_nodes, AreNames, ArgumentMeans, OperandMeans, OpMeans, StatementMeans, NodeMeans, PreconditionMeans, HalfMeans, TermsMean, Means, names_of_rule}
 
 -- an operand with this class in place of its own
 abbrev with_class : Operand → ℕ → Operand

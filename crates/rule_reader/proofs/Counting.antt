@@ -1,24 +1,7 @@
 -- Counts of choices and of nodes of terms before and behind statements and operands.
-use Rattle.std.proofs.Common.{◌≡◌, ℕ, zero, suc, ◌+◌, ◌<◌, ◌≤◌, List, [], ◌∷◌, ◌++◌, length, Some, refl, sym, ap, subst, ◌∙◌, arith, take, drop, get_or}
-use Rattle.std.specs.Prelude.{slice_get}
-use Rattle.std.specs.List.{AllZip}
-use Rattle.std.proofs.lemmas.List.{take_more, take_all, append-nil, take-append-drop}
-use Rattle.std.proofs.lemmas.Grind.{flat_map-append, fold-append}
-use Rattle.std.proofs.lemmas.Option.{same_Some}
-use Rattle.rule_parse.specs.declared.raw.RawRule.{RawRule}
-use Rattle.rule_parse.specs.declared.raw.RawStatement.{RawStatement}
-use Rattle.rule_parse.specs.declared.raw.RawOp.{RawOp}
+use Rattle.rule_reader.proofs.Common.{◌≡◌, ℕ, zero, suc, ◌+◌, ◌<◌, ◌≤◌, List, [], ◌∷◌, ◌++◌, length, Some, refl, sym, ap, subst, ◌∙◌, arith, take, drop, get_or, slice_get, AllZip, take_more, take_all, append-nil, take-append-drop, flat_map-append, fold-append, same_Some, RawRule, RawStatement, RawOp, RawArgument, Literal, Truth, Constant, Undef, Statement, Names, Counts, UseSite, arguments_of, arguments_among, past, past_all, counted_of, counted_among, no_counts, in_half, with_counts, StatementMeans, HalfMeans, Each, ArgumentIsBound, AreFew, IsWhole, AreReady}
 use Rattle.rule_parse.specs.declared.raw.RawOp.TheVariants as raw_ops
-use Rattle.rule_parse.specs.declared.raw.RawArgument.{RawArgument}
-use Rattle.rule_parse.specs.declared.raw.RawArgument.TheVariants.{Register, Literal, Truth, Constant, Undef, Term}
-use Rattle.rule_core.specs.declared.rule.Statement.{Statement}
-use Rattle.rule_reader.specs.declared.names.Names.{Names}
-use Rattle.rule_reader.specs.declared.counts.Counts.{Counts}
-use Rattle.rule_reader.specs.declared.place.UseSite.{UseSite}
-use Rattle.rule_parse.specs.Contents.{arguments_of, arguments_among}
-use Rattle.rule_reader.specs.Meaning.{past, past_all, counted_of, counted_among, no_counts, in_half, with_counts, StatementMeans, HalfMeans}
-use Rattle.rule_reader.specs.FaultKinds.{Each, ArgumentIsBound}
-use Rattle.rule_reader.specs.KnownRules.{AreFew, IsWhole, AreReady}
+use Rattle.rule_parse.specs.declared.raw.RawArgument.TheVariants.{Register, Term}
 use Rattle.rule_reader.proofs.Places.{zip_push}
 
 few_one : (c : Counts) (a : RawArgument) → AreFew (past c a) → AreFew c

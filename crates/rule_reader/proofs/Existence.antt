@@ -1,16 +1,7 @@
 -- Each text has a list of rules or a fault.
-use Rattle.std.proofs.Common.{◌≡◌, ◌⊎◌, inl, inr, ℕ, zero, suc, ◌+◌, ◌≤◌, List, [], ◌∷◌, ◌++◌, length, take, None, Some, refl, sym, arith}
-use Rattle.std.proofs.lemmas.Bool.{cases_lt}
-use Rattle.rule_parse.specs.declared.raw.RawRule.{RawRule}
-use Rattle.rule_parse.specs.Text.{IsWritten}
-use Rattle.rule_parse.specs.OneReading.{TextsHaveOneReadingOrFault}
-use Rattle.rule_core.specs.declared.rule.Rule.{Rule}
-use Rattle.rule_typing.specs.Laws.{RulesHaveClasses}
-use Rattle.rule_tokens.specs.RuleFaults.{RuleFault}
+use Rattle.rule_reader.proofs.Common.{◌≡◌, ◌⊎◌, inl, inr, ℕ, zero, suc, ◌+◌, ◌≤◌, List, [], ◌∷◌, ◌++◌, length, take, None, Some, refl, sym, arith, cases_lt, RawRule, IsWritten, TextsHaveOneReadingOrFault, Rule, RulesHaveClasses, RuleFault, IsWellFormed, most_bytes, Check, Duplicate, Unbound, RootMissing, UnusedTemp, UndefInside, WitnessCount, rank, kind_of, class_check, FailsAt, IsFirstRuleFault, IsRuleOf, IsRuleFile, IsFault, too_long, of_text, of_rule}
 use Rattle.rule_tokens.specs.declared.fault.RuleFaultKind.TheVariants as kinds
-use Rattle.rule_reader.specs.WellFormed.{IsWellFormed}
-use Rattle.rule_reader.specs.Limits.{most_bytes}
-use Rattle.rule_reader.specs.Faults.{Check, Duplicate, Unbound, RootMissing, Redefines, UnusedTemp, UndefInside, WitnessCount, rank, kind_of, class_check, FailsAt, IsFirstRuleFault, IsRuleOf, IsRuleFile, IsFault, too_long, of_text, of_rule}
+use Rattle.rule_reader.specs.Faults.{Redefines}
 use Rattle.rule_reader.proofs.Checked.{checked_rule}
 use Rattle.rule_reader.proofs.Checking.{Clear, clear_none, clear_more, first_fault, bound_of, rule_of, fault_of_classes}
 use Rattle.rule_reader.proofs.Classes.{same_meaning}

@@ -1,17 +1,7 @@
 -- The first line on which a check of a rule as written fails exists, or the check passes.
-use Rattle.std.proofs.Common.{◌≡◌, ◌⊎◌, inl, inr, ℕ, zero, suc, ◌+◌, ◌≤◌, List, length, Option, None, Some, refl, sym, ◌∙◌, arith}
-use Rattle.std.proofs.lemmas.Bool.{cases_lt}
-use Rattle.rule_parse.specs.declared.raw.RawRule.{RawRule}
-use Rattle.rule_parse.specs.declared.raw.RawStatement.{RawStatement}
-use Rattle.rule_typing.proofs.Deciding.{dec_both, dec_either, dec_not, dec_number, dec_place}
+use Rattle.rule_reader.proofs.Common.{◌≡◌, ◌⊎◌, inl, inr, ℕ, zero, suc, ◌+◌, ◌≤◌, List, length, Option, None, Some, refl, sym, ◌∙◌, arith, cases_lt, RawRule, RawStatement, dec_both, dec_either, dec_not, dec_number, dec_place, AreInLineOrder, IsWellFormed, FormulaIsBound, TermIsBound, StandsAt, HasNameOf, AssignsAgain, DuplicateAt, StatementUnbound, PreconditionUnbound, WitnessUnbound, UnboundAt, MissesRoot, RootMissingAt, RedefinesAt, IsUnused, UnusedTempAt, HasUndefInside, ReadsUndefAlone, UndefInsideAt, WitnessCountAt, witness_line, IsFirst, RawPrecondition, RawWitness, expressions_of, in_half}
 use Rattle.rule_reader.specs.declared.place.UseSite.TheVariants as places
-use Rattle.rule_reader.specs.WellFormed.{AreInLineOrder, IsWellFormed}
-use Rattle.rule_reader.specs.FaultKinds.{FormulaIsBound, TermIsBound, StandsAt, HasNameOf, AssignsAgain, DuplicateAt, StatementUnbound, PreconditionUnbound, WitnessUnbound, UnboundAt, MissesRoot, RootMissingAt, Redefines, RedefinesAt, IsUnused, UnusedTempAt, HasUndefInside, ReadsUndefAlone, UndefInsideAt, WitnessCountAt, witness_line}
-use Rattle.rule_reader.specs.Faults.{IsFirst}
-use Rattle.rule_parse.specs.declared.raw.RawPrecondition.{RawPrecondition}
-use Rattle.rule_parse.specs.declared.raw.RawWitness.{RawWitness}
-use Rattle.rule_parse.specs.Contents.{expressions_of}
-use Rattle.rule_reader.specs.Meaning.{in_half}
+use Rattle.rule_reader.specs.FaultKinds.{Redefines}
 use Rattle.rule_reader.proofs.Stable.{same_number}
 use Rattle.rule_reader.proofs.Places.{there}
 use Rattle.rule_reader.proofs.Firsts.{NoneBefore, first_here, first_none, none_more, first_left, first_right, first_none_of, lines_before}

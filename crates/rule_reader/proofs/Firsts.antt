@@ -1,11 +1,5 @@
 -- The first line with a statement that Q holds of.
-use Rattle.std.proofs.Common.{◌≡◌, ◌⊎◌, inl, inr, ℕ, ◌+◌, ◌<◌, ◌≤◌, List, length, Some, refl, ap, subst, arith}
-use Rattle.std.specs.Prelude.{slice_get}
-use Rattle.std.proofs.lemmas.Option.{slice_get_within}
-use Rattle.rule_parse.specs.declared.raw.RawStatement.{RawStatement}
-use Rattle.rule_reader.specs.WellFormed.{AreInLineOrder}
-use Rattle.rule_reader.specs.FaultKinds.{StandsAt}
-use Rattle.rule_reader.specs.Faults.{IsFirstLine}
+use Rattle.rule_reader.proofs.Common.{◌≡◌, ◌⊎◌, inl, inr, ℕ, ◌+◌, ◌<◌, ◌≤◌, List, length, Some, refl, ap, subst, arith, slice_get, slice_get_within, RawStatement, AreInLineOrder, StandsAt, IsFirstLine}
 use Rattle.rule_reader.proofs.Places.{order, same_at}
 
 -- Q holds of no statement before this place

@@ -1,16 +1,9 @@
 -- What the lookup of a name finds.
-use Rattle.std.proofs.Common.{◌≡◌, inl, inr, ℕ, ◌-◌, ◌<◌, List, length, Option, None, Some, refl, sym, ap, subst, ◌∙◌, arith}
-use Rattle.std.specs.Prelude.{slice_get, Contains, MatchOption}
-use Rattle.rule_parse.specs.declared.raw.RawRule.{RawRule}
-use Rattle.rule_parse.specs.declared.raw.RawStatement.{RawStatement}
+use Rattle.rule_reader.proofs.Common.{◌≡◌, inl, inr, ℕ, ◌-◌, ◌<◌, List, length, Option, None, Some, refl, sym, ap, subst, ◌∙◌, arith, slice_get, Contains, MatchOption, RawRule, RawStatement, Contains-from_get, Names, AssignsAt, AreInputs, IsInput, IsConstant, IsRoot, AreNames, HasName, Finds}
 use Rattle.rule_parse.specs.declared.raw.RawArgument.TheVariants as raw_arguments
 use Rattle.rule_core.specs.declared.rule.Register.{Register}
 use Rattle.rule_core.specs.declared.rule.Register.TheVariants as registers
-use Rattle.rule_core.proofs.Members.{Contains-from_get}
-use Rattle.rule_reader.specs.declared.names.Names.{Names}
 use Rattle.rule_reader.specs.declared.place.UseSite.TheVariants as places
-use Rattle.rule_reader.specs.Meaning.{AssignsAt, AreInputs, IsInput, IsConstant, IsRoot, AreNames, HasName}
-use Rattle.rule_reader.specs.KnownRules.{Finds}
 
 module _ (source : List RawStatement) (names : Names) (are : AreNames source names) (name : List ℕ) where
   pub input_of : Contains names.inputs name → IsInput source name

@@ -1,20 +1,5 @@
 -- The names that a source gives, argument by argument.
-use Rattle.std.proofs.Common.{◌≡◌, ◌⊎◌, inl, inr, ℕ, zero, suc, ◌+◌, ◌*◌, ◌<◌, ◌≤◌, List, [], ◌∷◌, ◌++◌, length, length-append, Some, refl, sym, ap, subst, ◌∙◌, arith, take, get_or, append_assoc}
-use Rattle.std.specs.Prelude.{slice_get, Contains, flat_map}
-use Rattle.std.proofs.lemmas.Bool.{cases_lt}
-use Rattle.std.proofs.lemmas.List.{take_more, take_all, append-nil}
-use Rattle.std.proofs.lemmas.Grind.{flat_map-append}
-use Rattle.std.proofs.lemmas.Option.{slice_get_within}
-use Rattle.std.proofs.lemmas.List.Elements.{Contains-append_left, Contains-push, Contains-push_cases}
-use Rattle.rule_parse.specs.declared.raw.RawStatement.{RawStatement}
-use Rattle.rule_parse.specs.declared.raw.RawOp.{RawOp}
-use Rattle.rule_parse.specs.declared.raw.RawOp.TheVariants.{Binary, Compare, Unary, Select, Convert, Freeze, Copy}
-use Rattle.rule_parse.specs.declared.raw.RawArgument.{RawArgument}
-use Rattle.rule_core.proofs.Members.{Contains-from_get, get-append_left}
-use Rattle.rule_reader.specs.declared.names.Names.{Names}
-use Rattle.rule_parse.specs.Contents.{arguments_of, arguments_among}
-use Rattle.rule_reader.specs.Meaning.{GivenAt, AreFirstGiven, GivesInput, GivesConstant, AreNames}
-use Rattle.rule_reader.specs.Inputs.{Adds, AddsNames, AreNamesAmong, AddsUses}
+use Rattle.rule_reader.proofs.Common.{◌≡◌, ◌⊎◌, inl, inr, ℕ, zero, suc, ◌+◌, ◌*◌, ◌<◌, ◌≤◌, List, [], ◌∷◌, ◌++◌, length, length-append, Some, refl, sym, ap, subst, ◌∙◌, arith, take, get_or, append_assoc, slice_get, Contains, flat_map, cases_lt, take_more, take_all, append-nil, flat_map-append, slice_get_within, Contains-append_left, Contains-push, Contains-push_cases, RawStatement, RawOp, Binary, Compare, Unary, Select, Convert, Freeze, Copy, RawArgument, Contains-from_get, get-append_left, Names, arguments_of, arguments_among, GivenAt, AreFirstGiven, GivesInput, GivesConstant, AreNames, Adds, AddsNames, AreNamesAmong, AddsUses}
 use Rattle.rule_reader.proofs.Places.{at_append, there}
 
 none_at : {X : Type 0} (k : ℕ) (x : X) → slice_get [] k ≡ Some x → ⊥

@@ -1,15 +1,5 @@
 -- A text has one list of rules or one fault.
-use Rattle.std.proofs.Common.{◌≡◌, inl, inr, ℕ, suc, ◌<◌, ◌≤◌, List, [], ◌∷◌, length, take, Some, refl, sym, ap, subst, ◌∙◌, arith}
-use Rattle.std.specs.Prelude.{slice_get}
-use Rattle.std.proofs.lemmas.Option.{slice_get_within}
-use Rattle.rule_parse.specs.declared.raw.RawRule.{RawRule}
-use Rattle.rule_tokens.specs.RuleFaults.{RuleFault}
-use Rattle.rule_parse.specs.OneReading.{TextsHaveOneReadingOrFault}
-use Rattle.rule_core.specs.declared.rule.Rule.{Rule}
-use Rattle.rule_typing.specs.Laws.{RulesHaveClasses}
-use Rattle.rule_reader.specs.Limits.{most_bytes}
-use Rattle.rule_reader.specs.Faults.{rank, kind_of, FailsAt, Passes, IsFirstRuleFault, AreRulesOf, IsRuleFile, IsFault, too_long, of_text, of_rule}
-use Rattle.rule_reader.specs.Laws.{TextsHaveOneListOrFault}
+use Rattle.rule_reader.proofs.Common.{◌≡◌, inl, inr, ℕ, suc, ◌<◌, ◌≤◌, List, [], ◌∷◌, length, take, Some, refl, sym, ap, subst, ◌∙◌, arith, slice_get, slice_get_within, RawRule, RuleFault, TextsHaveOneReadingOrFault, Rule, RulesHaveClasses, most_bytes, rank, kind_of, FailsAt, Passes, IsFirstRuleFault, AreRulesOf, IsRuleFile, IsFault, too_long, of_text, of_rule, TextsHaveOneListOrFault}
 use Rattle.rule_reader.proofs.Places.{order, same_at, there}
 use Rattle.rule_reader.proofs.Checking.{same_check, bound_of}
 use Rattle.rule_reader.proofs.Once.{one_rule}

@@ -1,24 +1,8 @@
 -- The parts of a rule stand on lines in their order.
-use Rattle.std.proofs.Common.{◌≡◌, ℕ, zero, suc, ◌+◌, ◌<◌, ◌≤◌, Bool, true, false, cond, eqb, List, [], ◌∷◌, ◌++◌, length, append_assoc, take, Option, Some, None, refl, sym, ap, subst, ◌∙◌, arith}
-use Rattle.std.specs.Prelude.{slice_get, codes}
+use Rattle.rule_reader.proofs.Common.{◌≡◌, ℕ, zero, suc, ◌+◌, ◌<◌, ◌≤◌, Bool, true, false, cond, eqb, List, [], ◌∷◌, ◌++◌, length, append_assoc, take, Option, Some, None, refl, sym, ap, subst, ◌∙◌, arith, slice_get, codes, same_Some, take-take, sum_by-take-drop, RuleKind, line_of, rest_of_line, line_at, RawStatement, SpellsStatements, Part, Maybe, Context, is_opcode, Token, Line, Head, Name, Word, Number, Arrow, Mark, Other, Bad, Excess, word_of, token_of, token_at, is_called, bytes_at, Place, TokensFrom, ends, token, bad_token, bad_name, AreInLineOrder, Version, rule_limits}
 use Rattle.std.specs.List.{sum_by}
-use Rattle.std.proofs.lemmas.Option.{same_Some}
-use Rattle.std.proofs.lemmas.List.{take-take}
-use Rattle.std.proofs.lemmas.List.Sums.{sum_by-take-drop}
-use Rattle.scan.specs.declared.rule_token.RuleKind.{RuleKind}
 use Rattle.scan.specs.declared.rule_token.RuleKind.TheVariants as kinds
-use Rattle.scan.specs.Lines.{line_of}
-use Rattle.scan.specs.Names.{rest_of_line}
-use Rattle.scan.specs.RuleTokens.{line_at}
-use Rattle.rule_parse.specs.declared.raw.RawStatement.{RawStatement}
-use Rattle.rule_parse.specs.Grammar.{SpellsStatements}
-use Rattle.rule_tokens.specs.Parts.{Part, Maybe}
-use Rattle.rule_tokens.specs.declared.context.Context.{Context}
-use Rattle.rule_tokens.specs.Contexts.{is_opcode}
-use Rattle.rule_tokens.specs.Tokens.{Token, Line, Head, Name, Register, Word, Opcode, Number, Arrow, Mark, Other, Bad, Excess, word_of, token_of, token_at, is_called, bytes_at, Place, TokensFrom, ends, token, name as at_name, bad_token, bad_name}
-use Rattle.rule_reader.specs.WellFormed.{AreInLineOrder}
-use Rattle.rule_tokens.specs.declared.version.Version.{Version}
-use Rattle.rule_tokens.specs.Limits.{rule_limits}
+use Rattle.rule_tokens.specs.Tokens.{Register, Opcode, name as at_name}
 
 -- the lines' numbers ascend, and none is below `low`
 unfoldable pub Ascend : ℕ → List Token → Type 0

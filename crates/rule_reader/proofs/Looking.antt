@@ -1,12 +1,5 @@
 -- Linear search for a name in a list.
-use Rattle.std.proofs.Common.{◌≡◌, ◌⊎◌, inl, inr, ℕ, suc, ◌+◌, ◌<◌, Bool, true, false, List, length, Some, sym, ap, subst, ◌∙◌, arith, get_or}
-use Rattle.std.specs.Prelude.{slice_get, Contains, IsTrue, map}
-use Rattle.std.specs.Str.{bytes_eq}
-use Rattle.std.proofs.lemmas.Bool.{false≢true}
-use Rattle.std.proofs.lemmas.Option.{slice_get_within, slice_get-get_or}
-use Rattle.std.proofs.lemmas.Slice.Eq.{bytes_eq-Decides}
-use Rattle.rule_parse.specs.declared.raw.RawStatement.{RawStatement}
-use Rattle.rule_reader.specs.Meaning.{AssignsAt, IsRoot}
+use Rattle.rule_reader.proofs.Common.{◌≡◌, ◌⊎◌, inl, inr, ℕ, suc, ◌+◌, ◌<◌, Bool, true, false, List, length, Some, sym, ap, subst, ◌∙◌, arith, get_or, slice_get, Contains, IsTrue, map, bytes_eq, false≢true, slice_get_within, slice_get-get_or, bytes_eq-Decides, RawStatement, AssignsAt, IsRoot}
 use Rattle.rule_reader.proofs.Places.{order, same_at, map_at, somewhere}
 
 pub equal_names : (a b : List ℕ) (r : Bool) → r ≡ bytes_eq a b → r ≡ true → a ≡ b

@@ -1,28 +1,10 @@
 -- What the rule that is meant has in common with the rule as written: names, operands and registers.
-use Rattle.std.proofs.Common.{◌≡◌, ℕ, zero, suc, ◌+◌, ◌<◌, ◌≤◌, List, [], ◌∷◌, ◌++◌, length, None, Some, refl, sym, ap, subst, ◌∙◌, arith}
-use Rattle.std.specs.Prelude.{slice_get, map, flat_map}
-use Rattle.std.proofs.lemmas.Grind.{flat_map-append}
-use Rattle.std.specs.List.{AllZip, range_with_len}
-use Rattle.std.proofs.lemmas.Option.{slice_get_within, same_Some}
-use Rattle.rule_parse.specs.declared.raw.RawRule.{RawRule}
-use Rattle.rule_parse.specs.declared.raw.RawStatement.{RawStatement}
-use Rattle.rule_parse.specs.declared.raw.RawOp.{RawOp}
+use Rattle.rule_reader.proofs.Common.{◌≡◌, ℕ, zero, suc, ◌+◌, ◌<◌, ◌≤◌, List, [], ◌∷◌, ◌++◌, length, None, Some, refl, sym, ap, subst, ◌∙◌, arith, slice_get, map, flat_map, flat_map-append, AllZip, range_with_len, slice_get_within, same_Some, RawRule, RawStatement, RawOp, RawArgument, Statement, Op, Operand, Argument, names_of, Choice, operands_among, undef_in, frozen_in, choices_of, choices_among, Names, Counts, arguments_of, arguments_among, past, past_all, counted_of, counted_among, no_counts, with_counts, AssignsAt, ArgumentMeans, OpMeans, StatementMeans, HalfMeans}
 use Rattle.rule_parse.specs.declared.raw.RawOp.TheVariants as raw_ops
-use Rattle.rule_parse.specs.declared.raw.RawArgument.{RawArgument}
 use Rattle.rule_parse.specs.declared.raw.RawArgument.TheVariants as raw_arguments
-use Rattle.rule_core.specs.declared.rule.Statement.{Statement}
-use Rattle.rule_core.specs.declared.rule.Op.{Op}
 use Rattle.rule_core.specs.declared.rule.Op.TheVariants as ops
-use Rattle.rule_core.specs.declared.rule.Operand.{Operand}
-use Rattle.rule_core.specs.declared.rule.Argument.{Argument}
 use Rattle.rule_core.specs.declared.rule.Argument.TheVariants as arguments
-use Rattle.rule_core.specs.Checks.{names_of}
-use Rattle.rule_core.specs.declared.rule.Choice.{Choice}
-use Rattle.rule_core.specs.Positions.{operands_of as operands_meant, operands_among, undef_in, frozen_in, choices_of, choices_among}
-use Rattle.rule_reader.specs.declared.names.Names.{Names}
-use Rattle.rule_reader.specs.declared.counts.Counts.{Counts}
-use Rattle.rule_parse.specs.Contents.{arguments_of, arguments_among}
-use Rattle.rule_reader.specs.Meaning.{past, past_all, counted_of, counted_among, no_counts, with_counts, AssignsAt, ArgumentMeans, OpMeans, StatementMeans, HalfMeans}
+use Rattle.rule_core.specs.Positions.{operands_of as operands_meant}
 use Rattle.rule_reader.proofs.Places.{at_map, map_at, zip_left, zip_right, zip_append}
 
 -- a statement that assigns the register

@@ -1,46 +1,18 @@
 -- A rule as written that names nothing unbound means some rule.
-use Rattle.std.proofs.Common.{◌≡◌, inl, inr, ℕ, suc, ◌+◌, ◌-◌, List, [], ◌∷◌, ◌++◌, length, append_assoc, Some, refl, sym, subst, arith}
-use Rattle.std.specs.Prelude.{slice_get, Contains}
-use Rattle.std.specs.List.{AllZip}
-use Rattle.std.proofs.lemmas.List.{append-nil}
-use Rattle.rule_parse.specs.declared.raw.RawRule.{RawRule}
-use Rattle.rule_parse.specs.declared.raw.RawStatement.{RawStatement}
-use Rattle.rule_parse.specs.declared.raw.RawOp.{RawOp}
+use Rattle.rule_reader.proofs.Common.{◌≡◌, inl, inr, ℕ, suc, ◌+◌, ◌-◌, List, [], ◌∷◌, ◌++◌, length, append_assoc, Some, refl, sym, subst, arith, slice_get, Contains, AllZip, append-nil, RawRule, RawStatement, RawOp, RawOperand, RawArgument, RawNode, RawFormula, Rule, Statement, Op, Operand, Argument, Node, Formula, Contains-from_get, dec_one, Names, Counts, UseSite, arguments_of, arguments_among, terms_of, terms_of_formula, expressions_of, formula_of, target_terms, nodes_in, past, past_all, counted_of, no_counts, with_counts, with_nodes, with_terms, last_nodes, AssignsAt, IsConstant, AreNames, HasName, ArgumentMeans, OperandMeans, OpMeans, StatementMeans, NodeMeans, FormulaMeans, Means, IsTerm, IsWellFormed, AddsNames, AreNamesAmong, Each, MayUse, ArgumentIsBound, NodeIsBound, TermIsBound, FormulaIsBound, UnboundAt, IsWhole, NamesAreThere}
 use Rattle.rule_parse.specs.declared.raw.RawOp.TheVariants as raw_ops
-use Rattle.rule_parse.specs.declared.raw.RawOperand.{RawOperand}
-use Rattle.rule_parse.specs.declared.raw.RawArgument.{RawArgument}
 use Rattle.rule_parse.specs.declared.raw.RawArgument.TheVariants as raw_arguments
-use Rattle.rule_terms.specs.declared.raw.RawNode.{RawNode}
 use Rattle.rule_terms.specs.declared.raw.RawNode.TheVariants as raw_nodes
-use Rattle.rule_terms.specs.declared.raw.RawFormula.{RawFormula}
 use Rattle.rule_terms.specs.declared.raw.RawFormula.TheVariants as raw_formulas
-use Rattle.rule_core.specs.declared.rule.Rule.{Rule}
-use Rattle.rule_core.specs.declared.rule.Statement.{Statement}
-use Rattle.rule_core.specs.declared.rule.Op.{Op}
 use Rattle.rule_core.specs.declared.rule.Op.TheVariants as ops
-use Rattle.rule_core.specs.declared.rule.Operand.{Operand}
-use Rattle.rule_core.specs.declared.rule.Argument.{Argument}
 use Rattle.rule_core.specs.declared.rule.Argument.TheVariants as arguments
 use Rattle.rule_core.specs.declared.rule.Register.{Register}
 use Rattle.rule_core.specs.declared.rule.Register.TheVariants as registers
 use Rattle.rule_core.specs.declared.rule.Term.{Term}
-use Rattle.rule_core.specs.declared.rule.Node.{Node}
 use Rattle.rule_core.specs.declared.rule.Node.TheVariants as nodes
-use Rattle.rule_core.specs.declared.rule.Formula.{Formula}
 use Rattle.rule_core.specs.declared.rule.Formula.TheVariants as formulas
-use Rattle.rule_core.proofs.Members.{Contains-from_get}
-use Rattle.rule_typing.proofs.Deciding.{dec_one}
-use Rattle.rule_reader.specs.declared.names.Names.{Names}
-use Rattle.rule_reader.specs.declared.counts.Counts.{Counts}
-use Rattle.rule_reader.specs.declared.place.UseSite.{UseSite}
 use Rattle.rule_reader.specs.declared.place.UseSite.TheVariants as places
 use Rattle.rule_reader.specs.declared.place.Half.TheVariants as halves
-use Rattle.rule_parse.specs.Contents.{arguments_of, arguments_among, terms_of, terms_of_formula, expressions_of, formula_of, target_terms}
-use Rattle.rule_reader.specs.Meaning.{nodes_in, past, past_all, counted_of, no_counts, with_counts, with_nodes, with_terms, last_nodes, AssignsAt, IsConstant, AreNames, HasName, ArgumentMeans, OperandMeans, OpMeans, StatementMeans, NodeMeans, FormulaMeans, Means}
-use Rattle.rule_reader.specs.WellFormed.{IsTerm, IsWellFormed}
-use Rattle.rule_reader.specs.Inputs.{AddsNames, AreNamesAmong}
-use Rattle.rule_reader.specs.FaultKinds.{Each, MayUse, ArgumentIsBound, NodeIsBound, TermIsBound, FormulaIsBound, UnboundAt}
-use Rattle.rule_reader.specs.KnownRules.{IsWhole, NamesAreThere}
 use Rattle.rule_reader.proofs.InputLemmas.{no_names, more_names, all_names}
 use Rattle.rule_reader.proofs.Places.{somewhere}
 use Rattle.rule_reader.proofs.Members.{each_in, each_at, each_of}

@@ -1,10 +1,5 @@
 -- Elements of lists, of `flat_map`, and what holds of each.
-use Rattle.std.proofs.Common.{◌≡◌, inl, inr, ℕ, zero, suc, ◌+◌, ◌<◌, ◌≤◌, List, [], ◌∷◌, ◌++◌, length, Some, refl, sym, ap, subst, ◌∙◌, take, get_or}
-use Rattle.std.proofs.lemmas.List.{take_more, take_all}
-use Rattle.std.proofs.lemmas.Option.{same_Some}
-use Rattle.std.specs.Prelude.{slice_get, Contains, flat_map}
-use Rattle.rule_core.proofs.Members.{Contains-from_get, Contains-flat_map}
-use Rattle.rule_reader.specs.FaultKinds.{Each}
+use Rattle.rule_reader.proofs.Common.{◌≡◌, inl, inr, ℕ, zero, suc, ◌+◌, ◌<◌, ◌≤◌, List, [], ◌∷◌, ◌++◌, length, Some, refl, sym, ap, subst, ◌∙◌, take, get_or, take_more, take_all, same_Some, slice_get, Contains, flat_map, Contains-from_get, Contains-flat_map, Each}
 use Rattle.rule_reader.proofs.Places.{at_append, somewhere, read_at}
 
 -- an element of `flat_map f` is one of f x, for some x

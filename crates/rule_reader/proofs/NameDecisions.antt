@@ -1,23 +1,10 @@
 -- What is decided of names in a rule as written.
-use Rattle.std.proofs.Common.{◌≡◌, inl, inr, ℕ, suc, ◌<◌, ◌≤◌, List, [], ◌∷◌, length, Some, refl, ap, subst, ◌∙◌}
-use Rattle.std.specs.Prelude.{slice_get, Contains, map, flat_map}
-use Rattle.std.proofs.Math.Decide.{map_dec, dec_le, dec_lt}
-use Rattle.rule_parse.specs.declared.raw.RawRule.{RawRule}
-use Rattle.rule_parse.specs.declared.raw.RawStatement.{RawStatement}
-use Rattle.rule_parse.specs.declared.raw.RawOp.{RawOp}
-use Rattle.rule_parse.specs.declared.raw.RawArgument.{RawArgument}
+use Rattle.rule_reader.proofs.Common.{◌≡◌, inl, inr, ℕ, suc, ◌<◌, ◌≤◌, List, [], ◌∷◌, length, Some, refl, ap, subst, ◌∙◌, slice_get, Contains, map, flat_map, map_dec, dec_le, dec_lt, RawRule, RawStatement, RawOp, RawArgument, Literal, Truth, Constant, Undef, RawNode, RawFormula, dec_both, dec_either, dec_not, dec_number, dec_place, dec_one, UseSite, arguments_of, arguments_among, in_half, Uses, UsesAt, AssignsAt, IsInput, IsTemporary, IsRoot, IsConstant, Each, MayUse, NodeIsBound, TermIsBound, ArgumentIsBound, OpIsBound, FormulaIsBound, IsFreeze, LeavesOpen, ReadsUndefAlone, HasUndefInside, IsUnused}
 use Rattle.rule_parse.specs.declared.raw.RawOp.TheVariants as ops
-use Rattle.rule_parse.specs.declared.raw.RawArgument.TheVariants.{Register, Literal, Truth, Constant, Undef, Term}
-use Rattle.rule_terms.specs.declared.raw.RawNode.{RawNode}
+use Rattle.rule_parse.specs.declared.raw.RawArgument.TheVariants.{Register, Term}
 use Rattle.rule_terms.specs.declared.raw.RawNode.TheVariants as nodes
-use Rattle.rule_terms.specs.declared.raw.RawFormula.{RawFormula}
 use Rattle.rule_terms.specs.declared.raw.RawFormula.TheVariants as formulas
-use Rattle.rule_typing.proofs.Deciding.{dec_both, dec_either, dec_not, dec_number, dec_place, dec_one}
-use Rattle.rule_reader.specs.declared.place.UseSite.{UseSite}
 use Rattle.rule_reader.specs.declared.place.UseSite.TheVariants as places
-use Rattle.rule_parse.specs.Contents.{arguments_of, arguments_among}
-use Rattle.rule_reader.specs.Meaning.{in_half, Uses, UsesAt, AssignsAt, IsInput, IsTemporary, IsRoot, IsConstant}
-use Rattle.rule_reader.specs.FaultKinds.{Each, MayUse, NodeIsBound, TermIsBound, ArgumentIsBound, OpIsBound, FormulaIsBound, IsFreeze, LeavesOpen, ReadsUndefAlone, HasUndefInside, IsUnused}
 use Rattle.rule_reader.proofs.Stable.{same_name}
 
 pub dec_name : (a b : List ℕ) → Dec (a ≡ b)

@@ -1,21 +1,6 @@
 -- The nodes of terms, the terms one behind the other.
-use Rattle.std.proofs.Common.{◌≡◌, inl, inr, ℕ, zero, suc, ◌+◌, ◌-◌, ◌<◌, List, [], ◌∷◌, ◌++◌, length, length-append, Some, refl, sym, ap, subst, ◌∙◌, arith, take, get_or, append_assoc}
-use Rattle.std.specs.Prelude.{slice_get, Contains, flat_map, map}
-use Rattle.std.specs.List.{AllZip}
-use Rattle.std.proofs.lemmas.List.{take_more, append-nil, length-map}
-use Rattle.std.proofs.lemmas.List.Sums.{sum_by-append}
-use Rattle.std.proofs.lemmas.Grind.{flat_map-append}
-use Rattle.std.proofs.lemmas.Option.{same_Some}
-use Rattle.rule_parse.specs.declared.raw.RawRule.{RawRule}
-use Rattle.rule_terms.specs.declared.raw.RawNode.{RawNode}
-use Rattle.rule_terms.specs.declared.raw.RawFormula.{RawFormula}
+use Rattle.rule_reader.proofs.Common.{◌≡◌, inl, inr, ℕ, zero, suc, ◌+◌, ◌-◌, ◌<◌, List, [], ◌∷◌, ◌++◌, length, length-append, Some, refl, sym, ap, subst, ◌∙◌, arith, take, get_or, append_assoc, slice_get, Contains, flat_map, map, AllZip, take_more, append-nil, length-map, sum_by-append, flat_map-append, same_Some, RawRule, RawNode, RawFormula, Formula, Contains-from_get, Names, terms_of_formula, nodes_in, with_nodes, with_terms, last_nodes, NodeMeans, TermsMean, FormulaMeans, AddsTerms}
 use Rattle.rule_core.specs.declared.rule.Term.{Term}
-use Rattle.rule_core.specs.declared.rule.Formula.{Formula}
-use Rattle.rule_core.proofs.Members.{Contains-from_get}
-use Rattle.rule_reader.specs.declared.names.Names.{Names}
-use Rattle.rule_parse.specs.Contents.{terms_of_formula}
-use Rattle.rule_reader.specs.Meaning.{nodes_in, with_nodes, with_terms, last_nodes, NodeMeans, TermsMean, FormulaMeans}
-use Rattle.rule_reader.specs.KnownRules.{AddsTerms}
 use Rattle.rule_reader.proofs.Places.{at_append, at_map, zip_push, zip_length, zip_append}
 
 pub nodes_append : (xs ys : List (List RawNode)) → nodes_in (xs ++ ys) ≡ nodes_in xs + nodes_in ys

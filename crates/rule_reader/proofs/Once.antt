@@ -1,44 +1,16 @@
 -- A rule as written determines its inputs, its constants, and the rule with its classes that it means.
-use Rattle.std.proofs.Common.{◌≡◌, ◌⊎◌, inl, inr, ℕ, zero, suc, ◌+◌, ◌<◌, List, [], ◌∷◌, ◌++◌, length, length-append, append_assoc, Some, refl, sym, ap, subst, ◌∙◌, arith}
-use Rattle.std.specs.Prelude.{slice_get, Contains, map, flat_map}
-use Rattle.std.specs.List.{AllZip}
-use Rattle.std.proofs.lemmas.Option.{slice_get_within, same_Some}
-use Rattle.std.proofs.lemmas.List.{length-map, append-nil}
-use Rattle.std.proofs.lemmas.Grind.{flat_map-append}
-use Rattle.rule_parse.specs.declared.raw.RawRule.{RawRule}
-use Rattle.rule_parse.specs.declared.raw.RawStatement.{RawStatement}
-use Rattle.rule_parse.specs.declared.raw.RawOp.{RawOp}
+use Rattle.rule_reader.proofs.Common.{◌≡◌, ◌⊎◌, inl, inr, ℕ, zero, suc, ◌+◌, ◌<◌, List, [], ◌∷◌, ◌++◌, length, length-append, append_assoc, Some, refl, sym, ap, subst, ◌∙◌, arith, slice_get, Contains, map, flat_map, AllZip, slice_get_within, same_Some, length-map, append-nil, flat_map-append, RawRule, RawStatement, RawOp, RawOperand, RawArgument, RawNode, RawFormula, Rule, Statement, Op, Operand, Argument, Node, Formula, classes_of_statement, classes_of_node, classes_of_term, classes_of, Contains-from_get, Joined, SameClass, IsClassified, numbered_op, numbered_statement, numbered_statements, numbered_node, numbered_term, numbered_terms, numbered, Names, Counts, UseSite, arguments_of, terms_of, expressions_of, formula_of, target_terms, terms_of_formula, nodes_in, past, past_all, counted_of, no_counts, with_counts, with_nodes, with_terms, GivenAt, AreFirstGiven, GivesInput, GivesConstant, IsRoot, AreNames, ArgumentMeans, OperandMeans, OpMeans, StatementMeans, NodeMeans, FormulaMeans, HalfMeans, TermsMean, PreconditionMeans, Means, names_of_rule, Each, MayUse, ArgumentIsBound, NodeIsBound, TermIsBound}
 use Rattle.rule_parse.specs.declared.raw.RawOp.TheVariants as raw_ops
-use Rattle.rule_parse.specs.declared.raw.RawOperand.{RawOperand}
-use Rattle.rule_parse.specs.declared.raw.RawArgument.{RawArgument}
 use Rattle.rule_parse.specs.declared.raw.RawArgument.TheVariants as raw_arguments
-use Rattle.rule_terms.specs.declared.raw.RawNode.{RawNode}
 use Rattle.rule_terms.specs.declared.raw.RawNode.TheVariants as raw_nodes
-use Rattle.rule_terms.specs.declared.raw.RawFormula.{RawFormula}
 use Rattle.rule_terms.specs.declared.raw.RawFormula.TheVariants as raw_formulas
-use Rattle.rule_core.specs.declared.rule.Rule.{Rule}
-use Rattle.rule_core.specs.declared.rule.Statement.{Statement}
-use Rattle.rule_core.specs.declared.rule.Op.{Op}
 use Rattle.rule_core.specs.declared.rule.Op.TheVariants as ops
-use Rattle.rule_core.specs.declared.rule.Operand.{Operand}
-use Rattle.rule_core.specs.declared.rule.Argument.{Argument}
 use Rattle.rule_core.specs.declared.rule.Argument.TheVariants as arguments
 use Rattle.rule_core.specs.declared.rule.Term.{Term}
-use Rattle.rule_core.specs.declared.rule.Node.{Node}
 use Rattle.rule_core.specs.declared.rule.Node.TheVariants as nodes
-use Rattle.rule_core.specs.declared.rule.Formula.{Formula}
 use Rattle.rule_core.specs.declared.rule.Formula.TheVariants as formulas
-use Rattle.rule_core.specs.Positions.{operands_of as operands_meant, classes_of_statement, classes_of_node, classes_of_term, classes_of}
-use Rattle.rule_core.proofs.Members.{Contains-from_get}
-use Rattle.rule_typing.specs.Classes.{Joined, SameClass, IsClassified}
-use Rattle.rule_typing.specs.Relabelled.{numbered_op, numbered_statement, numbered_statements, numbered_node, numbered_term, numbered_terms, numbered}
-use Rattle.rule_reader.specs.declared.names.Names.{Names}
-use Rattle.rule_reader.specs.declared.counts.Counts.{Counts}
-use Rattle.rule_reader.specs.declared.place.UseSite.{UseSite}
+use Rattle.rule_core.specs.Positions.{operands_of as operands_meant}
 use Rattle.rule_reader.specs.declared.place.UseSite.TheVariants as places
-use Rattle.rule_parse.specs.Contents.{arguments_of, terms_of, expressions_of, formula_of, target_terms, terms_of_formula}
-use Rattle.rule_reader.specs.Meaning.{nodes_in, past, past_all, counted_of, no_counts, with_counts, with_nodes, with_terms, GivenAt, AreFirstGiven, GivesInput, GivesConstant, IsRoot, AreNames, ArgumentMeans, OperandMeans, OpMeans, StatementMeans, NodeMeans, FormulaMeans, HalfMeans, TermsMean, PreconditionMeans, Means, names_of_rule}
-use Rattle.rule_reader.specs.FaultKinds.{Each, MayUse, ArgumentIsBound, NodeIsBound, TermIsBound}
 use Rattle.rule_reader.proofs.Places.{order, somewhere, there}
 use Rattle.rule_reader.proofs.Members.{each_in}
 use Rattle.rule_reader.proofs.Nodes.{node_at}

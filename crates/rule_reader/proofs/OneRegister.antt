@@ -1,17 +1,8 @@
 -- In a rule as written whose assignments are without faults a name is that of one register.
-use Rattle.std.proofs.Common.{◌≡◌, ◌⊎◌, inl, inr, ℕ, suc, ◌<◌, List, length, Some, refl, sym, ap, subst, arith}
-use Rattle.std.specs.Prelude.{slice_get}
-use Rattle.std.proofs.lemmas.Bool.{cases_lt}
-use Rattle.std.proofs.lemmas.Option.{slice_get_within}
-use Rattle.rule_parse.specs.declared.raw.RawRule.{RawRule}
-use Rattle.rule_parse.specs.declared.raw.RawStatement.{RawStatement}
+use Rattle.rule_reader.proofs.Common.{◌≡◌, ◌⊎◌, inl, inr, ℕ, suc, ◌<◌, List, length, Some, refl, sym, ap, subst, arith, slice_get, cases_lt, slice_get_within, RawRule, RawStatement, Contains-from_get, Names, AssignsAt, IsInput, IsTemporary, IsRoot, AreNames, HasName, StandsAt, AssignsAgain, MayUse, RedefinesAt}
 use Rattle.rule_core.specs.declared.rule.Register.{Register}
 use Rattle.rule_core.specs.declared.rule.Register.TheVariants as registers
-use Rattle.rule_core.proofs.Members.{Contains-from_get}
-use Rattle.rule_reader.specs.declared.names.Names.{Names}
 use Rattle.rule_reader.specs.declared.place.UseSite.TheVariants as places
-use Rattle.rule_reader.specs.Meaning.{AssignsAt, IsInput, IsTemporary, IsRoot, AreNames, HasName}
-use Rattle.rule_reader.specs.FaultKinds.{StandsAt, AssignsAgain, MayUse, RedefinesAt}
 use Rattle.rule_reader.proofs.Places.{order}
 use Rattle.rule_reader.proofs.Found.{input_of as input_of_names}
 use Rattle.rule_reader.proofs.Meaning.{assigning_statement, assigns_within}

@@ -1,23 +1,10 @@
 -- The grammar of formulas has `hasOneUse` as a member of the outermost `&&` alone.
-use Rattle.std.proofs.Common.{◌≡◌, ◌⊎◌, inl, inr, ℕ, zero, suc, ◌+◌, ◌-◌, ◌^◌, ◌<◌, ◌≤◌, List, [], ◌∷◌, ◌++◌, length, map, Option, None, Some, refl, sym, ap, subst, ◌∙◌, arith, length-append}
-use Rattle.std.specs.Prelude.{slice_get, sum_by}
-use Rattle.std.specs.Option.{option_map_or}
-use Rattle.std.proofs.lemmas.List.Sums.{sum_by-cons}
-use Rattle.std.proofs.lemmas.Option.{same_Some}
-use Rattle.rule_tokens.specs.Tokens.{Token}
-use Rattle.rule_terms.specs.declared.raw.RawFormula.{RawFormula}
+use Rattle.rule_reader.proofs.Common.{◌≡◌, ◌⊎◌, inl, inr, ℕ, zero, suc, ◌+◌, ◌-◌, ◌^◌, ◌<◌, ◌≤◌, List, [], ◌∷◌, ◌++◌, length, map, Option, None, Some, refl, sym, ap, subst, ◌∙◌, arith, length-append, slice_get, option_map_or, sum_by-cons, same_Some, Token, RawFormula, last_place, SpellsFormula, Standing, Outermost, Within, Level, Member, compares, tests, turns, encloses, member, both, members, either, predicates, Joint, OneUse, Single, IsPartOf, AsksOneUse, part, OneUseMayStand, OneUseIsOutermost, RawPrecondition, SpellsPrecondition, formula_weight, Maybe, raw_joint, rule_limits}
+use Rattle.std.proofs.Common.{sum_by}
 use Rattle.rule_terms.specs.declared.raw.RawFormula.TheVariants as raw_formulas
-use Rattle.rule_terms.specs.Grammar.{last_place}
-use Rattle.rule_terms.specs.Formulas.{SpellsFormula, Standing, Outermost, Within, Level, Member, compares, tests, one_use, turns, encloses, member, both, members, either}
-use Rattle.rule_terms.proofs.Predicates.{predicates}
-use Rattle.rule_core.specs.FormulaNodes.{Joint, OneUse, Single, IsPartOf, AsksOneUse, itself, part, OneUseMayStand, OneUseIsOutermost}
-use Rattle.rule_parse.specs.declared.raw.RawPrecondition.{RawPrecondition}
-use Rattle.rule_parse.specs.Grammar.{SpellsPrecondition}
-use Rattle.rule_parse.specs.Weight.{formula_weight}
-use Rattle.rule_tokens.specs.Parts.{Maybe}
-use Rattle.rule_reader.specs.WellFormed.{raw_joint}
+use Rattle.rule_terms.specs.Formulas.{one_use}
+use Rattle.rule_core.specs.FormulaNodes.{itself}
 use Rattle.rule_reader.proofs.Places.{at_append, at_map, map_at, there}
-use Rattle.rule_tokens.specs.Limits.{rule_limits}
 
 left_at : {X : Type 0} (xs ys : List X) (i : ℕ) (x : X) → slice_get xs i ≡ Some x → slice_get (xs ++ ys) i ≡ Some x
 left_at [] ys i x at = elim i as (λ j. slice_get [] j ≡ Some x → slice_get ys j ≡ Some x) [ zero ↦ λ h. absurd (cc) | suc j ↦ λ h. absurd (cc) ] at

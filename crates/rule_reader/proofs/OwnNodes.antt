@@ -1,28 +1,12 @@
 -- The nodes of a term that is meant are those of the term as written, moved behind those of the terms before it. So a
 -- term has no node of another.
-use Rattle.std.proofs.Common.{◌≡◌, inl, inr, ℕ, zero, suc, ◌+◌, ◌-◌, ◌<◌, List, [], ◌∷◌, ◌++◌, length, map, Some, refl, sym, ap, subst, ◌∙◌, append_assoc, arith}
-use Rattle.std.specs.Prelude.{slice_get, Contains, flat_map}
-use Rattle.std.proofs.lemmas.List.{append-nil, length-map}
-use Rattle.std.proofs.lemmas.Option.{slice_get_within, same_Some}
-use Rattle.rule_parse.specs.declared.raw.RawRule.{RawRule}
-use Rattle.rule_parse.specs.declared.raw.RawStatement.{RawStatement}
-use Rattle.rule_parse.specs.declared.raw.RawArgument.{RawArgument}
+use Rattle.rule_reader.proofs.Common.{◌≡◌, inl, inr, ℕ, zero, suc, ◌+◌, ◌-◌, ◌<◌, List, [], ◌∷◌, ◌++◌, length, map, Some, refl, sym, ap, subst, ◌∙◌, append_assoc, arith, slice_get, Contains, flat_map, append-nil, length-map, slice_get_within, same_Some, RawRule, RawStatement, RawArgument, RawNode, RawFormula, Node, IsOperandOf, StandsIn, operand, NamesWidth, OwnsOperands, AreLastNodes, Contains-from_get, terms_of_argument, terms_of_formula, Counts, Names, nodes_in, past, past_all, counted_of, counted_among, with_counts, with_nodes, with_terms, last_nodes, HasName, NodeMeans, TermsMean, IsTerm, IsBehindOperands}
 use Rattle.rule_parse.specs.declared.raw.RawArgument.TheVariants as raw_arguments
-use Rattle.rule_terms.specs.declared.raw.RawNode.{RawNode}
 use Rattle.rule_terms.specs.declared.raw.RawNode.TheVariants as raw_nodes
-use Rattle.rule_terms.specs.declared.raw.RawFormula.{RawFormula}
 use Rattle.rule_core.specs.declared.rule.Register.{Register}
 use Rattle.rule_core.specs.declared.rule.Term.{Term}
-use Rattle.rule_core.specs.declared.rule.Node.{Node}
 use Rattle.rule_core.specs.declared.rule.Node.TheVariants as nodes
-use Rattle.rule_core.specs.TermNodes.{IsOperandOf, StandsIn, itself, operand, NamesWidth, OwnsOperands, AreLastNodes}
-use Rattle.rule_core.proofs.Members.{Contains-from_get}
-use Rattle.rule_parse.specs.Contents.{terms_of_argument, terms_of_formula}
-use Rattle.rule_reader.specs.declared.counts.Counts.{Counts}
-use Rattle.rule_reader.specs.declared.names.Names.{Names}
-use Rattle.rule_reader.specs.Meaning.{nodes_in, past, past_all, counted_of, counted_among, with_counts, with_nodes, with_terms, last_nodes, HasName, NodeMeans, TermsMean}
-use Rattle.rule_reader.specs.WellFormed.{IsTerm}
-use Rattle.rule_terms.specs.Nodes.{IsBehindOperands}
+use Rattle.rule_core.specs.TermNodes.{itself}
 use Rattle.rule_reader.proofs.Counting.{past_append}
 use Rattle.rule_reader.proofs.Meaning.{with_before}
 use Rattle.rule_reader.proofs.Members.{Contains-behind}

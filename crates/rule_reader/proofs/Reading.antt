@@ -1,21 +1,5 @@
 -- Rule by rule through a text.
-use Rattle.std.proofs.Common.{◌≡◌, inl, inr, ℕ, ◌+◌, ◌<◌, ◌≤◌, Bool, List, [], ◌∷◌, ◌++◌, length, length-append, take, Some, refl, sym, ap, subst, ◌∙◌, arith, get_or}
-use Rattle.std.specs.Prelude.{slice_get, map, All}
-use Rattle.std.proofs.lemmas.Option.{slice_get_within, slice_get-get_or}
-use Rattle.rule_parse.specs.declared.raw.RawRule.{RawRule}
-use Rattle.rule_parse.specs.Text.{IsWritten}
-use Rattle.rule_core.specs.declared.rule.Rule.{Rule}
-use Rattle.rule_core.specs.Checks.{IsRule, AreDistinct}
-use Rattle.rule_typing.specs.Classes.{IsClassified}
-use Rattle.rule_typing.specs.Faults.{HasNoFault}
-use Rattle.rule_parse.specs.Text.{IsTextFault}
-use Rattle.refusal.specs.Refusals.{IfRefused}
-use Rattle.rule_tokens.specs.RuleFaults.{RuleError}
-use Rattle.refusal.specs.declared.refusal.Refusal.TheVariants.{Refused, NoMemory}
-use Rattle.rule_reader.specs.Limits.{most_bytes}
-use Rattle.rule_reader.specs.RepeatedNames.{MarksRule, MarksRepeated}
-use Rattle.rule_reader.specs.WellFormed.{IsWellFormed}
-use Rattle.rule_reader.specs.Faults.{ManyClasses, NoType, OpenType, Duplicate, Passes, IsRuleOf, IsFirstRuleFault, AreRulesOf, IsFault, of_text, of_rule}
+use Rattle.rule_reader.proofs.Common.{◌≡◌, inl, inr, ℕ, ◌+◌, ◌<◌, ◌≤◌, Bool, List, [], ◌∷◌, ◌++◌, length, length-append, take, Some, refl, sym, ap, subst, ◌∙◌, arith, get_or, slice_get, map, All, slice_get_within, slice_get-get_or, RawRule, IsWritten, Rule, IsRule, AreDistinct, IsClassified, HasNoFault, IsTextFault, IfRefused, RuleError, Refused, NoMemory, most_bytes, MarksRule, MarksRepeated, IsWellFormed, ManyClasses, NoType, OpenType, Duplicate, Passes, IsRuleOf, IsFirstRuleFault, AreRulesOf, IsFault, of_text, of_rule}
 use Rattle.rule_reader.proofs.Places.{order, same_at, at_append, take_at, at_map, there}
 use Rattle.rule_reader.proofs.Checked.{checked_rule}
 use Rattle.rule_reader.proofs.Checking.{bound_of}

@@ -1,13 +1,5 @@
 -- Repeated names of rules, rule by rule.
-use Rattle.std.proofs.Common.{◌≡◌, inl, inr, ℕ, ◌+◌, ◌<◌, Bool, true, false, cond, List, [], ◌∷◌, ◌++◌, length, length-append, take, Option, None, Some, refl, sym, ap, subst, ◌∙◌, arith}
-use Rattle.std.specs.Prelude.{slice_get, IsTrue, is_some}
-use Rattle.std.specs.Str.{bytes_eq}
-use Rattle.std.proofs.lemmas.Bool.{false≢true}
-use Rattle.std.proofs.lemmas.Option.{slice_get_within}
-use Rattle.std.proofs.lemmas.Slice.Eq.{bytes_eq-Decides}
-use Rattle.rule_parse.specs.declared.raw.RawRule.{RawRule}
-use Rattle.rule_reader.specs.FaultKinds.{HasNameOf}
-use Rattle.rule_reader.specs.RepeatedNames.{MarksRule, MarksRepeated}
+use Rattle.rule_reader.proofs.Common.{◌≡◌, inl, inr, ℕ, ◌+◌, ◌<◌, Bool, true, false, cond, List, [], ◌∷◌, ◌++◌, length, length-append, take, Option, None, Some, refl, sym, ap, subst, ◌∙◌, arith, slice_get, IsTrue, is_some, bytes_eq, false≢true, slice_get_within, bytes_eq-Decides, RawRule, HasNameOf, MarksRule, MarksRepeated}
 use Rattle.rule_reader.proofs.Places.{order, same_at, at_take, take_at, at_append}
 
 -- the map has the name exactly where one of the rules does

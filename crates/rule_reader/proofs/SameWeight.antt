@@ -1,34 +1,15 @@
 -- A rule that is meant counts as many operands, nodes and names as the rule as written.
-use Rattle.std.proofs.Common.{◌≡◌, ℕ, ◌+◌, List, [], ◌∷◌, ◌++◌, length, refl, ap, ◌∙◌, arith}
-use Rattle.std.specs.Prelude.{map, sum_by}
-use Rattle.std.specs.List.{AllZip}
-use Rattle.std.proofs.lemmas.List.Sums.{sum_by-append}
-use Rattle.std.proofs.lemmas.Grind.{flat_map-append}
-use Rattle.rule_parse.specs.declared.raw.RawRule.{RawRule}
-use Rattle.rule_parse.specs.declared.raw.RawStatement.{RawStatement}
-use Rattle.rule_parse.specs.declared.raw.RawArgument.{RawArgument}
+use Rattle.rule_reader.proofs.Common.{◌≡◌, ℕ, ◌+◌, List, [], ◌∷◌, ◌++◌, length, refl, ap, ◌∙◌, arith, map, AllZip, sum_by-append, flat_map-append, RawRule, RawStatement, RawArgument, RawNode, RawFormula, Rule, Statement, Operand, Argument, Node, Formula, term_weight, weight_of, operands_among, operands_in, Counts, Names, arguments_of, arguments_among, formula_of, expressions_of, target_terms, terms_of, terms_of_formula, nodes_in, no_counts, with_nodes, with_terms, ArgumentMeans, NodeMeans, FormulaMeans, Means, names_of_rule, argument_weight, node_weight, formula_weight, raw_weight}
+use Rattle.std.proofs.Common.{sum_by}
 use Rattle.rule_parse.specs.declared.raw.RawArgument.TheVariants as raw_arguments
-use Rattle.rule_terms.specs.declared.raw.RawNode.{RawNode}
 use Rattle.rule_terms.specs.declared.raw.RawNode.TheVariants as raw_nodes
-use Rattle.rule_terms.specs.declared.raw.RawFormula.{RawFormula}
 use Rattle.rule_terms.specs.declared.raw.RawFormula.TheVariants as raw_formulas
-use Rattle.rule_core.specs.declared.rule.Rule.{Rule}
-use Rattle.rule_core.specs.declared.rule.Statement.{Statement}
-use Rattle.rule_core.specs.declared.rule.Operand.{Operand}
-use Rattle.rule_core.specs.declared.rule.Argument.{Argument}
 use Rattle.rule_core.specs.declared.rule.Argument.TheVariants as arguments
 use Rattle.rule_core.specs.declared.rule.Term.{Term}
-use Rattle.rule_core.specs.declared.rule.Node.{Node}
 use Rattle.rule_core.specs.declared.rule.Node.TheVariants as nodes
-use Rattle.rule_core.specs.declared.rule.Formula.{Formula}
 use Rattle.rule_core.specs.declared.rule.Formula.TheVariants as formulas
-use Rattle.rule_core.specs.Checks.{argument_weight as meant_weight, node_weight as meant_node_weight, term_weight, formula_weight as meant_formula_weight, weight_of}
-use Rattle.rule_core.specs.Positions.{operands_of as operands_meant, operands_among, operands_in}
-use Rattle.rule_reader.specs.declared.counts.Counts.{Counts}
-use Rattle.rule_reader.specs.declared.names.Names.{Names}
-use Rattle.rule_parse.specs.Contents.{arguments_of, arguments_among, formula_of, expressions_of, target_terms, terms_of, terms_of_formula}
-use Rattle.rule_reader.specs.Meaning.{nodes_in, no_counts, with_nodes, with_terms, ArgumentMeans, NodeMeans, FormulaMeans, Means, names_of_rule}
-use Rattle.rule_parse.specs.Weight.{argument_weight, node_weight, formula_weight, raw_weight}
+use Rattle.rule_core.specs.Checks.{argument_weight as meant_weight, node_weight as meant_node_weight, formula_weight as meant_formula_weight}
+use Rattle.rule_core.specs.Positions.{operands_of as operands_meant}
 use Rattle.rule_reader.proofs.Weighing.{sum_cons}
 use Rattle.rule_reader.proofs.Meaning.{Reads, all_read}
 

@@ -1,31 +1,13 @@
 -- What the grammar ensures of operations: names are short, flags fit, a source has no copies and no terms, and a target
 -- only constant terms. A half comes in by what it allows as a copy.
-use Rattle.std.proofs.Common.{◌≡◌, ℕ, ◌≤◌, Bool, true, false, refl, List, [], ◌∷◌, length, subst}
-use Rattle.std.specs.Prelude.{Contains, flat_map}
-use Rattle.ops.specs.Flags.{flags_of, flags_of_cast}
-use Rattle.ops.specs.Truths.{TruthFits}
+use Rattle.rule_reader.proofs.Common.{◌≡◌, ℕ, ◌≤◌, Bool, true, false, refl, List, [], ◌∷◌, length, subst, Contains, flat_map, flags_of, flags_of_cast, TruthFits, taken_flags, Part, Token, RawNode, RawStatement, RawOp, Binary, Compare, Unary, Select, Convert, Freeze, Copy, RawOperand, RawArgument, Literal, Constant, SpellsArgument, SpellsOperand, SpellsUntyped, SpellsPair, SpellsTruth, SpellsOp, SpellsStatements, SpellsHalf, SpellsTermOperand, argument_of, Each, arguments_of, arguments_among, terms_of_argument, MayStandInSource, Version, rule_limits}
 use Rattle.ops.specs.declared.opcode.Unary.{Unary as Intrinsic}
 use Rattle.ops.specs.declared.opcode.Unary.TheVariants as intrinsics
-use Rattle.ops.proofs.FlagKeywordLemmas.{taken_flags}
-use Rattle.rule_tokens.specs.Parts.{Part}
-use Rattle.rule_tokens.specs.Tokens.{Token}
-use Rattle.rule_terms.specs.declared.raw.RawNode.{RawNode}
 use Rattle.rule_terms.specs.declared.raw.RawNode.TheVariants as raw_nodes
-use Rattle.rule_parse.specs.declared.raw.RawStatement.{RawStatement}
-use Rattle.rule_parse.specs.declared.raw.RawOp.{RawOp}
-use Rattle.rule_parse.specs.declared.raw.RawOp.TheVariants.{Binary, Compare, Unary, Select, Convert, Freeze, Copy}
-use Rattle.rule_parse.specs.declared.raw.RawOperand.{RawOperand}
-use Rattle.rule_parse.specs.declared.raw.RawArgument.{RawArgument}
-use Rattle.rule_parse.specs.declared.raw.RawArgument.TheVariants.{Literal, Constant, Term}
-use Rattle.rule_parse.specs.Grammar.{SpellsArgument, SpellsOperand, SpellsUntyped, SpellsPair, SpellsTruth, SpellsOp, SpellsStatements, SpellsHalf, SpellsTermOperand}
-use Rattle.rule_parse.specs.Keywords.{argument_of}
-use Rattle.rule_reader.specs.FaultKinds.{Each}
-use Rattle.rule_parse.specs.Contents.{arguments_of, arguments_among, terms_of_argument}
-use Rattle.rule_reader.specs.WellFormed.{MayStandInSource, FlagsFitOp}
+use Rattle.rule_parse.specs.declared.raw.RawArgument.TheVariants.{Term}
+use Rattle.rule_reader.specs.WellFormed.{FlagsFitOp}
 use Rattle.rule_reader.proofs.Members.{each_in, each_append}
 use Rattle.rule_reader.proofs.SpelledTerms.{IsConstantNode, IsConstantTerm, constant_term}
-use Rattle.rule_tokens.specs.declared.version.Version.{Version}
-use Rattle.rule_tokens.specs.Limits.{rule_limits}
 
 -- some tokens spell it
 abbrev pub IsSpelled : {A : Type 0} → (A → Part) → A → Type 0

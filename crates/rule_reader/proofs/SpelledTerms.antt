@@ -1,29 +1,12 @@
 -- What the grammar ensures of terms, formulas and expressions: nodes stand behind their operands, and constant terms
 -- have no registers.
-use Rattle.std.proofs.Common.{◌≡◌, inl, inr, ℕ, zero, suc, ◌+◌, ◌<◌, ◌≤◌, List, [], ◌∷◌, ◌++◌, length, Option, Some, None, sym, subst, length-append, arith}
-use Rattle.std.specs.Prelude.{slice_get}
-use Rattle.std.specs.Option.{option_map_or}
-use Rattle.std.proofs.lemmas.Option.{same_Some}
-use Rattle.rule_tokens.specs.Parts.{Maybe}
-use Rattle.rule_tokens.specs.Tokens.{Token}
-use Rattle.rule_terms.specs.declared.place.TermPlace.{TermPlace}
+use Rattle.rule_reader.proofs.Common.{◌≡◌, inl, inr, ℕ, zero, suc, ◌+◌, ◌<◌, ◌≤◌, List, [], ◌∷◌, ◌++◌, length, Option, Some, None, sym, subst, length-append, arith, slice_get, option_map_or, same_Some, Maybe, Token, TermPlace, RawNode, RawFormula, last_place, SpellsTerm, SpellsWholeTerm, leaf, width, parenthesised, called, prefixed, tighter, joined, SpellsFormula, Standing, Level, compares, tests, turns, encloses, member, both, members, either, predicates, RawPrecondition, RawWitness, SpellsPrecondition, SpellsMoreExpressions, SpellsExpressions, SpellsWitness, Each, terms_of_formula, IsTerm, MayStandInTerm, IsBehindFormulas, rule_limits}
 use Rattle.rule_terms.specs.declared.place.TermPlace.TheVariants as term_places
-use Rattle.rule_terms.specs.declared.raw.RawNode.{RawNode}
 use Rattle.rule_terms.specs.declared.raw.RawNode.TheVariants as raw_nodes
-use Rattle.rule_terms.specs.declared.raw.RawFormula.{RawFormula}
 use Rattle.rule_terms.specs.declared.raw.RawFormula.TheVariants as raw_formulas
-use Rattle.rule_terms.specs.Grammar.{last_place, SpellsTerm, SpellsWholeTerm, leaf, width, parenthesised, called, prefixed, tighter, joined}
-use Rattle.rule_terms.specs.Formulas.{SpellsFormula, Standing, Level, compares, tests, one_use, turns, encloses, member, both, members, either}
+use Rattle.rule_terms.specs.Formulas.{one_use}
 use Rattle.rule_terms.proofs.Places.{nodes_behind}
-use Rattle.rule_terms.proofs.Predicates.{predicates}
-use Rattle.rule_parse.specs.declared.raw.RawPrecondition.{RawPrecondition}
-use Rattle.rule_parse.specs.declared.raw.RawWitness.{RawWitness}
-use Rattle.rule_parse.specs.Grammar.{SpellsPrecondition, SpellsMoreExpressions, SpellsExpressions, SpellsWitness}
-use Rattle.rule_reader.specs.FaultKinds.{Each}
-use Rattle.rule_parse.specs.Contents.{terms_of_formula}
-use Rattle.rule_reader.specs.WellFormed.{IsTerm, MayStandInTerm, IsBehindFormulas}
 use Rattle.rule_reader.proofs.Members.{each_append, each_push}
-use Rattle.rule_tokens.specs.Limits.{rule_limits}
 
 -- a node of a constant term, and its name is short
 abbrev pub IsConstantNode : RawNode → Type 0

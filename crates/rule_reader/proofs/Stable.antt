@@ -1,5 +1,5 @@
 -- Equality of numbers and of names is decided, and so is whether a name is used.
-use Rattle.std.proofs.Common.{◌≡◌, ◌⊎◌, inl, inr, ℕ, List, [], ◌∷◌, refl, arith}
+use Rattle.rule_reader.proofs.Common.{◌≡◌, ◌⊎◌, inl, inr, ℕ, List, [], ◌∷◌, refl, arith}
 use Rattle.rule_reader.proofs.Places.{order}
 
 -- two numbers are equal or not

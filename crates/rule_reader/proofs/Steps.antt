@@ -1,19 +1,7 @@
 -- Terms and nodes of formulas are resolved and appended one by one.
-use Rattle.std.proofs.Common.{◌≡◌, ℕ, ◌+◌, ◌-◌, ◌<◌, ◌≤◌, List, [], ◌∷◌, ◌++◌, length, Some, sym, ap, subst, ◌∙◌, arith, take, drop, get_or, append_assoc}
-use Rattle.std.specs.Prelude.{slice_get, flat_map}
-use Rattle.std.proofs.lemmas.List.{append-nil, take-append-drop, take_all, take_more}
-use Rattle.std.proofs.lemmas.Grind.{flat_map-append}
-use Rattle.rule_parse.specs.declared.raw.RawRule.{RawRule}
-use Rattle.rule_terms.specs.declared.raw.RawNode.{RawNode}
-use Rattle.rule_terms.specs.declared.raw.RawFormula.{RawFormula}
+use Rattle.rule_reader.proofs.Common.{◌≡◌, ℕ, ◌+◌, ◌-◌, ◌<◌, ◌≤◌, List, [], ◌∷◌, ◌++◌, length, Some, sym, ap, subst, ◌∙◌, arith, take, drop, get_or, append_assoc, slice_get, flat_map, append-nil, take-append-drop, take_all, take_more, flat_map-append, RawRule, RawNode, RawFormula, Names, terms_of_formula, formula_of, target_terms, terms_of, expressions_of, nodes_in, last_nodes, TermsMean, IsTerm, IsWellFormed, Each, FormulaIsBound, HasReadyTerms, AddsTerms}
 use Rattle.rule_core.specs.declared.rule.Term.{Term}
-use Rattle.rule_reader.specs.declared.names.Names.{Names}
 use Rattle.rule_reader.specs.declared.place.UseSite.TheVariants as places
-use Rattle.rule_parse.specs.Contents.{terms_of_formula, formula_of, target_terms, terms_of, expressions_of}
-use Rattle.rule_reader.specs.Meaning.{nodes_in, last_nodes, TermsMean}
-use Rattle.rule_reader.specs.WellFormed.{IsTerm, IsWellFormed}
-use Rattle.rule_reader.specs.FaultKinds.{Each, FormulaIsBound}
-use Rattle.rule_reader.specs.KnownRules.{HasReadyTerms, AddsTerms}
 use Rattle.rule_reader.proofs.Places.{read_at}
 use Rattle.rule_reader.proofs.Members.{each_at, each_of}
 use Rattle.rule_reader.proofs.Nodes.{nodes_append, terms_length, formula_terms_more, last_nodes_push}

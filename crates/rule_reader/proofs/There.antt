@@ -1,25 +1,10 @@
 -- Where the check of unbound names passes, all names may be used where they are.
-use Rattle.std.proofs.Common.{◌≡◌, ◌⊎◌, inl, inr, ℕ, zero, suc, ◌<◌, List, [], ◌∷◌, length, Option, Some, None, refl, subst, arith}
-use Rattle.std.specs.Prelude.{slice_get, Contains, flat_map}
-use Rattle.std.proofs.lemmas.Option.{slice_get_within, same_Some}
-use Rattle.std.specs.Option.{option_map_or}
-use Rattle.rule_parse.specs.declared.raw.RawRule.{RawRule}
-use Rattle.rule_parse.specs.declared.raw.RawStatement.{RawStatement}
-use Rattle.rule_parse.specs.declared.raw.RawArgument.{RawArgument}
+use Rattle.rule_reader.proofs.Common.{◌≡◌, ◌⊎◌, inl, inr, ℕ, zero, suc, ◌<◌, List, [], ◌∷◌, length, Option, Some, None, refl, subst, arith, slice_get, Contains, flat_map, slice_get_within, same_Some, option_map_or, RawRule, RawStatement, RawArgument, RawNode, RawFormula, RawPrecondition, RawWitness, stable, Contains-from_get, arguments_of, arguments_among, formula_of, target_terms, terms_of, terms_of_argument, terms_of_formula, Each, NodeIsBound, ArgumentIsBound, FormulaIsBound, TermIsBound, UnboundAt, NamesAreThere}
 use Rattle.rule_parse.specs.declared.raw.RawArgument.TheVariants as raw_arguments
-use Rattle.rule_terms.specs.declared.raw.RawNode.{RawNode}
-use Rattle.rule_terms.specs.declared.raw.RawFormula.{RawFormula}
 use Rattle.rule_terms.specs.declared.raw.RawFormula.TheVariants as raw_formulas
-use Rattle.rule_parse.specs.declared.raw.RawPrecondition.{RawPrecondition}
-use Rattle.rule_parse.specs.declared.raw.RawWitness.{RawWitness}
-use Rattle.rule_typing.proofs.Deciding.{stable}
 use Rattle.rule_reader.specs.declared.place.UseSite.TheVariants as places
-use Rattle.rule_core.proofs.Members.{Contains-from_get}
-use Rattle.rule_parse.specs.Contents.{arguments_of, arguments_among, formula_of, target_terms, terms_of, terms_of_argument, terms_of_formula}
-use Rattle.rule_reader.specs.FaultKinds.{Each, NodeIsBound, ArgumentIsBound, FormulaIsBound, TermIsBound, UnboundAt}
 use Rattle.rule_reader.proofs.Places.{at_append, somewhere}
 use Rattle.rule_reader.proofs.Members.{each_in, each_at, flat_at}
-use Rattle.rule_reader.specs.KnownRules.{NamesAreThere}
 use Rattle.rule_reader.proofs.NameDecisions.{dec_each, dec_formula, dec_term, dec_op}
 
 module _ (raw : RawRule) (none : (line : ℕ) → ¬ UnboundAt raw line) where

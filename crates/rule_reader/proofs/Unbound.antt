@@ -1,16 +1,7 @@
 -- The first line on which something is unbound is that of `Pre:`, of `Wit:`, or the first one of the source, or of the
 -- target.
-use Rattle.std.proofs.Common.{◌≡◌, ◌⊎◌, inl, inr, ℕ, ◌≤◌, List, Option, None, Some, refl, sym, ap, subst, ◌∙◌, arith}
-use Rattle.std.specs.Prelude.{slice_get}
-use Rattle.std.proofs.lemmas.Option.{same_Some}
-use Rattle.rule_parse.specs.declared.raw.RawRule.{RawRule}
-use Rattle.rule_parse.specs.declared.raw.RawStatement.{RawStatement}
-use Rattle.rule_parse.specs.declared.raw.RawPrecondition.{RawPrecondition}
-use Rattle.rule_parse.specs.declared.raw.RawWitness.{RawWitness}
+use Rattle.rule_reader.proofs.Common.{◌≡◌, ◌⊎◌, inl, inr, ℕ, ◌≤◌, List, Option, None, Some, refl, sym, ap, subst, ◌∙◌, arith, slice_get, same_Some, RawRule, RawStatement, RawPrecondition, RawWitness, IsWellFormed, Each, FormulaIsBound, TermIsBound, StandsAt, StatementUnbound, PreconditionUnbound, WitnessUnbound, UnboundAt, HasUndefInside, ReadsUndefAlone, UndefInsideAt, IsFirst, IsFirstLine}
 use Rattle.rule_reader.specs.declared.place.UseSite.TheVariants as places
-use Rattle.rule_reader.specs.WellFormed.{IsWellFormed}
-use Rattle.rule_reader.specs.FaultKinds.{Each, FormulaIsBound, TermIsBound, StandsAt, StatementUnbound, PreconditionUnbound, WitnessUnbound, UnboundAt, HasUndefInside, ReadsUndefAlone, UndefInsideAt}
-use Rattle.rule_reader.specs.Faults.{IsFirst, IsFirstLine}
 use Rattle.rule_reader.proofs.Places.{there}
 use Rattle.rule_reader.proofs.Firsts.{first_left, first_right, first_none_of, lines_before}
 

@@ -1,24 +1,9 @@
 -- Bounds on counts, from what a rule as written counts as.
-use Rattle.std.proofs.Common.{◌≡◌, ℕ, ◌+◌, ◌≤◌, List, [], ◌∷◌, ◌++◌, length, refl, sym, ap, ◌∙◌, arith}
-use Rattle.std.specs.Prelude.{Contains, flat_map, sum_by}
-use Rattle.std.proofs.lemmas.List.Sums.{sum_by-append}
-use Rattle.std.proofs.lemmas.List.{append-nil}
-use Rattle.std.proofs.lemmas.Grind.{flat_map-append}
-use Rattle.rule_parse.specs.declared.raw.RawRule.{RawRule}
-use Rattle.rule_parse.specs.declared.raw.RawStatement.{RawStatement}
-use Rattle.rule_parse.specs.declared.raw.RawOp.{RawOp}
+use Rattle.rule_reader.proofs.Common.{◌≡◌, ℕ, ◌+◌, ◌≤◌, List, [], ◌∷◌, ◌++◌, length, refl, sym, ap, ◌∙◌, arith, Contains, flat_map, sum_by-append, append-nil, flat_map-append, RawRule, RawStatement, RawOp, RawArgument, Literal, Truth, Constant, Undef, RawNode, Counts, arguments_of, arguments_among, formula_of, terms_of_argument, terms_of_formula, target_terms, terms_of, expressions_of, nodes_in, past, past_all, counted_of, counted_among, no_counts, in_half, argument_weight, node_weight, IsWellFormed, AreFew, Contains-from_get}
+use Rattle.std.proofs.Common.{sum_by}
 use Rattle.rule_parse.specs.declared.raw.RawOp.TheVariants as raw_ops
-use Rattle.rule_parse.specs.declared.raw.RawArgument.{RawArgument}
-use Rattle.rule_parse.specs.declared.raw.RawArgument.TheVariants.{Register, Literal, Truth, Constant, Undef, Term}
-use Rattle.rule_terms.specs.declared.raw.RawNode.{RawNode}
+use Rattle.rule_parse.specs.declared.raw.RawArgument.TheVariants.{Register, Term}
 use Rattle.rule_terms.specs.declared.raw.RawNode.TheVariants as raw_nodes
-use Rattle.rule_reader.specs.declared.counts.Counts.{Counts}
-use Rattle.rule_parse.specs.Contents.{arguments_of, arguments_among, formula_of, terms_of_argument, terms_of_formula, target_terms, terms_of, expressions_of}
-use Rattle.rule_reader.specs.Meaning.{nodes_in, past, past_all, counted_of, counted_among, no_counts, in_half}
-use Rattle.rule_parse.specs.Weight.{argument_weight, node_weight}
-use Rattle.rule_reader.specs.WellFormed.{IsWellFormed}
-use Rattle.rule_reader.specs.KnownRules.{AreFew}
-use Rattle.rule_core.proofs.Members.{Contains-from_get}
 use Rattle.rule_reader.proofs.Places.{somewhere}
 use Rattle.rule_reader.proofs.Members.{flat_at, Contains-behind}
 use Rattle.rule_reader.proofs.Nodes.{nodes_append}

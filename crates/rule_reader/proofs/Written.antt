@@ -1,32 +1,11 @@
 -- Rules as the parser gives them are well formed.
-use Rattle.std.proofs.Common.{◌≡◌, inl, inr, ℕ, zero, suc, ◌≤◌, List, [], ◌∷◌, ◌++◌, length, append_assoc, Some, subst, arith}
-use Rattle.std.specs.Prelude.{slice_get, Contains, flat_map, codes}
-use Rattle.std.proofs.lemmas.Option.{same_Some}
-use Rattle.scan.specs.Lines.{line_of}
-use Rattle.rule_terms.specs.declared.raw.RawNode.{RawNode}
-use Rattle.rule_parse.specs.declared.raw.RawRule.{RawRule}
-use Rattle.rule_parse.specs.declared.raw.RawPrecondition.{RawPrecondition}
-use Rattle.rule_parse.specs.declared.raw.RawWitness.{RawWitness}
-use Rattle.rule_parse.specs.declared.raw.RawStatement.{RawStatement}
-use Rattle.rule_parse.specs.declared.raw.RawOp.TheVariants.{Copy}
-use Rattle.rule_parse.specs.declared.raw.RawOperand.{RawOperand}
+use Rattle.rule_reader.proofs.Common.{◌≡◌, inl, inr, ℕ, zero, suc, ◌≤◌, List, [], ◌∷◌, ◌++◌, length, append_assoc, Some, subst, arith, slice_get, Contains, flat_map, codes, same_Some, line_of, RawNode, RawRule, RawPrecondition, RawWitness, RawStatement, Copy, RawOperand, SpellsArgument, SpellsOperand, SpellsOp, SpellsStatement, SpellsStatements, SpellsHalf, SpellsPrecondition, SpellsWitness, SpellsRule, SpellsRules, SpellsVersion, IsWritten, raw_weight, small_rules, at_start, Token, Line, Head, Arrow, AtToken, Each, arguments_of, terms_of_formula, formula_of, target_terms, terms_of, expressions_of, AreInLineOrder, MayStandInSource, IsHalf, IsTerm, IsWellFormed, Version, rule_limits}
 use Rattle.rule_parse.specs.declared.raw.RawArgument.TheVariants as raw_arguments
-use Rattle.rule_parse.specs.Grammar.{SpellsArgument, SpellsOperand, SpellsOp, SpellsStatement, SpellsStatements, SpellsHalf, SpellsPrecondition, SpellsWitness, SpellsRule, SpellsRules, SpellsVersion}
-use Rattle.rule_parse.specs.Text.{IsWritten}
-use Rattle.rule_parse.specs.Weight.{raw_weight}
-use Rattle.rule_parse.proofs.Weight.{small_rules}
-use Rattle.rule_tokens.specs.Contexts.{at_start}
-use Rattle.rule_tokens.specs.Tokens.{Token, Line, Head, Arrow, AtToken}
-use Rattle.rule_reader.specs.FaultKinds.{Each}
-use Rattle.rule_parse.specs.Contents.{arguments_of, terms_of_formula, formula_of, target_terms, terms_of, expressions_of}
-use Rattle.rule_reader.specs.WellFormed.{AreInLineOrder, MayStandInSource, IsHalf, IsTerm, IsWellFormed}
 use Rattle.rule_reader.proofs.Members.{each_in, each_append, each_flat}
 use Rattle.rule_reader.proofs.LineOrder.{Ascend, skip, up_from, none_at, ordered, headed}
 use Rattle.rule_reader.proofs.SpelledTerms.{IsConstantNode, may_stand, IsConstantTerm, formula_behind, formula_terms, expression_terms}
 use Rattle.rule_reader.proofs.OneUses.{precondition_one_use, formula_weighs}
 use Rattle.rule_reader.proofs.Spelled.{argument_spelled, short_alone, term_operand, spelled_terms, written_flags, no_copies}
-use Rattle.rule_tokens.specs.declared.version.Version.{Version}
-use Rattle.rule_tokens.specs.Limits.{rule_limits}
 
 -- the grammar spells each statement of a half
 spelled_at : (version : Version) (half : _) (ss : List RawStatement) (tokens : List Token) (k : ℕ) (s : RawStatement) → SpellsStatements rule_limits version half ss tokens → slice_get ss k ≡ Some s → (own : List Token) × SpellsStatement rule_limits version half s own

@@ -1,13 +1,6 @@
 -- Chains of parts joined by a mark: one part more.
-use Rattle.std.proofs.Common.{◌≡◌, ℕ, zero, suc, ◌<◌, ◌≤◌, Bool, true, false, cond, List, [], ◌∷◌, length, drop, Result, Ok, Err, refl, sym, ap, subst, ◌∙◌, arith}
-use Rattle.rule_tokens.specs.RuleFaults.{RuleFault, RuleError}
-use Rattle.refusal.specs.declared.refusal.Refusal.TheVariants.{Refused, NoMemory}
-use Rattle.refusal.specs.Refusals.{Fails}
-use Rattle.rule_tokens.specs.Steps.{◌>>=◌}
-use Rattle.rule_tokens.specs.PartReaders.{Read}
-use Rattle.rule_tokens.specs.Tokens.{Token, Mark}
-use Rattle.rule_tokens.proofs.Takes.{mark_is}
-use Rattle.rule_terms.specs.Chains.{Reader, next_is, chain_of, chain_at}
+use Rattle.rule_terms.proofs.Common.{◌≡◌, ℕ, zero, suc, ◌<◌, ◌≤◌, Bool, true, false, cond, List, [], ◌∷◌, length, drop, Result, Ok, Err, refl, sym, ap, subst, ◌∙◌, arith, RuleFault, RuleError, Refused, NoMemory, Fails, ◌>>=◌, Read, Token, Mark, mark_is, next_is, chain_of}
+use Rattle.rule_terms.specs.Chains.{Reader, chain_at}
 
 pub next_is-is : (mark : List ℕ) (tokens : List Token) → next_is mark tokens ≡ true → tokens ≡ Mark mark ∷ drop 1 tokens
 next_is-is mark (Mark found ∷ tokens) e = mark_is mark found tokens e

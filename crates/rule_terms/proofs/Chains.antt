@@ -1,18 +1,7 @@
 -- The loops that read operators of one level.
-use Rattle.std.proofs.Common.{◌≡◌, ℕ, zero, suc, ◌<◌, List, length, Option, Some, None, Result, Ok, Err, refl, sym, ap, ◌∙◌, arith}
-use Rattle.ops.specs.declared.opcode.Opcode.{Opcode}
-use Rattle.rule_tokens.specs.RuleFaults.{RuleFault, RuleError}
-use Rattle.refusal.specs.declared.refusal.Refusal.TheVariants.{Refused, NoMemory}
-use Rattle.refusal.specs.Refusals.{Fails, Gives}
-use Rattle.rule_tokens.specs.Steps.{◌>>=◌}
-use Rattle.rule_tokens.specs.PartReaders.{Read}
-use Rattle.rule_tokens.specs.Tokens.{Token}
-use Rattle.rule_terms.specs.declared.place.TermPlace.{TermPlace}
-use Rattle.rule_terms.specs.declared.raw.RawNode.{RawNode}
-use Rattle.rule_terms.specs.declared.start.Start.{Start}
-use Rattle.rule_terms.specs.TermReaders.{Reader, start_at, operator_at, join, joined_or_end, chain_at, whole_chain_at, behind_at, operand_at, begun_at, shallow_in, primary_at}
+use Rattle.rule_terms.proofs.Common.{◌≡◌, ℕ, zero, suc, ◌<◌, List, length, Option, Some, None, Result, Ok, Err, refl, sym, ap, ◌∙◌, arith, Opcode, RuleFault, RuleError, Refused, NoMemory, Fails, Gives, ◌>>=◌, Read, Token, TermPlace, RawNode, Start, start_at, operator_at, join, joined_or_end, whole_chain_at, behind_at, operand_at, shallow_in, primary_at, Limits}
+use Rattle.rule_terms.specs.TermReaders.{Reader, chain_at, begun_at}
 use Rattle.rule_terms.proofs.Meanings.{operator_at-is}
-use Rattle.rule_tokens.specs.Limits.{Limits}
 
 module _ (limits : Limits) where
   -- the parser leaves fewer tokens than there were

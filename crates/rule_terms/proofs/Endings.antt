@@ -1,20 +1,10 @@
 -- No binary operator is next behind a term that was read.
-use Rattle.std.proofs.Common.{◌≡◌, ℕ, zero, suc, ◌<◌, List, ◌∷◌, length, Option, Some, None, Ok, refl, sym, ap, subst, ⊎_elim, ◌⊎◌, arith}
-use Rattle.std.proofs.lemmas.Bool.{eq-eqb, ne_eqb}
-use Rattle.ops.specs.declared.opcode.Opcode.{Opcode}
-use Rattle.rule_tokens.specs.Tokens.{Token, Mark}
-use Rattle.rule_tokens.proofs.Steps.{bound, read_as}
-use Rattle.rule_terms.specs.declared.place.TermPlace.{TermPlace}
-use Rattle.rule_terms.specs.declared.raw.RawNode.{RawNode}
-use Rattle.rule_terms.specs.Grammar.{EndsTerm}
-use Rattle.rule_terms.specs.Laws.{TermsAreReadAsSpelled}
-use Rattle.rule_terms.specs.TermReaders.{Reader, of_level, operator_at, join, joined_or_end, chain_at, behind_at, operand_at, primary_at, term_at}
-use Rattle.rule_terms.specs.Keywords.{operator_in, level_of, loosest}
+use Rattle.rule_terms.proofs.Common.{◌≡◌, ℕ, zero, suc, ◌<◌, List, ◌∷◌, length, Option, Some, None, Ok, refl, sym, ap, subst, ⊎_elim, ◌⊎◌, arith, eq-eqb, ne_eqb, Opcode, Token, Mark, bound, read_as, TermPlace, RawNode, EndsTerm, TermsAreReadAsSpelled, of_level, operator_at, join, joined_or_end, behind_at, operand_at, primary_at, term_at, operator_in, level_of, loosest, Limits}
+use Rattle.rule_terms.specs.TermReaders.{Reader, chain_at}
 use Rattle.rule_terms.proofs.Chains.{Shortens}
 use Rattle.rule_terms.proofs.Meanings.{operator_level, operator_at-is}
 use Rattle.rule_terms.proofs.Readings.{operand_shorter}
 use Rattle.rule_terms.proofs.Spellings.{term_at-is, term_at-of}
-use Rattle.rule_tokens.specs.Limits.{Limits}
 
 module _ (limits : Limits) where
   -- no operator of a level below this one is next

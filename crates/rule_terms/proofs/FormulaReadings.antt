@@ -1,38 +1,12 @@
 -- What the parser reads as a formula is what the grammar spells with the tokens that it takes.
-use Rattle.std.proofs.Common.{◌≡◌, ℕ, zero, suc, ◌+◌, ◌≤◌, Bool, true, false, List, [], ◌∷◌, ◌++◌, length, drop, Option, Some, None, Ok, refl, sym, ap, subst, ◌∙◌, ⊎_elim, append_assoc, length-append, arith}
-use Rattle.std.specs.Prelude.{codes, ◌&&◌, ◌||◌, if◌then◌else◌}
-use Rattle.std.specs.List.{list_any}
-use Rattle.std.specs.Str.{bytes_eq}
-use Rattle.std.proofs.lemmas.List.Folds.{list_any-append}
-use Rattle.ops.specs.declared.comparison.Pred.{Pred}
-use Rattle.scan.proofs.Fronts.{and_left}
-use Rattle.ops.specs.Keywords.{predicates}
-use Rattle.ops.proofs.KeywordLemmas.{same_word, found-passes}
-use Rattle.rule_tokens.specs.RuleFaults.{RuleError}
-use Rattle.refusal.specs.declared.refusal.Refusal.TheVariants.{Refused, NoMemory}
-use Rattle.refusal.specs.Refusals.{Fails}
-use Rattle.rule_tokens.specs.Steps.{◌>>=◌}
-use Rattle.rule_tokens.specs.PartReaders.{name_within, line_end}
-use Rattle.rule_tokens.specs.Tokens.{Token, Register, Word, Mark}
-use Rattle.rule_tokens.proofs.Steps.{done, bind_ok, bound, read_as, chosen, guarded}
-use Rattle.rule_tokens.proofs.Takes.{Takes, name_within-is, line_end-is}
-use Rattle.rule_terms.specs.declared.place.TermPlace.TheVariants.{Constant}
-use Rattle.rule_terms.specs.declared.raw.RawFormula.{RawFormula}
+use Rattle.rule_terms.proofs.Common.{◌≡◌, ℕ, zero, suc, ◌+◌, ◌≤◌, Bool, true, false, List, [], ◌∷◌, ◌++◌, length, drop, Option, Some, None, Ok, refl, sym, ap, subst, ◌∙◌, ⊎_elim, append_assoc, length-append, arith, codes, ◌&&◌, ◌||◌, if◌then◌else◌, list_any, bytes_eq, list_any-append, Pred, and_left, predicates, same_word, found-passes, RuleError, Refused, NoMemory, Fails, ◌>>=◌, name_within, line_end, Token, Register, Word, Mark, done, bind_ok, bound, read_as, chosen, guarded, Takes, name_within-is, line_end-is, Constant, RawFormula, Opening, Turns, Encloses, Tests, Compares, Predicate, IsPowerOfTwo, IsSignBit, next_is, chain_of, Standing, Outermost, Within, Level, Member, Members, Alternatives, SpellsFormula, SpellsWholeFormula, compares, tests, one_use, turns, encloses, member, both, members, either, comparison_or_fault, comparison_at, compares_at, deeper, tests_at, register_at, one_use_at, joins, members_of, more_alternatives, alternatives_of, too_deep, member_at, outer_member_at, asks_one_use, or_alternatives, formula_at, mark_opening, word_opening, opens_formula, comparison_mark, comparison_in, predicate_word, predicate_node, predicate_in, last_place, mark_at, term_at, Limits}
 use Rattle.rule_terms.specs.declared.raw.RawFormula.TheVariants as raw
-use Rattle.rule_terms.specs.declared.formula_word.Opening.{Opening}
-use Rattle.rule_terms.specs.declared.formula_word.Opening.TheVariants.{Turns, Encloses, Tests, Compares}
-use Rattle.rule_terms.specs.declared.formula_word.Predicate.{Predicate}
-use Rattle.rule_terms.specs.declared.formula_word.Predicate.TheVariants.{IsPowerOfTwo, IsSignBit}
-use Rattle.rule_terms.specs.Chains.{Reader, next_is, chain_of}
-use Rattle.rule_terms.specs.Formulas.{Standing, Outermost, Within, Level, Member, Members, Alternatives, joined, SpellsFormula, SpellsWholeFormula, compares, tests, one_use, turns, encloses, member, both, members, either}
-use Rattle.rule_terms.specs.FormulaReaders.{comparison_or_fault, comparison_at, compares_at, deeper, tests_at, register_at, one_use_at, joins, members_of, more_alternatives, alternatives_of, begun_at, too_deep, member_at, outer_member_at, asks_one_use, or_alternatives, formula_at, opening_at, mark_opening, word_opening, opens_formula}
-use Rattle.rule_terms.specs.FormulaKeywords.{comparison_mark, comparison_in, predicate_word, predicate_node, predicate_in}
-use Rattle.rule_terms.specs.Grammar.{last_place}
-use Rattle.rule_terms.specs.TermReaders.{mark_at, term_at}
+use Rattle.rule_terms.specs.Chains.{Reader}
+use Rattle.rule_terms.specs.Formulas.{joined}
+use Rattle.rule_terms.specs.FormulaReaders.{begun_at, opening_at}
 use Rattle.rule_terms.proofs.ChainLemmas.{Shortens, next_is-is}
 use Rattle.rule_terms.proofs.Spellings.{term_at-is}
 use Rattle.rule_terms.proofs.Starts.{mark_at-is}
-use Rattle.rule_tokens.specs.Limits.{Limits}
 
 module _ (limits : Limits) where
   -- nodes are appended, and the tokens that were taken spell them

@@ -1,52 +1,18 @@
 -- What the grammar spells as a formula is read, where the token behind doesn't go on with a term.
-use Rattle.std.proofs.Common.{◌≡◌, ℕ, zero, suc, ◌+◌, ◌≤◌, Bool, true, false, List, [], ◌∷◌, ◌++◌, length, Result, Ok, Err, refl, sym, ap, subst, ◌∙◌, ⊎_elim, append_assoc, length-append, arith}
-use Rattle.std.specs.Prelude.{codes}
-use Rattle.std.specs.List.{list_any}
-use Rattle.std.specs.Str.{bytes_eq}
-use Rattle.std.proofs.lemmas.Bool.{eqb-true}
-use Rattle.ops.specs.declared.opcode.Opcode.{Opcode}
-use Rattle.ops.specs.declared.opcode.Opcode.TheVariants.{Add, Sub, Mul, UDiv, SDiv, URem, SRem, Shl, LShr, AShr, And, Or, Xor, UMin, UMax, SMin, SMax}
-use Rattle.ops.specs.declared.comparison.Pred.{Pred}
-use Rattle.ops.specs.declared.comparison.Pred.TheVariants.{Eq, Ne, Ugt, Uge, Ult, Ule, Sgt, Sge, Slt, Sle}
-use Rattle.rule_core.specs.declared.rule.Function.{Function}
-use Rattle.rule_core.specs.declared.rule.Function.TheVariants.{Negate, Not, Log2, Abs}
-use Rattle.scan.specs.Bytes.{is_digit}
-use Rattle.scan.specs.RuleTokens.{is_constant}
-use Rattle.scan.proofs.Fronts.{and_left}
-use Rattle.std.specs.List.{list_all}
-use Rattle.std.specs.Prelude.{◌==◌}
-use Rattle.rule_tokens.specs.Steps.{◌>>=◌}
-use Rattle.rule_tokens.specs.PartReaders.{line_end}
-use Rattle.rule_tokens.specs.Tokens.{Token, Line, Register, Word, Number, Mark}
-use Rattle.rule_tokens.proofs.Ends.{EndsLine, name_within-of, line_end-of}
-use Rattle.rule_terms.specs.declared.place.TermPlace.TheVariants.{Constant}
-use Rattle.rule_terms.specs.declared.raw.RawNode.{RawNode}
+use Rattle.rule_terms.proofs.Common.{◌≡◌, ℕ, zero, suc, ◌+◌, ◌≤◌, Bool, true, false, List, [], ◌∷◌, ◌++◌, length, Result, Ok, Err, refl, sym, ap, subst, ◌∙◌, ⊎_elim, append_assoc, length-append, arith, codes, list_any, bytes_eq, eqb-true, Opcode, Add, Sub, Mul, UDiv, SDiv, URem, SRem, Shl, LShr, AShr, And, Or, Xor, UMin, UMax, SMin, SMax, Pred, Eq, Ne, Ugt, Uge, Ult, Ule, Sgt, Sge, Slt, Sle, Function, Negate, Log2, Abs, is_digit, is_constant, and_left, list_all, ◌==◌, ◌>>=◌, line_end, Token, Line, Register, Word, Number, Mark, EndsLine, name_within-of, line_end-of, Constant, RawNode, RawFormula, Compares, Predicate, IsPowerOfTwo, IsSignBit, Sign, next_is, Standing, Outermost, Within, Level, Member, Members, Alternatives, SpellsFormula, SpellsWholeFormula, compares, tests, one_use, turns, encloses, member, both, members, either, sign_of, word_sign, opens_behind, opens_formula, comparison_at, compares_at, tests_at, one_use_at, joins, more_members, members_of, more_alternatives, alternatives_of, member_at, outer_member_at, asks_one_use, or_alternatives, formula_at, comparison_mark, comparison_in, predicate_word, predicate_node, predicate_in, last_place, EndsTerm, SpellsLeaf, SpellsTerm, SpellsWholeTerm, leaf, width, parenthesised, called, prefixed, tighter, operator_mark, operator_in, IsCalled, IsPrefix, zero-add, false≢true, list_any-append, which, same_word, RuleFault, Limits}
+use Rattle.rule_core.specs.declared.rule.Function.TheVariants.{Not}
 use Rattle.rule_terms.specs.declared.raw.RawNode.TheVariants as raw_nodes
-use Rattle.rule_terms.specs.declared.raw.RawFormula.{RawFormula}
 use Rattle.rule_terms.specs.declared.raw.RawFormula.TheVariants as raw
-use Rattle.rule_terms.specs.declared.formula_word.Opening.TheVariants.{Compares}
-use Rattle.rule_terms.specs.declared.formula_word.Predicate.{Predicate}
-use Rattle.rule_terms.specs.declared.formula_word.Predicate.TheVariants.{IsPowerOfTwo, IsSignBit}
-use Rattle.rule_terms.specs.declared.formula_word.Sign.{Sign}
 use Rattle.rule_terms.specs.declared.formula_word.Sign.TheVariants as signs
-use Rattle.rule_terms.specs.Chains.{Reader, next_is, chain_at}
-use Rattle.rule_terms.specs.Formulas.{Standing, Outermost, Within, Level, Member, Members, Alternatives, joined, SpellsFormula, SpellsWholeFormula, compares, tests, one_use, turns, encloses, member, both, members, either}
-use Rattle.rule_terms.specs.FormulaReaders.{sign_of, word_sign, opens_behind, opens_formula, comparison_at, compares_at, tests_at, one_use_at, joins, more_members, members_of, more_alternatives, alternatives_of, member_at, outer_member_at, asks_one_use, or_alternatives, formula_at, opening_at}
-use Rattle.rule_terms.specs.FormulaKeywords.{comparison_mark, comparison_in, predicate_word, predicate_node, predicate_in}
-use Rattle.rule_terms.specs.Grammar.{last_place, EndsTerm, SpellsLeaf, SpellsTerm, SpellsWholeTerm, leaf, width, parenthesised, called, prefixed, tighter, joined as joined_term}
-use Rattle.rule_terms.specs.Keywords.{operator_mark, operator_in, IsCalled, IsPrefix}
+use Rattle.rule_terms.specs.Chains.{Reader, chain_at}
+use Rattle.rule_terms.specs.Formulas.{joined}
+use Rattle.rule_terms.specs.FormulaReaders.{opening_at}
+use Rattle.rule_terms.specs.Grammar.{joined as joined_term}
 use Rattle.rule_terms.proofs.ChainLemmas.{Shortens, chain-more, chain-done}
 use Rattle.rule_terms.proofs.FormulaReadings.{member_at-is, outer_member_at-is, members_of-is, joins_shortens, operator_made, turned_made, stands_outermost}
-use Rattle.std.proofs.Common.{zero-add}
-use Rattle.std.proofs.lemmas.Bool.{false≢true}
-use Rattle.std.proofs.lemmas.List.Folds.{list_any-append}
-use Rattle.scan.proofs.Fronts.{which}
-use Rattle.ops.proofs.KeywordLemmas.{same_word}
-use Rattle.rule_tokens.specs.RuleFaults.{RuleFault}
 use Rattle.rule_terms.proofs.Readings.{spells_some}
 use Rattle.rule_terms.proofs.Spellings.{term_at-of}
 use Rattle.rule_terms.proofs.Starts.{mark_at-of}
-use Rattle.rule_tokens.specs.Limits.{Limits}
 
 module _ (limits : Limits) where
   -- ---- looking ahead

@@ -1,20 +1,7 @@
 -- Members by what they begin with, and one level of nesting where one is left.
-use Rattle.std.proofs.Common.{◌≡◌, ℕ, zero, suc, List, [], ◌∷◌, ◌++◌, length, drop, Result, Ok, Err, refl, ap}
-use Rattle.std.specs.Prelude.{codes}
-use Rattle.rule_tokens.specs.RuleFaults.{RuleFault, RuleError}
-use Rattle.refusal.specs.declared.refusal.Refusal.TheVariants.{Refused, NoMemory}
-use Rattle.refusal.specs.Refusals.{Fails}
+use Rattle.rule_terms.proofs.Common.{◌≡◌, ℕ, zero, suc, List, [], ◌∷◌, ◌++◌, length, drop, Result, Ok, Err, refl, ap, codes, RuleFault, RuleError, Refused, NoMemory, Fails, last_place, mark_at, ◌>>=◌, Token, ok_is, RawFormula, Turns, Encloses, Tests, Compares, Predicate, deeper, alternatives_of, turns_at, encloses_at, tests_at, compares_at, member_at, Limits}
 use Rattle.rule_terms.specs.declared.raw.RawFormula.TheVariants.{Not}
-use Rattle.rule_terms.specs.Grammar.{last_place}
-use Rattle.rule_terms.specs.TermReaders.{mark_at}
-use Rattle.rule_tokens.specs.Steps.{◌>>=◌}
-use Rattle.rule_tokens.specs.Tokens.{Token}
-use Rattle.rule_tokens.proofs.Steps.{ok_is}
-use Rattle.rule_terms.specs.declared.raw.RawFormula.{RawFormula}
-use Rattle.rule_terms.specs.declared.formula_word.Opening.TheVariants.{Turns, Encloses, Tests, Compares}
-use Rattle.rule_terms.specs.declared.formula_word.Predicate.{Predicate}
-use Rattle.rule_terms.specs.FormulaReaders.{deeper, alternatives_of, turns_at, encloses_at, tests_at, compares_at, member_at, opening_at}
-use Rattle.rule_tokens.specs.Limits.{Limits}
+use Rattle.rule_terms.specs.FormulaReaders.{opening_at}
 
 module _ (limits : Limits) where
   pub member-turns : (nesting line inside : ℕ) (before : List RawFormula) (tokens : List Token) → Turns ≡ opening_at tokens → deeper line nesting ≡ Ok inside → member_at limits nesting line before tokens ≡ turns_at (member_at limits inside line) before (drop 1 tokens)

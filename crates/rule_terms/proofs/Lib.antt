@@ -1,3 +1,4 @@
+pub mod Common
 pub mod ChainLemmas
 pub mod Chains
 pub mod Endings

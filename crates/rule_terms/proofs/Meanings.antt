@@ -1,25 +1,8 @@
 -- Words, marks and operators: the parser takes them exactly as the grammar spells them.
-use Rattle.std.proofs.Common.{◌≡◌, ◌≢◌, ℕ, suc, ◌<◌, ◌-◌, ◌^◌, min, Bool, true, false, cond, eqb, ◌&&◌, List, [], ◌∷◌, Option, Some, None, refl, sym, ap, subst, ◌∙◌, ⊎_elim, arith}
-use Rattle.std.specs.Prelude.{codes, not}
-use Rattle.std.specs.List.{list_all}
-use Rattle.std.specs.Str.{bytes_eq}
-use Rattle.std.proofs.lemmas.Bool.{eqb-true, eq-eqb}
-use Rattle.ops.specs.declared.opcode.Opcode.{Opcode}
-use Rattle.ops.specs.declared.opcode.Opcode.TheVariants.{Add, Sub, Mul, UDiv, SDiv, URem, SRem, Shl, LShr, AShr, And, Or, Xor, UMin, UMax, SMin, SMax}
-use Rattle.rule_core.specs.declared.rule.Function.TheVariants.{Negate, Not, Log2, Abs}
-use Rattle.ops.proofs.KeywordLemmas.{same_word, found-passes}
-use Rattle.scan.specs.Bytes.{begins_with, is_digit, are_digits}
-use Rattle.scan.specs.RuleTokens.{is_constant}
-use Rattle.scan.proofs.Fronts.{and_left, and_right}
-use Rattle.rule_tokens.specs.Numbers.{decimal_value}
-use Rattle.rule_tokens.specs.Tokens.{Token, Mark}
-use Rattle.rule_tokens.proofs.Steps.{chosen, guarded}
-use Rattle.rule_terms.specs.declared.place.TermPlace.{TermPlace}
+use Rattle.rule_terms.proofs.Common.{◌≡◌, ◌≢◌, ℕ, suc, ◌<◌, ◌-◌, ◌^◌, min, Bool, true, false, cond, eqb, ◌&&◌, List, [], ◌∷◌, Option, Some, None, refl, sym, ap, subst, ◌∙◌, ⊎_elim, arith, codes, not, list_all, bytes_eq, eqb-true, eq-eqb, Opcode, Add, Sub, Mul, UDiv, SDiv, URem, SRem, Shl, LShr, AShr, And, Or, Xor, UMin, UMax, SMin, SMax, Negate, Log2, Abs, same_word, found-passes, begins_with, is_digit, are_digits, is_constant, and_left, and_right, decimal_value, Token, Mark, chosen, guarded, TermPlace, Meaning, of_level, operator_at, operator_mark, operators, operator_in, level_of, IsCalled, IsChoice, choice_in, choice_meaning, name_in, meaning_in}
+use Rattle.rule_core.specs.declared.rule.Function.TheVariants.{Not}
 use Rattle.rule_terms.specs.declared.place.TermPlace.TheVariants as places
-use Rattle.rule_terms.specs.declared.word.Meaning.{Meaning}
 use Rattle.rule_terms.specs.declared.word.Meaning.TheVariants as meanings
-use Rattle.rule_terms.specs.TermReaders.{of_level, operator_at}
-use Rattle.rule_terms.specs.Keywords.{operator_mark, operators, operator_in, level_of, IsCalled, IsChoice, choice_in, choice_meaning, name_in, meaning_in}
 
 -- ---- binary operators
 

@@ -1,15 +1,7 @@
 -- Nodes of a term that the grammar spells stand behind their operands.
-use Rattle.std.proofs.Common.{◌≡◌, ℕ, zero, suc, ◌+◌, ◌<◌, ◌≤◌, List, [], ◌∷◌, ◌++◌, length, Some, subst, length-append, arith}
-use Rattle.std.specs.Prelude.{slice_get}
-use Rattle.ops.specs.declared.opcode.Opcode.{Opcode}
-use Rattle.rule_core.specs.declared.rule.Function.{Function}
-use Rattle.rule_tokens.specs.Tokens.{Token}
-use Rattle.rule_terms.specs.declared.place.TermPlace.{TermPlace}
-use Rattle.rule_terms.specs.declared.raw.RawNode.{RawNode}
+use Rattle.rule_terms.proofs.Common.{◌≡◌, ℕ, zero, suc, ◌+◌, ◌<◌, ◌≤◌, List, [], ◌∷◌, ◌++◌, length, Some, subst, length-append, arith, slice_get, Opcode, Function, Token, TermPlace, RawNode, last_place, SpellsTerm, leaf, width, parenthesised, called, prefixed, tighter, IsBehindOperands, NodesStandBehindOperands, Limits}
 use Rattle.rule_terms.specs.declared.raw.RawNode.TheVariants as raw_nodes
-use Rattle.rule_terms.specs.Grammar.{last_place, SpellsTerm, leaf, width, parenthesised, called, prefixed, tighter, joined}
-use Rattle.rule_terms.specs.Nodes.{IsBehindOperands, NodesStandBehindOperands}
-use Rattle.rule_tokens.specs.Limits.{Limits}
+use Rattle.rule_terms.specs.Grammar.{joined}
 
 module _ (limits : Limits) where
   -- the nodes, the first at this place, are each behind their operands

@@ -1,21 +1,10 @@
 -- What the parser reads as a term is what the grammar spells with the tokens that it takes.
-use Rattle.std.proofs.Common.{◌≡◌, ℕ, zero, suc, ◌+◌, ◌<◌, ◌≤◌, List, [], ◌∷◌, ◌++◌, length, Option, Some, None, Ok, refl, sym, ap, subst, ◌∙◌, append_assoc, length-append, arith}
-use Rattle.std.specs.Prelude.{codes}
-use Rattle.ops.specs.declared.opcode.Opcode.{Opcode}
-use Rattle.rule_core.specs.declared.rule.Function.{Function}
-use Rattle.rule_tokens.specs.Tokens.{Token, Register, Word, Mark}
-use Rattle.rule_tokens.proofs.Steps.{bound, read_as}
-use Rattle.rule_terms.specs.declared.place.TermPlace.{TermPlace}
-use Rattle.rule_terms.specs.declared.raw.RawNode.{RawNode}
+use Rattle.rule_terms.proofs.Common.{◌≡◌, ℕ, zero, suc, ◌+◌, ◌<◌, ◌≤◌, List, [], ◌∷◌, ◌++◌, length, Option, Some, None, Ok, refl, sym, ap, subst, ◌∙◌, append_assoc, length-append, arith, codes, Opcode, Function, Token, Register, Word, Mark, bound, read_as, TermPlace, RawNode, Start, Leaf, Prefix, Parenthesis, Call, Width, last_place, SpellsTerm, leaf, width, parenthesised, called, prefixed, tighter, mark_at, start_at, measured_at, operator_at, join, joined_or_end, behind_at, operand_at, add_unary, inside_at, shallow_in, primary_at, operator_mark, loosest, Limits}
 use Rattle.rule_terms.specs.declared.raw.RawNode.TheVariants as raw_nodes
-use Rattle.rule_terms.specs.declared.start.Start.{Start}
-use Rattle.rule_terms.specs.declared.start.Start.TheVariants.{Leaf, Prefix, Parenthesis, Call, Width}
-use Rattle.rule_terms.specs.Grammar.{last_place, SpellsTerm, leaf, width, parenthesised, called, prefixed, tighter, joined}
-use Rattle.rule_terms.specs.TermReaders.{Reader, mark_at, start_at, measured_at, operator_at, join, joined_or_end, chain_at, behind_at, operand_at, add_unary, inside_at, begun_at, shallow_in, primary_at}
-use Rattle.rule_terms.specs.Keywords.{operator_mark, loosest}
+use Rattle.rule_terms.specs.Grammar.{joined}
+use Rattle.rule_terms.specs.TermReaders.{Reader, chain_at, begun_at}
 use Rattle.rule_terms.proofs.Meanings.{IsNext, operator_at-is}
 use Rattle.rule_terms.proofs.Starts.{Starts, mark_at-is, measured_at-is, start_at-is}
-use Rattle.rule_tokens.specs.Limits.{Limits}
 
 module _ (limits : Limits) where
   -- nodes are appended, and the tokens that were taken spell them

@@ -1,24 +1,12 @@
 -- What the grammar spells as a term is read, where no operator that binds tighter than its level is next behind it.
-use Rattle.std.proofs.Common.{◌≡◌, ℕ, zero, suc, ◌+◌, ◌<◌, List, [], ◌∷◌, ◌++◌, length, None, Result, Ok, Err, refl, sym, ap, ◌∙◌, append_assoc, length-append, subst, arith}
-use Rattle.std.specs.Prelude.{codes}
-use Rattle.std.proofs.lemmas.Bool.{ne_eqb}
-use Rattle.ops.specs.declared.opcode.Opcode.{Opcode}
-use Rattle.rule_core.specs.declared.rule.Function.{Function}
-use Rattle.rule_tokens.specs.RuleFaults.{RuleFault}
-use Rattle.rule_tokens.specs.Steps.{◌>>=◌}
-use Rattle.rule_tokens.specs.Tokens.{Token, Register, Word, Mark}
-use Rattle.rule_terms.specs.declared.place.TermPlace.{TermPlace}
-use Rattle.rule_terms.specs.declared.raw.RawNode.{RawNode}
+use Rattle.rule_terms.proofs.Common.{◌≡◌, ℕ, zero, suc, ◌+◌, ◌<◌, List, [], ◌∷◌, ◌++◌, length, None, Result, Ok, Err, refl, sym, ap, ◌∙◌, append_assoc, length-append, subst, arith, codes, ne_eqb, Opcode, Function, RuleFault, ◌>>=◌, Token, Register, Word, Mark, TermPlace, RawNode, Leaf, Prefix, Parenthesis, Call, Width, last_place, SpellsTerm, leaf, width, parenthesised, called, prefixed, tighter, SpellsWholeTerm, EndsTerm, mark_at, start_at, operator_at, join, whole_chain_at, behind_at, operand_at, add_unary, inside_at, primary_at, term_at, operator_mark, operator_in, level_of, loosest, Limits}
 use Rattle.rule_terms.specs.declared.raw.RawNode.TheVariants as raw_nodes
-use Rattle.rule_terms.specs.declared.start.Start.TheVariants.{Leaf, Prefix, Parenthesis, Call, Width}
-use Rattle.rule_terms.specs.Grammar.{last_place, SpellsTerm, leaf, width, parenthesised, called, prefixed, tighter, joined, SpellsWholeTerm, EndsTerm}
-use Rattle.rule_terms.specs.TermReaders.{Reader, mark_at, start_at, operator_at, join, whole_chain_at, behind_at, operand_at, add_unary, inside_at, primary_at, term_at}
-use Rattle.rule_terms.specs.Keywords.{operator_mark, operator_in, level_of, loosest}
+use Rattle.rule_terms.specs.Grammar.{joined}
+use Rattle.rule_terms.specs.TermReaders.{Reader}
 use Rattle.rule_terms.proofs.Chains.{chain-more, chain-done}
 use Rattle.rule_terms.proofs.Meanings.{operator_in-of, operator_at-of}
 use Rattle.rule_terms.proofs.Readings.{Adds, join_made, unary_made, operand_shorter, operand_at-is, primary_at-is}
 use Rattle.rule_terms.proofs.Starts.{mark_at-of, measured_at-of, start_at-of}
-use Rattle.rule_tokens.specs.Limits.{Limits}
 
 module _ (limits : Limits) where
   -- no operator of a level below this one is next

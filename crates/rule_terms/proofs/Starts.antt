@@ -1,29 +1,11 @@
 -- What an operand begins with: the parser takes it exactly as it is written.
-use Rattle.std.proofs.Common.{◌≡◌, ℕ, ◌≤◌, true, false, cond, List, [], ◌∷◌, ◌++◌, length, Option, Some, None, Ok, refl, sym, ap, subst, ◌∙◌, ⊎_elim}
-use Rattle.std.specs.Prelude.{codes}
-use Rattle.std.specs.Str.{bytes_eq}
-use Rattle.ops.proofs.KeywordLemmas.{same_word}
-use Rattle.rule_core.specs.declared.rule.Function.TheVariants.{Negate, Not, Log2, Abs}
-use Rattle.rule_tokens.specs.declared.fault.RuleFaultKind.TheVariants.{Syntax}
-use Rattle.rule_tokens.specs.Numbers.{literal_value}
-use Rattle.rule_tokens.specs.PartReaders.{fault, name_within}
-use Rattle.rule_tokens.specs.Tokens.{Token, Register, Word, Number, Mark}
-use Rattle.rule_tokens.proofs.Ends.{name_within-of}
-use Rattle.rule_tokens.proofs.Steps.{bound, read_as, tested, chosen}
-use Rattle.rule_tokens.proofs.Takes.{name_within-is}
-use Rattle.rule_terms.specs.declared.place.TermPlace.{TermPlace}
+use Rattle.rule_terms.proofs.Common.{◌≡◌, ℕ, ◌≤◌, true, false, cond, List, [], ◌∷◌, ◌++◌, length, Option, Some, None, Ok, refl, sym, ap, subst, ◌∙◌, ⊎_elim, codes, bytes_eq, same_word, Negate, Log2, Abs, Syntax, literal_value, fault, name_within, Token, Register, Word, Number, Mark, name_within-of, bound, read_as, tested, chosen, name_within-is, TermPlace, RawNode, Start, Leaf, Prefix, Parenthesis, Call, Width, Meaning, SpellsLeaf, mark_at, register_in, word_at, opening_in, start_at, measured_at, IsPrefix, IsCalled, meaning_in, Limits}
+use Rattle.rule_core.specs.declared.rule.Function.TheVariants.{Not}
 use Rattle.rule_terms.specs.declared.place.TermPlace.TheVariants as places
-use Rattle.rule_terms.specs.declared.raw.RawNode.{RawNode}
 use Rattle.rule_terms.specs.declared.raw.RawNode.TheVariants as raw_nodes
-use Rattle.rule_terms.specs.declared.start.Start.{Start}
-use Rattle.rule_terms.specs.declared.start.Start.TheVariants.{Leaf, Prefix, Parenthesis, Call, Width}
-use Rattle.rule_terms.specs.declared.word.Meaning.{Meaning}
 use Rattle.rule_terms.specs.declared.word.Meaning.TheVariants as meanings
-use Rattle.rule_terms.specs.Grammar.{SpellsLeaf}
-use Rattle.rule_terms.specs.TermReaders.{mark_at, register_in, word_at, opening_in, opening_at, start_at, measured_at}
-use Rattle.rule_terms.specs.Keywords.{IsPrefix, IsCalled, meaning_in}
+use Rattle.rule_terms.specs.TermReaders.{opening_at}
 use Rattle.rule_terms.proofs.Meanings.{Means, meaning_in-is, meaning_in-of}
-use Rattle.rule_tokens.specs.Limits.{Limits}
 
 module _ (limits : Limits) where
   -- the tokens are such a beginning, and the rest

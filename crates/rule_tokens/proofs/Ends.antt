@@ -1,10 +1,5 @@
 -- What the grammar spells is read, where the line of its last token ends behind it.
-use Rattle.std.proofs.Common.{◌≡◌, ℕ, ◌≤◌, List, [], ◌∷◌, ◌++◌, length, Ok, refl}
-use Rattle.std.proofs.lemmas.Bool.{le-leb}
-use Rattle.rule_tokens.specs.Limits.{Limits}
-use Rattle.rule_tokens.specs.PartReaders.{name_within, type_at, line_end}
-use Rattle.rule_tokens.specs.TypeTokens.{SpellsType}
-use Rattle.rule_tokens.specs.Tokens.{Token, Line}
+use Rattle.rule_tokens.proofs.Common.{◌≡◌, ℕ, ◌≤◌, List, [], ◌∷◌, ◌++◌, length, Ok, refl, le-leb, Limits, name_within, type_at, line_end, SpellsType, Token, Line}
 use Rattle.rule_tokens.proofs.Types.{type_in-of}
 
 -- no token of this line is left

@@ -1,20 +1,5 @@
 -- At each place of a text the lexer has an answer: a token, the end, or a byte that may not stand.
-use Rattle.std.proofs.Common.{◌≡◌, ◌≢◌, ℕ, zero, suc, ◌+◌, ◌-◌, ◌<◌, ◌≤◌, Bool, true, false, List, Option, Some, None, Result, Ok, Err, length, take, drop, refl, ap, ◌∙◌, ⊎_elim, ◌⊎◌, inl, inr, arith}
-use Rattle.std.proofs.lemmas.List.{nil_from_length}
-use Rattle.scan.specs.declared.rule_token.RuleKind.{RuleKind}
-use Rattle.scan.specs.declared.rule_token.RuleKind.TheVariants.{End, Other, Number}
-use Rattle.scan.specs.declared.rule_token.RuleToken.{RuleToken}
-use Rattle.scan.specs.declared.bad_byte.BadByte.{BadByte}
-use Rattle.scan.specs.Bytes.{begins_with, is_bad}
-use Rattle.scan.specs.Laws.{IsNext}
-use Rattle.scan.specs.Lines.{between, feeds}
-use Rattle.scan.specs.Longest.{IsLongestOf}
-use Rattle.scan.specs.RuleTokens.{kind_of, Begins, line_at, in_operator_place}
-use Rattle.scan.specs.GapFronts.{behind_gap, in_gap}
-use Rattle.scan.proofs.Fronts.{which}
-use Rattle.scan.proofs.GapLemmas.{GapTo, gap_to}
-use Rattle.scan.proofs.KindLemmas.{begins_token, begins_other}
-use Rattle.scan.proofs.PlaceLemmas.{Behind, next_bad, next_token}
+use Rattle.rule_tokens.proofs.Common.{◌≡◌, ◌≢◌, ℕ, zero, suc, ◌+◌, ◌-◌, ◌<◌, ◌≤◌, Bool, true, false, List, Option, Some, None, Result, Ok, Err, length, take, drop, refl, ap, ◌∙◌, ⊎_elim, ◌⊎◌, inl, inr, arith, nil_from_length, RuleKind, End, Other, Number, RuleToken, BadByte, begins_with, is_bad, IsNext, between, feeds, IsLongestOf, kind_of, Begins, line_at, in_operator_place, behind_gap, in_gap, which, GapTo, gap_to, begins_token, begins_other, Behind, next_bad, next_token}
 
 -- ---- the longest prefix of a kind
 

@@ -1,24 +1,6 @@
 -- Each text has exactly one list of tokens.
-use Rattle.std.proofs.Common.{◌≡◌, ◌≢◌, ℕ, zero, suc, ◌+◌, ◌-◌, ◌<◌, ◌≤◌, max, Bool, true, false, List, [], ◌∷◌, Result, Ok, Err, length, refl, sym, ap, subst, ◌∙◌, ⊎_elim, ◌⊎◌, inl, inr, arith}
-use Rattle.std.specs.Prelude.{codes}
-use Rattle.std.specs.Str.{bytes_eq}
-use Rattle.std.specs.List.{list_any}
-use Rattle.std.proofs.lemmas.Bool.{false≢true}
-use Rattle.scan.specs.declared.rule_token.RuleKind.{RuleKind}
+use Rattle.rule_tokens.proofs.Common.{◌≡◌, ◌≢◌, ℕ, zero, suc, ◌+◌, ◌-◌, ◌<◌, ◌≤◌, max, Bool, true, false, List, [], ◌∷◌, Result, Ok, Err, length, refl, sym, ap, subst, ◌∙◌, ⊎_elim, ◌⊎◌, inl, inr, arith, codes, bytes_eq, list_any, false≢true, RuleKind, RuleToken, BadByte, Span, is_bad, IsNext, OneTokenAtAPlace, line_of, rest_of_line, blanks_before, blanks_behind, IsNextRuleToken, IsBadNext, which, rest_within, Context, at_start, context_behind, behind_name, Token, Name, Bad, Place, AtName, AtToken, token_on, token_at, place_behind, bytes_at, IsNameToken, TokensFrom, AreTokens, ends, token, name, bad_token, bad_name}
 use Rattle.scan.specs.declared.rule_token.RuleKind.TheVariants as kinds
-use Rattle.scan.specs.declared.rule_token.RuleToken.{RuleToken}
-use Rattle.scan.specs.declared.bad_byte.BadByte.{BadByte}
-use Rattle.scan.specs.declared.span.Span.{Span}
-use Rattle.scan.specs.Bytes.{is_bad}
-use Rattle.scan.specs.Laws.{IsNext, OneTokenAtAPlace}
-use Rattle.scan.specs.Lines.{line_of}
-use Rattle.scan.specs.Names.{rest_of_line, blanks_before, blanks_behind}
-use Rattle.scan.specs.RuleTokens.{IsNextRuleToken, IsBadNext}
-use Rattle.scan.proofs.Fronts.{which}
-use Rattle.scan.proofs.PlaceLemmas.{rest_within}
-use Rattle.rule_tokens.specs.declared.context.Context.{Context}
-use Rattle.rule_tokens.specs.Contexts.{at_start, context_behind, behind_name}
-use Rattle.rule_tokens.specs.Tokens.{Token, Name, Bad, Place, AtName, AtToken, token_on, token_at, place_behind, bytes_at, IsNameToken, TokensFrom, AreTokens, ends, token, name, bad_token, bad_name}
 use Rattle.rule_tokens.proofs.Nexts.{next_exists}
 use Rattle.rule_tokens.proofs.Tokenising.{token_moves, place_name, place_token}
 

@@ -1,9 +1,5 @@
 -- Steps that may fail, and tests between them, taken apart.
-use Rattle.std.proofs.Common.{◌≡◌, ℕ, Bool, true, false, cond, List, Option, Some, None, Ok, Err, Result, refl, inl, inr, ◌⊎◌, subst}
-use Rattle.rule_tokens.specs.RuleFaults.{RuleFault}
-use Rattle.rule_tokens.specs.Steps.{◌>>=◌}
-use Rattle.rule_tokens.specs.PartReaders.{or_left_out}
-use Rattle.rule_tokens.specs.Tokens.{Token}
+use Rattle.rule_tokens.proofs.Common.{◌≡◌, ℕ, Bool, true, false, cond, List, Option, Some, None, Ok, Err, Result, refl, inl, inr, ◌⊎◌, subst, RuleFault, ◌>>=◌, or_left_out, Token}
 
 abbrev pub done : {A : Type 0} → A → Result A RuleFault
 done x = Ok x

@@ -1,15 +1,5 @@
 -- What is read is what the grammar spells with the tokens that were taken.
-use Rattle.std.proofs.Common.{◌≡◌, ℕ, ◌≤◌, true, leb, List, [], ◌∷◌, ◌++◌, length, Option, Some, None, Ok, refl, sym, ap, subst, ◌∙◌, append_assoc}
-use Rattle.std.specs.Str.{bytes_eq}
-use Rattle.std.proofs.lemmas.Bool.{leb-true}
-use Rattle.ops.proofs.KeywordLemmas.{same_word}
-use Rattle.rule_tokens.specs.declared.fault.RuleFaultKind.TheVariants.{TooMany}
-use Rattle.rule_tokens.specs.Limits.{Limits}
-use Rattle.rule_tokens.specs.Numbers.{type_in}
-use Rattle.rule_tokens.specs.Parts.{Part, Is, Nothing, ◌⨾◌, Maybe}
-use Rattle.rule_tokens.specs.PartReaders.{fault, name_within, type_at, type_or_word, maybe_type, line_end}
-use Rattle.rule_tokens.specs.TypeTokens.{SpellsType}
-use Rattle.rule_tokens.specs.Tokens.{Token, Line, Word, Mark}
+use Rattle.rule_tokens.proofs.Common.{◌≡◌, ℕ, ◌≤◌, true, leb, List, [], ◌∷◌, ◌++◌, length, Option, Some, None, Ok, refl, sym, ap, subst, ◌∙◌, append_assoc, bytes_eq, leb-true, same_word, TooMany, Limits, type_in, Part, Is, Nothing, ◌⨾◌, Maybe, fault, name_within, type_at, type_or_word, maybe_type, line_end, SpellsType, Token, Line, Word, Mark}
 use Rattle.rule_tokens.proofs.Steps.{ok_is, tested, not_left_out}
 use Rattle.rule_tokens.proofs.Types.{type_in-is}
 

@@ -1,21 +1,6 @@
 -- The tokens of a text from a place on: one step of the loop.
-use Rattle.std.proofs.Common.{◌≡◌, ◌≢◌, ℕ, zero, suc, ◌+◌, ◌-◌, ◌<◌, ◌≤◌, Bool, true, false, cond, eqb, List, [], ◌∷◌, ◌++◌, length, refl, sym, ap, subst, ◌∙◌, append_assoc, None, arith}
-use Rattle.std.specs.Prelude.{codes}
-use Rattle.std.specs.Str.{bytes_eq}
-use Rattle.std.proofs.lemmas.List.{append-nil}
-use Rattle.std.proofs.lemmas.List.Sums.{prefix_len-le-length}
-use Rattle.scan.specs.Bytes.{is_blank}
-use Rattle.scan.specs.declared.rule_token.RuleKind.{RuleKind}
+use Rattle.rule_tokens.proofs.Common.{◌≡◌, ◌≢◌, ℕ, zero, suc, ◌+◌, ◌-◌, ◌<◌, ◌≤◌, Bool, true, false, cond, eqb, List, [], ◌∷◌, ◌++◌, length, refl, sym, ap, subst, ◌∙◌, append_assoc, None, arith, codes, bytes_eq, append-nil, prefix_len-le-length, is_blank, RuleKind, RuleToken, Span, IsNameNext, rest_of_line, IsNextRuleToken, IsBadNext, Begins, kind_of, IsLongestToken, kind_of-empty, rest_within, Context, at_start, context_behind, behind_name, Token, Line, Bad, Place, AtName, AtToken, token_on, token_of, token_at, is_called, place_behind, bytes_at, IsNameToken, TokensFrom, ends, token, name, bad_token}
 use Rattle.scan.specs.declared.rule_token.RuleKind.TheVariants as kinds
-use Rattle.scan.specs.declared.rule_token.RuleToken.{RuleToken}
-use Rattle.scan.specs.declared.span.Span.{Span}
-use Rattle.scan.specs.Names.{IsNameNext, rest_of_line}
-use Rattle.scan.specs.RuleTokens.{IsNextRuleToken, IsBadNext, Begins, kind_of, IsLongestToken}
-use Rattle.scan.proofs.KindLemmas.{kind_of-empty}
-use Rattle.scan.proofs.PlaceLemmas.{rest_within}
-use Rattle.rule_tokens.specs.declared.context.Context.{Context}
-use Rattle.rule_tokens.specs.Contexts.{at_start, context_behind, behind_name}
-use Rattle.rule_tokens.specs.Tokens.{Token, Line, Bad, Place, AtName, AtToken, token_on, token_of, token_at, is_called, place_behind, bytes_at, IsNameToken, TokensFrom, ends, token, name, bad_token}
 
 -- a token other than the end has a byte
 longest_some : (operator : Bool) (text : List ℕ) (kind : RuleKind) (n : ℕ) → IsLongestToken operator text kind n → 0 < n

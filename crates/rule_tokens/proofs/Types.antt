@@ -1,9 +1,5 @@
 -- A word is read as a type exactly where the grammar spells the type so.
-use Rattle.std.proofs.Common.{◌≡◌, ℕ, ◌≤◌, Bool, true, eqb, leb, ◌&&◌, List, [], ◌∷◌, Some, refl, sym, ap, subst}
-use Rattle.std.proofs.lemmas.Bool.{eqb-true, leb-true, le-leb}
-use Rattle.scan.specs.Bytes.{are_digits}
-use Rattle.scan.proofs.Fronts.{and_left, and_right}
-use Rattle.rule_tokens.specs.Numbers.{decimal_value, IsWrittenType, type_in}
+use Rattle.rule_tokens.proofs.Common.{◌≡◌, ℕ, ◌≤◌, Bool, true, eqb, leb, ◌&&◌, List, [], ◌∷◌, Some, refl, sym, ap, subst, eqb-true, leb-true, le-leb, are_digits, and_left, and_right, decimal_value, IsWrittenType, type_in}
 use Rattle.rule_tokens.proofs.Steps.{guarded}
 
 all_four : (a b c d : Bool) → a ≡ true → b ≡ true → c ≡ true → d ≡ true → (a && b && c && d) ≡ true

@@ -1,13 +1,5 @@
 -- Which version digits spell, as code and definition have it.
-use Rattle.std.proofs.Common.{◌≡◌, ℕ, ◌==◌, true, false, List, Some, None, refl, ⊎_elim}
-use Rattle.std.specs.Prelude.{find}
-use Rattle.std.proofs.lemmas.Bool.{eqb-true}
-use Rattle.ops.proofs.KeywordLemmas.{found-passes}
-use Rattle.scan.specs.Bytes.{are_digits}
-use Rattle.rule_tokens.specs.declared.version.Version.{Version}
-use Rattle.rule_tokens.specs.declared.version.Version.TheVariants.{One, Two}
-use Rattle.rule_tokens.specs.Numbers.{decimal_value}
-use Rattle.rule_tokens.specs.Versions.{version_number, versions, version_in}
+use Rattle.rule_tokens.proofs.Common.{◌≡◌, ℕ, ◌==◌, true, false, List, Some, None, refl, ⊎_elim, find, eqb-true, found-passes, are_digits, Version, One, Two, decimal_value, version_number, versions, version_in}
 use Rattle.rule_tokens.proofs.Steps.{chosen}
 
 pub version_in-is : (text : List ℕ) (version : Version) → version_in text ≡ Some version → (are_digits text ≡ true) × (decimal_value text ≡ version_number version)

@@ -1,30 +1,11 @@
 -- What makes a rule an `IsRule` doesn't speak of its classes: of two rules that differ in nothing else, the second is
 -- one where the first is.
-use Rattle.std.proofs.Common.{◌≡◌, ℕ, suc, ◌≤◌, List, [], ◌∷◌, ◌++◌, length, map, Some, refl, sym, ap, subst, ◌∙◌, arith}
-use Rattle.std.specs.Prelude.{slice_get, Contains, flat_map, sum_by}
-use Rattle.std.specs.List.{range_with_len}
-use Rattle.std.proofs.lemmas.List.Sums.{sum_by-cons}
-use Rattle.std.proofs.lemmas.List.{length-map, map-append}
-use Rattle.rule_core.specs.declared.rule.Rule.{Rule}
-use Rattle.rule_core.specs.declared.rule.Statement.{Statement}
-use Rattle.rule_core.specs.declared.rule.Op.{Op}
-use Rattle.rule_core.specs.declared.rule.Op.TheVariants.{Binary, Compare, Unary, Select, Convert, Freeze, Copy}
-use Rattle.rule_core.specs.declared.rule.Operand.{Operand}
-use Rattle.rule_core.specs.declared.rule.Argument.{Argument}
+use Rattle.rule_typing.proofs.Common.{◌≡◌, ℕ, suc, ◌≤◌, List, [], ◌∷◌, ◌++◌, length, map, Some, refl, sym, ap, subst, ◌∙◌, arith, slice_get, Contains, flat_map, sum_by, range_with_len, sum_by-cons, length-map, map-append, Rule, Statement, Op, Binary, Compare, Unary, Select, Convert, Freeze, Copy, Operand, Argument, Choice, Register, Term, Node, Formula, operands_of, operands_among, operands_in, terms_in, choices_among, IsRule, SourceMayRead, TargetMayRead, IsBeforeRoot, HasKnownWidth, MayBeTerm, MayBeWitness, MayBeFormula, FlagsFitOp, MayStandInSource, ReadsNoUndefAlone, ChoicesInOrder, TargetMayMeasure, FormulaMayMeasure, argument_weight, node_weight, term_weight, formula_weight, weight_of, names_of, ReadsOnly, StandsAt, AreDistinct, joint_of, OneUseIsOutermost, IsOperandOf, StandsIn, NamesWidth, OwnsOperands, AreLastNodes, mapped_op, mapped_statement, mapped_node, mapped_term}
 use Rattle.rule_core.specs.declared.rule.Argument.TheVariants as arguments
-use Rattle.rule_core.specs.declared.rule.Choice.{Choice}
-use Rattle.rule_core.specs.declared.rule.Register.{Register}
 use Rattle.rule_core.specs.declared.rule.Register.TheVariants as registers
-use Rattle.rule_core.specs.declared.rule.Term.{Term}
-use Rattle.rule_core.specs.declared.rule.Node.{Node}
 use Rattle.rule_core.specs.declared.rule.Node.TheVariants as nodes
-use Rattle.rule_core.specs.declared.rule.Formula.{Formula}
 use Rattle.rule_core.specs.declared.rule.Formula.TheVariants as formulas
-use Rattle.rule_core.specs.Positions.{operands_of, operands_among, operands_in, terms_in, choices_among}
-use Rattle.rule_core.specs.Checks.{IsRule, SourceMayRead, TargetMayRead, IsBeforeRoot, HasKnownWidth, MayBeTerm, MayBeWitness, MayBeFormula, FlagsFitOp, MayStandInSource, ReadsNoUndefAlone, ChoicesInOrder, TargetMayMeasure, FormulaMayMeasure, argument_weight, node_weight, term_weight, formula_weight, weight_of, names_of, ReadsOnly, StandsAt, AreDistinct}
-use Rattle.rule_core.specs.FormulaNodes.{joint_of, OneUseIsOutermost}
-use Rattle.rule_core.specs.TermNodes.{IsOperandOf, StandsIn, itself, operand, NamesWidth, OwnsOperands, AreLastNodes}
-use Rattle.rule_typing.specs.Relabelled.{mapped_op, mapped_statement, mapped_node, mapped_term}
+use Rattle.rule_core.specs.TermNodes.{itself, operand}
 use Rattle.rule_typing.proofs.Images.{map-map, same_get, same_among}
 use Rattle.rule_typing.proofs.Relabelled.{AreAlike, mapped_operand, mapped_choice, operands-mapped_op, operands-mapped, choices-mapped}
 

@@ -1,15 +1,5 @@
 -- From what loops over operands or statements test to what is said of all those of a rule.
-use Rattle.std.proofs.Common.{◌≡◌, inl, inr, ◌↔◌, ℕ, ◌<◌, List, ◌++◌, length, get_or, Bool, true, false, not, IsTrue, Option, None, Some, refl, sym, ap, subst, ◌∙◌, ◌+◌, ◌≤◌, arith}
-use Rattle.std.proofs.lemmas.Bool.{cases_eq}
-use Rattle.std.proofs.lemmas.Option.{slice_get-get_or, get_or_from_slice_get}
-use Rattle.std.specs.Prelude.{Contains, flat_map, slice_get, IfNone}
-use Rattle.std.proofs.lemmas.Grind.{flat_map-append}
-use Rattle.std.proofs.lemmas.List.Elements.{Contains-append_left, Contains-append_right, Contains-append_cases}
-use Rattle.rule_core.specs.declared.rule.Rule.{Rule}
-use Rattle.rule_core.specs.declared.rule.Statement.{Statement}
-use Rattle.rule_core.specs.declared.rule.Operand.{Operand}
-use Rattle.rule_core.specs.Positions.{operands_of, operands_in, IsStatementOf}
-use Rattle.rule_core.proofs.Members.{Contains-flat_map}
+use Rattle.rule_typing.proofs.Common.{◌≡◌, inl, inr, ◌↔◌, ℕ, ◌<◌, List, ◌++◌, length, get_or, Bool, true, false, not, IsTrue, Option, None, Some, refl, sym, ap, subst, ◌∙◌, ◌+◌, ◌≤◌, arith, cases_eq, slice_get-get_or, get_or_from_slice_get, Contains, flat_map, slice_get, IfNone, flat_map-append, Contains-append_left, Contains-append_right, Contains-append_cases, Rule, Statement, Operand, operands_of, operands_in, IsStatementOf, Contains-flat_map}
 use Rattle.rule_typing.proofs.Images.{from_flat_map}
 
 abbrev pub all_operands : List Statement → List Operand

@@ -1,11 +1,5 @@
 -- What is answered once no typing is left to find, or one too many is found.
-use Rattle.std.proofs.Common.{◌≡◌, ◌⊎◌, inl, inr, ℕ, ◌<◌, ◌≤◌, List, [], ◌∷◌, ◌++◌, length, None, Some, arith, length-append}
-use Rattle.std.specs.Prelude.{slice_get, Contains}
-use Rattle.rule_core.specs.declared.rule.Rule.{Rule}
-use Rattle.rule_typing.specs.declared.widths.Widths.{Widths}
-use Rattle.rule_typing.specs.Classes.{IsClassified, HasClasses}
-use Rattle.rule_typing.specs.AllTypings.{MayChoose, ComesBefore, AreAllTypings}
-use Rattle.rule_typing.specs.Solutions.{HasExactly, Solves}
+use Rattle.rule_typing.proofs.Common.{◌≡◌, ◌⊎◌, inl, inr, ℕ, ◌<◌, ◌≤◌, List, [], ◌∷◌, ◌++◌, length, None, Some, arith, length-append, slice_get, Contains, Rule, Widths, IsClassified, HasClasses, MayChoose, ComesBefore, AreAllTypings, HasExactly, Solves}
 use Rattle.rule_typing.proofs.Decided.{dec_solves, dec_before}
 use Rattle.rule_typing.proofs.Deciding.{dec_both}
 use Rattle.rule_typing.proofs.Found.{AreFound, behind_more, order_more, solve_more, rest_more}

@@ -1,12 +1,5 @@
 -- The widths from which `settle` is started to find a typing that begins as asked.
-use Rattle.std.proofs.Common.{◌≡◌, inl, inr, ℕ, ◌+◌, ◌<◌, ◌≤◌, List, [], ◌∷◌, ◌++◌, length, get_or, Some, sym, subst, ◌∙◌, arith}
-use Rattle.std.specs.Prelude.{slice_get, slice_index}
-use Rattle.std.proofs.lemmas.Bool.{cases_eq, cases_lt}
-use Rattle.std.proofs.lemmas.List.{get_or_past, get_or_push, get_or_append_left}
-use Rattle.std.proofs.lemmas.Option.{slice_get-get_or, slice_get_within, same_Some}
-use Rattle.rule_core.specs.declared.rule.Rule.{Rule}
-use Rattle.rule_typing.specs.declared.widths.Widths.{Widths}
-use Rattle.rule_typing.specs.Solutions.{Has, IsLeast, GoesOn, AreOf, SolvesFrom, SolvesBehind, AreLeast}
+use Rattle.rule_typing.proofs.Common.{◌≡◌, inl, inr, ℕ, ◌+◌, ◌<◌, ◌≤◌, List, [], ◌∷◌, ◌++◌, length, get_or, Some, sym, subst, ◌∙◌, arith, slice_get, slice_index, cases_eq, cases_lt, get_or_past, get_or_push, get_or_append_left, slice_get-get_or, slice_get_within, same_Some, Rule, Widths, Has, IsLeast, GoesOn, AreOf, SolvesFrom, SolvesBehind, AreLeast}
 
 -- of each set the least width that may stand at its place
 abbrev pub AreFirst : List Widths → List ℕ → ℕ → List ℕ → Type 0

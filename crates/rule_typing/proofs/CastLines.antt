@@ -1,15 +1,5 @@
 -- When the width of one class is below that of another, in numbers; and which statements the casts of a rule are.
-use Rattle.std.proofs.Common.{◌≡◌, ◌↔◌, Bool, true, false, not, IsTrue, inl, inr, ℕ, ◌<◌, List, ◌++◌, length, Option, None, Some, refl, subst, arith}
-use Rattle.std.specs.Prelude.{slice_index, Contains, IfSome, IfNone, is_some}
-use Rattle.std.proofs.Math.Decide.{map_dec, dec_lt}
-use Rattle.std.proofs.lemmas.Bool.{cases_lt}
-use Rattle.std.proofs.lemmas.List.Elements.{Contains-append_left, Contains-append_right}
-use Rattle.std.proofs.lemmas.Option.{slice_get-get_or, slice_get_within, get_or_from_slice_get, some_pair_parts}
-use Rattle.rule_core.specs.declared.rule.Rule.{Rule}
-use Rattle.rule_core.specs.declared.rule.Statement.{Statement}
-use Rattle.rule_core.specs.Positions.{Smaller}
-use Rattle.rule_typing.specs.FixedWidths.{smaller_line, IsBelow, IsBroken, MeetsCastLine}
-use Rattle.rule_typing.specs.Solutions.{MeetsSmaller}
+use Rattle.rule_typing.proofs.Common.{◌≡◌, ◌↔◌, Bool, true, false, not, IsTrue, inl, inr, ℕ, ◌<◌, List, ◌++◌, length, Option, None, Some, refl, subst, arith, slice_index, Contains, IfSome, IfNone, is_some, map_dec, dec_lt, cases_lt, Contains-append_left, Contains-append_right, slice_get-get_or, slice_get_within, get_or_from_slice_get, some_pair_parts, Rule, Statement, Smaller, smaller_line, IsBelow, IsBroken, MeetsCastLine, MeetsSmaller}
 use Rattle.rule_typing.proofs.Among.{each_half}
 use Rattle.rule_typing.proofs.Deciding.{dec_each}
 use Rattle.rule_typing.proofs.FixedLines.{at_cast, each_cast}

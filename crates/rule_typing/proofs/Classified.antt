@@ -1,19 +1,7 @@
 -- After numbering the positions, merging along constraints and renumbering in order the rule is classified.
-use Rattle.std.proofs.Common.{◌≡◌, ℕ, ◌*◌, ◌^◌, ◌<◌, ◌≤◌, List, [], ◌∷◌, ◌++◌, length, map, Some, refl, sym, ap, subst, ◌∙◌, arith, length-append}
-use Rattle.std.specs.Prelude.{slice_get, flat_map, sum_by}
-use Rattle.std.proofs.lemmas.List.Sums.{sum_by-cons}
-use Rattle.rule_core.specs.declared.rule.Rule.{Rule}
-use Rattle.rule_core.specs.declared.rule.Statement.{Statement}
-use Rattle.rule_core.specs.declared.rule.Op.{Op}
-use Rattle.rule_core.specs.declared.rule.Op.TheVariants.{Binary, Compare, Unary, Select, Convert, Freeze, Copy}
-use Rattle.rule_core.specs.declared.rule.Term.{Term}
-use Rattle.rule_core.specs.declared.rule.Node.{Node}
+use Rattle.rule_typing.proofs.Common.{◌≡◌, ℕ, ◌*◌, ◌^◌, ◌<◌, ◌≤◌, List, [], ◌∷◌, ◌++◌, length, map, Some, refl, sym, ap, subst, ◌∙◌, arith, length-append, slice_get, flat_map, sum_by, sum_by-cons, Rule, Statement, Op, Binary, Compare, Unary, Select, Convert, Freeze, Copy, Term, Node, Line, operands_of, terms_in, classes_of, classes_of_statement, classes_of_node, classes_of_term, IsRule, node_weight, term_weight, mapped, numbered, IsRenumbered, Joined, line, turned, along, IsInOrder, IsClassified, IsMerged}
 use Rattle.rule_core.specs.declared.rule.Node.TheVariants as nodes
-use Rattle.rule_core.specs.Positions.{Line, operands_of, terms_in, classes_of, classes_of_statement, classes_of_node, classes_of_term}
-use Rattle.rule_core.specs.Checks.{IsRule, node_weight, term_weight}
-use Rattle.rule_typing.specs.Relabelled.{mapped, numbered, IsRenumbered}
-use Rattle.rule_typing.specs.Classes.{Joined, line, itself, turned, along, IsInOrder, IsClassified}
-use Rattle.rule_typing.specs.Splits.{IsMerged}
+use Rattle.rule_typing.specs.Classes.{itself}
 use Rattle.rule_typing.proofs.Images.{get_from_map}
 use Rattle.rule_typing.proofs.Relabelled.{class_is_position, classes_of-mapped, numbered-mapped, numbered_alike, alike_numbered}
 use Rattle.rule_typing.proofs.MappedLines.{line_map}

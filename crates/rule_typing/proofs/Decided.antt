@@ -1,16 +1,5 @@
 -- Whether widths are a solution for sets, and whether they are a typing, is decided.
-use Rattle.std.proofs.Common.{◌≡◌, ◌↔◌, inl, inr, ℕ, zero, suc, ◌<◌, List, [], ◌∷◌, length, get_or, Bool, true, false, Option, None, Some, refl, sym, subst, arith}
-use Rattle.std.specs.Prelude.{slice_get, slice_index, Contains}
-use Rattle.std.proofs.Math.Decide.{map_dec, dec_le, dec_lt}
-use Rattle.std.proofs.lemmas.Bool.{cases_eq}
-use Rattle.std.proofs.lemmas.Option.{slice_get-get_or, slice_get_within, get_or_from_slice_get}
-use Rattle.rule_core.specs.declared.rule.Rule.{Rule}
-use Rattle.rule_core.specs.Typing.{IsTyping}
-use Rattle.rule_typing.specs.declared.widths.Widths.{Widths}
-use Rattle.rule_typing.specs.Classes.{IsClassified, HasClasses}
-use Rattle.rule_typing.specs.AllTypings.{ComesBefore}
-use Rattle.rule_typing.specs.FittingWidths.{MayHaveWidth}
-use Rattle.rule_typing.specs.Solutions.{Has, Solves}
+use Rattle.rule_typing.proofs.Common.{◌≡◌, ◌↔◌, inl, inr, ℕ, zero, suc, ◌<◌, List, [], ◌∷◌, length, get_or, Bool, true, false, Option, None, Some, refl, sym, subst, arith, slice_get, slice_index, Contains, map_dec, dec_le, dec_lt, cases_eq, slice_get-get_or, slice_get_within, get_or_from_slice_get, Rule, IsTyping, Widths, IsClassified, HasClasses, ComesBefore, MayHaveWidth, Has, Solves}
 use Rattle.rule_typing.proofs.Deciding.{dec_both, dec_either, dec_number}
 use Rattle.rule_typing.proofs.CastLines.{dec_lines}
 use Rattle.rule_typing.proofs.Listing.{Listing, listed}

@@ -1,10 +1,5 @@
 -- Decisions: of a conjunction, and for the elements of a list one by one.
-use Rattle.std.proofs.Common.{◌≡◌, ◌⊎◌, inl, inr, ℕ, zero, suc, List, [], ◌∷◌, Some, refl, sym, subst, ap, ◌∙◌}
-use Rattle.std.specs.Prelude.{slice_get, Contains}
-use Rattle.std.proofs.Math.Decide.{map_dec}
-use Rattle.std.proofs.lemmas.Bool.{cases_eq}
-use Rattle.std.proofs.lemmas.Option.{slice_get-get_or, same_Some}
-use Rattle.rule_core.proofs.Members.{Contains-from_get}
+use Rattle.rule_typing.proofs.Common.{◌≡◌, ◌⊎◌, inl, inr, ℕ, zero, suc, List, [], ◌∷◌, Some, refl, sym, subst, ap, ◌∙◌, slice_get, Contains, map_dec, cases_eq, slice_get-get_or, same_Some, Contains-from_get}
 
 pub dec_both : {P Q : Type 0} → Dec P → Dec Q → Dec (P × Q)
 dec_both (yes p) (yes q) = yes (p, q)

@@ -1,14 +1,5 @@
 -- Each rule has its classes.
-use Rattle.std.proofs.Common.{◌≡◌, inl, inr, ℕ, zero, suc, ◌+◌, ◌≤◌, length, Some, refl, get_or, arith}
-use Rattle.std.specs.Prelude.{slice_get}
-use Rattle.std.proofs.lemmas.Bool.{cases_lt}
-use Rattle.std.proofs.lemmas.Option.{slice_get-get_or}
-use Rattle.rule_core.specs.declared.rule.Rule.{Rule}
-use Rattle.rule_core.specs.Positions.{classes_of}
-use Rattle.rule_typing.specs.declared.relabelling.Renaming.TheVariants.{Swap}
-use Rattle.rule_typing.specs.Relabelled.{mapped, renamed, numbered, IsRenumbered}
-use Rattle.rule_typing.specs.Classes.{IsClassified, IsInOrder, HasClasses}
-use Rattle.rule_typing.specs.Laws.{RulesHaveClasses}
+use Rattle.rule_typing.proofs.Common.{◌≡◌, inl, inr, ℕ, zero, suc, ◌+◌, ◌≤◌, length, Some, refl, get_or, arith, slice_get, cases_lt, slice_get-get_or, Rule, classes_of, Swap, mapped, renamed, numbered, IsRenumbered, IsClassified, IsInOrder, HasClasses, RulesHaveClasses}
 use Rattle.rule_typing.proofs.Classified.{rest, classified}
 use Rattle.rule_typing.proofs.Joining.{joined_by}
 use Rattle.rule_typing.proofs.Merging.{total, not_merged}

@@ -1,15 +1,7 @@
 -- Which fault the classes of a rule have, or that they have none, is decided.
-use Rattle.std.proofs.Common.{◌⊎◌, inl, inr, ℕ, ◌≤◌}
-use Rattle.std.proofs.Math.Decide.{map_dec, dec_le}
-use Rattle.rule_core.specs.declared.rule.Rule.{Rule}
-use Rattle.rule_core.specs.declared.rule.Operand.{Operand}
-use Rattle.rule_core.specs.declared.rule.Argument.{Argument}
+use Rattle.rule_typing.proofs.Common.{◌⊎◌, inl, inr, ℕ, ◌≤◌, map_dec, dec_le, Rule, Operand, Argument, operands_of, classes_of, ClassFault, IsClassified, HasClasses, IsName, IsNameOf, NamesClass, HasNoTyping, IsOpen, IsFault, HasNoFault}
 use Rattle.rule_core.specs.declared.rule.Argument.TheVariants as arguments
-use Rattle.rule_core.specs.Positions.{operands_of, classes_of}
-use Rattle.rule_typing.specs.declared.classes.ClassFault.{ClassFault}
 use Rattle.rule_typing.specs.declared.classes.ClassFault.TheVariants as faults
-use Rattle.rule_typing.specs.Classes.{IsClassified, HasClasses, IsName, IsNameOf, NamesClass}
-use Rattle.rule_typing.specs.Faults.{HasNoTyping, IsOpen, IsFault, HasNoFault}
 use Rattle.rule_typing.proofs.Deciding.{dec_both, dec_either, dec_not, dec_number, dec_one}
 use Rattle.rule_typing.proofs.WidthDecisions.{dec_fixed}
 use Rattle.rule_typing.proofs.Decided.{typing_decided}

@@ -1,17 +1,5 @@
 -- Which widths a rule's constraints fix, and which classes its casts keep below others, by the statement that does it.
-use Rattle.std.proofs.Common.{◌≡◌, ◌↔◌, inl, inr, ℕ, List, ◌++◌, None, Some, refl, sym, ap, subst, arith}
-use Rattle.std.specs.Prelude.{Contains}
-use Rattle.std.proofs.lemmas.Option.{same_Some}
-use Rattle.ops.specs.declared.conversion.Cast.TheVariants.{Trunc, ZExt, SExt}
-use Rattle.rule_core.specs.declared.rule.Rule.{Rule}
-use Rattle.rule_core.specs.declared.rule.Statement.{Statement}
-use Rattle.rule_core.specs.declared.rule.Op.{Op}
-use Rattle.rule_core.specs.declared.rule.Op.TheVariants.{Binary, Compare, Unary, Select, Convert, Freeze, Copy}
-use Rattle.rule_core.specs.declared.rule.Operand.{Operand}
-use Rattle.rule_core.specs.Positions.{operands_of, operands_in, classes_of, IsStatementOf, Fixed, comparison, condition, cast_to, written, truth, Smaller, truncated, zero_extended, sign_extended}
-use Rattle.rule_core.proofs.Members.{operand_stands, class_stands}
-use Rattle.rule_typing.specs.FixedWidths.{fixed_line, FixesWidth, StatementFixes, smaller_line, MeetsCastLine}
-use Rattle.rule_typing.specs.Solutions.{MeetsSmaller}
+use Rattle.rule_typing.proofs.Common.{◌≡◌, ◌↔◌, inl, inr, ℕ, List, ◌++◌, None, Some, refl, sym, ap, subst, arith, Contains, same_Some, Trunc, ZExt, SExt, Rule, Statement, Op, Binary, Compare, Unary, Select, Convert, Freeze, Copy, Operand, operands_of, operands_in, classes_of, IsStatementOf, Fixed, comparison, condition, cast_to, written, truth, Smaller, truncated, zero_extended, sign_extended, operand_stands, class_stands, fixed_line, FixesWidth, StatementFixes, smaller_line, MeetsCastLine, MeetsSmaller}
 use Rattle.rule_typing.proofs.Images.{from_flat_map}
 use Rattle.rule_typing.proofs.MappedLines.{operand_class}
 

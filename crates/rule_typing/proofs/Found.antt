@@ -1,13 +1,5 @@
 -- The typings that are found so far.
-use Rattle.std.proofs.Common.{◌⊎◌, inl, inr, ℕ, List, [], ◌∷◌, ◌++◌, get_or, None, Some, Option, sym, subst, ◌∙◌, arith}
-use Rattle.std.specs.Prelude.{Contains, AllPairs}
-use Rattle.std.proofs.lemmas.List.Quantifiers.{all_pairs_push}
-use Rattle.std.proofs.lemmas.List.Elements.{Contains-push, Contains-push_cases, Contains-append_left, Contains-get_or}
-use Rattle.std.proofs.lemmas.Option.{slice_get-get_or}
-use Rattle.rule_core.specs.declared.rule.Rule.{Rule}
-use Rattle.rule_typing.specs.declared.widths.Widths.{Widths}
-use Rattle.rule_typing.specs.AllTypings.{ComesBefore, IsFirstOf}
-use Rattle.rule_typing.specs.Solutions.{Solves, SolvesBehind, FindsLeast}
+use Rattle.rule_typing.proofs.Common.{◌⊎◌, inl, inr, ℕ, List, [], ◌∷◌, ◌++◌, get_or, None, Some, Option, sym, subst, ◌∙◌, arith, Contains, AllPairs, all_pairs_push, Contains-push, Contains-push_cases, Contains-append_left, Contains-get_or, slice_get-get_or, Rule, Widths, ComesBefore, IsFirstOf, Solves, SolvesBehind, FindsLeast}
 use Rattle.rule_typing.proofs.Order.{same_or_before, before_along}
 
 -- the list comes behind all of these in lexicographic order

@@ -1,12 +1,5 @@
 -- Merging one pair of classes after the other, until each constraint's two classes are one, comes to an end.
-use Rattle.std.proofs.Common.{◌≡◌, ◌≢◌, ◌⊎◌, inl, inr, ℕ, zero, suc, ◌<◌, min, max, refl, subst, sym, arith}
-use Rattle.std.specs.Prelude.{Contains}
-use Rattle.std.proofs.lemmas.Bool.{cases_lt}
-use Rattle.rule_core.specs.declared.rule.Rule.{Rule}
-use Rattle.rule_core.specs.Positions.{Line, classes_of}
-use Rattle.rule_typing.specs.declared.relabelling.Renaming.TheVariants.{Merge}
-use Rattle.rule_typing.specs.Relabelled.{mapped, renamed}
-use Rattle.rule_typing.specs.Splits.{IsMerged}
+use Rattle.rule_typing.proofs.Common.{◌≡◌, ◌≢◌, ◌⊎◌, inl, inr, ℕ, zero, suc, ◌<◌, min, max, refl, subst, sym, arith, Contains, cases_lt, Rule, Line, classes_of, Merge, mapped, renamed, IsMerged}
 use Rattle.rule_typing.proofs.Relabelled.{classes_of-mapped}
 use Rattle.rule_typing.proofs.MappedLines.{line_classes}
 use Rattle.rule_typing.proofs.Merging.{total, one_more, sum_falls}

@@ -1,3 +1,4 @@
+pub mod Common
 pub mod AlikeRules
 pub mod Among
 pub mod Answered

@@ -1,27 +1,11 @@
 -- The equality constraints of a rule, taken apart: pairs of its statements, operands, choices, nodes and comparisons,
 -- and names with two positions.
-use Rattle.std.proofs.Common.{◌≡◌, ◌⊎◌, inl, inr, ℕ, List, [], ◌∷◌, ◌++◌, get_or, Option, None, Some, refl, sym, ap, subst, ◌∙◌, arith}
-use Rattle.std.specs.Prelude.{slice_get, Contains, option_map, option_and_then}
-use Rattle.std.proofs.lemmas.Option.{same_Some}
-use Rattle.std.proofs.lemmas.List.Elements.{Contains-append_left, Contains-append_right, Contains-append_cases}
-use Rattle.rule_core.specs.declared.rule.Rule.{Rule}
-use Rattle.rule_core.specs.declared.rule.Statement.{Statement}
-use Rattle.rule_core.specs.declared.rule.Op.{Op}
-use Rattle.rule_core.specs.declared.rule.Op.TheVariants.{Binary, Compare, Unary, Select, Convert, Freeze, Copy}
-use Rattle.rule_core.specs.declared.rule.Operand.{Operand}
-use Rattle.rule_core.specs.declared.rule.Argument.{Argument}
+use Rattle.rule_typing.proofs.Common.{◌≡◌, ◌⊎◌, inl, inr, ℕ, List, [], ◌∷◌, ◌++◌, get_or, Option, None, Some, refl, sym, ap, subst, ◌∙◌, arith, slice_get, Contains, option_map, option_and_then, same_Some, Contains-append_left, Contains-append_right, Contains-append_cases, Rule, Statement, Op, Binary, Compare, Unary, Select, Convert, Freeze, Copy, Operand, Argument, Choice, Name, Term, Node, Formula, operands_among, operands_in, choices_among, IsStatementOf, Names, TermLine, unary, left, right, Line, binary_left, binary_right, compared, one_operand, select_true, select_false, freeze, copy, name, term, witness_term, compared_terms, witness, Half, paired, op_pairs, statement_pairs, node_class, chosen_class, term_class, operand_pairs, choice_pairs, node_pairs, term_pairs, formula_pairs, PairOf}
 use Rattle.rule_core.specs.declared.rule.Argument.TheVariants as arguments
-use Rattle.rule_core.specs.declared.rule.Choice.{Choice}
-use Rattle.rule_core.specs.declared.rule.Name.{Name}
-use Rattle.rule_core.specs.declared.rule.Term.{Term}
-use Rattle.rule_core.specs.declared.rule.Node.{Node}
 use Rattle.rule_core.specs.declared.rule.Node.TheVariants as nodes
-use Rattle.rule_core.specs.declared.rule.Formula.{Formula}
 use Rattle.rule_core.specs.declared.rule.Formula.TheVariants as formulas
-use Rattle.rule_core.specs.Positions.{operands_among, operands_in, choices_among, IsStatementOf, Names, TermLine, unary, left, right, Line, binary_left, binary_right, compared, one_operand, select_true, select_false, freeze, copy, name, term, witness_term, operand, compared_terms, witness}
-use Rattle.rule_typing.specs.declared.half.Half.{Half}
+use Rattle.rule_core.specs.Positions.{operand}
 use Rattle.rule_typing.specs.declared.half.Half.TheVariants as halves
-use Rattle.rule_typing.specs.Splits.{paired, op_pairs, statement_pairs, node_class, chosen_class, term_class, operand_pairs, choice_pairs, node_pairs, term_pairs, formula_pairs, PairOf}
 use Rattle.rule_typing.proofs.NameLines.{statements_of, half_operand, operand_cases}
 
 -- the kinds of parts

@@ -1,10 +1,5 @@
 -- A listing, in lexicographic order, of all lists of one length over small numbers with some decidable property.
-use Rattle.std.proofs.Common.{◌≡◌, ◌↔◌, ◌⊎◌, inl, inr, ℕ, zero, suc, ◌+◌, ◌<◌, List, [], ◌∷◌, ◌++◌, length, map, get_or, Some, refl, sym, subst, ap, arith, length-append}
-use Rattle.std.specs.Prelude.{slice_get, slice_index, Contains, AllPairs}
-use Rattle.std.proofs.lemmas.Bool.{cases_lt}
-use Rattle.std.proofs.lemmas.List.Elements.{Contains-append_left, Contains-append_right, Contains-append_cases}
-use Rattle.std.proofs.lemmas.Option.{slice_get_within, slice_get-get_or, get_or_from_slice_get}
-use Rattle.rule_typing.specs.AllTypings.{ComesBefore}
+use Rattle.rule_typing.proofs.Common.{◌≡◌, ◌↔◌, ◌⊎◌, inl, inr, ℕ, zero, suc, ◌+◌, ◌<◌, List, [], ◌∷◌, ◌++◌, length, map, get_or, Some, refl, sym, subst, ap, arith, length-append, slice_get, slice_index, Contains, AllPairs, cases_lt, Contains-append_left, Contains-append_right, Contains-append_cases, slice_get_within, slice_get-get_or, get_or_from_slice_get, ComesBefore}
 use Rattle.rule_typing.proofs.Images.{Contains-map, from_map, get_from_map, get-append_cases}
 
 -- each list comes before all later ones

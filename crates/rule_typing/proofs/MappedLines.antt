@@ -1,31 +1,13 @@
 -- The constraints of a rule whose classes are mapped by f are those of the rule, under f.
-use Rattle.std.proofs.Common.{◌≡◌, inl, inr, ℕ, ◌+◌, ◌-◌, ◌==◌, if◌then◌else◌, List, [], ◌∷◌, ◌++◌, length, map, Bool, true, false, Option, None, Some, refl, sym, ap, subst, ◌∙◌, arith}
-use Rattle.std.specs.Prelude.{Contains, slice_get, option_map, option_and_then}
-use Rattle.std.proofs.lemmas.List.{length-map, map-append}
-use Rattle.std.proofs.lemmas.Option.{slice_get-map}
-use Rattle.std.proofs.lemmas.List.Elements.{Contains-append_left, Contains-append_right}
-use Rattle.rule_core.specs.declared.rule.Rule.{Rule}
-use Rattle.rule_core.specs.declared.rule.Statement.{Statement}
-use Rattle.rule_core.specs.declared.rule.Op.{Op}
-use Rattle.rule_core.specs.declared.rule.Op.TheVariants.{Binary, Compare, Unary, Select, Convert, Freeze, Copy}
-use Rattle.rule_core.specs.declared.rule.Operand.{Operand}
-use Rattle.rule_core.specs.declared.rule.Argument.{Argument}
+use Rattle.rule_typing.proofs.Common.{◌≡◌, inl, inr, ℕ, ◌+◌, ◌-◌, ◌==◌, if◌then◌else◌, List, [], ◌∷◌, ◌++◌, length, map, Bool, true, false, Option, None, Some, refl, sym, ap, subst, ◌∙◌, arith, Contains, slice_get, option_map, option_and_then, length-map, map-append, slice_get-map, Contains-append_left, Contains-append_right, Rule, Statement, Op, Binary, Compare, Unary, Select, Convert, Freeze, Copy, Operand, Argument, Choice, Name, Term, Node, Formula, operands_of, operands_among, operands_in, choices_of, choices_among, terms_in, classes_of, IsTermOf, Names, reads, reads_constant, chooses, source_assigns, target_assigns, assigns_root, term_register, term_constant, term_choice, measures, TermLine, unary, left, right, Line, binary_left, binary_right, compared, one_operand, select_true, select_false, freeze, copy, name, term, witness_term, compared_terms, witness, source_statement, target_statement, class_stands, operand_class_stands, term_class_stands, measured_class_stands, constant_term, choice_opens, reads_undef, freezes, Half, mapped_op, mapped_statement, mapped_node, mapped_term, mapped, paired, op_pairs, statement_pairs, node_class, chosen_class, term_class, operand_pairs, choice_pairs, node_pairs, term_pairs, formula_pairs, PairOf, name_of, operand_naming, choice_naming, node_naming, term_naming, NamingOf, assigned_class, last_class, root_class}
 use Rattle.rule_core.specs.declared.rule.Argument.TheVariants as arguments
-use Rattle.rule_core.specs.declared.rule.Choice.{Choice}
 use Rattle.rule_core.specs.declared.rule.Register.TheVariants as registers
-use Rattle.rule_core.specs.declared.rule.Name.{Name}
 use Rattle.rule_core.specs.declared.rule.Name.TheVariants as names
-use Rattle.rule_core.specs.declared.rule.Term.{Term}
-use Rattle.rule_core.specs.declared.rule.Node.{Node}
 use Rattle.rule_core.specs.declared.rule.Node.TheVariants as nodes
-use Rattle.rule_core.specs.declared.rule.Formula.{Formula}
 use Rattle.rule_core.specs.declared.rule.Formula.TheVariants as formulas
-use Rattle.rule_core.specs.Positions.{operands_of, operands_among, operands_in, choices_of, choices_among, terms_in, classes_of, IsTermOf, Names, reads, reads_constant, chooses, source_assigns, target_assigns, assigns_root, term_register, term_constant, term_choice, measures, TermLine, unary, left, right, Line, binary_left, binary_right, compared, one_operand, select_true, select_false, freeze, copy, name, term, witness_term, operand, compared_terms, witness}
-use Rattle.rule_core.proofs.Members.{source_statement, target_statement, class_stands, operand_class_stands, term_class_stands, measured_class_stands, constant_term, witness_term as witness_node, choice_opens, reads_undef, freezes}
-use Rattle.rule_typing.specs.declared.half.Half.{Half}
+use Rattle.rule_core.specs.Positions.{operand}
+use Rattle.rule_core.proofs.Members.{witness_term as witness_node}
 use Rattle.rule_typing.specs.declared.half.Half.TheVariants as halves
-use Rattle.rule_typing.specs.Relabelled.{mapped_op, mapped_statement, mapped_node, mapped_term, mapped}
-use Rattle.rule_typing.specs.Splits.{paired, op_pairs, statement_pairs, node_class, chosen_class, term_class, operand_pairs, choice_pairs, node_pairs, term_pairs, formula_pairs, PairOf, name_of, operand_naming, choice_naming, node_naming, term_naming, NamingOf, assigned_class, last_class, root_class}
 use Rattle.rule_typing.proofs.Images.{Contains-map, from_map, from_option_map, from_flat_map}
 use Rattle.rule_typing.proofs.Relabelled.{mapped_operand, mapped_choice, statements_mapped, terms_mapped, operands-mapped, choices-mapped}
 use Rattle.rule_typing.proofs.NameLines.{statements_of, half_statement, IsNamed, read, assigned, root, named_cases, names_of_named}

@@ -1,16 +1,6 @@
 -- One merge of two classes that a chain of constraints joins.
-use Rattle.std.proofs.Common.{◌≡◌, ◌≢◌, ◌⊎◌, inl, inr, ℕ, zero, suc, ◌+◌, ◌<◌, ◌≤◌, List, [], ◌∷◌, map, sym, ap, subst, ◌∙◌, arith}
-use Rattle.std.specs.Prelude.{sum_by, Contains}
-use Rattle.std.proofs.lemmas.List.Sums.{sum_by-cons}
-use Rattle.std.proofs.lemmas.Bool.{cases_eq}
-use Rattle.std.proofs.lemmas.Bool.Decides.{nat_tests}
-use Rattle.rule_core.specs.declared.rule.Rule.{Rule}
-use Rattle.rule_core.specs.Positions.{Line}
-use Rattle.rule_core.specs.Checks.{IsRule}
-use Rattle.rule_typing.specs.declared.relabelling.Renaming.TheVariants.{Merge}
-use Rattle.rule_typing.specs.Relabelled.{mapped, renamed}
-use Rattle.rule_typing.specs.Classes.{Joined, line, itself, turned, along}
-use Rattle.rule_typing.specs.Splits.{IsMerged}
+use Rattle.rule_typing.proofs.Common.{◌≡◌, ◌≢◌, ◌⊎◌, inl, inr, ℕ, zero, suc, ◌+◌, ◌<◌, ◌≤◌, List, [], ◌∷◌, map, sym, ap, subst, ◌∙◌, arith, sum_by, Contains, sum_by-cons, cases_eq, nat_tests, Rule, Line, IsRule, Merge, mapped, renamed, Joined, line, turned, along, IsMerged}
+use Rattle.rule_typing.specs.Classes.{itself}
 use Rattle.rule_typing.proofs.Relabelled.{mapped-id, mapped-mapped, alike_mapped}
 use Rattle.rule_typing.proofs.AlikeRules.{IsRule-alike}
 use Rattle.rule_typing.proofs.MappedLines.{from_line_map}

@@ -1,27 +1,10 @@
 -- The positions that name a register, a constant or a choice, as the code goes over them.
-use Rattle.std.proofs.Common.{◌≡◌, ◌≢◌, ◌⊎◌, inl, inr, ℕ, zero, suc, ◌+◌, ◌-◌, ◌==◌, ◌<◌, if◌then◌else◌, List, [], ◌∷◌, ◌++◌, length, Option, None, Some, refl, sym, ap, subst, ◌∙◌, arith}
-use Rattle.std.specs.Prelude.{slice_get, Contains, option_map}
-use Rattle.std.proofs.lemmas.Bool.{cases_eq}
-use Rattle.std.proofs.lemmas.Bool.Decides.{nat_tests}
-use Rattle.std.proofs.lemmas.Option.{same_Some}
-use Rattle.std.proofs.lemmas.List.Elements.{Contains-append_left, Contains-append_right, Contains-append_cases}
-use Rattle.std.proofs.lemmas.Grind.{flat_map-append}
-use Rattle.rule_core.specs.declared.rule.Rule.{Rule}
-use Rattle.rule_core.specs.declared.rule.Statement.{Statement}
-use Rattle.rule_core.specs.declared.rule.Operand.{Operand}
-use Rattle.rule_core.specs.declared.rule.Argument.{Argument}
+use Rattle.rule_typing.proofs.Common.{◌≡◌, ◌≢◌, ◌⊎◌, inl, inr, ℕ, zero, suc, ◌+◌, ◌-◌, ◌==◌, ◌<◌, if◌then◌else◌, List, [], ◌∷◌, ◌++◌, length, Option, None, Some, refl, sym, ap, subst, ◌∙◌, arith, slice_get, Contains, option_map, cases_eq, nat_tests, same_Some, Contains-append_left, Contains-append_right, Contains-append_cases, flat_map-append, Rule, Statement, Operand, Argument, Choice, Name, Term, Node, operands_of, operands_among, operands_in, choices_among, IsTermOf, Names, reads, reads_constant, chooses, source_assigns, target_assigns, assigns_root, term_register, term_constant, term_choice, measures, Half, name_of, operand_naming, choice_naming, node_naming, term_naming, assigned_class, last_class, root_class, IsRead}
 use Rattle.rule_core.specs.declared.rule.Argument.TheVariants as arguments
-use Rattle.rule_core.specs.declared.rule.Choice.{Choice}
 use Rattle.rule_core.specs.declared.rule.Register.TheVariants as registers
-use Rattle.rule_core.specs.declared.rule.Name.{Name}
 use Rattle.rule_core.specs.declared.rule.Name.TheVariants as names
-use Rattle.rule_core.specs.declared.rule.Term.{Term}
-use Rattle.rule_core.specs.declared.rule.Node.{Node}
 use Rattle.rule_core.specs.declared.rule.Node.TheVariants as nodes
-use Rattle.rule_core.specs.Positions.{operands_of, operands_among, operands_in, choices_among, IsTermOf, Names, reads, reads_constant, chooses, source_assigns, target_assigns, assigns_root, term_register, term_constant, term_choice, measures}
-use Rattle.rule_typing.specs.declared.half.Half.{Half}
 use Rattle.rule_typing.specs.declared.half.Half.TheVariants as halves
-use Rattle.rule_typing.specs.Splits.{name_of, operand_naming, choice_naming, node_naming, term_naming, assigned_class, last_class, root_class, IsRead}
 
 -- the statements of a half
 abbrev pub statements_of : Rule → Half → List Statement

@@ -1,11 +1,5 @@
 -- The next typing in lexicographic order, by the first place at which it differs.
-use Rattle.std.proofs.Common.{◌≡◌, ◌⊎◌, inl, inr, ℕ, ◌<◌, List, length, take, Some, sym, subst, ◌∙◌, arith, length-take, get_or-take}
-use Rattle.std.specs.Prelude.{slice_get, slice_index}
-use Rattle.std.proofs.lemmas.Bool.{cases_eq, cases_lt}
-use Rattle.rule_core.specs.declared.rule.Rule.{Rule}
-use Rattle.rule_typing.specs.declared.widths.Widths.{Widths}
-use Rattle.rule_typing.specs.AllTypings.{ComesBefore}
-use Rattle.rule_typing.specs.Solutions.{Has, Solves, SolvesBehind, AreLeast}
+use Rattle.rule_typing.proofs.Common.{◌≡◌, ◌⊎◌, inl, inr, ℕ, ◌<◌, List, length, take, Some, sym, subst, ◌∙◌, arith, length-take, get_or-take, slice_get, slice_index, cases_eq, cases_lt, Rule, Widths, ComesBefore, Has, Solves, SolvesBehind, AreLeast}
 use Rattle.rule_typing.proofs.Order.{DifferAt, before_from, differ_from, same_or_before}
 
 module _ (rule : Rule) (sets : List Widths) (typing : List ℕ) (solves : Solves rule sets typing) where

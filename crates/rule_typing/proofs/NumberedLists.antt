@@ -1,11 +1,7 @@
 -- Lists whose elements are numbered one after the other, each from the first number behind those of the element before
 -- it.
-use Rattle.std.proofs.Common.{◌≡◌, inl, inr, ℕ, zero, suc, ◌+◌, ◌<◌, ◌≤◌, List, [], ◌∷◌, ◌++◌, length, map, take, drop, get_or, Some, refl, sym, ap, ◌∙◌, arith, add-zero, add-one, add_assoc, length-append}
-use Rattle.std.specs.Prelude.{slice_get, slice_set, flat_map}
-use Rattle.std.proofs.lemmas.List.{take_all, drop_all, append-nil}
-use Rattle.std.proofs.lemmas.List.Folds.{length-flat_map-take}
-use Rattle.rule_core.proofs.Members.{get-append_left, get-append_right}
-use Rattle.rule_typing.specs.Relabelled.{numbered_from}
+use Rattle.rule_typing.proofs.Common.{◌≡◌, inl, inr, ℕ, zero, suc, ◌+◌, ◌<◌, ◌≤◌, List, [], ◌∷◌, ◌++◌, length, map, take, drop, get_or, Some, refl, sym, ap, ◌∙◌, arith, add-zero, add-one, add_assoc, length-append, slice_get, slice_set, flat_map, take_all, drop_all, length-flat_map-take, get-append_left, get-append_right, numbered_from}
+use Rattle.std.proofs.lemmas.List.{append-nil}
 use Rattle.rule_typing.proofs.Images.{get-append_cases}
 use Rattle.rule_typing.proofs.Seams.{seam_length, seam_get, seam_next}
 

@@ -1,18 +1,5 @@
 -- Renumbering the classes in the order in which they first appear.
-use Rattle.std.proofs.Common.{◌≡◌, ◌≢◌, ◌↔◌, inl, inr, ℕ, zero, suc, ◌+◌, ◌<◌, ◌≤◌, List, [], ◌∷◌, ◌++◌, length, map, take, Some, refl, sym, ap, subst, ◌∙◌, arith}
-use Rattle.std.specs.Prelude.{slice_get, Contains}
-use Rattle.std.proofs.lemmas.Bool.{cases_eq}
-use Rattle.std.proofs.lemmas.Bool.Decides.{nat_tests}
-use Rattle.std.proofs.lemmas.List.{take_more, take-map, length-map, map-append, take_all}
-use Rattle.std.proofs.lemmas.Option.{slice_get-get_or, same_Some, slice_get_within, get_or_from_slice_get}
-use Rattle.std.proofs.lemmas.List.Elements.{Contains-push, Contains-push_cases, Contains-append_left}
-use Rattle.rule_core.specs.declared.rule.Rule.{Rule}
-use Rattle.rule_core.specs.Checks.{IsRule}
-use Rattle.rule_core.specs.Positions.{classes_of}
-use Rattle.rule_core.proofs.Members.{get-append_left}
-use Rattle.rule_typing.specs.declared.relabelling.Renaming.TheVariants.{Swap}
-use Rattle.rule_typing.specs.Relabelled.{mapped, renamed, IsRenumbered}
-use Rattle.rule_typing.specs.Classes.{IsInOrder}
+use Rattle.rule_typing.proofs.Common.{◌≡◌, ◌≢◌, ◌↔◌, inl, inr, ℕ, zero, suc, ◌+◌, ◌<◌, ◌≤◌, List, [], ◌∷◌, ◌++◌, length, map, take, Some, refl, sym, ap, subst, ◌∙◌, arith, slice_get, Contains, cases_eq, nat_tests, take_more, take-map, length-map, map-append, take_all, slice_get-get_or, same_Some, slice_get_within, get_or_from_slice_get, Contains-push, Contains-push_cases, Contains-append_left, Rule, IsRule, classes_of, get-append_left, Swap, mapped, renamed, IsRenumbered, IsInOrder}
 use Rattle.rule_typing.proofs.Images.{get-append_cases}
 use Rattle.rule_typing.proofs.NumberedLists.{none_there}
 use Rattle.rule_typing.proofs.Relabelled.{classes_of-mapped, mapped-id, mapped-mapped, alike_mapped}

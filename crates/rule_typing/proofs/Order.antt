@@ -1,9 +1,5 @@
 -- Lexicographic order of lists of one length, by the first place at which they differ.
-use Rattle.std.proofs.Common.{◌≡◌, ◌⊎◌, inl, inr, ℕ, zero, suc, ◌<◌, List, [], ◌∷◌, length, refl, ◌∙◌, arith}
-use Rattle.std.specs.Prelude.{slice_index}
-use Rattle.std.proofs.lemmas.Bool.{cases_lt}
-use Rattle.rule_typing.specs.AllTypings.{ComesBefore}
-use Rattle.rule_typing.specs.Solutions.{AtMost}
+use Rattle.rule_typing.proofs.Common.{◌≡◌, ◌⊎◌, inl, inr, ℕ, zero, suc, ◌<◌, List, [], ◌∷◌, length, refl, ◌∙◌, arith, slice_index, cases_lt, ComesBefore, AtMost}
 
 -- the lists are equal before place p
 abbrev pub Alike : ℕ → List ℕ → List ℕ → Type 0

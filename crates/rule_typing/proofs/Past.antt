@@ -1,21 +1,7 @@
 -- The least number above all of a list, for lists one behind the other.
-use Rattle.std.proofs.Common.{◌≡◌, inl, inr, ℕ, ◌+◌, ◌<◌, ◌≤◌, max, List, [], ◌∷◌, ◌++◌, length, get_or, take, refl, sym, ap, subst, ◌∙◌, arith, append-nil}
-use Rattle.std.specs.Prelude.{Contains, flat_map, Some}
-use Rattle.std.specs.Ordering.{nat_cmp, ord_max}
-use Rattle.std.proofs.lemmas.Bool.{cases_eq, cases_lt}
-use Rattle.std.proofs.lemmas.Bool.Decides.{nat_tests}
-use Rattle.std.proofs.lemmas.List.{take_more}
-use Rattle.std.proofs.lemmas.Grind.{flat_map-append}
-use Rattle.std.proofs.lemmas.Option.{slice_get-get_or}
-use Rattle.std.proofs.lemmas.List.Elements.{Contains-append_left, Contains-append_right, Contains-append_cases}
-use Rattle.rule_core.specs.declared.rule.Rule.{Rule}
-use Rattle.rule_core.specs.declared.rule.Register.{Register}
-use Rattle.rule_core.specs.declared.rule.Node.{Node}
+use Rattle.rule_typing.proofs.Common.{◌≡◌, inl, inr, ℕ, ◌+◌, ◌<◌, ◌≤◌, max, List, [], ◌∷◌, ◌++◌, length, get_or, take, refl, sym, ap, subst, ◌∙◌, arith, Contains, flat_map, Some, nat_cmp, ord_max, cases_eq, cases_lt, nat_tests, take_more, flat_map-append, slice_get-get_or, Contains-append_left, Contains-append_right, Contains-append_cases, Rule, Register, Node, classes_of, classes_of_node, Contains-from_get, IsClassified, HasClasses, IsPast}
+use Rattle.std.proofs.Common.{append-nil}
 use Rattle.rule_core.specs.declared.rule.Node.TheVariants as nodes
-use Rattle.rule_core.specs.Positions.{classes_of, classes_of_node}
-use Rattle.rule_core.proofs.Members.{Contains-from_get}
-use Rattle.rule_typing.specs.Classes.{IsClassified, HasClasses}
-use Rattle.rule_typing.specs.FittingWidths.{IsPast}
 
 pub past_one : (a n : ℕ) → n ≡ a + 1 → IsPast (a ∷ []) n
 past_one a n is = record {

@@ -1,13 +1,5 @@
 -- What `settle` keeps when it raises a width to a later one of its set.
-use Rattle.std.proofs.Common.{◌≡◌, ◌≢◌, inl, inr, ℕ, ◌<◌, ◌≤◌, List, length, get_or, slice_set, Some, sym, subst, ◌∙◌, arith, get_or-set_other, get_or-set_same}
-use Rattle.std.specs.Prelude.{slice_get, slice_index}
-use Rattle.std.proofs.lemmas.Bool.{cases_eq}
-use Rattle.std.proofs.lemmas.List.{length-set, get_or_default}
-use Rattle.std.proofs.lemmas.Option.{slice_get-get_or, slice_get_within, same_Some}
-use Rattle.rule_core.specs.declared.rule.Rule.{Rule}
-use Rattle.rule_core.specs.Positions.{Smaller}
-use Rattle.rule_typing.specs.declared.widths.Widths.{Widths}
-use Rattle.rule_typing.specs.Solutions.{Has, IsLeast, AreOf, AtMost, SolvesFrom}
+use Rattle.rule_typing.proofs.Common.{◌≡◌, ◌≢◌, inl, inr, ℕ, ◌<◌, ◌≤◌, List, length, get_or, slice_set, Some, sym, subst, ◌∙◌, arith, get_or-set_other, get_or-set_same, slice_get, slice_index, cases_eq, length-set, get_or_default, slice_get-get_or, slice_get_within, same_Some, Rule, Smaller, Widths, Has, IsLeast, AreOf, AtMost, SolvesFrom}
 use Rattle.rule_typing.proofs.CastLines.{of_below}
 
 -- where a width is replaced by another of its set, each width is still of its set

@@ -1,6 +1,5 @@
 -- A list that is overwritten from its front: elements of ys before a place, and of xs from there on.
-use Rattle.std.proofs.Common.{◌≡◌, ℕ, zero, suc, ◌+◌, ◌<◌, List, [], ◌∷◌, ◌++◌, length, take, drop, refl, ap, ◌∙◌, arith, get_or, add-one}
-use Rattle.std.specs.Prelude.{slice_set}
+use Rattle.rule_typing.proofs.Common.{◌≡◌, ℕ, zero, suc, ◌+◌, ◌<◌, List, [], ◌∷◌, ◌++◌, length, take, drop, refl, ap, ◌∙◌, arith, get_or, add-one, slice_set}
 
 pub seam_length : {X : Type 0} (ys xs : List X) (i : ℕ) → length ys ≡ length xs → length (take i ys ++ drop i xs) ≡ length xs
 seam_length ys xs zero same = refl

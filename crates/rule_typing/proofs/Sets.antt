@@ -1,12 +1,5 @@
 -- Sets of widths while a loop fills them.
-use Rattle.std.proofs.Common.{◌≡◌, ◌↔◌, ◌⊎◌, inl, inr, ℕ, ◌+◌, ◌<◌, List, [], ◌∷◌, ◌++◌, length, take, get_or, replicate, true, false, Some, sym, subst, ap, ◌∙◌, arith}
-use Rattle.std.specs.Prelude.{slice_get, Contains}
-use Rattle.std.proofs.lemmas.Bool.{false≢true, cases_eq}
-use Rattle.std.proofs.lemmas.List.{get_or-replicate, take_more, length-replicate}
-use Rattle.std.proofs.lemmas.List.Elements.{Contains-push, Contains-push_cases, Contains-append_left}
-use Rattle.std.proofs.lemmas.Option.{slice_get_within, get_or_from_slice_get, same_Some}
-use Rattle.rule_typing.specs.declared.widths.Widths.{Widths}
-use Rattle.rule_typing.specs.Solutions.{Has, HasExactly}
+use Rattle.rule_typing.proofs.Common.{◌≡◌, ◌↔◌, ◌⊎◌, inl, inr, ℕ, ◌+◌, ◌<◌, List, [], ◌∷◌, ◌++◌, length, take, get_or, replicate, true, false, Some, sym, subst, ap, ◌∙◌, arith, slice_get, Contains, false≢true, cases_eq, get_or-replicate, take_more, length-replicate, Contains-push, Contains-push_cases, Contains-append_left, slice_get_within, get_or_from_slice_get, same_Some, Widths, Has, HasExactly}
 use Rattle.rule_typing.proofs.Images.{get-append_cases}
 
 -- nothing is true in a list of `false`

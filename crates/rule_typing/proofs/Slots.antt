@@ -1,16 +1,5 @@
 -- Sets and widths in arrays of fixed length, of which the first places are filled.
-use Rattle.std.proofs.Common.{◌≡◌, ◌≢◌, ◌↔◌, ◌⊎◌, Bool, true, false, IsTrue, inl, inr, ℕ, ◌+◌, ◌<◌, ◌≤◌, List, [], length, take, get_or, slice_set, Some, refl, sym, subst, ap, ◌∙◌, arith, length-take, get_or-take, get_or-set_other, get_or-set_same}
-use Rattle.std.specs.Prelude.{slice_get, slice_index}
-use Rattle.std.specs.Bool.{OnTrue, OnFalse}
-use Rattle.std.proofs.lemmas.Bool.{cases_eq, false≢true}
-use Rattle.std.proofs.lemmas.List.{length-set}
-use Rattle.std.proofs.lemmas.Option.{slice_get-get_or, slice_get_within, get_or_from_slice_get}
-use Rattle.rule_core.specs.declared.rule.Rule.{Rule}
-use Rattle.rule_core.specs.Typing.{IsTyping}
-use Rattle.rule_typing.specs.declared.widths.Widths.{Widths}
-use Rattle.rule_typing.specs.Classes.{IsClassified, HasClasses}
-use Rattle.rule_typing.specs.FittingWidths.{MayHaveWidth}
-use Rattle.rule_typing.specs.Solutions.{Has, HasExactly, IsLeast, GoesOn, AreOf, SolvesFrom, AreLeast}
+use Rattle.rule_typing.proofs.Common.{◌≡◌, ◌≢◌, ◌↔◌, ◌⊎◌, Bool, true, false, IsTrue, inl, inr, ℕ, ◌+◌, ◌<◌, ◌≤◌, List, [], length, take, get_or, slice_set, Some, refl, sym, subst, ap, ◌∙◌, arith, length-take, get_or-take, get_or-set_other, get_or-set_same, slice_get, slice_index, OnTrue, OnFalse, cases_eq, false≢true, length-set, slice_get-get_or, slice_get_within, get_or_from_slice_get, Rule, IsTyping, Widths, IsClassified, HasClasses, MayHaveWidth, Has, HasExactly, IsLeast, GoesOn, AreOf, SolvesFrom, AreLeast}
 use Rattle.rule_typing.proofs.Begun.{AreFirst, AreFirstOf, first_of, none_behind}
 use Rattle.rule_typing.proofs.Found.{behind_nothing}
 use Rattle.rule_typing.proofs.Solved.{typing_of, solves_of, typing_may}

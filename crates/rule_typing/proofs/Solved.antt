@@ -1,15 +1,5 @@
 -- Solutions over the sets of widths that classes may have are typings.
-use Rattle.std.proofs.Common.{◌≡◌, ◌⊎◌, ℕ, ◌<◌, List, length, Some, subst, arith}
-use Rattle.std.specs.Prelude.{slice_get, slice_index, Contains}
-use Rattle.std.proofs.lemmas.Option.{slice_get-get_or, slice_get_within, get_or_from_slice_get}
-use Rattle.rule_core.specs.declared.rule.Rule.{Rule}
-use Rattle.rule_core.specs.Positions.{Fixed}
-use Rattle.rule_core.specs.Typing.{IsTyping}
-use Rattle.rule_typing.specs.declared.widths.Widths.{Widths}
-use Rattle.rule_typing.specs.Classes.{IsClassified, HasClasses}
-use Rattle.rule_typing.specs.FittingWidths.{MayHaveWidth}
-use Rattle.rule_typing.specs.AllTypings.{MayChoose, IsListed}
-use Rattle.rule_typing.specs.Solutions.{HasExactly, MeetsSmaller, Solves}
+use Rattle.rule_typing.proofs.Common.{◌≡◌, ◌⊎◌, ℕ, ◌<◌, List, length, Some, subst, arith, slice_get, slice_index, Contains, slice_get-get_or, slice_get_within, get_or_from_slice_get, Rule, Fixed, IsTyping, Widths, IsClassified, HasClasses, MayHaveWidth, MayChoose, IsListed, HasExactly, MeetsSmaller, Solves}
 use Rattle.rule_typing.proofs.Begun.{some_at}
 use Rattle.rule_typing.proofs.Typed.{typed, count_widths, may_have}
 

@@ -1,16 +1,6 @@
 -- The loops over the parts of a rule find only constraints of it, and miss none.
-use Rattle.std.proofs.Common.{◌≡◌, ◌≢◌, inl, inr, ℕ, Option, None, Some, sym, ◌∙◌}
-use Rattle.std.specs.Prelude.{IfSome, IfNone}
-use Rattle.std.proofs.lemmas.Option.{same_Some}
-use Rattle.std.proofs.lemmas.List.Elements.{Contains-append_left, Contains-append_right, Contains-append_cases}
-use Rattle.rule_core.specs.declared.rule.Rule.{Rule}
-use Rattle.rule_core.specs.declared.rule.Statement.{Statement}
-use Rattle.rule_core.specs.declared.rule.Name.{Name}
-use Rattle.rule_core.specs.Positions.{operands_of, choices_of, Names, Line, name}
-use Rattle.rule_core.proofs.Members.{Contains-flat_map}
-use Rattle.rule_typing.specs.declared.half.Half.{Half}
+use Rattle.rule_typing.proofs.Common.{◌≡◌, ◌≢◌, inl, inr, ℕ, Option, None, Some, sym, ◌∙◌, IfSome, IfNone, same_Some, Contains-append_left, Contains-append_right, Contains-append_cases, Rule, Statement, Name, operands_of, choices_of, Names, Line, name, Contains-flat_map, Half, Splits, formula_pairs, PairOf, StatementsLine, TermsLine, RootLine, IsRead}
 use Rattle.rule_typing.specs.declared.half.Half.TheVariants as halves
-use Rattle.rule_typing.specs.Splits.{Splits, formula_pairs, PairOf, StatementsLine, TermsLine, RootLine, IsRead}
 use Rattle.rule_typing.proofs.Images.{from_flat_map}
 use Rattle.rule_typing.proofs.NameLines.{statements_of, half_statement, operand_names, choice_names, term_names, assigned_names, root_names, IsNamed, read, assigned, root, named_cases}
 use Rattle.rule_typing.proofs.LineParts.{OnLine, by_statement, by_operand, by_choice, by_term, by_witness, by_comparison, by_name, line_of, line_cases}

@@ -1,16 +1,8 @@
 -- Whether some constraint asks two different classes to have one width is decided.
-use Rattle.std.proofs.Common.{◌≡◌, ◌≢◌, ◌⊎◌, inl, inr, ℕ, ◌-◌, List, ◌++◌, length, Option, None, Some, refl, sym, ap, subst, ◌∙◌, arith}
-use Rattle.std.specs.Prelude.{Contains}
-use Rattle.std.proofs.Math.Decide.{map_dec}
-use Rattle.std.proofs.lemmas.Option.{same_Some}
-use Rattle.rule_core.specs.declared.rule.Rule.{Rule}
-use Rattle.rule_core.specs.declared.rule.Register.{Register}
+use Rattle.rule_typing.proofs.Common.{◌≡◌, ◌≢◌, ◌⊎◌, inl, inr, ℕ, ◌-◌, List, ◌++◌, length, Option, None, Some, refl, sym, ap, subst, ◌∙◌, arith, Contains, map_dec, same_Some, Rule, Register, Name, operands_among, choices_among, terms_in, Names, Line, name, statement_pairs, operand_pairs, choice_pairs, term_pairs, formula_pairs, PairOf, operand_naming, choice_naming, term_naming, NamingOf, assigned_class, root_class, RootLine, IsRead}
 use Rattle.rule_core.specs.declared.rule.Register.TheVariants as registers
-use Rattle.rule_core.specs.declared.rule.Name.{Name}
 use Rattle.rule_core.specs.declared.rule.Name.TheVariants as names
-use Rattle.rule_core.specs.Positions.{operands_among, choices_among, terms_in, Names, Line, name}
 use Rattle.rule_typing.specs.declared.half.Half.TheVariants as halves
-use Rattle.rule_typing.specs.Splits.{statement_pairs, operand_pairs, choice_pairs, term_pairs, formula_pairs, PairOf, operand_naming, choice_naming, term_naming, NamingOf, assigned_class, root_class, RootLine, IsRead}
 use Rattle.rule_typing.proofs.NameLines.{read_names, root_is_last, IsNamed, read, assigned, root, named_cases, names_of_named}
 use Rattle.rule_typing.proofs.LineParts.{OnLine, by_statement, by_operand, by_choice, by_term, by_witness, by_comparison, by_name, line_of, line_cases}
 use Rattle.rule_typing.proofs.SplitLines.{root_line}

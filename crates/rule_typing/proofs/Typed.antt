@@ -1,23 +1,7 @@
 -- Widths are a typing of a classified rule exactly where there is one for each class, each class may have its own, and
 -- casts are met.
-use Rattle.std.proofs.Common.{◌≡◌, ◌↔◌, inl, inr, ℕ, suc, ◌+◌, ◌<◌, List, ◌++◌, length, map, get_or, Some, refl, sym, ap, subst, ◌∙◌, arith, add-zero, length-append}
-use Rattle.std.specs.Prelude.{slice_get, Contains, flat_map}
-use Rattle.std.proofs.lemmas.Bool.{cases_lt}
-use Rattle.std.proofs.lemmas.Option.{slice_get-get_or, get_or_from_slice_get, same_Some}
-use Rattle.rule_core.specs.declared.rule.Rule.{Rule}
-use Rattle.rule_core.specs.declared.rule.Statement.{Statement}
-use Rattle.rule_core.specs.declared.rule.Op.{Op}
-use Rattle.rule_core.specs.declared.rule.Op.TheVariants.{Binary, Compare, Unary, Select, Convert, Freeze, Copy}
-use Rattle.rule_core.specs.declared.rule.Term.{Term}
-use Rattle.rule_core.specs.declared.rule.Node.{Node}
+use Rattle.rule_typing.proofs.Common.{◌≡◌, ◌↔◌, inl, inr, ℕ, suc, ◌+◌, ◌<◌, List, ◌++◌, length, map, get_or, Some, refl, sym, ap, subst, ◌∙◌, arith, add-zero, length-append, slice_get, Contains, flat_map, cases_lt, slice_get-get_or, get_or_from_slice_get, same_Some, Rule, Statement, Op, Binary, Compare, Unary, Select, Convert, Freeze, Copy, Term, Node, operands_of, classes_of_statement, classes_of_node, classes_of_term, classes_of, Line, Fixed, Smaller, IsTyping, Contains-from_get, mapped_op, mapped_statement, mapped_term, mapped, numbered_op, numbered_statement, numbered_statements, numbered_term, numbered_terms, numbered, IsClassified, HasClasses, line, MayHaveWidth, MeetsSmaller}
 use Rattle.rule_core.specs.declared.rule.Node.TheVariants as nodes
-use Rattle.rule_core.specs.Positions.{operands_of, classes_of_statement, classes_of_node, classes_of_term, classes_of, Line, Fixed, Smaller}
-use Rattle.rule_core.specs.Typing.{IsTyping}
-use Rattle.rule_core.proofs.Members.{Contains-from_get}
-use Rattle.rule_typing.specs.Relabelled.{mapped_op, mapped_statement, mapped_term, mapped, numbered_op, numbered_statement, numbered_statements, numbered_term, numbered_terms, numbered}
-use Rattle.rule_typing.specs.Classes.{IsClassified, HasClasses, line}
-use Rattle.rule_typing.specs.FittingWidths.{MayHaveWidth}
-use Rattle.rule_typing.specs.Solutions.{MeetsSmaller}
 use Rattle.rule_typing.proofs.NumberedLists.{Gives, gives_left, gives_right, restored_list}
 use Rattle.rule_typing.proofs.Relabelled.{classes_apart, class_is_position, count_positions}
 use Rattle.rule_typing.proofs.MappedLines.{from_line_map, line_classes}

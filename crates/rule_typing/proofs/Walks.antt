@@ -1,12 +1,6 @@
 -- What a loop over elements finds: two different classes that one of them asks to have one width, or another class of a
 -- position with a name.
-use Rattle.std.proofs.Common.{◌≡◌, ◌⊎◌, inl, inr, ℕ, ◌<◌, ◌≤◌, List, ◌++◌, length, get_or, Option, None, Some, sym}
-use Rattle.std.proofs.lemmas.Option.{slice_get-get_or, get_or_from_slice_get}
-use Rattle.std.specs.Prelude.{Contains, flat_map}
-use Rattle.std.proofs.lemmas.List.Elements.{Contains-append_left, Contains-append_right, Contains-append_cases}
-use Rattle.rule_core.proofs.Members.{Contains-flat_map}
-use Rattle.rule_core.specs.declared.rule.Name.{Name}
-use Rattle.rule_typing.specs.Splits.{IsPairIn, Splits, FindsOther, NamingOf}
+use Rattle.rule_typing.proofs.Common.{◌≡◌, ◌⊎◌, inl, inr, ℕ, ◌<◌, ◌≤◌, List, ◌++◌, length, get_or, Option, None, Some, sym, slice_get-get_or, get_or_from_slice_get, Contains, flat_map, Contains-append_left, Contains-append_right, Contains-append_cases, Contains-flat_map, Name, IsPairIn, Splits, FindsOther, NamingOf}
 use Rattle.rule_typing.proofs.Images.{from_flat_map}
 use Rattle.rule_typing.proofs.Among.{SoFar, all_of_them, stands_here}
 

@@ -1,22 +1,7 @@
 -- Whether a class may have a width by itself, and whether its width is fixed, is decided.
-use Rattle.std.proofs.Common.{◌≡◌, inl, inr, ℕ, ◌-◌, ◌^◌, ◌++◌, Option, None, Some, Bool, refl, sym, ap, subst}
-use Rattle.std.specs.Prelude.{ℤ, pos, neg_ℤ}
-use Rattle.std.proofs.Math.Decide.{map_dec, dec_le}
-use Rattle.std.proofs.lemmas.Int.{by_lt_z}
-use Rattle.std.specs.Int.Signed.{clash_ℤ}
-use Rattle.std.proofs.lemmas.Option.{same_Some}
-use Rattle.rule_core.specs.declared.rule.Rule.{Rule}
-use Rattle.rule_core.specs.declared.rule.Statement.{Statement}
-use Rattle.rule_core.specs.declared.rule.Operand.{Operand}
-use Rattle.rule_core.specs.declared.rule.Argument.{Argument}
+use Rattle.rule_typing.proofs.Common.{◌≡◌, inl, inr, ℕ, ◌-◌, ◌^◌, ◌++◌, Option, None, Some, Bool, refl, sym, ap, subst, ℤ, pos, neg_ℤ, map_dec, dec_le, by_lt_z, clash_ℤ, same_Some, Rule, Statement, Operand, Argument, Term, Node, operands_of, operands_in, terms_in, Fixed, FitsLiteral, fixed_line, FixesWidth, StatementFixes, FitsIn, TermFits, MayHaveWidth}
 use Rattle.rule_core.specs.declared.rule.Argument.TheVariants as arguments
-use Rattle.rule_core.specs.declared.rule.Term.{Term}
-use Rattle.rule_core.specs.declared.rule.Node.{Node}
 use Rattle.rule_core.specs.declared.rule.Node.TheVariants as nodes
-use Rattle.rule_core.specs.Positions.{operands_of, operands_in, terms_in, Fixed}
-use Rattle.rule_core.specs.Typing.{FitsLiteral}
-use Rattle.rule_typing.specs.FixedWidths.{fixed_line, FixesWidth, StatementFixes}
-use Rattle.rule_typing.specs.FittingWidths.{FitsIn, TermFits, MayHaveWidth}
 use Rattle.rule_typing.proofs.Deciding.{dec_both, dec_either, dec_not, stable, dec_number, dec_one, dec_each}
 use Rattle.rule_typing.proofs.FixedLines.{of_fixed, fixed_of}
 

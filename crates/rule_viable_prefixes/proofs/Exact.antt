@@ -1,30 +1,6 @@
 -- The law of refusals: where a text is refused, and by which kind.
-use Rattle.std.proofs.Common.{◌≡◌, ◌≢◌, ℕ, ◌+◌, ◌≤◌, Bool, true, false, List, [], ◌∷◌, ◌++◌, length, Result, Ok, Err, refl, sym, ap, subst, ◌∙◌, append_assoc, ◌⊎◌, inl, inr, arith}
-use Rattle.std.specs.Prelude.{codes}
-use Rattle.std.proofs.lemmas.List.{append-nil}
-use Rattle.scan.specs.Laws.{OneTokenAtAPlace}
-use Rattle.rule_tokens.specs.declared.fault.RuleFaultKind.{RuleFaultKind}
-use Rattle.rule_tokens.specs.declared.fault.RuleFaultKind.TheVariants.{BadByte, Syntax, LeftOut, TooMany}
-use Rattle.rule_tokens.specs.Limits.{Limits, AreWithin}
-use Rattle.rule_tokens.specs.PartReaders.{fault}
-use Rattle.rule_tokens.specs.RuleFaults.{RuleFault}
-use Rattle.rule_tokens.specs.Tokens.{Token, Line, Head, Word, Number, Bad, Excess, AreTokens}
-use Rattle.rule_tokens.proofs.Ends.{EndsLine}
-use Rattle.rule_parse.specs.declared.raw.RawRule.{RawRule}
-use Rattle.rule_parse.specs.CutTokens.{limited}
-use Rattle.rule_parse.specs.Grammar.{SpellsFile}
-use Rattle.rule_parse.specs.Limits.{most_nodes}
-use Rattle.rule_parse.specs.NodeCounts.{IsCut}
-use Rattle.rule_parse.specs.RuleReaders.{all_rules}
-use Rattle.rule_parse.specs.Text.{IsFaultWithin}
-use Rattle.rule_parse.proofs.Counts.{kept_up_to_the_limit}
-use Rattle.rule_parse.proofs.Cuts.{AreOfText, of_both}
-use Rattle.rule_parse.proofs.Files.{all_rules-is, all_rules-of}
-use Rattle.rule_viable_prefixes.specs.Fits.{SpellsWithoutLimits, Fits, FitsBehind, LineFits, line_of}
-use Rattle.rule_viable_prefixes.specs.Laws.{IsOneTooMany, DoesNotFit, IsAtToken, IsAtEnd, RefusalsAreExact}
-use Rattle.rule_viable_prefixes.specs.Misfits.{NounFits, RepeatsFlag, IsLeftOut, word, version, IsKindOf}
-use Rattle.rule_viable_prefixes.specs.Passed.{StaysWithin, AllStayWithin}
-use Rattle.rule_viable_prefixes.specs.WiderLimits.{TextsAreRefusedByLimitsAsTooMany}
+use Rattle.rule_viable_prefixes.proofs.Common.{◌≡◌, ◌≢◌, ℕ, ◌+◌, ◌≤◌, Bool, true, false, List, [], ◌∷◌, ◌++◌, length, Result, Ok, Err, refl, sym, ap, subst, ◌∙◌, append_assoc, ◌⊎◌, inl, inr, arith, codes, append-nil, OneTokenAtAPlace, RuleFaultKind, BadByte, Syntax, LeftOut, TooMany, Limits, AreWithin, fault, RuleFault, Token, Line, Head, Word, Number, Bad, Excess, AreTokens, EndsLine, RawRule, limited, SpellsFile, most_nodes, IsCut, all_rules, IsFaultWithin, kept_up_to_the_limit, AreOfText, of_both, all_rules-is, all_rules-of, SpellsWithoutLimits, Fits, FitsBehind, LineFits, IsOneTooMany, DoesNotFit, IsAtToken, IsAtEnd, RefusalsAreExact, NounFits, RepeatsFlag, IsLeftOut, word, version, IsKindOf, StaysWithin, AllStayWithin, TextsAreRefusedByLimitsAsTooMany}
+use Rattle.rule_viable_prefixes.specs.Fits.{line_of}
 use Rattle.rule_viable_prefixes.proofs.FitsWithin.{FitsWithin, FitsBehindWithin, LineFitsWithin, fits_before}
 use Rattle.rule_viable_prefixes.proofs.FlagRuns.{IsNew}
 use Rattle.rule_viable_prefixes.proofs.LimitLaws.{fault_is, spelled_wider, fits_wider}

@@ -1,32 +1,12 @@
 -- Rules one behind the other: where they are refused their tokens do not fit.
-use Rattle.std.proofs.Common.{◌≡◌, ◌≢◌, ℕ, zero, suc, ◌<◌, ◌≤◌, List, [], ◌∷◌, ◌++◌, length, None, Result, Ok, Err, refl, sym, ap, subst, ◌∙◌, append_assoc, ◌⊎◌, inl, inr, arith}
-use Rattle.std.proofs.Math.Nat.{le_refl}
-use Rattle.std.proofs.lemmas.List.{append-nil}
-use Rattle.std.specs.Prelude.{codes}
-use Rattle.rule_tokens.specs.declared.fault.RuleFaultKind.TheVariants.{Syntax, TooMany}
-use Rattle.rule_tokens.specs.RuleFaults.{RuleFault}
-use Rattle.rule_tokens.specs.Steps.{◌>>=◌}
-use Rattle.rule_tokens.specs.Parts.{Part, ◌⨾◌}
-use Rattle.rule_tokens.specs.PartReaders.{Read}
-use Rattle.rule_tokens.specs.Tokens.{Token, Line, Head, Name, Word, Arrow, Excess}
-use Rattle.rule_tokens.proofs.Ends.{EndsLine}
-use Rattle.rule_tokens.proofs.Steps.{bound}
-use Rattle.rule_parse.specs.declared.half.Half.TheVariants.{Source, Target}
-use Rattle.rule_parse.specs.declared.raw.RawRule.{RawRule}
-use Rattle.rule_parse.specs.Grammar.{SpellsRule, SpellsRules}
-use Rattle.rule_parse.specs.RuleReaders.{name_at, precondition_at, witness_at, source_at, arrow_at, target_at, rule_at, rules_at, rules_of}
-use Rattle.rule_parse.proofs.Readings.{rule_at-shorter, rules_at-is}
-use Rattle.rule_parse.proofs.Spellings.{rules_at-of}
-use Rattle.rule_viable_prefixes.specs.Fits.{line_behind, line_of}
+use Rattle.rule_viable_prefixes.proofs.Common.{◌≡◌, ◌≢◌, ℕ, zero, suc, ◌<◌, ◌≤◌, List, [], ◌∷◌, ◌++◌, length, None, Result, Ok, Err, refl, sym, ap, subst, ◌∙◌, append_assoc, ◌⊎◌, inl, inr, arith, le_refl, append-nil, codes, Syntax, TooMany, RuleFault, ◌>>=◌, Part, ◌⨾◌, Read, Token, Line, Head, Name, Word, Arrow, Excess, EndsLine, bound, Source, Target, RawRule, SpellsRule, SpellsRules, name_at, precondition_at, witness_at, source_at, arrow_at, target_at, rule_at, rules_at, rules_of, rule_at-shorter, rules_at-is, rules_at-of, line_behind, Fitting, IsNoun, NounFits, RepeatsFlag, Version, Limits}
+use Rattle.rule_viable_prefixes.specs.Fits.{line_of}
 use Rattle.rule_viable_prefixes.proofs.Lines.{IsNameLine, NamesEndLines, names_behind, name_follows, name_verdict, IsPrecondition, precondition_verdict, IsWitness, witness_verdict, IsHalf, half_opens, some_of_opens, Follows, by_arrow, by_rule, follows_open, source_verdict, target_verdict, IsArrow, arrow_follows, arrow_verdict, verdict_made}
-use Rattle.rule_viable_prefixes.specs.Misfits.{Fitting, IsNoun, NounFits, RepeatsFlag}
 use Rattle.rule_viable_prefixes.proofs.Reasons.{openings_on_line, IsExcused, one_use, repeated, nested, IsMisfit}
 use Rattle.rule_viable_prefixes.proofs.FlagRuns.{IsNew, new_on_line}
 use Rattle.rule_viable_prefixes.proofs.Outcomes.{lack_wider, repeats_behind, Akin, akin, akin_behind, akin_noun, Alike, same, ended, pair, bare, IsErr}
 use Rattle.rule_viable_prefixes.proofs.Tolds.{Excuse, Told, says_wider, SaysFirst}
 use Rattle.rule_viable_prefixes.proofs.Rules.{on_new_line, GoesOn, Whole, Within, Missed, Verdict, verdict_both, verdict_wider, begins_line, line_of_both, starts_line}
-use Rattle.rule_tokens.specs.declared.version.Version.{Version}
-use Rattle.rule_tokens.specs.Limits.{Limits}
 use Rattle.rule_viable_prefixes.proofs.Roomy.{roomy}
 
 module _ (spare_bytes deepest spare_statements : ℕ) (version : Version) where

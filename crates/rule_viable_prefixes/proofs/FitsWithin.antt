@@ -1,9 +1,5 @@
 -- Viable prefixes within limits of names, nesting and statements.
-use Rattle.std.proofs.Common.{◌≡◌, ℕ, List, [], ◌∷◌, ◌++◌, sym, subst, ◌∙◌, append_assoc}
-use Rattle.rule_tokens.specs.Limits.{Limits}
-use Rattle.rule_tokens.specs.Tokens.{Token, Line}
-use Rattle.rule_parse.specs.declared.raw.RawRule.{RawRule}
-use Rattle.rule_parse.specs.Grammar.{SpellsFile}
+use Rattle.rule_viable_prefixes.proofs.Common.{◌≡◌, ℕ, List, [], ◌∷◌, ◌++◌, sym, subst, ◌∙◌, append_assoc, Limits, Token, Line, RawRule, SpellsFile}
 
 abbrev pub FitsWithin : Limits → List Token → Type 0
 FitsWithin limits front = (rules : List RawRule) × (more : List Token) × SpellsFile limits rules (front ++ more)

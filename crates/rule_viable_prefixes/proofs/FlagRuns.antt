@@ -1,10 +1,5 @@
 -- Flags one behind the other at the end of tokens, and tokens that end otherwise.
-use Rattle.std.proofs.Common.{◌≡◌, ℕ, List, [], ◌∷◌, ◌++◌, map, refl, sym, subst, append_assoc, ◌⊎◌, inl, inr}
-use Rattle.std.proofs.lemmas.List.{append-nil}
-use Rattle.rule_tokens.specs.declared.fault.RuleFaultKind.{RuleFaultKind}
-use Rattle.rule_tokens.specs.declared.fault.RuleFaultKind.TheVariants.{LeftOut}
-use Rattle.rule_tokens.specs.Tokens.{Token, Line, Word}
-use Rattle.rule_viable_prefixes.specs.Misfits.{IsFlagWord, AreFlagWords, RepeatsFlag}
+use Rattle.rule_viable_prefixes.proofs.Common.{◌≡◌, ℕ, List, [], ◌∷◌, ◌++◌, map, refl, sym, subst, append_assoc, ◌⊎◌, inl, inr, append-nil, RuleFaultKind, LeftOut, Token, Line, Word, IsFlagWord, AreFlagWords, RepeatsFlag}
 
 abbrev pub NoFlag : Token → Type 0
 NoFlag token = (word : List ℕ) → IsFlagWord word → token ≡ Word word → ⊥

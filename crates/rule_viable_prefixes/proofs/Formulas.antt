@@ -1,45 +1,12 @@
 -- What the parsers of formulas do on a line.
-use Rattle.std.proofs.Common.{◌≡◌, ℕ, zero, suc, ◌+◌, ◌≤◌, Bool, true, false, List, [], ◌∷◌, ◌++◌, length, Option, Some, None, Result, Ok, Err, refl, sym, ap, subst, ◌∙◌, append_assoc, inl, inr, arith}
-use Rattle.std.specs.Prelude.{codes}
-use Rattle.std.specs.List.{list_any}
-use Rattle.std.specs.Str.{bytes_eq}
-use Rattle.std.proofs.lemmas.List.{append-nil, append_cancel_right}
-use Rattle.ops.specs.declared.comparison.Pred.{Pred}
-use Rattle.ops.specs.declared.comparison.Pred.TheVariants.{Eq}
-use Rattle.ops.proofs.KeywordLemmas.{same_word}
-use Rattle.scan.specs.RuleTokens.{is_constant}
-use Rattle.rule_tokens.specs.declared.fault.RuleFaultKind.TheVariants.{Syntax, TooMany}
-use Rattle.rule_tokens.specs.RuleFaults.{RuleFault}
-use Rattle.rule_tokens.specs.Steps.{◌>>=◌}
-use Rattle.rule_tokens.specs.Numbers.{literal_value}
-use Rattle.rule_tokens.specs.Parts.{Part, Is, ◌⨾◌}
-use Rattle.rule_tokens.specs.PartReaders.{Read, fault, unexpected}
-use Rattle.rule_tokens.specs.Tokens.{Token, Line, Register, Word, Number, Mark}
-use Rattle.rule_tokens.proofs.Ends.{EndsLine}
-use Rattle.rule_tokens.proofs.Steps.{bound}
-use Rattle.rule_terms.specs.declared.formula_word.Opening.{Opening}
-use Rattle.rule_terms.specs.declared.formula_word.Opening.TheVariants.{Encloses, Tests, Compares}
-use Rattle.rule_terms.specs.declared.formula_word.Predicate.{Predicate}
+use Rattle.rule_viable_prefixes.proofs.Common.{◌≡◌, ℕ, zero, suc, ◌+◌, ◌≤◌, Bool, true, false, List, [], ◌∷◌, ◌++◌, length, Option, Some, None, Result, Ok, Err, refl, sym, ap, subst, ◌∙◌, append_assoc, inl, inr, arith, codes, list_any, bytes_eq, append-nil, append_cancel_right, Pred, Eq, same_word, is_constant, Syntax, TooMany, RuleFault, ◌>>=◌, literal_value, Part, Is, ◌⨾◌, Read, fault, unexpected, Token, Line, Register, Word, Number, Mark, EndsLine, bound, Opening, Encloses, Tests, Compares, Predicate, RawFormula, HasOneUse, And, Or, RawNode, opens_formula, comparison_at, compares_at, tests_at, one_use_at, joins, members_of, more_alternatives, alternatives_of, turns_at, encloses_at, member_at, outer_member_at, asks_one_use, or_alternatives, formula_at, comparison_mark, comparison_in, predicate_in, predicate_word, predicate_node, Standing, Outermost, Level, Member, Members, Alternatives, SpellsFormula, SpellsWholeFormula, compares, tests, turns, encloses, member, both, members, either, last_place, SpellsWholeTerm, leaf, parenthesised, opening_in, start_at, mark_at, primary_at, term_at, loosest, comparison_at-is, opening_at-is, member_at-is, members_of-is, alternatives_of-is, outer_member_at-is, joins_shortens, stands_within, stands_outermost, term_plain, formula_says, term_compares, within_read, member-turns, member-encloses, member-tests, member-compares, turns-too_deep, encloses-too_deep, spells_some, term_at-is, mark_at-is, Fitting, IsNoun, IsFlagWord, Limits}
 use Rattle.rule_terms.specs.declared.place.TermPlace.TheVariants.{Constant}
-use Rattle.rule_terms.specs.declared.raw.RawFormula.{RawFormula}
-use Rattle.rule_terms.specs.declared.raw.RawFormula.TheVariants.{Compare, HasOneUse, Not, And, Or}
-use Rattle.rule_terms.specs.declared.raw.RawNode.{RawNode}
+use Rattle.rule_terms.specs.declared.raw.RawFormula.TheVariants.{Compare, Not}
 use Rattle.rule_terms.specs.declared.raw.RawNode.TheVariants as raw_nodes
 use Rattle.rule_terms.specs.Chains.{Reader as Behind}
-use Rattle.rule_terms.specs.FormulaReaders.{opens_formula, opening_at, comparison_at, compares_at, tests_at, register_at, one_use_at, joins, members_of, more_alternatives, alternatives_of, turns_at, encloses_at, member_at, outer_member_at, asks_one_use, or_alternatives, formula_at}
-use Rattle.rule_terms.specs.FormulaKeywords.{comparison_mark, comparison_in, predicate_in, predicate_word, predicate_node}
-use Rattle.rule_terms.specs.Formulas.{Standing, Outermost, Within, Level, Member, Members, Alternatives, SpellsFormula, SpellsWholeFormula, compares, tests, one_use, turns, encloses, member, both, members, either}
-use Rattle.rule_terms.specs.Grammar.{last_place, SpellsWholeTerm, leaf, parenthesised}
-use Rattle.rule_terms.specs.TermReaders.{opening_in, start_at, mark_at, primary_at, term_at}
-use Rattle.rule_terms.specs.Keywords.{loosest}
-use Rattle.rule_terms.proofs.FormulaReadings.{comparison_at-is, opening_at-is, member_at-is, members_of-is, alternatives_of-is, outer_member_at-is, joins_shortens, stands_within, stands_outermost}
-use Rattle.rule_terms.proofs.FormulaSpellings.{term_plain, formula_says, term_compares, within_read}
-use Rattle.rule_terms.proofs.FormulaSteps.{member-turns, member-encloses, member-tests, member-compares, turns-too_deep, encloses-too_deep}
-use Rattle.rule_terms.proofs.Readings.{spells_some}
-use Rattle.rule_terms.proofs.Spellings.{term_at-is}
-use Rattle.rule_terms.proofs.Starts.{mark_at-is}
+use Rattle.rule_terms.specs.FormulaReaders.{opening_at, register_at}
+use Rattle.rule_terms.specs.Formulas.{Within, one_use}
 use Rattle.rule_viable_prefixes.proofs.Reasons as kinds
-use Rattle.rule_viable_prefixes.specs.Misfits.{Fitting, IsNoun, IsFlagWord}
 use Rattle.rule_viable_prefixes.proofs.Reasons.{Nests, IsTooDeep}
 use Rattle.rule_viable_prefixes.proofs.Nouns.{constant_noun, not_in_formulas, predicate_other, one_use_other}
 use Rattle.rule_viable_prefixes.proofs.Outcomes.{lack_wider, Lack, NoNoun, Takes, Alike, same, ended, NoLine, Spelling, Sample, pair, bare, Reader, IsErr, IsErrOn, Outcome, Good, then, passed, led, led_in, opened, opens_one, alike_as, widen, Branch, takes, refuses, by_token, with_none, widened, on_line, then_done, own_last}
@@ -48,7 +15,6 @@ use Rattle.rule_viable_prefixes.proofs.FlagRuns.{IsNew, new_behind}
 use Rattle.rule_viable_prefixes.proofs.Parentheses.{word_and_equals, seen_again, unseen_again, shorter, longer, cut, opens_at_end, closes, formula_seen, BeginsTerm, loosened, not_both, term_instead, Enclosed, parenthesis_begins}
 use Rattle.rule_viable_prefixes.proofs.Parts.{Spelled, then_seq, ends_alike, refused_token, then_end, chain_good}
 use Rattle.rule_viable_prefixes.proofs.Terms.{entered, Named, is_short, is_long, named, mark_good, IsTerm, Term, term_good, Closed, parenthesis_missed}
-use Rattle.rule_tokens.specs.Limits.{Limits}
 use Rattle.rule_viable_prefixes.proofs.Roomy.{roomy}
 
 module _ (spare_bytes deepest spare_statements : ℕ) where

@@ -1,15 +1,5 @@
 -- The parser within narrower and wider limits.
-use Rattle.std.proofs.Common.{◌≡◌, ℕ, List, ◌++◌, Result, Ok, Err, sym, ◌∙◌, ◌⊎◌, inl, inr}
-use Rattle.rule_tokens.specs.declared.fault.RuleFaultKind.TheVariants.{TooMany}
-use Rattle.rule_tokens.specs.Limits.{Limits, AreWithin}
-use Rattle.rule_tokens.specs.PartReaders.{fault}
-use Rattle.rule_tokens.specs.RuleFaults.{RuleFault}
-use Rattle.rule_tokens.specs.Tokens.{Token}
-use Rattle.rule_parse.specs.declared.raw.RawRule.{RawRule}
-use Rattle.rule_parse.specs.Grammar.{SpellsFile}
-use Rattle.rule_parse.specs.RuleReaders.{all_rules}
-use Rattle.rule_parse.proofs.Files.{all_rules-is, all_rules-of}
-use Rattle.rule_viable_prefixes.specs.WiderLimits.{WiderLimitsChangeTooManyAlone}
+use Rattle.rule_viable_prefixes.proofs.Common.{◌≡◌, ℕ, List, ◌++◌, Result, Ok, Err, sym, ◌∙◌, ◌⊎◌, inl, inr, TooMany, Limits, AreWithin, fault, RuleFault, Token, RawRule, SpellsFile, all_rules, all_rules-is, all_rules-of, WiderLimitsChangeTooManyAlone}
 use Rattle.rule_viable_prefixes.proofs.FitsWithin.{FitsWithin}
 use Rattle.rule_viable_prefixes.proofs.Wider.{Below, same_answer, too_many}
 use Rattle.rule_viable_prefixes.proofs.WiderRules.{all_rules_below}

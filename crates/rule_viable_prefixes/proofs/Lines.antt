@@ -1,34 +1,7 @@
 -- What the parsers of the parts of a rule do, line by line.
-use Rattle.std.proofs.Common.{◌≡◌, ℕ, zero, suc, ◌≤◌, Bool, true, false, List, [], ◌∷◌, ◌++◌, length, Option, Some, None, Result, Ok, Err, refl, sym, ap, subst, ◌∙◌, inl, inr, arith}
-use Rattle.std.specs.Prelude.{drop, codes}
-use Rattle.std.specs.Str.{bytes_eq}
-use Rattle.std.proofs.lemmas.List.{append-nil}
-use Rattle.ops.proofs.KeywordLemmas.{same_word}
-use Rattle.ops.specs.Flags.{no_flags, flags_of, flags_of_cast, flags_of_icmp}
-use Rattle.rule_tokens.specs.declared.fault.RuleFaultKind.TheVariants.{Syntax, TooMany}
-use Rattle.rule_tokens.specs.RuleFaults.{RuleFault}
-use Rattle.rule_tokens.specs.Steps.{◌>>=◌}
-use Rattle.rule_tokens.specs.Parts.{Part, ◌⨾◌, Maybe}
-use Rattle.rule_tokens.specs.PartReaders.{fault, unexpected, name_within, type_at, line_end}
-use Rattle.rule_tokens.specs.Tokens.{Token, Line, Head, Name, Register, Word, Arrow}
-use Rattle.rule_tokens.proofs.Ends.{EndsLine, name_within-of}
-use Rattle.rule_tokens.proofs.Steps.{bound, read_as}
-use Rattle.rule_terms.specs.declared.place.TermPlace.TheVariants.{Witness}
-use Rattle.rule_terms.specs.declared.raw.RawNode.{RawNode}
-use Rattle.rule_terms.specs.Keywords.{loosest}
-use Rattle.rule_terms.specs.TermReaders.{mark_at}
-use Rattle.rule_terms.specs.FormulaReaders.{members_of, outer_member_at, asks_one_use, or_alternatives, formula_at}
-use Rattle.rule_parse.specs.declared.half.Half.{Half}
-use Rattle.rule_parse.specs.declared.half.Half.TheVariants.{Source, Target}
-use Rattle.rule_parse.specs.declared.raw.RawStatement.{RawStatement}
-use Rattle.rule_parse.specs.declared.raw.RawPrecondition.{RawPrecondition}
-use Rattle.rule_parse.specs.declared.raw.RawWitness.{RawWitness}
-use Rattle.rule_parse.specs.declared.word.Operation.{Operation}
+use Rattle.rule_viable_prefixes.proofs.Common.{◌≡◌, ℕ, zero, suc, ◌≤◌, Bool, true, false, List, [], ◌∷◌, ◌++◌, length, Option, Some, None, Result, Ok, Err, refl, sym, ap, subst, ◌∙◌, inl, inr, arith, drop, codes, bytes_eq, append-nil, same_word, no_flags, flags_of, flags_of_cast, flags_of_icmp, Syntax, TooMany, RuleFault, ◌>>=◌, Part, ◌⨾◌, Maybe, fault, unexpected, name_within, type_at, line_end, Token, Line, Head, Name, Register, Word, Arrow, EndsLine, name_within-of, bound, read_as, Witness, RawNode, loosest, mark_at, members_of, outer_member_at, asks_one_use, or_alternatives, formula_at, Half, Source, Target, RawStatement, RawPrecondition, RawWitness, Operation, SpellsStatement, SpellsStatements, SpellsHalf, SpellsPrecondition, SpellsExpression, SpellsMoreExpressions, SpellsExpressions, SpellsWitness, typed_at, to_at, flags_at, pair_at, binary_at, pred_at, compare_at, truth_at, unary_at, select_at, convert_at, freeze_at, copy_at, operation_at, next_operation, operation_or_other, op_at, statement_at, statements_at, name_text, name_at, behind_precondition, precondition_at, expression_at, more_expressions, expressions_at, behind_witness, witness_at, source_at, arrow_at, target_at, expression_shortens, name_at-is, Version, Limits}
 use Rattle.rule_parse.specs.declared.word.Operation.TheVariants as operations
-use Rattle.rule_parse.specs.Grammar.{SpellsStatement, SpellsStatements, SpellsHalf, SpellsPrecondition, SpellsExpression, SpellsMoreExpressions, SpellsExpressions, SpellsWitness}
-use Rattle.rule_parse.specs.RuleReaders.{typed_at, operand_at, to_at, flags_at, pair_at, binary_at, pred_at, compare_at, truth_at, unary_at, select_at, convert_at, freeze_at, copy_at, operation_at, next_operation, operation_or_other, op_at, statement_at, statements_at, name_text, name_at, behind_precondition, precondition_at, expression_at, more_expressions, expressions_at, behind_witness, witness_at, source_at, arrow_at, target_at}
-use Rattle.rule_parse.proofs.Expressions.{expression_shortens}
-use Rattle.rule_parse.proofs.Readings.{name_at-is}
+use Rattle.rule_parse.specs.RuleReaders.{operand_at}
 use Rattle.rule_viable_prefixes.proofs.Formulas.{IsWholeFormula, formula_good}
 use Rattle.rule_viable_prefixes.proofs.Reasons as kinds
 use Rattle.rule_viable_prefixes.proofs.Reasons.{openings_on_line, HalfEnds}
@@ -39,8 +12,6 @@ use Rattle.rule_viable_prefixes.proofs.Parts.{Spelled, then_end, chain_good, lin
 use Rattle.rule_viable_prefixes.proofs.Rules.{Completes, GoesOn, Opens, Verdict, verdict_both, on_a_line, verdict_wider}
 use Rattle.rule_viable_prefixes.proofs.Statements.{IsAssigned, statement_good}
 use Rattle.rule_viable_prefixes.proofs.Terms.{Named, is_short, is_long, named, Term, term_good}
-use Rattle.rule_tokens.specs.declared.version.Version.{Version}
-use Rattle.rule_tokens.specs.Limits.{Limits}
 use Rattle.rule_viable_prefixes.proofs.Roomy.{roomy}
 
 -- behind a rule's name its line ends

@@ -1,41 +1,16 @@
 -- What the parsers of formulas read of tokens with the sentinel.
-use Rattle.std.proofs.Common.{◌≡◌, ℕ, zero, suc, ◌+◌, ◌<◌, ◌≤◌, Bool, true, false, cond, List, [], ◌∷◌, ◌++◌, length, Option, Some, None, Result, Ok, Err, refl, sym, ap, subst, ◌∙◌, arith}
-use Rattle.std.specs.Prelude.{codes, drop}
-use Rattle.std.specs.List.{list_any}
-use Rattle.std.specs.Str.{bytes_eq}
-use Rattle.ops.specs.declared.comparison.Pred.{Pred}
+use Rattle.rule_viable_prefixes.proofs.Common.{◌≡◌, ℕ, zero, suc, ◌+◌, ◌<◌, ◌≤◌, Bool, true, false, cond, List, [], ◌∷◌, ◌++◌, length, Option, Some, None, Result, Ok, Err, refl, sym, ap, subst, ◌∙◌, arith, codes, drop, list_any, bytes_eq, Pred, same_word, Refused, is_constant, is_choice, ends_primary, RuleFaultKind, TooMany, Limits, fault, unexpected, line_end, RuleFault, ◌>>=◌, Token, Line, Name, Register, Word, Mark, Excess, EndsLine, Opening, Turns, Encloses, Tests, Compares, Predicate, IsPowerOfTwo, IsSignBit, RawFormula, RawNode, HasOneUse, And, Or, next_is, comparison_mark, comparison_in, predicate_word, predicate_node, sign_of, opens_behind, opens_formula, comparison_or_fault, comparison_at, compares_at, deeper, tests_at, one_use_at, joins, members_of, alternatives_of, turns_at, encloses_at, member_at, outer_member_at, asks_one_use, or_alternatives, formula_at, last_place, mark_at, term_at, StartsSo, comparison_at-is, opening_at-is, member_at-is, outer_member_at-is, reads_shorten, next_is-is, Role, Negates, Joins, mark_role, ends_operand, without_signs, without_negations, closed, open_with}
 use Rattle.ops.specs.declared.comparison.Pred.TheVariants as preds
-use Rattle.ops.proofs.KeywordLemmas.{same_word}
-use Rattle.refusal.specs.declared.refusal.Refusal.TheVariants.{Refused}
 use Rattle.scan.specs.declared.rule_token.RuleKind.TheVariants as kinds
-use Rattle.scan.specs.RuleTokens.{is_constant, is_choice, ends_primary}
-use Rattle.rule_tokens.specs.declared.fault.RuleFaultKind.{RuleFaultKind}
-use Rattle.rule_tokens.specs.declared.fault.RuleFaultKind.TheVariants.{TooMany}
-use Rattle.rule_tokens.specs.Limits.{Limits}
-use Rattle.rule_tokens.specs.PartReaders.{fault, unexpected, line_end}
-use Rattle.rule_tokens.specs.RuleFaults.{RuleFault}
-use Rattle.rule_tokens.specs.Steps.{◌>>=◌}
-use Rattle.rule_tokens.specs.Tokens.{Token, Line, Name, Register, Word, Mark, Excess}
-use Rattle.rule_tokens.proofs.Ends.{EndsLine}
-use Rattle.rule_terms.specs.declared.formula_word.Opening.{Opening}
-use Rattle.rule_terms.specs.declared.formula_word.Opening.TheVariants.{Turns, Encloses, Tests, Compares}
-use Rattle.rule_terms.specs.declared.formula_word.Predicate.{Predicate}
-use Rattle.rule_terms.specs.declared.formula_word.Predicate.TheVariants.{IsPowerOfTwo, IsSignBit}
 use Rattle.rule_terms.specs.declared.formula_word.Sign.{Sign as Seen}
 use Rattle.rule_terms.specs.declared.formula_word.Sign.TheVariants as signs
 use Rattle.rule_terms.specs.declared.place.TermPlace.TheVariants.{Constant}
-use Rattle.rule_terms.specs.declared.raw.RawFormula.{RawFormula}
-use Rattle.rule_terms.specs.declared.raw.RawNode.{RawNode}
-use Rattle.rule_terms.specs.declared.raw.RawFormula.TheVariants.{Compare, HasOneUse, Not, And, Or}
-use Rattle.rule_terms.specs.Chains.{Reader, next_is, chain_at}
-use Rattle.rule_terms.specs.FormulaKeywords.{comparison_mark, comparison_in, predicate_word, predicate_node}
+use Rattle.rule_terms.specs.declared.raw.RawFormula.TheVariants.{Compare, Not}
+use Rattle.rule_terms.specs.Chains.{Reader, chain_at}
 use Rattle.rule_terms.specs.Formulas.{Within}
-use Rattle.rule_terms.specs.FormulaReaders.{sign_of, opens_behind, opens_formula, opening_at, comparison_or_fault, comparison_at, compares_at, deeper, tests_at, register_at, one_use_at, joins, members_of, alternatives_of, turns_at, encloses_at, begun_at, too_deep as too_deep_at, member_at, outer_member_at, asks_one_use, or_alternatives, formula_at}
-use Rattle.rule_terms.specs.Grammar.{last_place}
-use Rattle.rule_terms.specs.TermReaders.{mark_at, term_at}
-use Rattle.rule_terms.proofs.FormulaReadings.{StartsSo, comparison_at-is, opening_at-is, member_at-is, outer_member_at-is, reads_shorten}
-use Rattle.rule_terms.proofs.ChainLemmas.{Shortens, next_is-is, chain-more, chain-fault, chain-done}
-use Rattle.rule_viable_prefixes.specs.Passed.{Role, Opens, Negates, Joins, Other, mark_role, ends_operand, without_signs, without_negations, closed, open_with}
+use Rattle.rule_terms.specs.FormulaReaders.{opening_at, register_at, begun_at, too_deep as too_deep_at}
+use Rattle.rule_terms.proofs.ChainLemmas.{Shortens, chain-more, chain-fault, chain-done}
+use Rattle.rule_viable_prefixes.specs.Passed.{Opens, Other}
 use Rattle.rule_viable_prefixes.proofs.Marks.{IsMark, bad, excess, Marking, State, step, bytes, levels, half, Marked, none, cut, over, over_name, later, Next, passes, passes_name, goes_on, First, ends, stops, token, first, Same, read, failed, told, stands, Meets, refused, left, same_bind, meets_bind, mark_told, cut_told, mark_refused, unexpected_both, syntax_both}
 use Rattle.rule_viable_prefixes.proofs.MarkedTerms.{at, NoStand, on, mark_met, Opened, inside, too_deep, open_same, opened, NameRead, too_long, fine, register_read, word_other, term_same, term_refuses, close_same, mark_same}
 

@@ -1,50 +1,19 @@
 -- What the parsers of statements read of tokens with the sentinel.
-use Rattle.std.proofs.Common.{◌≡◌, ℕ, zero, suc, ◌<◌, ◌≤◌, Bool, true, false, cond, List, [], ◌∷◌, length, Option, Some, None, Result, Ok, Err, refl, sym, ap, subst, ◌∙◌, ◌⊎◌, inl, inr, arith}
-use Rattle.std.specs.Prelude.{codes}
-use Rattle.std.specs.Str.{bytes_eq}
+use Rattle.rule_viable_prefixes.proofs.Common.{◌≡◌, ℕ, zero, suc, ◌<◌, ◌≤◌, Bool, true, false, cond, List, [], ◌∷◌, length, Option, Some, None, Result, Ok, Err, refl, sym, ap, subst, ◌∙◌, ◌⊎◌, inl, inr, arith, codes, bytes_eq, Flags, Pred, Cast, no_flags, flags_of, flags_of_cast, flags_of_icmp, Flag, opcode_keyword, predicate_keyword, pred_in, flag_in, flag_keyword, has_flag, with_flag, same_word, pred_in-is, flag_in-is, is_digit, is_constant, is_choice, ends_primary, RuleFaultKind, Syntax, TooMany, Version, Limits, literal_value, IsWrittenType, type_in, fault, unexpected, left_out, or_left_out, name_within, type_at, type_or_word, maybe_type, line_end, RuleFault, ◌>>=◌, Token, Register, Word, Number, Mark, Excess, type_in-is, Half, Source, Target, RawArgument, RawOp, Binary, Unary, Select, Convert, Freeze, Copy, RawOperand, Operation, operation_word, is_apart, token_with, operation_in, is_truth_flag, truth_flag, source_word_in, argument_of, known_or_misplaced, source_word, term_argument_at, argument_at, typed_at, to_at, flag_or_end, flags_at, pair_at, binary_at, pred_at, compare_at, is_truth_next, truth_at, unary_at, select_at, convert_at, freeze_at, copy_at, operation_at, other_at, next_operation, operation_or_other, op_at, operation_in-is, truth_flag-is, mark_at}
 use Rattle.ops.specs.declared.opcode.Opcode.{Opcode as Opcodes}
 use Rattle.ops.specs.declared.opcode.Opcode.TheVariants as opcodes
 use Rattle.ops.specs.declared.opcode.Unary.{Unary as Intrinsic}
 use Rattle.ops.specs.declared.opcode.Unary.TheVariants as intrinsics
-use Rattle.ops.specs.declared.opcode.Flags.{Flags}
-use Rattle.ops.specs.declared.comparison.Pred.{Pred}
 use Rattle.ops.specs.declared.comparison.Pred.TheVariants as preds
-use Rattle.ops.specs.declared.conversion.Cast.{Cast}
 use Rattle.ops.specs.declared.conversion.Cast.TheVariants as casts
-use Rattle.ops.specs.Flags.{no_flags, flags_of, flags_of_cast, flags_of_icmp}
-use Rattle.ops.specs.declared.keywords.flag.Flag.{Flag}
 use Rattle.ops.specs.declared.keywords.flag.Flag.TheVariants as flags
-use Rattle.ops.specs.Keywords.{opcode_keyword, predicate_keyword, pred_in}
-use Rattle.ops.specs.FlagKeywords.{flag_in, flag_keyword, has_flag, with_flag}
-use Rattle.ops.proofs.KeywordLemmas.{same_word, pred_in-is}
-use Rattle.ops.proofs.FlagKeywordLemmas.{flag_in-is}
-use Rattle.scan.specs.Bytes.{is_digit}
 use Rattle.scan.specs.declared.rule_token.RuleKind.TheVariants as kinds
-use Rattle.scan.specs.RuleTokens.{is_constant, is_choice, ends_primary}
-use Rattle.rule_tokens.specs.declared.fault.RuleFaultKind.{RuleFaultKind}
-use Rattle.rule_tokens.specs.declared.fault.RuleFaultKind.TheVariants.{Syntax, TooMany}
-use Rattle.rule_tokens.specs.declared.version.Version.{Version}
-use Rattle.rule_tokens.specs.Limits.{Limits}
-use Rattle.rule_tokens.specs.Numbers.{literal_value, IsWrittenType, type_in}
-use Rattle.rule_tokens.specs.PartReaders.{fault, unexpected, left_out, or_left_out, name_within, type_at, type_or_word, maybe_type, line_end}
-use Rattle.rule_tokens.specs.RuleFaults.{RuleFault}
-use Rattle.rule_tokens.specs.Steps.{◌>>=◌}
-use Rattle.rule_tokens.specs.Tokens.{Token, Register, Word, Opcode, Number, Mark, Excess}
-use Rattle.rule_tokens.proofs.Types.{type_in-is}
-use Rattle.rule_parse.specs.declared.half.Half.{Half}
-use Rattle.rule_parse.specs.declared.half.Half.TheVariants.{Source, Target}
-use Rattle.rule_parse.specs.declared.raw.RawArgument.{RawArgument}
+use Rattle.rule_tokens.specs.Tokens.{Opcode}
 use Rattle.rule_parse.specs.declared.raw.RawArgument.TheVariants as arguments
-use Rattle.rule_parse.specs.declared.raw.RawOp.{RawOp}
-use Rattle.rule_parse.specs.declared.raw.RawOp.TheVariants.{Binary, Compare, Unary, Select, Convert, Freeze, Copy}
-use Rattle.rule_parse.specs.declared.raw.RawOperand.{RawOperand}
-use Rattle.rule_parse.specs.declared.word.Operation.{Operation}
+use Rattle.rule_parse.specs.declared.raw.RawOp.TheVariants.{Compare}
 use Rattle.rule_parse.specs.declared.word.Operation.TheVariants as operations
-use Rattle.rule_parse.specs.Keywords.{operation_word, is_apart, token_with, operation_in, is_truth_flag, truth_flag, source_word_in, argument_of}
-use Rattle.rule_parse.specs.RuleReaders.{known_or_misplaced, source_word, term_argument_at, argument_at, typed_at, operand_at, to_at, flag_or_end, flags_at, pair_at, binary_at, pred_at, compare_at, is_truth_next, truth_at, unary_at, select_at, convert_at, freeze_at, copy_at, operation_at, other_at, next_operation, operation_or_other, op_at}
-use Rattle.rule_parse.proofs.Pieces.{operation_in-is, truth_flag-is}
+use Rattle.rule_parse.specs.RuleReaders.{operand_at}
 use Rattle.rule_terms.specs.declared.place.TermPlace.TheVariants.{Constant}
-use Rattle.rule_terms.specs.TermReaders.{mark_at}
 use Rattle.rule_viable_prefixes.proofs.Marks.{IsMark, bad, excess, Marking, State, Marked, Next, First, ends, stops, token, first, Same, read, told, stands, Meets, left, same_bind, meets_bind, cut_told, unexpected_both, misplaced_both, syntax_both}
 use Rattle.rule_viable_prefixes.proofs.MarkedTerms.{at, NoStand, IsOperand, long, short, on, operand, mark_met, mark_same, NameRead, too_long, fine, register_read, word_read, word_other, constant_operand, term_same, term_refuses}
 use Rattle.rule_viable_prefixes.proofs.MarkedFormulas.{Ended, line_end_same, line_end_met}

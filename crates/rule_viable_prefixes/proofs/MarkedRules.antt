@@ -1,34 +1,6 @@
 -- What the parser of rule files reads of tokens with the sentinel.
-use Rattle.std.proofs.Common.{◌≡◌, ◌≢◌, ℕ, zero, suc, ◌+◌, ◌<◌, ◌≤◌, Bool, true, false, cond, List, [], ◌∷◌, ◌++◌, length, Option, Some, None, Result, Ok, Err, refl, ap, subst, ◌∙◌, ◌⊎◌, inl, inr, arith}
-use Rattle.std.specs.Prelude.{codes}
-use Rattle.std.specs.Str.{bytes_eq}
-use Rattle.rule_tokens.specs.declared.fault.RuleFaultKind.{RuleFaultKind}
-use Rattle.rule_tokens.specs.declared.fault.RuleFaultKind.TheVariants.{Syntax, TooMany}
-use Rattle.rule_tokens.specs.declared.version.Version.{Version}
-use Rattle.rule_tokens.specs.declared.version.Version.TheVariants.{One}
-use Rattle.rule_tokens.specs.Limits.{Limits}
-use Rattle.rule_tokens.specs.PartReaders.{fault, unexpected, or_left_out, name_within, line_end}
-use Rattle.rule_tokens.specs.RuleFaults.{RuleFault}
-use Rattle.rule_tokens.specs.Steps.{◌>>=◌}
-use Rattle.rule_tokens.specs.Tokens.{Token, Line, Head, Name, Register, Number, Arrow, Mark, Excess}
-use Rattle.rule_tokens.specs.Versions.{version_in}
-use Rattle.rule_tokens.proofs.Ends.{EndsLine}
-use Rattle.rule_parse.specs.declared.half.Half.{Half}
-use Rattle.rule_parse.specs.declared.half.Half.TheVariants.{Source, Target}
-use Rattle.rule_parse.specs.declared.raw.RawRule.{RawRule}
-use Rattle.rule_parse.specs.declared.raw.RawStatement.{RawStatement}
-use Rattle.rule_parse.specs.declared.raw.RawPrecondition.{RawPrecondition}
-use Rattle.rule_parse.specs.declared.raw.RawWitness.{RawWitness}
-use Rattle.rule_parse.specs.declared.raw.RawOp.{RawOp}
-use Rattle.rule_parse.specs.RuleReaders.{statement_at, statements_at, unexpected_line, name_text, name_at, behind_precondition, precondition_at, expression_at, expressions_at, behind_witness, witness_at, source_at, arrow_at, target_at, rule_at, rules_at, version_number_at, version_at, rules_of, all_rules}
-use Rattle.rule_parse.proofs.Expressions.{expression_shortens}
-use Rattle.rule_parse.proofs.Readings.{rule_at-shorter}
-use Rattle.rule_terms.specs.declared.place.TermPlace.TheVariants.{Witness}
-use Rattle.rule_terms.specs.declared.raw.RawNode.{RawNode}
-use Rattle.rule_terms.specs.declared.raw.RawFormula.{RawFormula}
+use Rattle.rule_viable_prefixes.proofs.Common.{◌≡◌, ◌≢◌, ℕ, zero, suc, ◌+◌, ◌<◌, ◌≤◌, Bool, true, false, cond, List, [], ◌∷◌, ◌++◌, length, Option, Some, None, Result, Ok, Err, refl, ap, subst, ◌∙◌, ◌⊎◌, inl, inr, arith, codes, bytes_eq, RuleFaultKind, Syntax, TooMany, Version, One, Limits, fault, unexpected, or_left_out, name_within, line_end, RuleFault, ◌>>=◌, Token, Line, Head, Name, Register, Number, Arrow, Mark, Excess, version_in, EndsLine, Half, Source, Target, RawRule, RawStatement, RawPrecondition, RawWitness, RawOp, statement_at, statements_at, unexpected_line, name_text, name_at, behind_precondition, precondition_at, expression_at, expressions_at, behind_witness, witness_at, source_at, arrow_at, target_at, rule_at, rules_at, version_number_at, version_at, rules_of, all_rules, expression_shortens, rule_at-shorter, Witness, RawNode, RawFormula, mark_at, Role}
 use Rattle.rule_terms.specs.Chains.{chain_at}
-use Rattle.rule_terms.specs.TermReaders.{mark_at}
-use Rattle.rule_viable_prefixes.specs.Passed.{Role}
 use Rattle.rule_viable_prefixes.proofs.Marks.{IsMark, bad, excess, Marking, State, inline, bytes, levels, half, Marked, Next, passes, passes_name, goes_on, First, ends, stops, token, first, Same, read, failed, told, stands, Meets, refused, left, same_bind, meets_bind, mark_told, cut_told, unexpected_both, misplaced_both, syntax_both, short_name, long_name}
 use Rattle.rule_viable_prefixes.proofs.MarkedTerms.{NoStand, IsOperand, long, short, on, operand, mark_met, mark_same, term_same}
 use Rattle.rule_viable_prefixes.proofs.MarkedFormulas.{Leaves, Stops, chain_same, chain_left, Ended, line_end_same, line_end_met, formula_same}

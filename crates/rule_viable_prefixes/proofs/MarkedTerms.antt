@@ -1,37 +1,16 @@
 -- What the parsers of terms read of tokens with the sentinel.
-use Rattle.std.proofs.Common.{◌≡◌, ℕ, zero, suc, ◌+◌, ◌<◌, ◌≤◌, Bool, true, false, cond, eqb, List, [], ◌∷◌, ◌++◌, length, Option, Some, None, Result, Ok, Err, refl, sym, ap, subst, ◌∙◌, arith}
-use Rattle.std.specs.Prelude.{◌||◌, codes}
-use Rattle.std.specs.Str.{bytes_eq}
+use Rattle.rule_viable_prefixes.proofs.Common.{◌≡◌, ℕ, zero, suc, ◌+◌, ◌<◌, ◌≤◌, Bool, true, false, cond, eqb, List, [], ◌∷◌, ◌++◌, length, Option, Some, None, Result, Ok, Err, refl, sym, ap, subst, ◌∙◌, arith, ◌||◌, codes, bytes_eq, same_word, Refused, Function, Negate, Log2, Abs, is_constant, is_choice, ends_primary, RuleFaultKind, Syntax, TooMany, Limits, literal_value, fault, unexpected, name_within, RuleFault, ◌>>=◌, Token, Register, Word, Number, Mark, Excess, TermPlace, RawNode, Start, Leaf, Prefix, Parenthesis, Meaning, operator_mark, operator_in, level_of, loosest, IsCalled, IsChoice, meaning_in, mark_at, register_in, word_at, opening_in, start_at, of_level, operator_at, join, whole_chain_at, behind_at, add_unary, inside_at, measured_at, shallow_in, primary_at, term_at, operator_at-is, operator_at-of, meaning_in-is, operand_shorter, name_bytes, Role, mark_role, ends_operand, without_signs, open_with}
 use Rattle.ops.specs.declared.opcode.Opcode.{Opcode}
 use Rattle.ops.specs.declared.opcode.Opcode.TheVariants as opcodes
-use Rattle.ops.proofs.KeywordLemmas.{same_word}
-use Rattle.refusal.specs.declared.refusal.Refusal.TheVariants.{Refused}
-use Rattle.rule_core.specs.declared.rule.Function.{Function}
-use Rattle.rule_core.specs.declared.rule.Function.TheVariants.{Negate, Not, Log2, Abs}
+use Rattle.rule_core.specs.declared.rule.Function.TheVariants.{Not}
 use Rattle.scan.specs.declared.rule_token.RuleKind.TheVariants as kinds
-use Rattle.scan.specs.RuleTokens.{is_constant, is_choice, ends_primary}
-use Rattle.rule_tokens.specs.declared.fault.RuleFaultKind.{RuleFaultKind}
-use Rattle.rule_tokens.specs.declared.fault.RuleFaultKind.TheVariants.{Syntax, TooMany}
-use Rattle.rule_tokens.specs.Limits.{Limits}
-use Rattle.rule_tokens.specs.Numbers.{literal_value}
-use Rattle.rule_tokens.specs.PartReaders.{fault, unexpected, name_within}
-use Rattle.rule_tokens.specs.RuleFaults.{RuleFault}
-use Rattle.rule_tokens.specs.Steps.{◌>>=◌}
-use Rattle.rule_tokens.specs.Tokens.{Token, Register, Word, Number, Mark, Excess}
-use Rattle.rule_terms.specs.declared.place.TermPlace.{TermPlace}
 use Rattle.rule_terms.specs.declared.place.TermPlace.TheVariants as places
-use Rattle.rule_terms.specs.declared.raw.RawNode.{RawNode}
 use Rattle.rule_terms.specs.declared.raw.RawNode.TheVariants as raw_nodes
-use Rattle.rule_terms.specs.declared.start.Start.{Start}
-use Rattle.rule_terms.specs.declared.start.Start.TheVariants.{Leaf, Prefix, Parenthesis, Call, Width}
-use Rattle.rule_terms.specs.declared.word.Meaning.{Meaning}
+use Rattle.rule_terms.specs.declared.start.Start.TheVariants.{Call, Width}
 use Rattle.rule_terms.specs.declared.word.Meaning.TheVariants as meanings
-use Rattle.rule_terms.specs.Keywords.{operator_mark, operator_in, level_of, loosest, IsCalled, IsChoice, meaning_in}
-use Rattle.rule_terms.specs.TermReaders.{Reader, mark_at, register_in, word_at, opening_in, opening_at, start_at, of_level, operator_at, join, whole_chain_at, behind_at, operand_at, add_unary, inside_at, measured_at, begun_at, shallow_in, primary_at, term_at}
+use Rattle.rule_terms.specs.TermReaders.{Reader, opening_at, operand_at, begun_at}
 use Rattle.rule_terms.proofs.Chains.{Shortens, chain-more, chain-fault, chain-done}
-use Rattle.rule_terms.proofs.Meanings.{operator_at-is, operator_at-of, meaning_in-is}
-use Rattle.rule_terms.proofs.Readings.{operand_shorter}
-use Rattle.rule_viable_prefixes.specs.Passed.{name_bytes, Role, Opens, Sign, Other, mark_role, ends_operand, without_signs, open_with}
+use Rattle.rule_viable_prefixes.specs.Passed.{Opens, Sign, Other}
 use Rattle.rule_viable_prefixes.proofs.Marks.{IsMark, bad, excess, Marking, State, inline, step, bytes, levels, half, Marked, NoName, Next, passes, passes_name, goes_on, First, ends, stops, token, first, Same, read, failed, told, stands, Meets, refused, left, met, same_bind, meets_bind, mark_told, cut_told, mark_refused, unexpected_both, misplaced_both, syntax_both, short_name, long_name, fewer_signs}
 
 -- ---- roles

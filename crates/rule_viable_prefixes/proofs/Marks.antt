@@ -1,20 +1,8 @@
 -- To find where a limit is passed, a sentinel token is put behind the first token that passes one, and the text is read
 -- within wider limits. What is read is the same as without the sentinel within the limits, but that the sentinel's
 -- fault comes in place of `TooMany`.
-use Rattle.std.proofs.Common.{◌≡◌, ◌≢◌, ℕ, ◌+◌, ◌<◌, ◌≤◌, Bool, true, false, cond, List, [], ◌∷◌, length, Result, Ok, Err, refl, sym, subst, arith}
-use Rattle.std.specs.Prelude.{if◌then◌else◌, nat_le, codes}
-use Rattle.std.specs.Str.{bytes_eq}
-use Rattle.std.proofs.lemmas.Bool.{leb-true, le-leb}
-use Rattle.rule_tokens.specs.declared.fault.RuleFaultKind.{RuleFaultKind}
-use Rattle.rule_tokens.specs.declared.fault.RuleFaultKind.TheVariants.{BadByte, Syntax, LeftOut, TooMany}
-use Rattle.rule_tokens.specs.Limits.{Limits}
-use Rattle.rule_tokens.specs.PartReaders.{fault, unexpected, misplaced_word, name_within}
-use Rattle.rule_tokens.specs.RuleFaults.{RuleFault}
-use Rattle.rule_tokens.specs.Steps.{◌>>=◌}
-use Rattle.rule_tokens.specs.Tokens.{Token, Line, Head, Name, Register, Arrow, Bad, Excess}
-use Rattle.rule_tokens.proofs.Ends.{EndsLine}
-use Rattle.rule_parse.proofs.Cuts.{IsOfText}
-use Rattle.rule_viable_prefixes.specs.Passed.{name_bytes, Role, Sign, role_of, ends_operand, without_signs, open_with}
+use Rattle.rule_viable_prefixes.proofs.Common.{◌≡◌, ◌≢◌, ℕ, ◌+◌, ◌<◌, ◌≤◌, Bool, true, false, cond, List, [], ◌∷◌, length, Result, Ok, Err, refl, sym, subst, arith, if◌then◌else◌, nat_le, codes, bytes_eq, leb-true, le-leb, RuleFaultKind, BadByte, Syntax, LeftOut, TooMany, Limits, fault, unexpected, misplaced_word, name_within, RuleFault, ◌>>=◌, Token, Line, Head, Name, Register, Arrow, Bad, Excess, EndsLine, IsOfText, name_bytes, Role, role_of, ends_operand, without_signs, open_with}
+use Rattle.rule_viable_prefixes.specs.Passed.{Sign}
 
 -- ---- the sentinel
 

@@ -1,35 +1,9 @@
 -- Words that are no nouns fit nowhere.
-use Rattle.std.proofs.Common.{◌≡◌, ◌⊎◌, inl, inr, ℕ, Bool, true, false, List, Option, Some, None, refl, sym, ap, subst, ◌∙◌}
-use Rattle.std.specs.Prelude.{codes, if◌then◌else◌}
-use Rattle.std.specs.Str.{bytes_eq}
-use Rattle.ops.specs.declared.opcode.Flags.{Flags}
+use Rattle.rule_viable_prefixes.proofs.Common.{◌≡◌, ◌⊎◌, inl, inr, ℕ, Bool, true, false, List, Option, Some, None, refl, sym, ap, subst, ◌∙◌, codes, if◌then◌else◌, bytes_eq, Flags, Flag, Nuw, Nsw, Exact, NNeg, Disjoint, SameSign, pred_in, flag_in, flag_keyword, same_word, word_is, pred_in-of, flag_in-is, is_digit, is_among, is_constant, Two, type_in, type_in-of, Witness, Choice, formula_words, predicate_word, Predicate, IsPowerOfTwo, IsSignBit, choice_in, name_in, meaning_in, meaning_in-of, RawArgument, Operation, is_of_second, is_known, is_apart, operation_in, truth_flag, is_truth_flag, source_word_in, operation_in-of, truth_flag-is, IsNoun, IsFlagWord, of_instruction, of_intrinsic, rule_limits}
 use Rattle.ops.specs.declared.opcode.Unary.{Unary as Intrinsic}
 use Rattle.ops.specs.declared.opcode.Unary.TheVariants as intrinsics
-use Rattle.ops.specs.declared.keywords.flag.Flag.{Flag}
-use Rattle.ops.specs.declared.keywords.flag.Flag.TheVariants.{Nuw, Nsw, Exact, NNeg, Disjoint, SameSign}
-use Rattle.ops.specs.Keywords.{pred_in}
-use Rattle.ops.specs.FlagKeywords.{flag_in, flag_keyword}
-use Rattle.ops.proofs.KeywordLemmas.{same_word, word_is, pred_in-of}
-use Rattle.ops.proofs.FlagKeywordLemmas.{flag_in-is}
-use Rattle.scan.specs.Bytes.{is_digit}
-use Rattle.scan.specs.RuleTokens.{is_among, is_constant}
-use Rattle.rule_tokens.specs.declared.version.Version.TheVariants.{Two}
-use Rattle.rule_tokens.specs.Numbers.{type_in}
-use Rattle.rule_tokens.proofs.Types.{type_in-of}
-use Rattle.rule_terms.specs.declared.place.TermPlace.TheVariants.{Witness}
-use Rattle.rule_terms.specs.declared.word.Meaning.TheVariants.{Constant, Choice, Call, Width}
-use Rattle.rule_terms.specs.FormulaKeywords.{formula_words, predicate_word}
-use Rattle.rule_terms.specs.declared.formula_word.Predicate.{Predicate}
-use Rattle.rule_terms.specs.declared.formula_word.Predicate.TheVariants.{IsPowerOfTwo, IsSignBit}
-use Rattle.rule_terms.specs.Keywords.{choice_in, name_in, meaning_in}
-use Rattle.rule_terms.proofs.Meanings.{meaning_in-of}
-use Rattle.rule_parse.specs.declared.raw.RawArgument.{RawArgument}
-use Rattle.rule_parse.specs.declared.word.Operation.{Operation}
-use Rattle.rule_parse.specs.Keywords.{is_of_second, is_known, is_apart, operation_in, truth_flag, is_truth_flag, source_word_in}
-use Rattle.rule_parse.proofs.Pieces.{operation_in-of, truth_flag-is}
+use Rattle.rule_terms.specs.declared.word.Meaning.TheVariants.{Constant, Call, Width}
 use Rattle.rule_viable_prefixes.specs.Misfits as kinds
-use Rattle.rule_viable_prefixes.specs.Misfits.{IsNoun, IsFlagWord, of_instruction, of_intrinsic}
-use Rattle.rule_tokens.specs.Limits.{rule_limits}
 
 abbrev IsNone : {A : Type 0} → Option A → Type 0
 IsNone {A} o = (x : A) → o ≡ Some x → ⊥

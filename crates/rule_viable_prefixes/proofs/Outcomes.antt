@@ -1,16 +1,8 @@
 -- What a parser does with the tokens of a line, in a form that composes: it reads the first tokens, whatever is behind
 -- the next one, or it refuses what is behind a viable prefix.
-use Rattle.std.proofs.Common.{◌≡◌, ℕ, suc, ◌+◌, ◌≤◌, List, [], ◌∷◌, ◌++◌, map, Result, Ok, Err, refl, sym, ap, subst, ◌∙◌, append_assoc, ◌⊎◌, inl, inr, arith}
-use Rattle.std.proofs.lemmas.List.{append-nil}
-use Rattle.rule_tokens.specs.RuleFaults.{RuleFault}
-use Rattle.rule_tokens.specs.Steps.{◌>>=◌}
-use Rattle.rule_tokens.specs.Tokens.{Token, Line, Word, Mark}
-use Rattle.rule_tokens.proofs.Ends.{EndsLine}
-use Rattle.rule_viable_prefixes.specs.Fits.{line_behind}
-use Rattle.rule_viable_prefixes.specs.Misfits.{Fitting, IsNoun, IsFlagWord, RepeatsFlag}
+use Rattle.rule_viable_prefixes.proofs.Common.{◌≡◌, ℕ, suc, ◌+◌, ◌≤◌, List, [], ◌∷◌, ◌++◌, map, Result, Ok, Err, refl, sym, ap, subst, ◌∙◌, append_assoc, ◌⊎◌, inl, inr, arith, append-nil, RuleFault, ◌>>=◌, Token, Line, Word, Mark, EndsLine, line_behind, Fitting, IsNoun, IsFlagWord, RepeatsFlag, Limits}
 use Rattle.rule_viable_prefixes.proofs.Reasons.{openings}
 use Rattle.rule_viable_prefixes.proofs.FlagRuns.{NoFlag, NoFlagLast, IsNew, new_behind, none_new, last_of_both}
-use Rattle.rule_tokens.specs.Limits.{Limits}
 use Rattle.rule_viable_prefixes.proofs.Tolds.{SaysFirst, says_wider, says_carried}
 
 -- ---- tokens that a parser with one token of lookahead can't tell apart

@@ -1,28 +1,13 @@
 -- A parenthesis that is open at the end of a prefix may enclose a term or a formula, as long as no token in it stands
 -- in formulas alone.
-use Rattle.std.proofs.Common.{◌≡◌, ℕ, zero, suc, ◌≤◌, Bool, true, false, List, [], ◌∷◌, ◌++◌, length, refl, sym, ap, subst, ◌∙◌, append_assoc, arith}
-use Rattle.std.specs.Prelude.{codes}
-use Rattle.std.specs.Str.{bytes_eq}
-use Rattle.std.proofs.lemmas.List.{append-nil}
-use Rattle.scan.specs.RuleTokens.{is_among}
-use Rattle.rule_core.specs.declared.rule.Function.TheVariants.{Negate, Not, Log2, Abs}
-use Rattle.rule_tokens.specs.Tokens.{Token, Line, Word, Mark}
-use Rattle.rule_tokens.proofs.Ends.{EndsLine}
+use Rattle.rule_viable_prefixes.proofs.Common.{◌≡◌, ℕ, zero, suc, ◌≤◌, Bool, true, false, List, [], ◌∷◌, ◌++◌, length, refl, sym, ap, subst, ◌∙◌, append_assoc, arith, codes, bytes_eq, append-nil, is_among, Negate, Log2, Abs, Token, Line, Word, Mark, EndsLine, RawFormula, RawNode, opens_behind, opens_formula, sign_of, comparison_mark, formula_words, Standing, Level, SpellsFormula, compares, tests, turns, encloses, member, both, members, either, SpellsLeaf, SpellsTerm, SpellsWholeTerm, leaf, width, parenthesised, called, prefixed, tighter, joined, loosest, operator_mark, IsPrefix, term_plain, comparison_says, predicate_says, formula_says, spells_some, Limits}
+use Rattle.rule_core.specs.declared.rule.Function.TheVariants.{Not}
 use Rattle.rule_terms.specs.declared.formula_word.Sign.{Sign}
 use Rattle.rule_terms.specs.declared.formula_word.Sign.TheVariants as signs
 use Rattle.rule_terms.specs.declared.place.TermPlace.TheVariants.{Constant}
-use Rattle.rule_terms.specs.declared.raw.RawFormula.{RawFormula}
-use Rattle.rule_terms.specs.declared.raw.RawNode.{RawNode}
 use Rattle.rule_terms.specs.declared.raw.RawNode.TheVariants as raw_nodes
-use Rattle.rule_terms.specs.FormulaReaders.{opens_behind, opens_formula, sign_of}
-use Rattle.rule_terms.specs.FormulaKeywords.{comparison_mark, formula_words}
-use Rattle.rule_terms.specs.Formulas.{Standing, Level, SpellsFormula, compares, tests, one_use, turns, encloses, member, both, members, either}
-use Rattle.rule_terms.specs.Grammar.{SpellsLeaf, SpellsTerm, SpellsWholeTerm, leaf, width, parenthesised, called, prefixed, tighter, joined}
-use Rattle.rule_terms.specs.Keywords.{loosest, operator_mark, IsPrefix}
-use Rattle.rule_terms.proofs.FormulaSpellings.{term_plain, comparison_says, predicate_says, formula_says}
-use Rattle.rule_terms.proofs.Readings.{spells_some}
+use Rattle.rule_terms.specs.Formulas.{one_use}
 use Rattle.rule_viable_prefixes.proofs.Terms.{term_good}
-use Rattle.rule_tokens.specs.Limits.{Limits}
 use Rattle.rule_viable_prefixes.proofs.Roomy.{roomy}
 
 module _ (spare_bytes deepest spare_statements : ℕ) where

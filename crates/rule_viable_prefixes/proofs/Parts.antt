@@ -1,27 +1,11 @@
 -- What the parsers of small parts do: of types, of the end of a line, and of chains by a mark.
-use Rattle.std.proofs.Common.{◌≡◌, ℕ, zero, suc, ◌<◌, ◌≤◌, Bool, true, false, List, [], ◌∷◌, ◌++◌, length, Option, Some, None, Result, Ok, Err, refl, sym, ap, subst, arith, inr}
-use Rattle.std.specs.Prelude.{codes, drop}
-use Rattle.std.specs.Str.{bytes_eq}
-use Rattle.scan.specs.Bytes.{is_digit}
-use Rattle.rule_tokens.specs.declared.fault.RuleFaultKind.TheVariants.{Syntax}
-use Rattle.refusal.specs.declared.refusal.Refusal.TheVariants.{Refused}
-use Rattle.rule_tokens.specs.RuleFaults.{RuleFault}
-use Rattle.rule_tokens.specs.Steps.{◌>>=◌}
-use Rattle.rule_tokens.specs.Numbers.{type_in}
-use Rattle.rule_tokens.specs.Parts.{Part, Nothing, ◌⨾◌}
-use Rattle.rule_tokens.specs.PartReaders.{fault, unexpected, misplaced_word, type_at, line_end}
-use Rattle.rule_tokens.specs.TypeTokens.{SpellsType}
-use Rattle.rule_tokens.specs.Tokens.{Token, Line, Word, Mark}
-use Rattle.rule_tokens.proofs.Ends.{EndsLine, line_end-of}
-use Rattle.rule_tokens.proofs.Types.{type_in-is}
-use Rattle.rule_terms.specs.Chains.{Reader as Behind, next_is, chain_at}
-use Rattle.rule_terms.proofs.ChainLemmas.{Shortens, next_is-is, chain-more, chain-fault, chain-done}
+use Rattle.rule_viable_prefixes.proofs.Common.{◌≡◌, ℕ, zero, suc, ◌<◌, ◌≤◌, Bool, true, false, List, [], ◌∷◌, ◌++◌, length, Option, Some, None, Result, Ok, Err, refl, sym, ap, subst, arith, inr, codes, drop, bytes_eq, is_digit, Syntax, Refused, RuleFault, ◌>>=◌, type_in, Part, Nothing, ◌⨾◌, fault, unexpected, misplaced_word, type_at, line_end, SpellsType, Token, Line, Word, Mark, EndsLine, line_end-of, type_in-is, next_is, next_is-is, Fitting, NounFits, Limits}
+use Rattle.rule_terms.specs.Chains.{Reader as Behind, chain_at}
+use Rattle.rule_terms.proofs.ChainLemmas.{Shortens, chain-more, chain-fault, chain-done}
 use Rattle.rule_viable_prefixes.specs.Misfits as kinds
-use Rattle.rule_viable_prefixes.specs.Misfits.{Fitting, NounFits}
 use Rattle.rule_viable_prefixes.proofs.Nouns.{noun_other}
 use Rattle.rule_viable_prefixes.proofs.Outcomes.{Lack, Akin, same_next, noun_next, ended_next, Takes, Alike, same, ended, Spelling, Sample, Shape, pair, bare, Reader, IsErrOn, Outcome, Good, then_at, then, refused_here, passed, led, Branch, takes, refuses, by_token, with_none, then_done}
 use Rattle.rule_viable_prefixes.proofs.Tolds.{says_misplaced, says_unexpected}
-use Rattle.rule_tokens.specs.Limits.{Limits}
 
 module _ (limits : Limits) where
   -- ---- parts, whatever value they spell

@@ -1,13 +1,5 @@
 -- The first token with which a limit is passed, and the tokens with a sentinel behind it.
-use Rattle.std.proofs.Common.{◌≡◌, ℕ, ◌+◌, ◌<◌, ◌≤◌, Bool, true, false, List, [], ◌∷◌, ◌++◌, length, refl, sym, ap, subst, ◌∙◌, ◌⊎◌, inl, inr, arith}
-use Rattle.std.specs.Prelude.{if◌then◌else◌, nat_le}
-use Rattle.std.proofs.lemmas.Bool.{leb-true, leb-false}
-use Rattle.rule_tokens.specs.Limits.{Limits, AreWithin}
-use Rattle.rule_tokens.specs.Tokens.{Token, Line, Head, Name, Register, Arrow, Excess}
-use Rattle.rule_tokens.proofs.Ends.{EndsLine}
-use Rattle.rule_parse.proofs.Cuts.{IsOfText, AreOfText}
-use Rattle.rule_viable_prefixes.specs.Fits.{line_behind}
-use Rattle.rule_viable_prefixes.specs.Passed.{name_bytes, statements_behind, open_behind, used}
+use Rattle.rule_viable_prefixes.proofs.Common.{◌≡◌, ℕ, ◌+◌, ◌<◌, ◌≤◌, Bool, true, false, List, [], ◌∷◌, ◌++◌, length, refl, sym, ap, subst, ◌∙◌, ◌⊎◌, inl, inr, arith, if◌then◌else◌, nat_le, leb-true, leb-false, Limits, AreWithin, Token, Line, Head, Name, Register, Arrow, Excess, EndsLine, IsOfText, AreOfText, line_behind, name_bytes, statements_behind, open_behind, used}
 use Rattle.rule_viable_prefixes.proofs.Lines.{NamesEndLines}
 use Rattle.rule_viable_prefixes.proofs.Marks.{Marking, State, inline, step, Passed, bytes, levels, half, Kept, Marked, none, cut, over, over_name, later}
 

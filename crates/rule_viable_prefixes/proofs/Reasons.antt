@@ -1,16 +1,5 @@
 -- Why a token does not fit within limits, by which other tokens fit in its place.
-use Rattle.std.proofs.Common.{◌≡◌, ◌≢◌, ◌⊎◌, ℕ, ◌+◌, ◌<◌, ◌≤◌, List, [], ◌∷◌, length}
-use Rattle.std.specs.Prelude.{IsTrue, if◌then◌else◌, codes}
-use Rattle.scan.specs.RuleTokens.{is_constant, is_among}
-use Rattle.rule_core.specs.declared.rule.Function.{Function}
-use Rattle.rule_tokens.specs.declared.fault.RuleFaultKind.{RuleFaultKind}
-use Rattle.rule_tokens.specs.declared.fault.RuleFaultKind.TheVariants.{BadByte, Syntax, LeftOut, TooMany}
-use Rattle.rule_tokens.specs.Limits.{Limits}
-use Rattle.rule_tokens.specs.Tokens.{Token, Line, Head, Name, Register, Word, Number, Arrow, Mark, Bad}
-use Rattle.rule_terms.specs.declared.formula_word.Predicate.{Predicate}
-use Rattle.rule_terms.specs.FormulaKeywords.{predicate_word}
-use Rattle.rule_terms.specs.Keywords.{IsPrefix, IsCalled, IsChoice}
-use Rattle.rule_viable_prefixes.specs.Misfits.{Fitting, NounFits, RepeatsFlag}
+use Rattle.rule_viable_prefixes.proofs.Common.{◌≡◌, ◌≢◌, ◌⊎◌, ℕ, ◌+◌, ◌<◌, ◌≤◌, List, [], ◌∷◌, length, IsTrue, if◌then◌else◌, codes, is_constant, is_among, Function, RuleFaultKind, BadByte, Syntax, LeftOut, TooMany, Limits, Token, Line, Head, Name, Register, Word, Number, Arrow, Mark, Bad, Predicate, predicate_word, IsPrefix, IsCalled, IsChoice, Fitting, NounFits, RepeatsFlag}
 
 -- ---- nesting
 

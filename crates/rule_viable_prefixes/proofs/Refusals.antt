@@ -1,20 +1,5 @@
 -- The fault of a text as that of its tokens with the limit of nodes; and lists of tokens that are cut in two.
-use Rattle.std.proofs.Common.{◌≡◌, ℕ, List, [], ◌∷◌, ◌++◌, Err, refl, sym, ap, ◌∙◌, append_assoc, ◌⊎◌, inl, inr, arith}
-use Rattle.std.proofs.lemmas.List.{append-nil}
-use Rattle.scan.specs.Laws.{OneTokenAtAPlace}
-use Rattle.rule_tokens.specs.Limits.{Limits}
-use Rattle.rule_tokens.specs.RuleFaults.{RuleFault}
-use Rattle.rule_tokens.specs.Tokens.{Token, Excess, AreTokens}
-use Rattle.rule_tokens.proofs.Readers.{one_reading}
-use Rattle.rule_parse.specs.declared.raw.RawRule.{RawRule}
-use Rattle.rule_parse.specs.CutTokens.{limited}
-use Rattle.rule_parse.specs.Grammar.{SpellsFile}
-use Rattle.rule_parse.specs.NodeCounts.{IsWithinLimit}
-use Rattle.rule_parse.specs.RuleReaders.{all_rules}
-use Rattle.rule_parse.specs.Text.{IsFaultWithin}
-use Rattle.rule_parse.proofs.Counts.{kept_up_to_the_limit}
-use Rattle.rule_parse.proofs.Cuts.{of_back}
-use Rattle.rule_parse.proofs.Weight.{file_of_text}
+use Rattle.rule_viable_prefixes.proofs.Common.{◌≡◌, ℕ, List, [], ◌∷◌, ◌++◌, Err, refl, sym, ap, ◌∙◌, append_assoc, ◌⊎◌, inl, inr, arith, append-nil, OneTokenAtAPlace, Limits, RuleFault, Token, Excess, AreTokens, one_reading, RawRule, limited, SpellsFile, IsWithinLimit, all_rules, IsFaultWithin, kept_up_to_the_limit, of_back, file_of_text}
 
 -- the fault of a text is that of these tokens
 pub fault_of : (limits : Limits) → OneTokenAtAPlace → (text : List ℕ) (tokens : List Token) (last : ℕ) (found : RuleFault) → AreTokens text tokens last → IsFaultWithin limits text found → all_rules limits last (limited tokens) ≡ Err found

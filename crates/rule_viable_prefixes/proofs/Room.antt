@@ -1,16 +1,5 @@
 -- What fits within limits that are wide enough for the tokens; and what then fits within none.
-use Rattle.std.proofs.Common.{◌≡◌, ℕ, suc, ◌+◌, ◌<◌, ◌≤◌, List, [], ◌∷◌, ◌++◌, length, Result, Ok, Err, refl, sym, ap, subst, ◌∙◌, append_assoc, length-append, ◌⊎◌, inl, inr, arith}
-use Rattle.rule_tokens.specs.declared.fault.RuleFaultKind.{RuleFaultKind}
-use Rattle.rule_tokens.specs.declared.fault.RuleFaultKind.TheVariants.{BadByte, TooMany}
-use Rattle.rule_tokens.specs.Limits.{Limits, AreWithin}
-use Rattle.rule_tokens.specs.PartReaders.{fault}
-use Rattle.rule_tokens.specs.RuleFaults.{RuleFault}
-use Rattle.rule_tokens.specs.Tokens.{Token, Line, Name, Bad, Excess}
-use Rattle.rule_tokens.proofs.Ends.{EndsLine}
-use Rattle.rule_parse.specs.declared.raw.RawRule.{RawRule}
-use Rattle.rule_parse.specs.RuleReaders.{all_rules}
-use Rattle.rule_parse.proofs.Cuts.{AreOfText, of_both}
-use Rattle.rule_parse.proofs.Files.{all_rules-is}
+use Rattle.rule_viable_prefixes.proofs.Common.{◌≡◌, ℕ, suc, ◌+◌, ◌<◌, ◌≤◌, List, [], ◌∷◌, ◌++◌, length, Result, Ok, Err, refl, sym, ap, subst, ◌∙◌, append_assoc, length-append, ◌⊎◌, inl, inr, arith, RuleFaultKind, BadByte, TooMany, Limits, AreWithin, fault, RuleFault, Token, Line, Name, Bad, Excess, EndsLine, RawRule, all_rules, AreOfText, of_both, all_rules-is}
 use Rattle.rule_viable_prefixes.proofs.FitsWithin.{FitsWithin, FitsBehindWithin, fits_front, fits_before}
 use Rattle.rule_viable_prefixes.proofs.LimitLaws.{fits_wider}
 use Rattle.rule_viable_prefixes.proofs.Lines.{NamesEndLines}

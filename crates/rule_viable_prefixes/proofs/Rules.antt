@@ -1,20 +1,10 @@
 -- What the parsers of lines do: each reads its part, or refuses a token in it, or misses a line at the end of the text.
-use Rattle.std.proofs.Common.{◌≡◌, ℕ, ◌+◌, List, [], ◌∷◌, ◌++◌, Result, Ok, Err, refl, sym, ap, subst, ◌∙◌, append_assoc, ◌⊎◌, inl, inr, arith}
-use Rattle.std.proofs.lemmas.List.{append-nil}
-use Rattle.rule_tokens.specs.declared.fault.RuleFaultKind.TheVariants.{Syntax}
-use Rattle.rule_tokens.specs.RuleFaults.{RuleFault}
-use Rattle.rule_tokens.specs.Steps.{◌>>=◌}
-use Rattle.rule_tokens.specs.Parts.{Part, ◌⨾◌}
-use Rattle.rule_tokens.specs.Tokens.{Token, Line, Word}
-use Rattle.rule_tokens.proofs.Ends.{EndsLine}
-use Rattle.rule_viable_prefixes.specs.Fits.{line_behind}
-use Rattle.rule_viable_prefixes.specs.Misfits.{Fitting, IsNoun}
+use Rattle.rule_viable_prefixes.proofs.Common.{◌≡◌, ℕ, ◌+◌, List, [], ◌∷◌, ◌++◌, Result, Ok, Err, refl, sym, ap, subst, ◌∙◌, append_assoc, ◌⊎◌, inl, inr, arith, append-nil, Syntax, RuleFault, ◌>>=◌, Part, ◌⨾◌, Token, Line, Word, EndsLine, line_behind, Fitting, IsNoun, Limits}
 use Rattle.rule_viable_prefixes.proofs.Reasons.{openings, openings_behind, openings_on_line}
 use Rattle.rule_viable_prefixes.proofs.FlagRuns.{IsNew, new_on_line}
 use Rattle.rule_viable_prefixes.proofs.Outcomes.{opened, Lack, lack_wider, Akin, same_next, akin, akin_behind, akin_noun, NoNoun, Takes, Alike, Inline, Shape, Reader, IsErr, Begins, Outcome}
 use Rattle.rule_viable_prefixes.proofs.Tolds.{says_wider, SaysFirst}
 use Rattle.rule_viable_prefixes.proofs.Parts.{Spelled}
-use Rattle.rule_tokens.specs.Limits.{Limits}
 
 module _ (limits : Limits) where
   -- ---- what parsers of lines do

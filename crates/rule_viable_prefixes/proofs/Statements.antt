@@ -1,72 +1,24 @@
 -- What the parsers of operands, operations and statements do on a line.
-use Rattle.std.proofs.Common.{◌≡◌, ℕ, ◌<◌, Bool, true, false, List, [], ◌∷◌, ◌++◌, length, map, Option, Some, None, Ok, refl, sym, ap, subst, ◌∙◌, append_assoc, ◌≤◌, Result, Err, inl, inr, arith}
-use Rattle.std.specs.Prelude.{IsTrue, codes}
-use Rattle.std.specs.Str.{bytes_eq}
+use Rattle.rule_viable_prefixes.proofs.Common.{◌≡◌, ℕ, ◌<◌, Bool, true, false, List, [], ◌∷◌, ◌++◌, length, map, Option, Some, None, Ok, refl, sym, ap, subst, ◌∙◌, append_assoc, ◌≤◌, Result, Err, inl, inr, arith, IsTrue, codes, bytes_eq, Flags, Pred, Eq, Cast, no_flags, flags_of, flags_of_cast, flags_of_icmp, icmp_flags, append-nil, map-append, Flag, Nuw, Nsw, Exact, NNeg, Disjoint, SameSign, RuleFault, predicate_keyword, pred_in, AddsFlags, flag_in, flag_keyword, has_flag, with_flag, same_word, pred_in-is, flag_in-is, flag_in-of, flags_are_icmp, taken_flags, is_constant, RuleFaultKind, Syntax, LeftOut, TooMany, ◌>>=◌, literal_value, type_in, SpellsType, Part, Is, Comma, ◌⨾◌, Maybe, fault, unexpected, misplaced_word, left_out, name_within, type_at, maybe_type, line_end, Token, Line, Register, Word, Number, Mark, Bad, Excess, EndsLine, name_within-of, type_in-is, RawNode, SpellsWholeTerm, leaf, mark_at, term_at, loosest, spells_some, term_at-of, Half, Source, Target, RawStatement, RawOp, Binary, Unary, Select, Convert, Freeze, Copy, RawOperand, RawArgument, Operation, SpellsArgument, SpellsOperand, SpellsPair, SpellsTruth, SpellsTo, SpellsOp, source_word, term_argument_at, argument_at, typed_at, to_at, next_flag, flags_at, pair_at, binary_at, pred_at, compare_at, is_truth_next, truth_at, unary_at, select_at, convert_at, freeze_at, copy_at, operation_at, op_at, statement_at, argument_of, is_known, is_apart, token_with, opcode_token, operation_word, operation_in, is_truth_flag, source_word_in, flags-more, flags-again, flags_done, IsOpcode, operation_in-is, truth_flag-is, truth_flag-of, source_word_in-is, type_is_no_flag, type_is_no_truth_flag, BeginsOperand, argument_begins, Fitting, IsFlagWord, AreFlagWords, of_instruction, of_intrinsic, RepeatsFlag, NounFits, Version, Limits}
 use Rattle.ops.specs.declared.opcode.Opcode.{Opcode}
 use Rattle.ops.specs.declared.opcode.Unary.{Unary as Intrinsic}
-use Rattle.ops.specs.declared.opcode.Flags.{Flags}
-use Rattle.ops.specs.declared.comparison.Pred.{Pred}
-use Rattle.ops.specs.declared.comparison.Pred.TheVariants.{Eq}
-use Rattle.ops.specs.declared.conversion.Cast.{Cast}
-use Rattle.ops.specs.Flags.{no_flags, flags_of, flags_of_cast, flags_of_icmp, icmp_flags}
-use Rattle.std.proofs.lemmas.List.{append-nil, map-append}
-use Rattle.ops.specs.declared.keywords.flag.Flag.{Flag}
-use Rattle.ops.specs.declared.keywords.flag.Flag.TheVariants.{Nuw, Nsw, Exact, NNeg, Disjoint, SameSign}
-use Rattle.rule_tokens.specs.RuleFaults.{RuleFault}
-use Rattle.ops.specs.Keywords.{predicate_keyword, pred_in}
-use Rattle.ops.specs.FlagKeywords.{AddsFlags, flag_in, flag_keyword, has_flag, with_flag}
-use Rattle.ops.proofs.KeywordLemmas.{same_word, pred_in-is}
-use Rattle.ops.proofs.FlagKeywordLemmas.{flag_in-is, flag_in-of, flags_are_icmp, taken_flags}
-use Rattle.scan.specs.RuleTokens.{is_constant}
-use Rattle.rule_tokens.specs.declared.fault.RuleFaultKind.{RuleFaultKind}
-use Rattle.rule_tokens.specs.declared.fault.RuleFaultKind.TheVariants.{Syntax, LeftOut, TooMany}
-use Rattle.rule_tokens.specs.Steps.{◌>>=◌}
-use Rattle.rule_tokens.specs.Numbers.{literal_value, type_in}
-use Rattle.rule_tokens.specs.TypeTokens.{SpellsType}
-use Rattle.rule_tokens.specs.Parts.{Part, Is, Comma, ◌⨾◌, Maybe}
-use Rattle.rule_tokens.specs.PartReaders.{fault, unexpected, misplaced_word, left_out, name_within, type_at, maybe_type, line_end}
-use Rattle.rule_tokens.specs.Tokens.{Token, Line, Register, Word, Opcode as OpcodeToken, Number, Mark, Bad, Excess}
-use Rattle.rule_tokens.proofs.Ends.{EndsLine, name_within-of}
-use Rattle.rule_tokens.proofs.Types.{type_in-is}
+use Rattle.rule_tokens.specs.Tokens.{Opcode as OpcodeToken}
 use Rattle.rule_terms.specs.declared.place.TermPlace.TheVariants.{Constant}
-use Rattle.rule_terms.specs.declared.raw.RawNode.{RawNode}
 use Rattle.rule_terms.specs.declared.raw.RawNode.TheVariants as raw_nodes
-use Rattle.rule_terms.specs.Grammar.{SpellsWholeTerm, leaf}
-use Rattle.rule_terms.specs.TermReaders.{mark_at, term_at}
-use Rattle.rule_terms.specs.Keywords.{loosest}
-use Rattle.rule_terms.proofs.Readings.{spells_some}
-use Rattle.rule_terms.proofs.Spellings.{term_at-of}
 use Rattle.rule_viable_prefixes.proofs.Parentheses.{loosened}
-use Rattle.rule_parse.specs.declared.half.Half.{Half}
-use Rattle.rule_parse.specs.declared.half.Half.TheVariants.{Source, Target}
-use Rattle.rule_parse.specs.declared.raw.RawStatement.{RawStatement}
-use Rattle.rule_parse.specs.declared.raw.RawOp.{RawOp}
-use Rattle.rule_parse.specs.declared.raw.RawOp.TheVariants.{Binary, Compare, Unary, Select, Convert, Freeze, Copy}
-use Rattle.rule_parse.specs.declared.raw.RawOperand.{RawOperand}
-use Rattle.rule_parse.specs.declared.raw.RawArgument.{RawArgument}
+use Rattle.rule_parse.specs.declared.raw.RawOp.TheVariants.{Compare}
 use Rattle.rule_parse.specs.declared.raw.RawArgument.TheVariants as arguments
-use Rattle.rule_parse.specs.declared.word.Operation.{Operation}
 use Rattle.rule_parse.specs.declared.word.Operation.TheVariants as operations
-use Rattle.rule_parse.specs.Grammar.{SpellsArgument, SpellsOperand, SpellsPair, SpellsTruth, SpellsTo, SpellsOp}
-use Rattle.rule_parse.specs.RuleReaders.{source_word, term_argument_at, argument_at, typed_at, operand_at, to_at, next_flag, flags_at, pair_at, binary_at, pred_at, compare_at, is_truth_next, truth_at, unary_at, select_at, convert_at, freeze_at, copy_at, operation_at, op_at, statement_at}
-use Rattle.rule_parse.specs.Keywords.{argument_of, is_known, is_apart, token_with, opcode_token, operation_word, operation_in, is_truth_flag, source_word_in}
-use Rattle.rule_parse.proofs.Loops.{flags-more, flags-again}
-use Rattle.rule_parse.proofs.OpSpellings.{flags_done}
-use Rattle.rule_parse.proofs.Pieces.{IsOpcode, operation_in-is, truth_flag-is, truth_flag-of, source_word_in-is, type_is_no_flag, type_is_no_truth_flag}
-use Rattle.rule_parse.proofs.Beginnings.{BeginsOperand, argument_begins}
+use Rattle.rule_parse.specs.RuleReaders.{operand_at}
 use Rattle.rule_viable_prefixes.specs.Misfits as kinds
 use Rattle.rule_viable_prefixes.proofs.Reasons as reasons
-use Rattle.rule_viable_prefixes.specs.Misfits.{Fitting, IsFlagWord, AreFlagWords, of_instruction, of_intrinsic, RepeatsFlag, NounFits}
 use Rattle.rule_viable_prefixes.proofs.Reasons.{IsTooMany, kind_at, IsMisfit, itself, read_on}
 use Rattle.rule_viable_prefixes.proofs.Nouns.{no_flag_in, no_truth_in, not_to, constant_noun, noun_other, source_other, to_other}
-use Rattle.rule_viable_prefixes.proofs.Outcomes.{akin, alike_itself, IsOwn, Inline, inline_none, inline_token, repeats_behind, Lack, Akin, same_next, noun_next, ended_next, NoNoun, IsErr, same_as, Takes, Alike, same, ended, Sample, pair, bare, Reader, IsErrOn, Outcome, Good, then, refused_here, passed, took, led, alike_as, widen, Branch, takes, refuses, by_token, widened, then_done, OutcomeBy, then_by}
+use Rattle.rule_viable_prefixes.proofs.Outcomes.{akin, alike_itself, IsOwn, Inline, inline_none, inline_token, repeats_behind, Lack, Akin, same_next, noun_next, ended_next, NoNoun, IsErr, same_as, Takes, Alike, same, ended, Sample, pair, bare, Reader, IsErrOn, Outcome, Good, then, refused_here, passed, took, led, alike_as, widen, Branch, takes, refuses, by_token, widened, then_done, OutcomeBy, then_by, Parts}
 use Rattle.rule_viable_prefixes.proofs.Tolds.{says_word, says_syntax, says_too_many, says_misplaced, says_unexpected, says_left_out, SaysFirst}
-use Rattle.rule_viable_prefixes.proofs.Outcomes.{Parts}
 use Rattle.rule_viable_prefixes.proofs.FlagRuns.{NoFlag, NoFlagLast, IsNew, new_behind, last_both}
 use Rattle.rule_viable_prefixes.proofs.Parts.{Spelled, then_seq, ends_alike, ends_akin, refused_token, then_end, IsType, type_good}
 use Rattle.rule_viable_prefixes.proofs.Terms.{Named, is_short, is_long, named, mark_good, Term, term_good}
-use Rattle.rule_tokens.specs.declared.version.Version.{Version}
-use Rattle.rule_tokens.specs.Limits.{Limits}
 use Rattle.rule_viable_prefixes.proofs.Roomy.{roomy}
 
 module _ (spare_bytes deepest spare_statements : ℕ) (version : Version) where

@@ -1,43 +1,19 @@
 -- What the parsers of terms do on a line.
-use Rattle.std.proofs.Common.{◌≡◌, ℕ, zero, suc, ◌+◌, ◌<◌, ◌≤◌, Bool, true, false, cond, eqb, List, [], ◌∷◌, ◌++◌, length, Option, Some, None, Result, Ok, Err, refl, sym, ap, subst, ◌∙◌, append_assoc, inl, inr, arith}
-use Rattle.std.specs.Prelude.{IsTrue, codes}
-use Rattle.std.specs.Str.{bytes_eq}
-use Rattle.std.proofs.lemmas.Bool.{leb-true, leb-false}
-use Rattle.std.proofs.lemmas.List.{append-nil}
+use Rattle.rule_viable_prefixes.proofs.Common.{◌≡◌, ℕ, zero, suc, ◌+◌, ◌<◌, ◌≤◌, Bool, true, false, cond, eqb, List, [], ◌∷◌, ◌++◌, length, Option, Some, None, Result, Ok, Err, refl, sym, ap, subst, ◌∙◌, append_assoc, inl, inr, arith, IsTrue, codes, bytes_eq, leb-true, leb-false, append-nil, same_word, Function, Negate, is_digit, is_constant, Syntax, TooMany, Refused, RuleFault, ◌>>=◌, literal_value, fault, unexpected, misplaced_word, name_within, Token, Line, Register, Word, Number, Mark, TermPlace, RawNode, Leaf, Prefix, Parenthesis, Meaning, last_place, SpellsLeaf, SpellsTerm, leaf, width, parenthesised, called, prefixed, tighter, joined, mark_at, opening_in, start_at, measured_at, of_level, operator_at, join, whole_chain_at, behind_at, add_unary, inside_at, primary_at, term_at, operator_mark, operator_in, level_of, loosest, IsPrefix, IsCalled, IsChoice, meaning_in, operator_at-is, operator_at-of, meaning_in-is, meaning_in-of, operand_shorter, Fitting, NounFits, Limits}
 use Rattle.ops.specs.declared.opcode.Opcode.{Opcode}
-use Rattle.ops.proofs.KeywordLemmas.{same_word}
-use Rattle.rule_core.specs.declared.rule.Function.{Function}
-use Rattle.rule_core.specs.declared.rule.Function.TheVariants.{Negate, Not}
-use Rattle.scan.specs.Bytes.{is_digit}
-use Rattle.scan.specs.RuleTokens.{is_constant}
-use Rattle.rule_tokens.specs.declared.fault.RuleFaultKind.TheVariants.{Syntax, TooMany}
-use Rattle.refusal.specs.declared.refusal.Refusal.TheVariants.{Refused}
-use Rattle.rule_tokens.specs.RuleFaults.{RuleFault}
-use Rattle.rule_tokens.specs.Steps.{◌>>=◌}
-use Rattle.rule_tokens.specs.Numbers.{literal_value}
-use Rattle.rule_tokens.specs.PartReaders.{fault, unexpected, misplaced_word, name_within}
-use Rattle.rule_tokens.specs.Tokens.{Token, Line, Register, Word, Number, Mark}
-use Rattle.rule_terms.specs.declared.place.TermPlace.{TermPlace}
+use Rattle.rule_core.specs.declared.rule.Function.TheVariants.{Not}
 use Rattle.rule_terms.specs.declared.place.TermPlace.TheVariants as places
-use Rattle.rule_terms.specs.declared.raw.RawNode.{RawNode}
 use Rattle.rule_terms.specs.declared.raw.RawNode.TheVariants as raw_nodes
-use Rattle.rule_terms.specs.declared.start.Start.TheVariants.{Leaf, Prefix, Parenthesis, Call, Width}
-use Rattle.rule_terms.specs.declared.word.Meaning.{Meaning}
+use Rattle.rule_terms.specs.declared.start.Start.TheVariants.{Call, Width}
 use Rattle.rule_terms.specs.declared.word.Meaning.TheVariants as meanings
-use Rattle.rule_terms.specs.Grammar.{last_place, SpellsLeaf, SpellsTerm, leaf, width, parenthesised, called, prefixed, tighter, joined}
-use Rattle.rule_terms.specs.TermReaders.{Reader as TermReader, mark_at, opening_in, start_at, measured_at, of_level, operator_at, join, whole_chain_at, behind_at, operand_at, add_unary, inside_at, primary_at, term_at}
-use Rattle.rule_terms.specs.Keywords.{operator_mark, operator_in, level_of, loosest, IsPrefix, IsCalled, IsChoice, meaning_in}
+use Rattle.rule_terms.specs.TermReaders.{Reader as TermReader, operand_at}
 use Rattle.rule_terms.proofs.Chains.{Shortens, chain-more, chain-fault, chain-done}
-use Rattle.rule_terms.proofs.Meanings.{operator_at-is, operator_at-of, meaning_in-is, meaning_in-of}
-use Rattle.rule_terms.proofs.Readings.{operand_shorter}
 use Rattle.rule_viable_prefixes.specs.Misfits as kinds
 use Rattle.rule_viable_prefixes.proofs.Reasons as reasons
-use Rattle.rule_viable_prefixes.specs.Misfits.{Fitting, NounFits}
 use Rattle.rule_viable_prefixes.proofs.Reasons.{Nests, openings, IsTooDeep, IsTooMany}
 use Rattle.rule_viable_prefixes.proofs.Nouns.{noun_other}
 use Rattle.rule_viable_prefixes.proofs.Outcomes.{Lack, Akin, same_next, noun_next, ended_next, Takes, IsOwn, Spelling, pair, bare, IsErrOn, Outcome, Good, then_at, then, passed, led, Branch, takes, refuses, goes, goes_in, opens_one, Reader, by_token, widened, on_line, then_done, bind_named}
 use Rattle.rule_viable_prefixes.proofs.Tolds.{says_misplaced, says_syntax, says_too_many, IsTold, says_deep, says_unexpected}
-use Rattle.rule_tokens.specs.Limits.{Limits}
 use Rattle.rule_viable_prefixes.proofs.Roomy.{roomy}
 
 module _ (limits : Limits) where

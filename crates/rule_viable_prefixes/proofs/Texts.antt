@@ -1,30 +1,10 @@
 -- The tokens of a text begin with a line's number, and so do those behind a rule's name, which reaches to the end of
 -- its line.
-use Rattle.std.proofs.Common.{◌≡◌, ◌≢◌, ℕ, zero, suc, ◌+◌, ◌-◌, ◌<◌, ◌≤◌, Bool, true, false, not, ◌||◌, cond, eqb, List, [], ◌∷◌, length, take, drop, Option, Some, None, refl, sym, ap, subst, ◌∙◌, ⊎_elim, ◌⊎◌, inl, inr, arith, length-drop}
-use Rattle.std.specs.Prelude.{codes}
-use Rattle.std.specs.List.{prefix_len}
-use Rattle.std.specs.Str.{bytes_eq}
-use Rattle.std.proofs.lemmas.Bool.{eqb-true}
-use Rattle.std.proofs.Math.Numerals.{one-add}
-use Rattle.std.proofs.lemmas.List.{drop-drop, length-take-le}
-use Rattle.std.proofs.lemmas.List.Sums.{prefix_len-le-length}
-use Rattle.ops.proofs.KeywordLemmas.{same_word}
-use Rattle.scan.specs.declared.rule_token.RuleKind.{RuleKind}
+use Rattle.rule_viable_prefixes.proofs.Common.{◌≡◌, ◌≢◌, ℕ, zero, suc, ◌+◌, ◌-◌, ◌<◌, ◌≤◌, Bool, true, false, not, ◌||◌, cond, eqb, List, [], ◌∷◌, length, take, drop, Option, Some, None, refl, sym, ap, subst, ◌∙◌, ⊎_elim, ◌⊎◌, inl, inr, arith, length-drop, codes, prefix_len, bytes_eq, eqb-true, one-add, drop-drop, length-take-le, prefix_len-le-length, same_word, RuleKind, RuleToken, is_blank, is_space, is_printable, is_bad, is_digit, is_letter, is_word_byte, begins_with, IsGap, nothing, space, comment, between, feeds, is_in_rest, rest_of_line, is_unsigned_operator, is_remainder, is_placed_operator, is_mark, is_register, is_rule_word, is_negative, is_literal, kind_of, IsLongestToken, IsGapBefore, line_at, in_operator_place, IsNextRuleToken, IsBadNext, which, feeds_append, feeds_between, run_feeds, ends_or_not, Token, Line, Head, Name, Register, Word, Number, Mark, Bad, Excess, word_of, token_of, token_at, token_on, is_called, Place, AtName, place_behind, bytes_at, TokensFrom, bad_token, bad_name, AreTokens, EndsLine, Context, at_start, context_behind, behind_name, is_opcode, limited_to, room_behind, or_excess, IsOfText, AreOfText}
 use Rattle.scan.specs.declared.rule_token.RuleKind.TheVariants as kinds
-use Rattle.scan.specs.declared.rule_token.RuleToken.{RuleToken}
-use Rattle.scan.specs.Bytes.{is_blank, is_space, is_printable, is_bad, is_digit, is_letter, is_word_byte, begins_with}
-use Rattle.scan.specs.Gaps.{IsGap, nothing, space, comment}
-use Rattle.scan.specs.Lines.{between, feeds, line_of}
-use Rattle.scan.specs.Names.{is_in_rest, rest_of_line}
-use Rattle.scan.specs.RuleTokens.{is_unsigned_operator, is_remainder, is_placed_operator, is_mark, is_register, is_rule_word, is_negative, is_literal, kind_of, IsLongestToken, Begins, IsGapBefore, line_at, in_operator_place, IsNextRuleToken, IsBadNext}
-use Rattle.scan.proofs.Fronts.{which}
-use Rattle.scan.proofs.PlaceLemmas.{feeds_append, feeds_between, run_feeds, ends_or_not}
-use Rattle.rule_tokens.specs.Tokens.{Token, Line, Head, Name, Register, Word, Opcode, Number, Mark, Bad, Excess, word_of, token_of, token_at, token_on, is_called, Place, AtName, AtToken, place_behind, bytes_at, TokensFrom, ends, token, name, bad_token, bad_name, AreTokens}
-use Rattle.rule_tokens.proofs.Ends.{EndsLine}
-use Rattle.rule_tokens.specs.declared.context.Context.{Context}
-use Rattle.rule_tokens.specs.Contexts.{at_start, context_behind, behind_name, is_opcode}
-use Rattle.rule_parse.specs.CutTokens.{limited_to, room_behind, or_excess}
-use Rattle.rule_parse.proofs.Cuts.{IsOfText, AreOfText}
+use Rattle.scan.specs.Lines.{line_of}
+use Rattle.scan.specs.RuleTokens.{Begins}
+use Rattle.rule_tokens.specs.Tokens.{Opcode, AtToken, ends, token, name}
 use Rattle.rule_viable_prefixes.proofs.Lines.{NamesEndLines}
 
 -- ---- what ends the rest of a line

@@ -1,14 +1,6 @@
 -- What the kind of a fault says of the token that it is at, on a line with this many marks that may open a level.
-use Rattle.std.proofs.Common.{◌≡◌, ◌≢◌, ℕ, ◌≤◌, Bool, true, false, cond, List, [], ◌∷◌, refl, sym, ap, subst, ◌∙◌, ◌⊎◌, inl, inr, arith}
-use Rattle.std.specs.Prelude.{codes}
-use Rattle.std.specs.Str.{bytes_eq}
-use Rattle.rule_tokens.specs.declared.fault.RuleFaultKind.{RuleFaultKind}
-use Rattle.rule_tokens.specs.declared.fault.RuleFaultKind.TheVariants.{BadByte, Syntax, LeftOut, TooMany}
-use Rattle.rule_tokens.specs.Limits.{Limits}
-use Rattle.rule_tokens.specs.PartReaders.{unexpected, misplaced_word, left_out}
-use Rattle.rule_tokens.specs.Tokens.{Token, Line, Head, Name, Register, Word, Opcode, Number, Arrow, Mark, Other, Bad, Excess}
-use Rattle.ops.proofs.KeywordLemmas.{same_word}
-use Rattle.rule_viable_prefixes.specs.Misfits.{Fitting, NounFits}
+use Rattle.rule_viable_prefixes.proofs.Common.{◌≡◌, ◌≢◌, ℕ, ◌≤◌, Bool, true, false, cond, List, [], ◌∷◌, refl, sym, ap, subst, ◌∙◌, ◌⊎◌, inl, inr, arith, codes, bytes_eq, RuleFaultKind, BadByte, Syntax, LeftOut, TooMany, Limits, unexpected, misplaced_word, left_out, Token, Line, Head, Name, Register, Word, Number, Arrow, Mark, Bad, Excess, same_word, Fitting, NounFits}
+use Rattle.rule_tokens.specs.Tokens.{Opcode, Other}
 use Rattle.rule_viable_prefixes.proofs.Reasons.{IsTooDeep, IsTooMany, name, register, constant, choice, statement, nesting, Says, kind_at, IsMisfit, itself, read_on}
 
 module _ (limits : Limits) where

@@ -1,30 +1,8 @@
 -- Rule files: the fault of the version's line, or of the rules behind it, is where the tokens stop being a viable
 -- prefix.
-use Rattle.std.proofs.Common.{◌≡◌, ◌≢◌, ℕ, Bool, true, false, cond, List, [], ◌∷◌, ◌++◌, Option, Some, None, Result, Ok, Err, refl, sym, ap, subst, ◌∙◌, append_assoc, ◌⊎◌, inl, inr, arith}
-use Rattle.std.proofs.lemmas.List.{append-nil}
-use Rattle.std.specs.Prelude.{codes}
-use Rattle.std.specs.Str.{bytes_eq}
-use Rattle.ops.proofs.KeywordLemmas.{same_word}
-use Rattle.scan.specs.Bytes.{is_digit}
-use Rattle.rule_tokens.specs.declared.fault.RuleFaultKind.{RuleFaultKind}
-use Rattle.rule_tokens.specs.declared.fault.RuleFaultKind.TheVariants.{Syntax, LeftOut, TooMany}
-use Rattle.rule_tokens.specs.declared.version.Version.{Version}
-use Rattle.rule_tokens.specs.declared.version.Version.TheVariants.{One}
-use Rattle.rule_tokens.specs.Limits.{Limits}
-use Rattle.rule_tokens.specs.PartReaders.{misplaced_word, unexpected}
-use Rattle.rule_tokens.specs.RuleFaults.{RuleFault}
-use Rattle.rule_tokens.specs.Tokens.{Token, Line, Head, Word, Number, Bad, Excess}
-use Rattle.rule_tokens.specs.Versions.{version_in}
-use Rattle.rule_tokens.proofs.Ends.{EndsLine}
-use Rattle.rule_tokens.proofs.Steps.{ok_is}
-use Rattle.rule_tokens.proofs.Versions.{version_in-is}
-use Rattle.rule_parse.specs.declared.raw.RawRule.{RawRule}
-use Rattle.rule_parse.specs.Grammar.{SpellsRules, SpellsVersion, SpellsFile}
-use Rattle.rule_parse.specs.RuleReaders.{version_number_at, version_at, rules_at, rules_of, all_rules}
-use Rattle.rule_parse.proofs.Files.{version_read}
-use Rattle.rule_viable_prefixes.specs.Fits.{line_behind, line_of}
+use Rattle.rule_viable_prefixes.proofs.Common.{◌≡◌, ◌≢◌, ℕ, Bool, true, false, cond, List, [], ◌∷◌, ◌++◌, Option, Some, None, Result, Ok, Err, refl, sym, ap, subst, ◌∙◌, append_assoc, ◌⊎◌, inl, inr, arith, append-nil, codes, bytes_eq, same_word, is_digit, RuleFaultKind, Syntax, LeftOut, TooMany, Version, One, Limits, misplaced_word, unexpected, RuleFault, Token, Line, Head, Word, Number, Bad, Excess, version_in, EndsLine, ok_is, version_in-is, RawRule, SpellsRules, SpellsVersion, SpellsFile, version_number_at, version_at, rules_at, rules_of, all_rules, version_read, line_behind, NounFits}
+use Rattle.rule_viable_prefixes.specs.Fits.{line_of}
 use Rattle.rule_viable_prefixes.proofs.FitsWithin.{FitsWithin, FitsBehindWithin, LineFitsWithin}
-use Rattle.rule_viable_prefixes.specs.Misfits.{NounFits}
 use Rattle.rule_viable_prefixes.proofs.Reasons.{openings_on_line, IsExcused, one_use, repeated, nested, IsMisfit, itself, IsOtherVersion}
 use Rattle.rule_viable_prefixes.proofs.Files.{Fit, FitBehind, LineFit, AtRuleToken, AtRulesEnd, where_rules_refused}
 use Rattle.rule_viable_prefixes.proofs.FlagRuns.{IsNew, new_behind, none_new, new_on_line}

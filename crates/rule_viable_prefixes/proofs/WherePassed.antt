@@ -1,32 +1,9 @@
 -- `TooMany` is told exactly at the first token with which a limit is passed.
-use Rattle.std.proofs.Common.{◌≡◌, ◌≢◌, ℕ, ◌+◌, ◌<◌, ◌≤◌, Bool, true, false, List, [], ◌∷◌, ◌++◌, length, Result, Err, refl, sym, ap, subst, ◌∙◌, append_assoc, length-append, ◌⊎◌, inl, inr, arith}
-use Rattle.std.specs.Prelude.{if◌then◌else◌}
-use Rattle.std.proofs.lemmas.List.{append-nil}
-use Rattle.scan.specs.Laws.{OneTokenAtAPlace}
-use Rattle.scan.specs.RuleTokens.{is_among}
-use Rattle.rule_tokens.specs.declared.fault.RuleFaultKind.{RuleFaultKind}
-use Rattle.rule_tokens.specs.declared.fault.RuleFaultKind.TheVariants.{BadByte, Syntax, LeftOut, TooMany}
-use Rattle.rule_tokens.specs.Limits.{Limits}
-use Rattle.rule_tokens.specs.PartReaders.{fault}
-use Rattle.rule_tokens.specs.RuleFaults.{RuleFault}
-use Rattle.rule_tokens.specs.Tokens.{Token, Line, Name, Mark, Bad, Excess, AreTokens}
-use Rattle.rule_tokens.proofs.Ends.{EndsLine}
-use Rattle.rule_parse.specs.declared.raw.RawRule.{RawRule}
-use Rattle.rule_parse.specs.CutTokens.{limited}
-use Rattle.rule_parse.specs.Grammar.{SpellsFile}
-use Rattle.rule_parse.specs.Limits.{most_nodes}
-use Rattle.rule_parse.specs.NodeCounts.{counted_at_end, IsWithinLimit, IsCut}
-use Rattle.rule_parse.specs.RuleReaders.{all_rules}
-use Rattle.rule_parse.specs.Text.{IsFaultWithin}
-use Rattle.rule_parse.proofs.Counts.{kept_up_to_the_limit, passed_by_no_line}
-use Rattle.rule_parse.proofs.Cuts.{IsOfText, AreOfText, of_both, of_back}
-use Rattle.rule_parse.proofs.Files.{all_rules-is}
+use Rattle.rule_viable_prefixes.proofs.Common.{◌≡◌, ◌≢◌, ℕ, ◌+◌, ◌<◌, ◌≤◌, Bool, true, false, List, [], ◌∷◌, ◌++◌, length, Result, Err, refl, sym, ap, subst, ◌∙◌, append_assoc, length-append, ◌⊎◌, inl, inr, arith, if◌then◌else◌, append-nil, OneTokenAtAPlace, is_among, RuleFaultKind, BadByte, Syntax, LeftOut, TooMany, Limits, fault, RuleFault, Token, Line, Name, Mark, Bad, Excess, AreTokens, EndsLine, RawRule, limited, SpellsFile, most_nodes, counted_at_end, IsWithinLimit, IsCut, all_rules, IsFaultWithin, kept_up_to_the_limit, passed_by_no_line, IsOfText, AreOfText, of_both, of_back, all_rules-is, Fitting, StaysWithin, AllStayWithin}
 use Rattle.rule_viable_prefixes.specs.Fits.{line_of}
 use Rattle.rule_viable_prefixes.proofs.FitsWithin.{FitsWithin, FitsBehindWithin, fits_front, fits_before}
 use Rattle.rule_viable_prefixes.proofs.Reasons as kinds
-use Rattle.rule_viable_prefixes.specs.Misfits.{Fitting}
 use Rattle.rule_viable_prefixes.proofs.Reasons.{openings, openings_behind, openings_on_line, opening_marks, IsTooMany, IsMisfit, itself, read_on, IsOtherVersion}
-use Rattle.rule_viable_prefixes.specs.Passed.{StaysWithin, AllStayWithin}
 use Rattle.rule_viable_prefixes.proofs.LimitLaws.{fault_is, fits_wider}
 use Rattle.rule_viable_prefixes.proofs.Lines.{NamesEndLines}
 use Rattle.rule_viable_prefixes.proofs.Marks.{IsMark, bad, excess, Marking, State, step, Passed, bytes, levels, half, Kept, Marked, none, cut, over, over_name, later}

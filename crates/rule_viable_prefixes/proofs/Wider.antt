@@ -1,24 +1,11 @@
 -- What the parsers of terms read within wider limits: the same, but where `TooMany` is told.
-use Rattle.std.proofs.Common.{◌≡◌, ℕ, zero, suc, ◌≤◌, Bool, true, false, List, [], ◌∷◌, length, Option, Some, None, Result, Ok, Err, refl, subst, arith}
-use Rattle.std.specs.Prelude.{if◌then◌else◌, drop, nat_le}
-use Rattle.std.proofs.lemmas.Bool.{leb-true, le-leb}
+use Rattle.rule_viable_prefixes.proofs.Common.{◌≡◌, ℕ, zero, suc, ◌≤◌, Bool, true, false, List, [], ◌∷◌, length, Option, Some, None, Result, Ok, Err, refl, subst, arith, if◌then◌else◌, drop, nat_le, leb-true, le-leb, TooMany, Limits, AreWithin, RuleFault, ◌>>=◌, fault, name_within, Token, Register, Word, Number, Mark, TermPlace, RawNode, Start, Leaf, Prefix, Parenthesis, Meaning, next_is, chain_of, loosest, meaning_in, register_in, word_at, start_at, operator_at, join, joined_or_end, behind_at, inside_at, measured_at, shallow_in, primary_at, term_at}
 use Rattle.ops.specs.declared.opcode.Opcode.{Opcode}
-use Rattle.rule_tokens.specs.declared.fault.RuleFaultKind.TheVariants.{TooMany}
-use Rattle.rule_tokens.specs.Limits.{Limits, AreWithin}
-use Rattle.rule_tokens.specs.RuleFaults.{RuleFault}
-use Rattle.rule_tokens.specs.Steps.{◌>>=◌}
-use Rattle.rule_tokens.specs.PartReaders.{fault, name_within}
-use Rattle.rule_tokens.specs.Tokens.{Token, Register, Word, Number, Mark}
-use Rattle.rule_terms.specs.declared.place.TermPlace.{TermPlace}
 use Rattle.rule_terms.specs.declared.place.TermPlace.TheVariants as places
-use Rattle.rule_terms.specs.declared.raw.RawNode.{RawNode}
-use Rattle.rule_terms.specs.declared.start.Start.{Start}
-use Rattle.rule_terms.specs.declared.start.Start.TheVariants.{Leaf, Prefix, Parenthesis, Call, Width}
-use Rattle.rule_terms.specs.declared.word.Meaning.{Meaning}
+use Rattle.rule_terms.specs.declared.start.Start.TheVariants.{Call, Width}
 use Rattle.rule_terms.specs.declared.word.Meaning.TheVariants as meanings
-use Rattle.rule_terms.specs.Chains.{Reader, next_is, chain_of}
-use Rattle.rule_terms.specs.Keywords.{loosest, meaning_in}
-use Rattle.rule_terms.specs.TermReaders.{register_in, word_at, start_at, operator_at, join, joined_or_end, chain_at, behind_at, operand_at, inside_at, measured_at, begun_at, shallow_in, primary_at, term_at}
+use Rattle.rule_terms.specs.Chains.{Reader}
+use Rattle.rule_terms.specs.TermReaders.{chain_at, operand_at, begun_at}
 
 -- ---- results
 

@@ -1,18 +1,8 @@
 -- What the parsers of formulas read within wider limits.
-use Rattle.std.proofs.Common.{ℕ, zero, suc, ◌≤◌, Bool, true, false, List, [], ◌∷◌, length, refl, arith}
-use Rattle.std.specs.Prelude.{codes, drop}
-use Rattle.std.specs.List.{list_any}
-use Rattle.std.specs.Str.{bytes_eq}
-use Rattle.rule_tokens.specs.Limits.{Limits, AreWithin}
-use Rattle.rule_tokens.specs.Tokens.{Token, Register, Word}
-use Rattle.rule_terms.specs.declared.formula_word.Opening.{Opening}
-use Rattle.rule_terms.specs.declared.formula_word.Opening.TheVariants.{Turns, Encloses, Tests, Compares}
-use Rattle.rule_terms.specs.declared.formula_word.Predicate.{Predicate}
+use Rattle.rule_viable_prefixes.proofs.Common.{ℕ, zero, suc, ◌≤◌, Bool, true, false, List, [], ◌∷◌, length, refl, arith, codes, drop, list_any, bytes_eq, Limits, AreWithin, Token, Register, Word, Opening, Turns, Encloses, Tests, Compares, Predicate, RawFormula, And, Or, compares_at, tests_at, one_use_at, joins, members_of, more_alternatives, alternatives_of, turns_at, encloses_at, member_at, outer_member_at, asks_one_use, or_alternatives, formula_at}
 use Rattle.rule_terms.specs.declared.place.TermPlace.TheVariants.{Constant}
-use Rattle.rule_terms.specs.declared.raw.RawFormula.{RawFormula}
-use Rattle.rule_terms.specs.declared.raw.RawFormula.TheVariants.{And, Or}
 use Rattle.rule_terms.specs.Chains.{Reader}
-use Rattle.rule_terms.specs.FormulaReaders.{opening_at, compares_at, tests_at, register_at, one_use_at, joins, members_of, more_alternatives, alternatives_of, turns_at, encloses_at, begun_at, too_deep, member_at, outer_member_at, asks_one_use, or_alternatives, formula_at}
+use Rattle.rule_terms.specs.FormulaReaders.{opening_at, register_at, begun_at, too_deep}
 use Rattle.rule_viable_prefixes.proofs.Wider.{Below, same_answer, too_many, below_bind, below_if, BelowReader, chain_of_below, name_below, term_below}
 
 -- ---- formulas of any members

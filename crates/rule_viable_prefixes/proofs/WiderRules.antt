@@ -1,22 +1,10 @@
 -- What the parsers of rules read within wider limits.
-use Rattle.std.proofs.Common.{ℕ, zero, suc, ◌≤◌, List, [], ◌∷◌, length, Option, Some, None, refl, arith}
-use Rattle.std.specs.Prelude.{drop, codes}
-use Rattle.std.specs.Str.{bytes_eq}
+use Rattle.rule_viable_prefixes.proofs.Common.{ℕ, zero, suc, ◌≤◌, List, [], ◌∷◌, length, Option, Some, None, refl, arith, drop, codes, bytes_eq, Cast, no_flags, flags_of_icmp, is_constant, Version, Limits, AreWithin, maybe_type, Token, Line, Head, Name, Register, Word, Number, Witness, Half, Source, Target, Operation, source_word, term_argument_at, argument_at, typed_at, flags_at, pair_at, binary_at, pred_at, compare_at, truth_at, unary_at, select_at, convert_at, freeze_at, copy_at, operation_at, other_at, next_operation, operation_or_other, op_at, statement_at, statements_at, name_text, name_at, precondition_at, expression_at, expressions_at, witness_at, source_at, target_at, rule_at, rules_at, version_at, all_rules}
 use Rattle.ops.specs.declared.opcode.Opcode.{Opcode}
 use Rattle.ops.specs.declared.opcode.Unary.{Unary as Intrinsic}
-use Rattle.ops.specs.declared.conversion.Cast.{Cast}
-use Rattle.ops.specs.Flags.{no_flags, flags_of_icmp}
-use Rattle.scan.specs.RuleTokens.{is_constant}
-use Rattle.rule_tokens.specs.declared.version.Version.{Version}
-use Rattle.rule_tokens.specs.Limits.{Limits, AreWithin}
-use Rattle.rule_tokens.specs.PartReaders.{maybe_type}
-use Rattle.rule_tokens.specs.Tokens.{Token, Line, Head, Name, Register, Word, Number}
-use Rattle.rule_terms.specs.declared.place.TermPlace.TheVariants.{Constant, Witness}
-use Rattle.rule_parse.specs.declared.half.Half.{Half}
-use Rattle.rule_parse.specs.declared.half.Half.TheVariants.{Source, Target}
-use Rattle.rule_parse.specs.declared.word.Operation.{Operation}
+use Rattle.rule_terms.specs.declared.place.TermPlace.TheVariants.{Constant}
 use Rattle.rule_parse.specs.declared.word.Operation.TheVariants as operations
-use Rattle.rule_parse.specs.RuleReaders.{register_at, source_word, term_argument_at, argument_at, typed_at, operand_at, flags_at, pair_at, binary_at, pred_at, compare_at, truth_at, unary_at, select_at, convert_at, freeze_at, copy_at, operation_at, other_at, next_operation, operation_or_other, op_at, statement_at, statements_at, name_text, name_at, precondition_at, expression_at, expressions_at, witness_at, source_at, target_at, rule_at, rules_at, version_at, all_rules}
+use Rattle.rule_parse.specs.RuleReaders.{register_at, operand_at}
 use Rattle.rule_viable_prefixes.proofs.Wider.{Below, same_answer, too_many, below_bind, below_if, BelowReader, chain_of_below, name_below, term_below}
 use Rattle.rule_viable_prefixes.proofs.WiderFormulas.{formula_below}
 

@@ -1,24 +1,5 @@
 -- What words spell for parameters.
-use Rattle.std.proofs.Math.Pow.{pow_mono}
-use Rattle.std.proofs.lemmas.Bool.{eqb-true, eqb-false, ltb-true, ltb-false, leb-true, lt-ltb, le-leb, eq-eqb, and_parts, and_from, or_parts, false_from_ne_true}
-use Rattle.std.proofs.Common.{◌≡◌, ◌≢◌, ℕ, zero, suc, ◌+◌, ◌<◌, ◌≤◌, ◌^◌, Bool, true, false, ◌&&◌, ◌||◌, List, [], ◌∷◌, ◌++◌, Option, Some, None, Result, Ok, length, map, take, get_or, refl, sym, ap, subst, ◌∙◌, arith, Contains}
-use Rattle.std.specs.Prelude.{◌↔◌, IsSome, IfSome, IsSomeAnd, MatchOption, option_map, slice_get, slice_index, nat_lt, nat_le, not, ◌==◌, codes, if◌then◌else◌}
-use Rattle.std.specs.Borrow.{Bor}
-use Rattle.std.specs.Str.{all_ascii_digits, bytes_eq}
-use Rattle.std.specs.Str.Parse.{ParsesUnsigned, digits_value}
-use Rattle.std.proofs.lemmas.Str.Parse.{IsNumeralModel, numerals_by_value, tells_all_ascii_digits, parse_plain, parse_gives}
-use Rattle.std.proofs.lemmas.List.{take_more, take_all, map-append, length-map}
-use Rattle.std.proofs.lemmas.Option.{slice_get_within, slice_get-map, slice_get-get_or, slice_get_read, get_or_from_slice_get, same_Some}
-use Rattle.std.proofs.lemmas.Result.{OkIff-at_ok}
-use Rattle.ops.specs.Number.{Number}
-use Rattle.ops.specs.Integer.{bits}
-use Rattle.ops.specs.Value.{IsValueOf}
-use Rattle.ops.specs.declared.value.Value.{Value}
-use Rattle.ops.specs.declared.value.Value.TheVariants.{Poison, Bits}
-use Rattle.ir_core.specs.declared.function.Parameter.{Parameter}
-use Rattle.ir_core.specs.Refines.{AreArguments}
-use Rattle.run_text.specs.Arguments.{number, is_decimal, decimal_said, value_said, values_said, is_true, is_false, AreSaid}
-use Rattle.run_text.specs.Arguments.{begins_as_none}
+use Rattle.run_text.proofs.Common.{pow_mono, eqb-true, eqb-false, ltb-true, ltb-false, leb-true, lt-ltb, le-leb, eq-eqb, and_parts, and_from, or_parts, false_from_ne_true, ◌≡◌, ◌≢◌, ℕ, zero, suc, ◌+◌, ◌<◌, ◌≤◌, ◌^◌, Bool, true, false, ◌&&◌, ◌||◌, List, [], ◌∷◌, ◌++◌, Option, Some, None, Result, Ok, length, map, take, get_or, refl, sym, ap, subst, ◌∙◌, arith, Contains, ◌↔◌, IsSome, IfSome, IsSomeAnd, MatchOption, option_map, slice_get, slice_index, nat_lt, nat_le, not, ◌==◌, codes, if◌then◌else◌, Bor, all_ascii_digits, bytes_eq, ParsesUnsigned, digits_value, IsNumeralModel, numerals_by_value, tells_all_ascii_digits, parse_plain, parse_gives, take_more, take_all, map-append, length-map, slice_get_within, slice_get-map, slice_get-get_or, slice_get_read, get_or_from_slice_get, same_Some, OkIff-at_ok, Number, bits, IsValueOf, Value, Poison, Bits, Parameter, AreArguments, number, is_decimal, decimal_said, value_said, values_said, is_true, is_false, AreSaid, begins_as_none}
 
 -- ---- word by word
 

@@ -1,13 +1,6 @@
 -- The laws of modules that are read and of those that are written.
-use Rattle.std.proofs.Common.{Some, Contains, ap, ◌∙◌}
-use Rattle.std.proofs.lemmas.Option.{slice_get-get_or}
-use Rattle.ir_core.specs.declared.module.Module.{Module}
-use Rattle.ir_core.specs.declared.module.Entry.{Entry}
+use Rattle.run_text.proofs.Common.{Some, Contains, ap, ◌∙◌, slice_get-get_or, Module, Entry, Function, MeetsChecks, ModuleMeetsChecks, FunctionsHaveOutcomes, ModuleHasOutcomes}
 use Rattle.ir_core.specs.declared.module.Entry.TheVariants as entries
-use Rattle.ir_core.specs.declared.function.Function.{Function}
-use Rattle.ir_core.specs.Checks.{MeetsChecks, ModuleMeetsChecks}
-use Rattle.ir_meaning.specs.Laws.{FunctionsHaveOutcomes}
-use Rattle.run_text.specs.OutcomeLaws.{ModuleHasOutcomes}
 
 -- a function of a module that meets its checks does so
 pub function_meets : (m : Module) (f : Function) → ModuleMeetsChecks m → Contains m.entries (entries.Function f) → MeetsChecks f

@@ -1,3 +1,4 @@
+pub mod Common
 pub mod ArgumentLemmas
 pub mod NamedLemmas
 pub mod RunningLemmas

@@ -1,19 +1,6 @@
 -- A run names a function of its module and arguments that fit it.
-use Rattle.std.proofs.Common.{◌≡◌, ℕ, zero, suc, inl, inr, List, [], ◌∷◌, Option, Some, None, map, Contains, sym, subst, ap, ◌∙◌}
-use Rattle.std.specs.Prelude.{slice_get}
-use Rattle.std.proofs.lemmas.Option.{slice_get-get_or}
-use Rattle.ops.specs.declared.value.Value.{Value}
-use Rattle.ir_core.specs.declared.module.Module.{Module}
-use Rattle.ir_core.specs.declared.module.Entry.{Entry}
+use Rattle.run_text.proofs.Common.{◌≡◌, ℕ, zero, suc, inl, inr, List, [], ◌∷◌, Option, Some, None, map, Contains, sym, subst, ap, ◌∙◌, slice_get, slice_get-get_or, Value, Module, Entry, Function, Parameter, ModuleMeetsChecks, TextsHaveOneModuleOrFault, module_meets, AreSaid, DoNotFit, IsNamed, HasNoRun, unnamed, unfit, RunsAreNotMisnamed}
 use Rattle.ir_core.specs.declared.module.Entry.TheVariants as entries
-use Rattle.ir_core.specs.declared.function.Function.{Function}
-use Rattle.ir_core.specs.declared.function.Parameter.{Parameter}
-use Rattle.ir_core.specs.Checks.{ModuleMeetsChecks}
-use Rattle.ir_reader.specs.Laws.{TextsHaveOneModuleOrFault}
-use Rattle.ir_reader.proofs.CheckLemmas.{module_meets}
-use Rattle.run_text.specs.Arguments.{AreSaid, DoNotFit}
-use Rattle.run_text.specs.Runs.{IsNamed, HasNoRun, unnamed, unfit}
-use Rattle.run_text.specs.OutcomeLaws.{RunsAreNotMisnamed}
 
 -- the place of the function among the entries
 place_of : (m : Module) (name : List ℕ) (f : Function) → (named : IsNamed m name f) → slice_get m.entries named.entry.0 ≡ Some (entries.Function f)

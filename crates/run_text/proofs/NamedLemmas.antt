@@ -1,15 +1,6 @@
 -- The linear search for the function of a name.
-use Rattle.std.proofs.Common.{◌≡◌, ℕ, ◌+◌, ◌<◌, ◌≤◌, Bool, false, List, Some, length, get_or, ap, sym, ◌∙◌, arith, below_more}
-use Rattle.std.specs.Prelude.{slice_get}
-use Rattle.std.specs.Str.{bytes_eq}
-use Rattle.std.proofs.lemmas.Bool.{both_ways}
-use Rattle.std.proofs.lemmas.Slice.Eq.{bytes_eq-Decides}
-use Rattle.std.proofs.lemmas.Option.{slice_get-get_or, get_or_from_slice_get}
-use Rattle.ir_core.specs.declared.module.Module.{Module}
-use Rattle.ir_core.specs.declared.module.Entry.{Entry}
+use Rattle.run_text.proofs.Common.{◌≡◌, ℕ, ◌+◌, ◌<◌, ◌≤◌, Bool, false, List, Some, length, get_or, ap, sym, ◌∙◌, arith, below_more, slice_get, bytes_eq, both_ways, bytes_eq-Decides, slice_get-get_or, get_or_from_slice_get, Module, Entry, Function, IsNamed}
 use Rattle.ir_core.specs.declared.module.Entry.TheVariants as entries
-use Rattle.ir_core.specs.declared.function.Function.{Function}
-use Rattle.run_text.specs.Runs.{IsNamed}
 
 -- none of the first n entries is a function of the name
 abbrev pub NoneBefore : List Entry → List ℕ → ℕ → Type 0

@@ -1,17 +1,5 @@
 -- Words that don't fit the function that they name.
-use Rattle.std.proofs.Common.{◌≡◌, ℕ, List, sym, subst}
-use Rattle.refusal.specs.declared.fault.Fault.{Fault}
-use Rattle.refusal.specs.declared.refusal.Refusal.{Refusal}
-use Rattle.refusal.specs.declared.refusal.Refusal.TheVariants.{Refused, NoMemory}
-use Rattle.refusal.specs.Refusals.{IfRefused}
-use Rattle.ir_reader.specs.IrFaultKind.{IrFaultKind}
-use Rattle.ir_reader.specs.Faults.{IsFault}
-use Rattle.run_text.specs.declared.fault.RunFault.{RunFault}
-use Rattle.run_text.specs.RunFaults.{IsRunFault, of_text}
-use Rattle.ir_core.specs.declared.module.Module.{Module}
-use Rattle.ir_core.specs.declared.function.Function.{Function}
-use Rattle.run_text.specs.Arguments.{DoNotFit}
-use Rattle.run_text.specs.Runs.{IsReadAs, IsNamed, unfit, IsMisnamed}
+use Rattle.run_text.proofs.Common.{◌≡◌, ℕ, List, sym, subst, Fault, Refusal, Refused, NoMemory, IfRefused, IrFaultKind, IsFault, RunFault, IsRunFault, of_text, Module, Function, DoNotFit, IsReadAs, IsNamed, unfit, IsMisnamed}
 
 pub misnamed : (bytes name : List ℕ) (words : List (List ℕ)) (m : Module) (f : Function) → IsReadAs bytes m → IsNamed m name f → DoNotFit f.parameters words → IsMisnamed bytes name words
 misnamed bytes name words m f source named not_fit = record { read = m; source = source; no_run = unfit f named not_fit }

@@ -1,14 +1,5 @@
 -- Hints taken one by one, and where the literals stand that they propagate.
-use Rattle.std.specs.Prelude.{◌==◌}
-use Rattle.std.proofs.Common.{◌≡◌, ℕ, true, List, [], ◌∷◌, ◌++◌, get_or, ap, ◌∙◌, subst}
-use Rattle.std.proofs.lemmas.Bool.{eq-eqb}
-use Rattle.std.proofs.lemmas.List.Elements.{All-contains}
-use Rattle.std.proofs.lemmas.List.Folds.{list_any_at}
-use Rattle.std.proofs.lemmas.Option.{slice_get_within, get_or_from_slice_get}
-use Rattle.clauses.specs.Literal.{Lit, IsVariable, IsWithin, VariablesWithin}
-use Rattle.clauses.specs.Propagation.{HintsRefute, NamesUnit}
-use Rattle.clauses.proofs.Derivations.{HintsRefute-move, NamesUnit-same}
-use Rattle.rup_checker.specs.Table.{stands_in}
+use Rattle.rup_checker.proofs.Common.{◌==◌, ◌≡◌, ℕ, true, List, [], ◌∷◌, ◌++◌, get_or, ap, ◌∙◌, subst, eq-eqb, All-contains, list_any_at, slice_get_within, get_or_from_slice_get, Lit, IsVariable, IsWithin, VariablesWithin, HintsRefute, NamesUnit, HintsRefute-move, NamesUnit-same, stands_in}
 
 -- hints refute nothing where the first of several names a clause without a unit literal
 pub no_move : (clauses : List (List Lit)) (held : List Lit) (number : ℕ) (rest : List ℕ) (last : ℕ) → ((l : Lit) → ¬ (NamesUnit clauses held number l)) → ¬ (HintsRefute clauses held (number ∷ (rest ++ last ∷ [])))

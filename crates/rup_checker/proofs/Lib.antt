@@ -1,3 +1,4 @@
+pub mod Common
 pub mod TableLemmas
 pub mod HintLemmas
 pub mod UsedLemmas

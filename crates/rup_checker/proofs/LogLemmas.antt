@@ -1,14 +1,5 @@
 -- Logs taken step by step.
-use Rattle.std.proofs.Common.{◌≡◌, ℕ, suc, ◌+◌, ◌<◌, List, Some, sym, ap, ◌∙◌, arith, inl, inr, subst, add-one}
-use Rattle.std.specs.Prelude.{slice_get}
-use Rattle.std.proofs.lemmas.Bool.{cases_lt}
-use Rattle.std.proofs.lemmas.List.Elements.{All-push}
-use Rattle.std.proofs.lemmas.Option.{same_Some}
-use Rattle.clauses.specs.declared.step.Step.{Step}
-use Rattle.clauses.specs.declared.cnf.Cnf.{Cnf}
-use Rattle.clauses.specs.Literal.{IsWithin, VariablesWithin}
-use Rattle.clauses.specs.ClauseSet.{StepFollows, clauses_before}
-use Rattle.clauses.proofs.LogSoundness.{clauses_before-suc}
+use Rattle.rup_checker.proofs.Common.{◌≡◌, ℕ, suc, ◌+◌, ◌<◌, List, Some, sym, ap, ◌∙◌, arith, inl, inr, subst, add-one, slice_get, cases_lt, All-push, same_Some, Step, Cnf, IsWithin, VariablesWithin, StepFollows, clauses_before, clauses_before-suc}
 
 -- each step before this place follows
 abbrev pub FollowsBefore : Cnf → List Step → ℕ → Type 0

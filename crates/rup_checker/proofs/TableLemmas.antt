@@ -1,11 +1,5 @@
 -- What the table says of a clause's literals.
-use Rattle.std.proofs.Common.{◌≡◌, Bool, true, false, not, ◌&&◌, ◌||◌, cond, eqb, List, [], ◌∷◌, refl, sym, ap, ◌∙◌, inl, inr}
-use Rattle.std.proofs.lemmas.Bool.{cases_Bool, or_parts, or_from, or_left, and_left, and_right, ne_eqb, eqb-false, true≢false}
-use Rattle.clauses.specs.Literal.{Lit, is_same, negation_of}
-use Rattle.clauses.specs.Propagation.{is_held, negations_of}
-use Rattle.clauses.proofs.Held.{is_same-true}
-use Rattle.rup_checker.specs.declared.table.Entry.{Entry}
-use Rattle.rup_checker.specs.Table.{Represents, table_holds, stands_in}
+use Rattle.rup_checker.proofs.Common.{◌≡◌, Bool, true, false, not, ◌&&◌, ◌||◌, cond, eqb, List, [], ◌∷◌, refl, sym, ap, ◌∙◌, inl, inr, cases_Bool, or_parts, or_from, or_left, and_left, and_right, ne_eqb, eqb-false, true≢false, Lit, is_same, negation_of, is_held, negations_of, is_same-true, Entry, Represents, table_holds, stands_in}
 
 -- a table that is told of one more literal represents the state that holds it too
 pub Represents-hold : (old new : List Entry) (held : List Lit) (l : Lit) → ((m : Lit) → table_holds new m ≡ (is_same m l || table_holds old m)) → Represents old held → Represents new (l ∷ held)

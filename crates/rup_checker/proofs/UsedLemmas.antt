@@ -1,15 +1,6 @@
 -- Marked clauses, those that have propagated a literal. It is held and unit in the clause still, so a hint that names
 -- the clause again propagates nothing new.
-use Rattle.std.specs.Prelude.{◌==◌, Contains}
-use Rattle.std.proofs.Common.{◌≡◌, ℕ, zero, suc, ◌+◌, ◌<◌, ◌≤◌, Bool, true, false, not, ◌&&◌, ◌||◌, cond, eqb, List, [], ◌∷◌, ◌++◌, drop, get_or, length, refl, sym, ap, ◌∙◌, inl, inr, subst, arith}
-use Rattle.std.proofs.lemmas.Bool.{cases_Bool, or_cases, or_from, or_left, or_right, and_parts, and_from, and_right, eqb-true, eq-eqb, true≢false, false_from_ne_true}
-use Rattle.std.proofs.lemmas.List.{drop_all, drop_more}
-use Rattle.std.proofs.lemmas.List.Elements.{Contains-append_cases, Contains-append_left, Contains-get_or}
-use Rattle.clauses.specs.Literal.{Lit, is_same, negation_of}
-use Rattle.clauses.specs.Propagation.{NamesUnit, is_false, is_held}
-use Rattle.clauses.proofs.Held.{is_same-self, is_same-true, negation-negation}
-use Rattle.rup_checker.specs.declared.table.Entry.{Entry}
-use Rattle.rup_checker.specs.Table.{Accounted, stands_in, table_holds, used_in}
+use Rattle.rup_checker.proofs.Common.{◌==◌, Contains, ◌≡◌, ℕ, zero, suc, ◌+◌, ◌<◌, ◌≤◌, Bool, true, false, not, ◌&&◌, ◌||◌, cond, eqb, List, [], ◌∷◌, ◌++◌, drop, get_or, length, refl, sym, ap, ◌∙◌, inl, inr, subst, arith, cases_Bool, or_cases, or_from, or_left, or_right, and_parts, and_from, and_right, eqb-true, eq-eqb, true≢false, false_from_ne_true, drop_all, drop_more, Contains-append_cases, Contains-append_left, Contains-get_or, Lit, is_same, negation_of, NamesUnit, is_false, is_held, is_same-self, is_same-true, negation-negation, Entry, Accounted, stands_in, table_holds, used_in}
 use Rattle.rup_checker.proofs.HintLemmas.{unit_stands}
 
 -- each marked clause has a unit literal, which is held already

@@ -1,19 +1,7 @@
 -- Which kinds of tokens of a module may begin with a byte.
-use Rattle.std.proofs.Common.{◌≡◌, ℕ, zero, suc, ◌+◌, ◌<◌, ◌≤◌, max, Bool, true, false, eqb, not, ◌&&◌, ◌||◌, List, [], ◌∷◌, length, take, drop, get_or, refl, sym, ap, subst, ◌∙◌, ⊎_elim, ◌⊎◌, inl, inr, arith}
-use Rattle.std.specs.List.{list_all, prefix_len, Contains}
-use Rattle.std.proofs.lemmas.List.{length-drop, drop_all, at_drop_more}
-use Rattle.std.proofs.lemmas.List.Folds.{list_all_more}
-use Rattle.std.specs.Str.{bytes_eq}
-use Rattle.std.proofs.lemmas.Bool.{false≢true, eqb-true}
-use Rattle.std.proofs.lemmas.Slice.Eq.{bytes_eq-Decides}
-use Rattle.std.proofs.Math.Nat.{max-zero, zero-max}
-use Rattle.scan.specs.declared.ir.token.TokenKind.{TokenKind}
-use Rattle.scan.specs.declared.ir.token.TokenKind.TheVariants.{End, Other, Label, Word, Number, Register, Function, Group, Metadata, Quoted, Mark}
-use Rattle.scan.specs.Bytes.{is_bad, is_digit, is_letter, begins_name, begins_word, is_name_byte, begins_with, is_run}
-use Rattle.scan.specs.Longest.{IsLongest}
-use Rattle.scan.specs.Quoted.{is_quotable, is_quoted, in_quotes, unquoted}
-use Rattle.scan.specs.RuleTokens.{is_among, is_negative, is_literal}
-use Rattle.scan.specs.IrTokens.{is_plain_name, is_name, is_behind, is_word, is_number, is_register, is_function, is_group, is_metadata, marks, spells, IsLongestFront, BeginsBadly, HoldsZero}
+use Rattle.scan.proofs.Common.{◌≡◌, ℕ, zero, suc, ◌+◌, ◌<◌, ◌≤◌, max, Bool, true, false, eqb, not, ◌&&◌, ◌||◌, List, [], ◌∷◌, length, take, drop, get_or, refl, sym, ap, subst, ◌∙◌, ⊎_elim, ◌⊎◌, inl, inr, arith, list_all, prefix_len, Contains, length-drop, drop_all, at_drop_more, list_all_more, bytes_eq, false≢true, eqb-true, bytes_eq-Decides, max-zero, zero-max, TokenKind, Label, Function, Group, Metadata, Quoted, is_bad, is_digit, is_letter, begins_name, begins_word, is_name_byte, begins_with, is_run, IsLongest, is_quotable, is_quoted, in_quotes, unquoted, is_among, is_negative, is_literal, is_plain_name, is_name, is_behind, is_word, is_number, is_function, is_group, is_metadata, spells, IsLongestFront, BeginsBadly, HoldsZero}
+use Rattle.scan.specs.declared.ir.token.TokenKind.TheVariants.{End, Other, Word, Number, Register, Mark}
+use Rattle.scan.specs.IrTokens.{is_register, marks}
 use Rattle.scan.proofs.Fronts.{which, and_left, and_right, and_both, or_left, or_right, or_true, front_begins, marked_none, begun_none, begun_longest}
 use Rattle.scan.proofs.LawLemmas.{is_good, digit_good, among_begins}
 use Rattle.scan.proofs.PlaceLemmas.{begins_some}

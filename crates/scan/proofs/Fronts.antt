@@ -1,17 +1,6 @@
 -- The longest prefix (front) of a text that passes a test.
-use Rattle.std.proofs.Common.{◌≡◌, ◌≢◌, ℕ, zero, suc, ◌+◌, ◌<◌, ◌≤◌, max, Bool, true, false, eqb, ltb, ◌&&◌, ◌||◌, List, [], ◌∷◌, ◌++◌, length, take, drop, refl, sym, ap, subst, ◌∙◌, ⊎_elim, ◌⊎◌, inl, inr, arith, add-one, eq-eqb, map, get_or}
-use borrow.Author.Tests.{ltb-true, ltb-false}
-use Rattle.std.specs.List.{list_all, prefix_len}
-use Rattle.std.proofs.lemmas.Bool.{false≢true}
-use Rattle.std.proofs.Math.Numerals.{one-add}
-use Rattle.std.proofs.lemmas.List.Sums.{prefix_len-le-length}
-use Rattle.std.specs.Str.{bytes_eq}
-use Rattle.std.proofs.lemmas.Slice.Eq.{bytes_eq-Decides}
-use Rattle.std.proofs.lemmas.List.{length-take-le, take_more, take_all, map-append}
-use Rattle.std.proofs.lemmas.List.Folds.{list_any-append}
-use Rattle.scan.specs.RuleTokens.{is_among}
-use Rattle.scan.specs.Bytes.{begins_with, is_run, is_run_behind}
-use Rattle.scan.specs.Longest.{IsLongest}
+use Rattle.scan.proofs.Common.{◌≡◌, ◌≢◌, ℕ, zero, suc, ◌+◌, ◌<◌, ◌≤◌, max, Bool, true, false, eqb, ltb, ◌&&◌, ◌||◌, List, [], ◌∷◌, ◌++◌, length, take, drop, refl, sym, ap, subst, ◌∙◌, ⊎_elim, ◌⊎◌, inl, inr, arith, add-one, map, get_or, list_all, prefix_len, false≢true, one-add, prefix_len-le-length, bytes_eq, bytes_eq-Decides, length-take-le, take_more, take_all, map-append, list_any-append, is_among, begins_with, is_run, is_run_behind, IsLongest}
+use Rattle.std.proofs.Common.{eq-eqb, ltb-true, ltb-false}
 
 -- a test holds or fails
 pub which : (b : Bool) → (b ≡ true) ⊎ (b ≡ false)

@@ -1,13 +1,7 @@
 -- What the code skips before a token is a gap.
-use Rattle.std.proofs.Common.{◌≡◌, ◌≢◌, ℕ, ◌+◌, ◌-◌, ◌<◌, ◌≤◌, Bool, true, false, eqb, List, [], ◌∷◌, ◌++◌, length, take, drop, get_or, refl, sym, ap, subst, ◌∙◌, ⊎_elim, ◌⊎◌, inl, inr, append_assoc, add-one, eq-eqb, arith}
-use Rattle.std.proofs.lemmas.Bool.{eqb-true, false≢true}
-use Rattle.std.proofs.lemmas.List.{append-nil, length-append, length-drop, take_at, drop_at, drop-drop}
-use Rattle.scan.specs.Bytes.{is_blank, is_space, begins_with}
-use Rattle.scan.specs.Gaps.{IsInLine, IsGap, nothing, space, comment, IsLastGap}
-use Rattle.std.proofs.lemmas.List.Sums.{count_by_more_yes, count_by_more_no}
-use Rattle.std.proofs.Math.Seq.{drop-cons}
-use Rattle.scan.specs.Lines.{between, feeds}
-use Rattle.scan.specs.GapFronts.{in_gap, behind_gap}
+use Rattle.scan.proofs.Common.{◌≡◌, ◌≢◌, ℕ, ◌+◌, ◌-◌, ◌<◌, ◌≤◌, Bool, true, false, eqb, List, [], ◌∷◌, ◌++◌, length, take, drop, get_or, refl, sym, ap, subst, ◌∙◌, ⊎_elim, ◌⊎◌, inl, inr, append_assoc, add-one, arith, eqb-true, false≢true, append-nil, length-append, length-drop, take_at, drop_at, drop-drop, is_blank, is_space, begins_with, IsInLine, IsGap, space, comment, IsLastGap, count_by_more_yes, count_by_more_no, drop-cons, between, feeds, in_gap, behind_gap}
+use Rattle.std.proofs.Common.{eq-eqb}
+use Rattle.scan.specs.Gaps.{nothing}
 use Rattle.scan.proofs.Fronts.{which, or_left}
 
 not_ten : (b : ℕ) → eqb b 10 ≡ false → b ≢ 10

@@ -1,13 +1,6 @@
 -- The bracket that closes another, as a loop over the bytes finds it.
-use Rattle.std.proofs.Common.{◌≡◌, ℕ, zero, suc, cond, ◌+◌, ◌-◌, ◌<◌, ◌≤◌, Bool, true, false, not, eqb, List, [], ◌∷◌, ◌++◌, Option, Some, None, length, take, drop, refl, sym, ap, subst, ◌∙◌, ⊎_elim, append_assoc, add-one, sub-one, get_or, arith}
-use Rattle.std.specs.List.{list_all}
-use Rattle.std.proofs.lemmas.Bool.{eqb-true, false≢true}
-use Rattle.std.proofs.lemmas.List.{at_drop_more, at_drop_all, length-drop, length-append, length-take, take_at, take-append-drop}
-use Rattle.scan.specs.declared.span.Span.{Span}
-use Rattle.scan.specs.Lines.{between, feeds}
-use Rattle.scan.specs.Kept.{is_plain, IsBalanced, nothing, byte, quoted, group, IsGroup, HasNoGroup}
-use Rattle.scan.specs.Quoted.{is_quotable}
-use Rattle.scan.specs.Laws.{OneGroupAtAPlace}
+use Rattle.scan.proofs.Common.{◌≡◌, ℕ, zero, suc, cond, ◌+◌, ◌-◌, ◌<◌, ◌≤◌, Bool, true, false, not, eqb, List, [], ◌∷◌, ◌++◌, Option, Some, None, length, take, drop, refl, sym, ap, subst, ◌∙◌, ⊎_elim, append_assoc, add-one, sub-one, get_or, arith, list_all, eqb-true, false≢true, at_drop_more, at_drop_all, length-drop, length-append, length-take, take_at, take-append-drop, Span, between, feeds, is_plain, IsBalanced, byte, quoted, group, IsGroup, HasNoGroup, is_quotable, OneGroupAtAPlace}
+use Rattle.scan.specs.Kept.{nothing}
 use Rattle.scan.proofs.Fronts.{which}
 use Rattle.scan.proofs.PlaceLemmas.{feeds_append, feeds_between, no_feeds}
 

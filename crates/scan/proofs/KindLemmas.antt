@@ -1,12 +1,8 @@
 -- Which kind of token the longest prefix is.
-use Rattle.std.proofs.Common.{◌≡◌, ◌≢◌, ℕ, zero, suc, ◌<◌, ◌≤◌, Bool, true, false, cond, ltb, ◌||◌, not, List, [], ◌∷◌, Option, Some, None, length, take, drop, refl, sym, ap, subst, ◌∙◌, ⊎_elim, arith}
+use Rattle.scan.proofs.Common.{◌≡◌, ◌≢◌, ℕ, zero, suc, ◌<◌, ◌≤◌, Bool, true, false, cond, ltb, ◌||◌, not, List, [], ◌∷◌, Option, Some, None, length, take, drop, refl, sym, ap, subst, ◌∙◌, ⊎_elim, arith, RuleKind, Head, Arrow, is_bad, begins_with, in_gap, IsLongest, IsLongestOf, is_mark, is_placed_operator, is_unsigned_operator, is_remainder, is_rule_word, is_negative, is_literal, kind_of}
 use Rattle.std.proofs.lemmas.Bool.{ltb-true, ltb-false}
-use Rattle.scan.specs.declared.rule_token.RuleKind.{RuleKind}
-use Rattle.scan.specs.declared.rule_token.RuleKind.TheVariants.{End, Other, Head, Register, Word, Number, Arrow, Mark}
-use Rattle.scan.specs.Bytes.{is_bad, begins_with}
-use Rattle.scan.specs.GapFronts.{in_gap}
-use Rattle.scan.specs.Longest.{IsLongest, IsLongestOf}
-use Rattle.scan.specs.RuleTokens.{is_mark, is_placed_operator, is_unsigned_operator, is_remainder, is_register, is_rule_word, is_negative, is_literal, kind_of, IsLongestToken, Begins}
+use Rattle.scan.specs.declared.rule_token.RuleKind.TheVariants.{End, Other, Register, Word, Number, Mark}
+use Rattle.scan.specs.RuleTokens.{is_register, IsLongestToken, Begins}
 use Rattle.scan.proofs.Fronts.{which}
 
 abbrev Kinds : Type 0

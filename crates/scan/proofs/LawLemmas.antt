@@ -1,21 +1,7 @@
 -- There is at most one token, or one fault, behind the gap at a place.
-use Rattle.std.proofs.Common.{◌≡◌, ◌≢◌, ℕ, zero, suc, ◌+◌, ◌-◌, ◌<◌, ◌≤◌, Bool, true, false, cond, eqb, leb, not, ◌&&◌, ◌||◌, List, [], ◌∷◌, ◌++◌, Option, Some, None, Ok, Err, length, take, drop, refl, sym, ap, subst, ◌∙◌, ⊎_elim, ◌⊎◌, inl, inr, arith}
-use Rattle.std.specs.Prelude.{codes}
-use Rattle.std.specs.Str.{bytes_eq}
-use Rattle.std.specs.List.{list_all}
-use Rattle.std.proofs.lemmas.Bool.{false≢true, eqb-true, leb-true, leb-false}
-use Rattle.std.proofs.lemmas.Slice.Eq.{bytes_eq-Decides}
-use Rattle.std.proofs.lemmas.List.{append-nil, nil_from_length, take-append-drop, drop-drop, length-drop}
-use Rattle.scan.specs.declared.rule_token.RuleToken.{RuleToken}
-use Rattle.scan.specs.declared.bad_byte.BadByte.{BadByte}
-use Rattle.scan.specs.declared.rule_token.RuleKind.{RuleKind}
-use Rattle.scan.specs.declared.rule_token.RuleKind.TheVariants.{End, Other, Head, Register, Word, Number, Arrow, Mark}
-use Rattle.scan.specs.Bytes.{is_blank, is_space, is_printable, is_bad, is_digit, is_letter, is_run, is_run_behind, begins_with, is_register_byte, is_word_byte}
-use Rattle.scan.specs.Gaps.{IsGap, IsLastGap}
-use Rattle.scan.specs.Lines.{between, line_of}
-use Rattle.scan.specs.GapFronts.{in_gap, behind_gap}
-use Rattle.scan.specs.RuleTokens.{is_among, marks, heads, arrows, is_mark, is_placed_operator, is_unsigned_operator, is_remainder, is_register, is_rule_word, is_negative, is_literal, kind_of, IsLongestToken, BeginsNoToken, Begins, IsGapBefore, line_at, in_operator_place, IsNextRuleToken, IsBadNext}
-use Rattle.scan.specs.Laws.{OneTokenAtAPlace}
+use Rattle.scan.proofs.Common.{◌≡◌, ◌≢◌, ℕ, zero, suc, ◌+◌, ◌-◌, ◌<◌, ◌≤◌, Bool, true, false, cond, eqb, leb, not, ◌&&◌, ◌||◌, List, [], ◌∷◌, ◌++◌, Option, Some, None, Ok, Err, length, take, drop, refl, sym, ap, subst, ◌∙◌, ⊎_elim, ◌⊎◌, inl, inr, arith, codes, bytes_eq, list_all, false≢true, eqb-true, leb-true, leb-false, bytes_eq-Decides, append-nil, nil_from_length, take-append-drop, drop-drop, length-drop, RuleToken, BadByte, RuleKind, Head, Arrow, is_blank, is_space, is_printable, is_bad, is_digit, is_letter, is_run, is_run_behind, begins_with, is_register_byte, is_word_byte, IsGap, IsLastGap, between, line_of, in_gap, behind_gap, is_among, heads, arrows, is_mark, is_placed_operator, is_unsigned_operator, is_remainder, is_rule_word, is_negative, is_literal, kind_of, in_operator_place, IsNextRuleToken, IsBadNext, OneTokenAtAPlace}
+use Rattle.scan.specs.declared.rule_token.RuleKind.TheVariants.{End, Other, Register, Word, Number, Mark}
+use Rattle.scan.specs.RuleTokens.{marks, is_register, IsLongestToken, BeginsNoToken, Begins, IsGapBefore, line_at}
 use Rattle.scan.proofs.Fronts.{which, and_left, and_right, or_true}
 use Rattle.scan.proofs.GapLemmas.{gap_skipped, last_gap_skipped}
 use Rattle.scan.proofs.PlaceLemmas.{end_or_not}

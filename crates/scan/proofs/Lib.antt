@@ -1,3 +1,4 @@
+pub mod Common
 pub mod FirstBytes
 pub mod Fronts
 pub mod GapLemmas

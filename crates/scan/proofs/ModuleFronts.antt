@@ -1,14 +1,6 @@
 -- For each kind of token of a module, the longest prefix of a text that is one.
-use Rattle.std.proofs.Common.{◌≡◌, ◌≢◌, ℕ, zero, suc, ◌+◌, ◌-◌, ◌<◌, ◌≤◌, Bool, true, false, not, eqb, ◌&&◌, List, [], ◌∷◌, length, take, drop, get_or, refl, sym, ap, subst, ◌∙◌, ⊎_elim, ◌⊎◌, add-one, eq-eqb, arith}
-use Rattle.std.specs.List.{list_all, prefix_len}
-use Rattle.std.proofs.lemmas.Bool.{false≢true, eqb-true, cases_lt}
-use Rattle.std.proofs.Math.Numerals.{one-add}
-use Rattle.std.proofs.lemmas.List.{length-drop, length-take-le, take-take, get_or-take, at_drop_more}
-use Rattle.std.proofs.lemmas.List.Sums.{prefix_len-le-length}
-use Rattle.scan.specs.Bytes.{is_digit, is_letter, begins_name, is_name_byte, begins_with, is_run}
-use Rattle.scan.specs.Longest.{IsLongest}
-use Rattle.scan.specs.RuleTokens.{is_negative, is_literal}
-use Rattle.scan.specs.IrTokens.{is_name, is_behind, is_label, is_number}
+use Rattle.scan.proofs.Common.{◌≡◌, ◌≢◌, ℕ, zero, suc, ◌+◌, ◌-◌, ◌<◌, ◌≤◌, Bool, true, false, not, eqb, ◌&&◌, List, [], ◌∷◌, length, take, drop, get_or, refl, sym, ap, subst, ◌∙◌, ⊎_elim, ◌⊎◌, add-one, arith, list_all, prefix_len, false≢true, eqb-true, cases_lt, one-add, length-drop, length-take-le, take-take, get_or-take, at_drop_more, prefix_len-le-length, is_digit, is_letter, begins_name, is_name_byte, begins_with, is_run, IsLongest, is_negative, is_literal, is_name, is_behind, is_label, is_number}
+use Rattle.std.proofs.Common.{eq-eqb}
 use Rattle.scan.proofs.Fronts.{which, and_left, and_right, and_both, or_true, longest_none, behind_none, run_passes, run_longest}
 use Rattle.scan.proofs.PlaceLemmas.{begins_some}
 use Rattle.scan.proofs.NameLemmas.{is_name-empty, shorter_name}

@@ -1,15 +1,7 @@
 -- No bytes are tokens of two kinds, and the first byte of a token is valid and in no gap.
-use Rattle.std.proofs.Common.{◌≡◌, ℕ, suc, ◌-◌, ◌≤◌, Bool, true, false, cond, eqb, leb, not, ◌&&◌, ◌||◌, List, [], ◌∷◌, ◌++◌, length, take, get_or, refl, sym, ap, ◌∙◌, ⊎_elim, ◌⊎◌, arith}
-use Rattle.std.specs.Str.{bytes_eq}
-use Rattle.std.specs.List.{list_all, AllByRecursion}
-use Rattle.std.proofs.lemmas.Bool.{false≢true, eqb-true, leb-true}
-use Rattle.std.proofs.lemmas.Slice.Eq.{bytes_eq-Decides}
-use Rattle.scan.specs.declared.ir.token.TokenKind.{TokenKind}
-use Rattle.scan.specs.declared.ir.token.TokenKind.TheVariants.{End, Other, Label, Word, Number, Register, Function, Group, Metadata, Quoted, Mark}
-use Rattle.scan.specs.Bytes.{is_blank, is_space, is_printable, is_bad, is_digit, is_letter, begins_name, begins_word, is_name_byte, begins_with, is_run}
-use Rattle.scan.specs.Quoted.{in_quotes, is_quoted}
-use Rattle.scan.specs.IrTokens.{is_name, is_behind, is_label, is_word, is_number, is_register, is_function, is_group, is_metadata, marks, spells}
-use Rattle.scan.specs.RuleTokens.{is_among, is_negative, is_literal}
+use Rattle.scan.proofs.Common.{◌≡◌, ℕ, suc, ◌-◌, ◌≤◌, Bool, true, false, cond, eqb, leb, not, ◌&&◌, ◌||◌, List, [], ◌∷◌, ◌++◌, length, take, get_or, refl, sym, ap, ◌∙◌, ⊎_elim, ◌⊎◌, arith, bytes_eq, list_all, AllByRecursion, false≢true, eqb-true, leb-true, bytes_eq-Decides, TokenKind, Label, Function, Group, Metadata, Quoted, is_blank, is_space, is_printable, is_bad, is_digit, is_letter, begins_name, begins_word, is_name_byte, begins_with, is_run, in_quotes, is_quoted, is_name, is_behind, is_label, is_word, is_number, is_function, is_group, is_metadata, spells, is_among, is_negative, is_literal}
+use Rattle.scan.specs.declared.ir.token.TokenKind.TheVariants.{End, Other, Word, Number, Register, Mark}
+use Rattle.scan.specs.IrTokens.{is_register, marks}
 use Rattle.scan.proofs.Fronts.{which, and_left, and_right, or_true}
 use Rattle.scan.proofs.NameLemmas.{quoted_is, name_cases}
 use Rattle.scan.proofs.ModuleFronts.{literal_names}

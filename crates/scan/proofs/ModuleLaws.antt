@@ -1,16 +1,7 @@
 -- There is at most one token, or one fault, behind the gap at a place of a module.
-use Rattle.std.proofs.Common.{◌≡◌, ℕ, ◌-◌, ◌<◌, ◌≤◌, true, false, List, [], Ok, Err, length, take, drop, refl, sym, ap, subst, ◌∙◌, ⊎_elim, ◌⊎◌, inl, inr, arith}
-use Rattle.std.proofs.lemmas.Bool.{false≢true}
-use Rattle.std.proofs.lemmas.List.{length-drop}
-use Rattle.scan.specs.declared.ir.token.TokenKind.{TokenKind}
-use Rattle.scan.specs.declared.ir.token.TokenKind.TheVariants.{End, Other, Label, Word, Number, Register, Function, Group, Metadata, Quoted, Mark}
-use Rattle.scan.specs.declared.ir.token.Token.{Token}
-use Rattle.scan.specs.Bytes.{is_bad, begins_with}
-use Rattle.scan.specs.Gaps.{IsGap, IsLastGap}
-use Rattle.scan.specs.Laws.{OneModuleTokenAtAPlace}
-use Rattle.scan.specs.Lines.{between, line_of}
-use Rattle.scan.specs.GapFronts.{in_gap}
-use Rattle.scan.specs.IrTokens.{spells, IsLongestToken, BeginsNoToken, Begins, BeginsBadly, HoldsZero, IsGapBefore, line_at, IsNextToken, IsBadToken}
+use Rattle.scan.proofs.Common.{◌≡◌, ℕ, ◌-◌, ◌<◌, ◌≤◌, true, false, List, [], Ok, Err, length, take, drop, refl, sym, ap, subst, ◌∙◌, ⊎_elim, ◌⊎◌, inl, inr, arith, false≢true, length-drop, TokenKind, Label, Function, Group, Metadata, Quoted, Token, is_bad, begins_with, IsGap, IsLastGap, OneModuleTokenAtAPlace, between, line_of, in_gap, spells, BeginsBadly, HoldsZero, IsNextToken, IsBadToken}
+use Rattle.scan.specs.declared.ir.token.TokenKind.TheVariants.{End, Other, Word, Number, Register, Mark}
+use Rattle.scan.specs.IrTokens.{IsLongestToken, BeginsNoToken, Begins, IsGapBefore, line_at}
 use Rattle.scan.proofs.ModuleKinds.{one_kind, token_good}
 use Rattle.scan.proofs.ModuleTokens.{begins_token}
 use Rattle.scan.proofs.ModulePlaces.{seen, longest_some, bad_some}

@@ -1,13 +1,7 @@
 -- Places in the text of a module, and what stands behind the gap there.
-use Rattle.std.proofs.Common.{◌≡◌, ◌≢◌, ℕ, zero, suc, ◌+◌, ◌-◌, ◌<◌, ◌≤◌, List, [], length, take, drop, refl, sym, ap, subst, ◌∙◌, ⊎_elim, ◌⊎◌, inl, inr, arith}
-use Rattle.std.proofs.lemmas.Bool.{false≢true}
-use Rattle.std.proofs.lemmas.List.{length-drop}
-use Rattle.scan.specs.declared.ir.token.TokenKind.{TokenKind}
-use Rattle.scan.specs.declared.ir.token.TokenKind.TheVariants.{End, Other, Label, Word, Number, Register, Function, Group, Metadata, Quoted, Mark}
-use Rattle.scan.specs.Bytes.{is_bad}
-use Rattle.scan.specs.Gaps.{IsGap, IsLastGap}
-use Rattle.scan.specs.Lines.{between, feeds}
-use Rattle.scan.specs.IrTokens.{spells, IsLongestToken, BeginsNoToken, Begins, BeginsBadly, HoldsZero, IsGapBefore, line_at, IsNextToken, IsBadToken}
+use Rattle.scan.proofs.Common.{◌≡◌, ◌≢◌, ℕ, zero, suc, ◌+◌, ◌-◌, ◌<◌, ◌≤◌, List, [], length, take, drop, refl, sym, ap, subst, ◌∙◌, ⊎_elim, ◌⊎◌, inl, inr, arith, false≢true, length-drop, TokenKind, Label, Function, Group, Metadata, Quoted, is_bad, IsGap, IsLastGap, between, feeds, spells, BeginsBadly, HoldsZero, IsNextToken, IsBadToken}
+use Rattle.scan.specs.declared.ir.token.TokenKind.TheVariants.{End, Other, Word, Number, Register, Mark}
+use Rattle.scan.specs.IrTokens.{IsLongestToken, BeginsNoToken, Begins, IsGapBefore, line_at}
 use Rattle.scan.proofs.ModuleTokens.{spells-empty}
 use Rattle.scan.proofs.PlaceLemmas.{Behind, begins_some}
 

@@ -1,15 +1,7 @@
 -- What a module's text that does not begin with a gap begins with.
-use Rattle.std.proofs.Common.{◌≡◌, ◌≢◌, ℕ, zero, suc, ◌<◌, ◌≤◌, Bool, true, false, eqb, not, ◌||◌, List, [], ◌∷◌, length, take, drop, refl, sym, subst, ⊎_elim, ◌⊎◌, inl, inr, arith}
-use Rattle.std.specs.List.{Contains}
-use Rattle.std.proofs.lemmas.Bool.{false≢true}
-use Rattle.scan.specs.declared.ir.token.TokenKind.{TokenKind}
-use Rattle.scan.specs.declared.ir.token.TokenKind.TheVariants.{End, Other, Label, Word, Number, Register, Function, Group, Metadata, Quoted, Mark}
-use Rattle.scan.specs.Bytes.{is_bad, begins_with}
-use Rattle.scan.specs.GapFronts.{in_gap}
-use Rattle.scan.specs.Longest.{IsLongest}
-use Rattle.scan.specs.Quoted.{in_quotes, unquoted, is_quoted}
-use Rattle.scan.specs.IrTokens.{is_name, is_plain_name, is_label, is_word, is_number, is_register, is_function, is_group, is_metadata, spells, IsLongestToken, IsLongestFront, Begins, HoldsZero}
-use Rattle.scan.specs.RuleTokens.{is_negative}
+use Rattle.scan.proofs.Common.{◌≡◌, ◌≢◌, ℕ, zero, suc, ◌<◌, ◌≤◌, Bool, true, false, eqb, not, ◌||◌, List, [], ◌∷◌, length, take, drop, refl, sym, subst, ⊎_elim, ◌⊎◌, inl, inr, arith, Contains, false≢true, TokenKind, Label, Function, Group, Metadata, Quoted, is_bad, begins_with, in_gap, IsLongest, in_quotes, unquoted, is_quoted, is_name, is_plain_name, is_label, is_word, is_number, is_function, is_group, is_metadata, spells, IsLongestFront, HoldsZero, is_negative}
+use Rattle.scan.specs.declared.ir.token.TokenKind.TheVariants.{End, Other, Word, Number, Register, Mark}
+use Rattle.scan.specs.IrTokens.{is_register, IsLongestToken, Begins}
 use Rattle.scan.proofs.Fronts.{which}
 
 -- ---- the longest of all kinds

@@ -1,14 +1,5 @@
 -- The longest name that a text begins with.
-use Rattle.std.proofs.Common.{◌≡◌, ℕ, zero, suc, ◌+◌, ◌<◌, ◌≤◌, max, Bool, true, false, not, eqb, ◌&&◌, ◌||◌, List, [], ◌∷◌, ◌++◌, length, take, drop, refl, sym, ap, subst, ◌∙◌, ⊎_elim, ◌⊎◌, inl, inr, append_assoc, add-one, arith}
-use Rattle.std.specs.Str.{bytes_eq}
-use Rattle.std.specs.List.{list_all, prefix_len}
-use Rattle.std.proofs.lemmas.Bool.{false≢true, eqb-true}
-use Rattle.std.proofs.lemmas.Slice.Eq.{bytes_eq-Decides}
-use Rattle.std.proofs.lemmas.List.{length-append, length-take-le, take-append-drop, take_at, drop_at}
-use Rattle.scan.specs.Bytes.{is_digit, is_letter, begins_name, is_name_byte, begins_with, is_run}
-use Rattle.scan.specs.Longest.{IsLongest}
-use Rattle.scan.specs.Quoted.{is_quotable, in_quotes, is_quoted}
-use Rattle.scan.specs.IrTokens.{is_plain_name, is_name}
+use Rattle.scan.proofs.Common.{◌≡◌, ℕ, zero, suc, ◌+◌, ◌<◌, ◌≤◌, max, Bool, true, false, not, eqb, ◌&&◌, ◌||◌, List, [], ◌∷◌, ◌++◌, length, take, drop, refl, sym, ap, subst, ◌∙◌, ⊎_elim, ◌⊎◌, inl, inr, append_assoc, add-one, arith, bytes_eq, list_all, prefix_len, false≢true, eqb-true, bytes_eq-Decides, length-append, length-take-le, take-append-drop, take_at, drop_at, is_digit, is_letter, begins_name, is_name_byte, begins_with, is_run, IsLongest, is_quotable, in_quotes, is_quoted, is_plain_name, is_name}
 use Rattle.scan.proofs.Fronts.{which, and_left, and_right, and_both, or_true, longest_none, or_longest, run_is_longest, run_passes}
 
 -- ---- quoted texts

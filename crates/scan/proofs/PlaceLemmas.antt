@@ -1,17 +1,8 @@
 -- Places in a text, and what stands behind the gap there.
-use Rattle.std.proofs.Common.{◌≡◌, ◌≢◌, ℕ, zero, suc, cond, ◌+◌, ◌-◌, ◌<◌, ◌≤◌, Bool, true, false, eqb, List, [], ◌∷◌, ◌++◌, Some, None, length, take, drop, refl, sym, ap, subst, ◌∙◌, ⊎_elim, ◌⊎◌, inl, inr, arith}
-use Rattle.std.specs.List.{list_all, prefix_len, take_while}
-use Rattle.std.proofs.lemmas.Bool.{eqb-true, false≢true}
-use Rattle.std.proofs.lemmas.List.Sums.{sum_by-append, prefix_len-le-length}
-use Rattle.scan.specs.Names.{is_in_rest, rest_of_line}
+use Rattle.scan.proofs.Common.{◌≡◌, ◌≢◌, ℕ, zero, suc, cond, ◌+◌, ◌-◌, ◌<◌, ◌≤◌, Bool, true, false, eqb, List, [], ◌∷◌, ◌++◌, Some, None, length, take, drop, refl, sym, ap, subst, ◌∙◌, ⊎_elim, ◌⊎◌, inl, inr, arith, list_all, prefix_len, take_while, eqb-true, false≢true, sum_by-append, prefix_len-le-length, is_in_rest, rest_of_line, take-append-drop, take-take, drop-take, length-drop, length-take-le, RuleKind, Head, Arrow, is_bad, begins_with, IsGap, IsLastGap, between, feeds, kind_of, in_operator_place, IsNextRuleToken, IsBadNext}
 use Rattle.scan.proofs.Fronts.{which, and_left, and_right, run_passes}
-use Rattle.std.proofs.lemmas.List.{take-append-drop, take-take, drop-take, length-drop, length-take-le}
-use Rattle.scan.specs.declared.rule_token.RuleKind.{RuleKind}
-use Rattle.scan.specs.declared.rule_token.RuleKind.TheVariants.{End, Other, Head, Register, Word, Number, Arrow, Mark}
-use Rattle.scan.specs.Bytes.{is_bad, begins_with}
-use Rattle.scan.specs.Gaps.{IsGap, IsLastGap}
-use Rattle.scan.specs.Lines.{between, feeds}
-use Rattle.scan.specs.RuleTokens.{kind_of, IsLongestToken, Begins, IsGapBefore, line_at, in_operator_place, IsNextRuleToken, IsBadNext}
+use Rattle.scan.specs.declared.rule_token.RuleKind.TheVariants.{End, Other, Register, Word, Number, Mark}
+use Rattle.scan.specs.RuleTokens.{IsLongestToken, Begins, IsGapBefore, line_at}
 use Rattle.scan.proofs.KindLemmas.{kind_of-empty}
 
 pub feeds_append : (xs ys : List ℕ) → feeds (xs ++ ys) ≡ feeds xs + feeds ys

@@ -1,11 +1,6 @@
 -- The bytes that quoted texts stand for, from left to right.
-use Rattle.std.proofs.Common.{◌≡◌, ◌≢◌, ℕ, suc, ◌+◌, ◌*◌, ◌<◌, ◌≤◌, true, false, eqb, ◌&&◌, List, [], ◌∷◌, length, drop, get_or, refl, sym, ap, ◌∙◌, ⊎_elim, arith}
-use Rattle.std.specs.List.{list_any, Contains}
-use Rattle.std.proofs.lemmas.Bool.{false≢true, eqb-true, eq-eqb}
-use Rattle.std.proofs.lemmas.List.{drop_more, length-drop}
-use Rattle.std.proofs.lemmas.List.Folds.{list_any_at}
-use Rattle.scan.specs.Bytes.{is_digit, begins_with}
-use Rattle.scan.specs.Quoted.{is_hex, hex_value, unquoted}
+use Rattle.scan.proofs.Common.{◌≡◌, ◌≢◌, ℕ, suc, ◌+◌, ◌*◌, ◌<◌, ◌≤◌, true, false, eqb, ◌&&◌, List, [], ◌∷◌, length, drop, get_or, refl, sym, ap, ◌∙◌, ⊎_elim, arith, list_any, Contains, false≢true, eqb-true, drop_more, length-drop, list_any_at, is_digit, begins_with, is_hex, hex_value, unquoted}
+use Rattle.std.proofs.lemmas.Bool.{eq-eqb}
 use Rattle.scan.proofs.Fronts.{which, or_true}
 
 no_backslash : (b : ℕ) → b ≢ 92 → eqb b 92 ≡ false

@@ -1,18 +1,7 @@
 -- A token of a module has no line feed.
-use Rattle.std.proofs.Common.{◌≡◌, ℕ, suc, ◌+◌, ◌-◌, Bool, true, false, eqb, not, ◌&&◌, ◌||◌, List, [], ◌∷◌, length, take, drop, get_or, refl, sym, ap, ◌∙◌, ⊎_elim, ◌⊎◌, arith}
-use Rattle.std.specs.Str.{bytes_eq}
-use Rattle.std.specs.List.{list_all}
-use Rattle.std.proofs.lemmas.Bool.{false≢true, eqb-true}
-use Rattle.std.proofs.lemmas.Slice.Eq.{bytes_eq-Decides}
-use Rattle.std.proofs.lemmas.List.Folds.{list_all-append}
-use Rattle.scan.specs.declared.ir.token.TokenKind.{TokenKind}
-use Rattle.scan.specs.declared.ir.token.TokenKind.TheVariants.{End, Other, Label, Word, Number, Register, Function, Group, Metadata, Quoted, Mark}
-use Rattle.scan.specs.Bytes.{is_blank, is_space, is_printable, is_bad, is_digit, is_letter, begins_name, begins_word, is_name_byte, begins_with, is_run}
-use Rattle.scan.specs.Quoted.{is_quotable, in_quotes, is_quoted}
-use Rattle.scan.specs.GapFronts.{in_gap}
-use Rattle.scan.specs.Lines.{between, feeds}
-use Rattle.scan.specs.RuleTokens.{is_among, is_literal}
-use Rattle.scan.specs.IrTokens.{is_name, is_behind, is_label, is_word, is_number, is_register, is_function, is_group, is_metadata, marks, spells, IsLongestToken, BeginsNoToken, Begins}
+use Rattle.scan.proofs.Common.{◌≡◌, ℕ, suc, ◌+◌, ◌-◌, Bool, true, false, eqb, not, ◌&&◌, ◌||◌, List, [], ◌∷◌, length, take, drop, get_or, refl, sym, ap, ◌∙◌, ⊎_elim, ◌⊎◌, arith, bytes_eq, list_all, false≢true, eqb-true, bytes_eq-Decides, list_all-append, TokenKind, Label, Function, Group, Metadata, Quoted, is_blank, is_space, is_printable, is_bad, is_digit, is_letter, begins_name, begins_word, is_name_byte, begins_with, is_run, is_quotable, in_quotes, is_quoted, in_gap, between, feeds, is_among, is_literal, is_name, is_behind, is_label, is_word, is_number, is_function, is_group, is_metadata, spells}
+use Rattle.scan.specs.declared.ir.token.TokenKind.TheVariants.{End, Other, Word, Number, Register, Mark}
+use Rattle.scan.specs.IrTokens.{is_register, marks, IsLongestToken, BeginsNoToken, Begins}
 use Rattle.scan.proofs.Fronts.{which, and_left, and_right, and_both, or_true}
 use Rattle.scan.proofs.NameLemmas.{name_cases, quoted_is}
 use Rattle.scan.proofs.ModuleFronts.{list_all-along, literal_names}

@@ -1,7 +1,5 @@
 -- What holds of the elements of two lists pair by pair.
-use Rattle.std.proofs.Common.{◌≡◌, ℕ, List, [], ◌∷◌, ◌++◌, flat_map, All, refl, ap, ap₂}
-use Rattle.std.specs.List.{AllZip, zip}
-use Rattle.std.proofs.lemmas.List.Elements.{All-nil, All-cons, All-head, All-tail}
+use Rattle.stored_logs.proofs.Common.{◌≡◌, ℕ, List, [], ◌∷◌, ◌++◌, flat_map, All, refl, ap, ap₂, AllZip, zip, All-nil, All-cons, All-head, All-tail}
 
 -- what holds of each element of two lists, one behind the other, holds of each of either
 pub parts : {X : Type 0} (P : X → Type 0) (xs ys : List X) → All P (xs ++ ys) → All P xs × All P ys

@@ -1,34 +1,6 @@
 -- What is proved, with one more row or with one more rule.
-use Rattle.std.proofs.Common.{◌≡◌, ◌≢◌, ℕ, zero, suc, ◌+◌, ◌<◌, false, IsTrue, List, [], ◌∷◌, ◌++◌, length, take, get_or, flat_map, All, Contains, Option, Some, refl, sym, ap, ap₂, subst, ◌∙◌, append_assoc, add-zero, arith}
-use Rattle.std.specs.Prelude.{slice_get}
-use Rattle.std.specs.List.{AllZip, enumerate_from, zip}
-use Rattle.std.specs.Option.{option_map_or}
-use Rattle.std.proofs.lemmas.List.{append-nil, map-append, take_more, length-take-le}
-use Rattle.std.proofs.lemmas.List.Elements.{All-nil, All-head, All-append, All-weaker, All-filter, All-contains_itself, filter-append}
-use Rattle.std.proofs.lemmas.Grind.{flat_map-append}
-use Rattle.std.proofs.lemmas.Option.{slice_get_within}
-use Rattle.std.proofs.lemmas.Slice.Zip.{all_zipped_more}
-use Rattle.clauses.specs.ClauseSet.{IsRefutation}
-use Rattle.clauses.specs.declared.cnf.Cnf.{Cnf}
-use Rattle.clauses.specs.declared.step.Step.{Step}
-use Rattle.rule_core.specs.declared.rule.Rule.{Rule}
-use Rattle.rule_core.specs.Typing.{IsTyping}
+use Rattle.stored_logs.proofs.Common.{◌≡◌, ◌≢◌, ℕ, zero, suc, ◌+◌, ◌<◌, false, IsTrue, List, [], ◌∷◌, ◌++◌, length, take, get_or, flat_map, All, Contains, Option, Some, refl, sym, ap, ap₂, subst, ◌∙◌, append_assoc, add-zero, arith, slice_get, AllZip, enumerate_from, zip, option_map_or, append-nil, map-append, take_more, length-take-le, All-nil, All-head, All-append, All-weaker, All-filter, All-contains_itself, filter-append, flat_map-append, slice_get_within, all_zipped_more, IsRefutation, Cnf, Step, Rule, IsTyping, IsAnswer, proof_text, Row, Verdict, Admitted, Refuted, WitnessFails, Budget, Finding, Decided, TooMany, IsFinding, IsRowOf, rows_of, IsAdmitted, IsHonest, most_typings, IsLogOf, IsHonestRow, IsHonestTable, Proved, Refutation, AddsProof, AddsProved, AddsProvedRule, IsProved, Refutes, IsRefutationOf, AreRefutationsOf, proof_of, row_proof_text, proofs_text, is_admitted, admitted_in}
 use Rattle.rule_typing.specs.declared.answer.Typings.TheVariants as answers
-use Rattle.rule_typing.specs.AllTypings.{IsAnswer}
-use Rattle.proof_text.specs.Texts.{proof_text}
-use Rattle.verdict_core.specs.declared.verdicts.Row.{Row}
-use Rattle.verdict_core.specs.declared.verdicts.Verdict.{Verdict}
-use Rattle.verdict_core.specs.declared.verdicts.Verdict.TheVariants.{Admitted, Refuted, WitnessFails, Budget}
-use Rattle.verdict.specs.Findings.{Finding, Decided, TooMany, IsFinding, IsRowOf, rows_of, IsAdmitted}
-use Rattle.verdict.specs.Honest.{IsHonest}
-use Rattle.verdict.specs.Limits.{most_typings}
-use Rattle.verdict.specs.Proved.{IsLogOf}
-use Rattle.verdict.specs.Table.{IsHonestRow, IsHonestTable}
-use Rattle.stored_logs.specs.declared.proved.Proved.{Proved}
-use Rattle.stored_logs.specs.declared.refutation.Refutation.{Refutation}
-use Rattle.stored_logs.specs.Additions.{AddsProof, AddsProved, AddsProvedRule}
-use Rattle.stored_logs.specs.Proved.{IsProved}
-use Rattle.stored_logs.specs.Refutations.{Refutes, IsRefutationOf, AreRefutationsOf, proof_of, row_proof_text, proofs_text, is_admitted, admitted_in}
 use Rattle.stored_logs.proofs.Pairs.{parts, one, pairs_weaker, pairs_append, zip_append, pairs_and, same_texts}
 
 abbrev pub row_at : ℕ → List ℕ → Verdict → Row

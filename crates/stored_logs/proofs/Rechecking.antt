@@ -1,28 +1,5 @@
 -- The verdicts on the proofs so far, with one more.
-use Rattle.std.proofs.Common.{◌≡◌, ◌↔◌, ℕ, Bool, true, false, IsTrue, ◌&&◌, List, [], ◌∷◌, ◌++◌, All, Option, Some, get_or, refl, sym, ap, subst, ◌∙◌}
-use Rattle.std.specs.Prelude.{slice_get}
-use Rattle.std.specs.List.{AllZip}
-use Rattle.std.specs.Option.{option_map_or}
-use Rattle.std.proofs.lemmas.List.{append-nil}
-use Rattle.std.proofs.lemmas.List.Elements.{All-nil, All-head, All-append}
-use Rattle.std.proofs.lemmas.Grind.{flat_map-append}
-use Rattle.std.proofs.lemmas.Option.{same_Some, slice_get_within, slice_get-get_or}
-use Rattle.std.proofs.lemmas.Slice.Zip.{all_zipped_more}
-use Rattle.rule_core.specs.declared.rule.Rule.{Rule}
-use Rattle.clauses.specs.declared.step.Step.{Step}
-use Rattle.proof_text.specs.declared.proof.Proof.{Proof}
-use Rattle.proof_reader.specs.declared.proof.RuleProof.{RuleProof}
-use Rattle.proof_reader.specs.Reading.{IsProofOf, IsReadOf, IsTypedIn}
-use Rattle.verdict_core.specs.declared.verdicts.Row.{Row}
-use Rattle.verdict_core.specs.declared.verdicts.Verdict.{Verdict}
-use Rattle.verdict_core.specs.declared.verdicts.Verdict.TheVariants.{Admitted}
-use Rattle.verdict.specs.Honest.{IsHonest}
-use Rattle.verdict.specs.Proved.{IsUnrefutedBy}
-use Rattle.verdict.specs.Table.{IsHonestRow, IsHonestTable, row_text, table_text}
-use Rattle.verdict_core.specs.Texts.{verdict_text}
-use Rattle.stored_logs.specs.declared.rechecked.Rechecked.{Rechecked}
-use Rattle.stored_logs.specs.Additions.{AddsVerdict}
-use Rattle.stored_logs.specs.Rechecked.{IsVerdictOn, IsRechecked}
+use Rattle.stored_logs.proofs.Common.{◌≡◌, ◌↔◌, ℕ, Bool, true, false, IsTrue, ◌&&◌, List, [], ◌∷◌, ◌++◌, All, Option, Some, get_or, refl, sym, ap, subst, ◌∙◌, slice_get, AllZip, option_map_or, append-nil, All-nil, All-head, All-append, flat_map-append, same_Some, slice_get_within, slice_get-get_or, all_zipped_more, Rule, Step, Proof, RuleProof, IsProofOf, IsReadOf, IsTypedIn, Row, Verdict, Admitted, IsHonest, IsUnrefutedBy, IsHonestRow, IsHonestTable, row_text, table_text, verdict_text, Rechecked, AddsVerdict, IsVerdictOn, IsRechecked}
 use Rattle.stored_logs.proofs.Pairs.{parts, one, pairs_through, pairs_at}
 
 -- what is read of a proof is of one of the rules, at one of its typings

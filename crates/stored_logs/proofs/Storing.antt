@@ -1,25 +1,5 @@
 -- Each pair has at most one proof, the logs are stored one by one, and none of them refutes the clauses of a `Budget`.
-use Rattle.std.proofs.Common.{◌≡◌, inl, inr, ℕ, zero, suc, ◌<◌, List, [], ◌∷◌, ◌++◌, length, take, get_or, map, All, Option, Some, refl, sym, ap, subst, ◌∙◌, arith}
-use Rattle.std.specs.Prelude.{◌≢◌, slice_get, Contains, IfSome}
-use Rattle.std.specs.List.{AllZip}
-use Rattle.std.proofs.lemmas.Bool.{cases_lt}
-use Rattle.std.proofs.lemmas.List.Elements.{All-append, All-contains}
-use Rattle.std.proofs.lemmas.Option.{same_Some, slice_get_within, get_or_from_slice_get, slice_get-get_or}
-use Rattle.clauses.specs.declared.step.Step.{Step}
-use Rattle.rule_core.specs.declared.rule.Rule.{Rule}
-use Rattle.rule_core.specs.Checks.{AreDistinct}
-use Rattle.proof_text.specs.declared.proof.Proof.{Proof}
-use Rattle.proof_reader.specs.declared.proof.RuleProof.{RuleProof}
-use Rattle.proof_reader.specs.Faults.{IsAmong}
-use Rattle.proof_reader.specs.Names.{HasNameAt}
-use Rattle.proof_reader.specs.Reading.{IsProofOf, IsReadOf}
-use Rattle.proof_reader.proofs.RuleNames.{name_at}
-use Rattle.strategy_core.specs.Asked.{Pair}
-use Rattle.verdict.specs.declared.stored.StoredLogs.{StoredLogs}
-use Rattle.verdict.specs.Proved.{IsUnrefutedBy}
-use Rattle.verdict.specs.Stored.{IsUnrefutedIn, log_of}
-use Rattle.verdict_core.specs.declared.verdicts.Row.{Row}
-use Rattle.stored_logs.specs.Stored.{pair_of, AreOfPairsOnce, IsLogStored, AreStored, AreKeptTo}
+use Rattle.stored_logs.proofs.Common.{◌≡◌, inl, inr, ℕ, zero, suc, ◌<◌, List, [], ◌∷◌, ◌++◌, length, take, get_or, map, All, Option, Some, refl, sym, ap, subst, ◌∙◌, arith, ◌≢◌, slice_get, Contains, IfSome, AllZip, cases_lt, All-append, All-contains, same_Some, slice_get_within, get_or_from_slice_get, slice_get-get_or, Step, Rule, AreDistinct, Proof, RuleProof, IsAmong, HasNameAt, IsProofOf, IsReadOf, name_at, Pair, StoredLogs, IsUnrefutedBy, IsUnrefutedIn, log_of, Row, pair_of, AreOfPairsOnce, IsLogStored, AreStored, AreKeptTo}
 use Rattle.stored_logs.proofs.Pairs.{one}
 
 -- ---- places in lists

@@ -1,14 +1,5 @@
 -- A search skips places where all matches are known to be turned down.
-use Rattle.std.proofs.Common.{◌≡◌, ◌⊎◌, inl, inr, ℕ, zero, suc, ◌+◌, ◌-◌, ◌<◌, ◌≤◌, false, List, length, refl, subst, arith}
-use Rattle.std.proofs.lemmas.Bool.{cases_lt}
-use Rattle.ir_core.specs.Reads.{end_of}
-use Rattle.ir_core.specs.declared.function.Function.{Function}
-use Rattle.rule_core.specs.declared.rule.Rule.{Rule}
-use Rattle.bindings.specs.Matches.{IsAt}
-use Rattle.bindings.specs.Ready.{AreReady}
-use Rattle.verdict.specs.declared.verdicts.Verdicts.{Verdicts}
-use Rattle.verdict.specs.Asks.{AsksAll, IsAnywhere}
-use Rattle.verdict.proofs.Parts.{IsPast, past_all, past_block, past_place}
+use Rattle.strategy.proofs.Common.{◌≡◌, ◌⊎◌, inl, inr, ℕ, zero, suc, ◌+◌, ◌-◌, ◌<◌, ◌≤◌, false, List, length, refl, subst, arith, cases_lt, end_of, Function, Rule, IsAt, AreReady, Verdicts, AsksAll, IsAnywhere, IsPast, past_all, past_block, past_place}
 
 -- place j of block c comes before place k of block b
 abbrev pub IsPlaceBefore : ℕ → ℕ → ℕ → ℕ → Type 0

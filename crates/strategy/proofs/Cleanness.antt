@@ -1,31 +1,8 @@
 -- In a cleaned function every result is live: none is left to remove.
-use Rattle.std.proofs.Common.{◌≡◌, ℕ, ◌+◌, true, List, [], ◌∷◌, map, Some, refl, sym, ap, subst, ◌∙◌, arith}
-use Rattle.std.specs.Prelude.{Contains, slice_get}
-use Rattle.ir_core.specs.Blocks.{HasInst, IsBlock}
-use Rattle.ir_core.specs.Checks.{IsKnown, MeetsChecks}
-use Rattle.ir_core.specs.Reads.{end_of}
-use Rattle.ir_core.specs.declared.function.Block.{Block}
-use Rattle.ir_core.specs.declared.function.Function.{Function}
-use Rattle.ir_core.specs.declared.instruction.Inst.{Inst}
-use Rattle.ir_core.specs.declared.instruction.Op.{Op}
-use Rattle.ir_core.specs.declared.instruction.Op.TheVariants.{Binary, Compare, Unary, Select, Convert, Freeze, Phi}
-use Rattle.ir_core.specs.declared.operand.Operand.{Operand}
+use Rattle.strategy.proofs.Common.{◌≡◌, ℕ, ◌+◌, true, List, [], ◌∷◌, map, Some, refl, sym, ap, subst, ◌∙◌, arith, Contains, slice_get, HasInst, IsBlock, IsKnown, MeetsChecks, end_of, Block, Function, Inst, Op, Binary, Compare, Unary, Select, Convert, Freeze, Phi, Operand, Register, Terminator, IsCleaned, KeepsNeeded, KeptMarks, kept_before, kept_block, kept_function, kept_insts, moved_end, moved_inst, moved_op, moved_operand, moved_register, IsNeeded, by_end, by_inst, ReadsRegister, operands_at_end, operands_of, IsKept, block_at, block_back, kept_at, kept_back, has_inst, end_reads, inst_reads, Contains-map, AllNeeded, inst_there, known_has, read_in_block, reads_written, written, written_reads}
 use Rattle.ir_core.specs.declared.operand.Operand.TheVariants as operands
-use Rattle.ir_core.specs.declared.operand.Register.{Register}
 use Rattle.ir_core.specs.declared.operand.Register.TheVariants as registers
-use Rattle.ir_core.specs.declared.terminator.Terminator.{Terminator}
 use Rattle.ir_core.specs.declared.terminator.Terminator.TheVariants as terminators
-use Rattle.needed.specs.Cleaned.{IsCleaned, KeepsNeeded}
-use Rattle.needed.specs.KeptFunction.{KeptMarks, kept_before, kept_block, kept_function, kept_insts, moved_end, moved_inst, moved_op, moved_operand, moved_register}
-use Rattle.needed.specs.Needed.{IsNeeded, by_end, by_inst, ReadsRegister}
-use Rattle.needed.specs.Operands.{operands_at_end, operands_of}
-use Rattle.needed.proofs.Counting.{IsKept, block_at, block_back, kept_at, kept_back}
-use Rattle.needed.proofs.Reading.{has_inst}
-use Rattle.needed.proofs.SearchLemmas.{end_reads, inst_reads}
-use Rattle.rule_typing.proofs.Images.{Contains-map}
-use Rattle.draft_steps.specs.DeadCode.{AllNeeded}
-use Rattle.readers.proofs.Changing.{inst_there, known_has}
-use Rattle.readers.proofs.Reading.{read_in_block, reads_written, written, written_reads}
 
 entries_moved : (kept : KeptMarks) (entries : List (Operand × ℕ)) → map (λ (e : Operand × ℕ). e.0) (map (λ (e : Operand × ℕ). (moved_operand kept e.0, e.1)) entries) ≡ map (moved_operand kept) (map (λ (e : Operand × ℕ). e.0) entries)
 entries_moved kept [] = refl

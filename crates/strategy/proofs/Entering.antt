@@ -1,37 +1,8 @@
 -- One entry after the other, up to what the strategy gives for a module.
-use Rattle.std.proofs.Common.{◌≡◌, ℕ, ◌+◌, ◌<◌, Bool, List, [], ◌∷◌, ◌++◌, length, take, get_or, refl, sym, ap, subst, ◌∙◌, append_assoc, append-nil, arith}
-use Rattle.std.specs.Prelude.{map, All, Contains}
-use Rattle.std.proofs.lemmas.List.{take_more}
-use Rattle.std.proofs.lemmas.Option.{same_Some}
-use Rattle.std.proofs.lemmas.List.Elements.{All-contains}
-use Rattle.ir_core.specs.Checks.{ModuleMeetsChecks}
-use Rattle.ir_core.specs.declared.module.Module.{Module}
-use Rattle.ir_core.specs.declared.module.Entry.{Entry}
+use Rattle.strategy.proofs.Common.{◌≡◌, ℕ, ◌+◌, ◌<◌, Bool, List, [], ◌∷◌, ◌++◌, length, take, get_or, refl, sym, ap, subst, ◌∙◌, append_assoc, append-nil, arith, map, All, Contains, take_more, same_Some, All-contains, ModuleMeetsChecks, Module, Entry, Function, contains_at, IsRule, IsValid, Rule, AreReady, IsClassified, HasNoFault, IsHonest, IsUnrefutedIn, IsHonestRow, IsHonestTable, Row, Verdict, Counts, Verdicts, Pair, pair_in, AreFirstAsked, ModuleIsCountable, EntriesAreReady, OptimisesEntries, OptimisesEntry, AdmittedAreValid, ModuleNumbersFit, AreOptimised, kept, function, IsPlainStrategy, AreVerdictsOn, Asks, OptimisesFunction, asks_nothing, asks_both, row_stays}
 use Rattle.ir_core.specs.declared.module.Entry.TheVariants as entries
-use Rattle.ir_core.specs.declared.function.Function.{Function}
-use Rattle.ir_meaning.proofs.Pieces.{contains_at}
-use Rattle.rule_core.specs.Checks.{IsRule}
-use Rattle.rule_core.specs.Valid.{IsValid}
-use Rattle.rule_core.specs.declared.rule.Rule.{Rule}
-use Rattle.bindings.specs.Ready.{AreReady}
-use Rattle.rule_typing.specs.Classes.{IsClassified}
-use Rattle.rule_typing.specs.Faults.{HasNoFault}
-use Rattle.verdict.specs.Honest.{IsHonest}
-use Rattle.verdict.specs.Stored.{IsUnrefutedIn}
-use Rattle.verdict.specs.Table.{IsHonestRow, IsHonestTable}
-use Rattle.verdict_core.specs.declared.verdicts.Row.{Row}
-use Rattle.verdict_core.specs.declared.verdicts.Verdict.{Verdict}
-use Rattle.strategy.specs.declared.module.Counts.{Counts}
-use Rattle.verdict.specs.declared.verdicts.Verdicts.{Verdicts}
-use Rattle.strategy_core.specs.Asked.{Pair, pair_in, AreFirstAsked}
-use Rattle.strategy_core.specs.Countable.{ModuleIsCountable}
-use Rattle.strategy.specs.Entries.{EntriesAreReady, OptimisesEntries, OptimisesEntry}
-use Rattle.strategy_core.specs.Laws.{AdmittedAreValid, ModuleNumbersFit}
-use Rattle.strategy_core.specs.PlainStrategy.{AreOptimised, none, kept, function, IsPlainStrategy}
-use Rattle.verdict.specs.Asks.{AreVerdictsOn, Asks}
-use Rattle.strategy.specs.Searches.{OptimisesFunction}
+use Rattle.strategy_core.specs.PlainStrategy.{none}
 use Rattle.strategy.proofs.Growing.{entries_stay}
-use Rattle.verdict.proofs.Sequence.{asks_nothing, asks_both, row_stays}
 
 -- before the first verdict is asked for
 pub nothing_asked : AreFirstAsked [] []

@@ -1,14 +1,6 @@
 -- What the strategy gives by a table of verdicts it gives by any larger one.
-use Rattle.std.proofs.Common.{◌≡◌, ℕ, ◌-◌, Bool, true, false, List}
-use Rattle.std.specs.Prelude.{All, Any, Contains, MatchBool}
-use Rattle.ir_core.specs.declared.module.Entry.{Entry}
-use Rattle.ir_core.specs.declared.function.Function.{Function}
-use Rattle.rule_core.specs.declared.rule.Rule.{Rule}
-use Rattle.verdict_core.specs.declared.verdicts.Row.{Row}
-use Rattle.bindings.specs.declared.rule_match.Match.{Match}
-use Rattle.strategy_core.specs.Asked.{Pair, IsAdmitted, IsTurnedDown}
-use Rattle.verdict.proofs.Growing.{admitted_stays, all_turned_down_stay, any_admitted_stays}
-use Rattle.strategy_core.specs.PlainStrategy.{IsStep, ComesOf, itself, by_step, IsLastSearch, IsOptimised, AreOptimised, none, kept, function}
+use Rattle.strategy.proofs.Common.{◌≡◌, ℕ, ◌-◌, Bool, true, false, List, All, Any, Contains, MatchBool, Entry, Function, Rule, Row, Match, Pair, IsAdmitted, IsTurnedDown, admitted_stays, all_turned_down_stay, any_admitted_stays, IsStep, ComesOf, by_step, IsLastSearch, IsOptimised, AreOptimised, kept, function}
+use Rattle.strategy_core.specs.PlainStrategy.{itself, none}
 
 module _ (rules : List Rule) (table larger : List Row) (grows : (row : Row) → Contains table row → Contains larger row) where
   pub step_stays : (f new : Function) (asked : List Pair) → IsStep rules table f new asked → IsStep rules larger f new asked

@@ -1,26 +1,6 @@
 -- A step doesn't change which blocks are reached.
-use Rattle.std.proofs.Common.{◌≡◌, ◌↔◌, ℕ, List, refl, sym, subst}
-use Rattle.std.specs.Prelude.{Contains}
-use Rattle.ir_core.specs.Blocks.{IsBlock, Names, targets_of}
-use Rattle.ir_core.specs.Walks.{IsReached}
-use Rattle.ir_core.specs.declared.function.Block.{Block}
-use Rattle.ir_core.specs.declared.function.Function.{Function}
-use Rattle.ir_core.specs.declared.terminator.Terminator.{Terminator}
+use Rattle.strategy.proofs.Common.{◌≡◌, ◌↔◌, ℕ, List, refl, sym, subst, Contains, IsBlock, Names, targets_of, IsReached, Block, Function, Terminator, Rule, IsCleaned, KeptMarks, kept_block, kept_function, moved_end, block_at, block_back, names_back, names_on, IsRewritten, rewrite_of, Binding, Draft, function_of, numbers_of, arena_of, IsSettled, reached_back, reached_on, reached_along, is_arranged}
 use Rattle.ir_core.specs.declared.terminator.Terminator.TheVariants as terminators
-use Rattle.rule_core.specs.declared.rule.Rule.{Rule}
-use Rattle.needed.specs.Cleaned.{IsCleaned}
-use Rattle.needed.specs.KeptFunction.{KeptMarks, kept_block, kept_function, moved_end}
-use Rattle.needed.proofs.Counting.{block_at, block_back}
-use Rattle.substitution.proofs.Passing.{names_back, names_on}
-use Rattle.rewriter.specs.Applied.{IsRewritten}
-use Rattle.rewriter.specs.Put.{rewrite_of}
-use Rattle.bindings.specs.declared.binding.Binding.{Binding}
-use Rattle.draft.specs.declared.draft.Draft.{Draft}
-use Rattle.draft.specs.Drafts.{function_of, numbers_of, arena_of}
-use Rattle.draft.specs.Whole.{IsSettled}
-use Rattle.draft_steps.proofs.Places.{reached_back, reached_on}
-use Rattle.draft.proofs.Reached.{reached_along}
-use Rattle.draft_steps.proofs.Arranged.{is_arranged}
 
 targets_moved : (kept : KeptMarks) (end : Terminator) → targets_of (moved_end kept end) ≡ targets_of end
 targets_moved kept (terminators.Return a) = refl

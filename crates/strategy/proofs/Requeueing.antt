@@ -1,26 +1,7 @@
 -- After a step all matches are turned down at every place that is not on the worklist.
-use Rattle.std.proofs.Common.{◌≡◌, ◌↔◌, ◌+◌, ◌*◌, ◌-◌, ◌<◌, ◌≤◌, ℕ, List, length, get_or, sym, ap, subst, ◌∙◌, arith}
-use Rattle.std.specs.Prelude.{All, Contains}
-use Rattle.std.proofs.lemmas.List.Elements.{All-contains, Contains-get_or}
-use Rattle.ir_core.specs.Walks.{IsReached}
-use Rattle.ir_core.specs.declared.function.Block.{Block}
-use Rattle.ir_core.specs.declared.function.Function.{Function}
-use Rattle.rule_core.specs.declared.rule.Rule.{Rule}
-use Rattle.verdict_core.specs.declared.verdicts.Row.{Row}
-use Rattle.bindings.specs.Matches.{AreMatchesInAnyOrder, IsAt}
-use Rattle.bindings.specs.Ready.{AreReady}
-use Rattle.draft.specs.declared.draft.Draft.{Draft}
-use Rattle.places.specs.declared.place.Place.{Place}
-use Rattle.draft.specs.Drafts.{AreTouched, HasRoomFor, Reaches, Stands, numbers_of, arena_of, function_of}
+use Rattle.strategy.proofs.Common.{◌≡◌, ◌↔◌, ◌+◌, ◌*◌, ◌-◌, ◌<◌, ◌≤◌, ℕ, List, length, get_or, sym, ap, subst, ◌∙◌, arith, All, Contains, All-contains, Contains-get_or, IsReached, Block, Function, Rule, Row, AreMatchesInAnyOrder, IsAt, AreReady, Draft, Place, AreTouched, HasRoomFor, Reaches, Stands, numbers_of, arena_of, function_of, Has, Rows, IsSettled, arranged, row_of, AreSourcesWithin, MatchesOfTheUntouched, IsTurnedDown, IsCountable, AreTurnedDownAt, AreTurnedDownBut, Nowhere}
 use Rattle.places.specs.Orders.{none}
-use Rattle.places.specs.Sets.{Has, Rows}
-use Rattle.draft.specs.Whole.{IsSettled}
-use Rattle.draft_steps.specs.Arranged.{arranged, row_of}
-use Rattle.draft_steps.specs.MatchLaws.{AreSourcesWithin, MatchesOfTheUntouched}
 use Rattle.draft_steps.proofs.Reaching.{itself}
-use Rattle.strategy_core.specs.Asked.{IsTurnedDown}
-use Rattle.strategy_core.specs.Countable.{IsCountable}
-use Rattle.strategy.specs.Frontiers.{AreTurnedDownAt, AreTurnedDownBut, Nowhere}
 
 module _ (of_the_untouched : MatchesOfTheUntouched) (rules : List Rule) (ready : AreReady rules) (old new last : Draft) (touched : List Place) (depth : ℕ)
     (few : AreSourcesWithin depth rules) (settled : IsSettled new) (are_touched : AreTouched old new touched)

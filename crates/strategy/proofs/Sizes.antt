@@ -1,31 +1,9 @@
 -- How large functions become: a step adds fewer than 32 instructions to a block.
-use Rattle.std.proofs.Common.{◌≡◌, inl, inr, ℕ, suc, ◌+◌, ◌-◌, ◌*◌, ◌<◌, ◌≤◌, Bool, true, false, List, [], ◌∷◌, length, get_or, None, refl, sym, ap, subst, arith}
-use Rattle.std.specs.Prelude.{All, ◌^◌}
-use Rattle.std.proofs.lemmas.Bool.{cases_eq, cases_lt}
-use Rattle.std.proofs.lemmas.List.{length-append}
-use Rattle.std.proofs.lemmas.List.Elements.{All-contains}
-use Rattle.std.proofs.lemmas.Option.{slice_get-get_or}
-use Rattle.ir_core.specs.Blocks.{IsBlock}
-use Rattle.ir_core.specs.Names.{Name}
-use Rattle.ir_core.specs.declared.function.Block.{Block}
-use Rattle.ir_core.specs.declared.function.Function.{Function}
-use Rattle.ir_core.specs.declared.instruction.Inst.{Inst}
-use Rattle.ir_meaning.proofs.Pieces.{contains_at}
+use Rattle.strategy.proofs.Common.{◌≡◌, inl, inr, ℕ, suc, ◌+◌, ◌-◌, ◌*◌, ◌<◌, ◌≤◌, Bool, true, false, List, [], ◌∷◌, length, get_or, None, refl, sym, ap, subst, arith, All, ◌^◌, cases_eq, cases_lt, length-append, All-contains, slice_get-get_or, IsBlock, Name, Block, Function, Inst, contains_at, Rule, Statement, Binding, Rewrite, moved_place, rewritten_blocks, rewritten_function, IsMoved, is_moved, length-block, KeptMarks, kept_first, kept_insts, moved_inst, kept_block, kept_blocks, kept_function, IsCleaned, IsRewritten, class_width, insts_of_op, insts_put, rewrite_of, IsCountable}
 use Rattle.rule_core.specs.declared.rule.Op.{Op as RuleOp}
 use Rattle.rule_core.specs.declared.rule.Op.TheVariants as rule_ops
-use Rattle.rule_core.specs.declared.rule.Rule.{Rule}
-use Rattle.rule_core.specs.declared.rule.Statement.{Statement}
-use Rattle.bindings.specs.declared.binding.Binding.{Binding}
-use Rattle.substitution.specs.declared.rewrite.Rewrite.{Rewrite}
-use Rattle.substitution.specs.Rewritten.{moved_place, rewritten_blocks, rewritten_function}
-use Rattle.substitution.proofs.Placing.{IsMoved, is_moved, length-block}
 use Rattle.substitution.proofs.Placing.{block_back as block_of_rewritten}
-use Rattle.needed.specs.KeptFunction.{KeptMarks, kept_first, kept_insts, moved_inst, kept_block, kept_blocks, kept_function}
-use Rattle.needed.specs.Cleaned.{IsCleaned}
 use Rattle.needed.proofs.Counting.{block_back as block_of_kept}
-use Rattle.rewriter.specs.Applied.{IsRewritten}
-use Rattle.rewriter.specs.Put.{class_width, insts_of_op, insts_put, rewrite_of}
-use Rattle.strategy_core.specs.Countable.{IsCountable}
 
 pub few_at : (P : Block → Type 0) (f : Function) (b : ℕ) (block : Block) → All P f.blocks → IsBlock f b block → P block
 few_at P f b block all at = All-contains P f.blocks block all (contains_at f.blocks b block at)

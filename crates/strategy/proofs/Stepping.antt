@@ -1,28 +1,8 @@
 -- From one search to the next, up to what becomes of a function.
-use Rattle.std.proofs.Common.{◌≡◌, ℕ, suc, ◌+◌, ◌-◌, ◌<◌, ◌≤◌, Bool, true, false, List, [], ◌∷◌, ◌++◌, map, refl, sym, subst, ◌∙◌, arith}
-use Rattle.std.specs.Prelude.{All, Any, MatchBool}
-use Rattle.ir_core.specs.declared.function.Function.{Function}
-use Rattle.ir_core.specs.Checks.{MeetsChecks}
-use Rattle.rule_core.specs.declared.rule.Rule.{Rule}
-use Rattle.ir_meaning.specs.HistoryLaws.{NumbersFit}
-use Rattle.needed.specs.Cleaned.{IsCleaned}
-use Rattle.rewriter.specs.Applied.{IsRewritten}
-use Rattle.verdict_core.specs.declared.verdicts.Row.{Row}
-use Rattle.bindings.specs.declared.rule_match.Match.{Match}
-use Rattle.verdict.specs.declared.verdicts.Verdicts.{Verdicts}
-use Rattle.strategy_core.specs.Asked.{Pair, pair_of, IsAdmitted, IsTurnedDown}
-use Rattle.strategy_core.specs.Countable.{IsCountable}
-use Rattle.bindings.specs.Matches.{AreMatches, ComesBefore}
-use Rattle.rule_matches.proofs.Joining.{everywhere, same_where}
-use Rattle.rule_matches.specs.declared.matches.Rules.{Rules}
-use Rattle.strategy_core.specs.PlainStrategy.{IsStep, ComesOf, itself, by_step, IsLastSearch}
-use Rattle.verdict.specs.Asks.{Asks, AsksAll, AsksUpTo, IsAnywhere}
-use Rattle.strategy.specs.Asking.{MayAsk}
-use Rattle.strategy.specs.Searches.{OptimisesCleaned, OptimisesFunction, StepsOrEnds}
+use Rattle.strategy.proofs.Common.{◌≡◌, ℕ, suc, ◌+◌, ◌-◌, ◌<◌, ◌≤◌, Bool, true, false, List, [], ◌∷◌, ◌++◌, map, refl, sym, subst, ◌∙◌, arith, All, Any, MatchBool, Function, MeetsChecks, Rule, NumbersFit, IsCleaned, IsRewritten, Row, Match, Verdicts, Pair, pair_of, IsAdmitted, IsTurnedDown, IsCountable, AreMatches, ComesBefore, everywhere, same_where, Rules, IsStep, ComesOf, by_step, IsLastSearch, Asks, AsksAll, AsksUpTo, IsAnywhere, MayAsk, OptimisesCleaned, OptimisesFunction, StepsOrEnds, AreReady, asks_nothing, asks_both, row_stays, still_verdicts}
+use Rattle.strategy_core.specs.PlainStrategy.{itself}
 use Rattle.strategy.proofs.Growing.{steps_stay}
-use Rattle.bindings.specs.Ready.{AreReady}
 use Rattle.strategy.proofs.Sizes.{cleaned_countable, rewritten_countable}
-use Rattle.verdict.proofs.Sequence.{asks_nothing, asks_both, row_stays, still_verdicts}
 
 -- more verdicts may be asked for after some were
 pub still_may_ask : (rules : Rules) (limit : ℕ) (pairs : List Pair) (before after : Verdicts) → MayAsk rules limit before

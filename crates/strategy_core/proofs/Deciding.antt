@@ -1,20 +1,5 @@
 -- Every match that is left has a verdict, and none is admitted, unless its function ran out of steps.
-use Rattle.std.proofs.Common.{◌≡◌, ℕ, Bool, true, false, List, map, Some, refl, sym, ap, subst, ◌∙◌}
-use Rattle.std.specs.Prelude.{All, Contains, MatchBool, IsTrue, slice_get}
-use Rattle.std.proofs.lemmas.Option.{same_Some}
-use Rattle.std.proofs.lemmas.List.Elements.{All-contains, Contains-append_left, Contains-append_right}
-use Rattle.rule_typing.proofs.Images.{Contains-map, from_map, get-map}
-use Rattle.ir_meaning.proofs.Pieces.{place_in}
-use Rattle.ir_core.specs.declared.module.Entry.{Entry}
-use Rattle.ir_core.specs.declared.function.Function.{Function}
-use Rattle.rule_core.specs.declared.rule.Rule.{Rule}
-use Rattle.verdict_core.specs.declared.verdicts.Row.{Row}
-use Rattle.bindings.specs.declared.rule_match.Match.{Match}
-use Rattle.strategy_core.specs.Asked.{Pair, pair_of, pair_in, IsAdmitted, IsTurnedDown}
-use Rattle.strategy_core.specs.PlainStrategy.{IsOptimised, AreOptimised, none, kept, function}
-use Rattle.strategy_core.specs.Decided.{IsDecided, function_in}
-use Rattle.strategy_core.specs.Laws.{StrategyDecides}
-use Rattle.std.specs.List.{AllZip, flat_map}
+use Rattle.strategy_core.proofs.Common.{◌≡◌, ℕ, Bool, true, false, List, map, Some, refl, sym, ap, subst, ◌∙◌, All, Contains, MatchBool, IsTrue, slice_get, same_Some, All-contains, Contains-append_left, Contains-append_right, Contains-map, from_map, get-map, place_in, Entry, Function, Rule, Row, Match, Pair, pair_of, pair_in, IsAdmitted, IsTurnedDown, IsOptimised, AreOptimised, none, kept, function, IsDecided, function_in, StrategyDecides, AllZip, flat_map}
 
 if_not_limited : (P Q : Type 0) (limited : Bool) → MatchBool limited P Q → ¬ IsTrue limited → Q
 if_not_limited P Q true holds other = absurd (other refl)

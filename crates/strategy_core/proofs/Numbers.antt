@@ -1,6 +1,5 @@
 -- Dead code elimination leaves literals that are numbers of their widths.
-use Rattle.needed.specs.Laws.{CleanedNumbersWereThere}
-use Rattle.strategy_core.specs.Laws.{CleanedNumbersFit}
+use Rattle.strategy_core.proofs.Common.{CleanedNumbersWereThere, CleanedNumbersFit}
 
 pub cleaned_numbers_fit : CleanedNumbersWereThere → CleanedNumbersFit
 cleaned_numbers_fit were f g checks fit cleaned b k i r n is number =

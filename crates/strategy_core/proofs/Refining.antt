@@ -1,27 +1,6 @@
 -- What the strategy gives passes the checks, has literals of their widths, and refines the old module.
-use Rattle.std.proofs.Common.{◌≡◌, ℕ, zero, suc, Bool, List, ◌∷◌, Some, refl, sym, ap, subst, ◌∙◌}
-use Rattle.std.specs.Prelude.{slice_get}
-use Rattle.ir_core.specs.declared.module.Module.{Module}
-use Rattle.ir_core.specs.declared.module.Entry.{Entry}
+use Rattle.strategy_core.proofs.Common.{◌≡◌, ℕ, zero, suc, Bool, List, ◌∷◌, Some, refl, sym, ap, subst, ◌∙◌, slice_get, Module, Entry, Function, MeetsChecks, ModuleMeetsChecks, Refines, EntriesRefine, Rule, IsValid, NumbersFit, RefinementIsTransitive, RefinementIsReflexive, IsCleaned, CleanedFunctionsRefine, CleanedFunctionsMeetChecks, CleanedNumbersWereThere, Row, IsRewritten, RewrittenFunctionsRefine, RewrittenFunctionsMeetChecks, RewrittenNumbersFit, Match, Pair, pair_of, pair_in, IsAdmitted, IsMatchAmong, IsStep, ComesOf, itself, by_step, IsOptimised, AreOptimised, none, kept, function, IsPlainStrategy, AdmittedAreValid, ModuleNumbersFit, CleanedNumbersFit, StrategyMeetsChecks, StrategyNumbersFit, StrategyRefines, AreReady}
 use Rattle.ir_core.specs.declared.module.Entry.TheVariants as entries
-use Rattle.ir_core.specs.declared.function.Function.{Function}
-use Rattle.ir_core.specs.Checks.{MeetsChecks, ModuleMeetsChecks}
-use Rattle.ir_core.specs.Refines.{Refines, EntriesRefine}
-use Rattle.rule_core.specs.declared.rule.Rule.{Rule}
-use Rattle.rule_core.specs.Valid.{IsValid}
-use Rattle.ir_meaning.specs.HistoryLaws.{NumbersFit}
-use Rattle.ir_meaning.specs.Orders.{RefinementIsTransitive, RefinementIsReflexive}
-use Rattle.needed.specs.Cleaned.{IsCleaned}
-use Rattle.needed.specs.Laws.{CleanedFunctionsRefine, CleanedFunctionsMeetChecks, CleanedNumbersWereThere}
-use Rattle.verdict_core.specs.declared.verdicts.Row.{Row}
-use Rattle.rewriter.specs.Applied.{IsRewritten}
-use Rattle.rewriter.specs.Laws.{RewrittenFunctionsRefine, RewrittenFunctionsMeetChecks, RewrittenNumbersFit}
-use Rattle.bindings.specs.declared.rule_match.Match.{Match}
-use Rattle.strategy_core.specs.Asked.{Pair, pair_of, pair_in, IsAdmitted}
-use Rattle.bindings.specs.Matches.{IsMatchAmong}
-use Rattle.strategy_core.specs.PlainStrategy.{IsStep, ComesOf, itself, by_step, IsOptimised, AreOptimised, none, kept, function, IsPlainStrategy}
-use Rattle.strategy_core.specs.Laws.{AdmittedAreValid, ModuleNumbersFit, CleanedNumbersFit, StrategyMeetsChecks, StrategyNumbersFit, StrategyRefines}
-use Rattle.bindings.specs.Ready.{AreReady}
 use Rattle.strategy_core.proofs.Numbers.{cleaned_numbers_fit}
 
 -- the laws of cleaning and of rewriting, each by itself

@@ -1,29 +1,9 @@
 -- Instructions and terminators are monotone in the registers that they read.
-use Rattle.std.proofs.Common.{◌≡◌, ℕ, Bool, true, false, List, Some, refl, sym, ap, subst, ◌∙◌}
-use Rattle.std.specs.Prelude.{slice_get}
-use Rattle.ops.specs.Value.{AllowsValue, AllowsEffect, IsValueOf}
-use Rattle.ops.specs.Instruction.{instruction}
-use Rattle.ops.specs.Comparison.{comparison, selection}
-use Rattle.ops.specs.Conversion.{conversion}
-use Rattle.ops.specs.Unary.{unary}
-use Rattle.ops.proofs.Monotone.{instruction-monotone, comparison-monotone, unary-monotone, conversion-monotone, selection-monotone}
-use Rattle.ops.proofs.Values.{AllowsValue-refl}
-use Rattle.ops.specs.declared.value.Value.{Value}
+use Rattle.substitution.proofs.Common.{◌≡◌, ℕ, Bool, true, false, List, Some, refl, sym, ap, subst, ◌∙◌, slice_get, AllowsValue, AllowsEffect, IsValueOf, instruction, comparison, selection, conversion, unary, instruction-monotone, comparison-monotone, unary-monotone, conversion-monotone, selection-monotone, AllowsValue-refl, Value, Effect, OperandHasWidth, Read, read, reads_of, reads_at_end, Registers, Ending, Undefines, Returns, Goes, returning, going_by, branch_target, switch_target, has_noundef, OperandGives, Freezes, AnyNumber, Function, Binary, Compare, Unary, Select, Convert, Freeze, Phi, Operand, Register, HoldWidths, ReadsAllow, AllowsEnding, InstructionsAreMonotoneInReads, TerminatorsAreMonotoneInReads}
 use Rattle.ops.specs.declared.value.Value.TheVariants as values
-use Rattle.ops.specs.declared.value.Effect.{Effect}
 use Rattle.ops.specs.declared.value.Effect.TheVariants as effects
-use Rattle.ir_core.specs.Checks.{OperandHasWidth}
-use Rattle.ir_core.specs.Reads.{Read, read, reads_of, reads_at_end}
-use Rattle.ir_core.specs.Run.{Registers, Ending, Undefines, Returns, Goes, returning, going_by, branch_target, switch_target, has_noundef, OperandGives, Freezes, AnyNumber}
-use Rattle.ir_core.specs.declared.function.Function.{Function}
-use Rattle.ir_core.specs.declared.instruction.Op.TheVariants.{Binary, Compare, Unary, Select, Convert, Freeze, Phi}
-use Rattle.ir_core.specs.declared.operand.Operand.{Operand}
 use Rattle.ir_core.specs.declared.operand.Operand.TheVariants as operands
-use Rattle.ir_core.specs.declared.operand.Register.{Register}
 use Rattle.ir_core.specs.declared.terminator.Terminator.TheVariants as terminators
-use Rattle.ir_meaning.specs.Laws.{HoldWidths}
-use Rattle.substitution.specs.Allows.{ReadsAllow, AllowsEnding}
-use Rattle.substitution.specs.Laws.{InstructionsAreMonotoneInReads, TerminatorsAreMonotoneInReads}
 
 -- the register's value in the first registers allows that in the second
 abbrev pub RegisterAllows : Registers → Registers → Register → Type 0

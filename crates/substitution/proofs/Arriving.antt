@@ -1,23 +1,6 @@
 -- The places to which runs come, with the blocks that they have passed.
-use Rattle.std.proofs.Common.{◌≡◌, ℕ, suc, Bool, true, false, ◌&&◌, ◌⊎◌, inl, inr, List, [], ◌∷◌, length, Option, None, Some, refl, sym, ap, subst, ◌∙◌}
-use Rattle.std.proofs.lemmas.Bool.{cases_eq}
-use Rattle.ops.specs.declared.value.Value.{Value}
+use Rattle.substitution.proofs.Common.{◌≡◌, ℕ, suc, Bool, true, false, ◌&&◌, ◌⊎◌, inl, inr, List, [], ◌∷◌, length, Option, None, Some, refl, sym, ap, subst, ◌∙◌, cases_eq, Value, IsBlock, Names, IsInst, reads_of, reads_by, reads_in, reads_at, Registers, arguments, holding, IfPhi, Goes, OpGives, PhiGives, EndGives, AnyNumber, IsReached, IsWalk, Function, Block, Inst, Op, Binary, Compare, Unary, Select, Convert, Freeze, Phi, Operand, Terminator, Moment, InstGives, IsHistory, end_among, ComesTo}
 use Rattle.ops.specs.declared.value.Effect.TheVariants as effects
-use Rattle.ir_core.specs.Blocks.{IsBlock, Names}
-use Rattle.ir_core.specs.Checks.{IsInst}
-use Rattle.ir_core.specs.Reads.{reads_of, reads_by, reads_in, reads_at}
-use Rattle.ir_core.specs.Run.{Registers, arguments, holding, IfPhi, Goes, OpGives, PhiGives, EndGives, AnyNumber}
-use Rattle.ir_core.specs.Walks.{IsReached, IsWalk}
-use Rattle.ir_core.specs.declared.function.Function.{Function}
-use Rattle.ir_core.specs.declared.function.Block.{Block}
-use Rattle.ir_core.specs.declared.instruction.Inst.{Inst}
-use Rattle.ir_core.specs.declared.instruction.Op.{Op}
-use Rattle.ir_core.specs.declared.instruction.Op.TheVariants.{Binary, Compare, Unary, Select, Convert, Freeze, Phi}
-use Rattle.ir_core.specs.declared.operand.Operand.{Operand}
-use Rattle.ir_core.specs.declared.terminator.Terminator.{Terminator}
-use Rattle.ir_meaning.specs.Histories.{Moment, InstGives, IsHistory}
-use Rattle.ir_meaning.proofs.Steps.{end_among}
-use Rattle.substitution.specs.Held.{ComesTo}
 
 -- the block that was passed last, if one was
 abbrev pub last_of : List ℕ → Option ℕ

@@ -1,25 +1,7 @@
 -- Where registers are assigned.
-use Rattle.std.proofs.Common.{◌≡◌, ◌≢◌, ℕ, zero, suc, ◌<◌, ◌⊎◌, inl, inr, List, [], ◌∷◌, length, Some, refl, sym, ap, subst, ◌∙◌, arith, Contains}
-use Rattle.std.specs.Prelude.{slice_get}
-use Rattle.std.proofs.Common.{cond}
-use Rattle.std.proofs.lemmas.Bool.{eq-eqb}
-use Rattle.std.proofs.lemmas.Option.{slice_get_past}
-use Rattle.ir_core.specs.Assigned.{IsAssigned}
-use Rattle.ir_core.specs.Blocks.{IsBlock, Names}
-use Rattle.ir_core.specs.Checks.{IsPhi}
-use Rattle.ir_core.specs.Reads.{Read, read, end_of, reads_of, reads_at_end, reads_by, reads_in, reads_at}
-use Rattle.ir_core.specs.declared.function.Function.{Function}
-use Rattle.ir_core.specs.declared.function.Block.{Block}
-use Rattle.ir_core.specs.declared.instruction.Op.{Op}
-use Rattle.ir_core.specs.declared.instruction.Op.TheVariants.{Binary, Compare, Unary, Select, Convert, Freeze, Phi}
-use Rattle.ir_core.specs.declared.operand.Operand.{Operand}
-use Rattle.ir_core.specs.declared.operand.Register.{Register}
+use Rattle.substitution.proofs.Common.{◌≡◌, ◌≢◌, ℕ, zero, suc, ◌<◌, ◌⊎◌, inl, inr, List, [], ◌∷◌, length, Some, refl, sym, ap, subst, ◌∙◌, arith, Contains, slice_get, cond, eq-eqb, slice_get_past, IsAssigned, IsBlock, Names, IsPhi, Read, read, end_of, reads_of, reads_at_end, reads_by, reads_in, reads_at, Function, Block, Op, Binary, Compare, Unary, Select, Convert, Freeze, Phi, Operand, Register, Terminator, not_in_empty, cases_in, same_Some, end_of-is}
 use Rattle.ir_core.specs.declared.operand.Register.TheVariants as registers
-use Rattle.ir_core.specs.declared.terminator.Terminator.{Terminator}
 use Rattle.ir_core.specs.declared.terminator.Terminator.TheVariants as terminators
-use Rattle.ir_meaning.proofs.Pieces.{not_in_empty, cases_in}
-use Rattle.std.proofs.lemmas.Option.{same_Some}
-use Rattle.ir_meaning.proofs.PathLemmas.{end_of-is}
 use Rattle.substitution.proofs.Arriving.{same_or_other}
 
 -- a register that is assigned right behind an instruction is its result, or was assigned before it

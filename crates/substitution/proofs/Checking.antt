@@ -1,28 +1,7 @@
 -- A rewritten function meets the checks that the old one meets.
-use Rattle.std.proofs.Common.{◌≡◌, ℕ, suc, ◌^◌, ◌+◌, ◌<◌, ◌≤◌, ◌==◌, Bool, true, false, cond, ◌⊎◌, inl, inr, List, [], ◌∷◌, length, Option, None, Some, refl, sym, ap, subst, ◌∙◌, arith, Contains, map}
-use Rattle.std.specs.Prelude.{slice_get, option_map, unwrap_or, IsSome}
-use Rattle.std.proofs.lemmas.Bool.{cases_lt, eqb-true}
-use Rattle.std.proofs.lemmas.Option.{slice_get-map}
-use Rattle.ops.specs.Number.{Number}
-use Rattle.ir_core.specs.Assigned.{IsAssigned, ReadIsAssigned}
-use Rattle.ir_core.specs.Blocks.{IsBlock}
-use Rattle.ir_core.specs.Checks.{IsInst, IsKnown, OperandHasWidth, IsTyped, CasesFit, IsPhi, EntriesFit, IsFormed, MeetsChecks}
-use Rattle.ir_core.specs.Reads.{Read, read, IsRead, end_of, reads_of, reads_at_end, reads_by, reads_in, reads_at}
-use Rattle.ir_core.specs.declared.function.Function.{Function}
-use Rattle.ir_core.specs.declared.function.Block.{Block}
-use Rattle.ir_core.specs.declared.instruction.Inst.{Inst}
-use Rattle.ir_core.specs.declared.instruction.Op.{Op}
-use Rattle.ir_core.specs.declared.instruction.Op.TheVariants.{Binary, Compare, Unary, Select, Convert, Freeze, Phi}
-use Rattle.ir_core.specs.declared.operand.Operand.{Operand}
+use Rattle.substitution.proofs.Common.{◌≡◌, ℕ, suc, ◌^◌, ◌+◌, ◌<◌, ◌≤◌, ◌==◌, Bool, true, false, cond, ◌⊎◌, inl, inr, List, [], ◌∷◌, length, Option, None, Some, refl, sym, ap, subst, ◌∙◌, arith, Contains, map, slice_get, option_map, unwrap_or, IsSome, cases_lt, eqb-true, slice_get-map, Number, IsAssigned, ReadIsAssigned, IsBlock, IsInst, IsKnown, OperandHasWidth, IsTyped, CasesFit, IsPhi, EntriesFit, IsFormed, MeetsChecks, Read, read, IsRead, end_of, reads_of, reads_at_end, reads_by, reads_in, reads_at, Function, Block, Inst, Op, Binary, Compare, Unary, Select, Convert, Freeze, Phi, Operand, Register, Terminator, substituted_operand, substituted_entries, substituted_op, substituted_end, Rewrite, moved_place, stands_for, rewritten_insts, rewritten_block, rewritten_blocks, rewritten_function, NumbersFit, Fits, IsOfItsWidth, MayBeRead, RewrittenFunctionsMeetChecks, RewrittenNumbersFit}
 use Rattle.ir_core.specs.declared.operand.Operand.TheVariants as operands
-use Rattle.ir_core.specs.declared.operand.Register.{Register}
-use Rattle.ir_core.specs.declared.terminator.Terminator.{Terminator}
 use Rattle.ir_core.specs.declared.terminator.Terminator.TheVariants as terminators
-use Rattle.substitution.specs.Substitution.{substituted_operand, substituted_entries, substituted_op, substituted_end}
-use Rattle.substitution.specs.Rewritten.{Rewrite, moved_place, stands_for, rewritten_insts, rewritten_block, rewritten_blocks, rewritten_function}
-use Rattle.ir_meaning.specs.HistoryLaws.{NumbersFit}
-use Rattle.substitution.specs.Fits.{Fits, IsOfItsWidth, MayBeRead}
-use Rattle.substitution.specs.Laws.{RewrittenFunctionsMeetChecks, RewrittenNumbersFit}
 use Rattle.substitution.proofs.Pieces.{mapped, in_map, map_in}
 use Rattle.substitution.proofs.Arriving.{inst_reads}
 use Rattle.substitution.proofs.Assigning.{end_reads, own_place, IsThere}

@@ -1,41 +1,11 @@
 -- Each pass of a rewritten function is allowed by one of the old function.
-use Rattle.std.proofs.Common.{◌≡◌, ℕ, zero, suc, ◌+◌, inl, inr, List, [], ◌∷◌, ◌++◌, length, Option, None, Some, refl, sym, ap, subst, ◌∙◌, arith}
-use Rattle.std.specs.Prelude.{slice_get}
-use Rattle.std.proofs.lemmas.Option.{same_Some}
-use Rattle.ops.specs.Value.{AllowsValue, AllowsEffect}
-use Rattle.ops.proofs.Values.{AllowsValue-refl}
-use Rattle.ops.specs.declared.value.Value.{Value}
-use Rattle.ops.specs.declared.value.Effect.{Effect}
+use Rattle.substitution.proofs.Common.{◌≡◌, ℕ, zero, suc, ◌+◌, inl, inr, List, [], ◌∷◌, ◌++◌, length, Option, None, Some, refl, sym, ap, subst, ◌∙◌, arith, slice_get, same_Some, AllowsValue, AllowsEffect, AllowsValue-refl, Value, Effect, IsBlock, Names, IsPhi, IsInst, MeetsChecks, end_of, reads_at_end, AreArguments, Registers, arguments, holding, Ending, Undefines, Returns, Goes, GoesOn, IfPhi, AnyNumber, OpGives, PhiGives, EndGives, Follows, Enters, IsReached, Function, Block, Inst, Phi, Operand, Terminator, HoldWidths, substituted_entries, substituted_op, substituted_inst, substituted_end, pulled_back, ending_back, Rewrite, moved_place, stands_for, rewritten_insts, rewritten_block, rewritten_function, RunsThrough, NumbersFit, Fits, ComesTo, AllowsEnding, AssignedAllow, AllowsPut, RootAllowsPut, one_inst, rest_here, rest_next, end_of-is, held_widths}
 use Rattle.ops.specs.declared.value.Effect.TheVariants as effects
-use Rattle.ir_core.specs.Blocks.{IsBlock, Names}
-use Rattle.ir_core.specs.Checks.{IsPhi, IsInst, MeetsChecks}
-use Rattle.ir_core.specs.Reads.{end_of, reads_at_end}
-use Rattle.ir_core.specs.Refines.{AreArguments}
-use Rattle.ir_core.specs.Run.{Registers, arguments, holding, Ending, Undefines, Returns, Goes, GoesOn, IfPhi, AnyNumber, OpGives, PhiGives, EndGives, Follows, Enters}
-use Rattle.ir_core.specs.Walks.{IsReached}
-use Rattle.ir_core.specs.declared.function.Function.{Function}
-use Rattle.ir_core.specs.declared.function.Block.{Block}
-use Rattle.ir_core.specs.declared.instruction.Inst.{Inst}
-use Rattle.ir_core.specs.declared.instruction.Op.TheVariants.{Phi}
-use Rattle.ir_core.specs.declared.operand.Operand.{Operand}
 use Rattle.ir_core.specs.declared.operand.Register.TheVariants as registers
-use Rattle.ir_core.specs.declared.terminator.Terminator.{Terminator}
-use Rattle.ir_meaning.specs.Laws.{HoldWidths}
-use Rattle.substitution.specs.Substitution.{substituted_entries, substituted_op, substituted_inst, substituted_end, pulled_back, ending_back}
-use Rattle.substitution.specs.Rewritten.{Rewrite, moved_place, stands_for, rewritten_insts, rewritten_block, rewritten_function, RunsThrough}
-use Rattle.ir_meaning.specs.HistoryLaws.{NumbersFit}
-use Rattle.substitution.specs.Fits.{Fits}
-use Rattle.substitution.specs.Held.{ComesTo}
-use Rattle.substitution.specs.Allows.{AllowsEnding, AssignedAllow, AllowsPut}
-use Rattle.substitution.specs.Laws.{RootAllowsPut}
 use Rattle.substitution.proofs.Allowing.{terminators_monotone, Same}
 use Rattle.substitution.proofs.Going.{phi_or_not, no_phi_to, no_phi_substituted, NoPhis, no_phis_at, no_phis_joined, enters_follows, GoesAfter, through}
 use Rattle.substitution.proofs.Reading.{reads_allow, end_reads_there, op_allowed, Edge, phi_matched}
 use Rattle.substitution.proofs.Writing.{allows_next, allows_behind, put_through}
-use Rattle.ir_meaning.proofs.Equations.{one_inst}
-use Rattle.ir_meaning.proofs.HistoryOutcomes.{rest_here, rest_next}
-use Rattle.ir_meaning.proofs.PathLemmas.{end_of-is}
-use Rattle.ir_meaning.proofs.Widths.{held_widths}
 use Rattle.substitution.proofs.Arriving.{last_of, moment, Arrives, comes_to, is_reached, arrive_first, arrive_phi, arrive_next, arrive_edge, goes_by_names, goes_with, same_or_other}
 use Rattle.substitution.proofs.Assigning.{assigned_edge, none_assigned}
 use Rattle.substitution.proofs.Placing.{IsTheRoot, moved_first, moved_next, moved_root, moved_behind_root, insts_root, insts_other, block_back, length-block, block_at, inst_on}

@@ -1,23 +1,8 @@
 -- Passes through the instructions of a block, and the registers that they write.
-use Rattle.std.proofs.Common.{◌≡◌, ◌≢◌, ℕ, suc, ◌+◌, ◌<◌, ◌⊎◌, inl, inr, List, [], ◌∷◌, ◌++◌, length, Option, None, Some, refl, ap, subst, ◌∙◌, arith}
-use Rattle.std.specs.Prelude.{slice_get}
-use Rattle.std.proofs.lemmas.Option.{same_Some}
-use Rattle.ops.specs.declared.value.Value.{Value}
-use Rattle.ops.specs.declared.value.Effect.{Effect}
+use Rattle.substitution.proofs.Common.{◌≡◌, ◌≢◌, ℕ, suc, ◌+◌, ◌<◌, ◌⊎◌, inl, inr, List, [], ◌∷◌, ◌++◌, length, Option, None, Some, refl, ap, subst, ◌∙◌, arith, slice_get, same_Some, Value, Effect, IsPhi, Registers, holding, Ending, Undefines, GoesOn, IfPhi, AnyNumber, OpGives, PhiGives, Follows, Enters, Function, Inst, Op, Binary, Compare, Unary, Select, Convert, Freeze, Phi, Operand, Terminator, substituted_op, value_of, Rewrite, stands_for, RunsOn, RunsThrough, held_elsewhere}
 use Rattle.ops.specs.declared.value.Effect.TheVariants as effects
-use Rattle.ir_core.specs.Checks.{IsPhi}
-use Rattle.ir_core.specs.Run.{Registers, holding, Ending, Undefines, GoesOn, IfPhi, AnyNumber, OpGives, PhiGives, Follows, Enters}
-use Rattle.ir_core.specs.declared.function.Function.{Function}
-use Rattle.ir_core.specs.declared.instruction.Inst.{Inst}
-use Rattle.ir_core.specs.declared.instruction.Op.{Op}
-use Rattle.ir_core.specs.declared.instruction.Op.TheVariants.{Binary, Compare, Unary, Select, Convert, Freeze, Phi}
-use Rattle.ir_core.specs.declared.operand.Operand.{Operand}
 use Rattle.ir_core.specs.declared.operand.Operand.TheVariants as operands
 use Rattle.ir_core.specs.declared.operand.Register.TheVariants as registers
-use Rattle.ir_core.specs.declared.terminator.Terminator.{Terminator}
-use Rattle.substitution.specs.Substitution.{substituted_op, value_of}
-use Rattle.substitution.specs.Rewritten.{Rewrite, stands_for, RunsOn, RunsThrough}
-use Rattle.ir_meaning.proofs.Steps.{held_elsewhere}
 
 -- ---- phis
 

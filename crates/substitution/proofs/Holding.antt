@@ -1,30 +1,8 @@
 -- What registers hold where a run comes to, and what follows for those of the old function.
-use Rattle.std.proofs.Common.{◌≡◌, ℕ, zero, suc, ◌<◌, List, [], ◌∷◌, length, Some, refl, ap, subst, ◌∙◌, arith}
-use Rattle.std.specs.Prelude.{slice_get}
-use Rattle.ops.specs.declared.value.Value.{Value}
+use Rattle.substitution.proofs.Common.{◌≡◌, ℕ, zero, suc, ◌<◌, List, [], ◌∷◌, length, Some, refl, ap, subst, ◌∙◌, arith, slice_get, Value, IsAssigned, IsInst, IsPhi, MeetsChecks, AreArguments, Registers, AnyNumber, OpGives, Function, Parameter, Inst, Register, substituted_inst, value_of, pulled_back, Rewrite, moved_place, root_of, stands_for, rewritten_function, Fits, MayHold, RunsHoldWhatIsAssigned, Moment, InstGives, IsHistory, LastRan, NumbersFit, not_both_assigned, equations, assigned_ran, results_held, step_keeps_parameter, held_widths}
 use Rattle.ops.specs.declared.value.Effect.TheVariants as effects
-use Rattle.ir_core.specs.Assigned.{IsAssigned}
-use Rattle.ir_core.specs.Checks.{IsInst, IsPhi, MeetsChecks}
-use Rattle.ir_core.specs.Refines.{AreArguments}
-use Rattle.ir_core.specs.Run.{Registers, AnyNumber, OpGives}
-use Rattle.ir_core.specs.declared.function.Function.{Function}
-use Rattle.ir_core.specs.declared.function.Parameter.{Parameter}
-use Rattle.ir_core.specs.declared.instruction.Inst.{Inst}
 use Rattle.ir_core.specs.declared.operand.Operand.TheVariants as operands
-use Rattle.ir_core.specs.declared.operand.Register.{Register}
 use Rattle.ir_core.specs.declared.operand.Register.TheVariants as registers
-use Rattle.substitution.specs.Substitution.{substituted_inst, value_of, pulled_back}
-use Rattle.substitution.specs.Rewritten.{Rewrite, moved_place, root_of, stands_for, rewritten_function}
-use Rattle.substitution.specs.Fits.{Fits}
-use Rattle.substitution.specs.Held.{MayHold}
-use Rattle.substitution.specs.Laws.{RunsHoldWhatIsAssigned}
-use Rattle.ir_meaning.specs.Histories.{Moment, InstGives, IsHistory}
-use Rattle.ir_meaning.specs.HistoryLaws.{LastRan, NumbersFit}
-use Rattle.ir_meaning.proofs.Assignments.{not_both_assigned}
-use Rattle.ir_meaning.proofs.Equations.{equations}
-use Rattle.ir_meaning.proofs.Holding.{assigned_ran, results_held}
-use Rattle.ir_meaning.proofs.Steps.{step_keeps_parameter}
-use Rattle.ir_meaning.proofs.Widths.{held_widths}
 use Rattle.substitution.proofs.Going.{no_phi_substituted}
 use Rattle.substitution.proofs.Passing.{assigned_on}
 use Rattle.substitution.proofs.Placing.{IsTheRoot, moved_root, stands_other, inst_on}

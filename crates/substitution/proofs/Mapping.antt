@@ -1,9 +1,5 @@
 -- Lists that are changed item by item.
-use Rattle.std.proofs.Common.{◌≡◌, ℕ, suc, ◌+◌, ◌<◌, List, [], ◌∷◌, ◌++◌, length, take, drop, map, sym, ap, subst, ◌∙◌, arith, get_or, All}
-use Rattle.std.proofs.Math.ListN.{set, length-set}
-use Rattle.std.proofs.Math.Seq.{drop-cons}
-use Rattle.std.proofs.lemmas.List.Elements.{All-get_or}
-use Rattle.std.proofs.lemmas.List.{take_more, take_more_set, drop-set-lt, map-append}
+use Rattle.substitution.proofs.Common.{◌≡◌, ℕ, suc, ◌+◌, ◌<◌, List, [], ◌∷◌, ◌++◌, length, take, drop, map, sym, ap, subst, ◌∙◌, arith, get_or, All, set, length-set, drop-cons, All-get_or, take_more, take_more_set, drop-set-lt, map-append}
 
 -- the items before the index are changed by f, and from there on all are as they were
 pub record Mapped {A : Type 0} (f : A → A) (all : List A) (i : ℕ) (items : List A) : Type 0 where

@@ -1,15 +1,5 @@
 -- If no name is given twice in the old function, none is in the rewritten one.
-use Rattle.std.proofs.Common.{◌≡◌, ◌≢◌, ℕ, zero, suc, ◌+◌, ◌<◌, inl, inr, List, [], ◌∷◌, ◌++◌, length, Option, Some, refl, sym, ap, subst, ◌∙◌, arith, append_assoc, map}
-use Rattle.std.specs.Prelude.{slice_get}
-use Rattle.std.specs.List.{flat_map}
-use Rattle.std.proofs.lemmas.Option.{same_Some}
-use Rattle.ir_core.specs.Checks.{NamesDiffer}
-use Rattle.ir_core.specs.Names.{block_names, names_of}
-use Rattle.ir_core.specs.declared.function.Function.{Function}
-use Rattle.ir_core.specs.declared.function.Block.{Block}
-use Rattle.ir_core.specs.declared.instruction.Inst.{Inst}
-use Rattle.substitution.specs.Rewritten.{Rewrite, rewritten_insts, rewritten_block, rewritten_blocks, rewritten_function}
-use Rattle.substitution.specs.Fits.{Fits}
+use Rattle.substitution.proofs.Common.{◌≡◌, ◌≢◌, ℕ, zero, suc, ◌+◌, ◌<◌, inl, inr, List, [], ◌∷◌, ◌++◌, length, Option, Some, refl, sym, ap, subst, ◌∙◌, arith, append_assoc, map, slice_get, flat_map, same_Some, NamesDiffer, block_names, names_of, Function, Block, Inst, Rewrite, rewritten_insts, rewritten_block, rewritten_blocks, rewritten_function, Fits}
 use Rattle.substitution.proofs.Pieces.{get_cases}
 use Rattle.substitution.proofs.Placing.{IsTheRoot, insts_root, insts_other}
 

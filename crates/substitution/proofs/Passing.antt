@@ -1,28 +1,11 @@
 -- What is assigned in the old function is assigned in the new one, at its new place.
-use Rattle.std.proofs.Common.{◌≡◌, ◌≢◌, ℕ, ◌+◌, ◌<◌, ◌≤◌, inl, inr, List, [], ◌∷◌, length, Some, refl, sym, subst, ◌∙◌, arith, Contains}
-use Rattle.std.specs.Prelude.{slice_get}
-use Rattle.ir_core.specs.Assigned.{IsAssigned}
-use Rattle.ir_core.specs.Blocks.{targets_of, IsBlock, HasInst, Names}
-use Rattle.ir_core.specs.Checks.{IsInst}
-use Rattle.ir_core.specs.Walks.{IsWalk}
-use Rattle.ir_core.specs.declared.function.Function.{Function}
-use Rattle.ir_core.specs.declared.function.Block.{Block}
-use Rattle.ir_core.specs.declared.instruction.Inst.{Inst}
-use Rattle.ir_core.specs.declared.operand.Operand.{Operand}
+use Rattle.substitution.proofs.Common.{◌≡◌, ◌≢◌, ℕ, ◌+◌, ◌<◌, ◌≤◌, inl, inr, List, [], ◌∷◌, length, Some, refl, sym, subst, ◌∙◌, arith, Contains, slice_get, IsAssigned, targets_of, IsBlock, HasInst, Names, IsInst, IsWalk, Function, Block, Inst, Operand, Register, Terminator, some_at, substituted_operand, substituted_end, substituted_inst, Rewrite, root_of, moved_place, stands_for, rewritten_block, rewritten_function, Fits, MayBeRead, assignment_transitive, has_inst}
 use Rattle.ir_core.specs.declared.operand.Operand.TheVariants as operands
-use Rattle.ir_core.specs.declared.operand.Register.{Register}
 use Rattle.ir_core.specs.declared.operand.Register.TheVariants as registers
-use Rattle.ir_core.specs.declared.terminator.Terminator.{Terminator}
 use Rattle.ir_core.specs.declared.terminator.Terminator.TheVariants as terminators
-use Rattle.ir_meaning.proofs.Pieces.{some_at}
-use Rattle.substitution.specs.Substitution.{substituted_operand, substituted_end, substituted_inst}
-use Rattle.substitution.specs.Rewritten.{Rewrite, root_of, moved_place, stands_for, rewritten_block, rewritten_function}
-use Rattle.substitution.specs.Fits.{Fits, MayBeRead}
 use Rattle.substitution.proofs.Arriving.{same_or_other}
 use Rattle.substitution.proofs.Placing.{IsTheRoot, moved_below, moved_root, put_below, stands_root, stands_other, block_at, block_back, inst_on, put_on}
 use Rattle.substitution.proofs.Standing.{old_other, other_register}
-use Rattle.ir_meaning.proofs.Assignments.{assignment_transitive}
-use Rattle.ir_meaning.proofs.Steps.{has_inst}
 
 -- ---- walks
 

@@ -1,7 +1,5 @@
 -- Lists in which others replace an item.
-use Rattle.std.proofs.Common.{◌≡◌, ℕ, ◌+◌, ◌-◌, ◌<◌, List, ◌++◌, length, take, drop, sym, ap, ◌∙◌, arith, append_assoc}
-use Rattle.std.proofs.Math.Seq.{drop-append_seam, take-append_seam, drop-append-add}
-use Rattle.std.proofs.lemmas.List.{length-append, drop-drop, length-append, length-take}
+use Rattle.substitution.proofs.Common.{◌≡◌, ℕ, ◌+◌, ◌-◌, ◌<◌, List, ◌++◌, length, take, drop, sym, ap, ◌∙◌, arith, append_assoc, drop-append_seam, take-append_seam, drop-append-add, length-append, drop-drop, length-take}
 
 module _ {A : Type 0} where
   rotated : (xs ys : List A) (n : ℕ) → n ≡ length xs → drop n (xs ++ ys) ++ take n (xs ++ ys) ≡ ys ++ xs

@@ -1,26 +1,5 @@
 -- The registers that the old function reads hold values that allow those of their substitutes.
-use Rattle.std.proofs.Common.{◌≡◌, ℕ, List, [], ◌∷◌, length, None, Some, sym, ap, subst, ◌∙◌}
-use Rattle.std.specs.Prelude.{slice_get, option_map}
-use Rattle.std.proofs.lemmas.Option.{slice_get-map, same_Some}
-use Rattle.ops.specs.Value.{AllowsValue, AllowsEffect}
-use Rattle.ops.specs.declared.value.Value.{Value}
-use Rattle.ops.specs.declared.value.Effect.{Effect}
-use Rattle.ir_core.specs.Assigned.{IsAssigned, ReadIsAssigned}
-use Rattle.ir_core.specs.Blocks.{IsBlock}
-use Rattle.ir_core.specs.Checks.{IsPhi, IsInst, MeetsChecks}
-use Rattle.ir_core.specs.Reads.{Read, read, end_of, reads_of, reads_at_end}
-use Rattle.ir_core.specs.Run.{Registers, AnyNumber, OperandGives, OpGives, PhiGives}
-use Rattle.ir_core.specs.declared.function.Function.{Function}
-use Rattle.ir_core.specs.declared.function.Block.{Block}
-use Rattle.ir_core.specs.declared.instruction.Inst.{Inst}
-use Rattle.ir_core.specs.declared.instruction.Op.TheVariants.{Phi}
-use Rattle.ir_core.specs.declared.operand.Operand.{Operand}
-use Rattle.ir_meaning.specs.Laws.{HoldWidths}
-use Rattle.ir_meaning.proofs.Pieces.{place_in}
-use Rattle.ir_meaning.proofs.Widths.{inst_widths}
-use Rattle.substitution.specs.Substitution.{IsDefinite, substituted_entries, pulled_back}
-use Rattle.substitution.specs.Rewritten.{Rewrite, stands_for}
-use Rattle.substitution.specs.Allows.{AssignedAllow, ReadsAllow}
+use Rattle.substitution.proofs.Common.{◌≡◌, ℕ, List, [], ◌∷◌, length, None, Some, sym, ap, subst, ◌∙◌, slice_get, option_map, slice_get-map, same_Some, AllowsValue, AllowsEffect, Value, Effect, IsAssigned, ReadIsAssigned, IsBlock, IsPhi, IsInst, MeetsChecks, Read, read, end_of, reads_of, reads_at_end, Registers, AnyNumber, OperandGives, OpGives, PhiGives, Function, Block, Inst, Phi, Operand, HoldWidths, place_in, inst_widths, IsDefinite, substituted_entries, pulled_back, Rewrite, stands_for, AssignedAllow, ReadsAllow}
 use Rattle.substitution.proofs.Allowing.{operand_allowing, operand_allows, instructions_monotone}
 use Rattle.substitution.proofs.Arriving.{inst_reads, last_of}
 use Rattle.substitution.proofs.Assigning.{end_reads, own_place, end_place, IsThere}

@@ -1,24 +1,8 @@
 -- A rewritten function is the old one with all reads substituted and then the new instructions in the root's place.
-use Rattle.std.proofs.Common.{◌≡◌, ◌≢◌, ℕ, zero, suc, ◌+◌, ◌<◌, ◌≤◌, ◌^◌, List, [], ◌∷◌, ◌++◌, length, take, drop, map, Option, None, Some, refl, sym, ap, subst, ◌∙◌, arith, get_or, All}
-use Rattle.std.specs.Prelude.{slice_get, slice_set, option_map, option_and_then, IsSome}
-use Rattle.std.proofs.lemmas.Option.{slice_get-map, slice_get-get_or, same_Some}
-use Rattle.ir_core.specs.Blocks.{IsBlock}
-use Rattle.ir_core.specs.Checks.{IsInst, IsKnown}
-use Rattle.ir_core.specs.Reads.{Read, read, IsRead, end_of, reads_of, reads_at_end}
-use Rattle.ir_core.specs.declared.function.Function.{Function}
-use Rattle.ir_core.specs.declared.function.Block.{Block}
-use Rattle.ir_core.specs.declared.instruction.Inst.{Inst}
-use Rattle.ir_core.specs.declared.instruction.Op.{Op}
-use Rattle.ir_core.specs.declared.instruction.Op.TheVariants.{Binary, Compare, Unary, Select, Convert, Freeze, Phi}
-use Rattle.ir_core.specs.declared.operand.Operand.{Operand}
+use Rattle.substitution.proofs.Common.{◌≡◌, ◌≢◌, ℕ, zero, suc, ◌+◌, ◌<◌, ◌≤◌, ◌^◌, List, [], ◌∷◌, ◌++◌, length, take, drop, map, Option, None, Some, refl, sym, ap, subst, ◌∙◌, arith, get_or, All, slice_get, slice_set, option_map, option_and_then, IsSome, slice_get-map, slice_get-get_or, same_Some, IsBlock, IsInst, IsKnown, Read, read, IsRead, end_of, reads_of, reads_at_end, Function, Block, Inst, Op, Binary, Compare, Unary, Select, Convert, Freeze, Phi, Operand, Terminator, block_with, Rewrite, stands_for, rewritten_insts, rewritten_block, rewritten_blocks, HasRoom, OpHasRoom, EndHasRoom, BlockHasRoom, substituted_inst, substituted_end, substituted_block}
 use Rattle.ir_core.specs.declared.operand.Operand.TheVariants as operands
 use Rattle.ir_core.specs.declared.operand.Register.TheVariants as registers
-use Rattle.ir_core.specs.declared.terminator.Terminator.{Terminator}
 use Rattle.ir_core.specs.declared.terminator.Terminator.TheVariants as terminators
-use Rattle.substitution.specs.Put.{block_with}
-use Rattle.substitution.specs.Rewritten.{Rewrite, stands_for, rewritten_insts, rewritten_block, rewritten_blocks}
-use Rattle.substitution.specs.Room.{HasRoom, OpHasRoom, EndHasRoom, BlockHasRoom}
-use Rattle.substitution.specs.Substitution.{substituted_inst, substituted_end, substituted_block}
 use Rattle.substitution.proofs.Arriving.{inst_reads}
 use Rattle.substitution.proofs.Assigning.{end_reads}
 use Rattle.substitution.proofs.Placing.{insts_root, insts_other}

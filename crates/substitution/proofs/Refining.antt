@@ -1,22 +1,6 @@
 -- A rewritten function refines the old one.
-use Rattle.std.proofs.Common.{◌≡◌, ℕ, suc, List, [], ◌∷◌, Option, None, Some, refl, ap, map}
-use Rattle.ops.specs.Value.{AllowsEffect}
-use Rattle.ops.proofs.Values.{AllowsValue-trans}
-use Rattle.ops.specs.declared.value.Effect.{Effect}
+use Rattle.substitution.proofs.Common.{◌≡◌, ℕ, suc, List, [], ◌∷◌, Option, None, Some, refl, ap, map, AllowsEffect, AllowsValue-trans, Effect, MeetsChecks, Refines, Registers, AnyNumber, OpGives, Function, Block, Inst, pulled_back, Rewrite, stands_for, rewritten_blocks, rewritten_function, NumbersFit, Fits, MayHold, AllowsPut, RootAllowsPut, RewrittenFunctionsRefine, PutIsAllowed, RewrittenFunctionsRefineWherePutIsAllowed}
 use Rattle.ops.specs.declared.value.Effect.TheVariants as effects
-use Rattle.ir_core.specs.Checks.{MeetsChecks}
-use Rattle.ir_core.specs.Refines.{Refines}
-use Rattle.ir_core.specs.Run.{Registers, AnyNumber, OpGives}
-use Rattle.ir_core.specs.declared.function.Function.{Function}
-use Rattle.ir_core.specs.declared.function.Block.{Block}
-use Rattle.ir_core.specs.declared.instruction.Inst.{Inst}
-use Rattle.substitution.specs.Substitution.{pulled_back}
-use Rattle.substitution.specs.Rewritten.{Rewrite, stands_for, rewritten_blocks, rewritten_function}
-use Rattle.ir_meaning.specs.HistoryLaws.{NumbersFit}
-use Rattle.substitution.specs.Fits.{Fits}
-use Rattle.substitution.specs.Held.{MayHold}
-use Rattle.substitution.specs.Allows.{AllowsPut}
-use Rattle.substitution.specs.Laws.{RootAllowsPut, RewrittenFunctionsRefine, PutIsAllowed, RewrittenFunctionsRefineWherePutIsAllowed}
 use Rattle.substitution.proofs.Holding.{runs_hold, held_back}
 use Rattle.substitution.proofs.Reading.{op_allowed}
 use Rattle.substitution.proofs.Framing.{Related, simulated, first_related}

@@ -1,12 +1,6 @@
 -- If runs of two functions go through the same blocks, and each pass of the second is allowed by one of the first, the
 -- second function refines the first.
-use Rattle.std.proofs.Common.{◌≡◌, ℕ, zero, suc, Bool, true, false, List, [], ◌∷◌, Some, refl, sym, subst, map}
-use Rattle.ops.specs.Value.{AllowsValue}
-use Rattle.ops.specs.declared.value.Value.{Value}
-use Rattle.ir_core.specs.Refines.{AllowsOutcome, AreArguments, Refines}
-use Rattle.ir_core.specs.Run.{Registers, arguments, breaks_noundef, Ending, Undefines, Returns, Goes, AnyNumber, Leads, Passes, RunsFrom, Starts}
-use Rattle.ir_core.specs.declared.function.Function.{Function}
-use Rattle.ir_core.specs.declared.outcome.Outcome.{Outcome}
+use Rattle.substitution.proofs.Common.{◌≡◌, ℕ, zero, suc, Bool, true, false, List, [], ◌∷◌, Some, refl, sym, subst, map, AllowsValue, Value, AllowsOutcome, AreArguments, Refines, Registers, arguments, breaks_noundef, Ending, Undefines, Returns, Goes, AnyNumber, Leads, Passes, RunsFrom, Starts, Function, Outcome}
 use Rattle.ir_core.specs.declared.outcome.Outcome.TheVariants as outcomes
 use Rattle.substitution.proofs.Arriving.{last_of}
 

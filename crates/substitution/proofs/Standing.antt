@@ -1,28 +1,10 @@
 -- Substitutes have the widths of the operands that they replace, and literal numbers stay of theirs.
-use Rattle.std.proofs.Common.{◌≡◌, ◌≢◌, ℕ, ◌+◌, ◌^◌, ◌<◌, inl, inr, length, Some, sym, ap, subst, ◌∙◌}
-use Rattle.std.specs.Prelude.{slice_get, option_map, option_and_then}
-use Rattle.std.proofs.lemmas.Option.{same_Some}
-use Rattle.ops.specs.Number.{Number}
-use Rattle.ops.specs.Value.{IsValueOf}
-use Rattle.ops.specs.declared.value.Value.{Value}
+use Rattle.substitution.proofs.Common.{◌≡◌, ◌≢◌, ℕ, ◌+◌, ◌^◌, ◌<◌, inl, inr, length, Some, sym, ap, subst, ◌∙◌, slice_get, option_map, option_and_then, same_Some, Number, IsValueOf, Value, IsAssigned, IsInst, OperandHasWidth, width_of, Registers, Function, Block, Inst, Operand, HoldWidths, substituted_operand, substituted_inst, IsDefinite, value_of, pulled_back, Rewrite, root_of, moved_place, stands_for, rewritten_function, Fits, IsOfItsWidth, IsOld, MayBeRead, not_both_assigned}
 use Rattle.ops.specs.declared.value.Value.TheVariants as values
-use Rattle.ir_core.specs.Assigned.{IsAssigned}
-use Rattle.ir_core.specs.Checks.{IsInst, OperandHasWidth}
-use Rattle.ir_core.specs.Names.{width_of}
-use Rattle.ir_core.specs.Run.{Registers}
-use Rattle.ir_core.specs.declared.function.Function.{Function}
-use Rattle.ir_core.specs.declared.function.Block.{Block}
-use Rattle.ir_core.specs.declared.instruction.Inst.{Inst}
-use Rattle.ir_core.specs.declared.operand.Operand.{Operand}
 use Rattle.ir_core.specs.declared.operand.Operand.TheVariants as operands
 use Rattle.ir_core.specs.declared.operand.Register.TheVariants as registers
-use Rattle.ir_meaning.specs.Laws.{HoldWidths}
-use Rattle.substitution.specs.Substitution.{substituted_operand, substituted_inst, IsDefinite, value_of, pulled_back}
-use Rattle.substitution.specs.Rewritten.{Rewrite, root_of, moved_place, stands_for, rewritten_function}
-use Rattle.substitution.specs.Fits.{Fits, IsOfItsWidth, IsOld, MayBeRead}
 use Rattle.substitution.proofs.Pieces.{mapped, chained}
 use Rattle.substitution.proofs.Arriving.{same_or_other}
-use Rattle.ir_meaning.proofs.Assignments.{not_both_assigned}
 use Rattle.substitution.proofs.Placing.{IsTheRoot, stands_root, stands_other, inst_on, put_on}
 
 pub width_at : (f : Function) (b k : ℕ) (inst : Inst) → IsInst f b k inst → width_of f (registers.Result b k) ≡ Some inst.width

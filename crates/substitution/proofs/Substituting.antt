@@ -1,20 +1,8 @@
 -- What operations give once operands are substituted for registers.
-use Rattle.std.proofs.Common.{◌≡◌, ◌≢◌, ℕ, Bool, true, false, ◌&&◌, cond, List, Option, Some, refl, sym, ap, subst, ◌∙◌, Contains}
-use Rattle.std.proofs.lemmas.Option.{same_Some}
-use Rattle.ops.specs.declared.value.Value.{Value}
+use Rattle.substitution.proofs.Common.{◌≡◌, ◌≢◌, ℕ, Bool, true, false, ◌&&◌, cond, List, Option, Some, refl, sym, ap, subst, ◌∙◌, Contains, same_Some, Value, Effect, Function, Op, Binary, Compare, Unary, Select, Convert, Freeze, Phi, Operand, Register, Terminator, Registers, Ending, Goes, Undefines, Returns, returning, going_by, branch_target, switch_target, has_noundef, is_indefinite, is_poison, AnyNumber, OperandGives, OpGives, PhiGives, EndGives, Substitution, substituted_operand, substituted_entries, substituted_op, substituted_end, IsDefinite, value_of, pulled_back, ending_back, SubstitutedInstructionsGive, SubstitutedPhisGive, SubstitutedTerminatorsEnd}
 use Rattle.ops.specs.declared.value.Value.TheVariants as values
-use Rattle.ops.specs.declared.value.Effect.{Effect}
-use Rattle.ir_core.specs.declared.function.Function.{Function}
-use Rattle.ir_core.specs.declared.instruction.Op.{Op}
-use Rattle.ir_core.specs.declared.instruction.Op.TheVariants.{Binary, Compare, Unary, Select, Convert, Freeze, Phi}
-use Rattle.ir_core.specs.declared.operand.Operand.{Operand}
 use Rattle.ir_core.specs.declared.operand.Operand.TheVariants as operands
-use Rattle.ir_core.specs.declared.operand.Register.{Register}
-use Rattle.ir_core.specs.declared.terminator.Terminator.{Terminator}
 use Rattle.ir_core.specs.declared.terminator.Terminator.TheVariants as terminators
-use Rattle.ir_core.specs.Run.{Registers, Ending, Goes, Undefines, Returns, returning, going_by, branch_target, switch_target, has_noundef, is_indefinite, is_poison, AnyNumber, OperandGives, OpGives, PhiGives, EndGives}
-use Rattle.substitution.specs.Substitution.{Substitution, substituted_operand, substituted_entries, substituted_op, substituted_end, IsDefinite, value_of, pulled_back, ending_back}
-use Rattle.substitution.specs.Laws.{SubstitutedInstructionsGive, SubstitutedPhisGive, SubstitutedTerminatorsEnd}
 use Rattle.substitution.proofs.Pieces.{in_map, map_in}
 
 -- ---- operands

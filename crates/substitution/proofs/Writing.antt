@@ -1,34 +1,13 @@
 -- After an instruction, or all that is put in the root's place, the assigned registers still allow their substitutes.
-use Rattle.std.proofs.Common.{◌≡◌, ◌≢◌, ℕ, suc, ◌+◌, ◌<◌, inl, inr, List, [], ◌∷◌, length, Some, refl, sym, ap, subst, ◌∙◌, arith}
-use Rattle.std.specs.Prelude.{slice_get}
-use Rattle.std.proofs.lemmas.Option.{same_Some}
-use Rattle.ops.specs.Value.{AllowsValue}
-use Rattle.ops.specs.declared.value.Value.{Value}
-use Rattle.ops.specs.declared.value.Effect.{Effect}
+use Rattle.substitution.proofs.Common.{◌≡◌, ◌≢◌, ℕ, suc, ◌+◌, ◌<◌, inl, inr, List, [], ◌∷◌, length, Some, refl, sym, ap, subst, ◌∙◌, arith, slice_get, same_Some, AllowsValue, Value, Effect, IsAssigned, IsInst, Registers, holding, AnyNumber, OpGives, IsReached, Function, Inst, Operand, Register, substituted_operand, value_of, Rewrite, root_of, moved_place, stands_for, rewritten_function, RunsOn, RunsThrough, Fits, AssignedAllow, AllowsPut, rest_here, rest_next, held_here, held_elsewhere, not_both_assigned}
 use Rattle.ops.specs.declared.value.Effect.TheVariants as effects
-use Rattle.ir_core.specs.Assigned.{IsAssigned}
-use Rattle.ir_core.specs.Checks.{IsInst}
-use Rattle.ir_core.specs.Run.{Registers, holding, AnyNumber, OpGives}
-use Rattle.ir_core.specs.Walks.{IsReached}
-use Rattle.ir_core.specs.declared.function.Function.{Function}
-use Rattle.ir_core.specs.declared.instruction.Inst.{Inst}
-use Rattle.ir_core.specs.declared.operand.Operand.{Operand}
 use Rattle.ir_core.specs.declared.operand.Operand.TheVariants as operands
-use Rattle.ir_core.specs.declared.operand.Register.{Register}
 use Rattle.ir_core.specs.declared.operand.Register.TheVariants as registers
-use Rattle.substitution.specs.Substitution.{substituted_operand, value_of}
-use Rattle.substitution.specs.Rewritten.{Rewrite, root_of, moved_place, stands_for, rewritten_function, RunsOn, RunsThrough}
-use Rattle.substitution.specs.Fits.{Fits}
-use Rattle.substitution.specs.Allows.{AssignedAllow, AllowsPut}
 use Rattle.substitution.proofs.Going.{unwritten, unwritten_by}
-use Rattle.ir_meaning.proofs.HistoryOutcomes.{rest_here, rest_next}
 use Rattle.substitution.proofs.Arriving.{Arrives, arrive_next, same_or_other}
-use Rattle.ir_meaning.proofs.Steps.{held_here, held_elsewhere}
 use Rattle.substitution.proofs.Assigning.{assigned_next}
-use Rattle.substitution.proofs.Standing.{old_other}
-use Rattle.ir_meaning.proofs.Assignments.{not_both_assigned}
+use Rattle.substitution.proofs.Standing.{old_other, other_register}
 use Rattle.substitution.proofs.Placing.{IsTheRoot, moved_apart, moved_no_put, stands_root, stands_other, put_on}
-use Rattle.substitution.proofs.Standing.{other_register}
 
 module _ (f : Function) (w : Rewrite) (root : Inst) (fits : Fits f w root) where
   -- ---- no instruction writes the substitute for another's register

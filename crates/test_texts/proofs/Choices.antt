@@ -1,9 +1,5 @@
 -- Where the source of a rule has no choices, the empty list of numbers fits them.
-use Rattle.std.proofs.Common.{◌≡◌, ℕ, zero, suc, ◌<◌, List, [], length, refl, arith}
-use Rattle.rule_core.specs.declared.rule.Rule.{Rule}
-use Rattle.rule_core.specs.Positions.{choices_among}
-use Rattle.rule_core.specs.Valid.{SourceChoicesFit}
-use Rattle.verdict.specs.Honest.{HasSourceChoice}
+use Rattle.test_texts.proofs.Common.{◌≡◌, ℕ, zero, suc, ◌<◌, List, [], length, refl, arith, Rule, choices_among, SourceChoicesFit, HasSourceChoice}
 
 none_of : (n : ℕ) → ¬ (0 < n) → 0 ≡ n
 none_of zero none = refl

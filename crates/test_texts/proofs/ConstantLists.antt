@@ -1,12 +1,5 @@
 -- Constants of one width fit a rule whose typing has that width alone.
-use Rattle.std.proofs.Common.{◌≡◌, ℕ, zero, suc, List, [], ◌∷◌, length, subst}
-use Rattle.std.specs.Prelude.{All, Some, slice_get}
-use Rattle.std.proofs.lemmas.Option.{slice_get_within, get_or_from_slice_get}
-use Rattle.ops.specs.Number.{Number}
-use Rattle.ops.specs.Value.{IsValueOf}
-use Rattle.ops.specs.declared.value.Value.TheVariants.{Bits}
-use Rattle.rule_core.specs.declared.rule.Rule.{Rule}
-use Rattle.rule_core.specs.Valid.{ConstantsFit}
+use Rattle.test_texts.proofs.Common.{◌≡◌, ℕ, zero, suc, List, [], ◌∷◌, length, subst, All, Some, slice_get, slice_get_within, get_or_from_slice_get, Number, IsValueOf, Bits, Rule, ConstantsFit}
 
 only-width : (N M c : ℕ) → slice_get (N ∷ []) c ≡ Some M → N ≡ M
 only-width N M zero at = cc

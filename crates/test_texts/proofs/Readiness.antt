@@ -1,22 +1,6 @@
 -- What is known of functions and rules that were read.
-use Rattle.std.proofs.Common.{ℕ, ◌<◌, ◌≤◌, ◌-◌, ◌^◌, List, length, get_or, sym, subst, arith}
-use Rattle.std.specs.Prelude.{All}
-use Rattle.std.proofs.lemmas.List.Elements.{All-from_get_or}
-use Rattle.std.proofs.lemmas.Option.{slice_get_within, get_or_from_slice_get}
-use Rattle.ir_core.specs.Blocks.{IsBlock}
-use Rattle.ir_core.specs.declared.function.Block.{Block}
-use Rattle.ir_core.specs.declared.function.Function.{Function}
-use Rattle.ir_core.specs.declared.module.Entry.{Entry}
+use Rattle.test_texts.proofs.Common.{ℕ, ◌<◌, ◌≤◌, ◌-◌, ◌^◌, List, length, get_or, sym, subst, arith, All, All-from_get_or, slice_get_within, get_or_from_slice_get, IsBlock, Block, Function, Entry, OperandFits, FunctionHasForms, NumbersFit, IsRule, Rule, IsClassified, HasNoFault, IsMatch, Binding, FunctionIsReady, RuleIsReady}
 use Rattle.ir_core.specs.declared.module.Entry.TheVariants as entries
-use Rattle.ir_text.specs.Forms.{OperandFits, FunctionHasForms}
-use Rattle.ir_meaning.specs.HistoryLaws.{NumbersFit}
-use Rattle.rule_core.specs.Checks.{IsRule}
-use Rattle.rule_core.specs.declared.rule.Rule.{Rule}
-use Rattle.rule_typing.specs.Classes.{IsClassified}
-use Rattle.rule_typing.specs.Faults.{HasNoFault}
-use Rattle.bindings.specs.Match.{IsMatch}
-use Rattle.bindings.specs.declared.binding.Binding.{Binding}
-use Rattle.test_texts.specs.Ready.{FunctionIsReady, RuleIsReady}
 
 -- each rule that was read is ready
 pub rules_are_ready : (rules : List Rule) → All IsRule rules → All IsClassified rules → All HasNoFault rules → All RuleIsReady rules

@@ -1,10 +1,5 @@
 -- The clauses of a log's steps.
-use Rattle.std.proofs.Common.{◌≡◌, ℕ, List, Some, All, get_or, ap, ◌∙◌}
-use Rattle.std.specs.Prelude.{Contains, slice_get}
-use Rattle.std.specs.Option.{option_map}
-use Rattle.std.proofs.lemmas.Option.{slice_get-map, slice_get-get_or, slice_get_within, get_or_from_slice_get}
-use Rattle.clauses.specs.declared.step.Step.{Step}
-use Rattle.clauses.specs.ClauseSet.{clauses_of_steps}
+use Rattle.trimmed_logs.proofs.Common.{◌≡◌, ℕ, List, Some, All, get_or, ap, ◌∙◌, Contains, slice_get, option_map, slice_get-map, slice_get-get_or, slice_get_within, get_or_from_slice_get, Step, clauses_of_steps}
 
 -- the clause of the step at a place is one of them
 pub clause_stands : (log : List Step) (place : ℕ) (step : Step) → slice_get log place ≡ Some step → Contains (clauses_of_steps log) step.clause

@@ -1,3 +1,4 @@
+pub mod Common
 pub mod OneCount
 pub mod Rows
 pub mod Places

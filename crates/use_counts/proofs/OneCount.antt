@@ -1,10 +1,5 @@
 -- A register has one use count, and a count of 1 means a single use.
-use Rattle.std.proofs.Common.{◌≡◌, ◌⊎◌, inl, inr, zero, suc, List, [], ◌∷◌, length, refl, sym, ap, subst, ◌∙◌, arith}
-use Rattle.std.specs.Prelude.{AllPairs, Contains}
-use Rattle.ir_core.specs.declared.function.Function.{Function}
-use Rattle.ir_core.specs.declared.operand.Register.{Register}
-use Rattle.use_counts.specs.Laws.{CountOfOneIsOneUse, UseCountsAreOne}
-use Rattle.use_counts.specs.Uses.{IsNamedAt, IsUsedOnce, UsePlace, StandsBefore, AreUsesOf}
+use Rattle.use_counts.proofs.Common.{◌≡◌, ◌⊎◌, inl, inr, zero, suc, List, [], ◌∷◌, length, refl, sym, ap, subst, ◌∙◌, arith, AllPairs, Contains, Function, Register, CountOfOneIsOneUse, UseCountsAreOne, IsNamedAt, IsUsedOnce, UsePlace, StandsBefore, AreUsesOf}
 
 -- ---- places in order
 

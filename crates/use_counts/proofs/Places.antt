@@ -1,22 +1,7 @@
 -- How uses are counted place by place.
-use Rattle.std.proofs.Common.{◌≡◌, ◌⊎◌, inl, inr, ℕ, ◌+◌, ◌<◌, ◌≤◌, List, [], ◌∷◌, ◌++◌, length, get_or, Option, None, Some, cond, refl, sym, ap, subst, ◌∙◌, arith, length-append}
-use Rattle.std.specs.Prelude.{slice_get, option_map, unwrap_or, Contains}
-use Rattle.std.proofs.lemmas.Bool.{cases_eq, ne_eqb}
-use Rattle.std.proofs.lemmas.List.Elements.{Contains-append_left, Contains-push, Contains-push_cases, Contains-get_or}
-use Rattle.std.proofs.lemmas.List.Quantifiers.{all_pairs_push}
-use Rattle.std.proofs.lemmas.Option.{slice_get_cases, slice_get_within, same_Some}
-use Rattle.ir_core.specs.Assigned.{IsBefore}
-use Rattle.ir_core.specs.Reads.{Read, IsRead, end_of, reads_at, reads_in, reads_by, reads_at_end}
-use Rattle.ir_core.specs.declared.function.Block.{Block}
-use Rattle.ir_core.specs.declared.function.Function.{Function}
-use Rattle.ir_core.specs.declared.operand.Operand.{Operand}
+use Rattle.use_counts.proofs.Common.{◌≡◌, ◌⊎◌, inl, inr, ℕ, ◌+◌, ◌<◌, ◌≤◌, List, [], ◌∷◌, ◌++◌, length, get_or, Option, None, Some, cond, refl, sym, ap, subst, ◌∙◌, arith, length-append, slice_get, option_map, unwrap_or, Contains, cases_eq, ne_eqb, Contains-append_left, Contains-push, Contains-push_cases, Contains-get_or, all_pairs_push, slice_get_cases, slice_get_within, same_Some, IsBefore, Read, IsRead, end_of, reads_at, reads_in, reads_by, reads_at_end, Block, Function, Operand, Register, AreUsesAmong, IsCountAmong, AreCountsAmong, IsCounted, AreCounts, count_of, IsNamedAt, UsePlace, StandsBefore, Uses}
 use Rattle.ir_core.specs.declared.operand.Operand.TheVariants as operands
-use Rattle.ir_core.specs.declared.operand.Register.{Register}
 use Rattle.ir_core.specs.declared.operand.Register.TheVariants as registers
-use Rattle.use_counts.specs.Counting.{AreUsesAmong, IsCountAmong, AreCountsAmong, IsCounted}
-use Rattle.use_counts.specs.Tables.{AreCounts, count_of}
-use Rattle.use_counts.specs.Uses.{IsNamedAt, UsePlace, StandsBefore}
-use Rattle.use_counts.specs.declared.uses.Uses.{Uses}
 
 -- ---- one operand more
 

@@ -1,24 +1,7 @@
 -- What a table has for each register, as its rows are made and changed.
-use Rattle.std.proofs.Common.{◌≡◌, inl, inr, ℕ, ◌+◌, ◌<◌, List, [], length, map, get_or, slice_set, Option, None, Some, refl, sym, ap, subst, ◌∙◌, arith, get_or-set_other}
-use Rattle.std.specs.Prelude.{slice_get, IsSome, option_map, option_and_then, replicate, AllPairs}
-use Rattle.std.proofs.lemmas.Bool.{cases_eq}
-use Rattle.std.proofs.lemmas.Grind.{get_or-set_at}
-use Rattle.std.proofs.lemmas.List.{length-set, length-map, length-replicate, get_or_past, get_or-replicate}
-use Rattle.std.proofs.lemmas.Option.{slice_get_cases, slice_get_within, get_or_from_slice_get, slice_get-map}
-use Rattle.ir_core.specs.Assigned.{IsBefore}
-use Rattle.ir_core.specs.Checks.{IsKnown}
-use Rattle.ir_core.specs.declared.function.Block.{Block}
-use Rattle.ir_core.specs.declared.function.Function.{Function}
-use Rattle.ir_core.specs.declared.function.Parameter.{Parameter}
-use Rattle.ir_core.specs.declared.instruction.Inst.{Inst}
-use Rattle.ir_core.specs.declared.operand.Operand.{Operand}
+use Rattle.use_counts.proofs.Common.{◌≡◌, inl, inr, ℕ, ◌+◌, ◌<◌, List, [], length, map, get_or, slice_set, Option, None, Some, refl, sym, ap, subst, ◌∙◌, arith, get_or-set_other, slice_get, IsSome, option_map, option_and_then, replicate, AllPairs, cases_eq, get_or-set_at, length-set, length-map, length-replicate, get_or_past, get_or-replicate, slice_get_cases, slice_get_within, get_or_from_slice_get, slice_get-map, IsBefore, IsKnown, Block, Function, Parameter, Inst, Operand, Register, AreCountsAmong, IsCountAmong, IsCounted, one_more, AreCounts, HasNumber, count_of, StandsBefore, IsUseCount, Uses}
 use Rattle.ir_core.specs.declared.operand.Operand.TheVariants as operands
-use Rattle.ir_core.specs.declared.operand.Register.{Register}
 use Rattle.ir_core.specs.declared.operand.Register.TheVariants as registers
-use Rattle.use_counts.specs.Counting.{AreCountsAmong, IsCountAmong, IsCounted, one_more}
-use Rattle.use_counts.specs.Tables.{AreCounts, HasNumber, count_of}
-use Rattle.use_counts.specs.Uses.{StandsBefore, IsUseCount}
-use Rattle.use_counts.specs.declared.uses.Uses.{Uses}
 
 -- the number in a table of use counts is the register's count
 pub exact_at : (f : Function) (uses : Uses) (register : Register) (n : ℕ) → n ≡ count_of uses register → AreCounts f uses → IsUseCount f register n

@@ -1,9 +1,6 @@
 -- Pairs that are asked once more.
-use Rattle.std.proofs.Common.{List, [], ◌∷◌, ◌++◌, append-nil, append_assoc, map, refl, sym, subst}
-use Rattle.std.specs.Prelude.{All, Contains}
-use Rattle.std.proofs.lemmas.List.Elements.{All-head, All-tail}
-use Rattle.strategy_core.specs.Asked.{Pair, AreFirstAsked, pair_in}
-use Rattle.verdict.specs.AskedAgain.{PairsWithRowsChangeNothing}
+use Rattle.verdict.proofs.Common.{List, [], ◌∷◌, ◌++◌, append_assoc, map, refl, sym, subst, All, Contains, All-head, All-tail, Pair, AreFirstAsked, pair_in, PairsWithRowsChangeNothing}
+use Rattle.std.proofs.Common.{append-nil}
 use Rattle.verdict.proofs.Asking.{asked_again}
 
 all_again : (asked pairs rows : List Pair) → AreFirstAsked asked rows → All (Contains rows) pairs → AreFirstAsked (asked ++ pairs) rows

@@ -1,11 +1,5 @@
 -- The pairs in the order in which they are first asked, as one more is asked.
-use Rattle.std.proofs.Common.{◌≡◌, inl, inr, ℕ, zero, suc, ◌<◌, ◌≤◌, List, [], ◌∷◌, ◌++◌, length, length-append, take, Some, refl, sym, ap, subst, ◌∙◌, arith, get_or}
-use Rattle.std.specs.Prelude.{slice_get, Contains}
-use Rattle.std.proofs.lemmas.Option.{same_Some, slice_get_within, get_or_from_slice_get, slice_get-get_or}
-use Rattle.std.proofs.lemmas.List.Elements.{Contains-append_left, Contains-push, Contains-push_cases}
-use Rattle.rule_typing.proofs.Images.{get-append_cases}
-use Rattle.ir_meaning.proofs.Pieces.{contains_at}
-use Rattle.strategy_core.specs.Asked.{Pair, IsAskedBefore, AreFirstAsked}
+use Rattle.verdict.proofs.Common.{◌≡◌, inl, inr, ℕ, zero, suc, ◌<◌, ◌≤◌, List, [], ◌∷◌, ◌++◌, length, length-append, take, Some, refl, sym, ap, subst, ◌∙◌, arith, get_or, slice_get, Contains, same_Some, slice_get_within, get_or_from_slice_get, slice_get-get_or, Contains-append_left, Contains-push, Contains-push_cases, get-append_cases, contains_at, Pair, IsAskedBefore, AreFirstAsked}
 
 take_front : (asked : List Pair) (x : Pair) (k : ℕ) → k ≤ length asked → take k (asked ++ x ∷ []) ≡ take k asked
 take_front asked x zero within = refl

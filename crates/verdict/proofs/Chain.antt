@@ -1,26 +1,6 @@
 -- From clauses that stand for the counterexamples of a rule to what their models and their refutations say of the rule.
-use Rattle.std.proofs.Common.{◌≡◌, ◌↔◌, ℕ, ◌+◌, ◌-◌, ◌≤◌, ◌<◌, Bool, List, length, take, sym, ◌∙◌, subst, arith, inl, inr}
-use Rattle.std.specs.Prelude.{Result, Ok, Err, IfOk}
-use Rattle.std.proofs.Math.Seq.{take-length}
-use Rattle.std.proofs.lemmas.Bool.{cases_lt}
-use Rattle.clauses.specs.declared.cnf.Cnf.{Cnf}
-use Rattle.clauses.specs.declared.step.Step.{Step}
-use Rattle.clauses.specs.Literal.{Meets, assignment_of}
-use Rattle.clauses.specs.ClauseSet.{all_clauses}
-use Rattle.clauses.specs.Settings.{StandsFor, input_values}
-use Rattle.clauses.proofs.SettingLemmas.{model_passes, none_passes, UnitsDetermine-from_StandsFor, input_values-assignment_of, StandsFor-same}
-use Rattle.cdcl_log.specs.Found.{IsModel, IsHonestLimit}
-use Rattle.cdcl_log.proofs.DistinctCount.{distinct_count_le}
-use Rattle.rule_core.specs.declared.rule.Rule.{Rule}
-use Rattle.rule_core.specs.Checks.{IsRule}
-use Rattle.rule_core.specs.Typing.{IsTyping}
-use Rattle.rule_core.specs.Valid.{IsValid}
+use Rattle.verdict.proofs.Common.{◌≡◌, ◌↔◌, ℕ, ◌+◌, ◌-◌, ◌≤◌, ◌<◌, Bool, List, length, take, sym, ◌∙◌, subst, arith, inl, inr, Result, Ok, Err, IfOk, take-length, cases_lt, Cnf, Step, Meets, assignment_of, all_clauses, StandsFor, input_values, model_passes, none_passes, UnitsDetermine-from_StandsFor, input_values-assignment_of, StandsFor-same, IsModel, IsHonestLimit, distinct_count_le, Rule, IsRule, IsTyping, IsValid, setting_of, most_gates, Refutes, RulesWithoutCounterexampleReadAreValid, StandsForRule, IsHonestBudget}
 use Rattle.blast_rule.specs.Inputs.{input_bits}
-use Rattle.blast_rule.specs.Settings.{setting_of}
-use Rattle.blast_rule.specs.Gates.{most_gates}
-use Rattle.blast_rule.specs.Parts.{Refutes}
-use Rattle.blast_rule.specs.Laws.{RulesWithoutCounterexampleReadAreValid}
-use Rattle.verdict.specs.Honest.{StandsForRule, IsHonestBudget}
 
 module _ (rule : Rule) (typing : List ℕ) (set : Cnf) (stands : StandsForRule rule typing set) where
   -- the values of the inputs read as a counterexample

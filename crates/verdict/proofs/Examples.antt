@@ -1,16 +1,5 @@
 -- The example at a setting that the circuit of a rule is true at.
-use Rattle.std.proofs.Common.{◌≡◌, ℕ, List, sym, ◌∙◌, subst}
-use Rattle.ops.specs.Number.{Number}
-use Rattle.ops.specs.Value.{AllowsEffect}
-use Rattle.ops.specs.declared.value.Effect.{Effect}
-use Rattle.rule_core.specs.declared.rule.Rule.{Rule}
-use Rattle.rule_core.specs.declared.example.Example.{Example}
-use Rattle.rule_core.specs.Checks.{IsRule}
-use Rattle.rule_core.specs.Typing.{IsTyping}
-use Rattle.rule_core.specs.Valid.{Setting, HaveEffects, IsCounterexample}
-use Rattle.rule_core.specs.Laws.{RulesHaveOneOutcome}
-use Rattle.blast_rule.specs.Parts.{Refutes}
-use Rattle.verdict.specs.Honest.{IsRefutedBy}
+use Rattle.verdict.proofs.Common.{◌≡◌, ℕ, List, sym, ◌∙◌, subst, Number, AllowsEffect, Effect, Rule, Example, IsRule, IsTyping, Setting, HaveEffects, IsCounterexample, RulesHaveOneOutcome, Refutes, IsRefutedBy}
 
 -- a counterexample has the effects that the halves have at its setting
 pub counterexample_with : RulesHaveOneOutcome → (rule : Rule) (typing : List ℕ) (setting : Setting) → IsRule rule → IsTyping rule typing → Refutes rule typing setting → (choices : List Number) (source target : Effect) → HaveEffects rule typing setting choices source target → IsCounterexample rule typing setting choices source target

@@ -1,28 +1,8 @@
 -- What is found, with one more row or with one more rule.
-use Rattle.std.proofs.Common.{◌≡◌, ◌↔◌, ℕ, ◌+◌, ◌<◌, Bool, true, false, IsTrue, ◌&&◌, List, [], ◌∷◌, ◌++◌, length, take, get_or, flat_map, All, Contains, refl, sym, ap, subst, ◌∙◌, append_assoc, add-zero, zero, suc, arith, Some}
-use Rattle.std.specs.Prelude.{slice_get}
-use Rattle.std.proofs.lemmas.Option.{slice_get_within}
-use Rattle.std.specs.List.{enumerate_from, zip}
-use Rattle.std.proofs.lemmas.List.{append-nil, map-append, take_more, length-take-le}
-use Rattle.std.proofs.lemmas.List.FromFn.{length-enumerate_from}
-use Rattle.std.proofs.lemmas.Grind.{flat_map-append}
-use Rattle.std.proofs.lemmas.List.Elements.{All-nil, All-cons, All-head, All-tail, All-append, All-weaker, All-contains_itself}
-use Rattle.std.proofs.lemmas.Slice.Zip.{all_zipped_more, AllZip-long}
-use Rattle.rule_core.specs.declared.rule.Rule.{Rule}
-use Rattle.rule_core.specs.Typing.{IsTyping}
+use Rattle.verdict.proofs.Common.{◌≡◌, ◌↔◌, ℕ, ◌+◌, ◌<◌, Bool, true, false, IsTrue, ◌&&◌, List, [], ◌∷◌, ◌++◌, length, take, get_or, flat_map, All, Contains, refl, sym, ap, subst, ◌∙◌, append_assoc, add-zero, zero, suc, arith, Some, slice_get, slice_get_within, enumerate_from, zip, map-append, take_more, length-take-le, length-enumerate_from, flat_map-append, All-nil, All-cons, All-head, All-tail, All-append, All-weaker, All-contains_itself, all_zipped_more, AllZip-long, Rule, IsTyping, IsAnswer, Row, Verdict, Admitted, IsHonest, Verified, verdict_text, too_many_text, Finding, Decided, TooMany, IsFinding, IsRowOf, rows_of, finding_text, AddsRows, AddsRule, most_typings, IsHonestRow, IsHonestTable, row_text, IsVerified}
+use Rattle.std.proofs.lemmas.List.{append-nil}
 use Rattle.rule_typing.specs.declared.answer.Typings.TheVariants as answers
-use Rattle.rule_typing.specs.AllTypings.{IsAnswer}
-use Rattle.verdict_core.specs.declared.verdicts.Row.{Row}
-use Rattle.verdict_core.specs.declared.verdicts.Verdict.{Verdict}
-use Rattle.verdict_core.specs.declared.verdicts.Verdict.TheVariants.{Admitted}
-use Rattle.verdict.specs.Honest.{IsHonest}
-use Rattle.verdict.specs.declared.verification.Verified.{Verified}
-use Rattle.verdict_core.specs.Texts.{verdict_text, too_many_text}
-use Rattle.verdict.specs.Findings.{Finding, Decided, TooMany, IsFinding, IsRowOf, rows_of, finding_text, IsAdmitted}
-use Rattle.verdict.specs.Additions.{AddsRows, AddsRule}
-use Rattle.verdict.specs.Limits.{most_typings}
-use Rattle.verdict.specs.Table.{IsHonestRow, IsHonestTable, row_text}
-use Rattle.verdict.specs.Verified.{IsVerified}
+use Rattle.verdict.specs.Findings.{IsAdmitted}
 
 -- what holds of each element of two lists, one behind the other, holds of each of either
 parts : {X : Type 0} (P : X → Type 0) (xs ys : List X) → All P (xs ++ ys) → All P xs × All P ys

@@ -1,10 +1,6 @@
 -- What a table of verdicts says stays true as rows are appended.
-use Rattle.std.proofs.Common.{List}
-use Rattle.std.specs.Prelude.{All, Any, Contains}
-use Rattle.rule_core.specs.declared.rule.Rule.{Rule}
-use Rattle.verdict_core.specs.declared.verdicts.Row.{Row}
-use Rattle.bindings.specs.declared.rule_match.Match.{Match}
-use Rattle.strategy_core.specs.Asked.{IsAdmitted, IsTurnedDown}
+use Rattle.verdict.proofs.Common.{List, All, Any, Contains, Rule, Row, Match, IsTurnedDown}
+use Rattle.strategy_core.specs.Asked.{IsAdmitted}
 
 module _ (rules : List Rule) (table larger : List Row) (grows : (row : Row) → Contains table row → Contains larger row) where
   pub admitted_stays : (m : Match) → IsAdmitted table m → IsAdmitted larger m

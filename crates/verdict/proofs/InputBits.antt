@@ -1,23 +1,7 @@
 -- The circuit of a rule has few inputs, since the rule has few inputs, constants and choices of the target, of at most
 -- 64 bits each.
-use Rattle.std.proofs.Common.{ℕ, ◌*◌, ◌≤◌, List, length, get_or, inl, inr, arith}
-use Rattle.std.specs.Prelude.{slice_index, sum_by, map, All, Option, None, Some}
-use Rattle.std.specs.List.{range_with_len}
-use Rattle.std.specs.Option.{option_map_or}
-use Rattle.std.proofs.lemmas.Bool.{cases_lt}
-use Rattle.std.proofs.lemmas.List.{get_or_past, length-map}
-use Rattle.std.proofs.lemmas.List.Elements.{All-map, Contains-get_or}
-use Rattle.std.proofs.lemmas.List.FromFn.{length-map-range_with_len}
-use Rattle.std.proofs.lemmas.List.Sums.{sum_by-le}
-use Rattle.rule_core.specs.declared.rule.Rule.{Rule}
-use Rattle.rule_core.specs.declared.rule.Operand.{Operand}
-use Rattle.rule_core.specs.Checks.{IsRule}
-use Rattle.rule_core.specs.declared.rule.Choice.{Choice}
-use Rattle.rule_core.specs.Positions.{choices_among}
-use Rattle.rule_core.specs.Typing.{IsTyping}
-use Rattle.blast_setting.specs.declared.named.Kind.TheVariants.{Input, Constant}
-use Rattle.blast_setting.specs.Inputs.{input_widths, constant_widths, widths_chosen, value_bits, number_bits, input_bits}
-use Rattle.blast_setting.proofs.Few.{few_named, few_in_target}
+use Rattle.verdict.proofs.Common.{ℕ, ◌*◌, ◌≤◌, List, length, get_or, inl, inr, arith, slice_index, sum_by, map, All, Option, None, Some, range_with_len, option_map_or, cases_lt, get_or_past, length-map, All-map, Contains-get_or, length-map-range_with_len, sum_by-le, Rule, Operand, IsRule, Choice, choices_among, IsTyping, Input, Constant, input_widths, constant_widths, widths_chosen, value_bits, number_bits, few_named, few_in_target}
+use Rattle.blast_setting.specs.Inputs.{input_bits}
 
 -- the width of each class is at most 64, and so is that of each operand
 class_width : (rule : Rule) (typing : List ℕ) → IsTyping rule typing → (c : ℕ) → slice_index typing c ≤ 64

@@ -1,23 +1,6 @@
 -- The kept verdicts, as one more pair is asked.
-use Rattle.std.proofs.Common.{◌≡◌, ℕ, zero, suc, Bool, true, false, not, List, [], ◌∷◌, ◌++◌, if◌then◌else◌, length, append-nil, map, take, Some, refl, sym, ap, subst, ◌∙◌, arith, Result, Ok, Err}
-use Rattle.std.specs.Prelude.{◌||◌, ◌≢◌, slice_get, All, Contains, MatchBool, OnErr}
-use Rattle.std.specs.List.{list_any}
-use Rattle.std.specs.Option.{option_map}
-use Rattle.std.proofs.lemmas.List.{length-map, map-append, take-append-le, take_all}
-use Rattle.std.proofs.lemmas.List.Elements.{All-append, All-cons, All-nil}
-use Rattle.std.proofs.lemmas.List.Folds.{Any-from_list_any}
-use Rattle.std.proofs.lemmas.Option.{same_Some, slice_get-map, slice_get_read}
-use Rattle.indexmap.specs.IndexSet.{insert_key}
-use Rattle.ir_meaning.proofs.Pieces.{place_in, contains_at}
-use Rattle.rule_core.specs.declared.rule.Rule.{Rule}
-use Rattle.verdict_core.specs.declared.verdicts.Row.{Row}
-use Rattle.verdict_core.specs.declared.verdicts.Verdict.TheVariants.{Admitted}
-use Rattle.verdict.specs.Table.{IsHonestRow, IsHonestTable}
-use Rattle.verdict.specs.declared.verdicts.Verdicts.{Verdicts}
-use Rattle.strategy_core.specs.Asked.{Pair, pair_in, HasVerdict, AreFirstAsked}
-use Rattle.verdict.specs.Asks.{Asks}
-use Rattle.verdict.specs.Stored.{IsUnrefutedIn, Key, pair_of_key}
-use Rattle.verdict.specs.declared.stored.StoredLogs.{StoredLogs}
+use Rattle.verdict.proofs.Common.{◌≡◌, ℕ, zero, suc, Bool, true, false, not, List, [], ◌∷◌, ◌++◌, if◌then◌else◌, length, map, take, Some, refl, sym, ap, subst, ◌∙◌, arith, Result, Ok, Err, ◌||◌, ◌≢◌, slice_get, All, Contains, MatchBool, OnErr, list_any, option_map, length-map, map-append, take-append-le, take_all, All-append, All-cons, All-nil, Any-from_list_any, same_Some, slice_get-map, slice_get_read, insert_key, place_in, contains_at, Rule, Row, Admitted, IsHonestRow, IsHonestTable, Verdicts, Pair, pair_in, HasVerdict, AreFirstAsked, Asks, IsUnrefutedIn, Key, pair_of_key, StoredLogs}
+use Rattle.std.proofs.Common.{append-nil}
 use Rattle.verdict.proofs.Asking.{asked_again, asked_first}
 use Rattle.verdict.proofs.Storing.{key_eq, decided}
 

@@ -1,25 +1,6 @@
 -- From the search in one part of a function to that in the next.
-use Rattle.std.proofs.Common.{◌≡◌, ◌⊎◌, inl, inr, ℕ, ◌+◌, ◌<◌, ◌≤◌, Bool, true, false, List, [], ◌∷◌, ◌++◌, length, get_or, take, map, Some, sym, subst, ◌∙◌, append_assoc, arith}
-use Rattle.std.specs.Prelude.{◌||◌, All, Any, Contains, MatchBool}
-use Rattle.std.proofs.lemmas.Bool.{cases_lt}
-use Rattle.std.proofs.lemmas.List.{map-append}
-use Rattle.std.proofs.lemmas.List.Elements.{All-append, All-contains, All-nil, Contains-append_right, Contains-get_or}
-use Rattle.std.proofs.lemmas.Option.{slice_get_within}
-use Rattle.ir_core.specs.Reads.{end_of}
-use Rattle.ir_core.specs.Checks.{IsInst}
-use Rattle.ir_core.specs.declared.function.Function.{Function}
-use Rattle.ir_meaning.proofs.Pieces.{contains_at}
-use Rattle.rule_core.specs.declared.rule.Rule.{Rule}
-use Rattle.rule_typing.proofs.Images.{Contains-map, from_map}
-use Rattle.bindings.specs.declared.rule_match.Match.{Match}
-use Rattle.bindings.specs.Matches.{AreMatchesWhere, ComesBefore, IsAt, IsMatchAmong}
-use Rattle.bindings.specs.Ready.{AreReady}
-use Rattle.rule_matches.proofs.Joining.{before_chosen, joined, joined_before, none_where, same_where}
-use Rattle.rule_matches.proofs.Rooting.{before_end, root_stands}
-use Rattle.verdict.specs.declared.verdicts.Verdicts.{Verdicts}
-use Rattle.strategy_core.specs.Asked.{Pair, pair_of, pair_in, IsAdmitted, IsTurnedDown}
-use Rattle.verdict.specs.Asks.{Asks, AsksAll, AsksUpTo, IsAnywhere}
-use Rattle.verdict.specs.Parts.{AsksToPlace, IsInBlock}
+use Rattle.verdict.proofs.Common.{◌≡◌, ◌⊎◌, inl, inr, ℕ, ◌+◌, ◌<◌, ◌≤◌, Bool, true, false, List, [], ◌∷◌, ◌++◌, length, get_or, take, map, Some, sym, subst, ◌∙◌, append_assoc, arith, ◌||◌, All, Any, Contains, MatchBool, cases_lt, map-append, All-append, All-contains, All-nil, Contains-append_right, Contains-get_or, slice_get_within, end_of, IsInst, Function, contains_at, Rule, Contains-map, from_map, Match, AreMatchesWhere, ComesBefore, IsAt, IsMatchAmong, AreReady, before_chosen, joined, joined_before, none_where, same_where, before_end, root_stands, Verdicts, Pair, pair_of, pair_in, IsTurnedDown, Asks, AsksAll, AsksUpTo, IsAnywhere, AsksToPlace, IsInBlock}
+use Rattle.strategy_core.specs.Asked.{IsAdmitted}
 use Rattle.verdict.proofs.Again.{rows_change_nothing}
 use Rattle.verdict.proofs.Growing.{all_turned_down_stay, any_admitted_stays}
 use Rattle.verdict.proofs.Passing.{any_left}

@@ -1,20 +1,6 @@
 -- A search asks for the verdict of one match more.
-use Rattle.std.proofs.Common.{◌≡◌, ℕ, ◌+◌, ◌<◌, Bool, true, false, List, [], ◌∷◌, ◌++◌, length, get_or, take, map, Some, sym, ap, subst, ◌∙◌}
-use Rattle.std.specs.Prelude.{◌||◌, All, Any, MatchBool, slice_get}
-use Rattle.std.proofs.lemmas.List.{take_more, map-append}
-use Rattle.std.proofs.lemmas.List.Elements.{All-append, All-cons, All-nil, Contains-append_left}
-use Rattle.std.proofs.lemmas.List.Quantifiers.{Any-push}
-use Rattle.std.proofs.lemmas.Option.{same_Some, slice_get_within}
-use Rattle.ir_core.specs.declared.function.Function.{Function}
-use Rattle.rule_core.specs.declared.rule.Rule.{Rule}
-use Rattle.rule_core.specs.Checks.{IsRule}
-use Rattle.rule_core.specs.Typing.{IsTyping}
-use Rattle.bindings.specs.declared.rule_match.Match.{Match}
-use Rattle.bindings.specs.Matches.{MatchesAmong}
-use Rattle.bindings.specs.Ready.{AreReady}
-use Rattle.verdict.specs.declared.verdicts.Verdicts.{Verdicts}
-use Rattle.strategy_core.specs.Asked.{Pair, pair_of, IsAdmitted, IsTurnedDown}
-use Rattle.verdict.specs.Asks.{Asks}
+use Rattle.verdict.proofs.Common.{◌≡◌, ℕ, ◌+◌, ◌<◌, Bool, true, false, List, [], ◌∷◌, ◌++◌, length, get_or, take, map, Some, sym, ap, subst, ◌∙◌, ◌||◌, All, Any, MatchBool, slice_get, take_more, map-append, All-append, All-cons, All-nil, Contains-append_left, Any-push, same_Some, slice_get_within, Function, Rule, IsRule, IsTyping, Match, MatchesAmong, AreReady, Verdicts, Pair, pair_of, IsTurnedDown, Asks}
+use Rattle.strategy_core.specs.Asked.{IsAdmitted}
 use Rattle.verdict.proofs.Growing.{all_turned_down_stay, any_admitted_stays}
 use Rattle.verdict.proofs.Sequence.{asks_both, row_stays}
 

@@ -1,11 +1,5 @@
 -- Where a log doesn't refute the clauses of a `Budget`.
-use Rattle.std.proofs.Common.{◌≡◌, ◌↔◌, Bool, true, false, IsTrue, List, Result, Ok, Err, IfOk, subst}
-use Rattle.clauses.specs.declared.cnf.Cnf.{Cnf}
-use Rattle.clauses.specs.declared.step.Step.{Step}
-use Rattle.clauses.specs.ClauseSet.{IsRefutation}
-use Rattle.verdict_core.specs.declared.verdicts.Verdict.{Verdict}
-use Rattle.verdict_core.specs.declared.verdicts.Verdict.TheVariants.{Admitted, Refuted, WitnessFails, Budget}
-use Rattle.verdict.specs.Proved.{IsUnrefutedBy, Keeps}
+use Rattle.verdict.proofs.Common.{◌≡◌, ◌↔◌, Bool, true, false, IsTrue, List, Result, Ok, Err, IfOk, subst, Cnf, Step, IsRefutation, Verdict, Admitted, Refuted, WitnessFails, Budget, IsUnrefutedBy, Keeps}
 
 pub not_refuted : (found : Bool) (R : Type 0) → (IsTrue found ↔ R) → found ≡ false → R → ⊥
 not_refuted found R h e r = let is : found ≡ true = h.1 r in absurd cc

@@ -1,12 +1,6 @@
 -- Two searches one behind the other, and what they ask together.
-use Rattle.std.proofs.Common.{ℕ, List, [], ◌++◌, refl, sym, ap, subst, ◌∙◌, append-nil, append_assoc}
-use Rattle.std.specs.Prelude.{Contains}
-use Rattle.std.proofs.lemmas.List.Elements.{Contains-append_left}
-use Rattle.rule_core.specs.declared.rule.Rule.{Rule}
-use Rattle.verdict_core.specs.declared.verdicts.Row.{Row}
-use Rattle.verdict.specs.declared.verdicts.Verdicts.{Verdicts}
-use Rattle.strategy_core.specs.Asked.{Pair}
-use Rattle.verdict.specs.Asks.{AreVerdictsOn, AreVerdicts, Asks}
+use Rattle.verdict.proofs.Common.{ℕ, List, [], ◌++◌, refl, sym, ap, subst, ◌∙◌, append_assoc, Contains, Contains-append_left, Rule, Row, Verdicts, Pair, AreVerdictsOn, AreVerdicts, Asks}
+use Rattle.std.proofs.Common.{append-nil}
 
 module _ (rules : List Rule) (conflicts : ℕ) where
   pub asks_nothing : (v : Verdicts) → Asks rules conflicts [] v v

@@ -1,13 +1,5 @@
 -- The stored logs, as one more is stored.
-use Rattle.std.proofs.Common.{◌≡◌, ℕ, Bool, true, false, List, refl, sym, ap, ◌∙◌, nat_eq}
-use Rattle.std.specs.Prelude.{◌&&◌, ◌≢◌}
-use Rattle.std.specs.Bool.{Decides}
-use Rattle.std.specs.Map.{lookup, KeepsOthers}
-use Rattle.std.specs.Str.{bytes_eq}
-use Rattle.std.proofs.lemmas.Bool.Decides.{Decides-and, Decides-eqb, Decides-like}
-use Rattle.std.proofs.lemmas.Slice.Eq.{bytes_eq-Decides}
-use Rattle.strategy_core.specs.Asked.{Pair}
-use Rattle.verdict.specs.Stored.{Key, pair_of_key, is_key_of}
+use Rattle.verdict.proofs.Common.{◌≡◌, ℕ, Bool, true, false, List, refl, sym, ap, ◌∙◌, nat_eq, ◌&&◌, ◌≢◌, Decides, lookup, KeepsOthers, bytes_eq, Decides-and, Decides-eqb, Decides-like, bytes_eq-Decides, Pair, Key, pair_of_key, is_key_of}
 
 -- equality of keys, as the table tests it
 abbrev pub key_eq : Key → Key → Bool

@@ -1,23 +1,5 @@
 -- The words of a rule's circuit have from 1 to 64 bits.
-use Rattle.std.proofs.Common.{◌≡◌, ℕ, zero, suc, ◌-◌, ◌<◌, ◌≤◌, Bool, List, [], ◌∷◌, length, get_or, Some, refl, sym, ap, ◌∙◌, arith}
-use Rattle.std.specs.Prelude.{slice_get, slice_index, Contains, map, All}
-use Rattle.std.proofs.Math.ListN.{get_or-map}
-use Rattle.std.proofs.lemmas.List.{length-map}
-use Rattle.std.proofs.lemmas.List.Elements.{Contains-get_or}
-use Rattle.std.proofs.lemmas.Option.{slice_get-map, get_or_from_slice_get}
-use Rattle.ops.specs.Number.{Number}
-use Rattle.ops.specs.declared.value.Effect.{Effect}
-use Rattle.rule_core.specs.declared.rule.Rule.{Rule}
-use Rattle.rule_core.specs.Checks.{IsRule}
-use Rattle.rule_core.specs.Positions.{classes_of}
-use Rattle.rule_core.specs.Run.{Held, Undefines, Holds, TemporariesEnd}
-use Rattle.rule_core.specs.Typing.{IsTyping}
-use Rattle.rule_core.specs.Valid.{Setting, IsCounterexample, witness_width, witness_number}
-use Rattle.rule_core.proofs.Members.{class_stands, term_class_stands, source_statement, witness_term}
-use Rattle.rule_core.proofs.Unchosen.{undefined_source}
-use Rattle.blast_rule.specs.Gates.{root_width}
-use Rattle.blast_rule.specs.Parts.{number_held}
-use Rattle.verdict.specs.WideWords.{IsWide}
+use Rattle.verdict.proofs.Common.{◌≡◌, ℕ, zero, suc, ◌-◌, ◌<◌, ◌≤◌, Bool, List, [], ◌∷◌, length, get_or, Some, refl, sym, ap, ◌∙◌, arith, slice_get, slice_index, Contains, map, All, get_or-map, length-map, Contains-get_or, slice_get-map, get_or_from_slice_get, Number, Effect, Rule, IsRule, classes_of, Held, Undefines, Holds, TemporariesEnd, IsTyping, Setting, IsCounterexample, witness_width, witness_number, class_stands, term_class_stands, source_statement, witness_term, undefined_source, root_width, number_held, IsWide}
 
 -- the number is the width of an integer type
 abbrev IsWidth : ℕ → Type 0

@@ -1,16 +1,6 @@
 -- Lines that a loop prints: at each moment what is printed so far, followed by the lines that are left, is the whole
 -- text.
-use Rattle.std.proofs.Common.{◌≡◌, ℕ, ◌+◌, ◌<◌, ◌≤◌, List, [], ◌∷◌, ◌++◌, length, take, get_or, map, decimal, Option, None, Some, flat_map, refl, ap, sym, ◌∙◌, append_assoc, inl, inr, ◌⊎◌, arith}
-use Rattle.std.specs.List.{zip, join_with_byte}
-use Rattle.std.proofs.lemmas.List.{append-nil, take_more, map-append, length-map, length-take}
-use Rattle.std.proofs.lemmas.Slice.Zip.{Zip-more, either_empty_from_Zip}
-use Rattle.std.proofs.lemmas.Iterator.{zips}
-use Rattle.std.proofs.iter.Yields.{fronts}
-use Rattle.std.specs.Iterator.Adapters.{zip_first, zip_second}
-use Rattle.std.specs.declared.iter.Zip.{Zip}
-use Rattle.std.specs.Slice.Iter.{iter_rest}
-use Rattle.std.specs.declared.slice.Iter.{Iter}
-use denote.Ref.{Bor}
+use Rattle.verdict_core.proofs.Common.{◌≡◌, ℕ, ◌+◌, ◌<◌, ◌≤◌, List, [], ◌∷◌, ◌++◌, length, take, get_or, map, decimal, Option, None, Some, flat_map, refl, ap, sym, ◌∙◌, append_assoc, inl, inr, ◌⊎◌, arith, zip, join_with_byte, append-nil, take_more, map-append, length-map, length-take, Zip-more, either_empty_from_Zip, zips, fronts, zip_first, zip_second, Zip, iter_rest, Iter, Bor}
 
 -- the loop printed one more piece
 pub piece_more : (piece rest out after total : List ℕ) → out ++ (piece ++ rest) ≡ total → after ≡ out ++ piece → after ++ rest ≡ total

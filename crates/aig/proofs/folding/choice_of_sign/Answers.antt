@@ -1,5 +1,4 @@
-use Rattle.std.proofs.Common.{not, if◌then◌else◌, sym, ap, ◌∙◌}
-use Rattle.aig.specs.Literal.{value_under}
+use Rattle.aig.proofs.Common.{not, if◌then◌else◌, sym, ap, ◌∙◌, value_under}
 use Rattle.aig.proofs.Truth.{xor_arms, beq_apart}
 use Rattle.aig.proofs.folding.choice_of_sign.Goals as goal
 

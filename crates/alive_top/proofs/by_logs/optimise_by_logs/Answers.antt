@@ -1,8 +1,5 @@
-use Rattle.std.proofs.Common.{rules, [], ◌∷◌, Some, Err, refl, sym, subst, ap, inr, ◌∙◌}
-use Rattle.std.proofs.lemmas.Result.{err_from_is_err_and}
-use Rattle.alive_top.specs.Answers.{TaskOf}
-use Rattle.alive_top.specs.File.{Rules, Source, Logs}
-use Rattle.alive_top.specs.Task.{Optimise}
+use Rattle.alive_top.proofs.Common.{rules, [], ◌∷◌, Some, Err, refl, sym, subst, ap, inr, ◌∙◌, err_from_is_err_and, TaskOf, Source, Optimise}
+use Rattle.alive_top.specs.File.{Rules, Logs}
 use Rattle.alive_top.proofs.Files.{first_refused, second_refused, are_read, no_memory, logs_refused, by_logs_done, follow_on, has_rules}
 use Rattle.alive_top.proofs.by_logs.optimise_by_logs.Goals as goal
 

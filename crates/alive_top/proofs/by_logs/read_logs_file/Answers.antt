@@ -1,6 +1,5 @@
-use Rattle.alive_top.specs.Answers.{MisfitsRules}
+use Rattle.alive_top.proofs.Common.{MisfitsRules, AreStored}
 use Rattle.alive_top.specs.File.{Logs}
-use Rattle.stored_logs.specs.Stored.{AreStored}
 use Rattle.alive_top.proofs.Files.{file_from_text}
 use Rattle.alive_top.proofs.by_logs.read_logs_file.Goals as goal
 

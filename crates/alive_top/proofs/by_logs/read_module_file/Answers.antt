@@ -1,6 +1,5 @@
+use Rattle.alive_top.proofs.Common.{Source, Fits}
 use Rattle.run_text.specs.Runs.{IsReadAs}
-use Rattle.alive_top.specs.File.{Source}
-use Rattle.alive_top.specs.Answers.{Fits}
 use Rattle.alive_top.proofs.Files.{file_from_text}
 use Rattle.alive_top.proofs.by_logs.read_module_file.Goals as goal
 

@@ -1,4 +1,4 @@
-use Rattle.run_text.proofs.LawLemmas.{module_has_outcomes}
+use Rattle.alive_top.proofs.Common.{module_has_outcomes}
 use Rattle.alive_top.proofs.laws.every_module_written_has_outcomes.Goals as goal
 
 pub returns : goal.returns

@@ -1,10 +1,4 @@
-use Rattle.std.proofs.Common.{◌≡◌, ◌∙◌, ℕ, ◌<◌, ◌^◌, ap, sym, subst, arith}
-use Rattle.ir_core.specs.Checks.{ModuleMeetsChecks}
-use Rattle.strategy_core.specs.Countable.{ModuleIsCountable}
-use Rattle.strategy_core.specs.Laws.{ModuleNumbersFit}
-use Rattle.command_line.specs.Limits.{default_steps}
-use Rattle.load_text.specs.Load.{instructions_in, load_text}
-use Rattle.load_text.proofs.LoadLemmas.{generated_countable, generated_size}
+use Rattle.alive_top.proofs.Common.{◌≡◌, ◌∙◌, ℕ, ◌<◌, ◌^◌, ap, sym, subst, arith, ModuleMeetsChecks, ModuleIsCountable, ModuleNumbersFit, default_steps, instructions_in, load_text, generated_countable, generated_size}
 use Rattle.alive_top.proofs.loading.load.Goals as goal
 
 pub optimised-requires-clause-checks : goal.optimised-requires-clause-checks

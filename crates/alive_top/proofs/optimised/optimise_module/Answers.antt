@@ -1,6 +1,4 @@
-use Rattle.std.proofs.Common.{ℕ, List, subst}
-use Rattle.ir_printer.specs.Forms.{ModuleHasForms}
-use Rattle.ir_reader.specs.Faults.{IsModuleText}
+use Rattle.alive_top.proofs.Common.{ℕ, List, subst, ModuleHasForms, IsModuleText}
 use Rattle.alive_top.proofs.Reading.{ready_at}
 use Rattle.alive_top.proofs.optimised.optimise_module.Goals as goal
 

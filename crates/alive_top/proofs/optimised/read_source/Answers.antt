@@ -1,6 +1,4 @@
-use Rattle.std.proofs.Common.{◌<◌, ◌≤◌, ℕ, List, get_or, arith}
-use Rattle.std.specs.Prelude.{All}
-use Rattle.std.proofs.lemmas.List.Elements.{All-from_get_or}
+use Rattle.alive_top.proofs.Common.{◌<◌, ◌≤◌, ℕ, List, get_or, arith, All, All-from_get_or}
 use Rattle.alive_top.proofs.optimised.read_source.Goals as goal
 
 -- the elements of the text are bytes

@@ -1,5 +1,4 @@
-use Rattle.stored_logs.specs.Rechecked.{IsRechecked}
-use Rattle.alive_top.specs.Answers.{MisfitsRules}
+use Rattle.alive_top.proofs.Common.{IsRechecked, MisfitsRules}
 use Rattle.alive_top.specs.File.{Logs}
 use Rattle.alive_top.proofs.Files.{file_from_text}
 use Rattle.alive_top.proofs.recheck.read_and_recheck.Goals as goal

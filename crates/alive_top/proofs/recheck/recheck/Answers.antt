@@ -1,8 +1,5 @@
-use Rattle.std.proofs.Common.{rules, [], ◌∷◌, Err, refl, sym, subst, ap, ◌∙◌}
-use Rattle.std.proofs.lemmas.Result.{err_from_is_err_and}
-use Rattle.alive_top.specs.Answers.{TaskOf}
+use Rattle.alive_top.proofs.Common.{rules, [], ◌∷◌, Err, refl, sym, subst, ap, ◌∙◌, err_from_is_err_and, TaskOf, Recheck}
 use Rattle.alive_top.specs.File.{Rules, Logs}
-use Rattle.alive_top.specs.Task.{Recheck}
 use Rattle.alive_top.proofs.Files.{first_refused, recheck_refused, recheck_done, follow_on}
 use Rattle.alive_top.proofs.recheck.recheck.Goals as goal
 

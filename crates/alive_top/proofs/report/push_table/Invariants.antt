@@ -1,5 +1,4 @@
-use Rattle.std.proofs.Common.{◌≡◌, ◌++◌, drop}
-use Rattle.verdict.specs.Table.{table_text}
+use Rattle.alive_top.proofs.Common.{◌≡◌, ◌++◌, drop, table_text}
 use Rattle.alive_top.proofs.report.push_table.Given as goal
 
 -- the text so far, with those of the rows that are left, is that of all rows

@@ -1,11 +1,4 @@
-use Rattle.std.proofs.Common.{◌≡◌, ◌⊎◌, ℕ, List, Result, Ok, Err, subst, inl, inr}
-use Rattle.std.specs.Prelude.{MatchResult, IfOk}
-use Rattle.outside.specs.Sink.{SinkState}
-use Rattle.alive_top.specs.declared.status.Status.{Status}
-use Rattle.alive_top.specs.declared.status.Status.TheVariants.{RuleRefused, ModuleRefused, ReadFault, LogRefused}
-use Rattle.error_lines.specs.Lines.{rules_line, module_line, logs_line, read_fault_line}
-use Rattle.alive_top.specs.Puts.{Says, SaysMemory}
-use Rattle.alive_top.specs.Written.{Took}
+use Rattle.alive_top.proofs.Common.{◌≡◌, ◌⊎◌, ℕ, List, Result, Ok, Err, subst, inl, inr, MatchResult, IfOk, SinkState, Status, RuleRefused, ModuleRefused, ReadFault, LogRefused, rules_line, module_line, logs_line, read_fault_line, Says, SaysMemory, Took}
 use Rattle.alive_top.proofs.top.refuse.Goals as goal
 
 -- a line that could be built is the one that is wanted

@@ -1,7 +1,4 @@
-use Rattle.std.proofs.Common.{refl, sym, subst}
-use Rattle.alive_top.specs.Task.{task_of}
-use Rattle.alive_top.specs.Ends.{EndsWith}
-use Rattle.alive_top.specs.Answers.{seen_work}
+use Rattle.alive_top.proofs.Common.{refl, sym, subst, task_of, EndsWith, seen_work}
 use Rattle.alive_top.proofs.Endings.{refused_ends, written_ends, written_worked}
 use Rattle.alive_top.proofs.top.run.Goals as goal
 

@@ -1,6 +1,4 @@
-use Rattle.std.proofs.Common.{refl, map, inr, ◌∙◌}
-use Rattle.std.specs.Prelude.{string_bytes}
-use Rattle.alive_top.specs.Task.{task_of}
+use Rattle.alive_top.proofs.Common.{refl, map, inr, ◌∙◌, string_bytes, task_of}
 use Rattle.alive_top.proofs.Endings.{usage_ends, memory_ends}
 use Rattle.alive_top.proofs.top.run_words.Goals as goal
 

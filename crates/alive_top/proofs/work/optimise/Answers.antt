@@ -1,8 +1,5 @@
-use Rattle.std.proofs.Common.{rules, [], ◌∷◌, None, Err, refl, sym, subst, ap, ◌∙◌}
-use Rattle.std.proofs.lemmas.Result.{err_from_is_err_and}
-use Rattle.alive_top.specs.Answers.{TaskOf}
-use Rattle.alive_top.specs.File.{Rules, Source}
-use Rattle.alive_top.specs.Task.{Optimise}
+use Rattle.alive_top.proofs.Common.{rules, [], ◌∷◌, None, Err, refl, sym, subst, ap, ◌∙◌, err_from_is_err_and, TaskOf, Source, Optimise}
+use Rattle.alive_top.specs.File.{Rules}
 use Rattle.alive_top.proofs.Files.{first_refused, second_refused, optimise_done, follow_on, has_rules}
 use Rattle.alive_top.proofs.work.optimise.Goals as goal
 

@@ -1,6 +1,4 @@
-use Rattle.alive_top.specs.File.{Source}
-use Rattle.alive_top.specs.Work.{IsPrinted}
-use Rattle.alive_top.specs.Answers.{Fits}
+use Rattle.alive_top.proofs.Common.{Source, IsPrinted, Fits}
 use Rattle.alive_top.proofs.Files.{file_from_text}
 use Rattle.alive_top.proofs.work.read_and_optimise.Goals as goal
 

@@ -1,7 +1,4 @@
-use Rattle.std.proofs.Common.{List, ℕ, map}
-use Rattle.run_text.specs.Runs.{IsRun}
-use Rattle.alive_top.specs.File.{Source}
-use Rattle.alive_top.specs.Answers.{MisfitsRun}
+use Rattle.alive_top.proofs.Common.{List, ℕ, map, IsRun, Source, MisfitsRun}
 use Rattle.alive_top.proofs.Files.{file_from_text}
 use Rattle.alive_top.proofs.work.read_and_run.Goals as goal
 

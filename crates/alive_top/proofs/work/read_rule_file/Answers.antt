@@ -1,6 +1,6 @@
+use Rattle.alive_top.proofs.Common.{Fits}
 use Rattle.alive_top.specs.File.{Rules}
 use Rattle.load_text.specs.RuleText.{IsRuleText}
-use Rattle.alive_top.specs.Answers.{Fits}
 use Rattle.alive_top.proofs.Files.{file_from_text}
 use Rattle.alive_top.proofs.work.read_rule_file.Goals as goal
 

@@ -1,4 +1,4 @@
-use Rattle.std.proofs.Common.{arith}
+use Rattle.alive_top.proofs.Common.{arith}
 use Rattle.alive_top.proofs.Reading.{are_ready}
 use Rattle.alive_top.proofs.work.rules_of.Goals as goal
 

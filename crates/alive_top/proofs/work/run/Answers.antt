@@ -1,7 +1,4 @@
-use Rattle.std.proofs.Common.{List, ℕ, refl, rules, map, Err, sym, subst, ap, ◌∙◌}
-use Rattle.std.proofs.lemmas.Result.{err_from_is_err_and}
-use Rattle.alive_top.specs.Answers.{TaskOf}
-use Rattle.alive_top.specs.Task.{Run}
+use Rattle.alive_top.proofs.Common.{List, ℕ, refl, rules, map, Err, sym, subst, ap, ◌∙◌, err_from_is_err_and, TaskOf, Run}
 use Rattle.alive_top.proofs.Files.{run_refused, run_done}
 use Rattle.alive_top.proofs.work.run.Goals as goal
 

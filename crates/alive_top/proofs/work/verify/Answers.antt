@@ -1,8 +1,5 @@
-use Rattle.std.proofs.Common.{[], Err, refl, sym, subst, ap, ◌∙◌}
-use Rattle.std.proofs.lemmas.Result.{err_from_is_err_and}
-use Rattle.alive_top.specs.Answers.{TaskOf, seen_work}
+use Rattle.alive_top.proofs.Common.{[], Err, refl, sym, subst, ap, ◌∙◌, err_from_is_err_and, TaskOf, seen_work, Verify}
 use Rattle.alive_top.specs.File.{Rules}
-use Rattle.alive_top.specs.Task.{Verify}
 use Rattle.alive_top.proofs.Files.{first_refused, memory_behind, verify_done}
 use Rattle.alive_top.proofs.work.verify.Goals as goal
 

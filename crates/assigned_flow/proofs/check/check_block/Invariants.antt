@@ -1,4 +1,4 @@
-use Rattle.assigned_flow.specs.CheckedReads.{AssignedBefore}
+use Rattle.assigned_flow.proofs.Common.{AssignedBefore}
 use Rattle.assigned_flow.proofs.check.check_block.Given as goal
 
 abbrev pub invariant-loop-place : goal.invariant-loop-place

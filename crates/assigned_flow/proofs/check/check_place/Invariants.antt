@@ -1,6 +1,4 @@
-use Rattle.std.proofs.Common.{◌-◌, length}
-use Rattle.ir_core.specs.Reads.{reads_at}
-use Rattle.assigned_flow.specs.CheckedReads.{AssignedBefore}
+use Rattle.assigned_flow.proofs.Common.{◌-◌, length, reads_at, AssignedBefore}
 use Rattle.assigned_flow.proofs.check.check_place.Given as goal
 
 abbrev pub invariant-loop-read : goal.invariant-loop-read

@@ -1,4 +1,4 @@
-use Rattle.std.proofs.Common.{◌<◌, sym, subst}
+use Rattle.assigned_flow.proofs.Common.{◌<◌, sym, subst}
 use Rattle.assigned_flow.proofs.Correspondence.{assigned_result, HasInst-below_end}
 use Rattle.assigned_flow.proofs.check.is_assigned.Goals as goal
 

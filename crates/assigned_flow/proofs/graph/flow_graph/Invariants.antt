@@ -1,5 +1,4 @@
-use Rattle.std.proofs.Common.{◌≡◌, take, map}
-use Rattle.ir_core.specs.Blocks.{targets_of}
+use Rattle.assigned_flow.proofs.Common.{◌≡◌, take, map, targets_of}
 use Rattle.assigned_flow.proofs.graph.flow_graph.Given as goal
 
 abbrev pub invariant-loop-block : goal.invariant-loop-block

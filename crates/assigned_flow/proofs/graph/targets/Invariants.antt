@@ -1,4 +1,4 @@
-use Rattle.std.proofs.Common.{◌≡◌, ◌++◌, take, map}
+use Rattle.assigned_flow.proofs.Common.{◌≡◌, ◌++◌, take, map}
 use Rattle.assigned_flow.proofs.graph.targets.Given as goal
 
 abbrev pub invariant-loop-to : goal.invariant-loop-to

@@ -1,6 +1,4 @@
-use Rattle.std.proofs.Common.{sym, subst}
-use Rattle.rule_core.specs.declared.rule.Rule.{Rule}
-use Rattle.rule_typing.specs.Classes.{IsClassified}
+use Rattle.bench_parts.proofs.Common.{sym, subst, Rule, IsClassified}
 use Rattle.bench_parts.proofs.deciding.decide_rules.Goals as goal
 
 pub decide_rule-requires-clause-classes : goal.decide_rule-requires-clause-classes

@@ -1,5 +1,4 @@
-use Rattle.std.proofs.Common.{refl}
-use Rattle.ops.proofs.FlagSets.{flags_equal}
+use Rattle.bindings.proofs.Common.{refl, flags_equal}
 use Rattle.bindings.proofs.Promising.{promises_equal}
 use Rattle.bindings.proofs.check.are_same.Goals as goal
 

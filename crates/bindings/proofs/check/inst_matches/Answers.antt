@@ -1,7 +1,4 @@
-use Rattle.std.proofs.Common.{◌≡◌, ◌↔◌, IsTrue, subst, ◌∙◌}
-use Rattle.rule_core.specs.declared.rule.Statement.{Statement}
-use Rattle.rule_typing.proofs.Among.{holds, fails}
-use Rattle.bindings.specs.Statements.{InstMatches}
+use Rattle.bindings.proofs.Common.{◌≡◌, ◌↔◌, IsTrue, subst, ◌∙◌, Statement, holds, fails, InstMatches}
 use Rattle.bindings.proofs.Bound.{asked_flags, asked_place, matches_as, met, read_off_as}
 use Rattle.bindings.proofs.Lists.{never_met}
 use Rattle.bindings.proofs.check.inst_matches.Goals as goal

@@ -1,16 +1,11 @@
-use Rattle.std.proofs.Common.{refl, sym, subst, List}
-use Rattle.std.specs.Prelude.{Contains}
+use Rattle.bindings.proofs.Common.{refl, sym, subst, List, Contains, Formula, holds, fails}
 use Rattle.ir_core.specs.declared.operand.Operand.{Operand}
 use Rattle.ir_core.specs.declared.operand.Operand.TheVariants as operands
-use Rattle.rule_core.specs.declared.rule.Formula.{Formula}
-use Rattle.rule_typing.proofs.Among.{holds, fails}
 use Rattle.bindings.proofs.Fitting.{AllMatch, constants_fit}
 use Rattle.bindings.proofs.Uses.{uses_met, uses_asked}
 use Rattle.bindings.proofs.Lists.{never_met}
 use Rattle.bindings.proofs.check.is_match.Goals as goal
-use Rattle.bindings.proofs.check.is_match.Goals.{then-not-reached-via-then-not-reached, then-not-reached-via-else-not-reached+then-not-has_sizes}
-use Rattle.bindings.proofs.check.is_match.Goals.{then-not-statements_match-via-then-not-statements_match, then-not-statements_match-via-else-not-statements_match+then-has_undef}
-use Rattle.bindings.proofs.check.is_match.Goals.{then-not-is_typing-via-then-not-is_typing, then-not-is_typing-via-else-not-is_typing+then-not-holds}
+use Rattle.bindings.proofs.check.is_match.Goals.{then-not-reached-via-then-not-reached, then-not-reached-via-else-not-reached+then-not-has_sizes, then-not-statements_match-via-then-not-statements_match, then-not-statements_match-via-else-not-statements_match+then-has_undef, then-not-is_typing-via-then-not-is_typing, then-not-is_typing-via-else-not-is_typing+then-not-holds}
 
 pub holds-requires-clause-constants : goal.holds-requires-clause-constants
 holds-requires-clause-constants c =

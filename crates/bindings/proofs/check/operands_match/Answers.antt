@@ -1,6 +1,4 @@
-use Rattle.std.proofs.Common.{below_more}
-use Rattle.rule_typing.proofs.Among.{holds, fails}
-use Rattle.bindings.specs.Checks.{MatchesAt}
+use Rattle.bindings.proofs.Common.{below_more, holds, fails, MatchesAt}
 use Rattle.bindings.proofs.check.operands_match.Goals as goal
 
 pub returns-then-not-operand_matches_at : goal.returns-then-not-operand_matches_at

@@ -1,6 +1,5 @@
 -- the operands so far match
-use Rattle.std.proofs.Common.{ℕ, ◌<◌}
-use Rattle.bindings.specs.Checks.{MatchesAt}
+use Rattle.bindings.proofs.Common.{ℕ, ◌<◌, MatchesAt}
 use Rattle.bindings.proofs.check.operands_match.Given as goal
 
 abbrev pub invariant-loop-index : goal.invariant-loop-index

@@ -1,5 +1,4 @@
-use Rattle.std.proofs.Common.{◌≡◌, ◌<◌, length, Some, arith}
-use Rattle.std.specs.Prelude.{slice_get}
+use Rattle.bindings.proofs.Common.{◌≡◌, ◌<◌, length, Some, arith, slice_get}
 use Rattle.ir_core.specs.declared.operand.Register.TheVariants as registers
 use Rattle.bindings.proofs.Bound.{never, not_elsewhere, matched_there, matches_there, has_inst, read_off, read_off_as, statement_at}
 use Rattle.bindings.proofs.check.statement_matches.Goals as goal

@@ -1,9 +1,4 @@
-use Rattle.std.proofs.Common.{◌≡◌, ℕ, inl, inr, refl, sym, subst, Some, arith}
-use Rattle.std.specs.Prelude.{slice_get}
-use Rattle.std.proofs.lemmas.Bool.{cases_eq}
-use Rattle.std.proofs.lemmas.Option.{slice_get_within}
-use Rattle.rule_typing.proofs.Among.{holds}
-use Rattle.bindings.specs.Statements.{StatementMatches}
+use Rattle.bindings.proofs.Common.{◌≡◌, ℕ, inl, inr, refl, sym, subst, Some, arith, slice_get, cases_eq, slice_get_within, holds, StatementMatches}
 use Rattle.bindings.proofs.check.statements_match.Goals as goal
 
 pub loop-j-preserved : goal.loop-j-preserved

@@ -1,8 +1,5 @@
 -- the statements so far match
-use Rattle.std.proofs.Common.{◌≡◌, ℕ, ◌<◌, Some}
-use Rattle.std.specs.Prelude.{slice_get}
-use Rattle.rule_core.specs.declared.rule.Statement.{Statement}
-use Rattle.bindings.specs.Statements.{StatementMatches}
+use Rattle.bindings.proofs.Common.{◌≡◌, ℕ, ◌<◌, Some, slice_get, Statement, StatementMatches}
 use Rattle.bindings.proofs.check.statements_match.Given as goal
 
 abbrev pub invariant-loop-j : goal.invariant-loop-j

@@ -1,4 +1,4 @@
-use Rattle.ir_core.specs.Blocks.{IsBlock}
+use Rattle.bindings.proofs.Common.{IsBlock}
 use Rattle.bindings.proofs.Lists.{if_none, lent}
 use Rattle.bindings.proofs.Reading.{lent_inst, no_block, not_lent}
 use Rattle.bindings.proofs.inst.inst_at.Goals as goal

@@ -1,4 +1,4 @@
-use Rattle.std.proofs.Common.{ap, length, arith}
+use Rattle.bindings.proofs.Common.{ap, length, arith}
 use Rattle.bindings.proofs.Lists.{last_of}
 use Rattle.bindings.proofs.Roots.{root_operation, no_root_operation}
 use Rattle.bindings.proofs.root.is_root_operation.Goals as goal

@@ -1,4 +1,4 @@
-use Rattle.std.proofs.Common.{rules}
+use Rattle.bindings.proofs.Common.{rules}
 use Rattle.bindings.proofs.Lists.{lent, not_lent_past}
 use Rattle.bindings.proofs.Naming.{input_stands, source_stands, no_input, no_source, no_target}
 use Rattle.bindings.proofs.standing.names.Goals as goal

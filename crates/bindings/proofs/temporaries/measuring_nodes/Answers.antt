@@ -1,11 +1,5 @@
-use Rattle.std.proofs.Common.{◌≡◌, ℕ, pos, ◌<◌, List, length, Some, sym, ap, ◌∙◌, arith, get_or}
-use Rattle.std.specs.Prelude.{slice_get}
-use Rattle.std.proofs.lemmas.Option.{slice_get-get_or}
-use Rattle.rule_core.proofs.Weights.{few_terms}
-use Rattle.rule_core.specs.declared.rule.Rule.{Rule}
-use Rattle.rule_core.specs.declared.rule.Term.{Term}
+use Rattle.bindings.proofs.Common.{◌≡◌, ℕ, pos, ◌<◌, List, length, Some, sym, ap, ◌∙◌, arith, get_or, slice_get, slice_get-get_or, few_terms, Rule, Term, holds, fails}
 use Rattle.rule_core.specs.declared.rule.Node.TheVariants as nodes
-use Rattle.rule_typing.proofs.Among.{holds, fails}
 use Rattle.bindings.proofs.NamedTemporaries.{next_measures, next_measured, added, left_out, all_walked}
 use Rattle.bindings.proofs.temporaries.measuring_nodes.Goals as goal
 use Rattle.bindings.proofs.temporaries.measuring_nodes.Goals.{then-measures_temporary, else-measures_temporary}

@@ -1,7 +1,5 @@
 -- the set has those of the nodes so far
-use Rattle.std.proofs.Common.{◌<◌}
-use Rattle.bindings.specs.Nodes.{HasExactly}
-use Rattle.bindings.specs.Statements.{MeasuresTemporary}
+use Rattle.bindings.proofs.Common.{◌<◌, HasExactly, MeasuresTemporary}
 use Rattle.bindings.proofs.temporaries.measuring_nodes.Given as goal
 
 abbrev pub invariant-loop-n : goal.invariant-loop-n

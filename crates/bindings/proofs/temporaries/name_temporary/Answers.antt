@@ -1,7 +1,4 @@
-use Rattle.rule_core.specs.Positions.{operands_of}
-use Rattle.rule_core.specs.declared.rule.Statement.{Statement}
-use Rattle.rule_typing.proofs.Among.{holds, fails, one_further, stands_here}
-use Rattle.bindings.specs.Nodes.{OneNamesAmong}
+use Rattle.bindings.proofs.Common.{operands_of, Statement, holds, fails, one_further, stands_here, OneNamesAmong}
 use Rattle.bindings.proofs.NamedTemporaries.{one_names, none_names}
 use Rattle.bindings.proofs.temporaries.name_temporary.Goals as goal
 

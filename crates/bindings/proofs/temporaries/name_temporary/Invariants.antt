@@ -1,7 +1,5 @@
 -- no statement so far names one
-use Rattle.rule_core.specs.Positions.{operands_of}
-use Rattle.bindings.specs.Nodes.{OneNamesAmong}
-use Rattle.rule_typing.proofs.Among.{SoFar}
+use Rattle.bindings.proofs.Common.{operands_of, OneNamesAmong, SoFar}
 use Rattle.bindings.proofs.temporaries.name_temporary.Given as goal
 
 abbrev pub invariant-loop-statement : goal.invariant-loop-statement

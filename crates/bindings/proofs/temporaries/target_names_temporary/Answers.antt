@@ -1,8 +1,4 @@
-use Rattle.std.proofs.Common.{◌↔◌, List, IsTrue, subst}
-use Rattle.rule_core.specs.Positions.{operands_among}
-use Rattle.rule_core.specs.declared.rule.Statement.{Statement}
-use Rattle.rule_typing.proofs.Among.{says}
-use Rattle.bindings.specs.Nodes.{OneNamesAmong}
+use Rattle.bindings.proofs.Common.{◌↔◌, List, IsTrue, subst, operands_among, Statement, says, OneNamesAmong}
 use Rattle.bindings.proofs.NamedTemporaries.{one_is_named}
 use Rattle.bindings.proofs.temporaries.target_names_temporary.Goals as goal
 

@@ -1,12 +1,4 @@
-use Rattle.std.proofs.Common.{◌≡◌, length, Some, sym, ap, subst, ◌∙◌}
-use Rattle.std.specs.List.{All}
-use Rattle.std.proofs.lemmas.Option.{slice_get_within, same_Some}
-use Rattle.ops.specs.declared.value.Effect.TheVariants.{Gives}
-use Rattle.circuits.specs.Circuit.{Adds}
-use Rattle.blast_value.specs.Effect.{held_value}
-use Rattle.blast_value.specs.Words.{number_held}
-use Rattle.blast_term.specs.Scope.{seen}
-use Rattle.blast_term.proofs.Turns.{own_from_get}
+use Rattle.blast_rule.proofs.Common.{◌≡◌, length, Some, sym, ap, subst, ◌∙◌, All, slice_get_within, same_Some, Gives, Adds, held_value, number_held, seen, own_from_get}
 use Rattle.blast_rule.proofs.Reading.{number_given}
 use Rattle.blast_rule.proofs.Freezes.{freeze_gives, freeze_reads, freeze_chooses, freeze_width, freeze_gates}
 use Rattle.blast_rule.proofs.freeze.blast_freeze.Goals as goal

@@ -1,4 +1,4 @@
-use Rattle.std.proofs.Common.{length, ap, ◌∙◌}
+use Rattle.blast_rule.proofs.Common.{length, ap, ◌∙◌}
 use Rattle.blast_rule.proofs.Freezes.{frozen-word}
 use Rattle.blast_rule.proofs.freeze.frozen.Goals as goal
 

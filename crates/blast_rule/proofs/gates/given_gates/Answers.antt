@@ -1,8 +1,4 @@
-use Rattle.std.proofs.Common.{◌≡◌, length, ap, arith}
-use Rattle.std.proofs.lemmas.List.{length-map}
-use Rattle.rule_core.proofs.Weights.{few_terms, few_formulas}
-use Rattle.blast_term.specs.Gates.{terms_gates, numbers_gates, formulas_gates}
-use Rattle.blast_rule.specs.Gates.{widths_of_terms}
+use Rattle.blast_rule.proofs.Common.{◌≡◌, length, ap, arith, length-map, few_terms, few_formulas, terms_gates, numbers_gates, formulas_gates, widths_of_terms}
 use Rattle.blast_rule.proofs.Counts.{terms_within, formulas_read}
 use Rattle.blast_rule.proofs.gates.given_gates.Goals as goal
 

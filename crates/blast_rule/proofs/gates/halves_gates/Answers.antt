@@ -1,6 +1,4 @@
-use Rattle.std.proofs.Common.{◌≡◌, arith}
-use Rattle.std.proofs.lemmas.List.Elements.{All-same}
-use Rattle.blast_rule.specs.Gates.{run_gates}
+use Rattle.blast_rule.proofs.Common.{◌≡◌, arith, All-same, run_gates}
 use Rattle.blast_rule.proofs.Counts.{HaveWidths, classes_in_source, classes_in_target}
 use Rattle.blast_rule.proofs.gates.halves_gates.Goals as goal
 

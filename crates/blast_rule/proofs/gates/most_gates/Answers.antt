@@ -1,5 +1,4 @@
-use Rattle.std.proofs.Common.{◌≡◌, arith}
-use Rattle.blast_rule.specs.Gates.{given_gates, witness_gates, halves_gates, root_width}
+use Rattle.blast_rule.proofs.Common.{◌≡◌, arith, given_gates, witness_gates, halves_gates, root_width}
 use Rattle.blast_rule.proofs.gates.most_gates.Goals as goal
 
 pub returns : goal.returns

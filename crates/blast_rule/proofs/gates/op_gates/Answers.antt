@@ -1,4 +1,4 @@
-use Rattle.std.proofs.Common.{◌≤◌, ◌*◌, max, arith}
+use Rattle.blast_rule.proofs.Common.{◌≤◌, ◌*◌, max, arith}
 use Rattle.blast_value.specs.declared.instruction.Instruction.TheVariants as instructions
 use Rattle.blast_rule.proofs.gates.op_gates.Goals as goal
 

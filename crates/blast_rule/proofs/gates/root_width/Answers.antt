@@ -1,4 +1,4 @@
-use Rattle.std.proofs.Common.{length, ◌-◌, ◌∙◌, arith}
+use Rattle.blast_rule.proofs.Common.{length, ◌-◌, ◌∙◌, arith}
 use Rattle.blast_rule.proofs.Counts.{classes_in_source, root_class}
 use Rattle.blast_rule.proofs.gates.root_width.Goals as goal
 

@@ -1,7 +1,4 @@
-use Rattle.std.proofs.Common.{◌<◌, length, map, arith}
-use Rattle.std.proofs.lemmas.List.Elements.{All-tail}
-use Rattle.rule_core.specs.declared.rule.Operand.{Operand}
-use Rattle.rule_core.specs.Positions.{operands_of}
+use Rattle.blast_rule.proofs.Common.{◌<◌, length, map, arith, All-tail, Operand, operands_of}
 use Rattle.blast_rule.proofs.Counts.{have_widths-at}
 use Rattle.blast_rule.proofs.gates.run_gates.Goals as goal
 

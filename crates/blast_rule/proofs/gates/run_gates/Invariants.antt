@@ -1,5 +1,4 @@
-use Rattle.std.proofs.Common.{◌≡◌, ◌*◌, ◌≤◌, take}
-use Rattle.blast_rule.specs.Gates.{run_gates}
+use Rattle.blast_rule.proofs.Common.{◌≡◌, ◌*◌, ◌≤◌, take, run_gates}
 use Rattle.blast_rule.proofs.gates.run_gates.Given as goal
 
 abbrev pub invariant-loop-statement : goal.invariant-loop-statement

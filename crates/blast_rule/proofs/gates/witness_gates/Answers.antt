@@ -1,8 +1,4 @@
-use Rattle.std.proofs.Common.{◌≡◌, length, ap, arith}
-use Rattle.rule_core.proofs.Weights.{few_terms}
-use Rattle.blast_term.specs.Gates.{terms_gates, choices_gates}
-use Rattle.blast_rule.specs.Gates.{widths_of_witness}
-use Rattle.blast_setting.proofs.Few.{few_choices}
+use Rattle.blast_rule.proofs.Common.{◌≡◌, length, ap, arith, few_terms, terms_gates, choices_gates, widths_of_witness, few_choices}
 use Rattle.blast_rule.proofs.Counts.{expressions_within, places_within}
 use Rattle.blast_rule.proofs.gates.witness_gates.Goals as goal
 

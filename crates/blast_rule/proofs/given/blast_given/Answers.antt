@@ -1,13 +1,4 @@
-use Rattle.std.proofs.Common.{◌≡◌, [], map, refl, ap, ◌∙◌, arith}
-use Rattle.std.specs.List.{All}
-use Rattle.circuits.proofs.Kept.{Adds-trans, Adds-weaken}
-use Rattle.rule_core.specs.Terms.{of_constants, number_or_zero, constant_values}
-use Rattle.blast_value.specs.Effect.{held_value, widths_of, IsOwn}
-use Rattle.blast_term.specs.declared.scope.Scope.{Scope}
-use Rattle.blast_rule.specs.Gates.{widths_of_terms}
-use Rattle.blast_value.specs.Words.{number_held}
-use Rattle.blast_value.proofs.Kept.{AllAll-kept, AllOwn-kept, numbers_of-kept, values-kept}
-use Rattle.blast_term.proofs.Preconditions.{precondition_holds, nothing_held}
+use Rattle.blast_rule.proofs.Common.{◌≡◌, [], map, refl, ap, ◌∙◌, arith, All, Adds-trans, Adds-weaken, of_constants, number_or_zero, constant_values, held_value, widths_of, IsOwn, Scope, widths_of_terms, number_held, AllAll-kept, AllOwn-kept, numbers_of-kept, values-kept, precondition_holds, nothing_held}
 use Rattle.blast_rule.proofs.Ready.{constant_terms_held, precondition_held}
 use Rattle.blast_rule.proofs.Runs.{own_none}
 use Rattle.blast_rule.proofs.given.blast_given.Goals as goal

@@ -1,7 +1,5 @@
-use Rattle.std.proofs.Common.{◌≡◌, Bool, true, false, ◌||◌, if◌then◌else◌, refl}
-use Rattle.ops.specs.declared.value.Value.{Value}
+use Rattle.blast_rule.proofs.Common.{◌≡◌, Bool, true, false, ◌||◌, if◌then◌else◌, refl, Value, held_value-kept}
 use Rattle.ops.specs.declared.value.Effect.TheVariants as effects
-use Rattle.blast_value.proofs.Kept.{held_value-kept}
 use Rattle.blast_rule.proofs.halves.after.Goals as goal
 
 -- undefined behaviour before or here is undefined behaviour of the whole

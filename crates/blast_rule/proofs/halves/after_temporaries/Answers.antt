@@ -1,19 +1,4 @@
-use Rattle.std.proofs.Common.{◌≡◌, ◌-◌, [], length, map, take, refl, sym, ap, subst, ◌∙◌, arith, get_or}
-use Rattle.std.proofs.lemmas.List.{length-map}
-use Rattle.std.proofs.lemmas.Option.{slice_get-get_or}
-use Rattle.circuits.specs.Circuit.{Keeps}
-use Rattle.circuits.proofs.Kept.{Keeps-refl, Keeps-trans, Adds-trans, Adds-weaken}
-use Rattle.rule_core.specs.Run.{given_by, StatementGives}
-use Rattle.rule_core.specs.Valid.{Setting, HaveEffects}
-use Rattle.rule_core.proofs.Ready.{source_next}
-use Rattle.rule_core.proofs.Givens.{Contains-take}
-use Rattle.blast_value.specs.Effect.{effect_of}
-use Rattle.blast_value.specs.Words.{number_held}
-use Rattle.blast_value.proofs.Kept.{AllAll-kept, IsOwnEffect-kept, numbers_held-kept}
-use Rattle.blast_term.specs.declared.scope.Scope.{Scope}
-use Rattle.blast_term.proofs.Kept.{scope_own-kept}
-use Rattle.blast_rule.specs.Gates.{run_gates, root_gates, statement_gates, witness_gates}
-use Rattle.blast_rule.specs.Runs.{shape, setting_seen, AreTerms, TemporariesRan}
+use Rattle.blast_rule.proofs.Common.{◌≡◌, ◌-◌, [], length, map, take, refl, sym, ap, subst, ◌∙◌, arith, get_or, length-map, slice_get-get_or, Keeps, Keeps-refl, Keeps-trans, Adds-trans, Adds-weaken, given_by, StatementGives, Setting, HaveEffects, source_next, Contains-take, effect_of, number_held, AllAll-kept, IsOwnEffect-kept, numbers_held-kept, Scope, scope_own-kept, run_gates, root_gates, statement_gates, witness_gates, shape, setting_seen, AreTerms, TemporariesRan}
 use Rattle.blast_rule.proofs.Scopes.{Reads, seen_of}
 use Rattle.blast_rule.proofs.Shapes.{inputs_stand, constants_stand, target_choices_stand, source_stands, target_stands}
 use Rattle.blast_rule.proofs.Chosen.{witness_terms_held}

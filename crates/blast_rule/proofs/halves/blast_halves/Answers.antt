@@ -1,15 +1,4 @@
-use Rattle.std.proofs.Common.{◌≡◌, [], map, refl, sym, ap, ◌∙◌}
-use Rattle.std.specs.List.{All}
-use Rattle.std.proofs.lemmas.Result.{IfOk-weaker}
-use Rattle.circuits.proofs.Kept.{Adds-trans, Adds-weaken}
-use Rattle.rule_core.specs.Run.{temporaries_of, given_by}
-use Rattle.blast_value.specs.Effect.{IsOwn}
-use Rattle.blast_value.specs.Words.{number_held}
-use Rattle.blast_value.proofs.Kept.{AllOwn-kept, AllAll-kept, numbers_of-kept}
-use Rattle.blast_term.specs.declared.scope.Scope.{Scope}
-use Rattle.blast_setting.proofs.Made.{setting-kept}
-use Rattle.blast_rule.specs.Gates.{run_gates, root_gates, witness_gates}
-use Rattle.blast_rule.specs.Runs.{setting_seen, AreTerms, IsGiven, TemporariesRan}
+use Rattle.blast_rule.proofs.Common.{◌≡◌, [], map, refl, sym, ap, ◌∙◌, All, IfOk-weaker, Adds-trans, Adds-weaken, temporaries_of, given_by, IsOwn, number_held, AllOwn-kept, AllAll-kept, numbers_of-kept, Scope, setting-kept, run_gates, root_gates, witness_gates, setting_seen, AreTerms, IsGiven, TemporariesRan}
 use Rattle.blast_rule.proofs.Scopes.{given_shape_of}
 use Rattle.blast_rule.proofs.Shapes.{inputs_stand, before_root_stands}
 use Rattle.blast_rule.proofs.Runs.{own_none}

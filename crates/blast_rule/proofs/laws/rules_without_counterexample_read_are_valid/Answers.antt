@@ -1,6 +1,4 @@
-use Rattle.std.proofs.Common.{sym, subst}
-use Rattle.blast_rule.specs.Parts.{Refutes}
-use Rattle.blast_setting.proofs.Settings.{fitting_are_read}
+use Rattle.blast_rule.proofs.Common.{sym, subst, Refutes, fitting_are_read}
 use Rattle.blast_rule.proofs.laws.rules_without_counterexample_read_are_valid.Goals as goal
 
 pub returns : goal.returns

@@ -1,15 +1,5 @@
-use Rattle.std.proofs.Common.{◌≡◌, ◌≤◌, length, Some, sym, ap, subst, ◌∙◌, arith, rules}
-use Rattle.std.specs.List.{All}
-use Rattle.std.proofs.lemmas.Int.{to_z-of_z}
-use mir.Val.{SFits}
-use mir.Syntax.{w128}
-use Rattle.std.proofs.lemmas.Result.{IfOk-weaker}
-use Rattle.std.proofs.lemmas.Option.{slice_get_within, same_Some}
-use Rattle.blast_value.specs.Effect.{IsOwn}
-use Rattle.blast_term.proofs.Nodes.{register_own}
+use Rattle.blast_rule.proofs.Common.{◌≡◌, ◌≤◌, length, Some, sym, ap, subst, ◌∙◌, arith, rules, All, to_z-of_z, SFits, w128, IfOk-weaker, slice_get_within, same_Some, IsOwn, register_own, own_from_get, seen}
 use Rattle.blast_rule.proofs.Reading.{register_ready, register_gives, width_told, literal_gives, truth_gives, digit-below, is_some, some_bits, constant_at, choice_at, term_at, constant_gives, choice_gives, term_gives}
-use Rattle.blast_term.proofs.Turns.{own_from_get}
-use Rattle.blast_term.specs.Scope.{seen}
 use Rattle.blast_rule.proofs.operand.operand_held.Goals as goal
 
 pub width_of-width-requires : goal.width_of-width-requires

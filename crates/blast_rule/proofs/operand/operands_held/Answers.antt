@@ -1,7 +1,4 @@
-use Rattle.std.proofs.Common.{◌∷◌, [], ◌++◌, take, sym, ap, ◌∙◌, arith}
-use Rattle.std.proofs.lemmas.List.{take_more}
-use Rattle.std.proofs.lemmas.Slice.Zip.{all_zipped_more}
-use Rattle.blast_rule.specs.Runs.{HoldsOperand}
+use Rattle.blast_rule.proofs.Common.{◌∷◌, [], ◌++◌, take, sym, ap, ◌∙◌, arith, take_more, all_zipped_more, HoldsOperand}
 use Rattle.blast_rule.proofs.operand.operands_held.Goals as goal
 
 pub operand_held-requires-clause-ready : goal.operand_held-requires-clause-ready

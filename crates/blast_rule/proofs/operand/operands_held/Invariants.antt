@@ -1,6 +1,4 @@
-use Rattle.std.proofs.Common.{take}
-use Rattle.std.specs.List.{AllZip}
-use Rattle.blast_rule.specs.Runs.{HoldsOperand}
+use Rattle.blast_rule.proofs.Common.{take, AllZip, HoldsOperand}
 use Rattle.blast_rule.proofs.operand.operands_held.Given as goal
 
 abbrev pub invariant-loop-operand : goal.invariant-loop-operand

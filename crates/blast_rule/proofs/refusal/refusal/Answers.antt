@@ -1,7 +1,4 @@
-use Rattle.std.proofs.Common.{◌≡◌, ◌==◌, not, ◌&&◌, ◌||◌, length, arith}
-use Rattle.std.proofs.lemmas.Result.{IfOk-weaker}
-use Rattle.circuits.specs.Word.{number_of}
-use Rattle.circuits.proofs.Kept.{Adds-trans, Adds-weaken, Keeps-trans}
+use Rattle.blast_rule.proofs.Common.{◌≡◌, ◌==◌, not, ◌&&◌, ◌||◌, length, arith, IfOk-weaker, number_of, Adds-trans, Adds-weaken, Keeps-trans}
 use Rattle.blast_rule.proofs.Refusals.{refused_where}
 use Rattle.blast_rule.proofs.refusal.refusal.Goals as goal
 

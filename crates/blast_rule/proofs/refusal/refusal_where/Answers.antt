@@ -1,6 +1,4 @@
-use Rattle.std.proofs.Common.{arith}
-use Rattle.std.proofs.lemmas.Result.{IfOk-weaker}
-use Rattle.circuits.proofs.Kept.{Adds-trans, Adds-weaken}
+use Rattle.blast_rule.proofs.Common.{arith, IfOk-weaker, Adds-trans, Adds-weaken}
 use Rattle.blast_rule.proofs.Whole.{true_where}
 use Rattle.blast_rule.proofs.refusal.refusal_where.Goals as goal
 

@@ -1,10 +1,4 @@
-use Rattle.std.proofs.Common.{◌≡◌, sym, ◌∙◌}
-use Rattle.circuits.proofs.Kept.{Adds-trans, Adds-weaken}
-use Rattle.blast_value.proofs.Kept.{AllAll-kept, IsOwnEffect-kept, effect_of-kept}
-use Rattle.blast_setting.specs.SettingBits.{setting_held}
-use Rattle.blast_setting.proofs.Made.{setting-kept, setting_own-kept}
-use Rattle.blast_rule.specs.Gates.{given_gates, witness_gates, halves_gates, refusal_gates, root_width}
-use Rattle.blast_rule.specs.Runs.{AreTerms}
+use Rattle.blast_rule.proofs.Common.{◌≡◌, sym, ◌∙◌, Adds-trans, Adds-weaken, AllAll-kept, IsOwnEffect-kept, effect_of-kept, setting_held, setting-kept, setting_own-kept, given_gates, witness_gates, halves_gates, refusal_gates, root_width, AreTerms}
 use Rattle.blast_rule.proofs.Whole.{refutes, effects-kept, first_within, second_within, third_within}
 use Rattle.blast_rule.proofs.rule_bits.blast_at.Goals as goal
 

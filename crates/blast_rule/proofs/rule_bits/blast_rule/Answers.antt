@@ -1,15 +1,4 @@
-use Rattle.std.proofs.Common.{◌≡◌, ◌↔◌, map, drop, sym, ap, subst, ◌∙◌, arith}
-use Rattle.std.specs.Prelude.{IsTrue}
-use Rattle.std.proofs.lemmas.Result.{IfOk-weaker}
-use Rattle.circuits.proofs.Kept.{Keeps-trans}
-use Rattle.rule_core.specs.Typing.{IsTyping}
-use Rattle.rule_core.specs.Valid.{SettingFits, HaveEffects}
-use Rattle.blast_value.specs.Effect.{effect_of}
-use Rattle.blast_value.specs.Words.{number_held}
-use Rattle.blast_setting.specs.SettingBits.{setting_held}
-use Rattle.blast_setting.specs.Settings.{setting_of}
-use Rattle.blast_setting.proofs.Settings.{read_fits}
-use Rattle.blast_rule.specs.Parts.{Refutes}
+use Rattle.blast_rule.proofs.Common.{◌≡◌, ◌↔◌, map, drop, sym, ap, subst, ◌∙◌, arith, IsTrue, IfOk-weaker, Keeps-trans, IsTyping, SettingFits, HaveEffects, effect_of, number_held, setting_held, setting_of, read_fits, Refutes}
 use Rattle.blast_rule.proofs.Whole.{gates_within, OnOk-always}
 use Rattle.blast_rule.proofs.rule_bits.blast_rule.Goals as goal
 

@@ -1,6 +1,4 @@
-use Rattle.std.proofs.Common.{refl}
-use Rattle.blast_value.specs.Effect.{held_value}
-use Rattle.blast_term.specs.Scope.{seen}
+use Rattle.blast_rule.proofs.Common.{refl, held_value, seen}
 use Rattle.blast_rule.proofs.Statements.{copy_gives}
 use Rattle.blast_rule.proofs.statement.blast_copy.Goals as goal
 

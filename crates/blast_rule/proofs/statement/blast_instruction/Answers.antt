@@ -1,7 +1,4 @@
-use Rattle.std.proofs.Common.{Some, sym, ap, ◌∙◌}
-use Rattle.std.proofs.lemmas.Option.{slice_get_within}
-use Rattle.std.proofs.lemmas.Result.{IfOk-weaker}
-use Rattle.blast_rule.specs.Runs.{shapes, given_shape}
+use Rattle.blast_rule.proofs.Common.{Some, sym, ap, ◌∙◌, slice_get_within, IfOk-weaker, shapes, given_shape}
 use Rattle.blast_rule.proofs.Reading.{width_told}
 use Rattle.blast_rule.proofs.Statements.{all_ready, all_own, blasts}
 use Rattle.blast_rule.proofs.statement.blast_instruction.Goals as goal

@@ -1,9 +1,4 @@
-use Rattle.std.proofs.Common.{◌≡◌, true, false, ◌||◌, sym, ap, subst, ◌∙◌, arith}
-use Rattle.circuits.proofs.Kept.{Adds-trans, Adds-weaken, Keeps-trans, All-kept}
-use Rattle.rule_core.specs.Run.{StatementGives}
-use Rattle.blast_value.specs.Effect.{effect_of}
-use Rattle.blast_term.specs.Scope.{seen}
-use Rattle.blast_term.proofs.Kept.{seen-kept}
+use Rattle.blast_rule.proofs.Common.{◌≡◌, true, false, ◌||◌, sym, ap, subst, ◌∙◌, arith, Adds-trans, Adds-weaken, Keeps-trans, All-kept, StatementGives, effect_of, seen, seen-kept}
 use Rattle.blast_rule.proofs.Statements.{effect-next}
 use Rattle.blast_rule.proofs.statement.blast_next.Goals as goal
 

@@ -1,6 +1,4 @@
-use Rattle.std.proofs.Common.{sym, ap}
-use Rattle.rule_core.specs.Positions.{operands_of}
-use Rattle.blast_rule.specs.Runs.{instruction_of}
+use Rattle.blast_rule.proofs.Common.{sym, ap, operands_of, instruction_of}
 use Rattle.blast_rule.proofs.statement.blast_statement.Goals as goal
 
 pub blast_instruction-requires-clause-instruction : goal.blast_instruction-requires-clause-instruction

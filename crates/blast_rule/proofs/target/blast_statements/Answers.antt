@@ -1,14 +1,4 @@
-use Rattle.std.proofs.Common.{◌≡◌, ◌<◌, ◌+◌, [], length, map, take, refl, ap, subst, ◌∙◌, arith}
-use Rattle.std.proofs.lemmas.List.{length-map, length_push, take_all}
-use Rattle.std.proofs.lemmas.List.Elements.{All-push}
-use Rattle.circuits.proofs.Kept.{Adds-none, Adds-trans, Adds-weaken}
-use Rattle.rule_core.specs.Run.{Follows, holding_target}
-use Rattle.rule_core.proofs.Ready.{ValuesFit-none, target_next}
-use Rattle.blast_value.specs.Effect.{IsOwn}
-use Rattle.blast_rule.specs.Runs.{shape, given_shape, ending}
-use Rattle.blast_value.proofs.Kept.{AllOwn-kept}
-use Rattle.blast_term.specs.Scope.{holds}
-use Rattle.blast_term.proofs.Kept.{scope_own-kept}
+use Rattle.blast_rule.proofs.Common.{◌≡◌, ◌<◌, ◌+◌, [], length, map, take, refl, ap, subst, ◌∙◌, arith, length-map, length_push, take_all, All-push, Adds-none, Adds-trans, Adds-weaken, Follows, holding_target, ValuesFit-none, target_next, IsOwn, shape, given_shape, ending, AllOwn-kept, holds, scope_own-kept}
 use Rattle.blast_rule.proofs.Kept.{given-kept}
 use Rattle.blast_rule.proofs.Runs.{run_gates-more, run_gates-turn_of_all, shapes_fit-push, stands, own_none, target_more, held_after}
 use Rattle.blast_rule.proofs.target.blast_statements.Goals as goal

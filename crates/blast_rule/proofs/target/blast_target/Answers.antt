@@ -1,7 +1,4 @@
-use Rattle.std.proofs.Common.{[], subst}
-use Rattle.rule_core.specs.Run.{given_by, TargetGoesOn}
-use Rattle.blast_value.specs.Effect.{held_value, IsOwn}
-use Rattle.blast_term.specs.Scope.{holds}
+use Rattle.blast_rule.proofs.Common.{[], subst, given_by, TargetGoesOn, held_value, IsOwn, holds}
 use Rattle.blast_rule.proofs.Runs.{own_last, own_none, holds-kept}
 use Rattle.blast_rule.proofs.Steps.{target-goes-on, effect}
 use Rattle.blast_rule.proofs.Effects.{last_value, target_width}

@@ -1,15 +1,4 @@
-use Rattle.std.proofs.Common.{◌≡◌, ◌<◌, ◌-◌, ◌+◌, [], length, map, take, refl, ap, subst, ◌∙◌, arith}
-use Rattle.std.proofs.lemmas.List.{length-map, length_push}
-use Rattle.std.proofs.lemmas.List.Elements.{All-push}
-use Rattle.circuits.proofs.Kept.{Adds-none, Adds-trans, Adds-weaken}
-use Rattle.rule_core.specs.Run.{Follows, holding_source, temporaries_of}
-use Rattle.rule_core.proofs.Ready.{ValuesFit-none, source_next}
-use Rattle.rule_core.proofs.Givens.{Contains-take}
-use Rattle.blast_value.specs.Effect.{IsOwn}
-use Rattle.blast_rule.specs.Runs.{shape, given_shape, ending}
-use Rattle.blast_value.proofs.Kept.{AllOwn-kept}
-use Rattle.blast_term.specs.Scope.{holds}
-use Rattle.blast_term.proofs.Kept.{scope_own-kept}
+use Rattle.blast_rule.proofs.Common.{◌≡◌, ◌<◌, ◌-◌, ◌+◌, [], length, map, take, refl, ap, subst, ◌∙◌, arith, length-map, length_push, All-push, Adds-none, Adds-trans, Adds-weaken, Follows, holding_source, temporaries_of, ValuesFit-none, source_next, Contains-take, IsOwn, shape, given_shape, ending, AllOwn-kept, holds, scope_own-kept}
 use Rattle.blast_rule.proofs.Kept.{given-kept}
 use Rattle.blast_rule.proofs.Runs.{run_gates-more, run_gates-turn, shapes_fit-push, stands, own_none, source_more, held_after}
 use Rattle.blast_rule.proofs.temporaries.blast_temporaries.Goals as goal

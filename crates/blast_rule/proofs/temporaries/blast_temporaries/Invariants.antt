@@ -1,12 +1,4 @@
-use Rattle.std.proofs.Common.{◌≡◌, Bool, List, [], length, take, map}
-use Rattle.std.specs.List.{All}
-use Rattle.circuits.specs.Circuit.{Adds}
-use Rattle.rule_core.specs.Run.{Given, Follows, holding_source}
-use Rattle.rule_core.specs.Readiness.{ValuesFit}
-use Rattle.blast_value.specs.Effect.{IsOwn}
-use Rattle.blast_rule.specs.Gates.{run_gates}
-use Rattle.blast_rule.specs.Runs.{shape, ending, IsGiven}
-use Rattle.blast_term.specs.Scope.{holds}
+use Rattle.blast_rule.proofs.Common.{◌≡◌, Bool, List, [], length, take, map, All, Adds, Given, Follows, holding_source, ValuesFit, IsOwn, run_gates, shape, ending, IsGiven, holds}
 use Rattle.blast_rule.proofs.temporaries.blast_temporaries.Given as goal
 
 abbrev pub invariant-loop-place : goal.invariant-loop-place

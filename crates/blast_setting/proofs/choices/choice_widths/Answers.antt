@@ -1,9 +1,4 @@
-use Rattle.std.proofs.Common.{List, sym, ap, subst, ◌∙◌}
-use Rattle.std.proofs.lemmas.List.{take_all}
-use Rattle.rule_core.specs.declared.rule.Statement.{Statement}
-use Rattle.rule_core.specs.Positions.{choices_among}
-use Rattle.blast_setting.specs.Inputs.{widths_chosen}
-use Rattle.blast_setting.specs.Names.{HaveWidths}
+use Rattle.blast_setting.proofs.Common.{List, sym, ap, subst, ◌∙◌, take_all, Statement, choices_among, widths_chosen, HaveWidths}
 use Rattle.blast_setting.proofs.ChosenWidths.{statement_widths, widths-more}
 use Rattle.blast_setting.proofs.choices.choice_widths.Goals as goal
 

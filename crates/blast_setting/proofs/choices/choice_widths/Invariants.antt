@@ -1,6 +1,4 @@
-use Rattle.std.proofs.Common.{◌≡◌, take}
-use Rattle.rule_core.specs.Positions.{choices_among}
-use Rattle.blast_setting.specs.Inputs.{widths_chosen}
+use Rattle.blast_setting.proofs.Common.{◌≡◌, take, choices_among, widths_chosen}
 use Rattle.blast_setting.proofs.choices.choice_widths.Given as goal
 
 abbrev pub invariant-loop-statement : goal.invariant-loop-statement

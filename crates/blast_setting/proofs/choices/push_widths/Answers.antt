@@ -1,7 +1,4 @@
-use Rattle.std.proofs.Common.{List, [], ◌∷◌, ◌++◌, take, sym, ap, ◌∙◌, append_assoc, append-nil, get_or}
-use Rattle.std.proofs.lemmas.List.{take_all}
-use Rattle.rule_core.specs.declared.rule.Choice.{Choice}
-use Rattle.blast_setting.specs.Inputs.{widths_chosen}
+use Rattle.blast_setting.proofs.Common.{List, [], ◌∷◌, ◌++◌, take, sym, ap, ◌∙◌, append_assoc, append-nil, get_or, take_all, Choice, widths_chosen}
 use Rattle.blast_setting.proofs.ChosenWidths.{width_indexed, widths-one_more}
 use Rattle.blast_setting.proofs.choices.push_widths.Goals as goal
 

@@ -1,5 +1,4 @@
-use Rattle.std.proofs.Common.{◌≡◌, ◌++◌, take}
-use Rattle.blast_setting.specs.Inputs.{widths_chosen}
+use Rattle.blast_setting.proofs.Common.{◌≡◌, ◌++◌, take, widths_chosen}
 use Rattle.blast_setting.proofs.choices.push_widths.Given as goal
 
 abbrev pub invariant-loop-choice : goal.invariant-loop-choice

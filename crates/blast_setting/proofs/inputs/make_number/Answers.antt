@@ -1,4 +1,4 @@
-use Rattle.std.proofs.Common.{◌≡◌, arith}
+use Rattle.blast_setting.proofs.Common.{◌≡◌, arith}
 use Rattle.blast_setting.proofs.Making.{made_more, made_number}
 use Rattle.blast_setting.proofs.inputs.make_number.Goals as goal
 

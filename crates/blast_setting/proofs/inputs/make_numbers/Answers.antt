@@ -1,14 +1,4 @@
-use Rattle.std.proofs.Common.{◌≡◌, List, length, Some, refl, ◌∙◌}
-use Rattle.std.specs.Prelude.{slice_get}
-use Rattle.std.proofs.lemmas.Option.{slice_get_read}
-use Rattle.std.specs.List.{All}
-use Rattle.circuits.specs.Circuit.{Keeps}
-use Rattle.circuits.proofs.Kept.{All-kept}
-use Rattle.blast_value.specs.Words.{number_held}
-use Rattle.blast_value.proofs.Kept.{number_held-kept}
-use Rattle.blast_setting.specs.Inputs.{number_bits}
-use Rattle.blast_setting.specs.Settings.{number_read}
-use Rattle.circuits.proofs.Kept.{Keeps-trans, Keeps-refl}
+use Rattle.blast_setting.proofs.Common.{◌≡◌, List, length, Some, refl, ◌∙◌, slice_get, slice_get_read, All, Keeps, All-kept, number_held, number_held-kept, number_bits, number_read, Keeps-trans, Keeps-refl}
 use Rattle.blast_setting.proofs.Making.{all_made_none, all_made_more, all_made_widths, all_made_behind, all_made_read}
 use Rattle.blast_setting.proofs.inputs.make_numbers.Goals as goal
 

@@ -1,11 +1,4 @@
-use Rattle.std.proofs.Common.{◌≡◌, List, length}
-use Rattle.std.specs.List.{All}
-use Rattle.circuits.specs.Circuit.{Keeps}
-use Rattle.circuits.proofs.Kept.{All-kept}
-use Rattle.blast_value.specs.Words.{number_held}
-use Rattle.blast_value.proofs.Kept.{number_held-kept}
-use Rattle.blast_setting.specs.Inputs.{number_bits}
-use Rattle.blast_setting.specs.Settings.{number_read}
+use Rattle.blast_setting.proofs.Common.{◌≡◌, List, length, All, Keeps, All-kept, number_held, number_held-kept, number_bits, number_read}
 use Rattle.blast_setting.proofs.Making.{AllMade}
 use Rattle.blast_setting.proofs.inputs.make_numbers.Given as goal
 

@@ -1,7 +1,5 @@
-use Rattle.std.proofs.Common.{drop, sym, ap, ◌∙◌}
-use Rattle.std.proofs.lemmas.List.{drop-drop}
+use Rattle.blast_setting.proofs.Common.{drop, sym, ap, ◌∙◌, drop-drop, number_held-kept}
 use Rattle.blast_setting.proofs.Words.{get_or-behind}
-use Rattle.blast_value.proofs.Kept.{number_held-kept}
 use Rattle.blast_setting.proofs.Making.{poison_made}
 use Rattle.blast_setting.proofs.inputs.make_value.Goals as goal
 

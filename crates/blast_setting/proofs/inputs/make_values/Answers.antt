@@ -1,13 +1,4 @@
-use Rattle.std.proofs.Common.{◌≡◌, length, Some, refl, ◌∙◌}
-use Rattle.std.specs.Prelude.{slice_get}
-use Rattle.std.proofs.lemmas.Option.{slice_get_read}
-use Rattle.circuits.specs.Circuit.{Keeps}
-use Rattle.blast_value.specs.declared.held.Held.{Held}
-use Rattle.blast_value.specs.Effect.{held_value, IsOwn}
-use Rattle.blast_value.proofs.Kept.{IsOwn-kept, held_value-kept}
-use Rattle.blast_setting.specs.Inputs.{value_bits}
-use Rattle.blast_setting.specs.Settings.{value_read}
-use Rattle.circuits.proofs.Kept.{Keeps-trans, Keeps-refl}
+use Rattle.blast_setting.proofs.Common.{◌≡◌, length, Some, refl, ◌∙◌, slice_get, slice_get_read, Keeps, Held, held_value, IsOwn, IsOwn-kept, held_value-kept, value_bits, value_read, Keeps-trans, Keeps-refl}
 use Rattle.blast_setting.proofs.Making.{all_made_none, all_made_more, all_made_widths, all_made_behind, all_made_read}
 use Rattle.blast_setting.proofs.inputs.make_values.Goals as goal
 

@@ -1,10 +1,4 @@
-use Rattle.std.proofs.Common.{◌≡◌, length}
-use Rattle.circuits.specs.Circuit.{Keeps}
-use Rattle.blast_value.specs.declared.held.Held.{Held}
-use Rattle.blast_value.specs.Effect.{held_value, IsOwn}
-use Rattle.blast_value.proofs.Kept.{IsOwn-kept, held_value-kept}
-use Rattle.blast_setting.specs.Inputs.{value_bits}
-use Rattle.blast_setting.specs.Settings.{value_read}
+use Rattle.blast_setting.proofs.Common.{◌≡◌, length, Keeps, Held, held_value, IsOwn, IsOwn-kept, held_value-kept, value_bits, value_read}
 use Rattle.blast_setting.proofs.Making.{AllMade}
 use Rattle.blast_setting.proofs.inputs.make_values.Given as goal
 

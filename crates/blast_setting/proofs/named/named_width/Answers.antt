@@ -1,8 +1,4 @@
-use Rattle.std.proofs.Common.{◌+◌, Some, sym, ap, ◌∙◌, arith, drop}
-use Rattle.std.proofs.lemmas.Option.{slice_get-get_or, get_or_from_slice_get}
-use Rattle.std.specs.List.{find}
-use Rattle.std.specs.Option.{option_or}
-use Rattle.rule_core.specs.Positions.{operands_of, operands_among}
+use Rattle.blast_setting.proofs.Common.{◌+◌, Some, sym, ap, ◌∙◌, arith, drop, slice_get-get_or, get_or_from_slice_get, find, option_or, operands_of, operands_among}
 use Rattle.blast_setting.proofs.Widths.{test, naming_class, none_names, find-next, no_end}
 use Rattle.blast_setting.proofs.named.named_width.Goals as goal
 

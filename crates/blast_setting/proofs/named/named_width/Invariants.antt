@@ -1,6 +1,4 @@
-use Rattle.std.proofs.Common.{◌≡◌, drop}
-use Rattle.std.specs.List.{find}
-use Rattle.rule_core.specs.Positions.{operands_among}
+use Rattle.blast_setting.proofs.Common.{◌≡◌, drop, find, operands_among}
 use Rattle.blast_setting.proofs.Widths.{test}
 use Rattle.blast_setting.proofs.named.named_width.Given as goal
 

@@ -1,6 +1,4 @@
-use Rattle.std.proofs.Common.{sym, ◌∙◌, arith}
-use Rattle.std.proofs.lemmas.List.{take_all}
-use Rattle.blast_setting.specs.Inputs.{named_widths}
+use Rattle.blast_setting.proofs.Common.{sym, ◌∙◌, arith, take_all, named_widths}
 use Rattle.blast_setting.proofs.Widths.{length-named_widths}
 use Rattle.blast_setting.proofs.Settings.{named_widths-more}
 use Rattle.blast_setting.proofs.named.named_widths.Goals as goal

@@ -1,5 +1,4 @@
-use Rattle.std.proofs.Common.{◌≡◌, take}
-use Rattle.blast_setting.specs.Inputs.{named_widths}
+use Rattle.blast_setting.proofs.Common.{◌≡◌, take, named_widths}
 use Rattle.blast_setting.proofs.named.named_widths.Given as goal
 
 abbrev pub invariant-loop-k : goal.invariant-loop-k

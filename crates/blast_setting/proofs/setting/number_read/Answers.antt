@@ -1,6 +1,4 @@
-use Rattle.std.proofs.Common.{◌≡◌, ◌+◌, ◌*◌, ◌^◌, ◌<◌, ◌≤◌, sym, ap, ◌∙◌, add-one, arith}
-use Rattle.std.proofs.Math.Nat.{pow-succ', pow-le-pow_right}
-use Rattle.circuits.specs.Word.{bit}
+use Rattle.blast_setting.proofs.Common.{◌≡◌, ◌+◌, ◌*◌, ◌^◌, ◌<◌, ◌≤◌, sym, ap, ◌∙◌, add-one, arith, pow-succ', pow-le-pow_right, bit}
 use Rattle.blast_setting.proofs.Words.{number-take_one}
 use Rattle.blast_setting.proofs.setting.number_read.Goals as goal
 use Rattle.blast_setting.proofs.setting.number_read.Goals.{then-bit_at, else-bit_at}

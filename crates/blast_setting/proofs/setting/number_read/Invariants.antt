@@ -1,5 +1,4 @@
-use Rattle.std.proofs.Common.{◌≡◌, ◌^◌, ◌<◌, take}
-use Rattle.circuits.specs.Word.{number}
+use Rattle.blast_setting.proofs.Common.{◌≡◌, ◌^◌, ◌<◌, take, number}
 use Rattle.blast_setting.proofs.setting.number_read.Given as goal
 
 abbrev pub invariant-loop-i : goal.invariant-loop-i

@@ -1,9 +1,4 @@
-use Rattle.std.proofs.Common.{◌≡◌, length, Some, refl, ◌∙◌, arith}
-use Rattle.std.proofs.Math.Nat.{mod-eq_of_lt}
-use Rattle.std.specs.Prelude.{slice_get}
-use Rattle.blast_setting.specs.Inputs.{number_bits}
-use Rattle.blast_setting.specs.Settings.{number_read}
-use Rattle.std.proofs.lemmas.Option.{slice_get_read}
+use Rattle.blast_setting.proofs.Common.{◌≡◌, length, Some, refl, ◌∙◌, arith, mod-eq_of_lt, slice_get, number_bits, number_read, slice_get_read}
 use Rattle.blast_setting.proofs.ReadOn.{read_next, read_all, behind_all}
 use Rattle.blast_setting.proofs.setting.numbers_read.Goals as goal
 

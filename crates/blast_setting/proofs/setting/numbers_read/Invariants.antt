@@ -1,5 +1,4 @@
-use Rattle.blast_setting.specs.Inputs.{number_bits}
-use Rattle.blast_setting.specs.Settings.{number_read}
+use Rattle.blast_setting.proofs.Common.{number_bits, number_read}
 use Rattle.blast_setting.proofs.ReadOn.{ReadSoFar}
 use Rattle.blast_setting.proofs.setting.numbers_read.Given as goal
 

@@ -1,5 +1,4 @@
-use Rattle.std.proofs.Common.{◌≡◌, false, sym, ap, refl, ◌∙◌, get_or}
-use Rattle.std.proofs.Math.Nat.{mod-eq_of_lt}
+use Rattle.blast_setting.proofs.Common.{◌≡◌, false, sym, ap, refl, ◌∙◌, get_or, mod-eq_of_lt}
 use Rattle.blast_setting.proofs.setting.value_read.Goals as goal
 
 pub returns-else-bit_at : goal.returns-else-bit_at

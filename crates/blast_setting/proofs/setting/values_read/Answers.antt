@@ -1,8 +1,4 @@
-use Rattle.std.proofs.Common.{◌≡◌, length, Some, refl, arith}
-use Rattle.std.specs.Prelude.{slice_get}
-use Rattle.blast_setting.specs.Inputs.{value_bits}
-use Rattle.blast_setting.specs.Settings.{value_read}
-use Rattle.std.proofs.lemmas.Option.{slice_get_read}
+use Rattle.blast_setting.proofs.Common.{◌≡◌, length, Some, refl, arith, slice_get, value_bits, value_read, slice_get_read}
 use Rattle.blast_setting.proofs.ReadOn.{read_next, read_all, behind_all}
 use Rattle.blast_setting.proofs.setting.values_read.Goals as goal
 

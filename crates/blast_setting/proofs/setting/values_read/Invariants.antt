@@ -1,5 +1,4 @@
-use Rattle.blast_setting.specs.Inputs.{value_bits}
-use Rattle.blast_setting.specs.Settings.{value_read}
+use Rattle.blast_setting.proofs.Common.{value_bits, value_read}
 use Rattle.blast_setting.proofs.ReadOn.{ReadSoFar}
 use Rattle.blast_setting.proofs.setting.values_read.Given as goal
 

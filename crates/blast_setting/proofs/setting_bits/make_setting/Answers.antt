@@ -1,9 +1,4 @@
-use Rattle.std.proofs.Common.{◌∙◌}
-use Rattle.std.specs.List.{All}
-use Rattle.std.proofs.lemmas.List.Elements.{All-same}
-use Rattle.circuits.proofs.Kept.{Keeps-refl, Keeps-trans}
-use Rattle.blast_value.specs.Effect.{IsOwn}
-use Rattle.blast_value.proofs.Kept.{AllOwn-kept, AllAll-kept}
+use Rattle.blast_setting.proofs.Common.{◌∙◌, All, All-same, Keeps-refl, Keeps-trans, IsOwn, AllOwn-kept, AllAll-kept}
 use Rattle.blast_setting.proofs.Made.{at_end, setting_made}
 use Rattle.blast_setting.proofs.setting_bits.make_setting.Goals as goal
 

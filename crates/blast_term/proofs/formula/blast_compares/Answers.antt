@@ -1,13 +1,4 @@
-use Rattle.std.proofs.Common.{◌≡◌, false, ◌∷◌, [], if◌then◌else◌, length, ap, subst, ◌∙◌, arith}
-use Rattle.std.proofs.lemmas.Result.{IfOk-weaker}
-use Rattle.ops.specs.Comparison.{comparison}
-use Rattle.ops.specs.Integer.{bits}
-use Rattle.ops.specs.Value.{HasWidth}
-use Rattle.ops.specs.declared.value.Value.TheVariants.{Poison}
-use Rattle.ops.specs.declared.value.Effect.TheVariants.{Undefined, Gives}
-use Rattle.circuits.specs.Word.{number_of}
-use Rattle.circuits.proofs.Kept.{Adds-trans, Adds-weaken}
-use Rattle.blast_value.specs.Effect.{held_value, effect_of}
+use Rattle.blast_term.proofs.Common.{◌≡◌, false, ◌∷◌, [], if◌then◌else◌, length, ap, subst, ◌∙◌, arith, IfOk-weaker, comparison, bits, HasWidth, Poison, Undefined, Gives, number_of, Adds-trans, Adds-weaken, held_value, effect_of}
 use Rattle.blast_term.proofs.Comparing.{compares-value, one-word, held_value-width, two-widths}
 use Rattle.blast_term.proofs.formula.blast_compares.Goals as goal
 

@@ -1,9 +1,4 @@
-use Rattle.std.proofs.Common.{◌≤◌, ◌∙◌, sym, subst, length, arith}
-use Rattle.std.proofs.lemmas.Result.{IfOk-weaker}
-use Rattle.circuits.proofs.Kept.{Adds-refl, Adds-weaken}
-use Rattle.blast_value.specs.Effect.{widths_of, IsOwn}
-use Rattle.blast_term.specs.Gates.{comparing_gates, power_test_gates, sign_test_gates, formula_gates}
-use Rattle.blast_term.specs.Terms.{FormulaIsHeld}
+use Rattle.blast_term.proofs.Common.{◌≤◌, ◌∙◌, sym, subst, length, arith, IfOk-weaker, Adds-refl, Adds-weaken, widths_of, IsOwn, comparing_gates, power_test_gates, sign_test_gates, formula_gates, FormulaIsHeld}
 use Rattle.blast_term.proofs.Formulas.{width_read, compare-holds, power-holds, sign-holds, not-holds, and-holds, or-holds}
 use Rattle.blast_term.proofs.Turns.{own_from_get, held_there, width_chosen}
 use Rattle.blast_term.proofs.formula.blast_formula.Goals as goal

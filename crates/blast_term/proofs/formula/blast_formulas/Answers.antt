@@ -1,17 +1,5 @@
-use Rattle.std.proofs.Common.{◌≡◌, ℕ, get_or, List, Some, ◌+◌, ◌<◌, ◌∷◌, [], length, map, take, refl, sym, ap, ◌∙◌, arith}
-use Rattle.std.specs.Prelude.{slice_get}
-use Rattle.std.proofs.lemmas.List.{map-append, length_push, take_all}
-use Rattle.std.proofs.lemmas.Option.{slice_get-get_or, get_or_from_slice_get}
-use Rattle.ops.specs.declared.comparison.Pred.TheVariants.{Eq}
-use Rattle.rule_core.specs.declared.rule.Formula.{Formula}
+use Rattle.blast_term.proofs.Common.{◌≡◌, ℕ, get_or, List, Some, ◌+◌, ◌<◌, ◌∷◌, [], length, map, take, refl, sym, ap, ◌∙◌, arith, slice_get, map-append, length_push, take_all, slice_get-get_or, get_or_from_slice_get, Eq, Formula, All-push, Adds-none, Adds-trans, Adds-weaken, All-kept, map-kept, formula_holds, truths_of, in_turn-step, held_value, widths_of, formula_gates, AllOwn-kept, values-kept}
 use Rattle.rule_core.specs.declared.rule.Formula.TheVariants as formulas
-use Rattle.std.proofs.lemmas.List.Elements.{All-push}
-use Rattle.circuits.proofs.Kept.{Adds-none, Adds-trans, Adds-weaken, All-kept, map-kept}
-use Rattle.rule_core.specs.Terms.{formula_holds, truths_of}
-use Rattle.rule_core.proofs.Turns.{in_turn-step}
-use Rattle.blast_value.specs.Effect.{held_value, widths_of}
-use Rattle.blast_term.specs.Gates.{formula_gates}
-use Rattle.blast_value.proofs.Kept.{AllOwn-kept, values-kept}
 use Rattle.blast_term.proofs.Turns.{sum-more, sum-fewer}
 use Rattle.blast_term.proofs.formula.blast_formulas.Goals as goal
 

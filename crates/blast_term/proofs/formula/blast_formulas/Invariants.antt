@@ -1,9 +1,4 @@
-use Rattle.std.proofs.Common.{◌≡◌, Bool, List, map, take, length}
-use Rattle.std.specs.List.{All}
-use Rattle.circuits.specs.Circuit.{Adds}
-use Rattle.rule_core.specs.Terms.{truths_of}
-use Rattle.blast_value.specs.Effect.{held_value, widths_of}
-use Rattle.blast_term.specs.Gates.{formulas_gates}
+use Rattle.blast_term.proofs.Common.{◌≡◌, Bool, List, map, take, length, All, Adds, truths_of, held_value, widths_of, formulas_gates}
 use Rattle.blast_term.proofs.formula.blast_formulas.Given as goal
 
 abbrev pub invariant-loop-formula : goal.invariant-loop-formula

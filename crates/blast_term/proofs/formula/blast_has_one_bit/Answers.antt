@@ -1,7 +1,4 @@
-use Rattle.std.proofs.Common.{length, ◌∙◌}
-use Rattle.std.proofs.lemmas.Result.{IfOk-weaker}
-use Rattle.circuits.specs.Word.{number_of}
-use Rattle.circuits.proofs.Kept.{Adds-trans}
+use Rattle.blast_term.proofs.Common.{length, ◌∙◌, IfOk-weaker, number_of, Adds-trans}
 use Rattle.blast_term.proofs.Tests.{one_bit-held}
 use Rattle.blast_term.proofs.formula.blast_has_one_bit.Goals as goal
 

@@ -1,8 +1,4 @@
-use Rattle.std.proofs.Common.{◌==◌, ◌-◌, ◌^◌, length, ap, ◌∙◌, arith}
-use Rattle.std.proofs.lemmas.Result.{IfOk-weaker}
-use Rattle.circuits.specs.Word.{number_of}
-use Rattle.circuits.proofs.Kept.{Adds-trans}
-use Rattle.rule_core.proofs.Exponents.{shifted}
+use Rattle.blast_term.proofs.Common.{◌==◌, ◌-◌, ◌^◌, length, ap, ◌∙◌, arith, IfOk-weaker, number_of, Adds-trans, shifted}
 use Rattle.blast_term.proofs.Tests.{sign_bit-held}
 use Rattle.blast_term.proofs.formula.blast_is_sign_bit.Goals as goal
 

@@ -1,9 +1,4 @@
-use Rattle.std.proofs.Common.{◌≡◌, ◌<◌, IsTrue, ◌↔◌, ◌&&◌, not, map, length, take, ap, subst, sym, ◌∙◌, arith}
-use Rattle.std.proofs.lemmas.List.{take_all, length-map}
-use Rattle.circuits.proofs.Kept.{Adds-trans, Adds-weaken, own_at}
-use Rattle.rule_core.specs.Terms.{last_holds, truths_of}
-use Rattle.blast_value.specs.declared.held.Held.{Held}
-use Rattle.blast_value.specs.Effect.{held_value, IsOwn}
+use Rattle.blast_term.proofs.Common.{◌≡◌, ◌<◌, IsTrue, ◌↔◌, ◌&&◌, not, map, length, take, ap, subst, sym, ◌∙◌, arith, take_all, length-map, Adds-trans, Adds-weaken, own_at, last_holds, truths_of, Held, held_value, IsOwn}
 use Rattle.blast_term.proofs.Preconditions.{AllNumbers, met_more, precondition_met}
 use Rattle.blast_term.proofs.Turns.{map-more}
 use Rattle.blast_term.proofs.formula.blast_precondition.Goals as goal

@@ -1,8 +1,4 @@
-use Rattle.std.proofs.Common.{Bool, List, IsTrue, ◌↔◌, ◌+◌, take, map}
-use Rattle.circuits.specs.Circuit.{Adds}
-use Rattle.rule_core.specs.Terms.{last_holds, truths_of}
-use Rattle.blast_value.specs.Effect.{held_value, widths_of}
-use Rattle.blast_term.specs.Gates.{formulas_gates}
+use Rattle.blast_term.proofs.Common.{Bool, List, IsTrue, ◌↔◌, ◌+◌, take, map, Adds, last_holds, truths_of, held_value, widths_of, formulas_gates}
 use Rattle.blast_term.proofs.Preconditions.{AllNumbers}
 use Rattle.blast_term.proofs.formula.blast_precondition.Given as goal
 

@@ -1,11 +1,4 @@
-use Rattle.std.proofs.Common.{ap, sym, ◌∙◌}
-use Rattle.std.proofs.lemmas.Result.{IfOk-weaker}
-use Rattle.ops.specs.Flags.{no_flags}
-use Rattle.ops.specs.Integer.{bits}
-use Rattle.ops.specs.Instruction.{instruction}
-use Rattle.ops.specs.declared.opcode.Opcode.TheVariants.{Xor}
-use Rattle.rule_core.specs.Terms.{value_given, function_value}
-use Rattle.blast_value.specs.Effect.{held_value}
+use Rattle.blast_term.proofs.Common.{ap, sym, ◌∙◌, IfOk-weaker, no_flags, bits, instruction, Xor, value_given, function_value, held_value}
 use Rattle.blast_term.proofs.Functions.{negate-held, not-held}
 use Rattle.blast_term.proofs.function.blast_function.Goals as goal
 

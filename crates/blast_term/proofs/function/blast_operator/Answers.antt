@@ -1,10 +1,4 @@
-use Rattle.std.proofs.Common.{◌≡◌, ◌||◌, length, refl, ap, ◌∙◌, arith}
-use Rattle.ops.specs.Flags.{no_flags}
-use Rattle.ops.specs.Instruction.{instruction}
-use Rattle.circuits.specs.Word.{number, number_of}
-use Rattle.circuits.proofs.Kept.{All-kept, map-kept, Adds-trans, Adds-weaken}
-use Rattle.rule_core.specs.Terms.{value_given}
-use Rattle.blast_value.specs.Effect.{held_value, effect_of}
+use Rattle.blast_term.proofs.Common.{◌≡◌, ◌||◌, length, refl, ap, ◌∙◌, arith, no_flags, instruction, number, number_of, All-kept, map-kept, Adds-trans, Adds-weaken, value_given, held_value, effect_of}
 use Rattle.blast_term.proofs.Functions.{value_or_poison, given-value}
 use Rattle.blast_term.proofs.function.blast_operator.Goals as goal
 

@@ -1,10 +1,4 @@
-use Rattle.std.proofs.Common.{◌-◌, ◌^◌, nat_lt, ap, subst, ◌∙◌, arith}
-use Rattle.std.proofs.lemmas.Result.{IfOk-weaker}
-use Rattle.circuits.specs.Circuit.{Adds}
-use Rattle.circuits.specs.Gates.{comparison_gates}
-use Rattle.circuits.specs.Word.{number_of}
-use Rattle.circuits.proofs.Kept.{Adds-none}
-use Rattle.rule_core.proofs.Exponents.{shifted}
+use Rattle.blast_term.proofs.Common.{◌-◌, ◌^◌, nat_lt, ap, subst, ◌∙◌, arith, IfOk-weaker, Adds, comparison_gates, number_of, Adds-none, shifted}
 use Rattle.blast_term.proofs.function.is_below_least.Goals as goal
 
 pub less_unsigned-requires-clause-same_width : goal.less_unsigned-requires-clause-same_width

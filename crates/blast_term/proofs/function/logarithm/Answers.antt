@@ -1,7 +1,4 @@
-use Rattle.std.proofs.Common.{◌≡◌, not, ◌||◌, if◌then◌else◌, length, Some, None, ap, sym, ◌∙◌, arith}
-use Rattle.circuits.specs.Word.{number, number_of}
-use Rattle.circuits.proofs.Kept.{Adds-trans, Adds-weaken, All-kept, map-kept}
-use Rattle.rule_core.specs.Terms.{exponent}
+use Rattle.blast_term.proofs.Common.{◌≡◌, not, ◌||◌, if◌then◌else◌, length, Some, None, ap, sym, ◌∙◌, arith, number, number_of, Adds-trans, Adds-weaken, All-kept, map-kept, exponent}
 use Rattle.blast_term.proofs.Functions.{value_or_poison, log-value}
 use Rattle.blast_term.proofs.function.logarithm.Goals as goal
 

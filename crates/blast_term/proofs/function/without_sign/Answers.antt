@@ -1,11 +1,4 @@
-use Rattle.std.proofs.Common.{◌≡◌, ◌≤◌, ◌+◌, nat_lt, length, ap, ◌∙◌, arith}
-use Rattle.std.proofs.lemmas.Result.{IfOk-weaker}
-use Rattle.ops.specs.Integer.{least}
-use Rattle.circuits.specs.Word.{number, number_of}
-use Rattle.circuits.specs.Gates.{adder_gates, comparison_gates, select_gates}
-use Rattle.circuits.proofs.Kept.{Adds-trans, Adds-weaken, Keeps-trans, All-kept, map-kept}
-use Rattle.rule_core.specs.declared.rule.Function.TheVariants.{Abs}
-use Rattle.blast_term.specs.Gates.{function_gates}
+use Rattle.blast_term.proofs.Common.{◌≡◌, ◌≤◌, ◌+◌, nat_lt, length, ap, ◌∙◌, arith, IfOk-weaker, least, number, number_of, adder_gates, comparison_gates, select_gates, Adds-trans, Adds-weaken, Keeps-trans, All-kept, map-kept, Abs, function_gates}
 use Rattle.blast_term.proofs.Functions.{sign-choice}
 use Rattle.blast_term.proofs.function.without_sign.Goals as goal
 

@@ -1,9 +1,4 @@
-use Rattle.std.proofs.Common.{◌≡◌, length, replicate, sym, ap, ◌∙◌}
-use Rattle.std.proofs.lemmas.List.{length-replicate}
-use Rattle.std.proofs.lemmas.List.Elements.{All-replicate}
-use Rattle.std.proofs.lemmas.Result.{IfOk-weaker}
-use Rattle.circuits.specs.Word.{number}
-use Rattle.circuits.proofs.Kept.{Adds-none}
+use Rattle.blast_term.proofs.Common.{◌≡◌, length, replicate, sym, ap, ◌∙◌, length-replicate, All-replicate, IfOk-weaker, number, Adds-none}
 use Rattle.blast_term.proofs.Functions.{or_zero-word}
 use Rattle.blast_term.proofs.numbers.number_or_zero.Goals as goal
 

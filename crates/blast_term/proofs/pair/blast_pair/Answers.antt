@@ -1,12 +1,4 @@
-use Rattle.std.proofs.Common.{[], ◌∷◌, map, subst}
-use Rattle.std.specs.List.{All}
-use Rattle.std.proofs.lemmas.List.Elements.{All-from_recursion}
-use Rattle.std.proofs.lemmas.Result.{IfOk-weaker}
-use Rattle.circuits.specs.Circuit.{Adds}
-use Rattle.circuits.proofs.Kept.{Adds-none}
-use Rattle.blast_value.specs.Effect.{held_value, effect_of, widths_of, IsOwn}
-use Rattle.blast_value.specs.Gates.{gates_of, greatest}
-use Rattle.blast_value.specs.Meaning.{HasEffect}
+use Rattle.blast_term.proofs.Common.{[], ◌∷◌, map, subst, All, All-from_recursion, IfOk-weaker, Adds, Adds-none, held_value, effect_of, widths_of, IsOwn, gates_of, greatest, HasEffect}
 use Rattle.blast_term.proofs.pair.blast_pair.Goals as goal
 
 pub blast_value-requires-clause-operands : goal.blast_value-requires-clause-operands

@@ -1,6 +1,4 @@
-use Rattle.std.proofs.Common.{◌≡◌, length, ap, ◌∙◌, arith}
-use Rattle.circuits.specs.Word.{bit, number_of}
-use Rattle.circuits.proofs.Kept.{Adds-weaken}
+use Rattle.blast_term.proofs.Common.{◌≡◌, length, ap, ◌∙◌, arith, bit, number_of, Adds-weaken}
 use Rattle.blast_term.proofs.Functions.{places-told}
 use Rattle.blast_term.proofs.power.blast_exponent.Goals as goal
 

@@ -1,13 +1,4 @@
-use Rattle.std.proofs.Common.{◌≡◌, ℕ, ◌*◌, ◌^◌, ◌<◌, ◌≤◌, ◌∙◌, if◌then◌else◌, Some, None, length, map, take, not, ◌&&◌, ap, sym, subst, arith}
-use Rattle.std.proofs.lemmas.Nat.{pow_pos}
-use Rattle.std.proofs.lemmas.List.{length-map, length-take, take_all}
-use Rattle.circuits.specs.declared.state.State.{Ghosts}
-use Rattle.circuits.specs.Circuit.{Adds}
-use Rattle.circuits.specs.Word.{number, number_of}
-use Rattle.circuits.proofs.Kept.{Adds-refl, Adds-trans, Adds-weaken, Keeps-trans, All-kept, map-kept, own_at}
-use Rattle.circuits.proofs.Words.{number-below, number-take_more}
-use Rattle.rule_core.specs.Terms.{exponent}
-use Rattle.blast_term.specs.Gates.{power_gates}
+use Rattle.blast_term.proofs.Common.{◌≡◌, ℕ, ◌*◌, ◌^◌, ◌<◌, ◌≤◌, ◌∙◌, if◌then◌else◌, Some, None, length, map, take, not, ◌&&◌, ap, sym, subst, arith, pow_pos, length-map, length-take, take_all, Ghosts, Adds, number, number_of, Adds-refl, Adds-trans, Adds-weaken, Keeps-trans, All-kept, map-kept, own_at, number-below, number-take_more, exponent, power_gates}
 use Rattle.blast_term.proofs.Powers.{scanned-none, scanned-more, scanned-exponent}
 use Rattle.blast_term.proofs.power.place.Goals as goal
 

@@ -1,7 +1,4 @@
-use Rattle.std.proofs.Common.{◌≡◌, ◌*◌, Bool, List, take, length}
-use Rattle.std.specs.List.{All}
-use Rattle.circuits.specs.Circuit.{Adds}
-use Rattle.circuits.specs.Word.{number_of}
+use Rattle.blast_term.proofs.Common.{◌≡◌, ◌*◌, Bool, List, take, length, All, Adds, number_of}
 use Rattle.blast_term.proofs.Powers.{Scanned}
 use Rattle.blast_term.proofs.power.place.Given as goal
 

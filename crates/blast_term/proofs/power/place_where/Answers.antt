@@ -1,8 +1,4 @@
-use Rattle.std.proofs.Common.{◌≡◌, if◌then◌else◌, length, map, sym, ap, ◌∙◌}
-use Rattle.std.proofs.lemmas.Result.{IfOk-weaker}
-use Rattle.circuits.specs.Gates.{select_gates}
-use Rattle.circuits.specs.Word.{number, number_of}
-use Rattle.circuits.proofs.Kept.{Adds-none}
+use Rattle.blast_term.proofs.Common.{◌≡◌, if◌then◌else◌, length, map, sym, ap, ◌∙◌, IfOk-weaker, select_gates, number, number_of, Adds-none}
 use Rattle.blast_term.proofs.Powers.{number-if}
 use Rattle.blast_term.proofs.power.place_where.Goals as goal
 

@@ -1,15 +1,4 @@
-use Rattle.std.proofs.Common.{◌≤◌, ◌+◌, ◌∙◌, ap, sym, subst, map, length, refl, arith}
-use Rattle.std.specs.Prelude.{slice_index}
-use Rattle.std.specs.List.{All}
-use Rattle.std.proofs.lemmas.Option.{slice_get_within}
-use Rattle.std.proofs.lemmas.Result.{IfOk-weaker}
-use Rattle.circuits.specs.Gates.{select_gates}
-use Rattle.circuits.proofs.Kept.{Adds-refl, Adds-weaken}
-use Rattle.blast_value.specs.Effect.{held_value, widths_of, IsOwn}
-use Rattle.blast_value.specs.Gates.{opcode_gates}
-use Rattle.rule_core.specs.Terms.{node_gives, within}
-use Rattle.blast_term.specs.Gates.{function_gates, term_gates}
-use Rattle.blast_term.specs.Terms.{NodeIsHeld}
+use Rattle.blast_term.proofs.Common.{◌≤◌, ◌+◌, ◌∙◌, ap, sym, subst, map, length, refl, arith, slice_index, All, slice_get_within, IfOk-weaker, select_gates, Adds-refl, Adds-weaken, held_value, widths_of, IsOwn, opcode_gates, node_gives, within, function_gates, term_gates, NodeIsHeld}
 use Rattle.blast_term.proofs.Nodes.{width_of_word, width_of_register, register_own, constant-value, choice-value, register-value, unary-value}
 use Rattle.blast_term.proofs.Formulas.{width_read}
 use Rattle.blast_term.proofs.Turns.{binary-value, own_from_get, held_there}

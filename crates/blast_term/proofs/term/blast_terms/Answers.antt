@@ -1,18 +1,5 @@
-use Rattle.std.proofs.Common.{◌≡◌, ℕ, pos, get_or, List, ◌+◌, ◌<◌, ◌∷◌, [], Some, length, take, refl, sym, ap, subst, ◌∙◌, arith}
-use Rattle.std.specs.Prelude.{slice_get, slice_index}
-use Rattle.std.proofs.lemmas.List.{map-append, take_all}
-use Rattle.std.proofs.lemmas.Option.{slice_get-get_or, get_or_from_slice_get}
+use Rattle.blast_term.proofs.Common.{◌≡◌, ℕ, pos, get_or, List, ◌+◌, ◌<◌, ◌∷◌, [], Some, length, take, refl, sym, ap, subst, ◌∙◌, arith, slice_get, slice_index, map-append, take_all, slice_get-get_or, get_or_from_slice_get, All-push, Adds-none, Adds-trans, Adds-weaken, Term, term_value, values_of, in_turn-step, Held, held_value, IsOwn, term_gates, TermIsHeld, term_widths, AllOwn-kept, values-kept}
 use Rattle.rule_core.specs.declared.rule.Node.TheVariants as nodes
-use Rattle.std.proofs.lemmas.List.Elements.{All-push}
-use Rattle.circuits.proofs.Kept.{Adds-none, Adds-trans, Adds-weaken}
-use Rattle.rule_core.specs.declared.rule.Term.{Term}
-use Rattle.rule_core.specs.Terms.{term_value, values_of}
-use Rattle.rule_core.proofs.Turns.{in_turn-step}
-use Rattle.blast_value.specs.declared.held.Held.{Held}
-use Rattle.blast_value.specs.Effect.{held_value, IsOwn}
-use Rattle.blast_term.specs.Gates.{term_gates}
-use Rattle.blast_term.specs.Terms.{TermIsHeld, term_widths}
-use Rattle.blast_value.proofs.Kept.{AllOwn-kept, values-kept}
 use Rattle.blast_term.proofs.Kept.{scope_own-kept, names-kept}
 use Rattle.blast_term.proofs.Turns.{sum-more, sum-fewer, map-more, take-map}
 use Rattle.blast_term.proofs.term.blast_terms.Goals as goal

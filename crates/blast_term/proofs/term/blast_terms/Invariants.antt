@@ -1,10 +1,4 @@
-use Rattle.std.proofs.Common.{◌≡◌, Bool, List, map, take}
-use Rattle.std.specs.List.{All}
-use Rattle.circuits.specs.Circuit.{Adds}
-use Rattle.rule_core.specs.Terms.{Meanings, values_of}
-use Rattle.blast_value.specs.Effect.{held_value, widths_of, IsOwn}
-use Rattle.blast_term.specs.Gates.{terms_gates}
-use Rattle.blast_term.specs.Terms.{MeansNames, term_widths}
+use Rattle.blast_term.proofs.Common.{◌≡◌, Bool, List, map, take, All, Adds, Meanings, values_of, held_value, widths_of, IsOwn, terms_gates, MeansNames, term_widths}
 use Rattle.blast_term.proofs.term.blast_terms.Given as goal
 
 abbrev pub invariant-loop-term : goal.invariant-loop-term

@@ -1,13 +1,4 @@
-use Rattle.std.proofs.Common.{◌≡◌, ◌+◌, ◌<◌, ◌∷◌, [], length, map, take, refl, sym, ap, ◌∙◌, arith}
-use Rattle.std.specs.List.{All}
-use Rattle.std.proofs.lemmas.List.{map-append, take_all}
-use Rattle.std.proofs.lemmas.List.Elements.{All-push}
-use Rattle.circuits.specs.Word.{number_of}
-use Rattle.circuits.proofs.Kept.{Adds-none, Adds-trans, Adds-weaken, own_at}
-use Rattle.rule_core.specs.Terms.{number_or_zero}
-use Rattle.blast_value.specs.declared.held.Held.{Held}
-use Rattle.blast_value.specs.Effect.{held_value, widths_of, IsOwn}
-use Rattle.blast_value.proofs.Kept.{AllAll-kept, numbers_of-kept, held_value-kept, IsOwn-kept}
+use Rattle.blast_term.proofs.Common.{◌≡◌, ◌+◌, ◌<◌, ◌∷◌, [], length, map, take, refl, sym, ap, ◌∙◌, arith, All, map-append, take_all, All-push, number_of, Adds-none, Adds-trans, Adds-weaken, own_at, number_or_zero, Held, held_value, widths_of, IsOwn, AllAll-kept, numbers_of-kept, held_value-kept, IsOwn-kept}
 use Rattle.blast_term.proofs.Turns.{map-more, numbers_gates-more, numbers_gates-fewer}
 use Rattle.blast_term.proofs.term.numbers_or_zeros.Goals as goal
 

@@ -1,10 +1,4 @@
-use Rattle.std.proofs.Common.{◌≡◌, Bool, List, map, take, length}
-use Rattle.std.specs.List.{All}
-use Rattle.circuits.specs.Circuit.{Adds}
-use Rattle.circuits.specs.Word.{number_of}
-use Rattle.rule_core.specs.Terms.{number_or_zero}
-use Rattle.blast_value.specs.Effect.{held_value, widths_of}
-use Rattle.blast_term.specs.Gates.{numbers_gates}
+use Rattle.blast_term.proofs.Common.{◌≡◌, Bool, List, map, take, length, All, Adds, number_of, number_or_zero, held_value, widths_of, numbers_gates}
 use Rattle.blast_term.proofs.term.numbers_or_zeros.Given as goal
 
 abbrev pub invariant-loop-value : goal.invariant-loop-value

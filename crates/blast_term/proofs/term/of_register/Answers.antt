@@ -1,6 +1,4 @@
-use Rattle.std.proofs.Common.{length, ap, ◌∙◌}
-use Rattle.ops.specs.Integer.{bits}
-use Rattle.circuits.specs.Word.{number_of}
+use Rattle.blast_term.proofs.Common.{length, ap, ◌∙◌, bits, number_of}
 use Rattle.blast_term.proofs.term.of_register.Goals as goal
 
 pub number_or_zero-requires : goal.number_or_zero-requires

@@ -1,6 +1,4 @@
-use Rattle.std.proofs.Common.{◌≡◌, ◌*◌, ◌≤◌, take}
-use Rattle.blast_term.specs.Gates.{choices_gates}
-use Rattle.blast_term.specs.Terms.{term_widths}
+use Rattle.blast_term.proofs.Common.{◌≡◌, ◌*◌, ◌≤◌, take, choices_gates, term_widths}
 use Rattle.blast_term.proofs.term_gates.choices_gates.Given as goal
 
 abbrev pub invariant-loop-place : goal.invariant-loop-place

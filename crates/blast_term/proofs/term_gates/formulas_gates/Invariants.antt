@@ -1,6 +1,4 @@
-use Rattle.std.proofs.Common.{◌≡◌, ◌*◌, ◌≤◌, take}
-use Rattle.blast_term.specs.Gates.{formulas_gates}
-use Rattle.blast_term.specs.Terms.{term_widths}
+use Rattle.blast_term.proofs.Common.{◌≡◌, ◌*◌, ◌≤◌, take, formulas_gates, term_widths}
 use Rattle.blast_term.proofs.term_gates.formulas_gates.Given as goal
 
 abbrev pub invariant-loop-formula : goal.invariant-loop-formula

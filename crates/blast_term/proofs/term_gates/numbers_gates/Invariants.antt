@@ -1,6 +1,4 @@
-use Rattle.std.proofs.Common.{◌≡◌, ◌*◌, ◌≤◌, take}
-use Rattle.blast_term.specs.Gates.{numbers_gates}
-use Rattle.blast_term.specs.Terms.{term_widths}
+use Rattle.blast_term.proofs.Common.{◌≡◌, ◌*◌, ◌≤◌, take, numbers_gates, term_widths}
 use Rattle.blast_term.proofs.term_gates.numbers_gates.Given as goal
 
 abbrev pub invariant-loop-term : goal.invariant-loop-term

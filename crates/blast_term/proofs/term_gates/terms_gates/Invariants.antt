@@ -1,5 +1,4 @@
-use Rattle.std.proofs.Common.{◌≡◌, ◌*◌, ◌≤◌, take}
-use Rattle.blast_term.specs.Gates.{terms_gates}
+use Rattle.blast_term.proofs.Common.{◌≡◌, ◌*◌, ◌≤◌, take, terms_gates}
 use Rattle.blast_term.proofs.term_gates.terms_gates.Given as goal
 
 abbrev pub invariant-loop-term : goal.invariant-loop-term

@@ -1,9 +1,4 @@
-use Rattle.std.proofs.Common.{◌≡◌, length, sym, ap, ◌∙◌}
-use Rattle.std.specs.Prelude.{slice_index}
-use Rattle.std.proofs.lemmas.List.{length-map}
-use Rattle.std.proofs.lemmas.Result.{IfOk-weaker}
-use Rattle.circuits.proofs.Kept.{Adds-trans}
-use Rattle.rule_core.specs.declared.rule.Term.{Term}
+use Rattle.blast_term.proofs.Common.{◌≡◌, length, sym, ap, ◌∙◌, slice_index, length-map, IfOk-weaker, Adds-trans, Term}
 use Rattle.blast_term.proofs.witness.blast_witness.Goals as goal
 
 pub numbers_at-requires-clause-there : goal.numbers_at-requires-clause-there

@@ -1,17 +1,5 @@
-use Rattle.std.proofs.Common.{◌≡◌, ℕ, List, get_or, ◌+◌, ◌<◌, ◌∷◌, [], length, map, take, refl, sym, ap, ◌∙◌, arith}
-use Rattle.std.specs.List.{All}
-use Rattle.std.specs.Prelude.{slice_index}
-use Rattle.std.proofs.lemmas.List.{map-append, take_all}
-use Rattle.std.proofs.lemmas.List.Elements.{All-push}
-use Rattle.std.proofs.lemmas.Option.{slice_get-get_or, get_or_from_slice_get}
-use Rattle.circuits.specs.Gates.{select_gates}
-use Rattle.circuits.proofs.Kept.{Adds-none, Adds-trans, Adds-weaken}
-use Rattle.blast_value.specs.Effect.{held_value, widths_of, IsOwn}
-use Rattle.blast_value.specs.Words.{number_held}
-use Rattle.blast_term.specs.Terms.{number_chosen}
-use Rattle.blast_value.proofs.Kept.{AllAll-kept, numbers_held-kept, values-kept, AllOwn-kept}
-use Rattle.blast_term.proofs.Turns.{own_from_get}
-use Rattle.blast_term.proofs.Turns.{sum-more, sum-fewer, map-more, width_chosen, chosen}
+use Rattle.blast_term.proofs.Common.{◌≡◌, ℕ, List, get_or, ◌+◌, ◌<◌, ◌∷◌, [], length, map, take, refl, sym, ap, ◌∙◌, arith, All, slice_index, map-append, take_all, All-push, slice_get-get_or, get_or_from_slice_get, select_gates, Adds-none, Adds-trans, Adds-weaken, held_value, widths_of, IsOwn, number_held, number_chosen, AllAll-kept, numbers_held-kept, values-kept, AllOwn-kept}
+use Rattle.blast_term.proofs.Turns.{own_from_get, sum-more, sum-fewer, map-more, width_chosen, chosen}
 use Rattle.blast_term.proofs.witness.numbers_at.Goals as goal
 
 -- the element at a place within a list is the same with each default

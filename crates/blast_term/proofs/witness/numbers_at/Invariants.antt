@@ -1,11 +1,4 @@
-use Rattle.std.proofs.Common.{◌≡◌, Bool, List, length, map, take}
-use Rattle.std.specs.Prelude.{slice_index}
-use Rattle.std.specs.List.{All}
-use Rattle.circuits.specs.Circuit.{Adds}
-use Rattle.blast_value.specs.Effect.{held_value, widths_of}
-use Rattle.blast_term.specs.Gates.{choices_gates}
-use Rattle.blast_value.specs.Words.{number_held}
-use Rattle.blast_term.specs.Terms.{number_chosen}
+use Rattle.blast_term.proofs.Common.{◌≡◌, Bool, List, length, map, take, slice_index, All, Adds, held_value, widths_of, choices_gates, number_held, number_chosen}
 use Rattle.blast_term.proofs.witness.numbers_at.Given as goal
 
 abbrev pub invariant-loop-place : goal.invariant-loop-place

@@ -1,7 +1,4 @@
-use Rattle.std.proofs.Common.{ap, ◌∙◌, ◌≤◌, ◌+◌, length, arith, true, false}
-use Rattle.circuits.specs.Word.{number}
-use Rattle.circuits.proofs.Kept.{map-kept, Keeps-trans, Adds-trans, Adds-weaken}
-use Rattle.blast_value.specs.Gates.{checked_gates, overflow_gates, result_gates}
+use Rattle.blast_value.proofs.Common.{ap, ◌∙◌, ◌≤◌, ◌+◌, length, arith, true, false, number, map-kept, Keeps-trans, Adds-trans, Adds-weaken, checked_gates, overflow_gates, result_gates}
 use Rattle.blast_value.proofs.Effects.{checked_value, exact_signed}
 use Rattle.blast_value.proofs.arithmetic.checked.Goals as goal
 

@@ -1,7 +1,4 @@
-use Rattle.std.proofs.Common.{◌<◌, ◌^◌, length, subst, ◌∙◌}
-use Rattle.std.proofs.lemmas.Result.{IfOk-weaker}
-use Rattle.circuits.specs.Word.{number_of}
-use Rattle.circ_muldiv.proofs.OverflowTests.{number_below}
+use Rattle.blast_value.proofs.Common.{◌<◌, ◌^◌, length, subst, ◌∙◌, IfOk-weaker, number_of, number_below}
 use Rattle.blast_value.proofs.Effects.{sum_is, difference_is, product_is}
 use Rattle.blast_value.proofs.arithmetic.wrapped.Goals as goal
 

@@ -1,5 +1,4 @@
-use Rattle.std.proofs.Common.{length, ap, ◌∙◌}
-use Rattle.circuits.proofs.Kept.{map-kept}
+use Rattle.blast_value.proofs.Common.{length, ap, ◌∙◌, map-kept}
 use Rattle.blast_value.proofs.Effects.{bitwise_value}
 use Rattle.blast_value.proofs.bitwise.bit_by_bit.Goals as goal
 

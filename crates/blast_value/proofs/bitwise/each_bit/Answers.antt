@@ -1,7 +1,4 @@
-use Rattle.std.proofs.Common.{◌<◌, length, ◌+◌, ◌∙◌, ap, arith}
-use Rattle.std.proofs.lemmas.List.{length_push}
-use Rattle.std.proofs.lemmas.List.Elements.{All-push}
-use Rattle.circuits.proofs.Kept.{Adds-trans, All-kept, map-kept, own_at}
+use Rattle.blast_value.proofs.Common.{◌<◌, length, ◌+◌, ◌∙◌, ap, arith, length_push, All-push, Adds-trans, All-kept, map-kept, own_at}
 use Rattle.blast_value.proofs.Digits.{combined_more}
 use Rattle.blast_value.proofs.bitwise.each_bit.Goals as goal
 

@@ -1,8 +1,4 @@
-use Rattle.std.proofs.Common.{◌≡◌, Bool, List, length, take}
-use Rattle.std.specs.List.{All}
-use Rattle.circuits.specs.Circuit.{Adds}
-use Rattle.circuits.specs.Word.{number_of}
-use Rattle.blast_value.specs.Families.{bitwise}
+use Rattle.blast_value.proofs.Common.{◌≡◌, Bool, List, length, take, All, Adds, number_of, bitwise}
 use Rattle.blast_value.proofs.bitwise.each_bit.Given as goal
 
 abbrev pub invariant-loop-i : goal.invariant-loop-i

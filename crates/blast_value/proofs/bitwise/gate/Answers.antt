@@ -1,6 +1,4 @@
-use Rattle.std.proofs.Common.{ap, ◌∙◌}
-use Rattle.std.proofs.lemmas.Result.{IfOk-weaker}
-use Rattle.circuits.specs.Word.{bit}
+use Rattle.blast_value.proofs.Common.{ap, ◌∙◌, IfOk-weaker, bit}
 use Rattle.blast_value.proofs.Digits.{bit-xor}
 use Rattle.blast_value.proofs.bitwise.gate.Goals as goal
 

@@ -1,4 +1,4 @@
-use Rattle.std.proofs.Common.{not, ap, ◌∙◌}
+use Rattle.blast_value.proofs.Common.{not, ap, ◌∙◌}
 use Rattle.blast_value.proofs.Moves.{asked_value}
 use Rattle.blast_value.proofs.bitwise.share_bits.Goals as goal
 

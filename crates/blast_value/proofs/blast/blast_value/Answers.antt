@@ -1,11 +1,4 @@
-use Rattle.std.proofs.Common.{◌≡◌, [], ◌∷◌, length, ap, sym, subst, ◌∙◌, arith}
-use Rattle.std.proofs.lemmas.Result.{IfOk-weaker}
-use Rattle.ops.specs.declared.value.Effect.TheVariants.{Gives}
-use Rattle.circuits.specs.Word.{number_of}
-use Rattle.circuits.specs.Circuit.{Adds}
-use Rattle.circuits.proofs.Kept.{Adds-weaken, own_at}
-use Rattle.blast_value.specs.Effect.{IsOwn}
-use Rattle.blast_value.specs.Gates.{cast_gates, greatest}
+use Rattle.blast_value.proofs.Common.{◌≡◌, [], ◌∷◌, length, ap, sym, subst, ◌∙◌, arith, IfOk-weaker, Gives, number_of, Adds, Adds-weaken, own_at, IsOwn, cast_gates, greatest}
 use Rattle.blast_value.proofs.Operands.{operand_there, operand_width, one_operand, two_operands, three_operands, comparison_width, conversion_width}
 use Rattle.blast_value.proofs.blast.blast_value.Goals as goal
 

@@ -1,7 +1,4 @@
-use Rattle.std.proofs.Common.{◌<◌, length, ap, ◌∙◌, arith, ◌≤◌, ◌+◌}
-use Rattle.circuits.specs.Word.{number_of}
-use Rattle.circuits.proofs.Kept.{map-kept, Keeps-trans, own_at, Adds-trans, Adds-weaken}
-use Rattle.circuits.specs.Gates.{select_gates}
+use Rattle.blast_value.proofs.Common.{◌<◌, length, ap, ◌∙◌, arith, ◌≤◌, ◌+◌, number_of, map-kept, Keeps-trans, own_at, Adds-trans, Adds-weaken, select_gates}
 use Rattle.blast_value.proofs.Effects.{chosen, chosen_number}
 use Rattle.blast_value.proofs.comparison.choose.Goals as goal
 

@@ -1,7 +1,4 @@
-use Rattle.std.proofs.Common.{◌∙◌, ◌≤◌, ◌+◌, length, arith}
-use Rattle.circuits.proofs.Kept.{map-kept, Keeps-trans, Adds-trans, Adds-weaken}
-use Rattle.circuits.specs.Gates.{comparison_gates}
-use Rattle.blast_value.specs.Gates.{sign_gates}
+use Rattle.blast_value.proofs.Common.{◌∙◌, ◌≤◌, ◌+◌, length, arith, map-kept, Keeps-trans, Adds-trans, Adds-weaken, comparison_gates, sign_gates}
 use Rattle.blast_value.proofs.Effects.{compared}
 use Rattle.blast_value.proofs.comparison.compare.Goals as goal
 

@@ -1,6 +1,4 @@
-use Rattle.std.proofs.Common.{◌<◌, length, sym, subst}
-use Rattle.std.proofs.lemmas.Result.{IfOk-weaker}
-use Rattle.circ_muldiv.proofs.Rows.{highest_bit}
+use Rattle.blast_value.proofs.Common.{◌<◌, length, sym, subst, IfOk-weaker, highest_bit}
 use Rattle.blast_value.proofs.Moves.{asked_value}
 use Rattle.blast_value.proofs.comparison.signs_differ.Goals as goal
 

@@ -1,5 +1,4 @@
-use Rattle.std.proofs.Common.{◌∙◌}
-use Rattle.std.proofs.lemmas.Result.{IfOk-weaker}
+use Rattle.blast_value.proofs.Common.{◌∙◌, IfOk-weaker}
 use Rattle.blast_value.proofs.Effects.{plain_equal, plain_less, plain_greater, plain_less_signed, plain_greater_signed}
 use Rattle.blast_value.proofs.comparison.without_negation.Goals as goal
 

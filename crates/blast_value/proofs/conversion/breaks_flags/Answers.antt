@@ -1,9 +1,4 @@
-use Rattle.std.proofs.Common.{◌<◌, length, ◌∙◌, arith}
-use Rattle.std.proofs.lemmas.Result.{IfOk-weaker}
-use Rattle.ops.specs.Conversion.{breaks_flags, converted}
-use Rattle.circuits.specs.Word.{number_of}
-use Rattle.circuits.proofs.Kept.{map-kept}
-use Rattle.circ_muldiv.proofs.OverflowTests.{number_below}
+use Rattle.blast_value.proofs.Common.{◌<◌, length, ◌∙◌, arith, IfOk-weaker, breaks_flags, converted, number_of, map-kept, number_below}
 use Rattle.blast_value.proofs.Cuts.{cut_breaks}
 use Rattle.blast_value.proofs.conversion.breaks_flags.Goals as goal
 

@@ -1,6 +1,4 @@
-use Rattle.std.proofs.Common.{not, ap, ◌∙◌}
-use Rattle.circuits.specs.Word.{number_of}
-use Rattle.circ_muldiv.proofs.OverflowTests.{number_below}
+use Rattle.blast_value.proofs.Common.{not, ap, ◌∙◌, number_of, number_below}
 use Rattle.blast_value.proofs.Cuts.{extended_is}
 use Rattle.blast_value.proofs.Moves.{asked_value}
 use Rattle.blast_value.proofs.conversion.changes.Goals as goal

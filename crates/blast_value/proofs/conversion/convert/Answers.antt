@@ -1,4 +1,4 @@
-use Rattle.circuits.proofs.Kept.{map-kept, Keeps-trans}
+use Rattle.blast_value.proofs.Common.{map-kept, Keeps-trans}
 use Rattle.blast_value.proofs.Effects.{cast_effect}
 use Rattle.blast_value.proofs.conversion.convert.Goals as goal
 

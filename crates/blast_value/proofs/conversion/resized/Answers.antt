@@ -1,9 +1,4 @@
-use Rattle.std.proofs.Common.{length, ◌∙◌, arith}
-use Rattle.std.proofs.lemmas.Result.{IfOk-weaker}
-use Rattle.ops.specs.Conversion.{converted}
-use Rattle.circuits.specs.Word.{number_of}
-use Rattle.circ_muldiv.proofs.OverflowTests.{number_below}
-use Rattle.circ_muldiv.proofs.Rows.{highest_bit}
+use Rattle.blast_value.proofs.Common.{length, ◌∙◌, arith, IfOk-weaker, converted, number_of, number_below, highest_bit}
 use Rattle.blast_value.proofs.Numbers.{residue-extended, extended_by_zeros}
 use Rattle.blast_value.proofs.conversion.resized.Goals as goal
 

@@ -1,6 +1,4 @@
-use Rattle.std.proofs.Common.{◌∙◌}
-use Rattle.circuits.specs.Word.{number_of}
-use Rattle.circuits.proofs.Kept.{map-kept, Keeps-trans}
+use Rattle.blast_value.proofs.Common.{◌∙◌, number_of, map-kept, Keeps-trans}
 use Rattle.blast_value.proofs.Effects.{divided_effect}
 use Rattle.blast_value.proofs.division.divide.Goals as goal
 

@@ -1,5 +1,4 @@
-use Rattle.std.proofs.lemmas.Result.{IfOk-weaker}
-use Rattle.circuits.proofs.Kept.{map-kept, Keeps-trans}
+use Rattle.blast_value.proofs.Common.{IfOk-weaker, map-kept, Keeps-trans}
 use Rattle.blast_value.proofs.division.has_no_quotient.Goals as goal
 
 pub returns-clause-value : goal.returns-clause-value

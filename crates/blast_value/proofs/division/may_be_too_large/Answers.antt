@@ -1,7 +1,4 @@
-use Rattle.std.proofs.Common.{◌≤◌, ◌+◌, length, arith, ◌*◌}
-use Rattle.std.proofs.lemmas.Result.{IfOk-weaker}
-use Rattle.circuits.proofs.Kept.{map-kept, Keeps-trans, Adds-trans, Adds-weaken}
-use Rattle.circuits.specs.Gates.{equality_gates}
+use Rattle.blast_value.proofs.Common.{◌≤◌, ◌+◌, length, arith, ◌*◌, IfOk-weaker, map-kept, Keeps-trans, Adds-trans, Adds-weaken, equality_gates}
 use Rattle.blast_value.proofs.division.may_be_too_large.Goals as goal
 
 pub returns-clause-value : goal.returns-clause-value

@@ -1,5 +1,4 @@
-use Rattle.std.proofs.Common.{◌∙◌}
-use Rattle.std.proofs.lemmas.Result.{IfOk-weaker}
+use Rattle.blast_value.proofs.Common.{◌∙◌, IfOk-weaker}
 use Rattle.blast_value.proofs.Effects.{quotients, remainders}
 use Rattle.blast_value.proofs.division.quotient_and_remainder.Goals as goal
 

@@ -1,7 +1,4 @@
-use Rattle.std.proofs.Common.{◌<◌, ◌^◌, subst, ◌∙◌}
-use Rattle.circuits.specs.Word.{number_of}
-use Rattle.circuits.proofs.Kept.{map-kept}
-use Rattle.circ_muldiv.proofs.OverflowTests.{number_below}
+use Rattle.blast_value.proofs.Common.{◌<◌, ◌^◌, subst, ◌∙◌, number_of, map-kept, number_below}
 use Rattle.blast_value.proofs.Effects.{quotient_value}
 use Rattle.blast_value.proofs.division.result.Goals as goal
 

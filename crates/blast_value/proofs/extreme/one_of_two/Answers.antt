@@ -1,4 +1,4 @@
-use Rattle.std.proofs.Common.{◌∙◌}
+use Rattle.blast_value.proofs.Common.{◌∙◌}
 use Rattle.blast_value.proofs.Effects.{extreme_value}
 use Rattle.blast_value.proofs.extreme.one_of_two.Goals as goal
 

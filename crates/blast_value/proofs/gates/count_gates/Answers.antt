@@ -1,7 +1,4 @@
-use Rattle.std.proofs.Common.{◌≡◌, ◌+◌, ◌≤◌, arith}
-use Rattle.std.proofs.Math.Nat.{mul-le-mul_left}
-use Rattle.circuits.specs.Gates.{stages}
-use Rattle.circuits.proofs.Stages.{stages-is}
+use Rattle.blast_value.proofs.Common.{◌≡◌, ◌+◌, ◌≤◌, arith, mul-le-mul_left, stages, stages-is}
 use Rattle.blast_value.proofs.Counts.{digits-few}
 use Rattle.blast_value.proofs.gates.count_gates.Goals as goal
 

@@ -1,5 +1,4 @@
-use Rattle.std.proofs.Common.{◌≡◌, min, arith}
-use Rattle.circuits.specs.Gates.{stages}
+use Rattle.blast_value.proofs.Common.{◌≡◌, min, arith, stages}
 use Rattle.blast_value.proofs.Counts.{stages-le}
 use Rattle.blast_value.proofs.gates.shift_gates.Goals as goal
 

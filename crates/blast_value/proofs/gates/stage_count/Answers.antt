@@ -1,6 +1,4 @@
-use Rattle.std.proofs.Common.{◌≡◌, ◌+◌, arith}
-use Rattle.circuits.proofs.Stages.{stages-none, stages-is}
-use Rattle.circuits.specs.Gates.{stages}
+use Rattle.blast_value.proofs.Common.{◌≡◌, ◌+◌, arith, stages-none, stages-is, stages}
 use Rattle.blast_value.proofs.Counts.{stages-few}
 use Rattle.blast_value.proofs.gates.stage_count.Goals as goal
 

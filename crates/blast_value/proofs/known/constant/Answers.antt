@@ -1,6 +1,4 @@
-use Rattle.std.proofs.Common.{◌≡◌, ◌+◌, ◌^◌, ◌∙◌, ap, arith}
-use Rattle.std.proofs.lemmas.List.{length_push}
-use Rattle.std.proofs.lemmas.List.Elements.{All-push}
+use Rattle.blast_value.proofs.Common.{◌≡◌, ◌+◌, ◌^◌, ◌∙◌, ap, arith, length_push, All-push}
 use Rattle.blast_value.proofs.Digits.{constant_more, constant_whole}
 use Rattle.blast_value.proofs.known.constant.Goals as goal
 

@@ -1,6 +1,4 @@
-use Rattle.std.proofs.Common.{◌≡◌, ◌+◌, ◌*◌, ◌^◌, Bool, List, length}
-use Rattle.std.specs.List.{All}
-use Rattle.circuits.specs.Word.{number_of}
+use Rattle.blast_value.proofs.Common.{◌≡◌, ◌+◌, ◌*◌, ◌^◌, Bool, List, length, All, number_of}
 use Rattle.blast_value.proofs.known.constant.Given as goal
 
 abbrev pub invariant-loop-i : goal.invariant-loop-i

@@ -1,8 +1,4 @@
-use Rattle.std.proofs.Common.{length, ap, ◌∙◌}
-use Rattle.std.proofs.lemmas.Result.{IfOk-weaker}
-use Rattle.std.specs.Prelude.{unsigned_abs}
-use Rattle.ops.specs.Unary.{at_number}
-use Rattle.circuits.specs.Word.{number_of}
+use Rattle.blast_value.proofs.Common.{length, ap, ◌∙◌, IfOk-weaker, unsigned_abs, at_number, number_of}
 use Rattle.blast_value.proofs.BinaryDigits.{ones_counted, leading_counted, trailing_counted}
 use Rattle.blast_value.proofs.Numbers.{signed_same}
 use Rattle.blast_value.proofs.one_operand.at_number.Goals as goal

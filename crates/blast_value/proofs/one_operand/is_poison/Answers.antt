@@ -1,6 +1,4 @@
-use Rattle.std.proofs.Common.{⊎_elim}
-use Rattle.std.proofs.lemmas.Result.{IfOk-weaker}
-use Rattle.ops.specs.Unary.{poison_where_true}
+use Rattle.blast_value.proofs.Common.{⊎_elim, IfOk-weaker, poison_where_true}
 use Rattle.blast_value.proofs.Moves.{asked_value}
 use Rattle.blast_value.proofs.one_operand.is_poison.Goals as goal
 

@@ -1,7 +1,4 @@
-use Rattle.std.proofs.Common.{◌≤◌, ◌+◌, length, ◌∙◌, arith}
-use Rattle.circuits.specs.Gates.{equality_gates}
-use Rattle.circuits.proofs.Kept.{map-kept, Keeps-trans, Adds-trans, Adds-weaken}
-use Rattle.blast_value.specs.Gates.{intrinsic_gates, unary_gates}
+use Rattle.blast_value.proofs.Common.{◌≤◌, ◌+◌, length, ◌∙◌, arith, equality_gates, map-kept, Keeps-trans, Adds-trans, Adds-weaken, intrinsic_gates, unary_gates}
 use Rattle.blast_value.proofs.Intrinsics.{unary_effect}
 use Rattle.blast_value.proofs.one_operand.unary_effect.Goals as goal
 

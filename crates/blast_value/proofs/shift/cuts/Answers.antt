@@ -1,5 +1,4 @@
-use Rattle.std.proofs.Common.{not, ap, ◌∙◌}
-use Rattle.circuits.proofs.Kept.{map-kept}
+use Rattle.blast_value.proofs.Common.{not, ap, ◌∙◌, map-kept}
 use Rattle.blast_value.proofs.Moves.{asked_value}
 use Rattle.blast_value.proofs.shift.cuts.Goals as goal
 

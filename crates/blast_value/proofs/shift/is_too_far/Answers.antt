@@ -1,4 +1,4 @@
-use Rattle.std.proofs.Common.{◌≡◌, ◌<◌, ◌^◌, not, ap, ◌∙◌}
+use Rattle.blast_value.proofs.Common.{◌≡◌, ◌<◌, ◌^◌, not, ap, ◌∙◌}
 use Rattle.blast_value.proofs.Moves.{width-below, not_below}
 use Rattle.blast_value.proofs.shift.is_too_far.Goals as goal
 

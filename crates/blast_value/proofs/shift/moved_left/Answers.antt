@@ -1,9 +1,4 @@
-use Rattle.std.proofs.Common.{◌<◌, ◌≤◌, ◌+◌, ◌^◌, sym, subst, ◌∙◌, length, arith}
-use Rattle.circuits.specs.Word.{number_of}
-use Rattle.circuits.specs.Gates.{comparison_gates, equality_gates, shift_gates}
-use Rattle.circuits.proofs.Kept.{All-kept, map-kept, Keeps-trans, Adds-trans, Adds-weaken}
-use Rattle.circ_muldiv.proofs.OverflowTests.{number_below}
-use Rattle.blast_value.specs.Gates.{left_gates}
+use Rattle.blast_value.proofs.Common.{◌<◌, ◌≤◌, ◌+◌, ◌^◌, sym, subst, ◌∙◌, length, arith, number_of, comparison_gates, equality_gates, shift_gates, All-kept, map-kept, Keeps-trans, Adds-trans, Adds-weaken, number_below, left_gates}
 use Rattle.blast_value.proofs.Moves.{left_value}
 use Rattle.blast_value.proofs.shift.moved_left.Goals as goal
 

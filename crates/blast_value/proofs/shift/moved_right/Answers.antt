@@ -1,9 +1,4 @@
-use Rattle.std.proofs.Common.{◌<◌, ◌^◌, subst, ◌∙◌, ◌≤◌, ◌+◌, length, arith}
-use Rattle.circuits.specs.Word.{number_of}
-use Rattle.circuits.proofs.Kept.{map-kept, Keeps-trans, Adds-trans, Adds-weaken}
-use Rattle.circ_muldiv.proofs.OverflowTests.{number_below}
-use Rattle.circuits.specs.Gates.{comparison_gates, equality_gates, shift_gates}
-use Rattle.blast_value.specs.Gates.{right_gates}
+use Rattle.blast_value.proofs.Common.{◌<◌, ◌^◌, subst, ◌∙◌, ◌≤◌, ◌+◌, length, arith, number_of, map-kept, Keeps-trans, Adds-trans, Adds-weaken, number_below, comparison_gates, equality_gates, shift_gates, right_gates}
 use Rattle.blast_value.proofs.Moves.{right_value}
 use Rattle.blast_value.proofs.shift.moved_right.Goals as goal
 

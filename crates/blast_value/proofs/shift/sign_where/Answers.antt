@@ -1,4 +1,4 @@
-use Rattle.circ_muldiv.proofs.Rows.{highest_bit}
+use Rattle.blast_value.proofs.Common.{highest_bit}
 use Rattle.blast_value.proofs.shift.sign_where.Goals as goal
 
 pub returns-then-signed-clause-value : goal.returns-then-signed-clause-value

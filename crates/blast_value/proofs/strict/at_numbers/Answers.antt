@@ -1,8 +1,4 @@
-use Rattle.std.proofs.Common.{sym, ap, ◌∙◌}
-use Rattle.std.proofs.lemmas.Result.{IfOk-weaker}
-use Rattle.ops.specs.declared.value.Effect.TheVariants.{Gives}
-use Rattle.ops.specs.Instruction.{on_numbers}
-use Rattle.ops.specs.Shifts.{lshr, ashr}
+use Rattle.blast_value.proofs.Common.{sym, ap, ◌∙◌, IfOk-weaker, Gives, on_numbers, lshr, ashr}
 use Rattle.blast_value.proofs.Effects.{arithmetic_numbers}
 use Rattle.blast_value.proofs.strict.at_numbers.Goals as goal
 

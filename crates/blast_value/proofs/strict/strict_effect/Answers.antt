@@ -1,9 +1,5 @@
-use Rattle.std.proofs.Common.{sym, ◌∙◌, ◌≤◌, ◌+◌, arith}
-use Rattle.std.proofs.lemmas.Result.{IfOk-weaker}
-use Rattle.circuits.proofs.Kept.{Adds-trans, Adds-weaken}
-use Rattle.blast_value.specs.Gates.{number_gates, poison_gates}
+use Rattle.blast_value.proofs.Common.{sym, ◌∙◌, ◌≤◌, ◌+◌, arith, IfOk-weaker, Adds-trans, Adds-weaken, number_gates, poison_gates, strict_opcode}
 use Rattle.blast_value.proofs.Effects.{strict_instruction, strict_poison}
-use Rattle.blast_value.specs.Families.{strict_opcode}
 use Rattle.blast_value.proofs.strict.strict_effect.Goals as goal
 
 pub returns-clause-effect : goal.returns-clause-effect

@@ -1,6 +1,4 @@
-use Rattle.std.proofs.Common.{◌≤◌, ◌+◌, arith}
-use Rattle.circuits.proofs.Kept.{map-kept, Keeps-trans, Adds-trans, Adds-weaken}
-use Rattle.blast_value.specs.Gates.{poison_gates}
+use Rattle.blast_value.proofs.Common.{◌≤◌, ◌+◌, arith, map-kept, Keeps-trans, Adds-trans, Adds-weaken, poison_gates}
 use Rattle.blast_value.proofs.Effects.{strict_effect}
 use Rattle.blast_value.proofs.strict.with_poison.Goals as goal
 

@@ -1,9 +1,4 @@
-use Rattle.std.proofs.Common.{◌≡◌, ◌-◌, ◌<◌, ◌∷◌, true, false, length, drop, get_or, sym, ap, ◌∙◌, subst, arith}
-use Rattle.std.specs.Prelude.{All}
-use Rattle.std.proofs.lemmas.List.{get_or_read}
-use Rattle.clauses.specs.Literal.{IsVariable}
-use Rattle.depth_first.specs.Found.{distinct_count}
-use Rattle.depth_first.proofs.Leaves.{is_among, among_already}
+use Rattle.cdcl_log.proofs.Common.{◌≡◌, ◌-◌, ◌<◌, ◌∷◌, true, false, length, drop, get_or, sym, ap, ◌∙◌, subst, arith, All, get_or_read, IsVariable, distinct_count, is_among, among_already}
 use Rattle.cdcl_log.proofs.DistinctCount.{next_input, distinct_count-among}
 use Rattle.cdcl_log.proofs.inputs.has_many_inputs.Goals as goal
 

@@ -1,6 +1,4 @@
-use Rattle.std.proofs.Common.{◌≡◌, ℕ, ◌+◌, ◌<◌, ◌≤◌, false, length, drop, get_or}
-use Rattle.depth_first.specs.Found.{distinct_count}
-use Rattle.depth_first.proofs.Leaves.{is_among}
+use Rattle.cdcl_log.proofs.Common.{◌≡◌, ℕ, ◌+◌, ◌<◌, ◌≤◌, false, length, drop, get_or, distinct_count, is_among}
 use Rattle.cdcl_log.proofs.inputs.has_many_inputs.Given as goal
 
 abbrev pub invariant-loop-place : goal.invariant-loop-place

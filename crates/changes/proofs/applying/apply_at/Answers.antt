@@ -1,8 +1,4 @@
-use Rattle.std.proofs.Common.{sym, subst, arith}
-use Rattle.ir_core.specs.Blocks.{IsBlock}
-use Rattle.ir_core.specs.Checks.{MeetsChecks}
-use Rattle.ir_core.specs.declared.function.Function.{Function}
-use Rattle.bindings.specs.Match.{IsMatch}
+use Rattle.changes.proofs.Common.{sym, subst, arith, IsBlock, MeetsChecks, Function, IsMatch}
 use Rattle.changes.proofs.Applied.{applied_to, few_new, blocks_new, checks_new}
 use Rattle.changes.proofs.applying.apply_at.Goals as goal
 

@@ -1,7 +1,4 @@
-use Rattle.std.proofs.Common.{◌∙◌, ℕ, refl, sym, subst, arith}
-use Rattle.std.proofs.lemmas.Option.{slice_get_within}
-use Rattle.ir_core.specs.Blocks.{HasInst, IsBlock}
-use Rattle.rewriter.specs.Put.{rewrite_of}
+use Rattle.changes.proofs.Common.{◌∙◌, ℕ, refl, sym, subst, arith, slice_get_within, HasInst, IsBlock, rewrite_of}
 use Rattle.changes.proofs.Answering.{if_ok}
 use Rattle.changes.proofs.Applied.{where_copied, where_put, some}
 use Rattle.changes.proofs.Rewritten.{has_of}

@@ -1,8 +1,4 @@
-use Rattle.std.proofs.Common.{ℕ, List, false, sym, subst}
-use Rattle.changes.specs.Changed.{Went}
-use Rattle.changes.specs.Calls.{rewritten_moves}
-use Rattle.changes.specs.Places.{AreAscending}
-use Rattle.substitution.specs.Rewritten.{rewritten_function}
+use Rattle.changes.proofs.Common.{ℕ, List, false, sym, subst, Went, rewritten_moves, AreAscending, rewritten_function}
 use Rattle.changes.proofs.Rewritten.{went_none, came_first, changed_root}
 use Rattle.changes.proofs.applying.changes_with.Goals as goal
 

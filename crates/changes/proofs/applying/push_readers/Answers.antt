@@ -1,7 +1,4 @@
-use Rattle.std.proofs.Common.{◌+◌, ◌∙◌, ℕ, List, sym, subst, arith}
-use Rattle.ir_core.specs.Blocks.{HasInst}
-use Rattle.changes.specs.Listing.{ListedTo, ReadsRoot}
-use Rattle.changes.specs.Places.{AreAscending}
+use Rattle.changes.proofs.Common.{◌+◌, ◌∙◌, ℕ, List, sym, subst, arith, HasInst, ListedTo, ReadsRoot, AreAscending}
 use Rattle.changes.proofs.InOrder.{inst_before_end, listed_more, listed_none, row_past}
 use Rattle.changes.proofs.Readers.{one_place, in_order}
 use Rattle.changes.proofs.applying.push_readers.Goals as goal

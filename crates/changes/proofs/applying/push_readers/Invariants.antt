@@ -1,7 +1,5 @@
 -- the list has the new places of what reads the root before this place
-use Rattle.changes.specs.Listing.{IsPutFor, ListedTo, ReadsRoot}
-use Rattle.changes.specs.Places.{AreAscending}
-use Rattle.substitution.specs.declared.rewrite.Rewrite.{Rewrite}
+use Rattle.changes.proofs.Common.{IsPutFor, ListedTo, ReadsRoot, AreAscending, Rewrite}
 use Rattle.changes.proofs.applying.push_readers.Given as goal
 
 abbrev pub invariant-loop-place : goal.invariant-loop-place

@@ -1,5 +1,4 @@
-use Rattle.std.proofs.Common.{◌-◌, refl, arith}
-use Rattle.rewriter.specs.Put.{rewrite_of}
+use Rattle.changes.proofs.Common.{◌-◌, refl, arith, rewrite_of}
 use Rattle.changes.proofs.Few.{end_rewritten}
 use Rattle.changes.proofs.applying.put_at.Goals as goal
 

@@ -1,5 +1,4 @@
-use Rattle.std.proofs.Common.{◌∙◌, sym}
-use Rattle.std.proofs.lemmas.Bool.{both_ways}
+use Rattle.changes.proofs.Common.{◌∙◌, sym, both_ways}
 use Rattle.changes.proofs.Readers.{reader_is, is_reader}
 use Rattle.changes.proofs.applying.reader_at.Goals as goal
 

@@ -1,6 +1,4 @@
-use Rattle.std.proofs.Common.{ℕ, List, sym, subst, arith}
-use Rattle.changes.specs.Listing.{ListedTo, ReadsRoot}
-use Rattle.changes.specs.Places.{AreAscending}
+use Rattle.changes.proofs.Common.{ℕ, List, sym, subst, arith, ListedTo, ReadsRoot, AreAscending}
 use Rattle.changes.proofs.InOrder.{none_yet, all_past}
 use Rattle.changes.proofs.applying.readers_of.Goals as goal
 

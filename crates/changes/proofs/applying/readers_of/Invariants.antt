@@ -1,7 +1,5 @@
 -- the list has the new places of what reads the root in the blocks before this one
-use Rattle.changes.specs.Listing.{IsPutFor, ListedTo, ReadsRoot}
-use Rattle.changes.specs.Places.{AreAscending}
-use Rattle.substitution.specs.declared.rewrite.Rewrite.{Rewrite}
+use Rattle.changes.proofs.Common.{IsPutFor, ListedTo, ReadsRoot, AreAscending, Rewrite}
 use Rattle.changes.proofs.applying.readers_of.Given as goal
 
 abbrev pub invariant-loop-block : goal.invariant-loop-block

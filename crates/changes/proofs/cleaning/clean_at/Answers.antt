@@ -1,13 +1,4 @@
-use Rattle.std.proofs.Common.{◌≡◌, ◌<◌, ◌^◌, ℕ, List, length, sym, ap, subst, arith}
-use Rattle.ir_core.specs.declared.function.Function.{Function}
-use Rattle.needed.specs.Cleaned.{IsCleaned}
-use Rattle.needed.specs.KeptFunction.{kept_function}
-use Rattle.needed.proofs.Checking.{cleaned_meets}
-use Rattle.needed.proofs.SearchLemmas.{AllKnown}
-use Rattle.changes.specs.Changed.{AreChanges, Came, IsChanged}
-use Rattle.changes.specs.Calls.{kept_moves}
-use Rattle.changes.specs.Places.{AreAscending}
-use Rattle.changes.specs.declared.changed.Changes.{Changes}
+use Rattle.changes.proofs.Common.{◌≡◌, ◌<◌, ◌^◌, ℕ, List, length, sym, ap, subst, arith, Function, IsCleaned, kept_function, cleaned_meets, AllKnown, AreChanges, Came, IsChanged, kept_moves, AreAscending, Changes}
 use Rattle.changes.proofs.Cleaned as cleaned
 use Rattle.changes.proofs.Few.{AreFew, as_many_kept, few_kept}
 use Rattle.changes.proofs.cleaning.clean_at.Goals as goal

@@ -1,10 +1,5 @@
-use Rattle.std.proofs.Common.{ℕ, List, refl, sym, subst, arith}
-use Rattle.std.specs.Prelude.{Contains}
-use Rattle.std.proofs.lemmas.Option.{slice_get_within}
-use Rattle.ir_core.specs.Blocks.{HasInst}
+use Rattle.changes.proofs.Common.{ℕ, List, refl, sym, subst, arith, Contains, slice_get_within, HasInst, IsNeeded, IsIn, Listed}
 use Rattle.ir_core.specs.declared.operand.Register.TheVariants as registers
-use Rattle.needed.specs.Needed.{IsNeeded}
-use Rattle.changes.specs.Listing.{IsIn, Listed}
 use Rattle.changes.proofs.Answering.{if_ok}
 use Rattle.changes.proofs.Ascending.{same_listed}
 use Rattle.changes.proofs.cleaning.unneeded.Goals as goal

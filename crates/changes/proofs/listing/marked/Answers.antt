@@ -1,5 +1,4 @@
-use Rattle.std.proofs.Common.{arith}
-use Rattle.changes.specs.Listing.{IsIn}
+use Rattle.changes.proofs.Common.{arith, IsIn}
 use Rattle.changes.proofs.InOrder.{all_past}
 use Rattle.changes.proofs.listing.marked.Goals as goal
 

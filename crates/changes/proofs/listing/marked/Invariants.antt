@@ -1,6 +1,5 @@
 -- the list has the marked places of the blocks before this one
-use Rattle.changes.specs.Listing.{IsIn, ListedTo}
-use Rattle.changes.specs.Places.{AreAscending}
+use Rattle.changes.proofs.Common.{IsIn, ListedTo, AreAscending}
 use Rattle.changes.proofs.listing.marked.Given as goal
 
 abbrev pub invariant-loop-block : goal.invariant-loop-block

@@ -1,9 +1,4 @@
-use Rattle.std.proofs.Common.{◌+◌, ◌<◌, ◌∙◌, ℕ, List, refl, sym, subst, arith}
-use Rattle.std.proofs.lemmas.Bool.{both_ways}
-use Rattle.ir_core.specs.Blocks.{HasInst}
-use Rattle.ir_core.specs.Reads.{end_of}
-use Rattle.changes.specs.Listing.{IsIn, ListedTo}
-use Rattle.changes.specs.Places.{AreAscending}
+use Rattle.changes.proofs.Common.{◌+◌, ◌<◌, ◌∙◌, ℕ, List, refl, sym, subst, arith, both_ways, HasInst, end_of, IsIn, ListedTo, AreAscending}
 use Rattle.changes.proofs.InOrder.{inst_before_end, one_place, in_order, listed_more, listed_none, row_past}
 use Rattle.changes.proofs.listing.push_marked.Goals as goal
 use Rattle.changes.proofs.listing.push_marked.Goals.{then-has+in_ok-push, else-has}

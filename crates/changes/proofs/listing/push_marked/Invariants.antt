@@ -1,6 +1,5 @@
 -- the list has the marked places before this one
-use Rattle.changes.specs.Listing.{IsIn, ListedTo}
-use Rattle.changes.specs.Places.{AreAscending}
+use Rattle.changes.proofs.Common.{IsIn, ListedTo, AreAscending}
 use Rattle.changes.proofs.listing.push_marked.Given as goal
 
 abbrev pub invariant-loop-number : goal.invariant-loop-number

@@ -1,6 +1,4 @@
-use Rattle.std.proofs.Common.{◌≡◌, ◌+◌, ◌<◌, ◌≤◌, ℕ, inl, inr, refl, subst, arith}
-use Rattle.std.proofs.lemmas.Bool.{cases_eq}
-use Rattle.changes.specs.Places.{AreAscending}
+use Rattle.changes.proofs.Common.{◌≡◌, ◌+◌, ◌<◌, ◌≤◌, ℕ, inl, inr, refl, subst, arith, cases_eq, AreAscending}
 use Rattle.changes.proofs.Ascending.{one_more}
 use Rattle.changes.proofs.listing.run.Goals as goal
 

@@ -1,6 +1,5 @@
 -- the list has the first of them
-use Rattle.std.proofs.Common.{◌≡◌, ◌+◌, ◌<◌, ◌≤◌}
-use Rattle.changes.specs.Places.{AreAscending}
+use Rattle.changes.proofs.Common.{◌≡◌, ◌+◌, ◌<◌, ◌≤◌, AreAscending}
 use Rattle.changes.proofs.listing.run.Given as goal
 
 abbrev pub invariant-loop-index : goal.invariant-loop-index

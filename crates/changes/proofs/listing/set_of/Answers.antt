@@ -1,8 +1,4 @@
-use Rattle.std.proofs.Common.{◌≡◌, ◌↔◌, ◌∙◌, ℕ, List, get_or, take, subst, arith}
-use Rattle.std.specs.Prelude.{Contains}
-use Rattle.std.proofs.lemmas.List.{take_all}
-use Rattle.std.proofs.lemmas.List.Elements.{Contains-get_or}
-use Rattle.places.specs.Sets.{Rows, Has}
+use Rattle.changes.proofs.Common.{◌≡◌, ◌↔◌, ◌∙◌, ℕ, List, get_or, take, subst, arith, Contains, take_all, Contains-get_or, Rows, Has}
 use Rattle.changes.proofs.InOrder.{set_more}
 use Rattle.changes.proofs.listing.set_of.Goals as goal
 

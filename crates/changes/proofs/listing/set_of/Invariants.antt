@@ -1,7 +1,5 @@
 -- the set has the first places
-use Rattle.std.proofs.Common.{◌≡◌, ◌↔◌, ℕ, length, take}
-use Rattle.std.specs.Prelude.{Contains}
-use Rattle.places.specs.Sets.{Has}
+use Rattle.changes.proofs.Common.{◌≡◌, ◌↔◌, ℕ, length, take, Contains, Has}
 use Rattle.changes.proofs.listing.set_of.Given as goal
 
 abbrev pub invariant-loop-place : goal.invariant-loop-place

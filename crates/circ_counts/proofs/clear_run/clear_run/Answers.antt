@@ -1,7 +1,4 @@
-use Rattle.std.proofs.Common.{◌<◌, ◌+◌, not, length, ap, sym, ◌∙◌, arith}
-use Rattle.std.proofs.lemmas.List.{length_push}
-use Rattle.std.proofs.lemmas.List.Elements.{All-push}
-use Rattle.circuits.proofs.Kept.{Adds-trans, Adds-weaken, All-kept, own_at}
+use Rattle.circ_counts.proofs.Common.{◌<◌, ◌+◌, not, length, ap, sym, ◌∙◌, arith, length_push, All-push, Adds-trans, Adds-weaken, All-kept, own_at}
 use Rattle.circ_counts.proofs.Counted.{count_push, count-kept, run_take_more}
 use Rattle.circ_counts.proofs.clear_run.clear_run.Goals as goal
 

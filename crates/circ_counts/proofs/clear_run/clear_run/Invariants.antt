@@ -1,7 +1,4 @@
-use Rattle.std.proofs.Common.{◌≡◌, Bool, not, List, take, length}
-use Rattle.std.specs.Prelude.{filter}
-use Rattle.std.specs.List.{All, list_all, prefix_len}
-use Rattle.circuits.specs.Circuit.{Adds}
+use Rattle.circ_counts.proofs.Common.{◌≡◌, Bool, not, List, take, length, filter, All, list_all, prefix_len, Adds}
 use Rattle.circ_counts.proofs.clear_run.clear_run.Given as goal
 
 abbrev pub invariant-loop-bit : goal.invariant-loop-bit

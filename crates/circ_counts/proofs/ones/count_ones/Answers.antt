@@ -1,15 +1,4 @@
-use Rattle.std.proofs.Common.{◌≡◌, ◌≤◌, ◌+◌, ◌*◌, length, map, sym, ap, subst, ◌∙◌, arith}
-use Rattle.std.specs.List.{All}
-use Rattle.std.specs.Prelude.{filter}
-use Rattle.std.proofs.lemmas.Result.{IfOk-weaker}
-use Rattle.std.proofs.lemmas.List.{length-replicate}
-use Rattle.std.proofs.lemmas.List.Elements.{All-replicate}
-use Rattle.circuits.specs.Circuit.{Adds}
-use Rattle.circuits.specs.Gates.{adder_gates, stages}
-use Rattle.circuits.specs.Word.{number, number_of, bit}
-use Rattle.circuits.proofs.Kept.{Adds-none, Adds-weaken}
-use Rattle.circuits.proofs.Words.{number-all_zero}
-use Rattle.circ_counts.specs.Gates.{count_gates}
+use Rattle.circ_counts.proofs.Common.{◌≡◌, ◌≤◌, ◌+◌, ◌*◌, length, map, sym, ap, subst, ◌∙◌, arith, All, filter, IfOk-weaker, length-replicate, All-replicate, Adds, adder_gates, stages, number, number_of, bit, Adds-none, Adds-weaken, number-all_zero, count_gates}
 use Rattle.circ_counts.proofs.Counted.{digits-hold, digits-few}
 use Rattle.circ_counts.proofs.ones.count_ones.Goals as goal
 

@@ -1,11 +1,4 @@
-use Rattle.std.proofs.Common.{◌≡◌, ◌<◌, ◌≤◌, ◌+◌, ◌*◌, ◌^◌, length, take, sym, ap, subst, ◌∙◌, arith}
-use Rattle.std.specs.List.{All}
-use Rattle.std.proofs.Math.Nat.{mul-le-mul_left}
-use Rattle.std.specs.Prelude.{filter}
-use Rattle.std.proofs.lemmas.List.{length-take-le, take_all}
-use Rattle.circuits.specs.Gates.{adder_gates}
-use Rattle.circuits.specs.Word.{number_of, bit}
-use Rattle.circuits.proofs.Kept.{Adds-trans, Adds-weaken, All-kept, map-kept, own_at}
+use Rattle.circ_counts.proofs.Common.{◌≡◌, ◌<◌, ◌≤◌, ◌+◌, ◌*◌, ◌^◌, length, take, sym, ap, subst, ◌∙◌, arith, All, mul-le-mul_left, filter, length-take-le, take_all, adder_gates, number_of, bit, Adds-trans, Adds-weaken, All-kept, map-kept, own_at}
 use Rattle.circ_counts.proofs.Counted.{count_take_more, count-le, no_carry}
 use Rattle.circ_counts.proofs.ones.counted.Goals as goal
 

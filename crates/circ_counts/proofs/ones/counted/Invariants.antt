@@ -1,9 +1,4 @@
-use Rattle.std.proofs.Common.{◌≡◌, ◌*◌, Bool, List, take, length}
-use Rattle.std.specs.Prelude.{filter}
-use Rattle.std.specs.List.{All}
-use Rattle.circuits.specs.Circuit.{Adds}
-use Rattle.circuits.specs.Gates.{adder_gates}
-use Rattle.circuits.specs.Word.{number_of}
+use Rattle.circ_counts.proofs.Common.{◌≡◌, ◌*◌, Bool, List, take, length, filter, All, Adds, adder_gates, number_of}
 use Rattle.circ_counts.proofs.ones.counted.Given as goal
 
 abbrev pub invariant-loop-bit : goal.invariant-loop-bit

@@ -1,5 +1,4 @@
-use Rattle.std.proofs.Common.{◌+◌, arith}
-use Rattle.circuits.proofs.Stages.{stages-none, stages-is}
+use Rattle.circ_counts.proofs.Common.{◌+◌, arith, stages-none, stages-is}
 use Rattle.circ_counts.proofs.ones.digit_count.Goals as goal
 
 pub returns-then-most-eq0 : goal.returns-then-most-eq0

@@ -1,6 +1,4 @@
-use Rattle.std.proofs.Common.{◌≡◌, not, reverse, ap, ◌∙◌}
-use Rattle.std.specs.List.{prefix_len}
-use Rattle.std.proofs.lemmas.Result.{IfOk-weaker}
+use Rattle.circ_counts.proofs.Common.{◌≡◌, not, reverse, ap, ◌∙◌, prefix_len, IfOk-weaker}
 use Rattle.circ_counts.proofs.zeros.leading_zeros.Goals as goal
 
 pub returns-clause-number : goal.returns-clause-number

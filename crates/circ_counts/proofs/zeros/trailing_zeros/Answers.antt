@@ -1,8 +1,4 @@
-use Rattle.std.proofs.Common.{◌≤◌, ◌+◌, not, length, sym, ap, subst, ◌∙◌, arith}
-use Rattle.std.specs.List.{All, prefix_len}
-use Rattle.std.proofs.lemmas.Result.{IfOk-weaker}
-use Rattle.circuits.proofs.Kept.{Adds-trans, Adds-weaken}
-use Rattle.circ_counts.specs.Gates.{count_gates, zeros_gates}
+use Rattle.circ_counts.proofs.Common.{◌≤◌, ◌+◌, not, length, sym, ap, subst, ◌∙◌, arith, All, prefix_len, IfOk-weaker, Adds-trans, Adds-weaken, count_gates, zeros_gates}
 use Rattle.circ_counts.proofs.zeros.trailing_zeros.Goals as goal
 
 pub returns-clause-number : goal.returns-clause-number

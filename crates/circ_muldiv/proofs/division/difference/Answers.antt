@@ -1,9 +1,4 @@
-use Rattle.std.proofs.Common.{◌≡◌, ◌≤◌, ◌+◌, length, [], ◌∷◌, ◌++◌, sym, ap, subst, ◌∙◌, arith}
-use Rattle.std.specs.List.{All}
-use Rattle.std.proofs.lemmas.List.{length_push}
-use Rattle.std.proofs.lemmas.List.Elements.{All-push}
-use Rattle.circuits.specs.Gates.{adder_gates}
-use Rattle.circuits.proofs.Kept.{Adds-refl, Adds-weaken}
+use Rattle.circ_muldiv.proofs.Common.{◌≡◌, ◌≤◌, ◌+◌, length, [], ◌∷◌, ◌++◌, sym, ap, subst, ◌∙◌, arith, All, length_push, All-push, adder_gates, Adds-refl, Adds-weaken}
 use Rattle.circ_muldiv.proofs.Quotients.{both_ok, taken}
 use Rattle.circ_muldiv.proofs.division.difference.Goals as goal
 

@@ -1,12 +1,4 @@
-use Rattle.std.proofs.Common.{◌≡◌, ℕ, ◌≤◌, ◌+◌, List, length, take, ◌∷◌, sym, ap, subst, ◌∙◌, arith}
-use Rattle.std.specs.List.{All}
-use Rattle.std.proofs.lemmas.List.Elements.{All-cons, All-take}
-use Rattle.std.proofs.lemmas.List.{length-take-le}
-use Rattle.circuits.specs.declared.state.State.{Ghosts}
-use Rattle.circuits.specs.Circuit.{Adds}
-use Rattle.circuits.specs.Gates.{adder_gates, select_gates}
-use Rattle.circuits.proofs.Kept.{All-kept, map-kept, Adds-refl, Adds-trans, Adds-weaken}
-use Rattle.circ_muldiv.specs.Gates.{division_step_gates}
+use Rattle.circ_muldiv.proofs.Common.{◌≡◌, ℕ, ◌≤◌, ◌+◌, List, length, take, ◌∷◌, sym, ap, subst, ◌∙◌, arith, All, All-cons, All-take, length-take-le, Ghosts, Adds, adder_gates, select_gates, All-kept, map-kept, Adds-refl, Adds-trans, Adds-weaken, division_step_gates}
 use Rattle.circ_muldiv.proofs.Quotients.{step_left}
 use Rattle.circ_muldiv.proofs.division.divide_step.Goals as goal
 

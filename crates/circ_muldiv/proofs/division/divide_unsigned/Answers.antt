@@ -1,5 +1,4 @@
-use Rattle.std.proofs.Common.{◌-◌, ◌<◌, ◌≤◌, length, ap, sym, ◌∙◌, arith}
-use Rattle.circuits.proofs.Kept.{own_at, All-kept, Adds-refl, Adds-weaken}
+use Rattle.circ_muldiv.proofs.Common.{◌-◌, ◌<◌, ◌≤◌, length, ap, sym, ◌∙◌, arith, own_at, All-kept, Adds-refl, Adds-weaken}
 use Rattle.circ_muldiv.proofs.Quotients.{stepped_init, stepped_more, stepped_within, stepped_adds, stepped_own, stepped_width, stepped_quotient, stepped_remainder}
 use Rattle.circ_muldiv.proofs.division.divide_unsigned.Goals as goal
 

@@ -1,7 +1,4 @@
-use Rattle.std.proofs.Common.{◌&&◌, ap, ◌∙◌, arith}
-use Rattle.std.specs.Bool.{xor}
-use Rattle.std.proofs.lemmas.Result.{IfOk-weaker}
-use Rattle.circuits.proofs.Kept.{Adds-trans, Adds-weaken}
+use Rattle.circ_muldiv.proofs.Common.{◌&&◌, ap, ◌∙◌, arith, xor, IfOk-weaker, Adds-trans, Adds-weaken}
 use Rattle.circ_muldiv.proofs.overflow.differs_from_both.Goals as goal
 
 pub returns-in_err-from_y-clause-adds : goal.returns-in_err-from_y-clause-adds

@@ -1,7 +1,4 @@
-use Rattle.std.proofs.Common.{◌-◌, ◌++◌, ◌∷◌, [], length, replicate, sym, ap, subst, ◌∙◌, arith}
-use Rattle.std.specs.List.{All}
-use Rattle.std.proofs.lemmas.List.{length_push, length-replicate}
-use Rattle.std.proofs.lemmas.List.Elements.{All-push, All-replicate}
+use Rattle.circ_muldiv.proofs.Common.{◌-◌, ◌++◌, ◌∷◌, [], length, replicate, sym, ap, subst, ◌∙◌, arith, All, length_push, length-replicate, All-push, All-replicate}
 use Rattle.circ_muldiv.proofs.OverflowTests.{greatest_is}
 use Rattle.circ_muldiv.proofs.overflow.greatest.Goals as goal
 

@@ -1,9 +1,4 @@
-use Rattle.std.proofs.Common.{◌≡◌, ◌<◌, ◌-◌, ◌+ℤ◌, not, Bool, length, subst, sym, ap, ◌∙◌, arith}
-use Rattle.std.specs.List.{All}
-use Rattle.std.proofs.lemmas.Result.{IfOk-weaker}
-use Rattle.circuits.specs.Word.{number_of}
-use Rattle.circuits.proofs.Kept.{own_at, Adds-trans, Adds-weaken}
-use Rattle.circ_muldiv.specs.Overflow.{fits, whole}
+use Rattle.circ_muldiv.proofs.Common.{◌≡◌, ◌<◌, ◌-◌, ◌+ℤ◌, not, Bool, length, subst, sym, ap, ◌∙◌, arith, All, IfOk-weaker, number_of, own_at, Adds-trans, Adds-weaken, fits, whole}
 use Rattle.circ_muldiv.proofs.OverflowTests.{sum_carries, sum_changes_sign}
 use Rattle.circ_muldiv.proofs.overflow.overflow_add.Goals as goal
 

@@ -1,9 +1,4 @@
-use Rattle.std.proofs.Common.{true, ◌<◌, ◌≤◌, ◌-◌, ◌+◌, length, sym, ap, subst, ◌∙◌, arith}
-use Rattle.std.specs.List.{All}
-use Rattle.std.proofs.lemmas.Result.{IfOk-weaker}
-use Rattle.circuits.specs.Gates.{comparison_gates}
-use Rattle.circuits.proofs.Kept.{own_at, All-kept, map-kept, Keeps-trans, Adds-trans, Adds-weaken}
-use Rattle.circ_muldiv.specs.Gates.{absolute_gates, product_gates, overflow_mul_gates}
+use Rattle.circ_muldiv.proofs.Common.{true, ◌<◌, ◌≤◌, ◌-◌, ◌+◌, length, sym, ap, subst, ◌∙◌, arith, All, IfOk-weaker, comparison_gates, own_at, All-kept, map-kept, Keeps-trans, Adds-trans, Adds-weaken, absolute_gates, product_gates, overflow_mul_gates}
 use Rattle.circ_muldiv.proofs.OverflowTests.{product_exceeds_limit}
 use Rattle.circ_muldiv.proofs.overflow.overflow_mul_signed.Goals as goal
 

@@ -1,8 +1,4 @@
-use Rattle.std.proofs.Common.{◌≡◌, ◌<◌, ◌-◌, ◌-ℤ◌, not, Bool, length, subst, sym, ◌∙◌, arith}
-use Rattle.std.proofs.lemmas.Result.{IfOk-weaker}
-use Rattle.circuits.specs.Word.{number_of}
-use Rattle.circuits.proofs.Kept.{own_at}
-use Rattle.circ_muldiv.specs.Overflow.{fits, whole}
+use Rattle.circ_muldiv.proofs.Common.{◌≡◌, ◌<◌, ◌-◌, ◌-ℤ◌, not, Bool, length, subst, sym, ◌∙◌, arith, IfOk-weaker, number_of, own_at, fits, whole}
 use Rattle.circ_muldiv.proofs.OverflowTests.{number_below, unsigned_difference, difference_changes_sign}
 use Rattle.circ_muldiv.proofs.overflow.overflow_sub.Goals as goal
 

@@ -1,6 +1,4 @@
-use Rattle.std.proofs.Common.{◌≤◌, length, arith}
-use Rattle.circuits.proofs.Kept.{Adds-weaken}
-use Rattle.circ_muldiv.specs.Gates.{product_gates}
+use Rattle.circ_muldiv.proofs.Common.{◌≤◌, length, arith, Adds-weaken, product_gates}
 use Rattle.circ_muldiv.proofs.product.multiply.Goals as goal
 
 pub returns-in_err-product-clause-adds : goal.returns-in_err-product-clause-adds

@@ -1,6 +1,4 @@
-use Rattle.std.proofs.Common.{◌<◌, ◌-◌, length, sym, ap, subst, ◌∙◌, arith}
-use Rattle.std.specs.List.{All}
-use Rattle.circuits.proofs.Kept.{own_at, All-kept, Adds-trans, Adds-weaken, Keeps-trans}
+use Rattle.circ_muldiv.proofs.Common.{◌<◌, ◌-◌, length, sym, ap, subst, ◌∙◌, arith, All, own_at, All-kept, Adds-trans, Adds-weaken, Keeps-trans}
 use Rattle.circ_muldiv.proofs.Rows.{multiplied_init, multiplied_more, multiplied_within, multiplied_adds, multiplied_product, multiplied_overflows}
 use Rattle.circ_muldiv.proofs.product.multiply_with_overflow.Goals as goal
 

@@ -1,9 +1,4 @@
-use Rattle.std.proofs.Common.{◌≡◌, ℕ, ◌≤◌, ◌-◌, ◌++◌, List, take, drop, length, ap, sym, subst, ◌∙◌, length-append, length-drop, arith}
-use Rattle.std.specs.List.{All}
-use Rattle.std.proofs.lemmas.List.{length-take-le, take_all}
-use Rattle.std.proofs.lemmas.List.Elements.{All-append, All-take, All-drop}
-use Rattle.circuits.proofs.Kept.{All-kept, map-kept, Adds-weaken}
-use Rattle.circ_muldiv.specs.Gates.{row_gates}
+use Rattle.circ_muldiv.proofs.Common.{◌≡◌, ℕ, ◌≤◌, ◌-◌, ◌++◌, List, take, drop, length, ap, sym, subst, ◌∙◌, length-append, length-drop, arith, All, length-take-le, take_all, All-append, All-take, All-drop, All-kept, map-kept, Adds-weaken, row_gates}
 use Rattle.circ_muldiv.proofs.Masks.{row_sum}
 use Rattle.circ_muldiv.proofs.row.add_row.Goals as goal
 

@@ -1,8 +1,4 @@
-use Rattle.std.proofs.Common.{◌≤◌, ◌+◌, length, arith}
-use Rattle.std.proofs.lemmas.Result.{IfOk-weaker}
-use Rattle.circuits.specs.Gates.{adder_gates}
-use Rattle.circuits.proofs.Kept.{map-kept, Adds-trans, Adds-weaken}
-use Rattle.circ_muldiv.specs.Gates.{row_gates}
+use Rattle.circ_muldiv.proofs.Common.{◌≤◌, ◌+◌, length, arith, IfOk-weaker, adder_gates, map-kept, Adds-trans, Adds-weaken, row_gates}
 use Rattle.circ_muldiv.proofs.Masks.{sum_where}
 use Rattle.circ_muldiv.proofs.row.add_where.Goals as goal
 

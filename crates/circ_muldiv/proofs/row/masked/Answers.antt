@@ -1,7 +1,4 @@
-use Rattle.std.proofs.Common.{◌<◌, length, ◌+◌, ◌∙◌, ap, arith}
-use Rattle.std.proofs.lemmas.List.{length_push}
-use Rattle.std.proofs.lemmas.List.Elements.{All-push}
-use Rattle.circuits.proofs.Kept.{Adds-trans, Adds-weaken, All-kept, map-kept, own_at}
+use Rattle.circ_muldiv.proofs.Common.{◌<◌, length, ◌+◌, ◌∙◌, ap, arith, length_push, All-push, Adds-trans, Adds-weaken, All-kept, map-kept, own_at}
 use Rattle.circ_muldiv.proofs.Masks.{mask_more}
 use Rattle.circ_muldiv.proofs.row.masked.Goals as goal
 

@@ -1,7 +1,4 @@
-use Rattle.std.proofs.Common.{◌≡◌, ◌*◌, Bool, List, take, length}
-use Rattle.std.specs.List.{All}
-use Rattle.circuits.specs.Circuit.{Adds}
-use Rattle.circuits.specs.Word.{bit, number_of}
+use Rattle.circ_muldiv.proofs.Common.{◌≡◌, ◌*◌, Bool, List, take, length, All, Adds, bit, number_of}
 use Rattle.circ_muldiv.proofs.row.masked.Given as goal
 
 abbrev pub invariant-loop-bit : goal.invariant-loop-bit

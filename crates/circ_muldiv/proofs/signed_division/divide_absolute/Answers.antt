@@ -1,7 +1,4 @@
-use Rattle.std.proofs.Common.{◌≤◌, ◌+◌, ◌*◌, length, sym, ◌∙◌, arith}
-use Rattle.std.proofs.lemmas.Result.{IfOk-weaker}
-use Rattle.circuits.proofs.Kept.{All-kept, map-kept, Adds-trans, Adds-weaken}
-use Rattle.circ_muldiv.specs.Gates.{absolute_gates, division_gates}
+use Rattle.circ_muldiv.proofs.Common.{◌≤◌, ◌+◌, ◌*◌, length, sym, ◌∙◌, arith, IfOk-weaker, All-kept, map-kept, Adds-trans, Adds-weaken, absolute_gates, division_gates}
 use Rattle.circ_muldiv.proofs.SignedQuotients.{divisor_some, absolute_quotient, absolute_remainder}
 use Rattle.circ_muldiv.proofs.signed_division.divide_absolute.Goals as goal
 

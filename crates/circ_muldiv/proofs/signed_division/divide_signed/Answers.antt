@@ -1,6 +1,4 @@
-use Rattle.std.proofs.Common.{◌<◌, ◌≤◌, ◌+◌, ◌-◌, ◌*◌, length, ◌∙◌, arith}
-use Rattle.circuits.proofs.Kept.{own_at, All-kept, map-kept, Keeps-trans, Adds-trans, Adds-weaken}
-use Rattle.circ_muldiv.specs.Gates.{absolute_gates, division_gates, signed_division_gates}
+use Rattle.circ_muldiv.proofs.Common.{◌<◌, ◌≤◌, ◌+◌, ◌-◌, ◌*◌, length, ◌∙◌, arith, own_at, All-kept, map-kept, Keeps-trans, Adds-trans, Adds-weaken, absolute_gates, division_gates, signed_division_gates}
 use Rattle.circ_muldiv.proofs.SignedQuotients.{quotient_value, remainder_value}
 use Rattle.circ_muldiv.proofs.signed_division.divide_signed.Goals as goal
 

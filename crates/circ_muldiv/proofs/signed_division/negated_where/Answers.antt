@@ -1,9 +1,4 @@
-use Rattle.std.proofs.Common.{◌≤◌, ◌+◌, length, sym, ap, subst, ◌∙◌, arith}
-use Rattle.std.specs.List.{All}
-use Rattle.std.proofs.lemmas.Result.{IfOk-weaker}
-use Rattle.circuits.specs.Gates.{adder_gates, select_gates}
-use Rattle.circuits.proofs.Kept.{All-kept, map-kept, Adds-trans, Adds-weaken}
-use Rattle.circ_muldiv.specs.Gates.{absolute_gates}
+use Rattle.circ_muldiv.proofs.Common.{◌≤◌, ◌+◌, length, sym, ap, subst, ◌∙◌, arith, All, IfOk-weaker, adder_gates, select_gates, All-kept, map-kept, Adds-trans, Adds-weaken, absolute_gates}
 use Rattle.circ_muldiv.proofs.SignedQuotients.{negated_value}
 use Rattle.circ_muldiv.proofs.signed_division.negated_where.Goals as goal
 

@@ -1,4 +1,4 @@
-use Rattle.std.proofs.Common.{◌<◌, length, arith}
+use Rattle.circuits.proofs.Common.{◌<◌, length, arith}
 use Rattle.circuits.proofs.Kept.{own_at, Adds-trans, Adds-weaken}
 use Rattle.circuits.proofs.Chain.{chain_step, chain_end}
 use Rattle.circuits.proofs.adder.add_with_carry.Goals as goal

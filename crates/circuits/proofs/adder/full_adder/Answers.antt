@@ -1,5 +1,4 @@
-use Rattle.std.proofs.Common.{◌&&◌, ◌||◌, ap, ◌∙◌, arith}
-use Rattle.std.specs.Bool.{xor}
+use Rattle.circuits.proofs.Common.{◌&&◌, ◌||◌, ap, ◌∙◌, arith, xor}
 use Rattle.circuits.proofs.Kept.{Adds-trans, Adds-weaken, Keeps-trans}
 use Rattle.circuits.proofs.adder.full_adder.Goals as goal
 

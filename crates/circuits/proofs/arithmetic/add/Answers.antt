@@ -1,6 +1,4 @@
-use Rattle.std.proofs.Common.{length, ◌+◌, ◌^◌, ap, ◌∙◌}
-use Rattle.std.proofs.lemmas.List.{length-map}
-use Rattle.circuits.specs.Word.{number_of}
+use Rattle.circuits.proofs.Common.{length, ◌+◌, ◌^◌, ap, ◌∙◌, length-map, number_of}
 use Rattle.circuits.proofs.Words.{sum_remainder, nothing_carried}
 use Rattle.circuits.proofs.arithmetic.add.Goals as goal
 

@@ -1,9 +1,4 @@
-use Rattle.std.proofs.Common.{◌≡◌, length, replicate, sym, ap, subst, ◌∙◌, arith}
-use Rattle.std.specs.List.{All}
-use Rattle.std.proofs.lemmas.List.{length-replicate}
-use Rattle.std.proofs.lemmas.List.Elements.{All-replicate}
-use Rattle.std.proofs.lemmas.Result.{IfOk-weaker}
-use Rattle.circuits.specs.Word.{number_of}
+use Rattle.circuits.proofs.Common.{◌≡◌, length, replicate, sym, ap, subst, ◌∙◌, arith, All, length-replicate, All-replicate, IfOk-weaker, number_of}
 use Rattle.circuits.proofs.Kept.{Adds-none, Adds-weaken}
 use Rattle.circuits.proofs.Words.{number-neg}
 use Rattle.circuits.proofs.arithmetic.neg.Goals as goal

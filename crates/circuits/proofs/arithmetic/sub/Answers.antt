@@ -1,7 +1,4 @@
-use Rattle.std.proofs.Common.{length, map, sym, ap, subst, ◌∙◌, arith}
-use Rattle.std.specs.List.{All}
-use Rattle.std.proofs.lemmas.List.{length-map}
-use Rattle.circuits.specs.Word.{number_of}
+use Rattle.circuits.proofs.Common.{length, map, sym, ap, subst, ◌∙◌, arith, All, length-map, number_of}
 use Rattle.circuits.proofs.Kept.{Adds-none, Adds-weaken}
 use Rattle.circuits.proofs.Words.{number-sub, sum_remainder}
 use Rattle.circuits.proofs.arithmetic.sub.Goals as goal

@@ -1,6 +1,4 @@
-use Rattle.std.proofs.Common.{◌≡◌, ◌*◌, ◌==◌, Bool, List, take}
-use Rattle.circuits.specs.Circuit.{Adds}
-use Rattle.circuits.specs.Word.{number_of}
+use Rattle.circuits.proofs.Common.{◌≡◌, ◌*◌, ◌==◌, Bool, List, take, Adds, number_of}
 use Rattle.circuits.proofs.compare.equal.Given as goal
 
 abbrev pub invariant-loop-i : goal.invariant-loop-i

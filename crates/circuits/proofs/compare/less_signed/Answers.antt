@@ -1,6 +1,4 @@
-use Rattle.std.proofs.Common.{length, sym, ap, subst, ◌∙◌, arith}
-use Rattle.std.specs.List.{All}
-use Rattle.std.proofs.lemmas.Result.{IfOk-weaker}
+use Rattle.circuits.proofs.Common.{length, sym, ap, subst, ◌∙◌, arith, All, IfOk-weaker}
 use Rattle.circuits.proofs.Kept.{Adds-none, Adds-weaken}
 use Rattle.circuits.proofs.Signed.{less_raised}
 use Rattle.circuits.proofs.compare.less_signed.Goals as goal

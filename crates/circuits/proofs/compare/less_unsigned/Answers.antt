@@ -1,5 +1,4 @@
-use Rattle.std.proofs.Common.{◌<◌, length, subst, sym, ap, arith}
-use Rattle.std.specs.List.{All}
+use Rattle.circuits.proofs.Common.{◌<◌, length, subst, sym, ap, arith, All}
 use Rattle.circuits.proofs.Compared.{less_more}
 use Rattle.circuits.proofs.Kept.{Adds-trans, Adds-weaken, own_at}
 use Rattle.circuits.proofs.compare.less_unsigned.Goals as goal

@@ -1,6 +1,4 @@
-use Rattle.std.proofs.Common.{◌≡◌, ◌*◌, nat_lt, Bool, List, take}
-use Rattle.circuits.specs.Circuit.{Adds}
-use Rattle.circuits.specs.Word.{number_of}
+use Rattle.circuits.proofs.Common.{◌≡◌, ◌*◌, nat_lt, Bool, List, take, Adds, number_of}
 use Rattle.circuits.proofs.compare.less_unsigned.Given as goal
 
 abbrev pub invariant-loop-i : goal.invariant-loop-i

@@ -1,8 +1,4 @@
-use Rattle.std.proofs.Common.{◌≡◌, ◌<◌, ◌-◌, length, take, ◌++◌, ◌∷◌, [], map, sym, ap, subst, ◌∙◌, arith}
-use Rattle.std.specs.List.{All}
-use Rattle.std.proofs.lemmas.List.{length_push, length-take-le}
-use Rattle.std.proofs.lemmas.List.Elements.{All-push, All-take}
-use Rattle.circuits.specs.Word.{number}
+use Rattle.circuits.proofs.Common.{◌≡◌, ◌<◌, ◌-◌, length, take, ◌++◌, ◌∷◌, [], map, sym, ap, subst, ◌∙◌, arith, All, length_push, length-take-le, All-push, All-take, number}
 use Rattle.circuits.proofs.Kept.{own_at}
 use Rattle.circuits.proofs.Words.{number-flipped}
 use Rattle.circuits.proofs.compare.raised.Given.{Over}

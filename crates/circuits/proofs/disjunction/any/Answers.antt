@@ -1,4 +1,4 @@
-use Rattle.std.proofs.Common.{◌<◌, length, sym, ◌∙◌, arith}
+use Rattle.circuits.proofs.Common.{◌<◌, length, sym, ◌∙◌, arith}
 use Rattle.circuits.proofs.Kept.{Adds-trans, own_at}
 use Rattle.circuits.proofs.Words.{list_any-take_more}
 use Rattle.circuits.proofs.disjunction.any.Goals as goal

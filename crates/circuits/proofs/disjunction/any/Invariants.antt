@@ -1,6 +1,4 @@
-use Rattle.std.proofs.Common.{◌≡◌, Bool, List, take}
-use Rattle.std.specs.List.{list_any}
-use Rattle.circuits.specs.Circuit.{Adds}
+use Rattle.circuits.proofs.Common.{◌≡◌, Bool, List, take, list_any, Adds}
 use Rattle.circuits.proofs.disjunction.any.Given as goal
 
 abbrev pub invariant-loop-bit : goal.invariant-loop-bit

@@ -1,6 +1,4 @@
-use Rattle.std.proofs.Common.{length, map, sym, ap, subst, ◌∙◌, arith}
-use Rattle.std.specs.List.{All}
-use Rattle.std.proofs.lemmas.Result.{IfOk-weaker}
+use Rattle.circuits.proofs.Common.{length, map, sym, ap, subst, ◌∙◌, arith, All, IfOk-weaker}
 use Rattle.circuits.proofs.Chosen.{chosen}
 use Rattle.circuits.proofs.Kept.{All-kept, map-kept, Adds-trans, Adds-weaken}
 use Rattle.circuits.proofs.extreme.minimum.Goals as goal

@@ -1,8 +1,4 @@
-use Rattle.std.proofs.Common.{◌≡◌, take, length, map, sym, ap, subst, ◌∙◌}
-use Rattle.std.specs.List.{All}
-use Rattle.std.proofs.lemmas.List.{length-take-le}
-use Rattle.std.proofs.lemmas.List.Elements.{All-take}
-use Rattle.circuits.specs.Word.{number}
+use Rattle.circuits.proofs.Common.{◌≡◌, take, length, map, sym, ap, subst, ◌∙◌, All, length-take-le, All-take, number}
 use Rattle.circuits.proofs.Words.{number-cut}
 use Rattle.circuits.proofs.resize.cut.Given.{Over}
 use Rattle.circuits.proofs.resize.cut.Goals as goal

@@ -1,8 +1,4 @@
-use Rattle.std.proofs.Common.{arith, ◌≡◌, ◌-◌, ◌++◌, length, take, replicate, sym, ap, subst, ◌∙◌, map, length-append}
-use Rattle.std.specs.List.{All}
-use Rattle.std.proofs.lemmas.List.{length-replicate, take_all}
-use Rattle.std.proofs.lemmas.List.Elements.{All-append, All-replicate}
-use Rattle.circuits.specs.Word.{number}
+use Rattle.circuits.proofs.Common.{arith, ◌≡◌, ◌-◌, ◌++◌, length, take, replicate, sym, ap, subst, ◌∙◌, map, length-append, All, length-replicate, take_all, All-append, All-replicate, number}
 use Rattle.circuits.proofs.Words.{number-extend}
 use Rattle.circuits.proofs.resize.extend.Given.{Over}
 use Rattle.circuits.proofs.resize.extend.Goals as goal

@@ -1,9 +1,4 @@
-use Rattle.std.proofs.Common.{◌≡◌, ◌^◌, ◌<◌, ◌≤◌, length, map, ◌∙◌, ap, sym, subst, arith}
-use Rattle.std.specs.List.{All}
-use Rattle.std.proofs.Math.Nat.{mul-le-mul_left}
-use Rattle.std.proofs.lemmas.List.{take_all}
-use Rattle.circuits.specs.Move.{moved}
-use Rattle.circuits.specs.Word.{number_of}
+use Rattle.circuits.proofs.Common.{◌≡◌, ◌^◌, ◌<◌, ◌≤◌, length, map, ◌∙◌, ap, sym, subst, arith, All, mul-le-mul_left, take_all, moved, number_of}
 use Rattle.circuits.proofs.Kept.{Adds-trans, Adds-weaken, own_at}
 use Rattle.circuits.proofs.Stages.{stage_inside, stage_place, stage_distance, stage_gates}
 use Rattle.circuits.proofs.Shifts.{All-moved, moved_more}

@@ -1,8 +1,4 @@
-use Rattle.std.proofs.Common.{◌≡◌, ◌*◌, Bool, List, map, take, length}
-use Rattle.std.specs.List.{All}
-use Rattle.circuits.specs.Circuit.{Adds}
-use Rattle.circuits.specs.Move.{moved}
-use Rattle.circuits.specs.Word.{number_of}
+use Rattle.circuits.proofs.Common.{◌≡◌, ◌*◌, Bool, List, map, take, length, All, Adds, moved, number_of}
 use Rattle.circuits.proofs.shift.by_stages.Given as goal
 
 abbrev pub invariant-loop-i : goal.invariant-loop-i

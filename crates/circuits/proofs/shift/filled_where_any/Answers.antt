@@ -1,8 +1,4 @@
-use Rattle.std.proofs.Common.{◌≡◌, length, sym, ap, subst, ◌∙◌, arith}
-use Rattle.std.specs.List.{All}
-use Rattle.std.proofs.lemmas.List.{length-replicate}
-use Rattle.std.proofs.lemmas.List.Elements.{All-replicate}
-use Rattle.std.proofs.lemmas.Result.{IfOk-weaker}
+use Rattle.circuits.proofs.Common.{◌≡◌, length, sym, ap, subst, ◌∙◌, arith, All, length-replicate, All-replicate, IfOk-weaker}
 use Rattle.circuits.proofs.Kept.{All-kept, map-kept, Adds-trans, Adds-weaken}
 use Rattle.circuits.proofs.Words.{map-replicate}
 use Rattle.circuits.proofs.shift.filled_where_any.Goals as goal

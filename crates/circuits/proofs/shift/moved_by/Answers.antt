@@ -1,5 +1,4 @@
-use Rattle.std.proofs.Common.{arith, ◌≡◌, ◌-◌, ◌++◌, [], length, take, replicate, ap, ◌∙◌}
-use Rattle.std.proofs.lemmas.List.{take_all}
+use Rattle.circuits.proofs.Common.{arith, ◌≡◌, ◌-◌, ◌++◌, [], length, take, replicate, ap, ◌∙◌, take_all}
 use Rattle.circuits.proofs.Shifts.{moved_up}
 use Rattle.circuits.proofs.shift.moved_by.Goals as goal
 

@@ -1,9 +1,4 @@
-use Rattle.std.proofs.Common.{◌≡◌, ◌-◌, min, length, take, drop, length-drop, sym, ap, subst, ◌∙◌, arith}
-use Rattle.std.proofs.lemmas.List.{take_all}
-use Rattle.std.proofs.lemmas.List.Elements.{All-take, All-drop}
-use Rattle.std.proofs.lemmas.Result.{IfOk-weaker}
-use Rattle.std.specs.List.{All}
-use Rattle.circuits.specs.Gates.{stages}
+use Rattle.circuits.proofs.Common.{◌≡◌, ◌-◌, min, length, take, drop, length-drop, sym, ap, subst, ◌∙◌, arith, take_all, All-take, All-drop, IfOk-weaker, All, stages}
 use Rattle.circuits.proofs.Kept.{All-kept, map-kept, Adds-trans, Adds-weaken}
 use Rattle.circuits.proofs.Stages.{stage_reach, near_few, near_gates, whole_gates}
 use Rattle.circuits.proofs.Words.{any-number}

@@ -1,6 +1,4 @@
-use Rattle.std.proofs.Common.{ap, ◌∙◌}
-use Rattle.std.proofs.lemmas.Result.{IfOk-weaker}
-use Rattle.circuits.specs.Word.{number, number_of}
+use Rattle.circuits.proofs.Common.{ap, ◌∙◌, IfOk-weaker, number, number_of}
 use Rattle.circuits.proofs.Shifts.{number-moved_down}
 use Rattle.circuits.proofs.shift.shift_right.Goals as goal
 

@@ -1,4 +1,4 @@
-use Rattle.std.proofs.Common.{arith}
+use Rattle.circuits.proofs.Common.{arith}
 use Rattle.circuits.proofs.Stages.{stages-none, stages-is}
 use Rattle.circuits.proofs.shift.stage_count.Goals as goal
 

@@ -1,5 +1,4 @@
-use Rattle.std.proofs.Common.{◌≡◌, Bool, List, not, map, length, take}
-use Rattle.std.specs.List.{All}
+use Rattle.circuits.proofs.Common.{◌≡◌, Bool, List, not, map, length, take, All}
 use Rattle.circuits.proofs.word.inverted.Given as goal
 
 abbrev pub invariant-loop-bit : goal.invariant-loop-bit

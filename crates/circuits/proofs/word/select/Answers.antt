@@ -1,6 +1,4 @@
-use Rattle.std.proofs.Common.{◌<◌, length, ◌∷◌, [], ◌+◌, ◌∙◌, ap, sym, arith}
-use Rattle.std.proofs.lemmas.List.{map-append, length_push}
-use Rattle.std.proofs.lemmas.List.Elements.{All-push}
+use Rattle.circuits.proofs.Common.{◌<◌, length, ◌∷◌, [], ◌+◌, ◌∙◌, ap, sym, arith, map-append, length_push, All-push}
 use Rattle.circuits.proofs.Kept.{Adds-trans, Adds-weaken, All-kept, map-kept, own_at}
 use Rattle.circuits.proofs.Words.{take_select, take_select_all}
 use Rattle.circuits.proofs.word.select.Goals as goal

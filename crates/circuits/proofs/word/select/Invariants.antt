@@ -1,6 +1,4 @@
-use Rattle.std.proofs.Common.{◌≡◌, Bool, List, map, take, length, if◌then◌else◌}
-use Rattle.std.specs.List.{All}
-use Rattle.circuits.specs.Circuit.{Adds}
+use Rattle.circuits.proofs.Common.{◌≡◌, Bool, List, map, take, length, if◌then◌else◌, All, Adds}
 use Rattle.circuits.proofs.word.select.Given as goal
 
 abbrev pub invariant-loop-i : goal.invariant-loop-i

@@ -1,6 +1,4 @@
-use Rattle.std.proofs.Common.{◌≡◌, ◌+◌, ◌*◌, ◌≤◌, All, length, subst, sym, ap, ◌∙◌, slice_get, Some, arith}
-use Rattle.std.proofs.lemmas.Result.{IfOk-weaker}
-use Rattle.cnf_build.specs.Definitions.{clauses_from, NamesOnce}
+use Rattle.cnf_build.proofs.Common.{◌≡◌, ◌+◌, ◌*◌, ◌≤◌, All, length, subst, sym, ap, ◌∙◌, slice_get, Some, arith, IfOk-weaker, clauses_from, NamesOnce}
 use Rattle.cnf_build.proofs.MarksLemmas.{OperandsBelow-from_OperandsAmong}
 use Rattle.cnf_build.proofs.EncodingLemmas.{variable_within, stands_for_root, clauses_once}
 use Rattle.cnf_build.proofs.encoding.clauses_of.Goals as goal

@@ -1,6 +1,4 @@
-use Rattle.std.proofs.Common.{◌≡◌, ◌+◌, length, sym, subst, ap, arith}
-use Rattle.clauses.specs.Literal.{VariablesWithin}
-use Rattle.cnf_build.specs.Definitions.{clauses_from}
+use Rattle.cnf_build.proofs.Common.{◌≡◌, ◌+◌, length, sym, subst, ap, arith, VariablesWithin, clauses_from}
 use Rattle.cnf_build.proofs.SetLemmas.{VariablesWithin-clauses_from, VariablesWithin-root, IsVariable-inputs, length-clauses_from}
 use Rattle.cnf_build.proofs.encoding.encode.Goals as goal
 

@@ -1,4 +1,4 @@
-use Rattle.std.proofs.Common.{◌≡◌, ◌+◌, length, EachIndex, slice_index}
+use Rattle.cnf_build.proofs.Common.{◌≡◌, ◌+◌, length, EachIndex, slice_index}
 use Rattle.cnf_build.proofs.encoding.input_variables.Given as goal
 
 abbrev pub invariant-loop-number : goal.invariant-loop-number

@@ -1,5 +1,4 @@
-use Rattle.std.proofs.Common.{◌≡◌, ◌+◌, ◌++◌, drop}
-use Rattle.cnf_build.specs.Definitions.{clauses_from}
+use Rattle.cnf_build.proofs.Common.{◌≡◌, ◌+◌, ◌++◌, drop, clauses_from}
 use Rattle.cnf_build.proofs.tseitin.clauses_from.Given as goal
 
 -- the clauses so far and those of the definitions that are left are all

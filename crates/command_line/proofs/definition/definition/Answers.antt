@@ -1,4 +1,4 @@
-use Rattle.std.specs.Fmt.{digits}
+use Rattle.command_line.proofs.Common.{digits}
 use Rattle.command_line.proofs.definition.definition.Goals as goal
 
 pub returns : goal.returns

@@ -1,8 +1,4 @@
-use Rattle.std.specs.List.{AllZip}
-use Rattle.std.proofs.Common.{List, subst}
-use Rattle.std.proofs.lemmas.List.{take_all}
-use Rattle.command_line.specs.declared.descriptions.Argument.{Argument}
-use Rattle.command_line.specs.Descriptions.{IsDescribedArgument}
+use Rattle.command_line.proofs.Common.{AllZip, List, subst, take_all, Argument, IsDescribedArgument}
 use Rattle.command_line.proofs.Described.{zip_more}
 use Rattle.command_line.proofs.definition.described_arguments.Goals as goal
 

@@ -1,6 +1,4 @@
-use Rattle.std.proofs.Common.{take}
-use Rattle.std.specs.List.{AllZip}
-use Rattle.command_line.specs.Descriptions.{IsDescribedArgument}
+use Rattle.command_line.proofs.Common.{take, AllZip, IsDescribedArgument}
 use Rattle.command_line.proofs.definition.described_arguments.Given as goal
 
 -- the arguments so far

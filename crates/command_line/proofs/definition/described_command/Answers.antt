@@ -1,7 +1,4 @@
-use Rattle.std.proofs.Common.{List, [], subst}
-use Rattle.std.proofs.lemmas.Result.{IfOk-weaker}
-use Rattle.clap.specs.Words.{AddsInTurn, AddsArg}
-use Rattle.clap.specs.declared.builder.Arg.{Arg}
+use Rattle.command_line.proofs.Common.{List, [], subst, IfOk-weaker, AddsInTurn, AddsArg, Arg}
 use Rattle.command_line.proofs.Described.{rules_in_turn}
 use Rattle.command_line.proofs.definition.described_command.Goals as goal
 

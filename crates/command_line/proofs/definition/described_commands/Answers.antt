@@ -1,9 +1,4 @@
-use Rattle.std.specs.List.{AllZip}
-use Rattle.std.proofs.Common.{List, subst}
-use Rattle.std.proofs.lemmas.List.{take_all}
-use Rattle.command_line.specs.declared.descriptions.Described.{Described}
-use Rattle.command_line.specs.Descriptions.{shape_described}
-use Rattle.command_line.specs.Leaf.{IsLeaf}
+use Rattle.command_line.proofs.Common.{AllZip, List, subst, take_all, Described, shape_described, IsLeaf}
 use Rattle.command_line.proofs.Described.{zip_more}
 use Rattle.command_line.proofs.definition.described_commands.Goals as goal
 

@@ -1,7 +1,4 @@
-use Rattle.std.proofs.Common.{take}
-use Rattle.std.specs.List.{AllZip}
-use Rattle.command_line.specs.Descriptions.{shape_described}
-use Rattle.command_line.specs.Leaf.{IsLeaf}
+use Rattle.command_line.proofs.Common.{take, AllZip, shape_described, IsLeaf}
 use Rattle.command_line.proofs.definition.described_commands.Given as goal
 
 -- the commands so far

@@ -1,6 +1,5 @@
-use Rattle.std.proofs.Common.{List, fold, subst, ap, ◌∙◌}
-use Rattle.std.proofs.lemmas.Result.{IfOk-weaker}
-use Rattle.clap.specs.Words.{App, AddsInTurn, AddsSubcommand}
+use Rattle.command_line.proofs.Common.{List, fold, subst, ap, ◌∙◌, IfOk-weaker, AddsInTurn, AddsSubcommand}
+use Rattle.clap.specs.Words.{App}
 use Rattle.clap.specs.declared.builder.Command.{Command}
 use Rattle.command_line.proofs.Described.{with_described, subs_in_turn}
 use Rattle.command_line.proofs.definition.described_program.Goals as goal

@@ -1,16 +1,6 @@
-use Rattle.std.proofs.Common.{◌≡◌, ◌∙◌, ◌==◌, ℕ, Bool, true, false, List, Option, Some, None, ap, ap₂, sym, slice_index, codes, refl, arith}
-use Rattle.std.specs.Prelude.{if◌then◌else◌}
-use Rattle.std.proofs.lemmas.Bool.Decides.{nat_tests}
-use Rattle.command_line.specs.Widths.{widths_named}
+use Rattle.command_line.proofs.Common.{◌≡◌, ◌∙◌, ◌==◌, ℕ, Bool, true, false, List, Option, Some, None, ap, ap₂, sym, slice_index, codes, refl, arith, if◌then◌else◌, nat_tests, widths_named, SaysOf, command_and_rows, SameCommand, OptimiseOptions, RecheckOptions, RunOptions, VerifyOptions, Verify, Optimise, Run, Load, Recheck}
 use Rattle.clap.specs.Words.{Row, Text}
-use Rattle.command_line.specs.Words.{SaysOf, command_and_rows}
-use Rattle.command_line.specs.Laws.{SameCommand}
 use Rattle.command_line.specs.declared.command.Command.{Command}
-use Rattle.command_line.specs.declared.command.OptimiseOptions.{OptimiseOptions}
-use Rattle.command_line.specs.declared.command.RecheckOptions.{RecheckOptions}
-use Rattle.command_line.specs.declared.command.RunOptions.{RunOptions}
-use Rattle.command_line.specs.declared.command.VerifyOptions.{VerifyOptions}
-use Rattle.command_line.specs.declared.command.Command.TheVariants.{Verify, Optimise, Run, Load, Recheck}
 use Rattle.command_line.proofs.laws.words_say_one_command.Goals as goal
 
 same : {A : Type 0} {o : Option A} {x y : A} → o ≡ Some x → o ≡ Some y → x ≡ y

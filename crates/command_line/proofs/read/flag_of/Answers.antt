@@ -1,8 +1,4 @@
-use Rattle.std.proofs.Common.{◌≡◌, ◌∙◌, Bool, true, false, Some, codes}
-use Rattle.std.specs.Prelude.{if◌then◌else◌}
-use Rattle.clap.specs.Words.{found_of, one_text, rows_of}
-use Rattle.clap.proofs.WalkLemmas.{one_text-rows}
-use Rattle.command_line.specs.Words.{HasFlag}
+use Rattle.command_line.proofs.Common.{◌≡◌, ◌∙◌, Bool, true, false, Some, codes, if◌then◌else◌, found_of, one_text, rows_of, one_text-rows, HasFlag}
 use Rattle.command_line.proofs.read.flag_of.Goals as goal
 
 pub returns : goal.returns

@@ -1,9 +1,4 @@
-use Rattle.std.proofs.Common.{ap, sym, ◌∙◌}
-use Rattle.std.specs.Prelude.{is_some}
-use Rattle.std.specs.Option.{option_map}
-use Rattle.std.specs.Str.Parse.{ParsesUnsigned, ExplainsUnsignedError, HasUnsignedDigitsIfOk}
-use Rattle.clap.specs.Words.{found_of}
-use Rattle.command_line.specs.Words.{number_said}
+use Rattle.command_line.proofs.Common.{ap, sym, ◌∙◌, is_some, option_map, ParsesUnsigned, ExplainsUnsignedError, HasUnsignedDigitsIfOk, found_of, number_said}
 use Rattle.command_line.proofs.NumberLemmas.{number_read}
 use Rattle.command_line.proofs.read.number_of.Goals as goal
 

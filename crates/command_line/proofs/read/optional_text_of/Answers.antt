@@ -1,6 +1,4 @@
-use Rattle.std.proofs.Common.{sym, ◌∙◌}
-use Rattle.clap.specs.Words.{found_of}
-use Rattle.clap.proofs.WalkLemmas.{first_value-rows}
+use Rattle.command_line.proofs.Common.{sym, ◌∙◌, found_of, first_value-rows}
 use Rattle.command_line.proofs.read.optional_text_of.Goals as goal
 
 pub returns : goal.returns

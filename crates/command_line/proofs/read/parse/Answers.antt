@@ -1,5 +1,4 @@
-use Rattle.std.proofs.Common.{map, string_bytes}
-use Rattle.clap.specs.Words.{app_of, kind_of}
+use Rattle.command_line.proofs.Common.{map, string_bytes, app_of, kind_of}
 use Rattle.command_line.proofs.Parses.{taken_by, rows_by, untaken_by}
 use Rattle.command_line.proofs.read.parse.Goals as goal
 

@@ -1,7 +1,4 @@
-use Rattle.std.proofs.Common.{◌∙◌, ap, sym, map, string_bytes}
-use Rattle.std.specs.Prelude.{is_some}
-use Rattle.clap.specs.Words.{found_of, rows_of}
-use Rattle.command_line.specs.Words.{command_and_rows}
+use Rattle.command_line.proofs.Common.{◌∙◌, ap, sym, map, string_bytes, is_some, found_of, rows_of, command_and_rows}
 use Rattle.command_line.proofs.KnownCommands.{taken_known, some_known, known_at}
 use Rattle.command_line.proofs.read.read_command.Goals as goal
 

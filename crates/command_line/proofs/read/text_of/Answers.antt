@@ -1,8 +1,4 @@
-use Rattle.std.proofs.Common.{ap, sym, ◌∙◌}
-use Rattle.std.specs.Option.{option_map}
-use Rattle.clap.specs.Words.{found_of}
-use Rattle.clap.proofs.CallerLemmas.{some_of_text}
-use Rattle.clap.proofs.WalkLemmas.{first_value-rows}
+use Rattle.command_line.proofs.Common.{ap, sym, ◌∙◌, option_map, found_of, some_of_text, first_value-rows}
 use Rattle.command_line.proofs.read.text_of.Goals as goal
 
 pub unwrap-requires : goal.unwrap-requires

@@ -1,8 +1,4 @@
-use Rattle.std.proofs.Common.{[], map, ap, sym, ◌∙◌}
-use Rattle.std.specs.Prelude.{unwrap_or}
-use Rattle.std.specs.Option.{option_map}
-use Rattle.clap.specs.Words.{found_of}
-use Rattle.clap.proofs.WalkLemmas.{raw_values-rows}
+use Rattle.command_line.proofs.Common.{[], map, ap, sym, ◌∙◌, unwrap_or, option_map, found_of, raw_values-rows}
 use Rattle.command_line.proofs.read.texts_of.Goals as goal
 
 pub returns-in_ok-to_vec-in-Some : goal.returns-in_ok-to_vec-in-Some

@@ -1,4 +1,4 @@
-use Rattle.std.proofs.Common.{rules}
+use Rattle.command_line.proofs.Common.{rules}
 use Rattle.command_line.proofs.WidthLemmas.{no_hyphen}
 use Rattle.command_line.proofs.widths.ends_of.Goals as goal
 

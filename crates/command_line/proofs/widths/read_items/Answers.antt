@@ -1,4 +1,4 @@
-use Rattle.std.proofs.Common.{◌∙◌}
+use Rattle.command_line.proofs.Common.{◌∙◌}
 use Rattle.command_line.proofs.WidthLemmas.{items_fail, items_more}
 use Rattle.command_line.proofs.widths.read_items.Goals as goal
 

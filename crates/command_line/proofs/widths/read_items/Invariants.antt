@@ -1,7 +1,4 @@
-use Rattle.std.proofs.Common.{◌≡◌, true, map, take}
-use Rattle.std.specs.List.{list_all}
-use Rattle.command_line.specs.Widths.{is_item}
-use Rattle.command_line.specs.Spans.{span_in}
+use Rattle.command_line.proofs.Common.{◌≡◌, true, map, take, list_all, is_item, span_in}
 use Rattle.command_line.proofs.widths.read_items.Given as goal
 
 abbrev pub invariant-loop-item : goal.invariant-loop-item

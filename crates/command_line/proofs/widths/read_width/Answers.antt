@@ -1,4 +1,4 @@
-use Rattle.std.proofs.Common.{◌≡◌, sym, Ok}
+use Rattle.command_line.proofs.Common.{◌≡◌, sym, Ok}
 use Rattle.command_line.proofs.WidthLemmas.{width_found, width_missed}
 use Rattle.command_line.proofs.widths.read_width.Goals as goal
 

@@ -1,6 +1,4 @@
-use Rattle.std.proofs.Common.{◌≡◌, ◌∙◌, ap, sym, map}
-use Rattle.std.proofs.lemmas.Option.{MatchOption-at_some, MatchOption-at_none}
-use Rattle.command_line.specs.Widths.{items}
+use Rattle.command_line.proofs.Common.{◌≡◌, ◌∙◌, ap, sym, map, MatchOption-at_some, MatchOption-at_none, items}
 use Rattle.command_line.proofs.WidthLemmas.{form_of, widths_of}
 use Rattle.command_line.proofs.widths.read_widths.Goals as goal
 

@@ -1,5 +1,4 @@
-use Rattle.std.proofs.Common.{◌∙◌, ap, sym, ◌++◌, ◌∷◌, [], filter}
-use Rattle.command_line.specs.Spans.{is_in_some}
+use Rattle.command_line.proofs.Common.{◌∙◌, ap, sym, ◌++◌, ◌∷◌, [], filter, is_in_some}
 use Rattle.command_line.proofs.WidthLemmas.{filter-up_to, filter-up_to_none}
 use Rattle.command_line.proofs.widths.widths_in.Goals as goal
 

@@ -1,6 +1,4 @@
-use Rattle.std.proofs.Common.{◌≡◌, ◌-◌, filter}
-use Rattle.command_line.specs.Widths.{up_to}
-use Rattle.command_line.specs.Spans.{is_in_some}
+use Rattle.command_line.proofs.Common.{◌≡◌, ◌-◌, filter, up_to, is_in_some}
 use Rattle.command_line.proofs.widths.widths_in.Given as goal
 
 abbrev pub invariant-loop-bits : goal.invariant-loop-bits

@@ -1,17 +1,4 @@
-use Rattle.std.proofs.Common.{◌≡◌, ◌+◌, ◌<◌, ◌≤◌, ◌++◌, ◌∷◌, [], Some, length, take, length-append, refl, sym, ap, ◌∙◌, subst, arith, inl, inr}
-use Rattle.std.specs.Prelude.{slice_get, ◌⊎◌}
-use Rattle.std.proofs.lemmas.Option.{slice_get_read}
-use Rattle.std.proofs.lemmas.Bool.{iff_false}
-use Rattle.clauses.specs.Literal.{IsVariable, negation_of}
-use Rattle.clauses.specs.Propagation.{NamesFalse}
-use Rattle.clauses.specs.ClauseSet.{all_clauses, clauses_with}
-use Rattle.depth_first.specs.declared.trail.Entry.{Entry}
-use Rattle.depth_first.specs.declared.trail.Cause.TheVariants.{NonInputDecision, Reason}
-use Rattle.depth_first.specs.Found.{IsModel, IsHonestLimit}
-use Rattle.depth_first.specs.TrailEntries.{literals}
-use Rattle.depth_first.specs.Propagated.{AllPropagated, IsPropagatedUpTo}
-use Rattle.depth_first.specs.DepthFirst.{IsState, IsNext}
-use Rattle.depth_first.specs.Learned.{Learns}
+use Rattle.depth_first.proofs.Common.{◌≡◌, ◌+◌, ◌<◌, ◌≤◌, ◌++◌, ◌∷◌, [], Some, length, take, length-append, refl, sym, ap, ◌∙◌, subst, arith, inl, inr, slice_get, ◌⊎◌, slice_get_read, iff_false, IsVariable, negation_of, NamesFalse, all_clauses, clauses_with, Entry, NonInputDecision, Reason, IsModel, IsHonestLimit, literals, AllPropagated, IsPropagatedUpTo, IsState, IsNext, Learns}
 use Rattle.depth_first.proofs.Lists.{some_same, slice_get_below}
 use Rattle.depth_first.proofs.TrailTable.{Consistent-from_table}
 use Rattle.depth_first.proofs.States.{IsState-grown, IsState-decided, EachCaused-grown, length-clauses_with}

@@ -1,6 +1,4 @@
-use Rattle.std.proofs.Common.{◌≡◌, ◌+◌, length}
-use Rattle.depth_first.specs.OccurrenceLists.{IsIndexOf}
-use Rattle.depth_first.specs.DepthFirst.{IsState}
+use Rattle.depth_first.proofs.Common.{◌≡◌, ◌+◌, length, IsIndexOf, IsState}
 use Rattle.depth_first.proofs.Weight.{weight}
 use Rattle.depth_first.proofs.SearchSteps.{IsBounded}
 use Rattle.depth_first.proofs.depth_first.decide_and_flip.Given as goal

@@ -1,8 +1,4 @@
-use Rattle.std.proofs.Common.{◌≡◌, ◌+◌, length, sym, subst, arith}
-use Rattle.clauses.specs.Propagation.{NamesFalse}
-use Rattle.clauses.specs.ClauseSet.{LogFollows, StepFollows, clauses_with}
-use Rattle.depth_first.specs.DepthFirst.{EachCaused}
-use Rattle.depth_first.specs.TrailEntries.{IsFlipped, literals}
+use Rattle.depth_first.proofs.Common.{◌≡◌, ◌+◌, length, sym, subst, arith, NamesFalse, LogFollows, StepFollows, clauses_with, EachCaused, IsFlipped, literals}
 use Rattle.depth_first.proofs.States.{length-clauses_with}
 use Rattle.depth_first.proofs.depth_first.learn_and_flip.Goals as goal
 

@@ -1,10 +1,4 @@
-use Rattle.std.proofs.Common.{◌≡◌, ◌<◌, ◌≤◌, true, not, length, get_or, ap, ◌∙◌, subst, arith}
-use Rattle.std.specs.Prelude.{All}
-use Rattle.std.proofs.lemmas.List.{take_all}
-use Rattle.std.proofs.lemmas.List.Elements.{All-more}
-use Rattle.clauses.specs.Literal.{literal_of}
-use Rattle.clauses.specs.Propagation.{is_held}
-use Rattle.depth_first.specs.TrailEntries.{literals, IsSet}
+use Rattle.depth_first.proofs.Common.{◌≡◌, ◌<◌, ◌≤◌, true, not, length, get_or, ap, ◌∙◌, subst, arith, All, take_all, All-more, literal_of, is_held, literals, IsSet}
 use Rattle.depth_first.proofs.Options.{IfSome_at}
 use Rattle.depth_first.proofs.depth_first.open_input.Goals as goal
 

@@ -1,6 +1,4 @@
-use Rattle.std.proofs.Common.{take}
-use Rattle.std.specs.Prelude.{All}
-use Rattle.depth_first.specs.TrailEntries.{literals, IsSet}
+use Rattle.depth_first.proofs.Common.{take, All, literals, IsSet}
 use Rattle.depth_first.proofs.depth_first.open_input.Given as goal
 
 abbrev pub invariant-loop-variable : goal.invariant-loop-variable

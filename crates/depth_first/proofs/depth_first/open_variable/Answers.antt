@@ -1,8 +1,4 @@
-use Rattle.std.proofs.Common.{◌≡◌, true, not, sym, ap, ◌∙◌, subst, arith, inl, inr}
-use Rattle.std.proofs.lemmas.Bool.{cases_order}
-use Rattle.clauses.specs.Literal.{literal_of}
-use Rattle.clauses.specs.Propagation.{is_held}
-use Rattle.depth_first.specs.TrailEntries.{literals, IsSet}
+use Rattle.depth_first.proofs.Common.{◌≡◌, true, not, sym, ap, ◌∙◌, subst, arith, inl, inr, cases_order, literal_of, is_held, literals, IsSet}
 use Rattle.depth_first.proofs.Options.{IfSome_at}
 use Rattle.depth_first.proofs.depth_first.open_variable.Goals as goal
 

@@ -1,5 +1,4 @@
-use Rattle.std.proofs.Common.{ℕ, ◌≤◌, ◌<◌}
-use Rattle.depth_first.specs.TrailEntries.{literals, IsSet}
+use Rattle.depth_first.proofs.Common.{ℕ, ◌≤◌, ◌<◌, literals, IsSet}
 use Rattle.depth_first.proofs.depth_first.open_variable.Given as goal
 
 abbrev pub invariant-loop-variable : goal.invariant-loop-variable

@@ -1,8 +1,4 @@
-use Rattle.std.proofs.Common.{◌<◌, length, ap, ◌∙◌, inl, arith}
-use Rattle.std.specs.Prelude.{slice_get, IfNone}
-use Rattle.std.proofs.lemmas.Result.{IfOk-weaker}
-use Rattle.clauses.specs.ClauseSet.{all_clauses}
-use Rattle.depth_first.specs.Propagated.{IsPropagatedUpTo, PropagatesClauses}
+use Rattle.depth_first.proofs.Common.{◌<◌, length, ap, ◌∙◌, inl, arith, slice_get, IfNone, IfOk-weaker, all_clauses, IsPropagatedUpTo, PropagatesClauses}
 use Rattle.depth_first.proofs.Lists.{slice_get_below}
 use Rattle.depth_first.proofs.Options.{IfNone_then}
 use Rattle.depth_first.proofs.depth_first.propagate_all_clauses.Goals as goal

@@ -1,5 +1,4 @@
-use Rattle.std.proofs.Common.{◌≡◌, ℕ, ◌<◌, length, Some}
-use Rattle.std.specs.Prelude.{slice_get}
+use Rattle.depth_first.proofs.Common.{◌≡◌, ℕ, ◌<◌, length, Some, slice_get}
 use Rattle.depth_first.proofs.depth_first.propagate_all_clauses.Given as goal
 
 abbrev pub invariant-loop-number : goal.invariant-loop-number

@@ -1,7 +1,4 @@
-use Rattle.std.proofs.Common.{subst}
-use Rattle.clauses.specs.ClauseSet.{all_clauses}
-use Rattle.depth_first.specs.TrailEntries.{Grows}
-use Rattle.depth_first.specs.Propagated.{IsPropagatedUpTo}
+use Rattle.depth_first.proofs.Common.{subst, all_clauses, Grows, IsPropagatedUpTo}
 use Rattle.depth_first.proofs.SearchSteps.{EachCaused-start, no_decisions, IfNone_is}
 use Rattle.depth_first.proofs.depth_first.search_in.Goals as goal
 

@@ -1,8 +1,4 @@
-use Rattle.std.proofs.Common.{◌++◌, sym, ap, ◌∙◌, true, false}
-use Rattle.std.proofs.lemmas.List.{append-nil}
-use Rattle.depth_first.specs.declared.trail.Entry.{Entry}
-use Rattle.clauses.specs.Propagation.{negations_of}
-use Rattle.depth_first.specs.Learned.{is_marked}
+use Rattle.depth_first.proofs.Common.{◌++◌, sym, ap, ◌∙◌, true, false, append-nil, Entry, negations_of, is_marked}
 use Rattle.depth_first.proofs.Decisions.{clause_of_decision, no_clause_of_reason}
 use Rattle.depth_first.proofs.Involved.{hint_of_marked, no_hint_of_decision, no_hint_unmarked}
 use Rattle.depth_first.proofs.learned.add_entry.Goals as goal

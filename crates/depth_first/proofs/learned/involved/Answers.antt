@@ -1,11 +1,4 @@
-use Rattle.std.proofs.Common.{◌≡◌, ◌+◌, ◌-◌, ◌<◌, Some, length, get_or, refl, sym, ap, ◌∙◌, subst, arith, false}
-use Rattle.std.specs.Prelude.{slice_get}
-use Rattle.std.proofs.lemmas.Bool.{true≢false}
-use Rattle.std.proofs.lemmas.List.{get_or_read}
-use Rattle.std.proofs.lemmas.Option.{slice_get_read}
-use Rattle.depth_first.specs.declared.trail.Cause.TheVariants.{Reason}
-use Rattle.clauses.specs.ClauseSet.{clauses_with}
-use Rattle.depth_first.specs.Learned.{IsInvolved, is_marked}
+use Rattle.depth_first.proofs.Common.{◌≡◌, ◌+◌, ◌-◌, ◌<◌, Some, length, get_or, refl, sym, ap, ◌∙◌, subst, arith, false, slice_get, true≢false, get_or_read, slice_get_read, Reason, clauses_with, IsInvolved, is_marked}
 use Rattle.depth_first.proofs.Lists.{slice_get_below}
 use Rattle.depth_first.proofs.Sets.{below_from_within}
 use Rattle.depth_first.proofs.States.{EachForced-from_caused}

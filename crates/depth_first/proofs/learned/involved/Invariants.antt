@@ -1,6 +1,4 @@
-use Rattle.std.proofs.Common.{◌≡◌, ◌+◌, ◌≤◌, length}
-use Rattle.clauses.specs.ClauseSet.{clauses_with}
-use Rattle.depth_first.specs.Learned.{IsInvolved}
+use Rattle.depth_first.proofs.Common.{◌≡◌, ◌+◌, ◌≤◌, length, clauses_with, IsInvolved}
 use Rattle.depth_first.proofs.learned.involved.Given as goal
 
 abbrev pub invariant-loop-place : goal.invariant-loop-place

@@ -1,9 +1,4 @@
-use Rattle.std.proofs.Common.{◌≡◌, ◌++◌, ◌∷◌, [], ap, ◌∙◌}
-use Rattle.clauses.specs.ClauseSet.{StepFollows, clauses_with}
-use Rattle.clauses.specs.declared.step.Step.{Step}
-use Rattle.clauses.specs.Propagation.{negations_of}
-use Rattle.depth_first.specs.TrailEntries.{decisions, reasons}
-use Rattle.depth_first.specs.Learned.{IsLearnedStep, marked_entries}
+use Rattle.depth_first.proofs.Common.{◌≡◌, ◌++◌, ◌∷◌, [], ap, ◌∙◌, StepFollows, clauses_with, Step, negations_of, decisions, reasons, IsLearnedStep, marked_entries}
 use Rattle.depth_first.proofs.Options.{IfOk_both}
 use Rattle.depth_first.proofs.LearnedStep.{learned_follows}
 use Rattle.depth_first.proofs.learned.learned.Goals as goal

@@ -1,8 +1,4 @@
-use Rattle.std.proofs.Common.{◌≡◌, ◌+◌, ◌<◌, true, Some, length, take, get_or, set, sym, ap, ◌∙◌, subst, arith, length-set}
-use Rattle.std.specs.Prelude.{slice_get}
-use Rattle.std.proofs.lemmas.Option.{slice_get-get_or}
-use Rattle.clauses.specs.Literal.{Lit}
-use Rattle.depth_first.specs.Learned.{Marks}
+use Rattle.depth_first.proofs.Common.{◌≡◌, ◌+◌, ◌<◌, true, Some, length, take, get_or, set, sym, ap, ◌∙◌, subst, arith, length-set, slice_get, slice_get-get_or, Lit, Marks}
 use Rattle.depth_first.proofs.Involved.{Marks-next}
 use Rattle.depth_first.proofs.learned.mark.Goals as goal
 

@@ -1,5 +1,4 @@
-use Rattle.std.proofs.Common.{◌≡◌, length, take}
-use Rattle.depth_first.specs.Learned.{Marks}
+use Rattle.depth_first.proofs.Common.{◌≡◌, length, take, Marks}
 use Rattle.depth_first.proofs.learned.mark.Given as goal
 
 abbrev pub invariant-loop-literal : goal.invariant-loop-literal

@@ -1,5 +1,4 @@
-use Rattle.std.proofs.Common.{◌≡◌, [], ◌∷◌, ◌++◌, sym, ◌∙◌, subst}
-use Rattle.clauses.specs.ClauseSet.{StepFollows, IsRefutation, clauses_with}
+use Rattle.depth_first.proofs.Common.{◌≡◌, [], ◌∷◌, ◌++◌, sym, ◌∙◌, subst, StepFollows, IsRefutation, clauses_with}
 use Rattle.depth_first.proofs.LearnedStep.{IsRefutation-push}
 use Rattle.depth_first.proofs.learned.refutation.Goals as goal
 

@@ -1,10 +1,4 @@
-use Rattle.std.proofs.Common.{◌≡◌, ◌++◌, ◌∷◌, [], Some, length, take, sym, ap, ◌∙◌, arith}
-use Rattle.std.specs.Prelude.{slice_get}
-use Rattle.std.proofs.lemmas.List.{take_all}
-use Rattle.clauses.specs.Propagation.{negations_of}
-use Rattle.depth_first.specs.declared.trail.Entry.{Entry}
-use Rattle.depth_first.specs.TrailEntries.{decisions, reasons}
-use Rattle.depth_first.specs.Learned.{marked_entries}
+use Rattle.depth_first.proofs.Common.{◌≡◌, ◌++◌, ◌∷◌, [], Some, length, take, sym, ap, ◌∙◌, arith, slice_get, take_all, negations_of, Entry, decisions, reasons, marked_entries}
 use Rattle.depth_first.proofs.Decisions.{clause_more, read_at}
 use Rattle.depth_first.proofs.Involved.{hints_more}
 use Rattle.depth_first.proofs.learned.step_of.Goals as goal

@@ -1,7 +1,4 @@
-use Rattle.std.proofs.Common.{◌≡◌, take}
-use Rattle.clauses.specs.Propagation.{negations_of}
-use Rattle.depth_first.specs.TrailEntries.{decisions, reasons}
-use Rattle.depth_first.specs.Learned.{marked_entries}
+use Rattle.depth_first.proofs.Common.{◌≡◌, take, negations_of, decisions, reasons, marked_entries}
 use Rattle.depth_first.proofs.learned.step_of.Given as goal
 
 abbrev pub invariant-loop-entry : goal.invariant-loop-entry

@@ -1,4 +1,4 @@
-use Rattle.std.proofs.Common.{◌≡◌, replicate, []}
+use Rattle.depth_first.proofs.Common.{◌≡◌, replicate, []}
 use Rattle.depth_first.proofs.occurrences.no_numbers.Given as goal
 
 abbrev pub invariant-loop-i : goal.invariant-loop-i

@@ -1,12 +1,4 @@
-use Rattle.std.proofs.Common.{◌≡◌, ◌+◌, Some, false, length, get_or, ◌<◌, refl, ap, sym, ◌∙◌, arith}
-use Rattle.std.specs.Prelude.{slice_get, is_some}
-use Rattle.std.proofs.lemmas.Option.{slice_get_read, slice_get-get_or}
-use Rattle.clauses.specs.Literal.{Lit, negation_of}
-use Rattle.clauses.specs.ClauseSet.{all_clauses}
-use Rattle.depth_first.specs.declared.trail.Entry.{Entry}
-use Rattle.depth_first.specs.OccurrenceLists.{numbers_of}
-use Rattle.depth_first.specs.TrailEntries.{literals}
-use Rattle.depth_first.specs.Propagated.{AllPropagated, PropagatesClauses}
+use Rattle.depth_first.proofs.Common.{◌≡◌, ◌+◌, Some, false, length, get_or, ◌<◌, refl, ap, sym, ◌∙◌, arith, slice_get, is_some, slice_get_read, slice_get-get_or, Lit, negation_of, all_clauses, Entry, numbers_of, literals, AllPropagated, PropagatesClauses}
 use Rattle.depth_first.proofs.Options.{IfNone_at, IfNone_absent}
 use Rattle.depth_first.proofs.PropagationLemmas.{Grows-then, IsPropagatedUpTo-next, AllPropagated-end}
 use Rattle.depth_first.proofs.propagation.propagate.Goals as goal

@@ -1,7 +1,4 @@
-use Rattle.std.proofs.Common.{◌≡◌, ◌-◌, length}
-use Rattle.clauses.specs.ClauseSet.{all_clauses}
-use Rattle.depth_first.specs.TrailEntries.{Grows}
-use Rattle.depth_first.specs.Propagated.{IsPropagatedUpTo}
+use Rattle.depth_first.proofs.Common.{◌≡◌, ◌-◌, length, all_clauses, Grows, IsPropagatedUpTo}
 use Rattle.depth_first.proofs.propagation.propagate.Given as goal
 
 abbrev pub invariant-loop-head : goal.invariant-loop-head

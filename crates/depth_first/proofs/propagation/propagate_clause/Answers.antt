@@ -1,10 +1,4 @@
-use Rattle.std.proofs.Common.{sym, subst, arith}
-use Rattle.clauses.specs.Propagation.{IsUnit}
-use Rattle.clauses.specs.ClauseSet.{all_clauses}
-use Rattle.depth_first.specs.declared.trail.Entry.{Entry}
-use Rattle.depth_first.specs.declared.trail.Cause.TheVariants.{Reason}
-use Rattle.depth_first.specs.TrailEntries.{literals}
-use Rattle.depth_first.specs.Propagated.{IsPropagated, PropagatesClause}
+use Rattle.depth_first.proofs.Common.{sym, subst, arith, IsUnit, all_clauses, Entry, Reason, literals, IsPropagated, PropagatesClause}
 use Rattle.depth_first.proofs.Sets.{clause_within}
 use Rattle.depth_first.proofs.StatusLemmas.{forced_variable}
 use Rattle.depth_first.proofs.PropagationLemmas.{PropagatesClause-forced, PropagatesClause-propagated}

@@ -1,7 +1,4 @@
-use Rattle.std.proofs.Common.{◌∙◌, arith}
-use Rattle.std.proofs.lemmas.Bool.{OnTrue_at}
-use Rattle.std.proofs.lemmas.Option.{slice_get-get_or}
-use Rattle.clauses.specs.ClauseSet.{all_clauses}
+use Rattle.depth_first.proofs.Common.{◌∙◌, arith, OnTrue_at, slice_get-get_or, all_clauses}
 use Rattle.depth_first.proofs.PropagationLemmas.{Grows-then, Grows-length, IsPropagatedUpTo-end}
 use Rattle.depth_first.proofs.propagation.propagate_clauses.Goals as goal
 

@@ -1,7 +1,4 @@
-use Rattle.std.proofs.Common.{◌≡◌, ℕ, ◌≤◌, length}
-use Rattle.clauses.specs.ClauseSet.{all_clauses}
-use Rattle.depth_first.specs.TrailEntries.{Grows}
-use Rattle.depth_first.specs.Propagated.{IsPropagatedBut}
+use Rattle.depth_first.proofs.Common.{◌≡◌, ℕ, ◌≤◌, length, all_clauses, Grows, IsPropagatedBut}
 use Rattle.depth_first.proofs.propagation.propagate_clauses.Given as goal
 
 abbrev pub invariant-loop-number : goal.invariant-loop-number

@@ -1,11 +1,4 @@
-use Rattle.std.proofs.Common.{◌≡◌, ◌+◌, false, Some, take, get_or, sym, ap, ◌∙◌, subst}
-use Rattle.std.proofs.lemmas.List.{take_all}
-use Rattle.std.proofs.lemmas.Option.{same_Some}
-use Rattle.clauses.specs.Literal.{Lit}
-use Rattle.clauses.specs.Propagation.{IsFalsified, IsUnit, is_held, is_false}
-use Rattle.clauses.proofs.Held.{equal_literals}
-use Rattle.clauses.proofs.Units.{IsSoFar, so_far_false, so_far_open}
-use Rattle.depth_first.specs.TrailEntries.{literals, IsOpen}
+use Rattle.depth_first.proofs.Common.{◌≡◌, ◌+◌, false, Some, take, get_or, sym, ap, ◌∙◌, subst, take_all, same_Some, Lit, IsFalsified, IsUnit, is_held, is_false, equal_literals, IsSoFar, so_far_false, so_far_open, literals, IsOpen}
 use Rattle.depth_first.proofs.TrailTable.{Consistent-from_table}
 use Rattle.depth_first.proofs.HeldLists.{open_from}
 use Rattle.depth_first.proofs.StatusLemmas.{propagated_by_held}

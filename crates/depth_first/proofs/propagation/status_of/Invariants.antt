@@ -1,7 +1,4 @@
-use Rattle.std.proofs.Common.{take}
-use Rattle.std.specs.Prelude.{IfSome}
-use Rattle.clauses.proofs.Units.{IsSoFar}
-use Rattle.depth_first.specs.TrailEntries.{literals, IsOpen}
+use Rattle.depth_first.proofs.Common.{take, IfSome, IsSoFar, literals, IsOpen}
 use Rattle.depth_first.proofs.propagation.status_of.Given as goal
 
 abbrev pub invariant-loop-literal : goal.invariant-loop-literal

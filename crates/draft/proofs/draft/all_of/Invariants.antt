@@ -1,6 +1,5 @@
 -- the flags of the blocks so far
-use Rattle.std.proofs.Common.{◌≡◌, map, take, length, true}
-use Rattle.std.specs.Prelude.{replicate}
+use Rattle.draft.proofs.Common.{◌≡◌, map, take, length, true, replicate}
 use Rattle.draft.proofs.draft.all_of.Given as goal
 
 abbrev pub invariant-loop-block : goal.invariant-loop-block

@@ -1,11 +1,4 @@
-use Rattle.std.proofs.Common.{◌≡◌, inl, inr, List, length, Some, refl, sym, ap, subst, ◌∙◌, arith}
-use Rattle.std.specs.Prelude.{slice_get}
-use Rattle.std.proofs.lemmas.Bool.{cases_eq}
-use Rattle.std.proofs.lemmas.Option.{same_Some, slice_get_within}
-use Rattle.ir_core.specs.Blocks.{IsBlock}
-use Rattle.ir_core.specs.Walks.{IsReached}
-use Rattle.ir_core.specs.declared.function.Block.{Block}
-use Rattle.needed.proofs.NumberLemmas.{item_read}
+use Rattle.draft.proofs.Common.{◌≡◌, inl, inr, List, length, Some, refl, sym, ap, subst, ◌∙◌, arith, slice_get, cases_eq, same_Some, slice_get_within, IsBlock, IsReached, Block, item_read}
 use Rattle.draft.proofs.draft.has_cycles.Goals as goal
 use Rattle.draft.proofs.draft.has_cycles.Goals.{then-not-reached-via-then-not-reached, then-not-reached-via-else-not-reached+then-has_phi}
 

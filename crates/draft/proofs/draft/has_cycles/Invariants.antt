@@ -1,11 +1,5 @@
 -- the blocks before this one are reached and have no phi
-use Rattle.std.proofs.Common.{◌≡◌, ℕ, ◌<◌, Some}
-use Rattle.std.specs.Prelude.{slice_get}
-use Rattle.ir_core.specs.Blocks.{IsBlock}
-use Rattle.ir_core.specs.Checks.{IsPhi}
-use Rattle.ir_core.specs.Walks.{IsReached}
-use Rattle.ir_core.specs.declared.function.Block.{Block}
-use Rattle.ir_core.specs.declared.instruction.Inst.{Inst}
+use Rattle.draft.proofs.Common.{◌≡◌, ℕ, ◌<◌, Some, slice_get, IsBlock, IsPhi, IsReached, Block, Inst}
 use Rattle.draft.proofs.draft.has_cycles.Given as goal
 
 abbrev pub invariant-loop-block : goal.invariant-loop-block

@@ -1,8 +1,5 @@
 -- the instructions before this one are no phis
-use Rattle.std.proofs.Common.{◌≡◌, ℕ, ◌<◌, Some}
-use Rattle.std.specs.Prelude.{slice_get}
-use Rattle.ir_core.specs.Checks.{IsPhi}
-use Rattle.ir_core.specs.declared.instruction.Inst.{Inst}
+use Rattle.draft.proofs.Common.{◌≡◌, ℕ, ◌<◌, Some, slice_get, IsPhi, Inst}
 use Rattle.draft.proofs.draft.has_phi.Given as goal
 
 abbrev pub invariant-loop-inst : goal.invariant-loop-inst

@@ -1,7 +1,4 @@
-use Rattle.std.proofs.Common.{◌≡◌, ◌<◌, ◌∙◌, ℕ, List, [], ◌∷◌, ◌++◌, ap, get_or, length, map, sym, take, arith}
-use Rattle.std.specs.List.{range_with_len}
-use Rattle.std.proofs.lemmas.List.{map_more}
-use Rattle.ir_core.specs.declared.function.Block.{Block}
+use Rattle.draft.proofs.Common.{◌≡◌, ◌<◌, ◌∙◌, ℕ, List, [], ◌∷◌, ◌++◌, ap, get_or, length, map, sym, take, arith, range_with_len, map_more, Block}
 use Rattle.draft.proofs.Fresh.{all_of}
 use Rattle.draft.proofs.draft.orders_of.Goals as goal
 

@@ -1,6 +1,5 @@
 -- the orders of the blocks so far
-use Rattle.std.proofs.Common.{◌≡◌, map, take, length}
-use Rattle.std.specs.List.{range_with_len}
+use Rattle.draft.proofs.Common.{◌≡◌, map, take, length, range_with_len}
 use Rattle.draft.proofs.draft.orders_of.Given as goal
 
 abbrev pub invariant-loop-block : goal.invariant-loop-block

@@ -1,6 +1,4 @@
-use Rattle.std.proofs.Common.{◌<◌, ◌∙◌, ℕ, List, ap, length, sym, subst, arith}
-use Rattle.draft.specs.Drafts.{block_of}
-use Rattle.draft.specs.Placing.{IsOrdering, at_places}
+use Rattle.draft.proofs.Common.{◌<◌, ◌∙◌, ℕ, List, ap, length, sym, subst, arith, block_of, IsOrdering, at_places}
 use Rattle.draft.proofs.Placed.{block_placed, next_ordering}
 use Rattle.draft.proofs.placing.place_blocks.Goals as goal
 

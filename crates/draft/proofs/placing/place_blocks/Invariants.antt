@@ -1,5 +1,5 @@
 -- the blocks before the index are done
-use Rattle.draft.specs.Placing.{at_places}
+use Rattle.draft.proofs.Common.{at_places}
 use Rattle.draft.proofs.Placed.{BlocksPlaced}
 use Rattle.draft.proofs.placing.place_blocks.Given as goal
 

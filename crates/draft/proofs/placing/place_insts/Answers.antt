@@ -1,10 +1,4 @@
-use Rattle.std.proofs.Common.{◌≡◌, ◌∙◌, ℕ, Bool, List, [], ap, get_or, length, sym, subst, arith}
-use Rattle.std.specs.Prelude.{slice_get}
-use Rattle.std.proofs.lemmas.Result.{on_ok_weaker}
-use Rattle.ir_core.specs.declared.function.Block.{Block}
-use Rattle.ir_core.specs.declared.function.Function.{Function}
-use Rattle.draft.specs.Drafts.{blocks_of, numbers_of, standing}
-use Rattle.draft.specs.Placing.{IsOrdering, at_places}
+use Rattle.draft.proofs.Common.{◌≡◌, ◌∙◌, ℕ, Bool, List, [], ap, get_or, length, sym, subst, arith, slice_get, on_ok_weaker, Block, Function, blocks_of, numbers_of, standing, IsOrdering, at_places}
 use Rattle.draft.proofs.Rows.{standing_length}
 use Rattle.draft.proofs.Standing.{numbers_few, numbers_ordered, placed_blocks_are, stand_ordering}
 use Rattle.draft.proofs.Wholeness.{counted_insts}

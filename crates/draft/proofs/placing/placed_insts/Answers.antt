@@ -1,7 +1,4 @@
-use Rattle.std.proofs.Common.{◌+◌, List, get_or, set, sym, subst}
-use Rattle.std.proofs.lemmas.List.{get_or_default}
-use Rattle.ir_core.specs.declared.instruction.Inst.{Inst}
-use Rattle.draft.specs.Placing.{at_places}
+use Rattle.draft.proofs.Common.{◌+◌, List, get_or, set, sym, subst, get_or_default, Inst, at_places}
 use Rattle.draft.proofs.Placed.{InstsPlaced, all_placed, inst_placed}
 use Rattle.draft.proofs.placing.placed_insts.Goals as goal
 

@@ -1,5 +1,5 @@
 -- the instructions of the numbers before the index are moved out
-use Rattle.draft.specs.Placing.{at_places}
+use Rattle.draft.proofs.Common.{at_places}
 use Rattle.draft.proofs.Placed.{InstsPlaced}
 use Rattle.draft.proofs.placing.placed_insts.Given as goal
 

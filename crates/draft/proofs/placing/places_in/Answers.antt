@@ -1,6 +1,4 @@
-use Rattle.std.proofs.Common.{◌∙◌, ℕ, List, ap, get_or, arith}
-use Rattle.std.proofs.lemmas.List.{get_or_default}
-use Rattle.std.proofs.lemmas.Option.{slice_get-get_or, slice_get_within}
+use Rattle.draft.proofs.Common.{◌∙◌, ℕ, List, ap, get_or, arith, get_or_default, slice_get-get_or, slice_get_within}
 use Rattle.draft.proofs.Placed.{place_kept}
 use Rattle.draft.proofs.placing.places_in.Goals as goal
 

@@ -1,6 +1,4 @@
-use Rattle.std.proofs.Common.{◌≡◌, ◌+◌, ◌∙◌, ℕ, List, [], ap, get_or, length, sym, subst, arith}
-use Rattle.std.specs.Prelude.{slice_get}
-use Rattle.std.proofs.lemmas.List.{get_or_default}
+use Rattle.draft.proofs.Common.{◌≡◌, ◌+◌, ◌∙◌, ℕ, List, [], ap, get_or, length, sym, subst, arith, slice_get, get_or_default}
 use Rattle.draft.proofs.Placed.{TablesKept, ordering_at, table_kept}
 use Rattle.draft.proofs.placing.places_of.Goals as goal
 

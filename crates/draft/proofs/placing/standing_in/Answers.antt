@@ -1,5 +1,4 @@
-use Rattle.std.proofs.Common.{ℕ, ◌++◌, ◌∙◌, List, [], Option, ap, length, subst, sym}
-use Rattle.std.proofs.lemmas.List.{append-nil}
+use Rattle.draft.proofs.Common.{ℕ, ◌++◌, ◌∙◌, List, [], Option, ap, length, subst, sym, append-nil}
 use Rattle.draft.proofs.Rows.{Walked, first_gone, first_stands, none_left, walked_end, walked_next}
 use Rattle.draft.proofs.placing.standing_in.Goals as goal
 use Rattle.draft.proofs.placing.standing_in.Goals.{then-stand-number+in_ok-push, else-stand-number}

@@ -1,6 +1,4 @@
-use Rattle.std.proofs.Common.{◌≡◌, ◌<◌, ◌++◌, ◌∷◌, ◌∙◌, ℕ, Bool, List, [], ap, get_or, length, take, sym, arith}
-use Rattle.std.proofs.lemmas.List.{get_or_default, take_all, take_more}
-use Rattle.draft.specs.Drafts.{standing, standing_in}
+use Rattle.draft.proofs.Common.{◌≡◌, ◌<◌, ◌++◌, ◌∷◌, ◌∙◌, ℕ, Bool, List, [], ap, get_or, length, take, sym, arith, get_or_default, take_all, take_more, standing, standing_in}
 use Rattle.draft.proofs.Rows.{standing_at, standing_length}
 use Rattle.draft.proofs.placing.standing_numbers.Goals as goal
 

@@ -1,6 +1,5 @@
 -- the rows of the blocks before this one are made
-use Rattle.std.proofs.Common.{◌≡◌, take}
-use Rattle.draft.specs.Drafts.{standing}
+use Rattle.draft.proofs.Common.{◌≡◌, take, standing}
 use Rattle.draft.proofs.placing.standing_numbers.Given as goal
 
 abbrev pub invariant-loop-block : goal.invariant-loop-block

@@ -1,10 +1,5 @@
-use Rattle.std.proofs.Common.{◌≡◌, ℕ, All, refl, subst, arith}
-use Rattle.std.proofs.lemmas.List.{take_all}
-use Rattle.std.proofs.lemmas.List.Elements.{All-contains, All-more}
-use Rattle.ir_core.specs.declared.operand.Register.{Register}
+use Rattle.draft_steps.proofs.Common.{◌≡◌, ℕ, All, refl, subst, arith, take_all, All-contains, All-more, Register, IsNeeded, Stands}
 use Rattle.ir_core.specs.declared.operand.Register.TheVariants as registers
-use Rattle.needed.specs.Needed.{IsNeeded}
-use Rattle.draft.specs.Drafts.{Stands}
 use Rattle.draft_steps.proofs.dead_code.are_needed.Goals as goal
 
 pub loop-register-preserved : goal.loop-register-preserved

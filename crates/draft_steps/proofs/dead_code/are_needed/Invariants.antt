@@ -1,7 +1,5 @@
-use Rattle.std.proofs.Common.{◌≡◌, ℕ, All, take}
+use Rattle.draft_steps.proofs.Common.{◌≡◌, ℕ, All, take, IsNeeded, Stands}
 use Rattle.ir_core.specs.declared.operand.Register.TheVariants as registers
-use Rattle.needed.specs.Needed.{IsNeeded}
-use Rattle.draft.specs.Drafts.{Stands}
 use Rattle.draft_steps.proofs.dead_code.are_needed.Given as goal
 
 -- those before this one are live, where they stand

@@ -1,13 +1,7 @@
-use Rattle.std.proofs.Common.{◌≡◌, List, [], ◌++◌, Contains, Vec, Global, refl, sym, ap, subst, ◌∙◌}
-use Rattle.ir_core.specs.declared.operand.Register.{Register}
+use Rattle.draft_steps.proofs.Common.{◌≡◌, List, [], ◌++◌, Contains, Vec, Global, refl, sym, ap, subst, ◌∙◌, Register, not_in_empty, HaveInsts, IsEliminating, KeepsUses, numbers_of, Draft, insts-stay}
 use Rattle.ir_core.specs.declared.operand.Register.TheVariants as registers
-use Rattle.ir_meaning.proofs.Pieces.{not_in_empty}
-use Rattle.draft_steps.specs.DeadCode.{HaveInsts, IsEliminating, KeepsUses}
-use Rattle.draft.specs.Drafts.{numbers_of}
-use Rattle.draft.specs.declared.draft.Draft.{Draft}
 use Rattle.draft_steps.proofs.Clearing.{IsMadeClean, clean_by_uses, clean_without_cycles, cleaned_again, cleaning_starts}
 use Rattle.draft_steps.proofs.PutAll.{append_none}
-use Rattle.draft.proofs.NumberedInsts.{insts-stay}
 use Rattle.draft_steps.proofs.dead_code.eliminate_dead_code.Goals as goal
 use Rattle.draft_steps.proofs.dead_code.eliminate_dead_code.Goals.{then-draft+then-not-are_needed+in_ok-remove_dead+in_ok-remove_unused-2, else-draft, else-draft-via-then-draft+else-not-are_needed, else-draft-via-else-draft}
 

@@ -1,6 +1,4 @@
-use Rattle.std.proofs.Common.{get_or, refl, subst}
-use Rattle.needed.specs.Needed.{IsNeeded}
-use Rattle.places.specs.Heaps.{nowhere}
+use Rattle.draft_steps.proofs.Common.{get_or, refl, subst, IsNeeded, nowhere}
 use Rattle.draft_steps.proofs.Clearing.{read_needed}
 use Rattle.draft_steps.proofs.ToEnds.{standing_known}
 use Rattle.draft_steps.proofs.dead_code.is_seen_needed.Goals as goal

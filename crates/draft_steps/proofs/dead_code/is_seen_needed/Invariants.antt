@@ -1,4 +1,4 @@
-use Rattle.needed.specs.Needed.{IsNeeded}
+use Rattle.draft_steps.proofs.Common.{IsNeeded}
 use Rattle.draft_steps.proofs.dead_code.is_seen_needed.Given as goal
 
 -- if this register is live, the first one is

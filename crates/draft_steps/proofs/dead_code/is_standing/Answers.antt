@@ -1,7 +1,5 @@
-use Rattle.std.proofs.Common.{◌≡◌, ℕ, ◌↔◌, true, false, List, [], Bool, get_or, sym, ap, subst, ◌∙◌}
-use Rattle.std.proofs.lemmas.List.{get_or_past}
+use Rattle.draft_steps.proofs.Common.{◌≡◌, ℕ, ◌↔◌, true, false, List, [], Bool, get_or, sym, ap, subst, ◌∙◌, get_or_past, Stands}
 use Rattle.ir_core.specs.declared.operand.Register.TheVariants as registers
-use Rattle.draft.specs.Drafts.{Stands}
 use Rattle.draft_steps.proofs.Taking.{stands_marks}
 use Rattle.draft_steps.proofs.dead_code.is_standing.Goals as goal
 

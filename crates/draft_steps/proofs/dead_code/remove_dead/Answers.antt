@@ -1,11 +1,6 @@
-use Rattle.std.proofs.Common.{◌≡◌, ℕ, ◌<◌, ◌^◌, ◌⊎◌, inl, inr, List, All, Contains, length, sym, subst}
-use Rattle.ir_core.specs.Blocks.{HasInst}
-use Rattle.ir_core.specs.declared.function.Block.{Block}
-use Rattle.ir_core.specs.declared.function.Function.{Function}
+use Rattle.draft_steps.proofs.Common.{◌≡◌, ℕ, ◌<◌, ◌^◌, ◌⊎◌, inl, inr, List, All, Contains, length, sym, subst, HasInst, Block, Function, IsNeeded, counted_insts, stands_there}
 use Rattle.ir_core.specs.declared.operand.Register.TheVariants as registers
-use Rattle.needed.specs.Needed.{IsNeeded}
 use Rattle.draft_steps.proofs.Lessening.{all_less}
-use Rattle.draft.proofs.Wholeness.{counted_insts, stands_there}
 use Rattle.draft_steps.proofs.dead_code.remove_dead.Goals as goal
 
 pub unneeded_insts-requires-clause-insts : goal.unneeded_insts-requires-clause-insts

@@ -1,8 +1,4 @@
-use Rattle.std.proofs.Common.{List, [], ◌++◌, length, ap, subst, ◌∙◌, arith}
-use Rattle.std.proofs.lemmas.List.{length_push}
-use Rattle.ir_core.specs.declared.operand.Register.{Register}
-use Rattle.draft_steps.specs.DeadCode.{AreRead, IsEliminating, KeepsUses, registers_read}
-use Rattle.draft.specs.Drafts.{numbers_of}
+use Rattle.draft_steps.proofs.Common.{List, [], ◌++◌, length, ap, subst, ◌∙◌, arith, length_push, Register, AreRead, IsEliminating, KeepsUses, registers_read, numbers_of}
 use Rattle.draft_steps.proofs.DeadCandidates.{among_last, last_among, now_cleaning, now_have, now_keeps, now_read}
 use Rattle.draft_steps.proofs.dead_code.remove_unused.Goals as goal
 

@@ -1,9 +1,4 @@
-use Rattle.std.proofs.Common.{◌≡◌, ℕ, ◌+◌, List, ◌++◌, length}
-use Rattle.ir_core.specs.declared.function.Function.{Function}
-use Rattle.draft_steps.specs.DeadCode.{AreRead, HaveInsts, IsEliminating, KeepsUses, registers_read}
-use Rattle.draft.specs.Drafts.{numbers_of, orders_of}
-use Rattle.draft.specs.Whole.{IsWhole}
-use Rattle.draft.specs.declared.draft.Draft.{Draft}
+use Rattle.draft_steps.proofs.Common.{◌≡◌, ℕ, ◌+◌, List, ◌++◌, length, Function, AreRead, HaveInsts, IsEliminating, KeepsUses, registers_read, numbers_of, orders_of, IsWhole, Draft}
 use Rattle.draft_steps.proofs.dead_code.remove_unused.Given as goal
 
 -- what held with the registers on the worklist and the listed ones at first holds with those that there are

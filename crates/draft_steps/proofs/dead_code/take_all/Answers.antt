@@ -1,11 +1,6 @@
-use Rattle.std.proofs.Common.{◌≡◌, ℕ, true, false, All, get_or, take, refl, subst, arith}
-use Rattle.std.proofs.lemmas.List.{take_all}
-use Rattle.std.proofs.lemmas.List.Elements.{All-contains, All-more, All-weaker, Contains-get_or}
+use Rattle.draft_steps.proofs.Common.{◌≡◌, ℕ, true, false, All, get_or, take, refl, subst, arith, take_all, All-contains, All-more, All-weaker, Contains-get_or, IsNeeded, Stands, stands_there}
 use Rattle.ir_core.specs.declared.operand.Register.TheVariants as registers
-use Rattle.needed.specs.Needed.{IsNeeded}
-use Rattle.draft.specs.Drafts.{Stands}
 use Rattle.draft_steps.proofs.Lessening.{none_less, one_less, stood_other}
-use Rattle.draft.proofs.Wholeness.{stands_there}
 use Rattle.draft_steps.proofs.dead_code.take_all.Goals as goal
 use Rattle.draft_steps.proofs.dead_code.take_all.Goals.{then-is_standing+in_ok-remove_inst, else-is_standing}
 

@@ -1,5 +1,4 @@
-use Rattle.std.proofs.Common.{ℕ, All, take}
-use Rattle.draft.specs.Drafts.{Stands}
+use Rattle.draft_steps.proofs.Common.{ℕ, All, take, Stands}
 use Rattle.draft_steps.proofs.Lessening.{IsLess}
 use Rattle.draft_steps.proofs.dead_code.take_all.Given as goal
 

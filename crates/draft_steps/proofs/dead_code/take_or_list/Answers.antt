@@ -1,19 +1,7 @@
-use Rattle.std.proofs.Common.{◌≡◌, ℕ, ◌<◌, ◌⊎◌, inl, inr, List, [], ◌∷◌, ◌++◌, refl, sym, subst, ◌∙◌, arith}
-use Rattle.std.specs.Prelude.{Contains}
-use Rattle.std.proofs.lemmas.List.Elements.{Contains-append_cases, Contains-append_left, Contains-append_right, Contains-push_cases}
-use Rattle.ir_core.specs.Blocks.{HasInst}
-use Rattle.ir_core.specs.declared.operand.Register.{Register}
+use Rattle.draft_steps.proofs.Common.{◌≡◌, ℕ, ◌<◌, ◌⊎◌, inl, inr, List, [], ◌∷◌, ◌++◌, refl, sym, subst, ◌∙◌, arith, Contains, Contains-append_cases, Contains-append_left, Contains-append_right, Contains-push_cases, HasInst, Register, first_in, IsNeeded, ReadsRegister, IsUseCount, HaveInsts, IsEliminating, KeepsUses, Stands, numbers_of, Draft, insts-stay, stands_there}
 use Rattle.ir_core.specs.declared.operand.Register.TheVariants as registers
-use Rattle.ir_meaning.proofs.Pieces.{first_in}
-use Rattle.needed.specs.Needed.{IsNeeded, ReadsRegister}
-use Rattle.use_counts.specs.Uses.{IsUseCount}
-use Rattle.draft_steps.specs.DeadCode.{HaveInsts, IsEliminating, KeepsUses}
-use Rattle.draft.specs.Drafts.{Stands, numbers_of}
-use Rattle.draft.specs.declared.draft.Draft.{Draft}
-use Rattle.draft.proofs.NumberedInsts.{insts-stay}
 use Rattle.draft_steps.proofs.Taking.{cleaning_dropping, take_step, unused}
 use Rattle.draft_steps.proofs.Using.{as_many_read, read_dropping, read_less, used_is_read, uses_dropping, uses_less}
-use Rattle.draft.proofs.Wholeness.{stands_there}
 use Rattle.draft_steps.proofs.dead_code.take_or_list.Goals as goal
 
 pub remove_inst-requires-clause-at : goal.remove_inst-requires-clause-at

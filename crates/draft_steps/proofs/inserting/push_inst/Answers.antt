@@ -1,5 +1,4 @@
-use Rattle.std.proofs.lemmas.Result.{on_ok_weaker}
-use Rattle.readers.proofs.Changing.{block_pushed}
+use Rattle.draft_steps.proofs.Common.{on_ok_weaker, block_pushed}
 use Rattle.draft_steps.proofs.inserting.push_inst.Goals as goal
 
 pub returns : goal.returns

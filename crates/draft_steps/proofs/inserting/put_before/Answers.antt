@@ -1,38 +1,11 @@
 -- The tables get an entry for the instruction, and then its operands are counted and listed.
-use Rattle.std.proofs.Common.{◌≡◌, ◌∙◌, ◌+◌, ◌<◌, ◌≤◌, ◌^◌, ℕ, Bool, true, inl, List, [], ◌∷◌, ◌++◌, All, Contains, ap, get_or, length, refl, slice_set, sym, subst, arith}
-use Rattle.std.proofs.lemmas.List.Elements.{All-contains}
-use Rattle.std.proofs.lemmas.Option.{slice_get-get_or, slice_get_within}
-use Rattle.ir_core.specs.Blocks.{IsBlock}
-use Rattle.ir_core.specs.Checks.{IsKnown}
-use Rattle.ir_core.specs.Reads.{end_of}
-use Rattle.ir_core.specs.declared.function.Block.{Block}
-use Rattle.ir_core.specs.declared.function.Function.{Function}
-use Rattle.ir_core.specs.declared.instruction.Inst.{Inst}
-use Rattle.ir_core.specs.declared.operand.Operand.{Operand}
+use Rattle.draft_steps.proofs.Common.{◌≡◌, ◌∙◌, ◌+◌, ◌<◌, ◌≤◌, ◌^◌, ℕ, Bool, true, inl, List, [], ◌∷◌, ◌++◌, All, Contains, ap, get_or, length, refl, slice_set, sym, subst, arith, All-contains, slice_get-get_or, slice_get_within, IsBlock, IsKnown, end_of, Block, Function, Inst, Operand, Register, Uses, changed_at, inst_put, put_in, AreCounted, HasNumbers, operands_at, standing, KeepsOrders, none, put_before, HaveLists, IsWhole, Draft, Place, Readers, with_blocks, few_counted, all_below, list_row, number_row, whole_put, few_put, list_there, read_put, next-keeps, put_standing, standing_changed, row_within, few_insts, stands_marked, stands_there}
 use Rattle.ir_core.specs.declared.operand.Operand.TheVariants as operands
-use Rattle.ir_core.specs.declared.operand.Register.{Register}
 use Rattle.ir_core.specs.declared.operand.Register.TheVariants as registers
 use Rattle.needed.specs.Operands.{operands_of}
 use Rattle.needed.proofs.Reading.{end_of-is}
-use Rattle.use_counts.specs.declared.uses.Uses.{Uses}
-use Rattle.readers.specs.Changes.{changed_at, inst_put, put_in}
-use Rattle.readers.specs.Counts.{AreCounted, HasNumbers, operands_at}
-use Rattle.draft.specs.Drafts.{standing}
-use Rattle.draft.specs.KeptOrders.{KeepsOrders}
-use Rattle.places.specs.Orders.{none, put_before}
-use Rattle.readers.specs.Readers.{AreListed, HaveLists}
-use Rattle.draft.specs.Whole.{IsWhole}
-use Rattle.draft.specs.declared.draft.Draft.{Draft}
-use Rattle.places.specs.declared.place.Place.{Place}
-use Rattle.readers.specs.declared.uses.Readers.{Readers}
-use Rattle.draft.proofs.Exchange.{with_blocks}
-use Rattle.readers.proofs.Places.{few_counted}
-use Rattle.draft.proofs.Put.{all_below, list_row, number_row, whole_put}
-use Rattle.draft.proofs.Putting.{few_put, list_there, number_there, read_put}
-use Rattle.draft.proofs.NumberedInsts.{next-keeps}
-use Rattle.draft.proofs.Rows.{put_standing, standing_changed}
-use Rattle.readers.proofs.Tables.{row_within}
-use Rattle.draft.proofs.Wholeness.{few_insts, stands_marked, stands_there}
+use Rattle.readers.specs.Readers.{AreListed}
+use Rattle.draft.proofs.Putting.{number_there}
 use Rattle.draft_steps.proofs.inserting.put_before.Goals as goal
 
 -- the tables have a row for each block

@@ -1,4 +1,4 @@
-use Rattle.draft.proofs.Keeping.{put-keeps, keeps-twice}
+use Rattle.draft_steps.proofs.Common.{put-keeps, keeps-twice}
 use Rattle.draft_steps.proofs.WorklistLaws.{worklist-stays}
 use Rattle.draft_steps.proofs.laws.orders_are_kept.Goals as goal
 

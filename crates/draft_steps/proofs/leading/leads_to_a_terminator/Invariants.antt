@@ -1,6 +1,5 @@
-use Rattle.ir_core.specs.Checks.{IsKnown}
+use Rattle.draft_steps.proofs.Common.{IsKnown, IsNeeded}
 use Rattle.ir_core.specs.declared.operand.Operand.TheVariants as operands
-use Rattle.needed.specs.Needed.{IsNeeded}
 use Rattle.draft_steps.proofs.leading.leads_to_a_terminator.Given as goal
 
 -- if this register is live, the first one is

@@ -1,6 +1,4 @@
-use Rattle.std.proofs.Common.{refl}
-use Rattle.readers.specs.Changes.{gone}
-use Rattle.readers.proofs.Changing.{block_with}
+use Rattle.draft_steps.proofs.Common.{refl, gone, block_with}
 use Rattle.draft_steps.proofs.removing.empty_inst.Goals as goal
 
 pub returns : goal.returns

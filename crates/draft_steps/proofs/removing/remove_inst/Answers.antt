@@ -1,19 +1,6 @@
-use Rattle.std.proofs.Common.{◌≡◌, ◌<◌, ◌∙◌, Bool, false, List, [], ◌∷◌, Contains, ap, get_or, length, refl, slice_set, sym, subst, arith}
-use Rattle.std.proofs.lemmas.Option.{slice_get-get_or, slice_get_within}
-use Rattle.ir_core.specs.declared.function.Block.{Block}
-use Rattle.ir_core.specs.declared.operand.Operand.{Operand}
+use Rattle.draft_steps.proofs.Common.{◌≡◌, ◌<◌, ◌∙◌, Bool, false, List, [], ◌∷◌, Contains, ap, get_or, length, refl, slice_set, sym, subst, arith, slice_get-get_or, slice_get_within, Block, Operand, gone, without, AreCounted, operands_at, standing, Draft, whole_taken_out, inst_there, counted_other, only_one, was_counted, was_numbers, with_blocks, all_listed, standing_marked, without_standing, counted_insts}
 use Rattle.ir_core.specs.declared.operand.Operand.TheVariants as operands
-use Rattle.readers.specs.Changes.{gone, without}
-use Rattle.readers.specs.Counts.{AreCounted, operands_at}
-use Rattle.draft.specs.Drafts.{standing}
-use Rattle.draft.specs.declared.draft.Draft.{Draft}
-use Rattle.draft.proofs.Changed.{reads, whole_taken_out}
-use Rattle.readers.proofs.Changing.{inst_there}
-use Rattle.readers.proofs.Counting.{counted_other, only_one}
-use Rattle.draft.proofs.Exchange.{was_counted, was_numbers, with_blocks}
-use Rattle.readers.proofs.Places.{all_listed}
-use Rattle.draft.proofs.Rows.{standing_marked, without_standing}
-use Rattle.draft.proofs.Wholeness.{counted_insts}
+use Rattle.draft.proofs.Changed.{reads}
 use Rattle.draft_steps.proofs.removing.remove_inst.Goals as goal
 
 pub push_reads-requires : goal.push_reads-requires

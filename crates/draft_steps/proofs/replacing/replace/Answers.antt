@@ -1,16 +1,7 @@
 -- The uses of the register are replaced place by place.
-use Rattle.std.proofs.Common.{◌≡◌, ◌+◌, ◌<◌, ◌≤◌, ◌∙◌, ◌∷◌, ℕ, suc, List, Bool, Contains, ap, drop, length, sym, subst, arith, drop-cons}
-use Rattle.std.proofs.lemmas.List.{drop_all}
-use Rattle.std.proofs.lemmas.Option.{slice_get-get_or}
-use Rattle.ir_core.specs.Checks.{IsKnown}
-use Rattle.ir_core.specs.declared.function.Function.{Function}
+use Rattle.draft_steps.proofs.Common.{◌≡◌, ◌+◌, ◌<◌, ◌≤◌, ◌∙◌, ◌∷◌, ℕ, suc, List, Bool, Contains, ap, drop, length, sym, subst, arith, drop-cons, drop_all, slice_get-get_or, IsKnown, Function, numbers_of, standing, nowhere, place_at, IsPlaceIn, IsReader, listed_for, Place, IsReplacing, replacing_begins, replacing_ends, replacing_goes}
 use Rattle.ir_core.specs.declared.operand.Operand.TheVariants as operands
 use Rattle.needed.proofs.Counting.{contains_at}
-use Rattle.draft.specs.Drafts.{numbers_of, standing}
-use Rattle.places.specs.Heaps.{nowhere, place_at}
-use Rattle.readers.specs.Readers.{IsPlaceIn, IsReader, listed_for}
-use Rattle.places.specs.declared.place.Place.{Place}
-use Rattle.draft.proofs.ReplacedAt.{IsReplacing, replacing_begins, replacing_ends, replacing_goes}
 use Rattle.draft_steps.proofs.replacing.replace.Goals as goal
 
 here : (places : List Place) (k : ℕ) → k < length places → Contains places (place_at places k)

@@ -1,6 +1,5 @@
 -- the uses at the places before this one are replaced
-use Rattle.std.proofs.Common.{drop}
-use Rattle.draft.proofs.ReplacedAt.{IsReplacing}
+use Rattle.draft_steps.proofs.Common.{drop, IsReplacing}
 use Rattle.draft_steps.proofs.replacing.replace.Given as goal
 
 abbrev pub invariant-loop-place : goal.invariant-loop-place

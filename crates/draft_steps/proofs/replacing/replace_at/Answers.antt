@@ -1,23 +1,5 @@
-use Rattle.std.proofs.Common.{◌≡◌, ◌<◌, ◌⊎◌, ◌∙◌, inl, inr, List, Contains, length, refl, sym, subst}
-use Rattle.std.proofs.lemmas.Option.{same_Some, slice_get_within}
-use Rattle.std.proofs.lemmas.Result.{on_ok_weaker}
-use Rattle.ir_core.specs.Checks.{IsKnown}
-use Rattle.ir_core.specs.declared.function.Block.{Block}
-use Rattle.ir_core.specs.declared.operand.Operand.{Operand}
+use Rattle.draft_steps.proofs.Common.{◌≡◌, ◌<◌, ◌⊎◌, ◌∙◌, inl, inr, List, Contains, length, refl, sym, subst, same_Some, slice_get_within, on_ok_weaker, IsKnown, Block, Operand, Register, replaced_at, operands_at, none, IsPlaceIn, IsWhole, Draft, Place, with_blocks, all_listed, few_counted, numbers_for, one_listed, times_counted, few_after, reads_after, swapped_arena, whole_after, swapped_known, swapped_listed, all_known, counted_insts, few_insts}
 use Rattle.ir_core.specs.declared.operand.Operand.TheVariants as operands
-use Rattle.ir_core.specs.declared.operand.Register.{Register}
-use Rattle.readers.specs.Changes.{replaced_at}
-use Rattle.readers.specs.Counts.{operands_at}
-use Rattle.places.specs.Orders.{none}
-use Rattle.readers.specs.Readers.{IsPlaceIn}
-use Rattle.draft.specs.Whole.{IsWhole}
-use Rattle.draft.specs.declared.draft.Draft.{Draft}
-use Rattle.places.specs.declared.place.Place.{Place}
-use Rattle.draft.proofs.Exchange.{with_blocks}
-use Rattle.readers.proofs.Places.{all_listed, few_counted, numbers_for, one_listed, times_counted}
-use Rattle.draft.proofs.ReplacedAt.{few_after, reads_after, swapped_arena, whole_after}
-use Rattle.draft.proofs.Swapped.{swapped_known, swapped_listed}
-use Rattle.draft.proofs.Wholeness.{all_known, counted_insts, few_insts}
 use Rattle.draft_steps.proofs.replacing.replace_at.Goals as goal
 
 pub forget_reads-requires-clause-insts : goal.forget_reads-requires-clause-insts

@@ -1,9 +1,4 @@
-use Rattle.std.proofs.Common.{◌≡◌, ◌<◌, Some, get_or, inl, inr, length}
-use Rattle.std.specs.Prelude.{slice_get}
-use Rattle.std.proofs.lemmas.Option.{slice_get-get_or}
-use Rattle.substitution.specs.Substitution.{substituted_end, substituted_inst}
-use Rattle.readers.specs.Changes.{instead}
-use Rattle.readers.proofs.Changing.{block_ended, block_with}
+use Rattle.draft_steps.proofs.Common.{◌≡◌, ◌<◌, Some, get_or, inl, inr, length, slice_get, slice_get-get_or, substituted_end, substituted_inst, instead, block_ended, block_with}
 use Rattle.draft_steps.proofs.replacing.swap_at.Goals as goal
 
 pub returns-then-place-eq-END-clause-end : goal.returns-then-place-eq-END-clause-end

@@ -1,8 +1,4 @@
-use Rattle.std.proofs.Common.{◌≡◌, List, [], ◌∷◌, ◌++◌, sym, ap, subst, ◌∙◌, append_assoc, arith}
-use Rattle.std.proofs.lemmas.List.{nil_from_length}
-use Rattle.std.specs.Vec.Iter.{into_iter_items}
-use Rattle.ir_core.specs.declared.instruction.Inst.{Inst}
-use Rattle.places.specs.declared.place.Place.{Place}
+use Rattle.draft_steps.proofs.Common.{◌≡◌, List, [], ◌∷◌, ◌++◌, sym, ap, subst, ◌∙◌, append_assoc, arith, nil_from_length, into_iter_items, Inst, Place}
 use Rattle.draft_steps.proofs.PutAll.{ArePut, append_none, next_known, next_room, none_put, put_more, still_stands}
 use Rattle.draft_steps.proofs.rewriting.put_all.Goals as goal
 

@@ -1,5 +1,4 @@
-use Rattle.std.proofs.Common.{◌≡◌, ◌++◌}
-use Rattle.std.specs.Vec.Iter.{into_iter_items}
+use Rattle.draft_steps.proofs.Common.{◌≡◌, ◌++◌, into_iter_items}
 use Rattle.draft_steps.proofs.PutAll.{ArePut}
 use Rattle.draft_steps.proofs.rewriting.put_all.Given as goal
 

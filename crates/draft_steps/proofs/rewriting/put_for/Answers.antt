@@ -1,18 +1,7 @@
-use Rattle.std.proofs.Common.{◌≡◌, ◌+◌, ◌≤◌, ◌++◌, List, length, map, refl, sym, subst}
-use Rattle.std.specs.List.{range_with_len}
-use Rattle.ir_core.specs.Blocks.{HasInst}
-use Rattle.ir_core.specs.Checks.{IsKnown}
-use Rattle.ir_core.specs.Reads.{end_of}
-use Rattle.ir_core.specs.declared.function.Function.{Function}
-use Rattle.ir_core.specs.declared.instruction.Inst.{Inst}
+use Rattle.draft_steps.proofs.Common.{◌≡◌, ◌+◌, ◌≤◌, ◌++◌, List, length, map, refl, sym, subst, range_with_len, HasInst, IsKnown, end_of, Function, Inst, numbers_of, orders_of, KeepsOrders, none, MayPut, MayRead, rows_with, with_put, stands_there}
 use Rattle.ir_core.specs.declared.operand.Register.TheVariants as registers
-use Rattle.draft.specs.Drafts.{numbers_of, orders_of}
-use Rattle.draft.specs.KeptOrders.{KeepsOrders}
-use Rattle.places.specs.Orders.{none}
-use Rattle.draft_steps.specs.Rewriting.{MayPut, MayRead, rows_with, with_put}
 use Rattle.draft_steps.proofs.PutAll.{with_has, with_known}
 use Rattle.draft_steps.proofs.PutInstead.{put_instead}
-use Rattle.draft.proofs.Wholeness.{stands_there}
 use Rattle.draft_steps.proofs.rewriting.put_for.Goals as goal
 
 pub put_all-requires-clause-room : goal.put_all-requires-clause-room

@@ -1,4 +1,4 @@
-use Rattle.draft.proofs.NumberedInsts.{insts-stay}
+use Rattle.draft_steps.proofs.Common.{insts-stay}
 use Rattle.draft_steps.proofs.rewriting.replace_root.Goals as goal
 
 pub remove_inst-requires-clause-at : goal.remove_inst-requires-clause-at

@@ -1,24 +1,7 @@
-use Rattle.std.proofs.Common.{◌≡◌, ℕ, ◌+◌, ◌≤◌, length, Result, Ok, Err, sym, ap, subst, ◌∙◌, arith}
-use Rattle.std.specs.Prelude.{IfOk}
-use Rattle.std.proofs.lemmas.Option.{get_or_from_slice_get, slice_get_within}
-use Rattle.ir_core.specs.Blocks.{IsBlock}
-use Rattle.ir_core.specs.Checks.{IsInst}
-use Rattle.ir_core.specs.Names.{Name}
-use Rattle.ir_core.specs.Reads.{end_of}
-use Rattle.ir_core.specs.declared.function.Block.{Block}
-use Rattle.ir_core.specs.declared.function.Function.{Function}
-use Rattle.ir_core.specs.declared.instruction.Inst.{Inst}
-use Rattle.rule_core.specs.declared.rule.Rule.{Rule}
-use Rattle.bindings.specs.declared.binding.Binding.{Binding}
+use Rattle.draft_steps.proofs.Common.{◌≡◌, ℕ, ◌+◌, ◌≤◌, length, Result, Ok, Err, sym, ap, subst, ◌∙◌, arith, IfOk, get_or_from_slice_get, slice_get_within, IsBlock, IsInst, Name, end_of, Block, Function, Inst, Rule, Binding, most_put, Rewrite, HasRoomFor, IsPutFor, MayPut, MayRead, Draft, inst_there, stands_there}
 use Rattle.rewriter.specs.Put as target
-use Rattle.rewriter.proofs.Rooted.{most_put}
-use Rattle.substitution.specs.declared.rewrite.Rewrite.{Rewrite}
-use Rattle.draft.specs.Drafts.{HasRoomFor}
-use Rattle.draft_steps.specs.Rewriting.{IsPutFor, MayPut, MayRead, numbered}
-use Rattle.draft.specs.declared.draft.Draft.{Draft}
-use Rattle.readers.proofs.Changing.{inst_there}
+use Rattle.draft_steps.specs.Rewriting.{numbered}
 use Rattle.draft_steps.proofs.WhoReads.{end_of-is}
-use Rattle.draft.proofs.Wholeness.{stands_there}
 use Rattle.draft_steps.proofs.rewriting.rewrite_draft.Goals as goal
 
 -- the rewrite by the binding whose root has the next number

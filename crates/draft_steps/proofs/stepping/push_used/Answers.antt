@@ -1,12 +1,5 @@
-use Rattle.std.proofs.Common.{inl, List, [], ◌∷◌, All, Contains, refl, sym, subst, arith}
-use Rattle.std.proofs.lemmas.List.{take_all}
-use Rattle.std.proofs.lemmas.List.Elements.{All-contains, All-push, Contains-append_left}
-use Rattle.ir_core.specs.declared.operand.Register.{Register}
+use Rattle.draft_steps.proofs.Common.{inl, List, [], ◌∷◌, All, Contains, refl, sym, subst, arith, take_all, All-contains, All-push, Contains-append_left, Register, IsUseCount, use_counts_are_one, IsPlaceIn, Place}
 use Rattle.ir_core.specs.declared.operand.Register.TheVariants as registers
-use Rattle.use_counts.specs.Uses.{IsUseCount}
-use Rattle.use_counts.proofs.OneCount.{use_counts_are_one}
-use Rattle.readers.specs.Readers.{IsPlaceIn}
-use Rattle.places.specs.declared.place.Place.{Place}
 use Rattle.draft_steps.proofs.Touching.{IsTold, among_here, pushed_there, told_here, told_none}
 use Rattle.draft_steps.proofs.stepping.push_used.Goals as goal
 use Rattle.draft_steps.proofs.stepping.push_used.Goals.{in-Result+then-uses_of-eq1+in_ok-push, in-Result+else-uses_of-eq1, in_default}

@@ -1,6 +1,4 @@
-use Rattle.std.proofs.Common.{All, Contains, take}
-use Rattle.readers.specs.Readers.{IsPlaceIn}
-use Rattle.places.specs.declared.place.Place.{Place}
+use Rattle.draft_steps.proofs.Common.{All, Contains, take, IsPlaceIn, Place}
 use Rattle.draft_steps.proofs.Touching.{IsTold}
 use Rattle.draft_steps.proofs.stepping.push_used.Given as goal
 

@@ -1,10 +1,5 @@
-use Rattle.std.proofs.Common.{List, Contains, sym, subst}
-use Rattle.ir_core.specs.declared.operand.Register.{Register}
+use Rattle.draft_steps.proofs.Common.{List, Contains, sym, subst, Register, function_of, orders_of, KeepsOrders, IsPlaceIn, Place}
 use Rattle.ir_core.specs.declared.operand.Register.TheVariants as registers
-use Rattle.draft.specs.Drafts.{function_of, orders_of}
-use Rattle.draft.specs.KeptOrders.{KeepsOrders}
-use Rattle.readers.specs.Readers.{IsPlaceIn}
-use Rattle.places.specs.declared.place.Place.{Place}
 use Rattle.draft_steps.proofs.Room.{room_stays}
 use Rattle.draft_steps.proofs.Settled.{is_clean, is_cleaned, is_settled}
 use Rattle.draft_steps.proofs.OneStep.{are_read, are_touched, bound, checks_then, good_then, is_rewritten, keeps_then, put_places, readable, replaced_places, result_is_needed, result_readable, room_then, root_inst, root_is, root_place, root_stands, waits}

@@ -1,9 +1,4 @@
-use Rattle.std.proofs.Common.{ℕ, inl, inr, All, Contains, take, refl, subst, arith}
-use Rattle.std.proofs.lemmas.List.{take_all}
-use Rattle.std.proofs.lemmas.List.Elements.{All-get_or, All-more, All-weaker}
-use Rattle.places.specs.declared.place.Place.{Place}
-use Rattle.places.specs.Heaps.{IsNumbered, nowhere, place_at}
-use Rattle.places.specs.Sets.{Has}
+use Rattle.draft_steps.proofs.Common.{ℕ, inl, inr, All, Contains, take, refl, subst, arith, take_all, All-get_or, All-more, All-weaker, Place, IsNumbered, nowhere, place_at, Has}
 use Rattle.draft_steps.proofs.WalkDrafts.{place-among}
 use Rattle.draft_steps.proofs.worklist.insert_all.Goals as goal
 

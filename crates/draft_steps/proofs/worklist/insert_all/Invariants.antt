@@ -1,6 +1,4 @@
-use Rattle.std.proofs.Common.{◌⊎◌, ℕ, All, Contains, take}
-use Rattle.places.specs.Sets.{Has}
-use Rattle.places.specs.Worklist.{IsWorklist}
+use Rattle.draft_steps.proofs.Common.{◌⊎◌, ℕ, All, Contains, take, Has, IsWorklist}
 use Rattle.draft_steps.proofs.worklist.insert_all.Given as goal
 
 -- the places before this one are on the worklist

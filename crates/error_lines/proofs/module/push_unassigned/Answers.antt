@@ -1,6 +1,4 @@
-use Rattle.std.proofs.Common.{◌≡◌, ℕ, List, ◌++◌, ap, ◌∙◌, append_assoc}
-use Rattle.std.specs.Prelude.{codes, decimal}
-use Rattle.error_lines.specs.Lines.{register_text}
+use Rattle.error_lines.proofs.Common.{◌≡◌, ℕ, List, ◌++◌, ap, ◌∙◌, append_assoc, codes, decimal, register_text}
 use Rattle.error_lines.proofs.module.push_unassigned.Goals as goal
 
 -- four pieces, appended one by one

@@ -1,7 +1,4 @@
-use Rattle.std.proofs.Common.{◌+◌, length, ap, ◌∙◌}
-use Rattle.std.proofs.lemmas.List.{length-replicate}
-use Rattle.first_uip.specs.declared.roles.Role.TheVariants.{Unseen}
-use Rattle.first_uip.specs.Conflict.{role_of}
+use Rattle.first_uip.proofs.Common.{◌+◌, length, ap, ◌∙◌, length-replicate, Unseen, role_of}
 use Rattle.first_uip.proofs.RoleLemmas.{unseen_everywhere}
 use Rattle.first_uip.proofs.analysis.analyse.Goals as goal
 

@@ -1,5 +1,4 @@
-use Rattle.std.proofs.Common.{length, sym, ◌∙◌, subst}
-use Rattle.first_uip.specs.Shown.{VariablesBelow}
+use Rattle.first_uip.proofs.Common.{length, sym, ◌∙◌, subst, VariablesBelow}
 use Rattle.first_uip.proofs.analysis.analyse_in.Goals as goal
 
 pub learned_of-requires-clause-shown : goal.learned_of-requires-clause-shown

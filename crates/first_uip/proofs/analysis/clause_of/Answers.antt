@@ -1,13 +1,4 @@
-use Rattle.std.proofs.Common.{◌≡◌, Bool, true, false, Some, [], ◌∷◌, sym, refl, ap, ◌∙◌}
-use Rattle.std.specs.Prelude.{slice_get}
-use Rattle.std.proofs.lemmas.Option.{slice_get-get_or}
-use Rattle.std.proofs.lemmas.List.{append-nil}
-use denote.Enum.Bare.{sameb}
-use Rattle.clauses.specs.Literal.{Lit}
-use Rattle.depth_first.specs.declared.trail.Entry.{Entry}
-use Rattle.first_uip.specs.contracts.roles.Role.{the_type}
-use Rattle.first_uip.specs.declared.roles.Role.TheVariants.{Kept}
-use Rattle.first_uip.specs.Conflict.{is_kept, part_of, role_of}
+use Rattle.first_uip.proofs.Common.{◌≡◌, Bool, true, false, Some, [], ◌∷◌, sym, refl, ap, ◌∙◌, slice_get, slice_get-get_or, append-nil, sameb, Lit, Entry, the_type, Kept, is_kept, part_of, role_of}
 use Rattle.first_uip.proofs.RoleLemmas.{clause_next, kept_is}
 use Rattle.first_uip.proofs.analysis.clause_of.Goals as goal
 use Rattle.first_uip.proofs.analysis.clause_of.Goals.{then-eq+in_ok-push, else-eq}

@@ -1,4 +1,4 @@
-use Rattle.first_uip.specs.Conflict.{NoneDecided}
+use Rattle.first_uip.proofs.Common.{NoneDecided}
 use Rattle.first_uip.proofs.analysis.first_decision.Given as goal
 
 abbrev pub invariant-loop-place : goal.invariant-loop-place

@@ -1,15 +1,4 @@
-use Rattle.std.proofs.Common.{◌≡◌, ℕ, ◌+◌, ◌<◌, true, false, Some, length, set, get_or, refl, sym, ap, ◌∙◌, subst, arith}
-use Rattle.std.specs.Prelude.{slice_get}
-use Rattle.std.proofs.lemmas.Bool.{true≢false}
-use Rattle.std.proofs.lemmas.Option.{slice_get_read}
-use Rattle.clauses.specs.ClauseSet.{clauses_with}
-use Rattle.depth_first.specs.declared.trail.Entry.{Entry}
-use Rattle.depth_first.proofs.Sets.{below_from_within}
-use Rattle.depth_first.proofs.Involved.{with_within}
-use Rattle.first_uip.specs.declared.roles.Role.TheVariants.{Kept}
-use Rattle.first_uip.specs.Conflict.{IsResolution, Resolves, SameKeptFrom, is_kept, is_seen, role_of}
-use Rattle.first_uip.specs.Marks.{EachMarked, is_marked}
-use Rattle.depth_first.proofs.Lists.{some_same}
+use Rattle.first_uip.proofs.Common.{◌≡◌, ℕ, ◌+◌, ◌<◌, true, false, Some, length, set, get_or, refl, sym, ap, ◌∙◌, subst, arith, slice_get, true≢false, slice_get_read, clauses_with, Entry, below_from_within, with_within, Kept, IsResolution, Resolves, SameKeptFrom, is_kept, is_seen, role_of, EachMarked, is_marked, some_same}
 use Rattle.first_uip.proofs.Marked.{EachMarked-set, IsMarked-placed}
 use Rattle.first_uip.proofs.RoleLemmas.{IsResolution-start}
 use Rattle.first_uip.proofs.Analysed.{last_level_seen, point_kept, IsAnalysis-from}

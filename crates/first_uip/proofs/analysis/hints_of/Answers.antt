@@ -1,13 +1,4 @@
-use Rattle.std.proofs.Common.{◌≡◌, Bool, true, false, Some, [], ◌∷◌, refl, sym, ap, ◌∙◌}
-use Rattle.std.specs.Prelude.{slice_get}
-use Rattle.std.specs.Option.{option_to_list}
-use Rattle.std.proofs.lemmas.Option.{slice_get-get_or}
-use Rattle.std.proofs.lemmas.List.{append-nil}
-use Rattle.depth_first.specs.declared.trail.Entry.{Entry}
-use denote.Enum.Bare.{sameb}
-use Rattle.first_uip.specs.contracts.roles.Role.{the_type}
-use Rattle.first_uip.specs.declared.roles.Role.TheVariants.{Resolved}
-use Rattle.first_uip.specs.Conflict.{is_resolved, part_of, role_of}
+use Rattle.first_uip.proofs.Common.{◌≡◌, Bool, true, false, Some, [], ◌∷◌, refl, sym, ap, ◌∙◌, slice_get, option_to_list, slice_get-get_or, append-nil, Entry, sameb, the_type, Resolved, is_resolved, part_of, role_of}
 use Rattle.first_uip.proofs.RoleLemmas.{hints_next, resolved_is}
 use Rattle.first_uip.proofs.analysis.hints_of.Goals as goal
 use Rattle.first_uip.proofs.analysis.hints_of.Goals.{then-eq+in-Some+in_ok-push, then-eq+in_default, else-eq}

@@ -1,6 +1,4 @@
-use Rattle.std.proofs.Common.{◌≡◌, take}
-use Rattle.depth_first.specs.TrailEntries.{reasons}
-use Rattle.first_uip.specs.Conflict.{resolved_entries}
+use Rattle.first_uip.proofs.Common.{◌≡◌, take, reasons, resolved_entries}
 use Rattle.first_uip.proofs.analysis.hints_of.Given as goal
 
 abbrev pub invariant-loop-entry : goal.invariant-loop-entry

@@ -1,9 +1,4 @@
-use Rattle.std.proofs.Common.{◌≡◌, ◌-◌, Some, false, true, length, refl, sym, ap, ◌∙◌, arith}
-use Rattle.std.specs.Prelude.{slice_get}
-use Rattle.std.proofs.lemmas.Option.{slice_get_read}
-use Rattle.depth_first.specs.declared.trail.Entry.{Entry}
-use Rattle.depth_first.proofs.Lists.{slice_get_below}
-use Rattle.first_uip.specs.Conflict.{is_kept, part_of, role_of}
+use Rattle.first_uip.proofs.Common.{◌≡◌, ◌-◌, Some, false, true, length, refl, sym, ap, ◌∙◌, arith, slice_get, slice_get_read, Entry, slice_get_below, is_kept, part_of, role_of}
 use Rattle.first_uip.proofs.RoleLemmas.{kept_is, NoneDecided-before, NoneKept-before}
 use Rattle.first_uip.proofs.analysis.jump_from.Goals as goal
 

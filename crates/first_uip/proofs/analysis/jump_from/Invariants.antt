@@ -1,5 +1,4 @@
-use Rattle.std.proofs.Common.{◌≤◌}
-use Rattle.first_uip.specs.Conflict.{DecidedAt, NoneDecided, NoneKept}
+use Rattle.first_uip.proofs.Common.{◌≤◌, DecidedAt, NoneDecided, NoneKept}
 use Rattle.first_uip.proofs.analysis.jump_from.Given as goal
 
 abbrev pub invariant-loop-place : goal.invariant-loop-place

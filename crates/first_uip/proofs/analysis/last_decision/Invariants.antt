@@ -1,5 +1,4 @@
-use Rattle.std.proofs.Common.{◌≤◌, length}
-use Rattle.first_uip.specs.Conflict.{NoneDecided}
+use Rattle.first_uip.proofs.Common.{◌≤◌, length, NoneDecided}
 use Rattle.first_uip.proofs.analysis.last_decision.Given as goal
 
 abbrev pub invariant-loop-place : goal.invariant-loop-place

@@ -1,14 +1,4 @@
-use Rattle.std.proofs.Common.{◌≡◌, ℕ, List, [], ◌∷◌, ◌++◌, Some, None, length, refl, sym, ap, ◌∙◌, subst, arith}
-use Rattle.std.specs.Prelude.{slice_get}
-use Rattle.std.proofs.lemmas.Option.{slice_get_read}
-use Rattle.clauses.specs.declared.step.Step.{Step}
-use Rattle.clauses.specs.Literal.{Lit, negation_of}
-use Rattle.clauses.specs.ClauseSet.{IsNew, clauses_with}
-use Rattle.depth_first.specs.declared.trail.Entry.{Entry}
-use Rattle.depth_first.specs.TrailEntries.{reasons}
-use Rattle.depth_first.proofs.Lists.{some_same, slice_get_below}
-use Rattle.depth_first.proofs.TrailTable.{Consistent-from_table}
-use Rattle.first_uip.specs.Conflict.{IsAsserting, IsOther, IsJump, resolved_entries}
+use Rattle.first_uip.proofs.Common.{◌≡◌, ℕ, List, [], ◌∷◌, ◌++◌, Some, None, length, refl, sym, ap, ◌∙◌, subst, arith, slice_get, slice_get_read, Step, Lit, negation_of, IsNew, clauses_with, Entry, reasons, some_same, slice_get_below, Consistent-from_table, IsAsserting, IsOther, IsJump, resolved_entries}
 use Rattle.first_uip.proofs.Analysed.{learned_clause, learned_clause-not_empty, learned_follows, learned_is_new, learned_asserts, none_other, some_other}
 use Rattle.first_uip.proofs.Shown.{learned_shown, resolved_shown}
 use Rattle.first_uip.proofs.analysis.learned_of.Goals as goal

@@ -1,6 +1,4 @@
-use Rattle.std.proofs.Common.{◌≡◌, ◌+◌, ◌-◌, ◌<◌, ◌≤◌, sym, ◌∙◌, subst, arith}
-use Rattle.clauses.specs.ClauseSet.{clauses_with}
-use Rattle.first_uip.specs.Conflict.{IsResolution, SeenAt}
+use Rattle.first_uip.proofs.Common.{◌≡◌, ◌+◌, ◌-◌, ◌<◌, ◌≤◌, sym, ◌∙◌, subst, arith, clauses_with, IsResolution, SeenAt}
 use Rattle.first_uip.proofs.analysis.resolve_level.Goals as goal
 use Rattle.first_uip.proofs.analysis.resolve_level.Goals.{then-place-lower+in-Some, else-place-lower}
 

@@ -1,7 +1,4 @@
-use Rattle.std.proofs.Common.{◌≡◌, ℕ, ◌<◌, ◌≤◌, length}
-use Rattle.clauses.specs.ClauseSet.{clauses_with}
-use Rattle.first_uip.specs.Conflict.{Resolves, SeenAt, is_kept, role_of}
-use Rattle.first_uip.specs.Marks.{EachMarked}
+use Rattle.first_uip.proofs.Common.{◌≡◌, ℕ, ◌<◌, ◌≤◌, length, clauses_with, Resolves, SeenAt, is_kept, role_of, EachMarked}
 use Rattle.first_uip.proofs.analysis.resolve_level.Given as goal
 
 abbrev pub invariant-loop-place : goal.invariant-loop-place

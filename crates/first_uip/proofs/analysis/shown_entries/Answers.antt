@@ -1,10 +1,4 @@
-use Rattle.std.proofs.Common.{◌≡◌, ◌<◌, true, [], ◌∷◌, ◌++◌, Some, length, refl, sym, ap, ◌∙◌, subst, arith}
-use Rattle.std.specs.Prelude.{slice_get}
-use Rattle.std.proofs.lemmas.Option.{slice_get_read}
-use Rattle.depth_first.specs.declared.trail.Entry.{Entry}
-use Rattle.depth_first.proofs.Lists.{some_same}
-use Rattle.first_uip.specs.Conflict.{is_seen, part_of}
-use Rattle.first_uip.specs.Shown.{VariablesBelow, shown_entries}
+use Rattle.first_uip.proofs.Common.{◌≡◌, ◌<◌, true, [], ◌∷◌, ◌++◌, Some, length, refl, sym, ap, ◌∙◌, subst, arith, slice_get, slice_get_read, Entry, some_same, is_seen, part_of, VariablesBelow, shown_entries}
 use Rattle.first_uip.proofs.Shown.{shown_all, shown_between, shown_next, shown_within, VariablesBelow-same}
 use Rattle.first_uip.proofs.analysis.shown_entries.Goals as goal
 

@@ -1,5 +1,4 @@
-use Rattle.std.proofs.Common.{◌≡◌, ◌-◌, ◌≤◌, length, take}
-use Rattle.first_uip.specs.Shown.{shown_entries}
+use Rattle.first_uip.proofs.Common.{◌≡◌, ◌-◌, ◌≤◌, length, take, shown_entries}
 use Rattle.first_uip.proofs.analysis.shown_entries.Given as goal
 
 abbrev pub invariant-loop-place : goal.invariant-loop-place

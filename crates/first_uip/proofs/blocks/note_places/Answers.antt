@@ -1,8 +1,4 @@
-use Rattle.std.proofs.Common.{◌≡◌, ◌+◌, ◌<◌, Some, length, set, refl, sym, subst, arith}
-use Rattle.std.specs.Prelude.{slice_get}
-use Rattle.std.proofs.lemmas.Option.{slice_get_read}
-use Rattle.depth_first.specs.declared.trail.Entry.{Entry}
-use Rattle.first_uip.specs.Marks.{IsPlaced}
+use Rattle.first_uip.proofs.Common.{◌≡◌, ◌+◌, ◌<◌, Some, length, set, refl, sym, subst, arith, slice_get, slice_get_read, Entry, IsPlaced}
 use Rattle.first_uip.proofs.Marked.{IsPlaced-next}
 use Rattle.first_uip.proofs.blocks.note_places.Goals as goal
 

@@ -1,4 +1,4 @@
-use Rattle.first_uip.specs.Marks.{IsPlaced}
+use Rattle.first_uip.proofs.Common.{IsPlaced}
 use Rattle.first_uip.proofs.blocks.note_places.Given as goal
 
 abbrev pub invariant-loop-place : goal.invariant-loop-place

@@ -1,9 +1,4 @@
-use Rattle.std.proofs.Common.{◌≡◌, ◌-◌, ◌*◌, ◌/◌, false, Some, length, refl, sym, ap, ◌∙◌, arith}
-use Rattle.std.specs.Prelude.{slice_get}
-use Rattle.std.proofs.lemmas.Option.{slice_get_read}
-use Rattle.depth_first.specs.declared.trail.Entry.{Entry}
-use Rattle.first_uip.specs.Conflict.{is_seen, part_of, role_of}
-use Rattle.first_uip.specs.Marks.{is_marked}
+use Rattle.first_uip.proofs.Common.{◌≡◌, ◌-◌, ◌*◌, ◌/◌, false, Some, length, refl, sym, ap, ◌∙◌, arith, slice_get, slice_get_read, Entry, is_seen, part_of, role_of, is_marked}
 use Rattle.first_uip.proofs.RoleLemmas.{seen_if_ne, unseen_if_ne}
 use Rattle.first_uip.proofs.Marked.{NoneSeen-block, NoneSeen-join, NoneSeen-one}
 use Rattle.first_uip.proofs.blocks.seen_before.Goals as goal

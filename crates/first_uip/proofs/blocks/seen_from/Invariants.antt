@@ -1,5 +1,4 @@
-use Rattle.std.proofs.Common.{◌-◌, ◌≤◌}
-use Rattle.first_uip.specs.Conflict.{NoneSeen}
+use Rattle.first_uip.proofs.Common.{◌-◌, ◌≤◌, NoneSeen}
 use Rattle.first_uip.proofs.blocks.seen_from.Given as goal
 
 abbrev pub invariant-loop-place : goal.invariant-loop-place

@@ -1,17 +1,4 @@
-use Rattle.std.proofs.Common.{◌≡◌, ◌+◌, [], ◌∷◌, ◌++◌, length, length-append, take, refl, sym, ap, ◌∙◌, subst, arith}
-use Rattle.clauses.specs.ClauseSet.{clauses_with}
-use Rattle.clauses.specs.Propagation.{NamesFalse}
-use Rattle.clauses.proofs.Closed.{IsClosed}
-use Rattle.depth_first.specs.declared.trail.Entry.{Entry}
-use Rattle.depth_first.specs.declared.trail.Cause.TheVariants.{InputDecision}
-use Rattle.depth_first.specs.Found.{IsModel, IsHonestLimit}
-use Rattle.depth_first.specs.TrailEntries.{literals, Grows}
-use Rattle.depth_first.proofs.States.{length-clauses_with}
-use Rattle.depth_first.proofs.SearchSteps.{IfNone_is, IfSome_is}
-use Rattle.first_uip.specs.Clauses.{clauses_in}
-use Rattle.first_uip.specs.Watching.{CoversBelow, IsWatching, IsWatchingUpTo}
-use Rattle.first_uip.specs.Searching.{IsSearching}
-use Rattle.first_uip.specs.Marks.{IsNoted}
+use Rattle.first_uip.proofs.Common.{◌≡◌, ◌+◌, [], ◌∷◌, ◌++◌, length, length-append, take, refl, sym, ap, ◌∙◌, subst, arith, clauses_with, NamesFalse, IsClosed, Entry, InputDecision, IsModel, IsHonestLimit, literals, Grows, length-clauses_with, IfNone_is, IfSome_is, clauses_in, CoversBelow, IsWatching, IsWatchingUpTo, IsSearching, IsNoted}
 use Rattle.first_uip.proofs.Noted.{IsNoted-append, IsNoted-cut, IsNoted-grows}
 use Rattle.first_uip.proofs.Measure.{less_after_conflict, less_after_decision}
 use Rattle.first_uip.proofs.SearchLemmas.{no_decisions as none_decided_gives_none, EachCaused-from_forced, EachForced-grown, closed_before, model_found, limit_found, variables_within, IsSearching-decided, IsSearching-start}

@@ -1,7 +1,4 @@
-use Rattle.std.proofs.Common.{◌≡◌, ◌+◌, ◌≤◌, length}
-use Rattle.first_uip.specs.Watching.{CoversBelow}
-use Rattle.first_uip.specs.Searching.{IsSearching}
-use Rattle.first_uip.specs.Marks.{IsNoted}
+use Rattle.first_uip.proofs.Common.{◌≡◌, ◌+◌, ◌≤◌, length, CoversBelow, IsSearching, IsNoted}
 use Rattle.first_uip.proofs.Measure.{work_left}
 use Rattle.first_uip.proofs.learning.decide_and_learn.Given as goal
 

@@ -1,15 +1,4 @@
-use Rattle.std.proofs.Common.{◌≡◌, [], ◌∷◌, ◌++◌, length, take, refl, sym, ap, ◌∙◌, subst, arith}
-use Rattle.std.proofs.lemmas.List.{length-take-le}
-use Rattle.clauses.specs.ClauseSet.{clauses_with}
-use Rattle.depth_first.specs.declared.trail.Entry.{Entry}
-use Rattle.depth_first.specs.declared.trail.Cause.TheVariants.{Reason}
-use Rattle.depth_first.specs.DepthFirst.{IsLearned}
-use Rattle.depth_first.specs.TrailEntries.{EachForced}
-use Rattle.depth_first.proofs.Lists.{slice_get_below, take_take_below, take_whole}
-use Rattle.depth_first.proofs.Open.{variable_within}
-use Rattle.depth_first.proofs.States.{clauses_with-push}
-use Rattle.first_uip.specs.Clauses.{clauses_in}
-use Rattle.first_uip.specs.Watching.{IsWatchingUpTo}
+use Rattle.first_uip.proofs.Common.{◌≡◌, [], ◌∷◌, ◌++◌, length, take, refl, sym, ap, ◌∙◌, subst, arith, length-take-le, clauses_with, Entry, Reason, IsLearned, EachForced, slice_get_below, take_take_below, take_whole, variable_within, clauses_with-push, clauses_in, IsWatchingUpTo}
 use Rattle.first_uip.proofs.Additions.{IsAdded}
 use Rattle.first_uip.proofs.Learnt.{watch_pair, watch_within, IsLearned-push, EachForced-cut, EachForced-asserted, learnt_left, learnt_asserted}
 use Rattle.first_uip.proofs.learning.learn.Goals as goal

@@ -1,10 +1,4 @@
-use Rattle.std.proofs.Common.{List, length, take, sym, subst}
-use Rattle.clauses.specs.ClauseSet.{IsNew, LogFollows, StepFollows, clauses_with}
-use Rattle.clauses.specs.declared.step.Step.{Step}
-use Rattle.clauses.specs.Propagation.{NamesFalse}
-use Rattle.clauses.proofs.Closed.{IsClosed}
-use Rattle.depth_first.specs.TrailEntries.{EachForced, literals}
-use Rattle.first_uip.specs.Shown.{VariablesBelow}
+use Rattle.first_uip.proofs.Common.{List, length, take, sym, subst, IsNew, LogFollows, StepFollows, clauses_with, Step, NamesFalse, IsClosed, EachForced, literals, VariablesBelow}
 use Rattle.first_uip.proofs.SearchLemmas.{closed_before}
 use Rattle.first_uip.proofs.learning.learn_from.Goals as goal
 

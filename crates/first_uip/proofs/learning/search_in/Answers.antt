@@ -1,7 +1,4 @@
-use Rattle.std.proofs.Common.{[], refl}
-use Rattle.clauses.specs.ClauseSet.{all_clauses}
-use Rattle.depth_first.proofs.SearchSteps.{EachCaused-start, no_decisions, IfNone_is}
-use Rattle.first_uip.specs.Watching.{IsWatchingUpTo}
+use Rattle.first_uip.proofs.Common.{[], refl, all_clauses, EachCaused-start, no_decisions, IfNone_is, IsWatchingUpTo}
 use Rattle.first_uip.proofs.learning.search_in.Goals as goal
 
 pub refutation-requires-clause-caused : goal.refutation-requires-clause-caused

@@ -1,15 +1,4 @@
-use Rattle.std.proofs.Common.{◌≡◌, ◌-◌, true, false, [], ◌∷◌, length, refl, sym, ap, ◌∙◌, subst, arith, inr}
-use Rattle.clauses.specs.Literal.{Lit}
-use Rattle.clauses.specs.Propagation.{IsUnit, is_held, is_false}
-use Rattle.depth_first.specs.declared.trail.Entry.{Entry}
-use Rattle.depth_first.specs.declared.trail.Cause.TheVariants.{Reason}
-use Rattle.depth_first.specs.TrailEntries.{literals, Grows}
-use Rattle.depth_first.proofs.Lists.{some_same}
-use Rattle.depth_first.proofs.HeldTable.{code_within}
-use Rattle.depth_first.proofs.HeldLists.{held_last, literals-append}
-use Rattle.depth_first.proofs.PropagationLemmas.{Grows-one}
-use Rattle.first_uip.specs.Clauses.{clauses_in, watched_in}
-use Rattle.first_uip.specs.Looks.{MovesWatch}
+use Rattle.first_uip.proofs.Common.{◌≡◌, ◌-◌, true, false, [], ◌∷◌, length, refl, sym, ap, ◌∙◌, subst, arith, inr, Lit, IsUnit, is_held, is_false, Entry, Reason, literals, Grows, some_same, code_within, held_last, literals-append, Grows-one, clauses_in, watched_in, MovesWatch}
 use Rattle.first_uip.proofs.Listing.{IsListed-rewatch}
 use Rattle.first_uip.proofs.LookLemmas.{EachBlocked-one, clause_within, other_stands, literal_within, other_within, unit_if_open}
 use Rattle.first_uip.proofs.look.look_at.Goals as goal

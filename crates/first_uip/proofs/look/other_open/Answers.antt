@@ -1,11 +1,4 @@
-use Rattle.std.proofs.Common.{◌≡◌, true, sym, ap, ◌∙◌, subst, arith}
-use Rattle.std.specs.Prelude.{All, ◌≢◌}
-use Rattle.std.proofs.lemmas.List.{take_all}
-use Rattle.std.proofs.lemmas.List.Elements.{All-more}
-use Rattle.clauses.specs.Literal.{Lit}
-use Rattle.clauses.specs.Propagation.{is_held, is_false}
-use Rattle.clauses.proofs.Held.{equal_literals}
-use Rattle.depth_first.specs.TrailEntries.{literals}
+use Rattle.first_uip.proofs.Common.{◌≡◌, true, sym, ap, ◌∙◌, subst, arith, All, ◌≢◌, take_all, All-more, Lit, is_held, is_false, equal_literals, literals}
 use Rattle.first_uip.proofs.look.other_open.Goals as goal
 use Rattle.first_uip.proofs.look.other_open.Goals.{else-ne-via-then-ne+else-not-holds, else-ne-via-else-ne}
 

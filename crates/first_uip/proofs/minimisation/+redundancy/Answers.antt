@@ -1,13 +1,4 @@
-use Rattle.std.proofs.Common.{rules, ◌≡◌, ◌<◌, Some, length, refl, sym, ◌∙◌}
-use Rattle.std.specs.Prelude.{slice_get, All}
-use Rattle.std.proofs.lemmas.Option.{slice_get_read}
-use Rattle.clauses.specs.Literal.{Lit}
-use Rattle.clauses.specs.ClauseSet.{clauses_with}
-use Rattle.depth_first.specs.declared.trail.Entry.{Entry}
-use Rattle.depth_first.specs.declared.trail.Cause.TheVariants.{Reason}
-use Rattle.depth_first.proofs.Lists.{slice_get_below}
-use Rattle.depth_first.proofs.Sets.{below_from_within}
-use Rattle.depth_first.proofs.Involved.{with_within, cause_of_reason}
+use Rattle.first_uip.proofs.Common.{rules, ◌≡◌, ◌<◌, Some, length, refl, sym, ◌∙◌, slice_get, All, slice_get_read, Lit, clauses_with, Entry, Reason, slice_get_below, below_from_within, with_within, cause_of_reason}
 use Rattle.first_uip.proofs.RoleLemmas.{none_decided_here}
 use Rattle.first_uip.proofs.minimisation.+redundancy.Goals as goal
 

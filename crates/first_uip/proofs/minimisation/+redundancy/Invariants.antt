@@ -1,4 +1,4 @@
-use Rattle.std.proofs.Common.{◌+◌, ◌*◌}
+use Rattle.first_uip.proofs.Common.{◌+◌, ◌*◌}
 use Rattle.first_uip.proofs.minimisation.+redundancy.Given as goal
 
 abbrev pub decreases-is_redundant : goal.decreases-is_redundant

@@ -1,13 +1,4 @@
-use Rattle.std.proofs.Common.{◌≡◌, ◌+◌, ◌<◌, true, Some, length, set, get_or, refl, sym, ap, ◌∙◌, subst, arith}
-use Rattle.std.specs.Prelude.{slice_get}
-use Rattle.std.proofs.lemmas.List.{get_or-set_other}
-use Rattle.std.proofs.lemmas.Option.{slice_get_read}
-use Rattle.clauses.specs.ClauseSet.{clauses_with}
-use Rattle.depth_first.specs.declared.trail.Entry.{Entry}
-use Rattle.depth_first.proofs.Lists.{some_same}
-use Rattle.first_uip.specs.declared.roles.Role.TheVariants.{Unseen, Kept}
-use Rattle.first_uip.specs.Conflict.{IsResolution, role_of, is_kept, is_seen}
-use Rattle.first_uip.specs.Marks.{EachMarked, is_marked}
+use Rattle.first_uip.proofs.Common.{◌≡◌, ◌+◌, ◌<◌, true, Some, length, set, get_or, refl, sym, ap, ◌∙◌, subst, arith, slice_get, get_or-set_other, slice_get_read, clauses_with, Entry, some_same, Unseen, Kept, IsResolution, role_of, is_kept, is_seen, EachMarked, is_marked}
 use Rattle.first_uip.proofs.RoleLemmas.{IsResolution-keep, IsResolution-unseen, other_entry}
 use Rattle.first_uip.proofs.Marked.{EachMarked-set}
 use Rattle.first_uip.proofs.minimisation.settle_earlier.Goals as goal

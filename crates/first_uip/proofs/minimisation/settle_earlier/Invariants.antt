@@ -1,7 +1,4 @@
-use Rattle.std.proofs.Common.{◌≤◌}
-use Rattle.clauses.specs.ClauseSet.{clauses_with}
-use Rattle.first_uip.specs.Conflict.{Resolves, SameKeptFrom}
-use Rattle.first_uip.specs.Marks.{EachMarked}
+use Rattle.first_uip.proofs.Common.{◌≤◌, clauses_with, Resolves, SameKeptFrom, EachMarked}
 use Rattle.first_uip.proofs.minimisation.settle_earlier.Given as goal
 
 abbrev pub invariant-loop-place : goal.invariant-loop-place

@@ -1,9 +1,4 @@
-use Rattle.std.proofs.Common.{◌≡◌, true, not, sym, ap, ◌∙◌, subst, arith, inl, inr}
-use Rattle.std.proofs.lemmas.Bool.{cases_order}
-use Rattle.clauses.specs.Literal.{literal_of}
-use Rattle.clauses.specs.Propagation.{is_held}
-use Rattle.depth_first.specs.TrailEntries.{literals, IsSet}
-use Rattle.depth_first.proofs.Options.{IfSome_at}
+use Rattle.first_uip.proofs.Common.{◌≡◌, true, not, sym, ap, ◌∙◌, subst, arith, inl, inr, cases_order, literal_of, is_held, literals, IsSet, IfSome_at}
 use Rattle.first_uip.proofs.policy.open_variable.Goals as goal
 
 pub loop-variable-preserved : goal.loop-variable-preserved

@@ -1,5 +1,4 @@
-use Rattle.std.proofs.Common.{ℕ, ◌≤◌, ◌<◌}
-use Rattle.depth_first.specs.TrailEntries.{literals, IsSet}
+use Rattle.first_uip.proofs.Common.{ℕ, ◌≤◌, ◌<◌, literals, IsSet}
 use Rattle.first_uip.proofs.policy.open_variable.Given as goal
 
 abbrev pub invariant-loop-variable : goal.invariant-loop-variable

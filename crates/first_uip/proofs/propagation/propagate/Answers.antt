@@ -1,12 +1,4 @@
-use Rattle.std.proofs.Common.{◌≡◌, ◌+◌, ◌-◌, false, length, sym, ◌∙◌, subst, arith}
-use Rattle.std.specs.Prelude.{is_some, IfSome}
-use Rattle.clauses.specs.Literal.{VariablesWithin}
-use Rattle.clauses.specs.Propagation.{NamesFalse}
-use Rattle.depth_first.specs.TrailEntries.{literals, Grows}
-use Rattle.depth_first.proofs.Options.{IfNone_at}
-use Rattle.depth_first.proofs.PropagationLemmas.{Grows-then}
-use Rattle.first_uip.specs.Clauses.{clauses_in}
-use Rattle.first_uip.specs.Watching.{CoversBelow, IsWatching, IsWatchingUpTo}
+use Rattle.first_uip.proofs.Common.{◌≡◌, ◌+◌, ◌-◌, false, length, sym, ◌∙◌, subst, arith, is_some, IfSome, VariablesWithin, NamesFalse, literals, Grows, IfNone_at, Grows-then, clauses_in, CoversBelow, IsWatching, IsWatchingUpTo}
 use Rattle.first_uip.proofs.Guards.{IsWatchingUpTo-end}
 use Rattle.first_uip.proofs.propagation.propagate.Goals as goal
 

@@ -1,7 +1,4 @@
-use Rattle.std.proofs.Common.{◌≡◌, ◌-◌, length}
-use Rattle.depth_first.specs.TrailEntries.{Grows}
-use Rattle.first_uip.specs.Clauses.{clauses_in}
-use Rattle.first_uip.specs.Watching.{CoversBelow, IsWatchingUpTo}
+use Rattle.first_uip.proofs.Common.{◌≡◌, ◌-◌, length, Grows, clauses_in, CoversBelow, IsWatchingUpTo}
 use Rattle.first_uip.proofs.propagation.propagate.Given as goal
 
 abbrev pub invariant-loop-head : goal.invariant-loop-head

@@ -1,22 +1,4 @@
-use Rattle.std.proofs.Common.{◌≡◌, ℕ, List, ◌+◌, ◌*◌, ◌-◌, ◌<◌, ◌≤◌, true, Some, length, take, get_or, refl, sym, ap, ◌∙◌, subst, arith}
-use Rattle.std.specs.Prelude.{slice_get}
-use Rattle.std.specs.List.{swap_remove}
-use Rattle.std.proofs.lemmas.List.{length-map}
-use Rattle.std.proofs.lemmas.Option.{slice_get_read}
-use Rattle.clauses.specs.Literal.{Lit, VariablesWithin, negation_of}
-use Rattle.clauses.specs.Propagation.{is_held, is_false}
-use Rattle.clauses.proofs.Held.{negation-negation}
-use Rattle.depth_first.specs.declared.trail.Entry.{Entry}
-use Rattle.depth_first.specs.TrailEntries.{literals, Grows}
-use Rattle.depth_first.proofs.HeldTable.{code_within}
-use Rattle.depth_first.proofs.HeldLists.{literal_at}
-use Rattle.depth_first.proofs.PropagationLemmas.{Grows-none, Grows-then, Grows-length}
-use Rattle.first_uip.specs.declared.watchers.Watcher.{Watcher}
-use Rattle.first_uip.specs.declared.watches.Watches.{Watches}
-use Rattle.first_uip.specs.declared.look.Look.TheVariants.{Stays, Leaves, Falsified}
-use Rattle.first_uip.specs.Clauses.{clauses_in, watched_in}
-use Rattle.first_uip.specs.Looks.{IsLook}
-use Rattle.first_uip.specs.Watching.{CoversBelow, EachBlocked, EachIsWatch, IsListed, IsWatchingUpTo, numbers_of, watchers_of}
+use Rattle.first_uip.proofs.Common.{◌≡◌, ℕ, List, ◌+◌, ◌*◌, ◌-◌, ◌<◌, ◌≤◌, true, Some, length, take, get_or, refl, sym, ap, ◌∙◌, subst, arith, slice_get, swap_remove, length-map, slice_get_read, Lit, VariablesWithin, negation_of, is_held, is_false, negation-negation, Entry, literals, Grows, code_within, literal_at, Grows-none, Grows-then, Grows-length, Watcher, Watches, Stays, Leaves, Falsified, clauses_in, watched_in, IsLook, CoversBelow, EachBlocked, EachIsWatch, IsListed, IsWatchingUpTo, numbers_of, watchers_of}
 use Rattle.first_uip.proofs.Listing.{IsListed-drop, IsListed-same}
 use Rattle.first_uip.proofs.Sets.{length_by_drop}
 use Rattle.first_uip.proofs.LookLemmas.{EachBlocked-at, EachBlocked-kept, NamesSatisfied-by, blocker_within, number_at, satisfied_by_blocker}

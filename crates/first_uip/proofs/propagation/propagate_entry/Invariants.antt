@@ -1,7 +1,4 @@
-use Rattle.std.proofs.Common.{◌≡◌, ◌+◌, ◌-◌, length, take}
-use Rattle.depth_first.specs.TrailEntries.{literals, Grows}
-use Rattle.first_uip.specs.Clauses.{clauses_in, watched_in}
-use Rattle.first_uip.specs.Watching.{CoversBelow, IsWatchingUpTo, numbers_of}
+use Rattle.first_uip.proofs.Common.{◌≡◌, ◌+◌, ◌-◌, length, take, literals, Grows, clauses_in, watched_in, CoversBelow, IsWatchingUpTo, numbers_of}
 use Rattle.first_uip.proofs.Guards.{EachGuardedBut}
 use Rattle.first_uip.proofs.propagation.propagate_entry.Given as goal
 

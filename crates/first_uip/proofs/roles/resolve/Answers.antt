@@ -1,14 +1,4 @@
-use Rattle.std.proofs.Common.{◌≡◌, ◌+◌, false, Some, length, refl, sym, ap, ◌∙◌, arith}
-use Rattle.std.specs.Prelude.{slice_get}
-use Rattle.std.proofs.lemmas.Option.{slice_get_read}
-use Rattle.clauses.specs.ClauseSet.{clauses_with}
-use Rattle.depth_first.specs.declared.trail.Entry.{Entry}
-use Rattle.depth_first.specs.declared.trail.Cause.TheVariants.{Reason}
-use Rattle.depth_first.specs.TrailEntries.{is_decision}
-use Rattle.depth_first.proofs.Lists.{slice_get_below}
-use Rattle.depth_first.proofs.Sets.{below_from_within}
-use Rattle.depth_first.proofs.Involved.{with_within, cause_of_reason}
-use Rattle.first_uip.specs.Conflict.{is_seen, part_of, role_of}
+use Rattle.first_uip.proofs.Common.{◌≡◌, ◌+◌, false, Some, length, refl, sym, ap, ◌∙◌, arith, slice_get, slice_get_read, clauses_with, Entry, Reason, is_decision, slice_get_below, below_from_within, with_within, cause_of_reason, is_seen, part_of, role_of}
 use Rattle.first_uip.proofs.RoleLemmas.{IsResolution-see, IsResolution-unseen, reason_if_undecided, unseen_if}
 use Rattle.first_uip.proofs.Marked.{NoneSeen-one}
 use Rattle.first_uip.proofs.roles.resolve.Goals as goal

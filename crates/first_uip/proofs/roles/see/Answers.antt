@@ -1,10 +1,4 @@
-use Rattle.std.proofs.Common.{◌≡◌, ◌+◌, ◌<◌, true, Some, length, take, get_or, set, sym, ap, ◌∙◌, subst, arith}
-use Rattle.std.specs.Prelude.{slice_get}
-use Rattle.std.proofs.lemmas.Option.{slice_get-get_or}
-use Rattle.clauses.specs.Literal.{Lit}
-use Rattle.first_uip.specs.declared.roles.Role.TheVariants.{Resolved}
-use Rattle.first_uip.specs.Conflict.{Sees, is_seen, role_of}
-use Rattle.first_uip.specs.Marks.{EachMarked, is_marked}
+use Rattle.first_uip.proofs.Common.{◌≡◌, ◌+◌, ◌<◌, true, Some, length, take, get_or, set, sym, ap, ◌∙◌, subst, arith, slice_get, slice_get-get_or, Lit, Resolved, Sees, is_seen, role_of, EachMarked, is_marked}
 use Rattle.first_uip.proofs.Marked.{EachMarked-set}
 use Rattle.first_uip.proofs.RoleLemmas.{Sees-skip, Sees-next, unseen_if, seen_if}
 use Rattle.first_uip.proofs.roles.see.Goals as goal

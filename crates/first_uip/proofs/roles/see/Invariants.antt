@@ -1,6 +1,4 @@
-use Rattle.std.proofs.Common.{take}
-use Rattle.first_uip.specs.Conflict.{Sees}
-use Rattle.first_uip.specs.Marks.{EachMarked}
+use Rattle.first_uip.proofs.Common.{take, Sees, EachMarked}
 use Rattle.first_uip.proofs.roles.see.Given as goal
 
 abbrev pub invariant-loop-literal : goal.invariant-loop-literal

@@ -1,16 +1,5 @@
-use Rattle.std.proofs.Common.{◌≡◌, suc, ◌+◌, ◌<◌, [], ◌∷◌, ◌++◌, Some, length, take, sym, ap, ◌∙◌, subst, arith}
-use Rattle.std.specs.Prelude.{slice_get}
-use Rattle.std.proofs.lemmas.Bool.{true≢false}
-use Rattle.clauses.specs.Literal.{Lit, code_of}
-use Rattle.clauses.specs.ClauseSet.{all_clauses}
-use Rattle.depth_first.proofs.Lists.{take_next}
-use Rattle.depth_first.proofs.HeldTable.{code_within}
-use Rattle.depth_first.proofs.Open.{variable_within}
+use Rattle.first_uip.proofs.Common.{◌≡◌, suc, ◌+◌, ◌<◌, [], ◌∷◌, ◌++◌, Some, length, take, sym, ap, ◌∙◌, subst, arith, slice_get, true≢false, Lit, code_of, all_clauses, take_next, code_within, variable_within, Several, Two, IsWatchingUpTo, IsShape}
 use Rattle.depth_first.proofs.Sets.{clause_within}
-use Rattle.first_uip.specs.declared.start.Shape.TheVariants.{Several}
-use Rattle.first_uip.specs.declared.arena.Watched.TheVariants.{Two}
-use Rattle.first_uip.specs.Watching.{IsWatchingUpTo}
-use Rattle.first_uip.specs.Shapes.{IsShape}
 use Rattle.first_uip.proofs.Additions.{IsAdded, IsWatchingUpTo-add}
 use Rattle.first_uip.proofs.StartLemmas.{undecided, All-two}
 use Rattle.first_uip.proofs.start.add_clause.Goals as goal

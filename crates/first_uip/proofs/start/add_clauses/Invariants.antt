@@ -1,7 +1,4 @@
-use Rattle.std.proofs.Common.{◌≡◌, ◌+◌, [], length, take}
-use Rattle.clauses.specs.ClauseSet.{all_clauses}
-use Rattle.depth_first.specs.TrailEntries.{Grows}
-use Rattle.first_uip.specs.Watching.{CoversBelow, IsWatchingUpTo}
+use Rattle.first_uip.proofs.Common.{◌≡◌, ◌+◌, [], length, take, all_clauses, Grows, CoversBelow, IsWatchingUpTo}
 use Rattle.first_uip.proofs.start.add_clauses.Given as goal
 
 abbrev pub invariant-loop-number : goal.invariant-loop-number

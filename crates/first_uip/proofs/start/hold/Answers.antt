@@ -1,17 +1,4 @@
-use Rattle.std.proofs.Common.{◌≡◌, ◌+◌, true, false, [], ◌∷◌, ◌++◌, take, refl, sym, ap, ◌∙◌, subst, arith}
-use Rattle.clauses.specs.Literal.{Lit}
-use Rattle.clauses.specs.Propagation.{IsUnit, is_held, is_false}
-use Rattle.clauses.specs.ClauseSet.{all_clauses}
-use Rattle.depth_first.specs.declared.trail.Entry.{Entry}
-use Rattle.depth_first.specs.declared.trail.Cause.TheVariants.{Reason}
-use Rattle.depth_first.specs.TrailEntries.{literals, Grows}
-use Rattle.depth_first.specs.DepthFirst.{IsSatisfied}
-use Rattle.depth_first.proofs.HeldLists.{held_last, literals-append}
-use Rattle.depth_first.proofs.PropagationLemmas.{Grows-one, Grows-then}
-use Rattle.first_uip.specs.declared.arena.Watched.TheVariants.{Alone}
-use Rattle.depth_first.proofs.Lists.{some_same}
-use Rattle.first_uip.specs.Clauses.{clauses_in}
-use Rattle.first_uip.specs.Watching.{IsWatchingUpTo}
+use Rattle.first_uip.proofs.Common.{◌≡◌, ◌+◌, true, false, [], ◌∷◌, ◌++◌, take, refl, sym, ap, ◌∙◌, subst, arith, Lit, IsUnit, is_held, is_false, all_clauses, Entry, Reason, literals, Grows, IsSatisfied, held_last, literals-append, Grows-one, Grows-then, Alone, some_same, clauses_in, IsWatchingUpTo}
 use Rattle.first_uip.proofs.Additions.{IsAdded, IsWatchingUpTo-add, IsWatchingUpTo-push}
 use Rattle.first_uip.proofs.StartLemmas.{IsAloneAt-from, alone_falsified, alone_unit, undecided}
 use Rattle.first_uip.proofs.start.hold.Goals as goal

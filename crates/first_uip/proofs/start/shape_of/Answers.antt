@@ -1,12 +1,4 @@
-use Rattle.std.proofs.Common.{◌≡◌, ◌+◌, true, Some, None, take, drop, sym, ap, ◌∙◌, subst}
-use Rattle.std.specs.Prelude.{All, MatchOption, Option}
-use Rattle.std.proofs.lemmas.List.{take-append-drop}
-use Rattle.std.proofs.lemmas.Option.{same_Some}
-use Rattle.clauses.specs.Literal.{Lit}
-use Rattle.clauses.specs.Propagation.{is_held}
-use Rattle.clauses.proofs.Units.{held_at_place}
-use Rattle.clauses.proofs.Held.{equal_literals}
-use Rattle.depth_first.proofs.HeldLists.{held_left}
+use Rattle.first_uip.proofs.Common.{◌≡◌, ◌+◌, true, Some, None, take, drop, sym, ap, ◌∙◌, subst, All, MatchOption, Option, take-append-drop, same_Some, Lit, is_held, held_at_place, equal_literals, held_left}
 use Rattle.first_uip.proofs.StartLemmas.{differ_by_ne, one_more}
 use Rattle.first_uip.proofs.start.shape_of.Goals as goal
 use Rattle.first_uip.proofs.start.shape_of.Goals.{in-None, in-Some+else-ne}

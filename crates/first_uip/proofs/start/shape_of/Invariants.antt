@@ -1,6 +1,4 @@
-use Rattle.std.proofs.Common.{◌≡◌, true, take}
-use Rattle.std.specs.Prelude.{All, MatchOption}
-use Rattle.clauses.specs.Propagation.{is_held}
+use Rattle.first_uip.proofs.Common.{◌≡◌, true, take, All, MatchOption, is_held}
 use Rattle.first_uip.proofs.start.shape_of.Given as goal
 
 abbrev pub invariant-loop-literal : goal.invariant-loop-literal

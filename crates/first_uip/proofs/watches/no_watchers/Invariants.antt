@@ -1,4 +1,4 @@
-use Rattle.std.proofs.Common.{◌≡◌, replicate, []}
+use Rattle.first_uip.proofs.Common.{◌≡◌, replicate, []}
 use Rattle.first_uip.proofs.watches.no_watchers.Given as goal
 
 abbrev pub invariant-loop-i : goal.invariant-loop-i

@@ -1,7 +1,4 @@
-use Rattle.std.proofs.Common.{◌∙◌, sym, refl}
-use Rattle.std.proofs.lemmas.Result.{err_from_is_err_and}
-use Rattle.ir_tokens.specs.SeenTokens.{seen}
-use Rattle.ir_instructions.specs.InstructionReaders.{is_metadata, attachment_at, attachments_at}
+use Rattle.ir_instructions.proofs.Common.{◌∙◌, sym, refl, err_from_is_err_and, seen, is_metadata, attachment_at, attachments_at}
 use Rattle.ir_instructions.proofs.Loops.{repeat-more, repeat-fault, repeat-done}
 use Rattle.ir_instructions.proofs.Takings.{attachment-takes}
 use Rattle.ir_instructions.proofs.attachment.attachments.Goals as goal

@@ -1,7 +1,4 @@
-use Rattle.std.proofs.Common.{◌≡◌, length}
-use Rattle.ir_tokens.specs.SeenTokens.{seen}
-use Rattle.ir_instructions.specs.InstructionReaders.{is_metadata, attachment_at}
-use Rattle.ir_instructions.specs.Readers.{repeat_at}
+use Rattle.ir_instructions.proofs.Common.{◌≡◌, length, seen, is_metadata, attachment_at, repeat_at}
 use Rattle.ir_instructions.proofs.attachment.attachments.Given as goal
 
 abbrev pub invariant-attachments : goal.invariant-attachments

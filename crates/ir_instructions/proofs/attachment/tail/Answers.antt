@@ -1,7 +1,5 @@
-use Rattle.std.proofs.Common.{◌∙◌, sym, refl}
-use Rattle.std.proofs.lemmas.Result.{err_from_is_err_and}
-use Rattle.ir_tokens.specs.SeenTokens.{seen}
-use Rattle.ir_instructions.specs.InstructionReaders.{is_mark, tail_attachment_at, tail_at}
+use Rattle.ir_instructions.proofs.Common.{◌∙◌, sym, refl, err_from_is_err_and, seen, tail_attachment_at, tail_at}
+use Rattle.ir_instructions.specs.InstructionReaders.{is_mark}
 use Rattle.ir_instructions.specs.Punctuation as marks
 use Rattle.ir_instructions.proofs.Loops.{repeat-more, repeat-fault, repeat-done}
 use Rattle.ir_instructions.proofs.Takings.{tail-takes}

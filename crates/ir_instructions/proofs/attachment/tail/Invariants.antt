@@ -1,7 +1,5 @@
-use Rattle.std.proofs.Common.{◌≡◌, length}
-use Rattle.ir_tokens.specs.SeenTokens.{seen}
-use Rattle.ir_instructions.specs.InstructionReaders.{is_mark, tail_attachment_at}
-use Rattle.ir_instructions.specs.Readers.{repeat_at}
+use Rattle.ir_instructions.proofs.Common.{◌≡◌, length, seen, tail_attachment_at, repeat_at}
+use Rattle.ir_instructions.specs.InstructionReaders.{is_mark}
 use Rattle.ir_instructions.specs.Punctuation as marks
 use Rattle.ir_instructions.proofs.attachment.tail.Given as goal
 

@@ -1,6 +1,4 @@
-use Rattle.std.proofs.Common.{eqb, sym, ◌∙◌, rules, tests}
-use Rattle.std.proofs.lemmas.Iterator.{YieldsList-from_slice}
-use Rattle.std.proofs.lemmas.Iterator.Search.{position_from_yields_List}
+use Rattle.ir_instructions.proofs.Common.{eqb, sym, ◌∙◌, rules, tests, YieldsList-from_slice, position_from_yields_List}
 use Rattle.ir_instructions.proofs.FirstDot.{IsDot, no_dot, no_keyword, no_type, named_at}
 use Rattle.ir_instructions.proofs.intrinsic.named.Goals as goal
 

@@ -1,7 +1,4 @@
-use Rattle.std.proofs.Common.{◌≡◌, length}
-use Rattle.ir_tokens.specs.SeenTokens.{seen}
-use Rattle.ir_instructions.specs.CallReaders.{begins_late_item, late_item_at, each_late_item_at}
-use Rattle.ir_instructions.specs.Readers.{repeat_at}
+use Rattle.ir_instructions.proofs.Common.{◌≡◌, length, seen, begins_late_item, late_item_at, each_late_item_at, repeat_at}
 use Rattle.ir_instructions.proofs.late_items.each_late_item.Given as goal
 
 abbrev pub invariant-items : goal.invariant-items

@@ -1,7 +1,4 @@
-use Rattle.std.proofs.Common.{◌∙◌, sym}
-use Rattle.std.proofs.lemmas.Result.{err_from_is_err_and}
-use Rattle.ir_tokens.specs.SeenTokens.{seen}
-use Rattle.ir_instructions.specs.InstructionReaders.{is_flag, flag_at}
+use Rattle.ir_instructions.proofs.Common.{◌∙◌, sym, err_from_is_err_and, seen, is_flag, flag_at}
 use Rattle.ir_instructions.proofs.Loops.{repeat-more, repeat-fault, repeat-done}
 use Rattle.ir_instructions.proofs.Takings.{flag-takes}
 use Rattle.ir_instructions.proofs.op.flags.Goals as goal

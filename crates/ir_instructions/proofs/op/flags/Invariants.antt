@@ -1,7 +1,4 @@
-use Rattle.std.proofs.Common.{◌≡◌, length}
-use Rattle.ir_tokens.specs.SeenTokens.{seen}
-use Rattle.ir_instructions.specs.InstructionReaders.{is_flag, flag_at, flags_at}
-use Rattle.ir_instructions.specs.Readers.{repeat_at}
+use Rattle.ir_instructions.proofs.Common.{◌≡◌, length, seen, is_flag, flag_at, flags_at, repeat_at}
 use Rattle.ir_instructions.proofs.op.flags.Given as goal
 
 abbrev pub invariant-flags : goal.invariant-flags

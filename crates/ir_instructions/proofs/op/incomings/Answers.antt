@@ -1,7 +1,4 @@
-use Rattle.std.proofs.Common.{◌∙◌, sym}
-use Rattle.std.proofs.lemmas.Result.{err_from_is_err_and}
-use Rattle.ir_tokens.specs.SeenTokens.{seen}
-use Rattle.ir_instructions.specs.InstructionReaders.{begins_incoming, further_incoming_at}
+use Rattle.ir_instructions.proofs.Common.{◌∙◌, sym, err_from_is_err_and, seen, begins_incoming, further_incoming_at}
 use Rattle.ir_instructions.proofs.Loops.{each-more, each-fault, each-done}
 use Rattle.ir_instructions.proofs.Takings.{incoming-takes}
 use Rattle.ir_instructions.proofs.op.incomings.Goals as goal

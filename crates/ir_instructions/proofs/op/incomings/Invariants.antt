@@ -1,6 +1,4 @@
-use Rattle.std.proofs.Common.{◌≡◌, length}
-use Rattle.ir_tokens.specs.SeenTokens.{seen}
-use Rattle.ir_instructions.specs.InstructionReaders.{incomings_at}
+use Rattle.ir_instructions.proofs.Common.{◌≡◌, length, seen, incomings_at}
 use Rattle.ir_instructions.proofs.op.incomings.Given as goal
 
 abbrev pub invariant-incomings : goal.invariant-incomings

@@ -1,6 +1,4 @@
-use Rattle.std.proofs.Common.{◌∙◌, sym, refl}
-use Rattle.std.proofs.lemmas.Result.{err_from_is_err_and}
-use Rattle.ir_tokens.specs.SeenTokens.{seen}
+use Rattle.ir_instructions.proofs.Common.{◌∙◌, sym, refl, err_from_is_err_and, seen}
 use Rattle.ir_instructions.proofs.Loops.{each-more, each-fault, each-done}
 use Rattle.ir_instructions.proofs.part.each.Goals as goal
 

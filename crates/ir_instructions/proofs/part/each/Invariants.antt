@@ -1,6 +1,4 @@
-use Rattle.std.proofs.Common.{◌≡◌, length}
-use Rattle.ir_tokens.specs.SeenTokens.{seen}
-use Rattle.ir_instructions.specs.Readers.{each_at}
+use Rattle.ir_instructions.proofs.Common.{◌≡◌, length, seen, each_at}
 use Rattle.ir_instructions.proofs.part.each.Given as goal
 
 abbrev pub invariant-parts : goal.invariant-parts

@@ -1,5 +1,4 @@
-use Rattle.std.proofs.Common.{◌≡◌, ◌-◌, ◌^◌, min, take}
-use Rattle.ir_tokens.specs.Numbers.{decimal_value}
+use Rattle.ir_instructions.proofs.Common.{◌≡◌, ◌-◌, ◌^◌, min, take, decimal_value}
 use Rattle.ir_instructions.proofs.word.magnitude.Given as goal
 
 abbrev pub invariant-loop-digit : goal.invariant-loop-digit

@@ -1,8 +1,4 @@
-use Rattle.std.proofs.Common.{drop}
-use Rattle.ir_core.specs.Run.{Follows, OnlyZero, Undefines}
-use Rattle.ir_core.specs.declared.function.Block.{Block}
-use Rattle.ir_meaning.specs.Step.{ending_of}
-use Rattle.ir_meaning.specs.Table.{held_of}
+use Rattle.ir_meaning.proofs.Common.{drop, Follows, OnlyZero, Undefines, Block, ending_of, held_of}
 use Rattle.ir_meaning.proofs.Following.{at_block, block_read, end_fits, follow_end, follow_gives, follow_undefined, goes_from, inst_read, op_fits, width_known}
 use Rattle.ir_meaning.proofs.block.follow.Goals as goal
 

@@ -1,6 +1,4 @@
-use Rattle.std.proofs.Common.{drop}
-use Rattle.ir_core.specs.Run.{Ending, Follows, OnlyZero}
-use Rattle.ir_meaning.specs.Table.{IsTable, held_of}
+use Rattle.ir_meaning.proofs.Common.{drop, Ending, Follows, OnlyZero, IsTable, held_of}
 use Rattle.ir_meaning.proofs.block.follow.Given as goal
 
 abbrev pub invariant-loop-k : goal.invariant-loop-k

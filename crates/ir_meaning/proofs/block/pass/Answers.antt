@@ -1,6 +1,4 @@
-use Rattle.std.proofs.Common.{arith}
-use Rattle.ir_meaning.specs.Table.{held_of}
-use Rattle.ir_meaning.specs.Step.{ending_of}
+use Rattle.ir_meaning.proofs.Common.{arith, held_of, ending_of}
 use Rattle.ir_meaning.proofs.Following.{enters_all, none_behind, taken_fit}
 use Rattle.ir_meaning.proofs.Pieces.{some_at}
 use Rattle.ir_meaning.proofs.block.pass.Goals as goal

@@ -1,4 +1,4 @@
-use Rattle.ops.proofs.Widths.{IsValueOf-selection}
+use Rattle.ir_meaning.proofs.Common.{IsValueOf-selection}
 use Rattle.ir_meaning.proofs.instruction.instruction.Goals as goal
 
 pub returns-in-Select-clause-width : goal.returns-in-Select-clause-width

@@ -1,5 +1,4 @@
-use Rattle.std.proofs.Common.{◌≡◌, drop}
-use Rattle.ir_core.specs.Run.{breaks_noundef}
+use Rattle.ir_meaning.proofs.Common.{◌≡◌, drop, breaks_noundef}
 use Rattle.ir_meaning.proofs.noundef.breaks_noundef.Given as goal
 
 abbrev pub invariant-loop-k : goal.invariant-loop-k

@@ -1,6 +1,4 @@
-use Rattle.std.proofs.Common.{drop}
-use Rattle.std.specs.Prelude.{Contains}
-use Rattle.ir_core.specs.declared.operand.Operand.{Operand}
+use Rattle.ir_meaning.proofs.Common.{drop, Contains, Operand}
 use Rattle.ir_meaning.proofs.phi.entry.Given as goal
 
 abbrev pub invariant-loop-read : goal.invariant-loop-read

@@ -1,5 +1,4 @@
-use Rattle.std.proofs.Common.{◌∙◌}
-use Rattle.ir_meaning.specs.Table.{held_of}
+use Rattle.ir_meaning.proofs.Common.{◌∙◌, held_of}
 use Rattle.ir_meaning.proofs.Following.{holding_next}
 use Rattle.ir_meaning.proofs.phi.hold_phis.Goals as goal
 

@@ -1,6 +1,4 @@
-use Rattle.std.proofs.Common.{◌≡◌, drop}
-use Rattle.ir_meaning.specs.Table.{IsTable, held_of}
-use Rattle.ir_meaning.specs.Taken.{holding_all}
+use Rattle.ir_meaning.proofs.Common.{◌≡◌, drop, IsTable, held_of, holding_all}
 use Rattle.ir_meaning.proofs.phi.hold_phis.Given as goal
 
 abbrev pub invariant-loop-k : goal.invariant-loop-k

@@ -1,7 +1,4 @@
-use Rattle.std.proofs.Common.{Some, refl}
-use Rattle.ir_core.specs.declared.function.Block.{Block}
-use Rattle.ir_meaning.specs.Table.{held_of}
-use Rattle.ir_meaning.specs.Taken.{AreTaken}
+use Rattle.ir_meaning.proofs.Common.{Some, refl, Block, held_of, AreTaken}
 use Rattle.ir_meaning.proofs.Following.{at_block, block_read, entered_from_nowhere, entry_fits, inst_read, not_phi, phi_entry, taken_all, taken_at_other, taken_more}
 use Rattle.ir_meaning.proofs.Totality.{block_enterable}
 use Rattle.ir_meaning.proofs.phi.take_phis.Goals as goal

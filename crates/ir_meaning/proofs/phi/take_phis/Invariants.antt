@@ -1,5 +1,4 @@
-use Rattle.std.proofs.Common.{Some}
-use Rattle.ir_meaning.specs.Table.{held_of}
+use Rattle.ir_meaning.proofs.Common.{Some, held_of}
 use Rattle.ir_meaning.proofs.Following.{TakenUpTo}
 use Rattle.ir_meaning.proofs.phi.take_phis.Given as goal
 

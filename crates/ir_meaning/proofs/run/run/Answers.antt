@@ -1,6 +1,5 @@
-use Rattle.std.proofs.Common.{◌≡◌, suc, ◌+◌, ◌-◌, arith}
+use Rattle.ir_meaning.proofs.Common.{◌≡◌, suc, ◌+◌, ◌-◌, arith, held_of}
 use Rattle.ir_core.specs.declared.outcome.Outcome.TheVariants as outcomes
-use Rattle.ir_meaning.specs.Table.{held_of}
 use Rattle.ir_meaning.proofs.Following.{run_goes, run_returns, run_undefined}
 use Rattle.ir_meaning.proofs.run.run.Goals as goal
 

@@ -1,8 +1,4 @@
-use Rattle.std.proofs.Common.{◌-◌, ◌<◌, length, None}
-use Rattle.ir_core.specs.Run.{OnlyZero, RunsFrom}
-use Rattle.ir_core.specs.declared.outcome.Outcome.{Outcome}
-use Rattle.ir_meaning.specs.Step.{IsEntered}
-use Rattle.ir_meaning.specs.Table.{IsTable, held_of}
+use Rattle.ir_meaning.proofs.Common.{◌-◌, ◌<◌, length, None, OnlyZero, RunsFrom, Outcome, IsEntered, IsTable, held_of}
 use Rattle.ir_meaning.proofs.run.run.Given as goal
 
 abbrev pub invariant-loop : goal.invariant-loop

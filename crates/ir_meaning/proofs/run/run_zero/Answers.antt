@@ -1,7 +1,4 @@
-use Rattle.std.proofs.Common.{None, sym, ◌∙◌}
-use Rattle.std.proofs.lemmas.Result.{IfOk-weaker}
-use Rattle.ir_core.specs.Run.{HasOutcome, HasZeroOutcome, OnlyZero, RunsFrom}
-use Rattle.ir_meaning.specs.Table.{held_of}
+use Rattle.ir_meaning.proofs.Common.{None, sym, ◌∙◌, IfOk-weaker, HasOutcome, HasZeroOutcome, OnlyZero, RunsFrom, held_of}
 use Rattle.ir_meaning.proofs.Outcomes.{arguments_count, zero_outcome}
 use Rattle.ir_meaning.proofs.ZeroOutcomes.{zero_is_outcome}
 use Rattle.ir_meaning.proofs.run.run_zero.Goals as goal

@@ -1,5 +1,4 @@
-use Rattle.std.proofs.Common.{◌≡◌, ◌++◌, replicate}
-use Rattle.ops.specs.declared.value.Value.TheVariants.{Poison}
+use Rattle.ir_meaning.proofs.Common.{◌≡◌, ◌++◌, replicate, Poison}
 use Rattle.ir_meaning.proofs.table.push_poison.Given as goal
 
 abbrev pub invariant-loop : goal.invariant-loop

@@ -1,5 +1,4 @@
-use Rattle.std.proofs.Common.{◌≡◌, drop}
-use Rattle.ir_core.specs.Run.{switch_target}
+use Rattle.ir_meaning.proofs.Common.{◌≡◌, drop, switch_target}
 use Rattle.ir_meaning.proofs.terminator.case_target.Given as goal
 
 abbrev pub invariant-loop-case : goal.invariant-loop-case

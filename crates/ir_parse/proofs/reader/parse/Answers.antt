@@ -1,7 +1,4 @@
-use Rattle.std.proofs.Common.{◌≤◌, length, arith}
-use Rattle.ir_tokens.specs.Order.{AreTokens}
-use Rattle.ir_tokens.specs.SeenTokens.{seen}
-use Rattle.ir_parse.specs.Text.{most_bytes}
+use Rattle.ir_parse.proofs.Common.{◌≤◌, length, arith, AreTokens, seen, most_bytes}
 use Rattle.ir_parse.proofs.Verdicts.{answers}
 use Rattle.ir_parse.proofs.reader.parse.Goals as goal
 

@@ -1,6 +1,4 @@
-use Rattle.std.proofs.Common.{◌≡◌, ◌++◌, take}
-use Rattle.std.specs.List.{flat_map, enumerate_from}
-use Rattle.ir_text.specs.PrintedText.{block_text}
+use Rattle.ir_printer.proofs.Common.{◌≡◌, ◌++◌, take, flat_map, enumerate_from, block_text}
 use Rattle.ir_printer.proofs.block.push_blocks.Given as goal
 
 abbrev pub invariant-loop-place : goal.invariant-loop-place

@@ -1,6 +1,4 @@
-use Rattle.std.proofs.Common.{◌++◌, ap, ◌∙◌}
-use Rattle.std.specs.List.{flat_map}
-use Rattle.ir_text.specs.PrintedText.{inst_text}
+use Rattle.ir_printer.proofs.Common.{◌++◌, ap, ◌∙◌, flat_map, inst_text}
 use Rattle.ir_printer.proofs.Printed.{each_placed_more, take_placed}
 use Rattle.ir_printer.proofs.block.push_insts.Goals as goal
 

@@ -1,4 +1,4 @@
-use Rattle.ir_text.specs.PrintedText.{item_text}
+use Rattle.ir_printer.proofs.Common.{item_text}
 use Rattle.ir_printer.proofs.Printed.{each_more}
 use Rattle.ir_printer.proofs.header.push_items.Goals as goal
 

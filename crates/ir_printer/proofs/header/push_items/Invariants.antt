@@ -1,6 +1,4 @@
-use Rattle.std.proofs.Common.{◌≡◌, ◌++◌, take}
-use Rattle.std.specs.List.{flat_map}
-use Rattle.ir_text.specs.PrintedText.{item_text}
+use Rattle.ir_printer.proofs.Common.{◌≡◌, ◌++◌, take, flat_map, item_text}
 use Rattle.ir_printer.proofs.header.push_items.Given as goal
 
 abbrev pub invariant-loop-item : goal.invariant-loop-item

@@ -1,6 +1,4 @@
-use Rattle.std.proofs.Common.{◌++◌, ap, ◌∙◌, codes}
-use Rattle.std.specs.List.{join_by}
-use Rattle.ir_text.specs.PrintedText.{parameter_text}
+use Rattle.ir_printer.proofs.Common.{◌++◌, ap, ◌∙◌, codes, join_by, parameter_text}
 use Rattle.ir_printer.proofs.Printed.{join_placed_more, take_placed}
 use Rattle.ir_printer.proofs.header.push_parameters.Goals as goal
 

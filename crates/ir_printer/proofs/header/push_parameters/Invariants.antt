@@ -1,6 +1,4 @@
-use Rattle.std.proofs.Common.{◌≡◌, ◌++◌, take, codes}
-use Rattle.std.specs.List.{join_by, enumerate_from}
-use Rattle.ir_text.specs.PrintedText.{parameter_text}
+use Rattle.ir_printer.proofs.Common.{◌≡◌, ◌++◌, take, codes, join_by, enumerate_from, parameter_text}
 use Rattle.ir_printer.proofs.header.push_parameters.Given as goal
 
 abbrev pub invariant-loop-place : goal.invariant-loop-place

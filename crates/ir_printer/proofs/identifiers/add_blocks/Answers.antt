@@ -1,9 +1,4 @@
-use Rattle.std.proofs.Common.{◌≡◌, ◌+◌, ◌++◌, length, map, take, ap, subst, ◌∙◌, arith}
-use Rattle.std.specs.List.{flat_map}
-use Rattle.std.proofs.lemmas.List.{take_all}
-use Rattle.ir_core.specs.Names.{block_names}
-use Rattle.ir_resolve.specs.Identifiers.{identifiers_from}
-use Rattle.ir_printer.specs.Series.{seen, AreBlockStarts}
+use Rattle.ir_printer.proofs.Common.{◌≡◌, ◌+◌, ◌++◌, length, map, take, ap, subst, ◌∙◌, arith, flat_map, take_all, block_names, identifiers_from, seen, AreBlockStarts}
 use Rattle.ir_printer.proofs.Identified.{Adds-all_more, Adds-length, AreBlockStarts-more}
 use Rattle.ir_printer.proofs.identifiers.add_blocks.Goals as goal
 

@@ -1,7 +1,4 @@
-use Rattle.std.proofs.Common.{◌≤◌, length, take}
-use Rattle.std.specs.List.{flat_map}
-use Rattle.ir_core.specs.Names.{block_names}
-use Rattle.ir_printer.specs.Series.{Adds, AreBlockStarts}
+use Rattle.ir_printer.proofs.Common.{◌≤◌, length, take, flat_map, block_names, Adds, AreBlockStarts}
 use Rattle.ir_printer.proofs.identifiers.add_blocks.Given as goal
 
 abbrev pub invariant-loop-block : goal.invariant-loop-block

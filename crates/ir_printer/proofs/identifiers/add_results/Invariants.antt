@@ -1,5 +1,4 @@
-use Rattle.std.proofs.Common.{◌≤◌, length, map, take}
-use Rattle.ir_printer.specs.Series.{Adds}
+use Rattle.ir_printer.proofs.Common.{◌≤◌, length, map, take, Adds}
 use Rattle.ir_printer.proofs.identifiers.add_results.Given as goal
 
 abbrev pub invariant-loop-inst : goal.invariant-loop-inst

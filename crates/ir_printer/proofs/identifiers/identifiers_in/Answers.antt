@@ -1,6 +1,4 @@
-use Rattle.std.proofs.Common.{◌≡◌, ℕ, length, map, ap, subst, arith}
-use Rattle.std.proofs.lemmas.List.{length-map}
-use Rattle.ir_printer.specs.Series.{AreBlockStarts}
+use Rattle.ir_printer.proofs.Common.{◌≡◌, ℕ, length, map, ap, subst, arith, length-map, AreBlockStarts}
 use Rattle.ir_printer.proofs.Identified.{all_identifiers, Adds-length}
 use Rattle.ir_printer.proofs.identifiers.identifiers_in.Goals as goal
 

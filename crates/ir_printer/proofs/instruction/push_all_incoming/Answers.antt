@@ -1,7 +1,4 @@
-use Rattle.std.proofs.Common.{◌++◌, ap, ◌∙◌, arith, codes}
-use Rattle.std.specs.List.{join_by}
-use Rattle.std.proofs.lemmas.List.{take_all}
-use Rattle.ir_text.specs.PrintedText.{incoming_text}
+use Rattle.ir_printer.proofs.Common.{◌++◌, ap, ◌∙◌, arith, codes, join_by, take_all, incoming_text}
 use Rattle.ir_printer.proofs.Printed.{join_more}
 use Rattle.ir_printer.proofs.instruction.push_all_incoming.Goals as goal
 

@@ -1,6 +1,4 @@
-use Rattle.std.proofs.Common.{◌≡◌, ◌++◌, take, codes}
-use Rattle.std.specs.List.{join_by}
-use Rattle.ir_text.specs.PrintedText.{incoming_text}
+use Rattle.ir_printer.proofs.Common.{◌≡◌, ◌++◌, take, codes, join_by, incoming_text}
 use Rattle.ir_printer.proofs.instruction.push_all_incoming.Given as goal
 
 abbrev pub invariant-loop-place : goal.invariant-loop-place

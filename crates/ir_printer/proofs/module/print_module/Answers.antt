@@ -1,10 +1,4 @@
-use Rattle.std.proofs.Common.{subst, sym, ap, ◌∙◌, arith}
-use Rattle.std.specs.Prelude.{All}
-use Rattle.std.proofs.lemmas.List.{take_all}
-use Rattle.std.proofs.lemmas.List.Elements.{All-more}
-use Rattle.ir_reader.specs.Faults.{IsModuleText}
-use Rattle.ir_text.specs.PrintedText.{entries_text}
-use Rattle.ir_printer.specs.FewNames.{EntryHasFewNames}
+use Rattle.ir_printer.proofs.Common.{subst, sym, ap, ◌∙◌, arith, All, take_all, All-more, IsModuleText, entries_text, EntryHasFewNames}
 use Rattle.ir_printer.proofs.Entries.{entries_more, few_things}
 use Rattle.ir_printer.proofs.module.print_module.Goals as goal
 

@@ -1,7 +1,4 @@
-use Rattle.std.proofs.Common.{◌≡◌, take}
-use Rattle.std.specs.Prelude.{All}
-use Rattle.ir_text.specs.PrintedText.{entries_text}
-use Rattle.ir_printer.specs.FewNames.{EntryHasFewNames}
+use Rattle.ir_printer.proofs.Common.{◌≡◌, take, All, entries_text, EntryHasFewNames}
 use Rattle.ir_printer.proofs.module.print_module.Given as goal
 
 abbrev pub invariant-loop-place : goal.invariant-loop-place

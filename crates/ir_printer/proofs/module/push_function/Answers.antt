@@ -1,5 +1,4 @@
-use Rattle.std.proofs.Common.{rules, length, ◌<◌, ◌^◌, subst, arith}
-use Rattle.ir_printer.specs.FewNames.{HasFewNames}
+use Rattle.ir_printer.proofs.Common.{rules, length, ◌<◌, ◌^◌, subst, arith, HasFewNames}
 use Rattle.ir_printer.proofs.Identified.{few_names}
 use Rattle.ir_printer.proofs.module.push_function.Goals as goal
 

@@ -1,5 +1,4 @@
-use Rattle.std.proofs.Common.{[], ◌∷◌, ◌++◌}
-use Rattle.ir_text.specs.NameText.{escaped}
+use Rattle.ir_printer.proofs.Common.{[], ◌∷◌, ◌++◌, escaped}
 use Rattle.ir_printer.proofs.Printed.{each_at}
 use Rattle.ir_printer.proofs.name.push_quoted.Goals as goal
 

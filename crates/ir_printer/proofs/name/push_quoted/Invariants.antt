@@ -1,6 +1,4 @@
-use Rattle.std.proofs.Common.{◌≡◌, ◌++◌, ◌∷◌, [], take}
-use Rattle.std.specs.List.{flat_map}
-use Rattle.ir_text.specs.NameText.{escaped}
+use Rattle.ir_printer.proofs.Common.{◌≡◌, ◌++◌, ◌∷◌, [], take, flat_map, escaped}
 use Rattle.ir_printer.proofs.name.push_quoted.Given as goal
 
 abbrev pub invariant-loop-byte : goal.invariant-loop-byte

@@ -1,9 +1,5 @@
-use Rattle.std.proofs.Common.{◌≡◌, ℕ, List, [], ◌∷◌, ◌++◌, ap, sym, ◌∙◌, append_assoc, append-nil, arith, refl}
-use Rattle.std.specs.List.{flat_map}
-use Rattle.std.proofs.lemmas.List.{take_all}
-use Rattle.ir_core.specs.declared.function.Function.{Function}
-use Rattle.ir_printer.specs.declared.piece.Piece.{Piece}
-use Rattle.ir_printer.specs.Pieces.{piece_text, text_with, pieces_text}
+use Rattle.ir_printer.proofs.Common.{◌≡◌, ℕ, List, [], ◌∷◌, ◌++◌, ap, sym, ◌∙◌, append_assoc, arith, refl, flat_map, take_all, Function, Piece, piece_text, text_with, pieces_text}
+use Rattle.std.proofs.Common.{append-nil}
 use Rattle.ir_printer.proofs.Printed.{each_more}
 use Rattle.ir_printer.proofs.piece.push_pieces.Goals as goal
 

@@ -1,6 +1,4 @@
-use Rattle.std.proofs.Common.{◌≡◌, ◌++◌, take}
-use Rattle.std.specs.List.{flat_map}
-use Rattle.ir_printer.specs.Pieces.{piece_text}
+use Rattle.ir_printer.proofs.Common.{◌≡◌, ◌++◌, take, flat_map, piece_text}
 use Rattle.ir_printer.proofs.piece.push_pieces.Given as goal
 
 abbrev pub invariant-loop-piece : goal.invariant-loop-piece

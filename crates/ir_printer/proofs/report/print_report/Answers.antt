@@ -1,6 +1,5 @@
-use Rattle.std.proofs.Common.{◌≡◌, suc, ◌+◌, ◌++◌, ◌∷◌, drop, drop-cons, add-one, sym, ap, ◌∙◌, append-nil}
-use Rattle.std.proofs.lemmas.List.{drop_all}
-use Rattle.ir_printer.specs.Rest.{rest_of_report}
+use Rattle.ir_printer.proofs.Common.{◌≡◌, suc, ◌+◌, ◌++◌, ◌∷◌, drop, drop-cons, add-one, sym, ap, ◌∙◌, drop_all, rest_of_report}
+use Rattle.std.proofs.Common.{append-nil}
 use Rattle.ir_printer.proofs.report.print_report.Goals as goal
 
 pub loop-entry-preserved : goal.loop-entry-preserved

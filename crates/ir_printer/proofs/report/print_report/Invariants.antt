@@ -1,5 +1,4 @@
-use Rattle.std.proofs.Common.{◌≡◌, ◌++◌, drop}
-use Rattle.ir_printer.specs.Rest.{rest_of_report}
+use Rattle.ir_printer.proofs.Common.{◌≡◌, ◌++◌, drop, rest_of_report}
 use Rattle.ir_printer.proofs.report.print_report.Given as goal
 
 abbrev pub invariant-loop-entry : goal.invariant-loop-entry

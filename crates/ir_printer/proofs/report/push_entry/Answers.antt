@@ -1,5 +1,4 @@
-use Rattle.std.proofs.Common.{◌++◌, ◌∷◌, ap, sym, ◌∙◌}
-use Rattle.ir_printer.specs.Rest.{rest_of_report}
+use Rattle.ir_printer.proofs.Common.{◌++◌, ◌∷◌, ap, sym, ◌∙◌, rest_of_report}
 use Rattle.ir_printer.proofs.Reports.{no_more_counts, no_more_limits, not_found}
 use Rattle.ir_printer.proofs.report.push_entry.Goals as goal
 

@@ -1,4 +1,4 @@
-use Rattle.ir_text.specs.PrintedText.{case_text}
+use Rattle.ir_printer.proofs.Common.{case_text}
 use Rattle.ir_printer.proofs.Printed.{each_more}
 use Rattle.ir_printer.proofs.terminator.push_cases.Goals as goal
 

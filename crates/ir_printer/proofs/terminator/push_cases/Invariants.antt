@@ -1,6 +1,4 @@
-use Rattle.std.proofs.Common.{◌≡◌, ◌++◌, take}
-use Rattle.std.specs.List.{flat_map}
-use Rattle.ir_text.specs.PrintedText.{case_text}
+use Rattle.ir_printer.proofs.Common.{◌≡◌, ◌++◌, take, flat_map, case_text}
 use Rattle.ir_printer.proofs.terminator.push_cases.Given as goal
 
 abbrev pub invariant-loop-case : goal.invariant-loop-case

@@ -1,4 +1,4 @@
-use Rattle.ir_text.specs.PrintedText.{flag_text}
+use Rattle.ir_printer.proofs.Common.{flag_text}
 use Rattle.ir_printer.proofs.Printed.{each_at}
 use Rattle.ir_printer.proofs.word.push_each_flag.Goals as goal
 

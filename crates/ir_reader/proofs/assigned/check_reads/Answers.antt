@@ -1,5 +1,4 @@
-use Rattle.std.proofs.Common.{ap, ◌∙◌}
-use Rattle.ir_tokens.specs.declared.raw.RawOperand.{RawOperand}
+use Rattle.ir_reader.proofs.Common.{ap, ◌∙◌, RawOperand}
 use Rattle.ir_reader.proofs.Meaning.{written_read, found_operand, not_found, unassigned_fault}
 use Rattle.ir_reader.proofs.assigned.check_reads.Goals as goal
 use Rattle.ir_reader.proofs.assigned.check_reads.Goals.{in-Ok, in-Err-NoMemory, in-Err-Unassigned+in-Some}

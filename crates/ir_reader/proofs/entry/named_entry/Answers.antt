@@ -1,8 +1,4 @@
-use Rattle.std.proofs.Common.{◌<◌, ◌∙◌, length, ap, arith}
-use Rattle.std.specs.Bool.{then_some}
-use Rattle.std.proofs.lemmas.Option.{slice_get_within}
-use Rattle.ir_resolve.proofs.Firsts.{first_more_place, first_all_places}
-use Rattle.ir_reader.specs.FlowFaults.{EntryPredHere}
+use Rattle.ir_reader.proofs.Common.{◌<◌, ◌∙◌, length, ap, arith, then_some, slice_get_within, first_more_place, first_all_places, EntryPredHere}
 use Rattle.ir_reader.proofs.EntryLemmas.{entry_here}
 use Rattle.ir_reader.proofs.Places.{read_at, item_at}
 use Rattle.ir_reader.proofs.entry.named_entry.Goals as goal

@@ -1,9 +1,5 @@
 -- the first line of such a terminator so far
-use Rattle.ir_core.specs.declared.function.Function.{Function}
-use Rattle.ir_resolve.specs.FirstLines.{IsFirst}
-use Rattle.ir_resolve.proofs.Firsts.{Before}
-use Rattle.ir_reader.specs.FlowFaults.{EntryPredHere}
-use Rattle.ir_reader.specs.Predecessors.{ArePredecessors}
+use Rattle.ir_reader.proofs.Common.{Function, IsFirst, Before, EntryPredHere, ArePredecessors}
 use Rattle.ir_reader.proofs.entry.named_entry.Given as goal
 
 abbrev pub invariant-loop-place : goal.invariant-loop-place

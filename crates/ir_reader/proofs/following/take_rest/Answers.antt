@@ -1,6 +1,4 @@
-use Rattle.std.proofs.Common.{◌++◌, subst}
-use Rattle.ir_tokens.specs.ReaderPlaces.{StandsIn, HasCome}
-use Rattle.ir_tokens.specs.SeenTokens.{seen}
+use Rattle.ir_reader.proofs.Common.{◌++◌, subst, StandsIn, HasCome, seen}
 use Rattle.ir_reader.proofs.following.take_rest.Goals as goal
 
 pub loop-behind-preserved : goal.loop-behind-preserved

@@ -1,8 +1,5 @@
 -- the tokens are those that the reader has passed since the call
-use Rattle.std.proofs.Common.{ℕ, ◌-◌, List, ◌++◌, length}
-use Rattle.ir_tokens.specs.ReaderPlaces.{StandsIn, HasPassed}
-use Rattle.ir_tokens.specs.SeenTokens.{seen}
-use Rattle.ir_tokens.specs.Tokens.{Placed}
+use Rattle.ir_reader.proofs.Common.{ℕ, ◌-◌, List, ◌++◌, length, StandsIn, HasPassed, seen, Placed}
 use Rattle.ir_reader.proofs.following.take_rest.Given as goal
 
 abbrev pub invariant-loop-behind : goal.invariant-loop-behind

@@ -1,7 +1,4 @@
-use Rattle.std.proofs.Common.{length, ◌∙◌, sym, ap}
-use Rattle.std.proofs.lemmas.List.{nil_from_length}
-use Rattle.std.proofs.lemmas.Bool.{eqb-true}
-use Rattle.ir_tokens.specs.SeenTokens.{seen}
+use Rattle.ir_reader.proofs.Common.{length, ◌∙◌, sym, ap, nil_from_length, eqb-true, seen}
 use Rattle.ir_reader.proofs.Advancing.{whole_is}
 use Rattle.ir_reader.proofs.following.whole_entry.Goals as goal
 

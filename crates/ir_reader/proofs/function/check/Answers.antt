@@ -1,7 +1,5 @@
 -- The checks one by one: what holds if none has failed so far, and the fault of the one that fails.
-use Rattle.std.proofs.Common.{◌∙◌, length, ap, sym, subst, arith}
-use Rattle.std.proofs.lemmas.Result.{on_ok_weaker, IfErr-weaker}
-use Rattle.ir_reader.specs.Predecessors.{ArePredecessors}
+use Rattle.ir_reader.proofs.Common.{◌∙◌, length, ap, sym, subst, arith, on_ok_weaker, IfErr-weaker, ArePredecessors}
 use Rattle.ir_reader.proofs.Meaning.{same_count, targets_within}
 use Rattle.ir_reader.proofs.Checking.{bad_phi_fault, entry_fault, reads_fault, function_of}
 use Rattle.ir_reader.proofs.function.check.Goals as goal

@@ -1,5 +1,5 @@
 -- The function that is meant is returned if all checks of it pass.
-use Rattle.std.proofs.lemmas.Result.{err_from_is_err_and}
+use Rattle.ir_reader.proofs.Common.{err_from_is_err_and}
 use Rattle.ir_reader.proofs.Checking.{names_fault, checked_fault}
 use Rattle.ir_reader.proofs.function.function.Goals as goal
 

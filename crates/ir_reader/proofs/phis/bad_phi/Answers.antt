@@ -1,7 +1,4 @@
-use Rattle.std.proofs.Common.{◌<◌, ◌∙◌, ℕ, get_or, length, ap, sym, arith}
-use Rattle.std.proofs.lemmas.Option.{slice_get-get_or, slice_get_within}
-use Rattle.ir_resolve.proofs.Firsts.{first_same, first_more_place, first_all_places}
-use Rattle.ir_reader.specs.FlowFaults.{BadPhiHere, BadPhiAt}
+use Rattle.ir_reader.proofs.Common.{◌<◌, ◌∙◌, ℕ, get_or, length, ap, sym, arith, slice_get-get_or, slice_get_within, first_same, first_more_place, first_all_places, BadPhiHere, BadPhiAt}
 use Rattle.ir_reader.proofs.Meaning.{same_count, insts_count}
 use Rattle.ir_reader.proofs.Places.{seen_at}
 use Rattle.ir_reader.proofs.PhiLemmas.{bad_in_seen}

@@ -1,8 +1,5 @@
 -- the line of the first such phi in the blocks so far
-use Rattle.std.proofs.Common.{ℕ}
-use Rattle.ir_resolve.specs.FirstLines.{IsFirst}
-use Rattle.ir_resolve.proofs.Firsts.{Before}
-use Rattle.ir_reader.specs.FlowFaults.{BadPhiHere}
+use Rattle.ir_reader.proofs.Common.{ℕ, IsFirst, Before, BadPhiHere}
 use Rattle.ir_reader.proofs.phis.bad_phi.Given as goal
 
 abbrev pub invariant-loop-place : goal.invariant-loop-place

@@ -1,7 +1,4 @@
-use Rattle.std.proofs.Common.{◌<◌, get_or, length, arith}
-use Rattle.std.proofs.lemmas.Option.{slice_get-get_or, slice_get_within}
-use Rattle.ir_resolve.proofs.Firsts.{first_more_place, first_all_places}
-use Rattle.ir_reader.specs.Predecessors.{BadPhiIn}
+use Rattle.ir_reader.proofs.Common.{◌<◌, get_or, length, arith, slice_get-get_or, slice_get_within, first_more_place, first_all_places, BadPhiIn}
 use Rattle.ir_reader.proofs.PhiLemmas.{bad_here, phis_more}
 use Rattle.ir_reader.proofs.phis.bad_phi_in.Goals as goal
 

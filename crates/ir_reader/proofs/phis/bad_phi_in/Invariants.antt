@@ -1,8 +1,5 @@
 -- the line of the first such phi so far, and whether all instructions so far are phis
-use Rattle.std.proofs.Common.{◌↔◌, IsTrue}
-use Rattle.ir_resolve.specs.FirstLines.{IsFirst}
-use Rattle.ir_resolve.proofs.Firsts.{Before}
-use Rattle.ir_reader.specs.Predecessors.{BadPhiIn, FirstArePhis}
+use Rattle.ir_reader.proofs.Common.{◌↔◌, IsTrue, IsFirst, Before, BadPhiIn, FirstArePhis}
 use Rattle.ir_reader.proofs.phis.bad_phi_in.Given as goal
 
 abbrev pub invariant-loop-place : goal.invariant-loop-place

@@ -1,5 +1,4 @@
-use Rattle.std.proofs.Common.{sym, ◌∙◌, arith}
-use Rattle.std.proofs.lemmas.Bool.{false≢true}
+use Rattle.ir_reader.proofs.Common.{sym, ◌∙◌, arith, false≢true}
 use Rattle.ir_reader.proofs.PhiLemmas.{no_predecessor, two_operands, knows_more, among_more, knows_all, all_among, fit_exactly}
 use Rattle.ir_reader.proofs.phis.fit_with.Goals as goal
 

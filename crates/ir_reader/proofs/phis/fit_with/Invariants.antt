@@ -1,9 +1,5 @@
 -- the operands of the entries so far
-use Rattle.std.proofs.Common.{◌≡◌, ◌↔◌, ℕ, take, nat_eq, Some, IsTrue}
-use Rattle.std.specs.Prelude.{Contains}
-use Rattle.indexmap.specs.IndexMap.{get}
-use Rattle.indexmap.specs.IndexSet.{contains}
-use Rattle.ir_core.specs.declared.operand.Operand.{Operand}
+use Rattle.ir_reader.proofs.Common.{◌≡◌, ◌↔◌, ℕ, take, nat_eq, Some, IsTrue, Contains, get, contains, Operand}
 use Rattle.ir_reader.proofs.phis.fit_with.Given as goal
 
 abbrev pub invariant-loop-operand : goal.invariant-loop-operand

@@ -1,5 +1,4 @@
-use Rattle.std.proofs.Common.{get_or, arith}
-use Rattle.std.proofs.lemmas.Option.{slice_get-get_or}
+use Rattle.ir_reader.proofs.Common.{get_or, arith, slice_get-get_or}
 use Rattle.ir_reader.proofs.Sets.{adds_one}
 use Rattle.ir_reader.proofs.predecessors.add.Goals as goal
 

@@ -1,4 +1,4 @@
-use Rattle.std.proofs.Common.{arith}
+use Rattle.ir_reader.proofs.Common.{arith}
 use Rattle.ir_reader.proofs.Sets.{adds_of_more}
 use Rattle.ir_reader.proofs.predecessors.add_blocks.Goals as goal
 

@@ -1,6 +1,4 @@
-use Rattle.std.proofs.Common.{◌<◌, ◌∷◌, [], map, take, subst, sym, arith}
-use Rattle.std.proofs.lemmas.List.{map_more}
-use Rattle.ir_reader.specs.Predecessors.{AddsTo}
+use Rattle.ir_reader.proofs.Common.{◌<◌, ◌∷◌, [], map, take, subst, sym, arith, map_more, AddsTo}
 use Rattle.ir_reader.proofs.Sets.{adds_both}
 use Rattle.ir_reader.proofs.predecessors.add_cases.Goals as goal
 

@@ -1,6 +1,5 @@
 -- the block is added to the sets of the targets so far
-use Rattle.std.proofs.Common.{take, map}
-use Rattle.ir_reader.specs.Predecessors.{AddsTo}
+use Rattle.ir_reader.proofs.Common.{take, map, AddsTo}
 use Rattle.ir_reader.proofs.predecessors.add_cases.Given as goal
 
 abbrev pub invariant-loop-target : goal.invariant-loop-target

@@ -1,5 +1,4 @@
-use Rattle.std.proofs.Common.{◌∷◌, [], length, map}
-use Rattle.ir_reader.specs.Predecessors.{AddsTo}
+use Rattle.ir_reader.proofs.Common.{◌∷◌, [], length, map, AddsTo}
 use Rattle.ir_reader.proofs.Sets.{adds_both, cases_within, on_ok}
 use Rattle.ir_reader.proofs.predecessors.add_end.Goals as goal
 

@@ -1,6 +1,4 @@
-use Rattle.std.proofs.Common.{arith, ap, length, length-append, ◌∷◌, [], ◌∙◌}
-use Rattle.std.specs.List.{list_any}
-use Rattle.std.proofs.Common.{nat_eq}
+use Rattle.ir_reader.proofs.Common.{arith, ap, length, length-append, ◌∷◌, [], ◌∙◌, list_any, nat_eq}
 use Rattle.ir_reader.proofs.Sets.{empty_more}
 use Rattle.ir_reader.proofs.predecessors.empty_sets.Goals as goal
 

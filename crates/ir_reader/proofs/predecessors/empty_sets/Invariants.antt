@@ -1,5 +1,4 @@
-use Rattle.std.proofs.Common.{◌≡◌, ℕ, length}
-use Rattle.ir_reader.specs.Predecessors.{Holds}
+use Rattle.ir_reader.proofs.Common.{◌≡◌, ℕ, length, Holds}
 use Rattle.ir_reader.proofs.predecessors.empty_sets.Given as goal
 
 abbrev pub invariant-loop-block : goal.invariant-loop-block

@@ -1,5 +1,4 @@
-use Rattle.std.proofs.Common.{◌≡◌, ◌∙◌, length, ap, subst, sym}
-use Rattle.ir_reader.specs.Predecessors.{ArePredecessors}
+use Rattle.ir_reader.proofs.Common.{◌≡◌, ◌∙◌, length, ap, subst, sym, ArePredecessors}
 use Rattle.ir_reader.proofs.Sets.{all_predecessors, all_targets, whole}
 use Rattle.ir_reader.proofs.predecessors.predecessors.Goals as goal
 

@@ -1,4 +1,4 @@
-use Rattle.std.proofs.Common.{refl}
+use Rattle.ir_reader.proofs.Common.{refl}
 use Rattle.ir_core.specs.declared.module.Entry.TheVariants as entries
 use Rattle.ir_reader.proofs.ReadEntries.{function_entry}
 use Rattle.ir_reader.proofs.reader.entry.Goals as goal

@@ -1,7 +1,4 @@
-use Rattle.std.proofs.Common.{◌++◌, ◌∷◌, [], subst}
-use Rattle.ir_tokens.specs.SeenTokens.{seen}
-use Rattle.ir_parse.specs.Grammar.{SpellsEntry}
-use Rattle.ir_reader.specs.EntriesRead.{Continues}
+use Rattle.ir_reader.proofs.Common.{◌++◌, ◌∷◌, [], subst, seen, SpellsEntry, Continues}
 use Rattle.ir_reader.proofs.Advancing.{Came, came_alone, read_more, left_last, left_rest}
 use Rattle.ir_reader.proofs.Sets.{on_ok}
 use Rattle.ir_reader.proofs.reader.first_entries.Goals as goal

@@ -1,7 +1,5 @@
 -- the entries so far are parsed and checked
-use Rattle.std.proofs.Common.{◌-◌, List, length}
-use Rattle.ir_tokens.specs.declared.raw.RawEntry.{RawEntry}
-use Rattle.ir_reader.specs.EntriesRead.{HasRead, IsReadingOf}
+use Rattle.ir_reader.proofs.Common.{◌-◌, List, length, RawEntry, HasRead, IsReadingOf}
 use Rattle.ir_reader.proofs.reader.first_entries.Given as goal
 
 abbrev pub invariant-loop-behind : goal.invariant-loop-behind

@@ -1,8 +1,4 @@
-use Rattle.std.proofs.Common.{◌≡◌, ◌<◌, ◌∙◌, length, false, sym, arith}
-use Rattle.std.proofs.lemmas.List.{length-map}
-use Rattle.std.proofs.lemmas.Result.{err_from_is_err_and}
-use Rattle.ir_tokens.specs.SeenTokens.{seen, seen_placed}
-use Rattle.ir_parse.specs.ModuleReaders.{is_end}
+use Rattle.ir_reader.proofs.Common.{◌≡◌, ◌<◌, ◌∙◌, length, false, sym, arith, length-map, err_from_is_err_and, seen, seen_placed, is_end}
 use Rattle.ir_reader.proofs.Advancing.{left_none, left_fault, left_smaller}
 use Rattle.ir_reader.proofs.GoingOn.{left_step}
 use Rattle.ir_reader.proofs.reader.last_entries.Goals as goal

@@ -1,8 +1,5 @@
 -- the entries so far are parsed and checked, and these tokens are left
-use Rattle.std.proofs.Common.{ℕ, List, length}
-use Rattle.ir_tokens.specs.SeenTokens.{seen}
-use Rattle.ir_tokens.specs.declared.raw.RawEntry.{RawEntry}
-use Rattle.ir_reader.specs.EntriesRead.{HasLeft, IsReadingOf}
+use Rattle.ir_reader.proofs.Common.{ℕ, List, length, seen, RawEntry, HasLeft, IsReadingOf}
 use Rattle.ir_reader.proofs.reader.last_entries.Given as goal
 
 abbrev pub invariant-loop-left : goal.invariant-loop-left

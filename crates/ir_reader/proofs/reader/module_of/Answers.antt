@@ -1,7 +1,4 @@
-use Rattle.std.proofs.Common.{◌≤◌, length, refl, arith}
-use Rattle.std.proofs.lemmas.Result.{err_from_is_err_and}
-use Rattle.ir_parse.specs.Text.{most_bytes, too_long}
-use Rattle.ir_reader.specs.Faults.{of_text, of_entries}
+use Rattle.ir_reader.proofs.Common.{◌≤◌, length, refl, arith, err_from_is_err_and, most_bytes, too_long, of_text, of_entries}
 use Rattle.ir_reader.proofs.ReadEntries.{text_fault}
 use Rattle.ir_reader.proofs.reader.module_of.Goals as goal
 

@@ -1,5 +1,4 @@
-use Rattle.std.proofs.lemmas.Result.{IfErr-weaker}
-use Rattle.ir_parse.specs.Text.{IsTextFault}
+use Rattle.ir_reader.proofs.Common.{IfErr-weaker, IsTextFault}
 use Rattle.ir_reader.proofs.Sets.{on_ok}
 use Rattle.ir_reader.proofs.reader.push_entries.Goals as goal
 

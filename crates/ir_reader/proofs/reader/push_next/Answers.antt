@@ -1,6 +1,4 @@
-use Rattle.std.proofs.lemmas.Result.{err_from_is_err_and}
-use Rattle.ir_tokens.specs.SeenTokens.{seen}
-use Rattle.ir_parse.proofs.FunctionReadings.{entry_at-is}
+use Rattle.ir_reader.proofs.Common.{err_from_is_err_and, seen, entry_at-is}
 use Rattle.ir_reader.proofs.CheckLemmas.{entry_written}
 use Rattle.ir_reader.proofs.reader.push_next.Goals as goal
 

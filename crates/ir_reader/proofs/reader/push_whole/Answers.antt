@@ -1,7 +1,4 @@
-use Rattle.std.proofs.Common.{[], subst}
-use Rattle.std.specs.Prelude.{IfSome}
-use Rattle.ir_tokens.specs.SeenTokens.{seen}
-use Rattle.ir_parse.specs.Grammar.{SpellsEntry}
+use Rattle.ir_reader.proofs.Common.{[], subst, IfSome, seen, SpellsEntry}
 use Rattle.ir_reader.proofs.CheckLemmas.{entry_written}
 use Rattle.ir_reader.proofs.reader.push_whole.Goals as goal
 

@@ -1,5 +1,4 @@
-use Rattle.ir_reader.specs.Faults.{functions_of}
-use Rattle.ir_reader.specs.RepeatedNames.{HasText}
+use Rattle.ir_reader.proofs.Common.{functions_of, HasText}
 use Rattle.ir_reader.proofs.GoingOn.{entries_more, fault_more, marks_entry, names_more}
 use Rattle.ir_reader.proofs.reading.push_entry.Goals as goal
 

@@ -1,4 +1,4 @@
-use Rattle.std.proofs.Common.{◌∙◌}
+use Rattle.ir_reader.proofs.Common.{◌∙◌}
 use Rattle.ir_reader.proofs.Repeats.{function_mark, function_names}
 use Rattle.ir_reader.proofs.repeated.is_repeated.Goals as goal
 

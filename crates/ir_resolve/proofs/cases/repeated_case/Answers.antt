@@ -1,7 +1,4 @@
-use Rattle.std.proofs.Common.{arith, subst}
-use Rattle.ir_resolve.specs.FirstLines.{IsFirst}
-use Rattle.ir_resolve.specs.TypedReads.{cases_of}
-use Rattle.ir_resolve.specs.FaultKinds.{Repeats, HasNumber, IsCaseOn}
+use Rattle.ir_resolve.proofs.Common.{arith, subst, IsFirst, cases_of, Repeats, HasNumber, IsCaseOn}
 use Rattle.ir_resolve.proofs.Firsts.{first_more, first_all}
 use Rattle.ir_resolve.proofs.cases.repeated_case.Goals as goal
 

@@ -1,7 +1,4 @@
-use Rattle.std.proofs.Common.{take}
-use Rattle.ir_resolve.specs.FirstLines.{IsFirst, SomeAt}
-use Rattle.ir_resolve.specs.TypedReads.{cases_of}
-use Rattle.ir_resolve.specs.FaultKinds.{Repeats, HasNumber, IsCaseOn}
+use Rattle.ir_resolve.proofs.Common.{take, IsFirst, SomeAt, cases_of, Repeats, HasNumber, IsCaseOn}
 use Rattle.ir_resolve.proofs.cases.repeated_case.Given as goal
 
 abbrev pub invariant-loop-block : goal.invariant-loop-block

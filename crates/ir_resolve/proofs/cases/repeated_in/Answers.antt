@@ -1,9 +1,4 @@
-use Rattle.std.proofs.Common.{◌<◌, length, nat_eq, IsTrue, sym, ap, ◌∙◌, arith}
-use Rattle.std.proofs.lemmas.Option.{slice_get_within}
-use Rattle.std.specs.List.{list_any}
-use Rattle.std.proofs.lemmas.Bool.{false≢true}
-use Rattle.indexmap.specs.IndexSet.{contains}
-use Rattle.ir_resolve.specs.FaultKinds.{HasNumber, IsCaseOn, RepeatsHere}
+use Rattle.ir_resolve.proofs.Common.{◌<◌, length, nat_eq, IsTrue, sym, ap, ◌∙◌, arith, slice_get_within, list_any, false≢true, contains, HasNumber, IsCaseOn, RepeatsHere}
 use Rattle.ir_resolve.proofs.Firsts.{first_more_place, first_all_places}
 use Rattle.ir_resolve.proofs.Repeats.{known_more, some_none, first_repeat}
 use Rattle.ir_resolve.proofs.cases.repeated_in.Goals as goal

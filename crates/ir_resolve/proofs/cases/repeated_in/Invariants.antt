@@ -1,8 +1,5 @@
 -- the numbers of the cases so far, and the first line of a case that has an earlier one's
-use Rattle.std.proofs.Common.{◌↔◌, ℕ, take, nat_eq, IsTrue}
-use Rattle.indexmap.specs.IndexSet.{contains}
-use Rattle.ir_resolve.specs.FirstLines.{IsFirst}
-use Rattle.ir_resolve.specs.FaultKinds.{SomeHas, RepeatsHere, HasNumber, IsCaseOn}
+use Rattle.ir_resolve.proofs.Common.{◌↔◌, ℕ, take, nat_eq, IsTrue, contains, IsFirst, SomeHas, RepeatsHere, HasNumber, IsCaseOn}
 use Rattle.ir_resolve.proofs.Firsts.{Before}
 use Rattle.ir_resolve.proofs.cases.repeated_in.Given as goal
 

@@ -1,10 +1,4 @@
-use Rattle.std.proofs.Common.{None, Some, map, refl, sym, ap, subst, ◌∙◌}
-use Rattle.ir_resolve.specs.FirstLines.{IsFirst}
-use Rattle.ir_resolve.specs.FaultKinds.{TypeClashAt}
-use Rattle.ir_resolve.specs.Views.{known_by}
-use Rattle.ir_resolve.specs.Uses.{seen_read, seen_reads, seen_targets}
-use Rattle.ir_resolve.specs.NameTable.{IsFaultOfUses, unknown, clash}
-use Rattle.refusal.specs.Refusals.{IfRefused}
+use Rattle.ir_resolve.proofs.Common.{None, Some, map, refl, sym, ap, subst, ◌∙◌, IsFirst, TypeClashAt, known_by, seen_read, seen_reads, seen_targets, IsFaultOfUses, unknown, clash, IfRefused}
 use Rattle.ir_resolve.proofs.Checked.{unknown_first, clash_first}
 use Rattle.ir_resolve.proofs.resolution.check_uses.Goals as goal
 

@@ -1,7 +1,4 @@
-use Rattle.std.proofs.Common.{subst}
-use Rattle.ir_resolve.specs.FirstLines.{IsFirst, SomeAt}
-use Rattle.ir_resolve.specs.TypedReads.{cases_of}
-use Rattle.ir_resolve.specs.FaultKinds.{Repeats, HasNumber, IsCaseOn}
+use Rattle.ir_resolve.proofs.Common.{subst, IsFirst, SomeAt, cases_of, Repeats, HasNumber, IsCaseOn}
 use Rattle.ir_resolve.proofs.Refusals.{duplicate_first, name_none}
 use Rattle.ir_resolve.proofs.resolution.duplicate.Goals as goal
 

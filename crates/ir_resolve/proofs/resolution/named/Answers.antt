@@ -1,9 +1,4 @@
-use Rattle.std.proofs.Common.{None, Some, subst}
-use Rattle.ir_tokens.specs.declared.fault.IrFaultKind.TheVariants.{Numbering, Duplicate}
-use Rattle.ir_resolve.specs.FirstLines.{IsFirst}
-use Rattle.ir_resolve.specs.Written.{written_names}
-use Rattle.ir_resolve.specs.FaultKinds.{DuplicateAt, Repeats, HasName, IsWrittenOn}
-use Rattle.ir_resolve.specs.Views.{known_by}
+use Rattle.ir_resolve.proofs.Common.{None, Some, subst, Numbering, Duplicate, IsFirst, written_names, DuplicateAt, Repeats, HasName, IsWrittenOn, known_by}
 use Rattle.ir_resolve.proofs.Tabling.{tabulates}
 use Rattle.ir_resolve.proofs.Refusals.{refused_at, clear_none, clear_1, misnumbered_first, repeated_first, table_is}
 use Rattle.ir_resolve.proofs.resolution.named.Goals as goal

@@ -1,6 +1,4 @@
-use Rattle.std.proofs.Common.{inl, inr}
-use Rattle.std.proofs.lemmas.Result.{err_from_is_err_and}
-use Rattle.ir_resolve.specs.Views.{known_by}
+use Rattle.ir_resolve.proofs.Common.{inl, inr, err_from_is_err_and, known_by}
 use Rattle.ir_resolve.proofs.Checked.{ready}
 use Rattle.ir_resolve.proofs.Refusals.{clear_all, uses_refused, marked}
 use Rattle.ir_resolve.proofs.Meaning.{means}

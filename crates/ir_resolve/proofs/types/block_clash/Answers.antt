@@ -1,5 +1,4 @@
-use Rattle.std.proofs.Common.{arith}
-use Rattle.ir_resolve.specs.FaultKinds.{BlockClashesAt}
+use Rattle.ir_resolve.proofs.Common.{arith, BlockClashesAt}
 use Rattle.ir_resolve.proofs.Firsts.{first_more, first_all}
 use Rattle.ir_resolve.proofs.types.block_clash.Goals as goal
 

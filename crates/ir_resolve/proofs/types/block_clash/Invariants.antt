@@ -1,6 +1,4 @@
-use Rattle.std.proofs.Common.{take}
-use Rattle.ir_resolve.specs.FirstLines.{IsFirst, SomeAt}
-use Rattle.ir_resolve.specs.FaultKinds.{BlockClashesAt}
+use Rattle.ir_resolve.proofs.Common.{take, IsFirst, SomeAt, BlockClashesAt}
 use Rattle.ir_resolve.proofs.types.block_clash.Given as goal
 
 abbrev pub invariant-loop-block : goal.invariant-loop-block

@@ -1,6 +1,4 @@
-use Rattle.std.proofs.Common.{subst}
-use Rattle.ir_resolve.specs.FirstLines.{IsFirst, SomeAt}
-use Rattle.ir_resolve.specs.FaultKinds.{OpClashesAt, EndClashesAt}
+use Rattle.ir_resolve.proofs.Common.{subst, IsFirst, SomeAt, OpClashesAt, EndClashesAt}
 use Rattle.ir_resolve.proofs.Firsts.{first_either}
 use Rattle.ir_resolve.proofs.types.clash_in_block.Goals as goal
 

@@ -1,5 +1,4 @@
-use Rattle.std.proofs.Common.{◌≡◌, arith}
-use Rattle.ir_resolve.specs.FaultKinds.{CaseClashes}
+use Rattle.ir_resolve.proofs.Common.{◌≡◌, arith, CaseClashes}
 use Rattle.ir_resolve.proofs.Firsts.{first_more, first_all, first_if}
 use Rattle.ir_resolve.proofs.types.clash_of_cases.Goals as goal
 

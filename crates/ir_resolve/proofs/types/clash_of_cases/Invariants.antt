@@ -1,6 +1,4 @@
-use Rattle.std.proofs.Common.{◌≡◌, take}
-use Rattle.ir_resolve.specs.FirstLines.{IsFirst, SomeAt}
-use Rattle.ir_resolve.specs.FaultKinds.{CaseClashes}
+use Rattle.ir_resolve.proofs.Common.{◌≡◌, take, IsFirst, SomeAt, CaseClashes}
 use Rattle.ir_resolve.proofs.types.clash_of_cases.Given as goal
 
 abbrev pub invariant-loop-case : goal.invariant-loop-case

@@ -1,5 +1,4 @@
-use Rattle.std.proofs.Common.{arith}
-use Rattle.ir_resolve.specs.FaultKinds.{OpClashesAt}
+use Rattle.ir_resolve.proofs.Common.{arith, OpClashesAt}
 use Rattle.ir_resolve.proofs.Firsts.{first_more, first_all}
 use Rattle.ir_resolve.proofs.types.clash_of_insts.Goals as goal
 

@@ -1,6 +1,4 @@
-use Rattle.std.proofs.Common.{take}
-use Rattle.ir_resolve.specs.FirstLines.{IsFirst, SomeAt}
-use Rattle.ir_resolve.specs.FaultKinds.{OpClashesAt}
+use Rattle.ir_resolve.proofs.Common.{take, IsFirst, SomeAt, OpClashesAt}
 use Rattle.ir_resolve.proofs.types.clash_of_insts.Given as goal
 
 abbrev pub invariant-loop-inst : goal.invariant-loop-inst

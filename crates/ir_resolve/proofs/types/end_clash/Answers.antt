@@ -1,6 +1,4 @@
-use Rattle.std.proofs.Common.{◌≡◌, subst}
-use Rattle.ir_resolve.specs.FirstLines.{IsFirst, SomeAt}
-use Rattle.ir_resolve.specs.FaultKinds.{CaseClashes}
+use Rattle.ir_resolve.proofs.Common.{◌≡◌, subst, IsFirst, SomeAt, CaseClashes}
 use Rattle.ir_resolve.proofs.types.end_clash.Goals as goal
 
 pub returns-in-Switch : goal.returns-in-Switch

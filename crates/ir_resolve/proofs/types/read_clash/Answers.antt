@@ -1,8 +1,4 @@
-use Rattle.std.proofs.Common.{◌≡◌, ℕ, List, arith}
-use Rattle.ir_resolve.specs.TypedReads.{Typed}
-use Rattle.ir_resolve.specs.FaultKinds.{ValueClashes}
-use Rattle.ir_resolve.specs.Views.{Known, known_by, CallsRegisterIn}
-use Rattle.ir_resolve.specs.Uses.{seen_read}
+use Rattle.ir_resolve.proofs.Common.{◌≡◌, ℕ, List, arith, Typed, ValueClashes, Known, known_by, CallsRegisterIn, seen_read}
 use Rattle.ir_resolve.proofs.Firsts.{first_more_seen, first_all_seen, first_if}
 use Rattle.ir_resolve.proofs.types.read_clash.Goals as goal
 

@@ -1,8 +1,4 @@
-use Rattle.std.proofs.Common.{map, take}
-use Rattle.ir_resolve.specs.FirstLines.{IsFirst}
-use Rattle.ir_resolve.specs.FaultKinds.{ReadClashesIn}
-use Rattle.ir_resolve.specs.Views.{known_by, CallsRegisterIn}
-use Rattle.ir_resolve.specs.Uses.{seen_read}
+use Rattle.ir_resolve.proofs.Common.{map, take, IsFirst, ReadClashesIn, known_by, CallsRegisterIn, seen_read}
 use Rattle.ir_resolve.proofs.types.read_clash.Given as goal
 
 abbrev pub invariant-loop-read : goal.invariant-loop-read

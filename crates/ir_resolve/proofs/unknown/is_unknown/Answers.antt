@@ -1,4 +1,4 @@
-use Rattle.ir_resolve.specs.Views.{known_by}
+use Rattle.ir_resolve.proofs.Common.{known_by}
 use Rattle.ir_resolve.proofs.Unknowns.{value_unknown}
 use Rattle.ir_resolve.proofs.unknown.is_unknown.Goals as goal
 

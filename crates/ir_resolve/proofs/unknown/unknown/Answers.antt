@@ -1,7 +1,4 @@
-use Rattle.std.proofs.Common.{map, subst}
-use Rattle.ir_resolve.specs.FirstLines.{IsFirst, SomeAt}
-use Rattle.ir_resolve.specs.Views.{known_by}
-use Rattle.ir_resolve.specs.Uses.{seen_read, seen_reads, seen_targets}
+use Rattle.ir_resolve.proofs.Common.{map, subst, IsFirst, SomeAt, known_by, seen_read, seen_reads, seen_targets}
 use Rattle.ir_resolve.proofs.Firsts.{first_either}
 use Rattle.ir_resolve.proofs.Unknowns.{ReadIsUnknown, TargetIsUnknown}
 use Rattle.ir_resolve.proofs.unknown.unknown.Goals as goal

@@ -1,5 +1,4 @@
-use Rattle.std.proofs.Common.{arith}
-use Rattle.ir_resolve.specs.Views.{known_by}
+use Rattle.ir_resolve.proofs.Common.{arith, known_by}
 use Rattle.ir_resolve.proofs.Firsts.{first_more_seen, first_all_seen, first_if}
 use Rattle.ir_resolve.proofs.Unknowns.{TargetIsUnknown}
 use Rattle.ir_resolve.proofs.unknown.unknown_block.Goals as goal

@@ -1,6 +1,4 @@
-use Rattle.std.proofs.Common.{map, take}
-use Rattle.ir_resolve.specs.FirstLines.{IsFirst, SomeAt}
-use Rattle.ir_resolve.specs.Views.{known_by}
+use Rattle.ir_resolve.proofs.Common.{map, take, IsFirst, SomeAt, known_by}
 use Rattle.ir_resolve.proofs.Unknowns.{TargetIsUnknown}
 use Rattle.ir_resolve.proofs.unknown.unknown_block.Given as goal
 

@@ -1,6 +1,4 @@
-use Rattle.std.proofs.Common.{arith}
-use Rattle.ir_resolve.specs.Views.{known_by}
-use Rattle.ir_resolve.specs.Uses.{seen_read}
+use Rattle.ir_resolve.proofs.Common.{arith, known_by, seen_read}
 use Rattle.ir_resolve.proofs.Firsts.{first_more_seen, first_all_seen, first_if}
 use Rattle.ir_resolve.proofs.Unknowns.{ReadIsUnknown}
 use Rattle.ir_resolve.proofs.unknown.unknown_register.Goals as goal

@@ -1,7 +1,4 @@
-use Rattle.std.proofs.Common.{map, take}
-use Rattle.ir_resolve.specs.FirstLines.{IsFirst, SomeAt}
-use Rattle.ir_resolve.specs.Views.{known_by}
-use Rattle.ir_resolve.specs.Uses.{seen_read}
+use Rattle.ir_resolve.proofs.Common.{map, take, IsFirst, SomeAt, known_by, seen_read}
 use Rattle.ir_resolve.proofs.Unknowns.{ReadIsUnknown}
 use Rattle.ir_resolve.proofs.unknown.unknown_register.Given as goal
 

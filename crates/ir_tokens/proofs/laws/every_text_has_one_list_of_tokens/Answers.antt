@@ -1,4 +1,4 @@
-use Rattle.std.proofs.Common.{suc, length, arith}
+use Rattle.ir_tokens.proofs.Common.{suc, length, arith}
 use Rattle.ir_tokens.proofs.OneList.{one_list}
 use Rattle.ir_tokens.proofs.SomeList.{some_list}
 use Rattle.ir_tokens.proofs.laws.every_text_has_one_list_of_tokens.Goals as goal

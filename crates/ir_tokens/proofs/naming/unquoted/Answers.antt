@@ -1,6 +1,5 @@
-use Rattle.std.proofs.Common.{◌∙◌, sym, ap, List, ℕ, ◌++◌}
+use Rattle.ir_tokens.proofs.Common.{◌∙◌, sym, ap, List, ℕ, ◌++◌, unquoted}
 use Rattle.std.proofs.lemmas.List.{append-nil}
-use Rattle.scan.specs.Quoted.{unquoted}
 use Rattle.ir_tokens.proofs.naming.unquoted.Goals as goal
 
 pub returns : goal.returns

@@ -1,5 +1,4 @@
-use Rattle.std.proofs.Common.{◌≡◌, ◌++◌, length}
-use Rattle.scan.specs.Quoted.{unquoted}
+use Rattle.ir_tokens.proofs.Common.{◌≡◌, ◌++◌, length, unquoted}
 use Rattle.ir_tokens.proofs.naming.unquoted.Given as goal
 
 abbrev pub invariant-loop-byte : goal.invariant-loop-byte

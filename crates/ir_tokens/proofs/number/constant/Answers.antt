@@ -1,4 +1,4 @@
-use Rattle.std.proofs.Common.{◌∙◌, ◌≤◌, sym, arith}
+use Rattle.ir_tokens.proofs.Common.{◌∙◌, ◌≤◌, sym, arith}
 use Rattle.ir_tokens.proofs.Ranges.{no_constant}
 use Rattle.ir_tokens.proofs.number.constant.Goals as goal
 

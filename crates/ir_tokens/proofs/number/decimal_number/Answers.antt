@@ -1,4 +1,4 @@
-use Rattle.std.proofs.Common.{arith}
+use Rattle.ir_tokens.proofs.Common.{arith}
 use Rattle.ir_tokens.proofs.Decimals.{value_past, whole_value}
 use Rattle.ir_tokens.proofs.number.decimal_number.Goals as goal
 

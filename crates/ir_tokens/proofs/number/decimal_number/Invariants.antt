@@ -1,5 +1,4 @@
-use Rattle.std.proofs.Common.{◌≡◌, ◌<◌, ◌^◌, take}
-use Rattle.ir_tokens.specs.Numbers.{decimal_value}
+use Rattle.ir_tokens.proofs.Common.{◌≡◌, ◌<◌, ◌^◌, take, decimal_value}
 use Rattle.ir_tokens.proofs.number.decimal_number.Given as goal
 
 abbrev pub invariant-loop-digit : goal.invariant-loop-digit

@@ -1,7 +1,4 @@
-use Rattle.std.proofs.Common.{sym}
-use Rattle.scan.specs.IrTokens.{IsNextToken, IsBadToken}
-use Rattle.scan.specs.Kept.{IsKeptLine, IsGroup, HasNoGroup}
-use Rattle.ir_tokens.specs.Order.{itself, kept_line, kept_group, unclosed, bad_byte}
+use Rattle.ir_tokens.proofs.Common.{sym, IsNextToken, IsBadToken, IsKeptLine, IsGroup, HasNoGroup, itself, kept_line, kept_group, unclosed, bad_byte}
 use Rattle.ir_tokens.proofs.tokens.next.Goals as goal
 
 pub returns-in-Err-clause-token : goal.returns-in-Err-clause-token

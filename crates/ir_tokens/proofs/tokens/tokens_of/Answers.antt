@@ -1,7 +1,5 @@
-use Rattle.std.proofs.Common.{◌∙◌, sym, arith}
-use Rattle.std.proofs.lemmas.List.{map_push}
-use Rattle.ir_tokens.specs.Order.{last}
-use Rattle.ir_tokens.specs.SeenTokens.{seen, seen_placed}
+use Rattle.ir_tokens.proofs.Common.{◌∙◌, sym, arith, map_push, last, seen_placed}
+use Rattle.ir_tokens.specs.SeenTokens.{seen}
 use Rattle.ir_tokens.proofs.Moving.{token_moves, token_within}
 use Rattle.ir_tokens.proofs.Reading.{token_read}
 use Rattle.ir_tokens.proofs.tokens.tokens_of.Goals as goal

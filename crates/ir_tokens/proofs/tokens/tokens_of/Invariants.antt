@@ -1,4 +1,4 @@
-use Rattle.std.proofs.Common.{◌≡◌, ◌-◌, ◌≤◌, length}
+use Rattle.ir_tokens.proofs.Common.{◌≡◌, ◌-◌, ◌≤◌, length}
 use Rattle.ir_tokens.specs.SeenTokens.{seen}
 use Rattle.ir_tokens.proofs.Reading.{SoFar}
 use Rattle.ir_tokens.proofs.tokens.tokens_of.Given as goal

@@ -1,5 +1,4 @@
-use Rattle.std.proofs.Common.{◌≤◌, ◌^◌, arith}
-use Rattle.std.proofs.Math.Pow.{pow_mono}
+use Rattle.load_gen.proofs.Common.{◌≤◌, ◌^◌, arith, pow_mono}
 use Rattle.load_gen.proofs.drawn.number.Goals as goal
 
 pub fitting-requires : goal.fitting-requires

@@ -1,6 +1,5 @@
 -- the instructions so far are the first drawn ones, by three draws each
-use Rattle.std.proofs.Common.{◌≡◌, ◌++◌}
-use Rattle.load_gen.specs.Generated.{drawn_insts, state_after}
+use Rattle.load_gen.proofs.Common.{◌≡◌, ◌++◌, drawn_insts, state_after}
 use Rattle.load_gen.proofs.drawn.push_drawn.Given as goal
 
 abbrev pub invariant-loop-place : goal.invariant-loop-place

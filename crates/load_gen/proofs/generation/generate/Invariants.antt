@@ -1,6 +1,5 @@
 -- the functions so far are the first ones, and the state is the one behind their draws
-use Rattle.std.proofs.Common.{◌≡◌}
-use Rattle.load_gen.specs.Generated.{functions, state_before}
+use Rattle.load_gen.proofs.Common.{◌≡◌, functions, state_before}
 use Rattle.load_gen.proofs.generation.generate.Given as goal
 
 abbrev pub invariant-loop-place : goal.invariant-loop-place

@@ -1,5 +1,4 @@
-use Rattle.std.proofs.Common.{◌≡◌, take}
-use Rattle.std.specs.Prelude.{count_by}
+use Rattle.load_text.proofs.Common.{◌≡◌, take, count_by}
 use Rattle.load_text.proofs.counting.count_true.Given as goal
 
 abbrev pub invariant-loop-truth : goal.invariant-loop-truth

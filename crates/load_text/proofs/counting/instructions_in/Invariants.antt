@@ -1,6 +1,4 @@
-use Rattle.std.proofs.Common.{◌≡◌, take}
-use Rattle.std.specs.Prelude.{sum_by}
-use Rattle.load_text.specs.Load.{instructions_of_entry}
+use Rattle.load_text.proofs.Common.{◌≡◌, take, sum_by, instructions_of_entry}
 use Rattle.load_text.proofs.counting.instructions_in.Given as goal
 
 abbrev pub invariant-loop-entry : goal.invariant-loop-entry

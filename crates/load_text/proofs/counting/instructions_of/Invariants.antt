@@ -1,5 +1,4 @@
-use Rattle.std.proofs.Common.{◌≡◌, length, take}
-use Rattle.std.specs.Prelude.{sum_by}
+use Rattle.load_text.proofs.Common.{◌≡◌, length, take, sum_by}
 use Rattle.load_text.proofs.counting.instructions_of.Given as goal
 
 abbrev pub invariant-loop-block : goal.invariant-loop-block

@@ -1,5 +1,4 @@
-use Rattle.std.proofs.Common.{◌≡◌, take}
-use Rattle.std.specs.Prelude.{sum}
+use Rattle.load_text.proofs.Common.{◌≡◌, take, sum}
 use Rattle.load_text.proofs.counting.sum_of.Given as goal
 
 abbrev pub invariant-loop-number : goal.invariant-loop-number

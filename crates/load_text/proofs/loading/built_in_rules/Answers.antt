@@ -1,6 +1,4 @@
-use Rattle.std.proofs.Common.{◌≡◌, subst, arith}
-use Rattle.load_text.specs.Load.{built_in_text}
-use Rattle.load_text.specs.RuleText.{IsRuleText}
+use Rattle.load_text.proofs.Common.{◌≡◌, subst, arith, built_in_text, IsRuleText}
 use Rattle.load_text.proofs.loading.built_in_rules.Goals as goal
 
 -- the text of the code is that of the definition

@@ -1,10 +1,4 @@
-use Rattle.std.proofs.Common.{◌≡◌, ◌+◌, ◌-◌, ◌<◌, ℕ, List, Option, length, Some, true, false, sym, ap, subst, arith}
-use Rattle.std.specs.Prelude.{slice_get}
-use Rattle.rule_core.specs.declared.rule.Statement.{Statement}
-use Rattle.bindings.specs.Match.{MatchesInAnyOrder}
-use Rattle.matcher.specs.Slots.{IsFilledAs, KnowsFrom}
-use Rattle.bindings.specs.declared.binding.Binding.{Binding}
-use Rattle.bindings.proofs.Bound.{read_off}
+use Rattle.matcher.proofs.Common.{◌≡◌, ◌+◌, ◌-◌, ◌<◌, ℕ, List, Option, length, Some, true, false, sym, ap, subst, arith, slice_get, Statement, MatchesInAnyOrder, IsFilledAs, KnowsFrom, Binding, read_off}
 use Rattle.matcher.proofs.Candidates.{root_bound, takes, knows_more, filled_as, ok_then}
 use Rattle.matcher.proofs.SourceSlots.{still_slots}
 use Rattle.matcher.proofs.candidate.candidate.Goals as goal

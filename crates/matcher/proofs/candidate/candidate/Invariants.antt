@@ -1,7 +1,5 @@
 -- the slots of the statements from this one on are filled with what a match has
-use Rattle.bindings.specs.Match.{MatchesInAnyOrder}
-use Rattle.matcher.specs.Slots.{AreSlotsOf, KnowsFrom}
-use Rattle.bindings.specs.declared.binding.Binding.{Binding}
+use Rattle.matcher.proofs.Common.{MatchesInAnyOrder, AreSlotsOf, KnowsFrom, Binding}
 use Rattle.matcher.proofs.candidate.candidate.Given as goal
 
 abbrev pub invariant-loop-j : goal.invariant-loop-j

@@ -1,5 +1,4 @@
-use Rattle.rule_typing.proofs.Among.{fails}
-use Rattle.bindings.proofs.Roots.{in_any_order}
+use Rattle.matcher.proofs.Common.{fails, in_any_order}
 use Rattle.matcher.proofs.Ordered.{found_in_order, none_in_order}
 use Rattle.matcher.proofs.Rooted.{matched_operation}
 use Rattle.matcher.proofs.matching.match_at.Goals as goal

@@ -1,7 +1,5 @@
-use Rattle.std.proofs.Common.{◌≡◌, ◌∙◌, sym}
-use Rattle.std.proofs.lemmas.Option.{same_Some}
-use Rattle.rule_typing.proofs.Among.{holds, fails}
-use Rattle.bindings.proofs.Roots.{match_here, match_there, matched_operation}
+use Rattle.matcher.proofs.Common.{◌≡◌, ◌∙◌, sym, same_Some, holds, fails, match_here, match_there}
+use Rattle.bindings.proofs.Roots.{matched_operation}
 use Rattle.matcher.proofs.matching.match_in.Goals as goal
 use Rattle.matcher.proofs.matching.match_in.Goals.{then-not-reached-via-then-not-reached, then-not-reached-via-else-not-reached+then-not-is_root_operation}
 

@@ -1,5 +1,4 @@
-use Rattle.std.proofs.Common.{◌≡◌, ◌∙◌, ap, List, map, Some}
-use Rattle.bindings.proofs.Lists.{map_Some_same, no_gap, one_more_value, take_all}
+use Rattle.matcher.proofs.Common.{◌≡◌, ◌∙◌, ap, List, map, Some, map_Some_same, no_gap, one_more_value, take_all}
 use Rattle.matcher.proofs.slots.filled.Goals as goal
 
 pub returns-in_default : goal.returns-in_default

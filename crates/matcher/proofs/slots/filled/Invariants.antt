@@ -1,6 +1,5 @@
 -- the values so far are those of the first slots
-use Rattle.std.proofs.Common.{◌≡◌, map, take}
-use Rattle.std.specs.Prelude.{Some}
+use Rattle.matcher.proofs.Common.{◌≡◌, map, take, Some}
 use Rattle.matcher.proofs.slots.filled.Given as goal
 
 abbrev pub invariant-loop-slot : goal.invariant-loop-slot

@@ -1,5 +1,4 @@
-use Rattle.std.proofs.Common.{◌≡◌, ◌∙◌, ℕ, ap, subst, length, length-append, arith}
-use Rattle.rule_typing.specs.Classes.{HasClasses}
+use Rattle.matcher.proofs.Common.{◌≡◌, ◌∙◌, ℕ, ap, subst, length, length-append, arith, HasClasses}
 use Rattle.matcher.proofs.Widths.{one_more, each_fixed}
 use Rattle.matcher.proofs.slots.fixed_widths.Goals as goal
 

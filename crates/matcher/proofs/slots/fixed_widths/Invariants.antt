@@ -1,5 +1,5 @@
 -- the widths so far are fixed ones, and all fixed ones are among them
-use Rattle.std.proofs.Common.{◌≡◌, length}
+use Rattle.matcher.proofs.Common.{◌≡◌, length}
 use Rattle.matcher.proofs.Widths.{AreFixed}
 use Rattle.matcher.proofs.slots.fixed_widths.Given as goal
 

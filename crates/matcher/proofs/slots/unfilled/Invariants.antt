@@ -1,5 +1,5 @@
 -- the slots so far, all empty
-use Rattle.std.proofs.Common.{◌≡◌, vec_len}
+use Rattle.matcher.proofs.Common.{◌≡◌, vec_len}
 use Rattle.matcher.proofs.slots.unfilled.Given as goal
 
 abbrev pub invariant-loop-k : goal.invariant-loop-k

@@ -1,5 +1,4 @@
-use Rattle.std.proofs.Common.{sym, ◌∙◌}
-use Rattle.bindings.proofs.Reading.{no_width, width_of_inst}
+use Rattle.matcher.proofs.Common.{sym, ◌∙◌, no_width, width_of_inst}
 use Rattle.matcher.proofs.slots.width_at.Goals as goal
 
 pub returns-in_err-inst : goal.returns-in_err-inst

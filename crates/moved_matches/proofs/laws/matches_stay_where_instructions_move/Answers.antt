@@ -1,4 +1,4 @@
-use Rattle.moved_matches.specs.Laws.{InAnyOrder, InOrder}
+use Rattle.moved_matches.proofs.Common.{InAnyOrder, InOrder}
 use Rattle.moved_matches.proofs.Staying.{matches_stay}
 use Rattle.moved_matches.proofs.laws.matches_stay_where_instructions_move.Goals as goal
 

@@ -1,5 +1,4 @@
-use Rattle.std.proofs.Common.{length, sym, subst, All}
-use Rattle.needed.specs.InstNumbers.{BlockIsNumbered}
+use Rattle.needed.proofs.Common.{length, sym, subst, All, BlockIsNumbered}
 use Rattle.needed.proofs.SearchLemmas.{blocks_numbered}
 use Rattle.needed.proofs.cleaning.clean.Goals as goal
 

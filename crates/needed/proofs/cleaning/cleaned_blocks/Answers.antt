@@ -1,9 +1,4 @@
-use Rattle.std.proofs.Common.{◌≡◌, ◌+◌, ◌<◌, ◌≤◌, Some, length, get_or, refl, sym, subst, ◌∙◌, arith}
-use Rattle.std.specs.Prelude.{slice_get}
-use Rattle.std.proofs.lemmas.List.Elements.{All-get_or}
-use Rattle.ir_core.specs.declared.function.Block.{Block}
-use Rattle.needed.specs.KeptFunction.{kept_blocks}
-use Rattle.needed.specs.InstNumbers.{BlockIsNumbered, marks_by}
+use Rattle.needed.proofs.Common.{◌≡◌, ◌+◌, ◌<◌, ◌≤◌, Some, length, get_or, refl, sym, subst, ◌∙◌, arith, slice_get, All-get_or, Block, kept_blocks, BlockIsNumbered, marks_by}
 use Rattle.needed.proofs.NumberLemmas.{block_within, item_read}
 use Rattle.needed.proofs.KeptLemmas.{next_as_before}
 use Rattle.needed.proofs.cleaning.cleaned_blocks.Goals as goal

@@ -1,5 +1,4 @@
-use Rattle.needed.specs.KeptFunction.{kept_blocks}
-use Rattle.needed.specs.InstNumbers.{marks_by}
+use Rattle.needed.proofs.Common.{kept_blocks, marks_by}
 use Rattle.needed.proofs.KeptLemmas.{Written}
 use Rattle.needed.proofs.cleaning.cleaned_blocks.Given as goal
 

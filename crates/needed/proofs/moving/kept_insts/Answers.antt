@@ -1,8 +1,4 @@
-use Rattle.std.proofs.Common.{◌≡◌, ◌+◌, ◌<◌, ℕ, length, get_or, refl, sym, ap, subst, ◌∙◌, arith, All, Vec, Global}
-use Rattle.ir_core.specs.declared.instruction.Inst.{Inst}
-use Rattle.std.proofs.lemmas.List.Elements.{All-get_or}
-use Rattle.needed.specs.InstNumbers.{IsNumbered, marks_by, number_of}
-use Rattle.needed.specs.Operands.{operands_of}
+use Rattle.needed.proofs.Common.{◌≡◌, ◌+◌, ◌<◌, ℕ, length, get_or, refl, sym, ap, subst, ◌∙◌, arith, All, Vec, Global, Inst, All-get_or, IsNumbered, marks_by, number_of, operands_of}
 use Rattle.needed.proofs.KeptLemmas.{mark_read}
 use Rattle.needed.proofs.Settling.{Settled, next_was, settled_more, settled_other}
 use Rattle.needed.proofs.moving.kept_insts.Goals.{then-index, else-index}

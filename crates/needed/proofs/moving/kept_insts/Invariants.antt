@@ -1,4 +1,4 @@
-use Rattle.needed.specs.InstNumbers.{marks_by}
+use Rattle.needed.proofs.Common.{marks_by}
 use Rattle.needed.proofs.Settling.{Settled}
 use Rattle.needed.proofs.moving.kept_insts.Given as goal
 

@@ -1,7 +1,4 @@
-use Rattle.std.proofs.Common.{◌≡◌, ◌<◌, ℕ, List, length, get_or, map, refl, subst, arith}
-use Rattle.ir_core.specs.declared.operand.Operand.{Operand}
-use Rattle.needed.specs.KeptFunction.{moved_operand}
-use Rattle.needed.specs.InstNumbers.{IsNumbered, marks_by}
+use Rattle.needed.proofs.Common.{◌≡◌, ◌<◌, ℕ, List, length, get_or, map, refl, subst, arith, Operand, moved_operand, IsNumbered, marks_by}
 use Rattle.needed.proofs.MarkLemmas.{numbered_entry}
 use Rattle.needed.proofs.KeptLemmas.{next_as_before}
 use Rattle.needed.proofs.moving.moved_entries.Goals as goal

@@ -1,6 +1,4 @@
-use Rattle.std.proofs.Common.{map}
-use Rattle.needed.specs.KeptFunction.{moved_operand}
-use Rattle.needed.specs.InstNumbers.{marks_by}
+use Rattle.needed.proofs.Common.{map, moved_operand, marks_by}
 use Rattle.needed.proofs.KeptLemmas.{Written}
 use Rattle.needed.proofs.moving.moved_entries.Given as goal
 

@@ -1,6 +1,4 @@
-use Rattle.std.proofs.Common.{◌≡◌, ◌+◌, ◌-◌, ◌≤◌, arith}
-use Rattle.needed.specs.KeptFunction.{kept_before}
-use Rattle.needed.specs.InstNumbers.{marks_by}
+use Rattle.needed.proofs.Common.{◌≡◌, ◌+◌, ◌-◌, ◌≤◌, arith, kept_before, marks_by}
 use Rattle.needed.proofs.Counting.{kept_before_le}
 use Rattle.needed.proofs.KeptLemmas.{place_read, place_is}
 use Rattle.needed.proofs.moving.moved_register.Goals as goal

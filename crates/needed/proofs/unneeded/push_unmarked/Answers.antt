@@ -1,8 +1,4 @@
-use Rattle.std.proofs.Common.{◌≡◌, ◌+◌, ◌<◌, ◌↔◌, ◌⊎◌, ◌++◌, ◌∷◌, [], inl, inr, ℕ, Bool, true, false, List, Vec, Global, Contains, get_or, sym, ap, subst, ◌∙◌, arith}
-use Rattle.std.proofs.lemmas.Bool.{cases_eq}
-use Rattle.std.proofs.lemmas.List.{get_or_default}
-use Rattle.std.proofs.lemmas.List.Elements.{Contains-append_left, Contains-push, Contains-push_cases}
-use Rattle.needed.specs.InstNumbers.{marks_by}
+use Rattle.needed.proofs.Common.{◌≡◌, ◌+◌, ◌<◌, ◌↔◌, ◌⊎◌, ◌++◌, ◌∷◌, [], inl, inr, ℕ, Bool, true, false, List, Vec, Global, Contains, get_or, sym, ap, subst, ◌∙◌, arith, cases_eq, get_or_default, Contains-append_left, Contains-push, Contains-push_cases, marks_by}
 use Rattle.needed.proofs.unneeded.push_unmarked.Goals as goal
 use Rattle.needed.proofs.unneeded.push_unmarked.Goals.{then-not-marks-first+in_ok-push, else-not-marks-first}
 

@@ -1,5 +1,4 @@
-use Rattle.std.proofs.Common.{◌≡◌, ◌<◌, ◌⊎◌, ◌↔◌, ℕ, false, Contains}
-use Rattle.needed.specs.InstNumbers.{marks_by}
+use Rattle.needed.proofs.Common.{◌≡◌, ◌<◌, ◌⊎◌, ◌↔◌, ℕ, false, Contains, marks_by}
 use Rattle.needed.proofs.unneeded.push_unmarked.Given as goal
 
 -- the unmarked ones among the block's first instructions were appended

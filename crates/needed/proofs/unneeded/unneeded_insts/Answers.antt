@@ -1,11 +1,4 @@
-use Rattle.std.proofs.Common.{◌≡◌, ◌+◌, ◌<◌, ◌↔◌, ◌⊎◌, inl, inr, ℕ, Bool, true, false, List, Contains, length, Some, sym, ap, subst, ◌∙◌, arith}
-use Rattle.std.specs.Prelude.{slice_get}
-use Rattle.std.proofs.lemmas.Bool.{cases_Bool, cases_eq}
-use Rattle.std.proofs.lemmas.Option.{same_Some, slice_get_within}
-use Rattle.ir_core.specs.Blocks.{HasInst, IsBlock}
-use Rattle.ir_core.specs.declared.function.Block.{Block}
-use Rattle.ir_core.specs.declared.function.Function.{Function}
-use Rattle.needed.specs.InstNumbers.{marks_by}
+use Rattle.needed.proofs.Common.{◌≡◌, ◌+◌, ◌<◌, ◌↔◌, ◌⊎◌, inl, inr, ℕ, Bool, true, false, List, Contains, length, Some, sym, ap, subst, ◌∙◌, arith, slice_get, cases_Bool, cases_eq, same_Some, slice_get_within, HasInst, IsBlock, Block, Function, marks_by}
 use Rattle.needed.proofs.NumberLemmas.{block_within, item_read}
 use Rattle.needed.proofs.unneeded.unneeded_insts.Goals as goal
 

@@ -1,6 +1,4 @@
-use Rattle.std.proofs.Common.{◌≡◌, ◌<◌, ◌↔◌, ℕ, false, Contains}
-use Rattle.ir_core.specs.Blocks.{HasInst}
-use Rattle.needed.specs.InstNumbers.{marks_by}
+use Rattle.needed.proofs.Common.{◌≡◌, ◌<◌, ◌↔◌, ℕ, false, Contains, HasInst, marks_by}
 use Rattle.needed.proofs.unneeded.unneeded_insts.Given as goal
 
 -- the unmarked instructions of the first blocks were appended

@@ -1,8 +1,4 @@
-use Rattle.std.proofs.Common.{ℕ, arith, ◌≡◌, ◌∙◌}
-use Rattle.std.proofs.lemmas.Int.{ints}
-use Rattle.std.specs.Prelude.{ℤ}
-use Rattle.ops.specs.declared.opcode.Flags.{Flags}
-use Rattle.ops.specs.Arithmetic.{arithmetic}
+use Rattle.ops.proofs.Common.{ℕ, arith, ◌≡◌, ◌∙◌, ints, ℤ, Flags, arithmetic}
 use Rattle.ops.proofs.arithmetic.sub.Goals as goal
 
 -- equal results of the subtraction give equal values

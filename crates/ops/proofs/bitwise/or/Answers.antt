@@ -1,4 +1,4 @@
-use Rattle.std.proofs.lemmas.Nat.{or_lt}
+use Rattle.ops.proofs.Common.{or_lt}
 use Rattle.ops.proofs.bitwise.or.Goals as goal
 
 pub fitting-requires : goal.fitting-requires

@@ -1,4 +1,4 @@
-use Rattle.std.proofs.lemmas.Nat.{xor_lt}
+use Rattle.ops.proofs.Common.{xor_lt}
 use Rattle.ops.proofs.bitwise.xor.Goals as goal
 
 pub fitting-requires : goal.fitting-requires

@@ -1,5 +1,4 @@
-use Rattle.std.proofs.Common.{◌≡◌, Bool, true, false, not, refl}
-use Rattle.std.specs.Bool.{xor, beq}
+use Rattle.ops.proofs.Common.{◌≡◌, Bool, true, false, not, refl, xor, beq}
 use Rattle.ops.proofs.comparison.signs_differ.Goals as goal
 
 apart : (a b : Bool) → not (beq a b) ≡ xor a b

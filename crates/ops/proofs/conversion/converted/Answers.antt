@@ -1,5 +1,4 @@
-use Rattle.std.proofs.Common.{arith}
-use Rattle.std.proofs.lemmas.Nat.{pow_below}
+use Rattle.ops.proofs.Common.{arith, pow_below}
 use Rattle.ops.proofs.conversion.converted.Goals as goal
 
 pub fitting-requires : goal.fitting-requires

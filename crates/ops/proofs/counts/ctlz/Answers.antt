@@ -1,4 +1,4 @@
-use Rattle.std.proofs.Common.{◌≤◌, arith}
+use Rattle.ops.proofs.Common.{◌≤◌, arith}
 use Rattle.ops.proofs.BitCounts.{ctlz-leading, leading_of_fewer}
 use Rattle.ops.proofs.counts.ctlz.Goals as goal
 

@@ -1,4 +1,4 @@
-use Rattle.std.proofs.Common.{sym, ◌∙◌}
+use Rattle.ops.proofs.Common.{sym, ◌∙◌}
 use Rattle.ops.proofs.BitCounts.{ctpop-ones, ctpop-most}
 use Rattle.ops.proofs.counts.ctpop.Goals as goal
 

@@ -1,4 +1,4 @@
-use Rattle.std.proofs.Common.{◌≤◌, arith}
+use Rattle.ops.proofs.Common.{◌≤◌, arith}
 use Rattle.ops.proofs.BitCounts.{cttz-trailing}
 use Rattle.ops.proofs.counts.cttz.Goals as goal
 

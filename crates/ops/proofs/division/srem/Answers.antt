@@ -1,7 +1,4 @@
-use Rattle.std.proofs.Common.{arith, rules, sym, ◌≤◌, ◌≡◌, ◌∙◌, ◌^◌, false}
-use Rattle.std.specs.Prelude.{unsigned_abs}
-use Rattle.std.proofs.lemmas.Int.{ints}
-use Rattle.ops.specs.Division.{srem, has_no_quotient}
+use Rattle.ops.proofs.Common.{arith, rules, sym, ◌≤◌, ◌≡◌, ◌∙◌, ◌^◌, false, unsigned_abs, ints, srem, has_no_quotient}
 use Rattle.ops.proofs.Quotients.{CanDivide-signed, code_remainder}
 use Rattle.ops.proofs.division.srem.Goals as goal
 

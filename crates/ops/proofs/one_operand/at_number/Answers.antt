@@ -1,8 +1,4 @@
-use Rattle.std.proofs.Common.{◌≡◌, ◌<◌, ◌^◌, ap, subst, sym, ◌∙◌, rules}
-use Rattle.std.proofs.lemmas.Int.{to_z-of_z}
-use Rattle.std.specs.Prelude.{unsigned_abs, FitsSigned}
-use Rattle.std.specs.Int.{w128}
-use Rattle.ops.specs.Integer.{signed}
+use Rattle.ops.proofs.Common.{◌≡◌, ◌<◌, ◌^◌, ap, subst, sym, ◌∙◌, rules, to_z-of_z, unsigned_abs, FitsSigned, w128, signed}
 use Rattle.ops.proofs.Signed.{absolute-lt}
 use Rattle.ops.proofs.Widths.{count_lt}
 use Rattle.ops.proofs.one_operand.at_number.Goals as goal

@@ -1,4 +1,4 @@
-use Rattle.strategy_core.proofs.Refining.{parts}
+use Rattle.optimised_forms.proofs.Common.{parts}
 use Rattle.optimised_forms.proofs.Optimised.{optimised_have_forms}
 use Rattle.optimised_forms.proofs.laws.optimised_modules_have_forms.Goals as goal
 

@@ -1,5 +1,4 @@
-use Rattle.std.proofs.Common.{◌-◌, ◌≤◌, vec_len}
-use Rattle.std.specs.Io.KnownBytes.{Keeps, prepend_known}
+use Rattle.outside.proofs.Common.{◌-◌, ◌≤◌, vec_len, Keeps, prepend_known}
 use Rattle.outside.proofs.disk_files.read_up_to.Given as goal
 
 -- what was read so far, with what the reader has left behind it, is what it had left at first

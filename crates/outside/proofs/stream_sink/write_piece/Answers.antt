@@ -1,8 +1,4 @@
-use Rattle.std.proofs.Common.{arith, sym, subst, drop, take}
-use Rattle.std.proofs.KnownBytes.{Appends-trans}
-use Rattle.std.proofs.Math.Seq.{take-add}
-use Rattle.std.proofs.lemmas.List.{take_rest}
-use Rattle.std.specs.Io.KnownBytes.{Appends}
+use Rattle.outside.proofs.Common.{arith, sym, subst, drop, take, Appends-trans, take-add, take_rest, Appends}
 use Rattle.outside.proofs.stream_sink.write_piece.Goals as goal
 
 pub loop-taken-preserved : goal.loop-taken-preserved

@@ -1,5 +1,4 @@
-use Rattle.std.proofs.Common.{◌-◌, ◌≤◌, length, take}
-use Rattle.std.specs.Io.KnownBytes.{Appends}
+use Rattle.outside.proofs.Common.{◌-◌, ◌≤◌, length, take, Appends}
 use Rattle.outside.proofs.stream_sink.write_piece.Given as goal
 
 -- the stream took this much of the piece

@@ -1,4 +1,4 @@
-use Rattle.std.proofs.Common.{◌^◌, ◌<◌, get_or, rules}
+use Rattle.packed_log.proofs.Common.{◌^◌, ◌<◌, get_or, rules}
 use Rattle.packed_log.proofs.Lists.{list_begins, list_more}
 use Rattle.packed_log.proofs.Differences.{no_differences, one_more_difference, hints_done}
 use Rattle.packed_log.proofs.hints.push_hints.Goals as goal

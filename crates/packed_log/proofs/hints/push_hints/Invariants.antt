@@ -1,4 +1,4 @@
-use Rattle.std.proofs.Common.{length, take}
+use Rattle.packed_log.proofs.Common.{length, take}
 use Rattle.packed_log.proofs.Lists.{ListSoFar}
 use Rattle.packed_log.proofs.Differences.{AreDifferences}
 use Rattle.packed_log.proofs.hints.push_hints.Given as goal

@@ -1,6 +1,4 @@
-use Rattle.std.proofs.Common.{◌≤◌, take, get_or, All, sym, subst, arith}
-use Rattle.std.proofs.lemmas.List.{take_more}
-use Rattle.std.proofs.lemmas.List.Elements.{All-push}
+use Rattle.packed_log.proofs.Common.{◌≤◌, take, get_or, All, sym, subst, arith, take_more, All-push}
 use Rattle.packed_log.proofs.number.leading.Goals as goal
 
 pub loop-count-preserved : goal.loop-count-preserved

@@ -1,4 +1,4 @@
-use Rattle.std.proofs.Common.{◌-◌, ◌≤◌, length, take, All}
+use Rattle.packed_log.proofs.Common.{◌-◌, ◌≤◌, length, take, All}
 use Rattle.packed_log.proofs.number.leading.Given as goal
 
 -- each byte before this place has the high bit set

@@ -1,4 +1,4 @@
-use Rattle.std.proofs.Common.{◌≡◌, ◌+◌, ◌-◌, ◌*◌, ap, get_or, rules, sym, ◌∙◌, arith}
+use Rattle.packed_log.proofs.Common.{◌≡◌, ◌+◌, ◌-◌, ◌*◌, ap, get_or, rules, sym, ◌∙◌, arith}
 use Rattle.packed_log.proofs.Numbers.{first_of_last, first_number-later, more_at, byte_before}
 use Rattle.packed_log.proofs.number.number_at.Goals as goal
 use Rattle.packed_log.proofs.number.number_at.Goals.{in-None, in-Some}

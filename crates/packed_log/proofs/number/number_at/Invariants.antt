@@ -1,5 +1,4 @@
-use Rattle.std.proofs.Common.{◌≡◌, drop}
-use Rattle.packed_log.specs.Numbers.{first_number}
+use Rattle.packed_log.proofs.Common.{◌≡◌, drop, first_number}
 use Rattle.packed_log.proofs.number.number_at.Given as goal
 
 -- the number so far is what the bytes from this place on are read as

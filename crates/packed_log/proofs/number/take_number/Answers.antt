@@ -1,6 +1,4 @@
-use Rattle.std.proofs.Common.{◌≡◌, ◌+◌, ◌-◌, drop, length, length-drop, sym, ap, ◌∙◌, inl, inr, arith}
-use Rattle.std.proofs.lemmas.Bool.{cases_lt}
-use Rattle.std.proofs.lemmas.List.{drop_all, take_all}
+use Rattle.packed_log.proofs.Common.{◌≡◌, ◌+◌, ◌-◌, drop, length, length-drop, sym, ap, ◌∙◌, inl, inr, arith, cases_lt, drop_all, take_all}
 use Rattle.packed_log.proofs.Numbers.{behind_number-leading}
 use Rattle.packed_log.proofs.number.take_number.Goals as goal
 

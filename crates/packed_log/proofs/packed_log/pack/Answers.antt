@@ -1,5 +1,4 @@
-use Rattle.std.proofs.Common.{◌≡◌, ◌∷◌, ◌++◌, [], List, ℕ, subst, ◌∙◌, rules}
-use Rattle.packed_log.specs.Words.{Adds, AreHints}
+use Rattle.packed_log.proofs.Common.{◌≡◌, ◌∷◌, ◌++◌, [], List, ℕ, subst, ◌∙◌, rules, Adds, AreHints}
 use Rattle.packed_log.proofs.Steps.{no_steps, one_more_step, all_packed}
 use Rattle.packed_log.proofs.packed_log.pack.Goals as goal
 

@@ -1,4 +1,4 @@
-use Rattle.std.proofs.Common.{take}
+use Rattle.packed_log.proofs.Common.{take}
 use Rattle.packed_log.proofs.Steps.{AreSteps}
 use Rattle.packed_log.proofs.packed_log.pack.Given as goal
 

@@ -1,5 +1,4 @@
-use Rattle.std.proofs.Common.{refl, sym, ap, subst, ◌∙◌, rules}
-use Rattle.packed_log.specs.Steps.{steps, AllHintsFit}
+use Rattle.packed_log.proofs.Common.{refl, sym, ap, subst, ◌∙◌, rules, steps, AllHintsFit}
 use Rattle.packed_log.proofs.Steps.{none_taken, next_fits, step_taken, all_taken}
 use Rattle.packed_log.proofs.packed_log.unpack.Goals as goal
 

@@ -1,5 +1,4 @@
-use Rattle.std.proofs.Common.{◌≡◌, [], Contains, get_or, sym, ap, subst, ◌∙◌}
-use Rattle.std.proofs.lemmas.List.{get_or_default}
+use Rattle.places.proofs.Common.{◌≡◌, [], Contains, get_or, sym, ap, subst, ◌∙◌, get_or_default}
 use Rattle.places.proofs.Ranks.{numbered-block}
 use Rattle.places.proofs.heap.comes_before.Goals as goal
 

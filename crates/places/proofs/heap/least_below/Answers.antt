@@ -1,6 +1,4 @@
-use Rattle.std.proofs.Common.{◌+◌, ◌*◌, length, arith}
-use Rattle.std.proofs.lemmas.Bool.{iff_false}
-use Rattle.places.specs.Heaps.{place_at, rank_at}
+use Rattle.places.proofs.Common.{◌+◌, ◌*◌, length, arith, iff_false, place_at, rank_at}
 use Rattle.places.proofs.Ranks.{rank-before, not-before-rank, least-left, least-right}
 use Rattle.places.proofs.heap.least_below.Goals as goal
 use Rattle.places.proofs.heap.least_below.Goals.{else-right-heap-via-then-right-heap+else-comes_before, else-right-heap-via-else-right-heap}

@@ -1,9 +1,4 @@
-use Rattle.std.proofs.Common.{◌∷◌, length, drop, All, sym, ap, subst, arith}
-use Rattle.std.specs.List.Sorted.{IsPermutation}
-use Rattle.std.proofs.lemmas.List.{take_at}
-use Rattle.std.proofs.lemmas.List.Elements.{All-tail}
-use Rattle.std.proofs.lemmas.List.Sorted.{All-permutation, IsPermutation-cons, IsPermutation-trans, IsPermutation-swap_remove}
-use Rattle.places.specs.Heaps.{IsNumbered, IsSinking, nowhere, rank_at}
+use Rattle.places.proofs.Common.{◌∷◌, length, drop, All, sym, ap, subst, arith, IsPermutation, take_at, All-tail, All-permutation, IsPermutation-cons, IsPermutation-trans, IsPermutation-swap_remove, IsNumbered, IsSinking, nowhere, rank_at}
 use Rattle.places.proofs.Ranks.{first-comes, sinking-removed}
 use Rattle.places.proofs.heap.pop.Goals as goal
 

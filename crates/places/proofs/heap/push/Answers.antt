@@ -1,9 +1,4 @@
-use Rattle.std.proofs.Common.{◌≡◌, ◌-◌, [], ◌∷◌, ◌++◌, length, drop, All, sym, ap, subst, ◌∙◌, arith}
-use Rattle.std.specs.List.Sorted.{IsPermutation}
-use Rattle.std.proofs.lemmas.List.{take_at, length_push}
-use Rattle.std.proofs.lemmas.List.Elements.{All-push}
-use Rattle.std.proofs.lemmas.List.Sorted.{IsPermutation-sym, IsPermutation-trans, IsPermutation-to_front}
-use Rattle.places.specs.Heaps.{IsNumbered, IsRising, rank_at}
+use Rattle.places.proofs.Common.{◌≡◌, ◌-◌, [], ◌∷◌, ◌++◌, length, drop, All, sym, ap, subst, ◌∙◌, arith, IsPermutation, take_at, length_push, All-push, IsPermutation-sym, IsPermutation-trans, IsPermutation-to_front, IsNumbered, IsRising, rank_at}
 use Rattle.places.proofs.Ranks.{rising-pushed}
 use Rattle.places.proofs.heap.push.Goals as goal
 

@@ -1,7 +1,4 @@
-use Rattle.std.proofs.Common.{◌-◌, ◌/◌, length, sym, subst, arith}
-use Rattle.std.proofs.lemmas.Bool.{iff_false}
-use Rattle.std.proofs.lemmas.List.Sorted.{All-permutation, IsPermutation-trans}
-use Rattle.places.specs.Heaps.{IsNumbered, IsBelow, IsRising, place_at, rank_at}
+use Rattle.places.proofs.Common.{◌-◌, ◌/◌, length, sym, subst, arith, iff_false, All-permutation, IsPermutation-trans, IsNumbered, IsBelow, IsRising, place_at, rank_at}
 use Rattle.places.proofs.Ranks.{rank-before, not-before-rank, ranks-swapped, rise-step, risen-here}
 use Rattle.places.proofs.heap.rise.Goals as goal
 

@@ -1,6 +1,4 @@
-use Rattle.std.proofs.Common.{◌<◌, length, All}
-use Rattle.std.specs.List.Sorted.{IsPermutation}
-use Rattle.places.specs.Heaps.{IsNumbered, IsRising, rank_at}
+use Rattle.places.proofs.Common.{◌<◌, length, All, IsPermutation, IsNumbered, IsRising, rank_at}
 use Rattle.places.proofs.heap.rise.Given as goal
 
 abbrev pub invariant-loop-at : goal.invariant-loop-at

@@ -1,7 +1,4 @@
-use Rattle.std.proofs.Common.{length, sym, subst, arith}
-use Rattle.std.proofs.lemmas.Bool.{iff_false}
-use Rattle.std.proofs.lemmas.List.Sorted.{All-permutation, IsPermutation-trans}
-use Rattle.places.specs.Heaps.{IsNumbered, IsSinking, place_at, rank_at}
+use Rattle.places.proofs.Common.{length, sym, subst, arith, iff_false, All-permutation, IsPermutation-trans, IsNumbered, IsSinking, place_at, rank_at}
 use Rattle.places.proofs.Ranks.{rank-before, not-before-rank, ranks-swapped, sink-step, sunk-here, sunk-down}
 use Rattle.places.proofs.heap.sink.Goals as goal
 

@@ -1,6 +1,4 @@
-use Rattle.std.proofs.Common.{◌-◌, ◌≤◌, length, All}
-use Rattle.std.specs.List.Sorted.{IsPermutation}
-use Rattle.places.specs.Heaps.{IsNumbered, IsSinking, rank_at}
+use Rattle.places.proofs.Common.{◌-◌, ◌≤◌, length, All, IsPermutation, IsNumbered, IsSinking, rank_at}
 use Rattle.places.proofs.heap.sink.Given as goal
 
 abbrev pub invariant-loop-below : goal.invariant-loop-below

@@ -1,8 +1,5 @@
 -- Each turn gives one more number its label, and at the end all have theirs.
-use Rattle.std.proofs.Common.{◌≡◌, suc, ◌+◌, ◌*◌, ◌<◌, length, get_or, subst, sym, ap, ◌∙◌, arith, length-set}
-use Rattle.places.specs.declared.links.Node.{Node}
-use Rattle.places.specs.Orders.{none}
-use Rattle.places.specs.Links.{node_of, numbers_from}
+use Rattle.places.proofs.Common.{◌≡◌, suc, ◌+◌, ◌*◌, ◌<◌, length, get_or, subst, sym, ap, ◌∙◌, arith, length-set, Node, none, node_of, numbers_from}
 use Rattle.places.proofs.Linking.{linked-within, linked-after}
 use Rattle.places.proofs.Labelling.{SameLinks, AreLabelled, relabelled}
 use Rattle.places.proofs.NodeWrites.{labels-more}

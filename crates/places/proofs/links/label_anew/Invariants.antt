@@ -1,6 +1,4 @@
-use Rattle.std.proofs.Common.{◌≡◌, ◌*◌, get_or}
-use Rattle.places.specs.Orders.{none}
-use Rattle.places.specs.Links.{numbers_from}
+use Rattle.places.proofs.Common.{◌≡◌, ◌*◌, get_or, none, numbers_from}
 use Rattle.places.proofs.Labelling.{SameLinks, AreLabelled}
 use Rattle.places.proofs.links.label_anew.Given as goal
 

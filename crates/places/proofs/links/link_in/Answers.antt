@@ -1,5 +1,4 @@
-use Rattle.std.proofs.Common.{ap, ◌∙◌}
-use Rattle.places.specs.Links.{with_after}
+use Rattle.places.proofs.Common.{ap, ◌∙◌, with_after}
 use Rattle.places.proofs.links.link_in.Goals as goal
 
 pub returns : goal.returns

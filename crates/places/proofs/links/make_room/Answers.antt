@@ -1,7 +1,5 @@
 -- Each label is above its predecessor's, and by more than 1 once labels are given anew.
-use Rattle.std.proofs.Common.{◌≡◌, ap, ◌∙◌, arith}
-use Rattle.places.specs.declared.links.Node.{Node}
-use Rattle.places.specs.Links.{node_of, numbers_from}
+use Rattle.places.proofs.Common.{◌≡◌, ap, ◌∙◌, arith, Node, node_of, numbers_from}
 use Rattle.places.proofs.Labelling.{listing-less, listing-room}
 use Rattle.places.proofs.links.make_room.Goals as goal
 

@@ -1,4 +1,4 @@
-use Rattle.std.proofs.lemmas.List.{get_or_default}
+use Rattle.places.proofs.Common.{get_or_default}
 use Rattle.places.proofs.links.node_at.Goals as goal
 
 pub returns : goal.returns

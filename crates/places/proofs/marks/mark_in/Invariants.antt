@@ -1,5 +1,4 @@
-use Rattle.std.proofs.Common.{◌+◌, ◌-◌, length}
-use Rattle.places.specs.Sets.{AreSameMarks}
+use Rattle.places.proofs.Common.{◌+◌, ◌-◌, length, AreSameMarks}
 use Rattle.places.proofs.marks.mark_in.Given as goal
 
 abbrev pub invariant-loop-row : goal.invariant-loop-row

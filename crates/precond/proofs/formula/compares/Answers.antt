@@ -1,11 +1,4 @@
-use Rattle.std.proofs.Common.{◌≡◌, ℕ, Bool, true, false, refl, ap, ◌∙◌}
-use Rattle.std.specs.Prelude.{◌==◌, if◌then◌else◌}
-use Rattle.ops.specs.Number.{Number}
-use Rattle.ops.specs.Comparison.{comparison, holds}
-use Rattle.ops.specs.declared.comparison.Pred.{Pred}
-use Rattle.ops.specs.declared.value.Value.{Value}
-use Rattle.ops.specs.declared.value.Value.TheVariants.{Poison, Bits}
-use Rattle.rule_core.specs.Terms.{compares}
+use Rattle.precond.proofs.Common.{◌≡◌, ℕ, Bool, true, false, refl, ap, ◌∙◌, ◌==◌, if◌then◌else◌, Number, comparison, holds, Pred, Value, Poison, Bits, compares}
 use Rattle.precond.proofs.formula.compares.Goals as goal
 
 -- the value is the number 1

@@ -1,5 +1,4 @@
-use Rattle.std.proofs.Common.{refl, arith}
-use Rattle.std.proofs.lemmas.Option.{slice_get_read}
+use Rattle.precond.proofs.Common.{refl, arith, slice_get_read}
 use Rattle.precond.proofs.Numbered.{none_refuses, one_more, all_numbers}
 use Rattle.precond.proofs.precondition.have_numbers.Goals as goal
 

@@ -1,14 +1,4 @@
-use Rattle.std.proofs.Common.{◌≡◌, ℕ, List, length, take, ap, arith}
-use Rattle.ops.specs.Number.{Number}
-use Rattle.ops.specs.declared.value.Value.{Value}
-use Rattle.rule_core.specs.declared.rule.Rule.{Rule}
-use Rattle.rule_core.specs.declared.rule.Formula.{Formula}
-use Rattle.rule_core.specs.Checks.{IsRule}
-use Rattle.rule_core.specs.Typing.{IsTyping}
-use Rattle.rule_core.specs.Valid.{ConstantsFit}
-use Rattle.rule_core.specs.Terms.{constant_values}
-use Rattle.rule_core.proofs.Weights.{few_formulas}
-use Rattle.precond.specs.Readiness.{AreReady}
+use Rattle.precond.proofs.Common.{◌≡◌, ℕ, List, length, take, ap, arith, Number, Value, Rule, Formula, IsRule, IsTyping, ConstantsFit, constant_values, few_formulas, AreReady}
 use Rattle.precond.proofs.Ready.{formulas_ready}
 use Rattle.precond.proofs.precondition.holds.Goals as goal
 

@@ -1,12 +1,5 @@
-use Rattle.std.proofs.Common.{◌≡◌, ℕ, ◌+◌, ◌<◌, Bool, List, length, take, ◌∙◌, arith, get_or}
-use Rattle.std.proofs.Math.ListN.{set}
-use Rattle.std.proofs.lemmas.List.{length-set}
-use Rattle.std.proofs.lemmas.Option.{slice_get-get_or}
-use Rattle.ops.specs.declared.comparison.Pred.TheVariants.{Eq}
-use Rattle.ops.specs.declared.value.Value.{Value}
-use Rattle.rule_core.specs.declared.rule.Formula.{Formula}
+use Rattle.precond.proofs.Common.{◌≡◌, ℕ, ◌+◌, ◌<◌, Bool, List, length, take, ◌∙◌, arith, get_or, set, length-set, slice_get-get_or, Eq, Value, Formula, formula_holds, truths_of}
 use Rattle.rule_core.specs.declared.rule.Formula.TheVariants as formulas
-use Rattle.rule_core.specs.Terms.{formula_holds, truths_of}
 use Rattle.precond.proofs.Stored.{stored}
 use Rattle.precond.proofs.precondition.last_holds.Goals as goal
 

@@ -1,5 +1,4 @@
-use Rattle.std.proofs.Common.{◌≡◌, take, length}
-use Rattle.rule_core.specs.Terms.{truths_of}
+use Rattle.precond.proofs.Common.{◌≡◌, take, length, truths_of}
 use Rattle.precond.proofs.precondition.last_holds.Given as goal
 
 abbrev pub invariant-loop-n : goal.invariant-loop-n

@@ -1,5 +1,4 @@
-use Rattle.std.proofs.Common.{◌≡◌, take, length}
-use Rattle.rule_core.specs.Terms.{of_constants, values_of}
+use Rattle.precond.proofs.Common.{◌≡◌, take, length, of_constants, values_of}
 use Rattle.precond.proofs.values.constant_values.Given as goal
 
 abbrev pub invariant-loop-n : goal.invariant-loop-n

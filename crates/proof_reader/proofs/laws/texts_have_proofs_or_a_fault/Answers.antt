@@ -1,10 +1,4 @@
-use Rattle.std.proofs.Common.{ℕ, List, take, subst}
-use Rattle.rule_core.specs.declared.rule.Rule.{Rule}
-use Rattle.proof_text.specs.declared.proof.Proof.{Proof}
-use Rattle.proof_text.specs.declared.fault.LogFaultKind.{LogFaultKind}
-use Rattle.proof_text.specs.Faults.{LogFault}
-use Rattle.proof_text.specs.Laws.{TextsHaveOneReading}
-use Rattle.proof_reader.specs.Faults.{IsGood, AreGood, IsBad, unknown, badly_typed, repeated, IsAtProof, IsTextOfGood, IsFault, of_text, of_proof}
+use Rattle.proof_reader.proofs.Common.{ℕ, List, take, subst, Rule, Proof, LogFaultKind, LogFault, TextsHaveOneReading, IsGood, AreGood, IsBad, unknown, badly_typed, repeated, IsAtProof, IsTextOfGood, IsFault, of_text, of_proof}
 use Rattle.proof_reader.proofs.laws.texts_have_proofs_or_a_fault.Goals as goal
 
 -- no proof is both good and bad

@@ -1,4 +1,4 @@
-use Rattle.std.proofs.Common.{◌∙◌}
+use Rattle.proof_reader.proofs.Common.{◌∙◌}
 use Rattle.proof_reader.proofs.names.place_of.Goals as goal
 
 pub returns : goal.returns

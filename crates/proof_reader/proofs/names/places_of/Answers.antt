@@ -1,6 +1,4 @@
-use Rattle.std.proofs.Common.{[], ◌+◌, refl, subst, sym, take}
-use Rattle.std.specs.Str.{bytes_eq}
-use Rattle.std.specs.Map.{lookup}
+use Rattle.proof_reader.proofs.Common.{[], ◌+◌, refl, subst, sym, take, bytes_eq, lookup}
 use Rattle.proof_reader.proofs.RuleNames.{Known, known_none, known_more, read_at}
 use Rattle.proof_reader.proofs.names.places_of.Goals as goal
 

@@ -1,6 +1,5 @@
 -- the map has the places of the rules so far
-use Rattle.std.proofs.Common.{take}
-use Rattle.proof_reader.specs.Names.{ArePlaces}
+use Rattle.proof_reader.proofs.Common.{take, ArePlaces}
 use Rattle.proof_reader.proofs.names.places_of.Given as goal
 
 abbrev pub invariant-loop-place : goal.invariant-loop-place

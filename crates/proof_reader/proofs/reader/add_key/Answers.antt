@@ -1,5 +1,4 @@
-use Rattle.std.proofs.Common.{Bool, [], ◌∷◌, ◌++◌, if◌then◌else◌, ap, refl, ◌∙◌}
-use Rattle.proof_reader.specs.Reading.{Key}
+use Rattle.proof_reader.proofs.Common.{Bool, [], ◌∷◌, ◌++◌, if◌then◌else◌, ap, refl, ◌∙◌, Key}
 use Rattle.proof_reader.proofs.Keys.{lacked, had}
 use Rattle.proof_reader.proofs.reader.add_key.Goals as goal
 

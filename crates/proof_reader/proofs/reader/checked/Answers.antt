@@ -1,16 +1,4 @@
-use Rattle.std.proofs.Common.{◌≡◌, ℕ, List, [], ◌∷◌, ◌++◌, map, sym, subst, ap, refl}
-use Rattle.std.specs.Prelude.{Result, Ok, Err, IfOk, OnOk}
-use Rattle.std.proofs.lemmas.Result.{IfErr-weaker, err_from_is_err_and}
-use Rattle.rule_core.specs.Checks.{AreDistinct}
-use Rattle.rule_core.specs.Typing.{IsTyping}
-use Rattle.rule_core.specs.declared.rule.Rule.{Rule}
-use Rattle.proof_text.specs.declared.fault.LogFaultKind.TheVariants.{Repeated}
-use Rattle.proof_text.specs.declared.proof.Proof.{Proof}
-use Rattle.proof_text.specs.Faults.{LogFault}
-use Rattle.proof_reader.specs.declared.proof.RuleProof.{RuleProof}
-use Rattle.proof_reader.specs.Names.{HasNameAt}
-use Rattle.proof_reader.specs.Faults.{IsBad, repeated}
-use Rattle.proof_reader.specs.Reading.{Key, IsProofOf, IsTypedAt, AreKeysOf, AddsKey, HasKey, TakesProof, RefusesProof}
+use Rattle.proof_reader.proofs.Common.{◌≡◌, ℕ, List, [], ◌∷◌, ◌++◌, map, sym, subst, ap, refl, Result, Ok, Err, IfOk, OnOk, IfErr-weaker, err_from_is_err_and, AreDistinct, IsTyping, Rule, Repeated, Proof, LogFault, RuleProof, HasNameAt, IsBad, repeated, Key, IsProofOf, IsTypedAt, AreKeysOf, AddsKey, HasKey, TakesProof, RefusesProof}
 use Rattle.proof_reader.proofs.Keys.{found, lost, keys_more}
 use Rattle.proof_reader.proofs.Refusing.{IfRefused-weaker}
 use Rattle.proof_reader.proofs.reader.checked.Goals as goal

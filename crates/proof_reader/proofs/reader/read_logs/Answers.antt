@@ -1,7 +1,4 @@
-use Rattle.std.proofs.Common.{List, subst}
-use Rattle.std.proofs.lemmas.Result.{IfOk-weaker, IfErr-weaker}
-use Rattle.proof_text.specs.Faults.{IsTextOf}
-use Rattle.proof_reader.specs.Faults.{IsFault, of_proof}
+use Rattle.proof_reader.proofs.Common.{List, subst, IfOk-weaker, IfErr-weaker, IsTextOf, IsFault, of_proof}
 use Rattle.proof_reader.proofs.Refusing.{IfRefused-weaker}
 use Rattle.proof_reader.proofs.reader.read_logs.Goals as goal
 

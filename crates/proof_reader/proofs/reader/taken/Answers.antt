@@ -1,13 +1,5 @@
-use Rattle.std.proofs.Common.{◌≡◌, ◌+◌, List, [], ◌∷◌, ◌++◌, sym, ap, subst, ◌∙◌, append_assoc, arith}
-use Rattle.std.specs.List.{AllZip}
-use Rattle.std.specs.Vec.Iter.{into_iter_items}
-use Rattle.std.proofs.lemmas.List.{append-nil, nil_from_length}
-use Rattle.std.proofs.lemmas.Result.{err_from_is_err_and}
-use Rattle.proof_text.specs.declared.proof.Proof.{Proof}
-use Rattle.proof_text.specs.Faults.{LogFault, IsTextOf}
-use Rattle.proof_text.specs.Texts.{text_of}
-use Rattle.proof_reader.specs.Faults.{AreGood, IsAtProof}
-use Rattle.proof_reader.specs.Reading.{IsProofOf, AreKeysOf, RefusesProof}
+use Rattle.proof_reader.proofs.Common.{◌≡◌, ◌+◌, List, [], ◌∷◌, ◌++◌, sym, ap, subst, ◌∙◌, arith, AllZip, into_iter_items, append-nil, nil_from_length, err_from_is_err_and, Proof, LogFault, IsTextOf, text_of, AreGood, IsAtProof, IsProofOf, AreKeysOf, RefusesProof}
+use Rattle.std.proofs.Common.{append_assoc}
 use Rattle.proof_reader.proofs.Growing.{bad_next, few_lines, well_formed_at}
 use Rattle.proof_reader.proofs.Refusing.{IfRefused-weaker}
 use Rattle.proof_reader.proofs.reader.taken.Goals as goal

@@ -1,6 +1,4 @@
-use Rattle.std.proofs.Common.{◌≡◌, ◌++◌}
-use Rattle.std.specs.Vec.Iter.{into_iter_items}
-use Rattle.proof_reader.specs.Reading.{AreTaken}
+use Rattle.proof_reader.proofs.Common.{◌≡◌, ◌++◌, into_iter_items, AreTaken}
 use Rattle.proof_reader.proofs.reader.taken.Given as goal
 
 -- the proofs so far are resolved, the others remain

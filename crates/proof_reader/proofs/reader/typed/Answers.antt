@@ -1,10 +1,4 @@
-use Rattle.std.proofs.Common.{◌≡◌, ℕ, List, sym, subst, ap, ◌∙◌, refl}
-use Rattle.std.proofs.lemmas.Option.{slice_get_within, same_Some}
-use Rattle.rule_core.specs.declared.rule.Rule.{Rule}
-use Rattle.rule_core.specs.Typing.{IsTyping}
-use Rattle.rule_typing.specs.Classes.{IsClassified}
-use Rattle.proof_reader.specs.Names.{IsNamed, HasNameAt}
-use Rattle.proof_reader.specs.Faults.{unknown, badly_typed}
+use Rattle.proof_reader.proofs.Common.{◌≡◌, ℕ, List, sym, subst, ap, ◌∙◌, refl, slice_get_within, same_Some, Rule, IsTyping, IsClassified, IsNamed, HasNameAt, unknown, badly_typed}
 use Rattle.proof_reader.proofs.RuleNames.{read_at, same_rule}
 use Rattle.proof_reader.proofs.reader.typed.Goals as goal
 

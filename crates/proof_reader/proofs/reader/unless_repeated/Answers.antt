@@ -1,5 +1,4 @@
-use Rattle.std.proofs.Common.{◌∙◌}
-use Rattle.std.proofs.lemmas.Result.{err_from_is_err_and}
+use Rattle.proof_reader.proofs.Common.{◌∙◌, err_from_is_err_and}
 use Rattle.proof_reader.proofs.Refusing.{IfRefused-weaker}
 use Rattle.proof_reader.proofs.reader.unless_repeated.Goals as goal
 

@@ -1,5 +1,5 @@
 -- the widths so far
-use Rattle.std.proofs.Common.{◌≡◌, take}
+use Rattle.proof_reader.proofs.Common.{◌≡◌, take}
 use Rattle.proof_reader.proofs.reader.widths_of.Given as goal
 
 abbrev pub invariant-loop-number : goal.invariant-loop-number

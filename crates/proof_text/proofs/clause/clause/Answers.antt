@@ -1,5 +1,4 @@
-use Rattle.std.proofs.Common.{false, rules}
-use Rattle.proof_text.specs.Reading.{Clauses, Literals, Takes}
+use Rattle.proof_text.proofs.Common.{false, rules, Clauses, Literals, Takes}
 use Rattle.proof_text.proofs.Readings.{passes}
 use Rattle.proof_text.proofs.StepReadings.{clause_stops}
 use Rattle.proof_text.proofs.clause.clause.Goals as goal

@@ -1,4 +1,4 @@
-use Rattle.std.proofs.Common.{length}
+use Rattle.proof_text.proofs.Common.{length}
 use Rattle.proof_text.proofs.StepReadings.{ClauseSoFar}
 use Rattle.proof_text.proofs.clause.clause.Given as goal
 

@@ -1,5 +1,4 @@
-use Rattle.proof_text.specs.Limits.{most_variable}
-use Rattle.proof_text.specs.Reading.{Literals, Numbers}
+use Rattle.proof_text.proofs.Common.{most_variable, Literals, Numbers}
 use Rattle.proof_text.proofs.Decodings.{no_digit_32}
 use Rattle.proof_text.proofs.Readings.{passes}
 use Rattle.proof_text.proofs.StepReadings.{literal_stops}

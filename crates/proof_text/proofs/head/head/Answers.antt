@@ -1,5 +1,4 @@
-use Rattle.std.proofs.Common.{◌≡◌, [], ◌∷◌, codes, None, rules}
-use Rattle.proof_text.specs.Reading.{Heads, Fixed}
+use Rattle.proof_text.proofs.Common.{◌≡◌, [], ◌∷◌, codes, None, rules, Heads, Fixed}
 use Rattle.proof_text.proofs.Readings.{passes}
 use Rattle.proof_text.proofs.HeadReadings.{word_stops, other_line, feed_stops, none_is}
 use Rattle.proof_text.proofs.head.head.Goals as goal

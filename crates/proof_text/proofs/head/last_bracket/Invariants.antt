@@ -1,5 +1,4 @@
-use Rattle.std.proofs.Common.{◌≤◌, length, drop}
-use Rattle.proof_text.specs.Reading.{Lacks}
+use Rattle.proof_text.proofs.Common.{◌≤◌, length, drop, Lacks}
 use Rattle.proof_text.proofs.head.last_bracket.Given as goal
 
 abbrev pub invariant-loop-place : goal.invariant-loop-place

@@ -1,5 +1,4 @@
-use Rattle.std.proofs.Common.{◌≡◌, [], ◌∷◌, ◌++◌, None, rules}
-use Rattle.proof_text.specs.Reading.{Lacks}
+use Rattle.proof_text.proofs.Common.{◌≡◌, [], ◌∷◌, ◌++◌, None, rules, Lacks}
 use Rattle.proof_text.proofs.HeadReadings.{no_parts, no_line, none_is}
 use Rattle.proof_text.proofs.head.name_and_widths.Goals as goal
 

@@ -1,4 +1,4 @@
-use Rattle.std.proofs.Common.{◌≡◌, false, rules}
+use Rattle.proof_text.proofs.Common.{◌≡◌, false, rules}
 use Rattle.proof_text.proofs.HeadReadings.{not_all}
 use Rattle.proof_text.proofs.Readings.{not_empty}
 use Rattle.proof_text.proofs.head.widths.Goals as goal

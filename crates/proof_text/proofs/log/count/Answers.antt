@@ -1,5 +1,4 @@
-use Rattle.std.proofs.Common.{◌^◌, ◌-◌, codes}
-use Rattle.proof_text.specs.Reading.{Logs, Fixed, Numbers}
+use Rattle.proof_text.proofs.Common.{◌^◌, ◌-◌, codes, Logs, Fixed, Numbers}
 use Rattle.proof_text.proofs.Decodings.{no_digit_10}
 use Rattle.proof_text.proofs.Readings.{passes}
 use Rattle.proof_text.proofs.LogReadings.{log_stops, count_stops}

@@ -1,6 +1,4 @@
-use Rattle.std.proofs.Common.{◌≡◌, ◌<◌, ◌≤◌, List, [], ◌∷◌, ◌++◌, length, sym, subst, rules, arith}
-use Rattle.clauses.specs.declared.step.Step.{Step}
-use Rattle.proof_text.specs.Reading.{Logs, Steps}
+use Rattle.proof_text.proofs.Common.{◌≡◌, ◌<◌, ◌≤◌, List, [], ◌∷◌, ◌++◌, length, sym, subst, rules, arith, Step, Logs, Steps}
 use Rattle.proof_text.proofs.Readings.{pass, passes}
 use Rattle.proof_text.proofs.LogReadings.{LogSoFar, log_more, log_done, step_in_log_stops}
 use Rattle.proof_text.proofs.log.log.Goals as goal

@@ -1,4 +1,4 @@
-use Rattle.std.proofs.Common.{length}
+use Rattle.proof_text.proofs.Common.{length}
 use Rattle.proof_text.proofs.LogReadings.{LogSoFar}
 use Rattle.proof_text.proofs.log.log.Given as goal
 

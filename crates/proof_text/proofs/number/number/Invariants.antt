@@ -1,4 +1,4 @@
-use Rattle.std.proofs.Common.{length}
+use Rattle.proof_text.proofs.Common.{length}
 use Rattle.proof_text.proofs.NumberReadings.{SoFar}
 use Rattle.proof_text.proofs.number.number.Given as goal
 

@@ -1,8 +1,4 @@
-use Rattle.std.proofs.Common.{◌≡◌, List, [], ◌∷◌, ◌++◌, ℕ, sym, subst, rules}
-use Rattle.proof_text.specs.Texts.{widths_text}
-use Rattle.proof_text.specs.WellFormed.{AreWidths}
-use Rattle.proof_text.specs.Limits.{most_number}
-use Rattle.proof_text.specs.Reading.{Lists, Numbers}
+use Rattle.proof_text.proofs.Common.{◌≡◌, List, [], ◌∷◌, ◌++◌, ℕ, sym, subst, rules, widths_text, AreWidths, most_number, Lists, Numbers}
 use Rattle.proof_text.proofs.Decodings.{no_digit_32}
 use Rattle.proof_text.proofs.Readings.{passes}
 use Rattle.proof_text.proofs.StepReadings.{list_stops, list_done}

@@ -1,4 +1,4 @@
-use Rattle.std.proofs.Common.{length}
+use Rattle.proof_text.proofs.Common.{length}
 use Rattle.proof_text.proofs.StepReadings.{ListSoFar}
 use Rattle.proof_text.proofs.numbers.numbers.Given as goal
 

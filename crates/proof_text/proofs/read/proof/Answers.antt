@@ -1,4 +1,4 @@
-use Rattle.proof_text.specs.Reading.{Proofs, Heads, Logs}
+use Rattle.proof_text.proofs.Common.{Proofs, Heads, Logs}
 use Rattle.proof_text.proofs.Readings.{passes}
 use Rattle.proof_text.proofs.LogReadings.{head_in_proof_stops, log_in_proof_stops}
 use Rattle.proof_text.proofs.read.proof.Goals as goal

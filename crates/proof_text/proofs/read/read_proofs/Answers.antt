@@ -1,6 +1,4 @@
-use Rattle.std.proofs.Common.{◌≡◌, ◌≤◌, false, length, rules}
-use Rattle.proof_text.specs.Limits.{most_bytes}
-use Rattle.proof_text.specs.Reading.{Stops, Proofs}
+use Rattle.proof_text.proofs.Common.{◌≡◌, ◌≤◌, false, length, rules, most_bytes, Stops, Proofs}
 use Rattle.proof_text.proofs.Readings.{not_empty}
 use Rattle.proof_text.proofs.TextReadings.{fault_is}
 use Rattle.proof_text.proofs.read.read_proofs.Goals as goal

@@ -1,4 +1,4 @@
-use Rattle.std.proofs.Common.{length}
+use Rattle.proof_text.proofs.Common.{length}
 use Rattle.proof_text.proofs.TextReadings.{TextSoFar}
 use Rattle.proof_text.proofs.read.read_proofs.Given as goal
 

@@ -1,5 +1,4 @@
-use Rattle.std.proofs.Common.{◌≡◌, false, [], ◌∷◌, rules}
-use Rattle.proof_text.specs.Reading.{Hints, Fixed, Takes}
+use Rattle.proof_text.proofs.Common.{◌≡◌, false, [], ◌∷◌, rules, Hints, Fixed, Takes}
 use Rattle.proof_text.proofs.Decodings.{no_digit_10}
 use Rattle.proof_text.proofs.Readings.{passes}
 use Rattle.proof_text.proofs.StepReadings.{blank_stops, hints_ok, hints_err}

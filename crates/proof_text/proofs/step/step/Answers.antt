@@ -1,4 +1,4 @@
-use Rattle.proof_text.specs.Reading.{Steps, Clauses, Hints}
+use Rattle.proof_text.proofs.Common.{Steps, Clauses, Hints}
 use Rattle.proof_text.proofs.Readings.{passes}
 use Rattle.proof_text.proofs.StepReadings.{step_stops, step_stops_later}
 use Rattle.proof_text.proofs.step.step.Goals as goal

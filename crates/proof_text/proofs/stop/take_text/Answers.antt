@@ -1,5 +1,4 @@
-use Rattle.proof_text.specs.Reading.{Fixed}
-use Rattle.std.proofs.Common.{refl}
+use Rattle.proof_text.proofs.Common.{Fixed, refl}
 use Rattle.proof_text.proofs.Readings.{pass, text_stops_in}
 use Rattle.proof_text.proofs.stop.take_text.Goals as goal
 

@@ -1,4 +1,4 @@
-use Rattle.std.proofs.Common.{◌≡◌, ◌++◌, take}
+use Rattle.proof_text.proofs.Common.{◌≡◌, ◌++◌, take}
 use Rattle.proof_text.proofs.stop.take_text.Given as goal
 
 abbrev pub invariant-loop-byte : goal.invariant-loop-byte

@@ -1,5 +1,4 @@
-use Rattle.std.proofs.Common.{◌≡◌, ◌++◌, take, flat_map, codes}
-use Rattle.proof_text.specs.Texts.{literal_text}
+use Rattle.proof_text.proofs.Common.{◌≡◌, ◌++◌, take, flat_map, codes, literal_text}
 use Rattle.proof_text.proofs.write.push_clause.Given as goal
 
 abbrev pub invariant-loop-literal : goal.invariant-loop-literal

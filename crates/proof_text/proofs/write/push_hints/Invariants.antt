@@ -1,5 +1,4 @@
-use Rattle.std.proofs.Common.{◌≡◌, ◌++◌, take, flat_map, codes}
-use Rattle.proof_text.specs.Numerals.{numeral}
+use Rattle.proof_text.proofs.Common.{◌≡◌, ◌++◌, take, flat_map, codes, numeral}
 use Rattle.proof_text.proofs.write.push_hints.Given as goal
 
 abbrev pub invariant-loop-hint : goal.invariant-loop-hint

@@ -1,6 +1,4 @@
-use Rattle.std.proofs.Common.{◌≡◌, ◌++◌, take, length, flat_map, codes}
-use Rattle.proof_text.specs.Numerals.{numeral}
-use Rattle.proof_text.specs.Texts.{step_text}
+use Rattle.proof_text.proofs.Common.{◌≡◌, ◌++◌, take, length, flat_map, codes, numeral, step_text}
 use Rattle.proof_text.proofs.write.push_log.Given as goal
 
 abbrev pub invariant-loop-step : goal.invariant-loop-step

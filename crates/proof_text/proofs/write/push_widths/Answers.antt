@@ -1,5 +1,4 @@
-use Rattle.std.proofs.Common.{◌≡◌, ◌++◌, get_or}
-use Rattle.proof_text.specs.Numerals.{numeral}
+use Rattle.proof_text.proofs.Common.{◌≡◌, ◌++◌, get_or, numeral}
 use Rattle.proof_text.proofs.Lines.{first_width, next_width}
 use Rattle.proof_text.proofs.write.push_widths.Goals as goal
 use Rattle.proof_text.proofs.write.push_widths.Goals.{then-place-gt0+in_ok-push, else-place-gt0}

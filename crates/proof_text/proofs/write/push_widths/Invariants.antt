@@ -1,6 +1,4 @@
-use Rattle.std.proofs.Common.{◌≡◌, ◌++◌, take, map}
-use Rattle.std.specs.List.{join_with_byte}
-use Rattle.proof_text.specs.Numerals.{numeral}
+use Rattle.proof_text.proofs.Common.{◌≡◌, ◌++◌, take, map, join_with_byte, numeral}
 use Rattle.proof_text.proofs.write.push_widths.Given as goal
 
 abbrev pub invariant-loop-place : goal.invariant-loop-place

@@ -1,5 +1,4 @@
-use Rattle.std.proofs.Common.{◌≡◌, take, flat_map}
-use Rattle.proof_text.specs.Texts.{proof_text}
+use Rattle.proof_text.proofs.Common.{◌≡◌, take, flat_map, proof_text}
 use Rattle.proof_text.proofs.write.write_proofs.Given as goal
 
 abbrev pub invariant-loop-proof : goal.invariant-loop-proof

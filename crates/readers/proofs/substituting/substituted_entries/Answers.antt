@@ -1,7 +1,4 @@
-use Rattle.std.proofs.Common.{ℕ, ◌<◌, ◌∙◌, ap, sym, length, get_or, arith}
-use Rattle.ir_core.specs.declared.operand.Operand.{Operand}
-use Rattle.substitution.specs.Substitution.{substituted_operand}
-use Rattle.substitution.proofs.Mapping.{map_more}
+use Rattle.readers.proofs.Common.{ℕ, ◌<◌, ◌∙◌, ap, sym, length, get_or, arith, Operand, substituted_operand, map_more}
 use Rattle.readers.proofs.substituting.substituted_entries.Goals as goal
 
 pub loop-entry-preserved : goal.loop-entry-preserved

@@ -1,6 +1,5 @@
 -- the operands of the entries before the index are substituted
-use Rattle.substitution.specs.Substitution.{substituted_operand}
-use Rattle.substitution.proofs.Mapping.{Mapped}
+use Rattle.readers.proofs.Common.{substituted_operand, Mapped}
 use Rattle.readers.proofs.substituting.substituted_entries.Given as goal
 
 abbrev pub invariant-loop-entry : goal.invariant-loop-entry

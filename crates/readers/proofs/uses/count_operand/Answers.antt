@@ -1,5 +1,4 @@
-use Rattle.std.proofs.Common.{◌≡◌, ◌+◌, arith}
-use Rattle.use_counts.specs.Tables.{count_of}
+use Rattle.readers.proofs.Common.{◌≡◌, ◌+◌, arith, count_of}
 use Rattle.readers.proofs.Counting.{contains_operand, counted_other, counted_register}
 use Rattle.readers.proofs.uses.count_operand.Goals as goal
 

@@ -1,6 +1,5 @@
 -- the operands so far are counted
-use Rattle.std.proofs.Common.{take}
-use Rattle.readers.specs.Counts.{AreCounted, operands_at}
+use Rattle.readers.proofs.Common.{take, AreCounted, operands_at}
 use Rattle.readers.proofs.uses.count_reads.Given as goal
 
 abbrev pub invariant-loop-index : goal.invariant-loop-index

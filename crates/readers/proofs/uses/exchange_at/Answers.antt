@@ -1,6 +1,4 @@
-use Rattle.std.proofs.Common.{◌≡◌, [], List, ap, get_or, slice_set, ◌∙◌}
-use Rattle.std.proofs.lemmas.List.{get_or_default}
-use Rattle.places.specs.declared.place.Place.{Place}
+use Rattle.readers.proofs.Common.{◌≡◌, [], List, ap, get_or, slice_set, ◌∙◌, get_or_default, Place}
 use Rattle.readers.proofs.uses.exchange_at.Goals as goal
 
 pub returns-clause-was : goal.returns-clause-was

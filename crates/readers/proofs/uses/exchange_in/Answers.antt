@@ -1,5 +1,4 @@
-use Rattle.std.proofs.Common.{[], ◌∙◌}
-use Rattle.std.proofs.lemmas.List.{get_or_default}
+use Rattle.readers.proofs.Common.{[], ◌∙◌, get_or_default}
 use Rattle.readers.proofs.uses.exchange_in.Goals as goal
 
 pub returns-clause-was : goal.returns-clause-was

@@ -1,4 +1,4 @@
-use Rattle.std.proofs.Common.{◌-◌, arith}
+use Rattle.readers.proofs.Common.{◌-◌, arith}
 use Rattle.readers.proofs.Counting.{contains_operand, forgotten_register, counted_other, times_named}
 use Rattle.readers.proofs.uses.forget_operand.Goals as goal
 

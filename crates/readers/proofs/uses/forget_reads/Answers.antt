@@ -1,7 +1,4 @@
-use Rattle.std.proofs.Common.{List, subst, arith}
-use Rattle.std.proofs.lemmas.List.{take_all}
-use Rattle.ir_core.specs.declared.operand.Operand.{Operand}
-use Rattle.readers.specs.Counts.{AreCounted, operands_at}
+use Rattle.readers.proofs.Common.{List, subst, arith, take_all, Operand, AreCounted, operands_at}
 use Rattle.readers.proofs.Counting.{counted_none, forgotten_more, next_counted, next_number}
 use Rattle.readers.proofs.uses.forget_reads.Goals as goal
 

@@ -1,8 +1,4 @@
-use Rattle.std.proofs.Common.{[], List, ap, refl, slice_set, subst, ◌∙◌}
-use Rattle.std.proofs.lemmas.List.{get_or_default, set-get_or}
-use Rattle.std.proofs.lemmas.Result.{on_err_weaker, on_ok_weaker}
-use Rattle.readers.specs.Readers.{IsListedAmong}
-use Rattle.places.specs.declared.place.Place.{Place}
+use Rattle.readers.proofs.Common.{[], List, ap, refl, slice_set, subst, ◌∙◌, get_or_default, set-get_or, on_err_weaker, on_ok_weaker, IsListedAmong, Place}
 use Rattle.readers.proofs.uses.list_in.Goals as goal
 
 pub returns-clause-listed : goal.returns-clause-listed

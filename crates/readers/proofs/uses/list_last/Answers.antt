@@ -1,7 +1,4 @@
-use Rattle.std.proofs.Common.{List, Contains, subst, sym}
-use Rattle.std.proofs.lemmas.Result.{on_ok_weaker}
-use Rattle.readers.specs.Readers.{IsListedAmong}
-use Rattle.places.specs.declared.place.Place.{Place}
+use Rattle.readers.proofs.Common.{List, Contains, subst, sym, on_ok_weaker, IsListedAmong, Place}
 use Rattle.readers.proofs.Listing.{listed_again, listed_push}
 use Rattle.readers.proofs.uses.list_last.Goals as goal
 

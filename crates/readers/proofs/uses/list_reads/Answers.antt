@@ -1,9 +1,4 @@
-use Rattle.std.proofs.Common.{◌+◌, ◌<◌, List, length, sym, subst, arith, take}
-use Rattle.std.proofs.lemmas.List.{take_all}
-use Rattle.ir_core.specs.declared.operand.Operand.{Operand}
-use Rattle.readers.specs.Counts.{operands_at}
-use Rattle.readers.specs.Readers.{AreListed}
-use Rattle.readers.specs.declared.uses.Readers.{Readers}
+use Rattle.readers.proofs.Common.{◌+◌, ◌<◌, List, length, sym, subst, arith, take, take_all, Operand, operands_at, AreListed, Readers}
 use Rattle.readers.proofs.Listing.{listed_more, listed_none, listed_past, next_list}
 use Rattle.readers.proofs.uses.list_reads.Goals as goal
 use Rattle.readers.proofs.uses.list_reads.Goals.{in-Register+in_ok-list, in_default}

@@ -1,7 +1,5 @@
 -- the place is in the use lists of the operands so far
-use Rattle.std.proofs.Common.{take}
-use Rattle.readers.specs.Counts.{operands_at}
-use Rattle.readers.specs.Readers.{AreListed}
+use Rattle.readers.proofs.Common.{take, operands_at, AreListed}
 use Rattle.readers.proofs.uses.list_reads.Given as goal
 
 abbrev pub invariant-loop-index : goal.invariant-loop-index

@@ -1,9 +1,4 @@
-use Rattle.std.proofs.Common.{◌+◌, ◌++◌, ◌<◌, ◌≤◌, ◌∷◌, [], ◌∙◌, List, Vec, Global, length, sym, ap, subst, arith, take, vec_capacity, vec_len}
-use Rattle.std.specs.List.{filter_map}
-use Rattle.std.proofs.lemmas.List.{append-nil, append_assoc, take_all}
-use Rattle.ir_core.specs.declared.operand.Operand.{Operand}
-use Rattle.ir_core.specs.declared.operand.Register.{Register}
-use Rattle.readers.specs.Counts.{operands_at, register_of}
+use Rattle.readers.proofs.Common.{◌+◌, ◌++◌, ◌<◌, ◌≤◌, ◌∷◌, [], ◌∙◌, List, Vec, Global, length, sym, ap, subst, arith, take, vec_capacity, vec_len, filter_map, append-nil, append_assoc, take_all, Operand, Register, operands_at, register_of}
 use Rattle.readers.proofs.Listing.{other_taken, register_taken}
 use Rattle.readers.proofs.uses.push_reads.Goals as goal
 use Rattle.readers.proofs.uses.push_reads.Goals.{in-Register, in_default}

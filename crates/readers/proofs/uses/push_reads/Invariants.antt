@@ -1,7 +1,5 @@
 -- the registers so far are appended, and there is room for the rest
-use Rattle.std.proofs.Common.{◌≡◌, ◌+◌, ◌≤◌, ◌++◌, length, take, vec_capacity, vec_len}
-use Rattle.std.specs.List.{filter_map}
-use Rattle.readers.specs.Counts.{operands_at, register_of}
+use Rattle.readers.proofs.Common.{◌≡◌, ◌+◌, ◌≤◌, ◌++◌, length, take, vec_capacity, vec_len, filter_map, operands_at, register_of}
 use Rattle.readers.proofs.uses.push_reads.Given as goal
 
 abbrev pub invariant-loop-index : goal.invariant-loop-index

@@ -1,9 +1,5 @@
-use Rattle.std.proofs.Common.{◌≡◌, ◌+◌, ◌<◌, ◌∙◌, ℕ, List, Vec, Global, Contains, ap, length, sym, subst, take, arith}
-use Rattle.std.proofs.lemmas.Bool.{both_ways}
-use Rattle.std.proofs.lemmas.List.{take_all}
+use Rattle.readers.proofs.Common.{◌≡◌, ◌+◌, ◌<◌, ◌∙◌, ℕ, List, Vec, Global, Contains, ap, length, sym, subst, take, arith, both_ways, take_all, operands_at, Place}
 use Rattle.ir_core.specs.declared.operand.Operand.TheVariants as operands
-use Rattle.readers.specs.Counts.{operands_at}
-use Rattle.places.specs.declared.place.Place.{Place}
 use Rattle.readers.proofs.Listing.{Kept, kept_more, kept_past}
 use Rattle.readers.proofs.uses.readers_among.Goals as goal
 use Rattle.readers.proofs.uses.readers_among.Goals.{then-reads, else-reads}

@@ -1,6 +1,5 @@
 -- of the places so far those that read the register are kept
-use Rattle.readers.specs.Counts.{operands_at}
-use Rattle.std.specs.Prelude.{Contains}
+use Rattle.readers.proofs.Common.{operands_at, Contains}
 use Rattle.ir_core.specs.declared.operand.Operand.TheVariants as operands
 use Rattle.readers.proofs.Listing.{Kept}
 use Rattle.readers.proofs.uses.readers_among.Given as goal

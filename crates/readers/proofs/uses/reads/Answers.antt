@@ -1,8 +1,5 @@
-use Rattle.std.proofs.Common.{◌≡◌, ◌<◌, ◌∙◌, ℕ, true, inl, inr, ap, refl, sym, arith, length, get_or, List}
-use Rattle.std.proofs.lemmas.Bool.{both_ways, cases_eq, false≢true}
-use Rattle.ir_core.specs.declared.operand.Operand.{Operand}
+use Rattle.readers.proofs.Common.{◌≡◌, ◌<◌, ◌∙◌, ℕ, true, inl, inr, ap, refl, sym, arith, length, get_or, List, both_ways, cases_eq, false≢true, Operand, operands_at}
 use Rattle.ir_core.specs.declared.operand.Operand.TheVariants as operands
-use Rattle.readers.specs.Counts.{operands_at}
 use Rattle.readers.proofs.Listing.{found_at, not_found}
 use Rattle.readers.proofs.uses.reads.Goals as goal
 

@@ -1,7 +1,6 @@
 -- none of the operands so far is the register
-use Rattle.std.proofs.Common.{◌≡◌, ℕ, ◌<◌, get_or}
+use Rattle.readers.proofs.Common.{◌≡◌, ℕ, ◌<◌, get_or, operands_at}
 use Rattle.ir_core.specs.declared.operand.Operand.TheVariants as operands
-use Rattle.readers.specs.Counts.{operands_at}
 use Rattle.readers.proofs.uses.reads.Given as goal
 
 abbrev pub invariant-loop-index : goal.invariant-loop-index

@@ -1,7 +1,4 @@
-use Rattle.std.proofs.Common.{refl, sym, subst}
-use Rattle.ir_core.specs.declared.operand.Register.{Register}
-use Rattle.use_counts.specs.Tables.{HasNumber}
-use Rattle.readers.specs.Counts.{IsSetTo}
+use Rattle.readers.proofs.Common.{refl, sym, subst, Register, HasNumber, IsSetTo}
 use Rattle.readers.proofs.Tables.{parameter_set, result_set, row_within}
 use Rattle.readers.proofs.uses.set_count.Goals as goal
 

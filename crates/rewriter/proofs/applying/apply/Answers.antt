@@ -1,11 +1,4 @@
-use Rattle.std.proofs.Common.{◌≡◌, ◌<◌, ◌≤◌, ◌∙◌, length, sym, ap, subst, arith}
-use Rattle.ir_core.specs.Blocks.{HasInst, IsBlock}
-use Rattle.ir_core.specs.Checks.{IsInst}
-use Rattle.ir_core.specs.declared.function.Block.{Block}
-use Rattle.ir_core.specs.declared.instruction.Inst.{Inst}
-use Rattle.substitution.specs.Rewritten.{rewritten_function}
-use Rattle.substitution.specs.declared.rewrite.Rewrite.{Rewrite}
-use Rattle.rewriter.specs.Put.{rewrite_of}
+use Rattle.rewriter.proofs.Common.{◌≡◌, ◌<◌, ◌≤◌, ◌∙◌, length, sym, ap, subst, arith, HasInst, IsBlock, IsInst, Block, Inst, rewritten_function, Rewrite, rewrite_of}
 use Rattle.rewriter.proofs.Rooted.{on_ok, is_bound, root_there, has_root, most_put}
 use Rattle.rewriter.proofs.applying.apply.Goals as goal
 

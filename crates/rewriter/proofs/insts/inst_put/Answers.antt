@@ -1,16 +1,9 @@
 -- A statement as an instruction computes what its operation does.
-use Rattle.std.proofs.Common.{◌≡◌, ◌∙◌, ℕ, List, Option, Some, ap, map, refl}
-use Rattle.std.specs.Prelude.{option_to_list}
-use Rattle.ir_core.specs.Names.{Name}
-use Rattle.ir_core.specs.declared.instruction.Inst.{Inst}
+use Rattle.rewriter.proofs.Common.{◌≡◌, ◌∙◌, ℕ, List, Option, Some, ap, map, refl, option_to_list, Name, Inst, Copy, Rule, Binding, class_width, insts_of_op, results_put, op_put}
 use Rattle.ir_core.specs.declared.instruction.Op.{Op}
 use Rattle.ir_core.specs.declared.operand.Operand.{Operand}
 use Rattle.rule_core.specs.declared.rule.Op.{Op as RuleOp}
-use Rattle.rule_core.specs.declared.rule.Op.TheVariants.{Binary, Compare, Unary, Select, Convert, Freeze, Copy}
-use Rattle.rule_core.specs.declared.rule.Rule.{Rule}
-use Rattle.bindings.specs.declared.binding.Binding.{Binding}
-use Rattle.rewriter.specs.Put.{class_width, insts_of_op, results_put}
-use Rattle.rewriter.specs.Ready.{op_put}
+use Rattle.rule_core.specs.declared.rule.Op.TheVariants.{Binary, Compare, Unary, Select, Convert, Freeze}
 use Rattle.rewriter.proofs.insts.inst_put.Goals as goal
 
 abbrev one_of : Name → ℕ → Option Op → List Inst

@@ -1,6 +1,4 @@
-use Rattle.std.proofs.Common.{◌≡◌, ◌+◌, ◌-◌, ◌<◌, ◌∙◌, ℕ, List, None, ap, length, take, flat_map, get_or, refl, arith}
-use Rattle.rule_core.specs.declared.rule.Statement.{Statement}
-use Rattle.rewriter.specs.Put.{insts_with}
+use Rattle.rewriter.proofs.Common.{◌≡◌, ◌+◌, ◌-◌, ◌<◌, ◌∙◌, ℕ, List, None, ap, length, take, flat_map, get_or, refl, arith, Statement, insts_with}
 use Rattle.rewriter.proofs.Counting.{all_insts}
 use Rattle.rewriter.proofs.Taking.{ready_at, read_at}
 use Rattle.rewriter.proofs.insts.insts_put.Goals as goal

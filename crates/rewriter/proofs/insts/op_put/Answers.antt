@@ -1,4 +1,4 @@
-use Rattle.std.proofs.Common.{length, subst}
+use Rattle.rewriter.proofs.Common.{length, subst}
 use Rattle.rewriter.specs.Ready.{OpIsReady}
 use Rattle.rewriter.proofs.insts.op_put.Goals as goal
 

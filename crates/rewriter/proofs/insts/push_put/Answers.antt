@@ -1,5 +1,4 @@
-use Rattle.std.proofs.Common.{◌∙◌, List, ◌++◌, ap, sym, append-nil}
-use Rattle.ir_core.specs.declared.instruction.Inst.{Inst}
+use Rattle.rewriter.proofs.Common.{◌∙◌, List, ◌++◌, ap, sym, append-nil, Inst}
 use Rattle.rewriter.proofs.insts.push_put.Goals as goal
 
 pub returns-in_ok-push : goal.returns-in_ok-push

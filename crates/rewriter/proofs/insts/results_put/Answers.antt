@@ -1,9 +1,5 @@
-use Rattle.std.proofs.Common.{◌≡◌, ℕ, ◌+◌, ◌<◌, ◌∙◌, List, [], ◌∷◌, ◌++◌, length, take, Some, refl, sym, ap, subst, arith, get_or}
-use Rattle.std.specs.Prelude.{slice_get}
-use Rattle.std.proofs.lemmas.Option.{slice_get_read}
-use Rattle.rule_core.specs.declared.rule.Statement.{Statement}
+use Rattle.rewriter.proofs.Common.{◌≡◌, ℕ, ◌+◌, ◌<◌, ◌∙◌, List, [], ◌∷◌, ◌++◌, length, take, Some, refl, sym, ap, subst, arith, get_or, slice_get, slice_get_read, Statement, count_put, result_put}
 use Rattle.ir_core.specs.declared.operand.Operand.{Operand}
-use Rattle.rewriter.specs.Put.{count_put, result_put}
 use Rattle.rewriter.proofs.Counting.{ArePut, put_copied, put_other, all_put}
 use Rattle.rewriter.proofs.Readying.{statement_ready}
 use Rattle.rewriter.proofs.insts.results_put.Goals as goal

@@ -1,9 +1,6 @@
-use Rattle.std.proofs.Common.{◌≡◌, ◌-◌, ◌∙◌, List, ap, length, get_or, arith}
-use Rattle.ir_core.specs.declared.instruction.Inst.{Inst}
+use Rattle.rewriter.proofs.Common.{◌≡◌, ◌-◌, ◌∙◌, List, ap, length, get_or, arith, Inst, Rewrite, results_put, insts_put}
 use Rattle.ir_core.specs.declared.operand.Operand.{Operand}
 use Rattle.ir_core.specs.declared.operand.Operand.TheVariants as operands
-use Rattle.substitution.specs.declared.rewrite.Rewrite.{Rewrite}
-use Rattle.rewriter.specs.Put.{results_put, insts_put}
 use Rattle.rewriter.proofs.Taking.{last_is}
 use Rattle.rewriter.proofs.Counting.{results-length}
 use Rattle.rewriter.proofs.insts.rewrite_of.Goals as goal

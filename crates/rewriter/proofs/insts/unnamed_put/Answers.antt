@@ -1,7 +1,4 @@
-use Rattle.std.proofs.Common.{◌∙◌, ◌-◌, List, None, ap, length, take, flat_map}
-use Rattle.std.proofs.lemmas.List.{take_all}
-use Rattle.rule_core.specs.declared.rule.Statement.{Statement}
-use Rattle.rewriter.specs.Put.{insts_with}
+use Rattle.rewriter.proofs.Common.{◌∙◌, ◌-◌, List, None, ap, length, take, flat_map, take_all, Statement, insts_with}
 use Rattle.rewriter.proofs.Counting.{insts_more}
 use Rattle.rewriter.proofs.Taking.{ready_at, taken_from}
 use Rattle.rewriter.proofs.insts.unnamed_put.Goals as goal

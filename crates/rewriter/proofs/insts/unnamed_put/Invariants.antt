@@ -1,5 +1,4 @@
-use Rattle.std.proofs.Common.{◌≡◌, take, None, flat_map}
-use Rattle.rewriter.specs.Put.{insts_with}
+use Rattle.rewriter.proofs.Common.{◌≡◌, take, None, flat_map, insts_with}
 use Rattle.rewriter.proofs.insts.unnamed_put.Given as goal
 
 -- the instructions of the statements before the index

@@ -1,6 +1,4 @@
-use Rattle.std.proofs.Common.{◌<◌, ◌^◌, ◌∙◌, ap, sym, arith}
-use Rattle.std.proofs.Math.Pow.{pow-lt}
-use Rattle.rewriter.specs.Put.{argument_put}
+use Rattle.rewriter.proofs.Common.{◌<◌, ◌^◌, ◌∙◌, ap, sym, arith, pow-lt, argument_put}
 use Rattle.rewriter.proofs.TargetReads.{constant_put}
 use Rattle.rewriter.proofs.operands.argument_put.Goals as goal
 use Rattle.rewriter.proofs.operands.argument_put.Goals.{then-truth, else-truth}

@@ -1,9 +1,5 @@
-use Rattle.std.proofs.Common.{◌≡◌, ℕ, ◌<◌, Bool, false, List, [], length, refl, ap, ◌∙◌, zero-add}
-use Rattle.std.specs.Prelude.{not, ◌&&◌, ◌||◌, slice_index_or}
-use Rattle.ops.specs.declared.value.Value.{Value}
-use Rattle.rule_core.specs.declared.rule.Formula.{Formula}
+use Rattle.rule_core.proofs.Common.{◌≡◌, ℕ, ◌<◌, Bool, false, List, [], length, refl, ap, ◌∙◌, zero-add, not, ◌&&◌, ◌||◌, slice_index_or, Value, Formula, FormulaReadsBefore, formula_holds}
 use Rattle.rule_core.specs.declared.rule.Formula.TheVariants as formulas
-use Rattle.rule_core.specs.Terms.{FormulaReadsBefore, formula_holds}
 use Rattle.rule_core.proofs.Turns.{in_turn-length, settled}
 use Rattle.rule_core.proofs.laws.formulas_hold_as_they_read.Goals as goal
 

@@ -1,12 +1,5 @@
-use Rattle.std.proofs.Common.{◌≡◌, ℕ, ◌<◌, List, [], length, refl, ap, ◌∙◌, zero-add}
-use Rattle.std.specs.Prelude.{slice_index}
-use Rattle.ops.specs.Flags.{no_flags}
-use Rattle.ops.specs.Instruction.{instruction}
-use Rattle.ops.specs.declared.value.Value.{Value}
-use Rattle.ops.specs.declared.value.Value.TheVariants.{Poison}
-use Rattle.rule_core.specs.declared.rule.Node.{Node}
+use Rattle.rule_core.proofs.Common.{◌≡◌, ℕ, ◌<◌, List, [], length, refl, ap, ◌∙◌, zero-add, slice_index, no_flags, instruction, Value, Poison, Node, Meanings, ReadsBefore, value_at, value_given, function_value, node_gives, term_value}
 use Rattle.rule_core.specs.declared.rule.Node.TheVariants as nodes
-use Rattle.rule_core.specs.Terms.{Meanings, ReadsBefore, value_at, value_given, function_value, node_gives, term_value}
 use Rattle.rule_core.proofs.Turns.{in_turn-length, settled}
 use Rattle.rule_core.proofs.laws.nodes_give_their_values.Goals as goal
 

@@ -1,11 +1,4 @@
-use Rattle.std.proofs.Common.{◌≡◌, ℕ, ◌⊎◌, inl, inr, ap, sym, ◌∙◌}
-use Rattle.std.proofs.lemmas.Bool.{cases_eq}
-use Rattle.ops.specs.Number.{Number}
-use Rattle.ops.specs.Value.{AllowsValue, AllowsEffect}
-use Rattle.ops.specs.declared.value.Value.{Value}
-use Rattle.ops.specs.declared.value.Value.TheVariants.{Poison, Bits}
-use Rattle.ops.specs.declared.value.Effect.{Effect}
-use Rattle.ops.specs.declared.value.Effect.TheVariants.{Undefined, Gives}
+use Rattle.rule_core.proofs.Common.{◌≡◌, ℕ, ◌⊎◌, inl, inr, ap, sym, ◌∙◌, cases_eq, Number, AllowsValue, AllowsEffect, Value, Poison, Bits, Effect, Undefined, Gives}
 use Rattle.rule_core.proofs.laws.rules_without_counterexample_are_valid.Goals as goal
 
 same_number : (a b : Number) → a.width ≡ b.width → a.number ≡ b.number → Bits b ≡ Bits a

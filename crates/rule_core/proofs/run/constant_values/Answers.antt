@@ -1,17 +1,5 @@
-use Rattle.std.proofs.Common.{◌≡◌, ℕ, pos, ◌+◌, ◌<◌, List, [], ◌∷◌, ◌++◌, length, take, Some, sym, ap, ◌∙◌, arith, get_or}
-use Rattle.std.specs.Prelude.{slice_get}
-use Rattle.std.proofs.lemmas.List.{take_all}
-use Rattle.std.proofs.lemmas.Option.{slice_get-get_or}
-use Rattle.ops.specs.declared.value.Value.{Value}
-use Rattle.ops.specs.Number.{Number}
-use Rattle.rule_core.specs.declared.rule.Rule.{Rule}
-use Rattle.rule_core.specs.declared.rule.Term.{Term}
+use Rattle.rule_core.proofs.Common.{◌≡◌, ℕ, pos, ◌+◌, ◌<◌, List, [], ◌∷◌, ◌++◌, length, take, Some, sym, ap, ◌∙◌, arith, get_or, slice_get, take_all, slice_get-get_or, Value, Number, Rule, Term, IsRule, IsTyping, ConstantsFit, of_constants, term_value, values_of, TermIsReady}
 use Rattle.rule_core.specs.declared.rule.Node.TheVariants as nodes
-use Rattle.rule_core.specs.Checks.{IsRule}
-use Rattle.rule_core.specs.Typing.{IsTyping}
-use Rattle.rule_core.specs.Valid.{ConstantsFit}
-use Rattle.rule_core.specs.Terms.{of_constants, term_value, values_of}
-use Rattle.rule_core.specs.Readiness.{TermIsReady}
 use Rattle.rule_core.proofs.Turns.{in_turn-step}
 use Rattle.rule_core.proofs.Ready.{term_next}
 use Rattle.rule_core.proofs.run.constant_values.Goals as goal

@@ -1,5 +1,4 @@
-use Rattle.std.proofs.Common.{◌≡◌, take}
-use Rattle.rule_core.specs.Terms.{of_constants, values_of}
+use Rattle.rule_core.proofs.Common.{◌≡◌, take, of_constants, values_of}
 use Rattle.rule_core.proofs.run.constant_values.Given as goal
 
 abbrev pub invariant-loop-term : goal.invariant-loop-term

@@ -1,6 +1,4 @@
-use Rattle.std.proofs.Common.{◌≡◌, ◌∙◌, List, Option, None, Some, ap, subst}
-use Rattle.ops.specs.declared.value.Value.{Value}
-use Rattle.rule_core.specs.Readiness.{TargetRan}
+use Rattle.rule_core.proofs.Common.{◌≡◌, ◌∙◌, List, Option, None, Some, ap, subst, Value, TargetRan}
 use Rattle.rule_core.proofs.Returns.{after_ends, after_returns}
 use Rattle.rule_core.proofs.run.effect_after.Goals as goal
 

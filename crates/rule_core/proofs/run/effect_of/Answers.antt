@@ -1,15 +1,4 @@
-use Rattle.std.proofs.Common.{◌≡◌, ℕ, List, Some, sym, ◌∙◌}
-use Rattle.std.specs.Prelude.{slice_get}
-use Rattle.std.proofs.lemmas.Option.{same_Some}
-use Rattle.ops.specs.Value.{IsValueOf}
-use Rattle.ops.specs.Comparison.{selection}
-use Rattle.ops.specs.declared.value.Value.{Value}
-use Rattle.ops.proofs.Widths.{IsValueOf-selection}
-use Rattle.rule_core.specs.declared.rule.Statement.{Statement}
-use Rattle.rule_core.specs.declared.rule.Operand.{Operand}
-use Rattle.rule_core.specs.declared.rule.Op.TheVariants.{Select}
-use Rattle.rule_core.specs.Run.{Held, Given}
-use Rattle.rule_core.specs.Readiness.{seen, shown, StatementIsReady}
+use Rattle.rule_core.proofs.Common.{◌≡◌, ℕ, List, Some, sym, ◌∙◌, slice_get, same_Some, IsValueOf, selection, Value, IsValueOf-selection, Statement, Operand, Select, Held, Given, seen, shown, StatementIsReady}
 use Rattle.rule_core.proofs.run.effect_of.Goals as goal
 
 -- the value is of the class's width; arms of that width let a `select` give one

@@ -1,5 +1,4 @@
-use Rattle.std.proofs.Common.{◌≡◌, ◌∙◌, sym, arith}
-use Rattle.std.proofs.lemmas.Option.{same_Some}
+use Rattle.rule_core.proofs.Common.{◌≡◌, ◌∙◌, sym, arith, same_Some}
 use Rattle.rule_core.proofs.run.operand_value.Goals as goal
 use Rattle.rule_core.proofs.run.operand_value.Goals.{then-truth, else-truth}
 

@@ -1,4 +1,4 @@
-use Rattle.std.proofs.Common.{None, Some, take}
+use Rattle.rule_core.proofs.Common.{None, Some, take}
 use Rattle.rule_core.proofs.Givens.{GivenFits-at, source_given}
 use Rattle.rule_core.proofs.Returns.{terms_are, SourceRan-at, source_ends, source_returns}
 use Rattle.rule_core.proofs.run.run_source.Goals as goal

@@ -1,6 +1,4 @@
-use Rattle.std.proofs.Common.{sym, subst, ◌∙◌}
-use Rattle.rule_core.specs.Typing.{IsTyping}
-use Rattle.rule_core.specs.Valid.{InputsFit, ConstantsFit, TargetChoicesFit}
+use Rattle.rule_core.proofs.Common.{sym, subst, ◌∙◌, IsTyping, InputsFit, ConstantsFit, TargetChoicesFit}
 use Rattle.rule_core.proofs.run.run_target.Goals as goal
 
 pub constant_values-requires-clause-typing : goal.constant_values-requires-clause-typing

@@ -1,9 +1,4 @@
-use Rattle.std.proofs.Common.{ℕ, ◌≡◌, ◌<◌, List, length, take, Some, refl, arith, get_or}
-use Rattle.std.specs.Prelude.{slice_get}
-use Rattle.std.proofs.lemmas.Option.{slice_get_read}
-use Rattle.rule_core.specs.declared.rule.Statement.{Statement}
-use Rattle.rule_core.specs.Run.{Undefines, holding_source}
-use Rattle.rule_core.specs.Readiness.{shown}
+use Rattle.rule_core.proofs.Common.{ℕ, ◌≡◌, ◌<◌, List, length, take, Some, refl, arith, get_or, slice_get, slice_get_read, Statement, Undefines, holding_source, shown}
 use Rattle.rule_core.proofs.Givens.{Contains-take}
 use Rattle.rule_core.proofs.Ready.{source_next, ValuesFit-push}
 use Rattle.rule_core.proofs.Runs.{Follows-step-take}

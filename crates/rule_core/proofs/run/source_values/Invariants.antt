@@ -1,6 +1,4 @@
-use Rattle.std.proofs.Common.{◌≡◌, [], length, drop, take}
-use Rattle.rule_core.specs.Run.{Ending, Follows, holding_source, at_start}
-use Rattle.rule_core.specs.Readiness.{shown, ValuesFit}
+use Rattle.rule_core.proofs.Common.{◌≡◌, [], length, drop, take, Ending, Follows, holding_source, at_start, shown, ValuesFit}
 use Rattle.rule_core.proofs.run.source_values.Given as goal
 
 abbrev pub invariant-loop-place : goal.invariant-loop-place

@@ -1,8 +1,4 @@
-use Rattle.std.proofs.Common.{◌-◌, List, [], Option, None, Some, length, take, sym, ap, subst, ◌∙◌, arith}
-use Rattle.std.proofs.lemmas.Result.{IfOk-weaker}
-use Rattle.ops.specs.declared.value.Value.{Value}
-use Rattle.rule_core.specs.Run.{TargetGoesOn}
-use Rattle.rule_core.specs.Readiness.{GivenFits, SourceRan, ValuesFit}
+use Rattle.rule_core.proofs.Common.{◌-◌, List, [], Option, None, Some, length, take, sym, ap, subst, ◌∙◌, arith, IfOk-weaker, Value, TargetGoesOn, GivenFits, SourceRan, ValuesFit}
 use Rattle.rule_core.proofs.Givens.{given_before_root, target_given}
 use Rattle.rule_core.proofs.Returns.{target_ends, target_follows}
 use Rattle.rule_core.proofs.run.target_effect.Goals as goal

@@ -1,9 +1,4 @@
-use Rattle.std.proofs.Common.{ℕ, ◌≡◌, ◌<◌, List, length, Some, refl, ap, arith, get_or}
-use Rattle.std.specs.Prelude.{slice_get}
-use Rattle.std.proofs.lemmas.Option.{slice_get_read}
-use Rattle.rule_core.specs.declared.rule.Statement.{Statement}
-use Rattle.rule_core.specs.Run.{Undefines, holding_target}
-use Rattle.rule_core.specs.Readiness.{shown}
+use Rattle.rule_core.proofs.Common.{ℕ, ◌≡◌, ◌<◌, List, length, Some, refl, ap, arith, get_or, slice_get, slice_get_read, Statement, Undefines, holding_target, shown}
 use Rattle.rule_core.proofs.Ready.{target_next, ValuesFit-push}
 use Rattle.rule_core.proofs.Runs.{Follows-step}
 use Rattle.rule_core.proofs.run.target_values.Goals as goal

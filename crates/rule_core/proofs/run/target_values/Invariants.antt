@@ -1,6 +1,4 @@
-use Rattle.std.proofs.Common.{◌≡◌, [], length, drop}
-use Rattle.rule_core.specs.Run.{Ending, Follows, holding_target}
-use Rattle.rule_core.specs.Readiness.{shown, ValuesFit}
+use Rattle.rule_core.proofs.Common.{◌≡◌, [], length, drop, Ending, Follows, holding_target, shown, ValuesFit}
 use Rattle.rule_core.proofs.run.target_values.Given as goal
 
 abbrev pub invariant-loop-statement : goal.invariant-loop-statement

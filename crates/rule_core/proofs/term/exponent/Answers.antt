@@ -1,7 +1,4 @@
-use Rattle.std.proofs.Common.{◌≡◌, ◌∙◌, ℕ, ◌<◌, ◌^◌, false, Some, None, ap, sym, arith, below_more, eq-eqb}
-use Rattle.std.specs.Prelude.{◌==◌}
-use Rattle.std.proofs.lemmas.Bool.{ne_eqb}
-use Rattle.rule_core.specs.Terms.{exponent}
+use Rattle.rule_core.proofs.Common.{◌≡◌, ◌∙◌, ℕ, ◌<◌, ◌^◌, false, Some, None, ap, sym, arith, below_more, eq-eqb, ◌==◌, ne_eqb, exponent}
 use Rattle.rule_core.proofs.Exponents.{found, not_found, shifted, is_power_of, is_no_power}
 use Rattle.rule_core.proofs.term.exponent.Goals as goal
 

@@ -1,5 +1,4 @@
-use Rattle.std.proofs.Common.{◌≡◌, ℕ, ◌<◌, ◌^◌, false}
-use Rattle.std.specs.Prelude.{◌==◌}
+use Rattle.rule_core.proofs.Common.{◌≡◌, ℕ, ◌<◌, ◌^◌, false, ◌==◌}
 use Rattle.rule_core.proofs.term.exponent.Given as goal
 
 abbrev pub invariant-loop-k : goal.invariant-loop-k

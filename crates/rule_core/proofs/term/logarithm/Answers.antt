@@ -1,4 +1,4 @@
-use Rattle.std.proofs.Common.{◌∙◌, sym}
+use Rattle.rule_core.proofs.Common.{◌∙◌, sym}
 use Rattle.rule_core.proofs.Exponents.{exponent_fits}
 use Rattle.rule_core.proofs.term.logarithm.Goals as goal
 

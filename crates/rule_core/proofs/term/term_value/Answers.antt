@@ -1,7 +1,4 @@
-use Rattle.std.proofs.Common.{◌≡◌, sym, subst, ◌∙◌}
-use Rattle.std.proofs.lemmas.Option.{get_or_from_slice_get}
-use Rattle.std.specs.Prelude.{slice_index}
-use Rattle.ops.specs.Value.{IsValueOf}
+use Rattle.rule_core.proofs.Common.{◌≡◌, sym, subst, ◌∙◌, get_or_from_slice_get, slice_index, IsValueOf}
 use Rattle.rule_core.proofs.Fits.{value_fits}
 use Rattle.rule_core.proofs.term.term_value.Goals as goal
 

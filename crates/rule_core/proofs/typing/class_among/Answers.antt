@@ -1,4 +1,4 @@
-use Rattle.rule_core.specs.Positions.{classes_of_statement}
+use Rattle.rule_core.proofs.Common.{classes_of_statement}
 use Rattle.rule_core.proofs.Members.{get-flat_map}
 use Rattle.rule_core.proofs.typing.class_among.Goals as goal
 

@@ -1,6 +1,4 @@
-use Rattle.std.proofs.Common.{◌++◌, length, length-append, ap, arith}
-use Rattle.std.specs.Prelude.{flat_map}
-use Rattle.rule_core.specs.Positions.{classes_of_statement, classes_of_term, terms_in}
+use Rattle.rule_core.proofs.Common.{◌++◌, length, length-append, ap, arith, flat_map, classes_of_statement, classes_of_term, terms_in}
 use Rattle.rule_core.proofs.Members.{get-append_left, get_behind, classes_apart}
 use Rattle.rule_core.proofs.typing.class_at.Goals as goal
 

@@ -1,10 +1,4 @@
-use Rattle.std.proofs.Common.{◌≡◌, ℕ, ◌+◌, ◌++◌, List, length, Some}
-use Rattle.std.specs.Prelude.{flat_map, slice_get}
-use Rattle.std.proofs.lemmas.Grind.{flat_map-append}
-use Rattle.rule_core.specs.declared.rule.Rule.{Rule}
-use Rattle.rule_core.specs.declared.rule.Statement.{Statement}
-use Rattle.rule_core.specs.declared.rule.Term.{Term}
-use Rattle.rule_core.specs.Positions.{classes_of_statement, classes_of_term, terms_in}
+use Rattle.rule_core.proofs.Common.{◌≡◌, ℕ, ◌+◌, ◌++◌, List, length, Some, flat_map, slice_get, flat_map-append, Rule, Statement, Term, classes_of_statement, classes_of_term, terms_in}
 use Rattle.rule_core.proofs.Members.{get-append_left, get_behind}
 use Rattle.rule_core.proofs.typing.class_behind_source.Goals as goal
 

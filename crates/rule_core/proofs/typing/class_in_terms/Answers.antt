@@ -1,8 +1,4 @@
-use Rattle.std.proofs.Common.{◌≡◌, ℕ, ◌+◌, ◌<◌, List, length, take, Some, get_or}
-use Rattle.std.specs.Prelude.{flat_map, slice_get}
-use Rattle.std.proofs.lemmas.List.{get_or_default}
-use Rattle.rule_core.specs.declared.rule.Term.{Term}
-use Rattle.rule_core.specs.Positions.{classes_of_term}
+use Rattle.rule_core.proofs.Common.{◌≡◌, ℕ, ◌+◌, ◌<◌, List, length, take, Some, get_or, flat_map, slice_get, get_or_default, Term, classes_of_term}
 use Rattle.rule_core.proofs.Members.{get-flat_map}
 use Rattle.rule_core.proofs.typing.class_in_terms.Goals as goal
 

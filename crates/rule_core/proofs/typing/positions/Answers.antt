@@ -1,4 +1,4 @@
-use Rattle.std.proofs.Common.{length, ap, arith}
+use Rattle.rule_core.proofs.Common.{length, ap, arith}
 use Rattle.rule_core.proofs.Weights.{few_terms}
 use Rattle.rule_core.proofs.typing.positions.Goals as goal
 

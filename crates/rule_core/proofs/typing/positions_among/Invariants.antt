@@ -1,6 +1,4 @@
-use Rattle.std.proofs.Common.{◌≡◌, ◌*◌, ◌≤◌, length, take}
-use Rattle.std.specs.Prelude.{flat_map}
-use Rattle.rule_core.specs.Positions.{classes_of_term}
+use Rattle.rule_core.proofs.Common.{◌≡◌, ◌*◌, ◌≤◌, length, take, flat_map, classes_of_term}
 use Rattle.rule_core.proofs.typing.positions_among.Given as goal
 
 abbrev pub invariant-loop-term : goal.invariant-loop-term

@@ -1,9 +1,4 @@
-use Rattle.std.proofs.Common.{ℕ, ◌≡◌, ◌<◌, length, List, Some, get_or, refl}
-use Rattle.std.specs.Prelude.{slice_get}
-use Rattle.std.proofs.lemmas.Option.{slice_get_read}
-use Rattle.rule_core.specs.declared.rule.Rule.{Rule}
-use Rattle.rule_core.specs.Positions.{classes_of}
-use Rattle.rule_core.specs.Typing.{IsTyping, width_at}
+use Rattle.rule_core.proofs.Common.{ℕ, ◌≡◌, ◌<◌, length, List, Some, get_or, refl, slice_get, slice_get_read, Rule, classes_of, IsTyping, width_at}
 use Rattle.rule_core.proofs.Members.{Contains-from_get}
 use Rattle.rule_core.proofs.typing.width_at.Goals as goal
 

@@ -1,6 +1,4 @@
-use Rattle.std.proofs.Common.{length, refl}
-use Rattle.std.proofs.lemmas.Option.{slice_get_read}
-use Rattle.bindings.specs.Ready.{IsReady}
+use Rattle.rule_matches.proofs.Common.{length, refl, slice_get_read, IsReady}
 use Rattle.rule_matches.proofs.Matching.{no_match, one_match}
 use Rattle.rule_matches.proofs.matches.match_of.Goals as goal
 

@@ -1,4 +1,4 @@
-use Rattle.bindings.specs.Matches.{IsAt}
+use Rattle.rule_matches.proofs.Common.{IsAt}
 use Rattle.rule_matches.proofs.Ordered.{found_in_order}
 use Rattle.rule_matches.proofs.matches.matches_at.Goals as goal
 

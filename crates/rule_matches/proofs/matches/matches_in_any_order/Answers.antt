@@ -1,7 +1,4 @@
-use Rattle.std.proofs.Common.{get_or, refl}
-use Rattle.std.specs.Prelude.{option_to_list}
-use Rattle.std.proofs.lemmas.List.Elements.{Contains-get_or}
-use Rattle.std.proofs.lemmas.Option.{slice_get_within}
+use Rattle.rule_matches.proofs.Common.{get_or, refl, option_to_list, Contains-get_or, slice_get_within}
 use Rattle.rule_matches.proofs.Matching.{each_rule, next_rule}
 use Rattle.rule_matches.proofs.matches.matches_in_any_order.Goals as goal
 

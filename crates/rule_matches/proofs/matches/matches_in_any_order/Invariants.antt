@@ -1,6 +1,5 @@
 -- the matches of the rules so far are found
-use Rattle.std.proofs.Common.{take}
-use Rattle.bindings.specs.Matches.{AreMatchesInAnyOrder}
+use Rattle.rule_matches.proofs.Common.{take, AreMatchesInAnyOrder}
 use Rattle.rule_matches.proofs.Matching.{IsAtAmong}
 use Rattle.rule_matches.proofs.matches.matches_in_any_order.Given as goal
 

@@ -1,4 +1,4 @@
-use Rattle.std.proofs.Common.{◌∙◌, ap, ◌++◌, ◌∷◌, []}
+use Rattle.rule_parse.proofs.Common.{◌∙◌, ap, ◌++◌, ◌∷◌, []}
 use Rattle.rule_tokens.specs.declared.token.Token.TheVariants.{Excess}
 use Rattle.rule_parse.proofs.Kept.{kept-more, kept-excess, kept-all}
 use Rattle.rule_parse.proofs.excess.limited.Goals as goal

@@ -1,6 +1,4 @@
-use Rattle.std.proofs.Common.{◌≡◌, ◌++◌, drop}
-use Rattle.rule_tokens.specs.SeenTokens.{seen}
-use Rattle.rule_parse.specs.CutTokens.{limited_to, limited}
+use Rattle.rule_parse.proofs.Common.{◌≡◌, ◌++◌, drop, seen, limited_to, limited}
 use Rattle.rule_parse.proofs.excess.limited.Given as goal
 
 -- the tokens that are kept, with those that the limit leaves of the rest, are what it leaves of all

@@ -1,9 +1,7 @@
-use Rattle.std.proofs.Common.{sym, ◌∙◌}
-use Rattle.rule_tokens.specs.SeenTokens.{seen}
+use Rattle.rule_parse.proofs.Common.{sym, ◌∙◌, seen, rule_limits}
 use Rattle.rule_parse.proofs.Loops.{flags-more, flags-again}
 use Rattle.rule_parse.proofs.OpSpellings.{flags_done}
 use Rattle.rule_parse.proofs.op.flags.Goals as goal
-use Rattle.rule_tokens.specs.Limits.{rule_limits}
 
 pub returns-then-has_flag : goal.returns-then-has_flag
 returns-then-has_flag c =

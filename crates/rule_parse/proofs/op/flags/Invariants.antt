@@ -1,7 +1,4 @@
-use Rattle.std.proofs.Common.{◌≡◌, length}
-use Rattle.ops.specs.Flags.{no_flags}
-use Rattle.rule_parse.specs.RuleReaders.{flags_at}
-use Rattle.rule_tokens.specs.SeenTokens.{seen}
+use Rattle.rule_parse.proofs.Common.{◌≡◌, length, no_flags, flags_at, seen}
 use Rattle.rule_parse.proofs.op.flags.Given as goal
 
 abbrev pub invariant-loop-flag : goal.invariant-loop-flag

@@ -1,12 +1,6 @@
-use Rattle.std.proofs.Common.{◌≡◌, List, subst}
-use Rattle.refusal.specs.Refusals.{Gives}
-use Rattle.rule_tokens.specs.SeenTokens.{seen}
-use Rattle.rule_tokens.specs.Tokens.{Token, AreTokens}
-use Rattle.rule_parse.specs.CutTokens.{limited}
-use Rattle.rule_parse.specs.RuleReaders.{all_rules}
+use Rattle.rule_parse.proofs.Common.{◌≡◌, List, subst, Gives, seen, Token, AreTokens, limited, all_rules, rule_limits}
 use Rattle.rule_parse.proofs.Verdicts.{answers}
 use Rattle.rule_parse.proofs.reader.parse_rules.Goals as goal
-use Rattle.rule_tokens.specs.Limits.{rule_limits}
 
 pub returns : goal.returns
 returns c =

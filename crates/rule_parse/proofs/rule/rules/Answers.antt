@@ -1,12 +1,7 @@
-use Rattle.std.proofs.Common.{◌≡◌, ◌≢◌, ◌∙◌, sym, length, arith}
-use Rattle.std.proofs.lemmas.Bool.{eqb-true, eqb-false}
-use Rattle.std.proofs.lemmas.List.{length-map}
-use Rattle.std.proofs.lemmas.Result.{err_from_is_err_and}
-use Rattle.rule_tokens.specs.SeenTokens.{seen_token, seen}
+use Rattle.rule_parse.proofs.Common.{◌≡◌, ◌≢◌, ◌∙◌, sym, length, arith, eqb-true, eqb-false, length-map, err_from_is_err_and, seen_token, seen, rule_limits}
 use Rattle.rule_parse.proofs.Readings.{rule_at-shorter}
 use Rattle.rule_parse.proofs.Loops.{rules-more, rules-fault, rules-done}
 use Rattle.rule_parse.proofs.rule.rules.Goals as goal
-use Rattle.rule_tokens.specs.Limits.{rule_limits}
 
 pub returns-in_err-rule : goal.returns-in_err-rule
 returns-in_err-rule c =

@@ -1,9 +1,6 @@
-use Rattle.std.proofs.Common.{◌≡◌, length}
-use Rattle.rule_parse.specs.RuleReaders.{rules_of}
-use Rattle.rule_tokens.specs.SeenTokens.{seen}
+use Rattle.rule_parse.proofs.Common.{◌≡◌, length, rules_of, seen, rule_limits}
 use Rattle.rule_parse.proofs.Loops.{with_rules}
 use Rattle.rule_parse.proofs.rule.rules.Given as goal
-use Rattle.rule_tokens.specs.Limits.{rule_limits}
 
 abbrev pub invariant-loop-rest : goal.invariant-loop-rest
 invariant-loop-rest l = with_rules rule_limits l.version l.rules.items (rules_of rule_limits l.version l.last (seen l.rest)) ≡ rules_of rule_limits l.version l.last (seen l.tokens)

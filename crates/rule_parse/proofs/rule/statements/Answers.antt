@@ -1,9 +1,6 @@
-use Rattle.std.proofs.Common.{◌<◌, [], ◌∷◌, length, arith, length-append}
-use Rattle.std.proofs.lemmas.Result.{err_from_is_err_and}
-use Rattle.rule_tokens.specs.SeenTokens.{seen}
+use Rattle.rule_parse.proofs.Common.{◌<◌, [], ◌∷◌, length, arith, length-append, err_from_is_err_and, seen, rule_limits}
 use Rattle.rule_parse.proofs.Loops.{statements-more, statements-fault, statements-full, statements-done}
 use Rattle.rule_parse.proofs.rule.statements.Goals as goal
-use Rattle.rule_tokens.specs.Limits.{rule_limits}
 
 pub returns-then-len-eq-MOST_STATEMENTS : goal.returns-then-len-eq-MOST_STATEMENTS
 returns-then-len-eq-MOST_STATEMENTS c =

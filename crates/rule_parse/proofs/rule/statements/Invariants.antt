@@ -1,9 +1,6 @@
-use Rattle.std.proofs.Common.{◌≡◌, ◌-◌, ◌≤◌, length}
-use Rattle.rule_parse.specs.RuleReaders.{statements_at}
-use Rattle.rule_tokens.specs.SeenTokens.{seen}
+use Rattle.rule_parse.proofs.Common.{◌≡◌, ◌-◌, ◌≤◌, length, statements_at, seen, rule_limits}
 use Rattle.rule_parse.proofs.Loops.{with_front}
 use Rattle.rule_parse.proofs.rule.statements.Given as goal
-use Rattle.rule_tokens.specs.Limits.{rule_limits}
 
 abbrev pub invariant-loop-line : goal.invariant-loop-line
 invariant-loop-line l =

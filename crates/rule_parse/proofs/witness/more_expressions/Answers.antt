@@ -1,11 +1,6 @@
-use Rattle.std.proofs.lemmas.Result.{err_from_is_err_and}
-use Rattle.std.specs.Prelude.{codes}
-use Rattle.rule_tokens.specs.SeenTokens.{seen}
-use Rattle.rule_terms.proofs.ChainLemmas.{taken-more, taken-fault, taken-done, taken-smaller}
-use Rattle.rule_parse.specs.RuleReaders.{expression_at}
+use Rattle.rule_parse.proofs.Common.{err_from_is_err_and, codes, seen, taken-more, taken-fault, taken-done, taken-smaller, expression_at, rule_limits}
 use Rattle.rule_parse.proofs.Expressions.{expression_shortens}
 use Rattle.rule_parse.proofs.witness.more_expressions.Goals as goal
-use Rattle.rule_tokens.specs.Limits.{rule_limits}
 
 pub returns-in_err-expression : goal.returns-in_err-expression
 returns-in_err-expression c =

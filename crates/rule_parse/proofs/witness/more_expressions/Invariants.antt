@@ -1,8 +1,5 @@
-use Rattle.std.proofs.Common.{◌≡◌, length}
-use Rattle.rule_tokens.specs.SeenTokens.{seen}
-use Rattle.rule_parse.specs.RuleReaders.{more_expressions}
+use Rattle.rule_parse.proofs.Common.{◌≡◌, length, seen, more_expressions, rule_limits}
 use Rattle.rule_parse.proofs.witness.more_expressions.Given as goal
-use Rattle.rule_tokens.specs.Limits.{rule_limits}
 
 abbrev pub invariant-loop-alloc : goal.invariant-loop-alloc
 invariant-loop-alloc l = more_expressions rule_limits l.line l.expressions (seen l.tokens.now) ≡ more_expressions rule_limits l.line l.fn.expressions (seen l.fn.tokens.now)

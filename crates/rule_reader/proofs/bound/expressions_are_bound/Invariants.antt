@@ -1,7 +1,6 @@
 -- the names of the expressions so far may be used
-use Rattle.std.proofs.Common.{take}
+use Rattle.rule_reader.proofs.Common.{take, Each, TermIsBound}
 use Rattle.rule_reader.specs.declared.place.UseSite.TheVariants as places
-use Rattle.rule_reader.specs.FaultKinds.{Each, TermIsBound}
 use Rattle.rule_reader.proofs.bound.expressions_are_bound.Given as goal
 
 abbrev pub invariant-loop-expression : goal.invariant-loop-expression

@@ -1,5 +1,4 @@
-use Rattle.std.proofs.Common.{arith, refl}
-use Rattle.rule_reader.specs.FaultKinds.{FormulaIsBound}
+use Rattle.rule_reader.proofs.Common.{arith, refl, FormulaIsBound}
 use Rattle.rule_reader.proofs.Looking.{says, denies, is_yes, is_no}
 use Rattle.rule_reader.proofs.Members.{each_more, not_each, each_all}
 use Rattle.rule_reader.proofs.bound.formula_is_bound.Goals as goal

@@ -1,6 +1,5 @@
 -- the names of the nodes so far may be used
-use Rattle.std.proofs.Common.{take}
-use Rattle.rule_reader.specs.FaultKinds.{Each, FormulaIsBound}
+use Rattle.rule_reader.proofs.Common.{take, Each, FormulaIsBound}
 use Rattle.rule_reader.proofs.bound.formula_is_bound.Given as goal
 
 abbrev pub invariant-loop-node : goal.invariant-loop-node

@@ -1,9 +1,4 @@
-use Rattle.std.proofs.Common.{arith, ap}
-use Rattle.std.proofs.Common.{length}
-use Rattle.rule_reader.specs.FaultKinds.{StatementUnbound}
-use Rattle.rule_reader.specs.KnownRules.{half_of, place_in}
-use Rattle.rule_reader.specs.FaultKinds.{OpIsBound}
-use Rattle.std.proofs.Common.{subst}
+use Rattle.rule_reader.proofs.Common.{arith, ap, length, StatementUnbound, half_of, place_in, OpIsBound, subst}
 use Rattle.rule_reader.proofs.Firsts.{first_here, first_none, none_more}
 use Rattle.rule_reader.proofs.Looking.{says, denies}
 use Rattle.rule_reader.proofs.Building.{place_within, half_in_order, item_at}

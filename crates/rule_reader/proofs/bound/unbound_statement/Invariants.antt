@@ -1,6 +1,5 @@
 -- all that the statements so far name may be used there
-use Rattle.rule_reader.specs.FaultKinds.{StatementUnbound}
-use Rattle.rule_reader.specs.KnownRules.{half_of, place_in}
+use Rattle.rule_reader.proofs.Common.{StatementUnbound, half_of, place_in}
 use Rattle.rule_reader.proofs.Firsts.{NoneBefore}
 use Rattle.rule_reader.proofs.bound.unbound_statement.Given as goal
 

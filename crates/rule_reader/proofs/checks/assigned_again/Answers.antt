@@ -1,5 +1,4 @@
-use Rattle.std.proofs.Common.{sym, subst, arith}
-use Rattle.rule_reader.specs.FaultKinds.{AssignsAgain}
+use Rattle.rule_reader.proofs.Common.{sym, subst, arith, AssignsAgain}
 use Rattle.rule_reader.proofs.Places.{read_at}
 use Rattle.rule_reader.proofs.Firsts.{first_here, first_none, none_more}
 use Rattle.rule_reader.proofs.Looking.{says, denies}

@@ -1,5 +1,5 @@
 -- none of the statements so far assigns what an earlier one does
-use Rattle.rule_reader.specs.FaultKinds.{AssignsAgain}
+use Rattle.rule_reader.proofs.Common.{AssignsAgain}
 use Rattle.rule_reader.proofs.Firsts.{NoneBefore}
 use Rattle.rule_reader.proofs.checks.assigned_again.Given as goal
 

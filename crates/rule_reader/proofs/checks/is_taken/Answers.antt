@@ -1,4 +1,4 @@
-use Rattle.std.proofs.Common.{inl}
+use Rattle.rule_reader.proofs.Common.{inl}
 use Rattle.rule_reader.proofs.Looking.{says, is_yes, is_either}
 use Rattle.rule_reader.proofs.Found.{among_inputs}
 use Rattle.rule_reader.proofs.Assignments.{temporary_is, says_as}

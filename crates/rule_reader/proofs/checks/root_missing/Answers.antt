@@ -1,4 +1,4 @@
-use Rattle.std.proofs.Common.{◌-◌, length, arith}
+use Rattle.rule_reader.proofs.Common.{◌-◌, length, arith}
 use Rattle.rule_reader.proofs.Places.{read_last}
 use Rattle.rule_reader.proofs.Looking.{says, denies}
 use Rattle.rule_reader.proofs.Assignments.{tested_root, root_there, root_missed}

@@ -1,5 +1,5 @@
 -- the temporaries of the statements so far are used
-use Rattle.rule_reader.specs.FaultKinds.{IsUnused}
+use Rattle.rule_reader.proofs.Common.{IsUnused}
 use Rattle.rule_reader.proofs.Firsts.{NoneBefore}
 use Rattle.rule_reader.proofs.checks.unused.Given as goal
 

@@ -1,4 +1,4 @@
-use Rattle.std.proofs.Common.{◌∙◌, refl, arith}
+use Rattle.rule_reader.proofs.Common.{◌∙◌, refl, arith}
 use Rattle.rule_reader.proofs.Counting.{few_at, counts_more, counts_all}
 use Rattle.rule_reader.proofs.counts.in_half.Goals as goal
 

@@ -1,6 +1,5 @@
 -- the counts of the statements so far
-use Rattle.std.proofs.Common.{◌≡◌, take}
-use Rattle.rule_reader.specs.Meaning.{past_all, counted_among, no_counts}
+use Rattle.rule_reader.proofs.Common.{◌≡◌, take, past_all, counted_among, no_counts}
 use Rattle.rule_reader.proofs.counts.in_half.Given as goal
 
 abbrev pub invariant-loop-statement : goal.invariant-loop-statement

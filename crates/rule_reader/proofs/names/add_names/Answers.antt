@@ -1,5 +1,4 @@
-use Rattle.std.proofs.Common.{inl, inr, ap}
-use Rattle.rule_parse.specs.Contents.{arguments_of}
+use Rattle.rule_reader.proofs.Common.{inl, inr, ap, arguments_of}
 use Rattle.rule_reader.proofs.InputLemmas.{one_use, two_uses, three_uses, uses_of_op}
 use Rattle.rule_reader.proofs.names.add_names.Goals as goal
 

@@ -1,4 +1,4 @@
-use Rattle.std.proofs.Common.{arith}
+use Rattle.rule_reader.proofs.Common.{arith}
 use Rattle.rule_reader.proofs.InputLemmas.{no_names, uses_more, all_uses}
 use Rattle.rule_reader.proofs.names.names_of.Goals as goal
 

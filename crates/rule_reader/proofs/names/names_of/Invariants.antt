@@ -1,7 +1,5 @@
 -- the inputs and constants among the operands of the statements so far
-use Rattle.std.proofs.Common.{take}
-use Rattle.rule_parse.specs.Contents.{arguments_among}
-use Rattle.rule_reader.specs.Inputs.{AreNamesAmong}
+use Rattle.rule_reader.proofs.Common.{take, arguments_among, AreNamesAmong}
 use Rattle.rule_reader.proofs.names.names_of.Given as goal
 
 abbrev pub invariant-loop-statement : goal.invariant-loop-statement

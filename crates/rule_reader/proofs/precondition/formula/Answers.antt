@@ -1,7 +1,4 @@
-use Rattle.std.proofs.Common.{arith, subst}
-use Rattle.std.proofs.lemmas.List.{take_all}
-use Rattle.rule_parse.specs.Contents.{target_terms}
-use Rattle.rule_reader.specs.Meaning.{nodes_in}
+use Rattle.rule_reader.proofs.Common.{arith, subst, take_all, target_terms, nodes_in}
 use Rattle.rule_reader.proofs.Nodes.{formula_more, FormulasMean}
 use Rattle.rule_reader.proofs.Steps.{upto_none, upto_more, upto_all, upto_length, few_of_formula, ready_formula}
 use Rattle.rule_reader.proofs.precondition.formula.Goals as goal

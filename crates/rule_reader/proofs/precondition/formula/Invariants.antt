@@ -1,7 +1,5 @@
 -- the nodes so far are resolved, and the nodes of their terms appended
-use Rattle.std.proofs.Common.{take}
-use Rattle.rule_parse.specs.Contents.{target_terms}
-use Rattle.rule_reader.specs.Meaning.{nodes_in, TermsMean}
+use Rattle.rule_reader.proofs.Common.{take, target_terms, nodes_in, TermsMean}
 use Rattle.rule_reader.proofs.Nodes.{FormulasMean}
 use Rattle.rule_reader.proofs.Steps.{upto}
 use Rattle.rule_reader.proofs.precondition.formula.Given as goal

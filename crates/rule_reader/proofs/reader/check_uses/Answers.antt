@@ -1,7 +1,6 @@
 -- Check by check: those that have passed, and the fault of the one that fails.
-use Rattle.std.proofs.Common.{subst}
-use Rattle.rule_reader.specs.FaultKinds.{UnusedTempAt}
-use Rattle.rule_reader.specs.Faults.{Unbound, RootMissing, Redefines, UnusedTemp, UndefInside, WitnessCount, IsFirstLine}
+use Rattle.rule_reader.proofs.Common.{subst, UnusedTempAt, Unbound, RootMissing, UnusedTemp, UndefInside, WitnessCount, IsFirstLine}
+use Rattle.rule_reader.specs.Faults.{Redefines}
 use Rattle.rule_reader.proofs.Checking.{clear_2, clear_3, clear_4, clear_5, clear_6, clear_7, fault_at}
 use Rattle.rule_reader.proofs.reader.check_uses.Goals as goal
 

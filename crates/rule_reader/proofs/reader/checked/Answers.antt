@@ -1,5 +1,5 @@
 -- Behind the check of repeated names come those of `check_uses`, and then those of classes.
-use Rattle.std.proofs.lemmas.Result.{err_from_is_err_and}
+use Rattle.rule_reader.proofs.Common.{err_from_is_err_and}
 use Rattle.rule_reader.proofs.Checking.{clear_1, refused_duplicate, there_so_far, checked_so_far, classified_ok, classified_refused}
 use Rattle.rule_reader.proofs.reader.checked.Goals as goal
 

@@ -1,4 +1,4 @@
-use Rattle.std.proofs.Common.{refl}
+use Rattle.rule_reader.proofs.Common.{refl}
 use Rattle.rule_reader.proofs.reader.classified.Goals as goal
 
 pub returns-in-Err-clause-refused : goal.returns-in-Err-clause-refused

@@ -1,7 +1,4 @@
-use Rattle.std.proofs.Common.{subst, sym, arith, take}
-use Rattle.std.proofs.lemmas.Result.{err_from_is_err_and}
-use Rattle.refusal.specs.Refusals.{IfRefused}
-use Rattle.rule_reader.specs.Faults.{IsFault, too_long}
+use Rattle.rule_reader.proofs.Common.{subst, sym, arith, take, err_from_is_err_and, IfRefused, IsFault, too_long}
 use Rattle.rule_reader.proofs.Places.{read_at}
 use Rattle.rule_reader.proofs.Written.{written_well_formed}
 use Rattle.rule_reader.proofs.Reading.{first_rules_more, all_rules, all_are_rules, all_are_classified, all_have_no_fault, names_are_distinct, text_fault, rule_fault, mark_at}

@@ -1,4 +1,4 @@
-use Rattle.std.proofs.Common.{ap, sym, ◌∙◌, arith, Some, map, get_or}
+use Rattle.rule_reader.proofs.Common.{ap, sym, ◌∙◌, arith, Some, map, get_or}
 use Rattle.rule_reader.proofs.Looking.{equal_names, unequal_names, not_more, name_here}
 use Rattle.rule_reader.proofs.registers.assigning.Goals as goal
 

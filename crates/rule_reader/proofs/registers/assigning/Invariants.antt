@@ -1,6 +1,5 @@
 -- no statement so far assigns the register
-use Rattle.std.proofs.Common.{ℕ, ◌<◌}
-use Rattle.rule_reader.specs.Meaning.{AssignsAt}
+use Rattle.rule_reader.proofs.Common.{ℕ, ◌<◌, AssignsAt}
 use Rattle.rule_reader.proofs.registers.assigning.Given as goal
 
 abbrev pub invariant-loop-earlier : goal.invariant-loop-earlier

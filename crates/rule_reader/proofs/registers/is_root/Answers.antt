@@ -1,4 +1,4 @@
-use Rattle.std.proofs.Common.{◌-◌, length, arith}
+use Rattle.rule_reader.proofs.Common.{◌-◌, length, arith}
 use Rattle.rule_reader.proofs.Looking.{root_is}
 use Rattle.rule_reader.proofs.registers.is_root.Goals as goal
 

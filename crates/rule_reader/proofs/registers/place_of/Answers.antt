@@ -1,4 +1,4 @@
-use Rattle.std.proofs.Common.{ap, sym, ◌∙◌, arith, Some}
+use Rattle.rule_reader.proofs.Common.{ap, sym, ◌∙◌, arith, Some}
 use Rattle.rule_reader.proofs.Looking.{equal_names, unequal_names, not_more, not_there}
 use Rattle.rule_reader.proofs.Places.{read_at}
 use Rattle.rule_reader.proofs.registers.place_of.Goals as goal

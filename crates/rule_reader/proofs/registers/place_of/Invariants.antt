@@ -1,6 +1,5 @@
 -- the name does not stand at a place so far
-use Rattle.std.proofs.Common.{◌≡◌, ℕ, ◌<◌, Some}
-use Rattle.std.specs.Prelude.{slice_get}
+use Rattle.rule_reader.proofs.Common.{◌≡◌, ℕ, ◌<◌, Some, slice_get}
 use Rattle.rule_reader.proofs.registers.place_of.Given as goal
 
 abbrev pub invariant-loop-place : goal.invariant-loop-place

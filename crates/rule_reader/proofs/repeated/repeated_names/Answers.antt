@@ -1,6 +1,4 @@
-use Rattle.std.proofs.Common.{◌+◌, [], take, refl, subst, sym, arith}
-use Rattle.std.specs.Str.{bytes_eq}
-use Rattle.std.specs.Map.{lookup}
+use Rattle.rule_reader.proofs.Common.{◌+◌, [], take, refl, subst, sym, arith, bytes_eq, lookup}
 use Rattle.rule_reader.proofs.Places.{read_at}
 use Rattle.rule_reader.proofs.Repeats.{Known, MarksFirst, known_more, known_none, marks_none, marks_more, marks_all}
 use Rattle.rule_reader.proofs.repeated.repeated_names.Goals as goal

@@ -1,7 +1,5 @@
 -- the map has the names of the rules so far, and they have their flags
-use Rattle.std.proofs.Common.{ℕ, List, take, Bor}
-use Rattle.std.specs.Str.{bytes_eq}
-use Rattle.std.specs.HashMap.{get}
+use Rattle.rule_reader.proofs.Common.{ℕ, List, take, Bor, bytes_eq, get}
 use Rattle.rule_reader.proofs.Repeats.{Known, MarksFirst}
 use Rattle.rule_reader.proofs.repeated.repeated_names.Given as goal
 

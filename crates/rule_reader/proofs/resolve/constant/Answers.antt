@@ -1,5 +1,4 @@
-use Rattle.std.proofs.Common.{arith}
-use Rattle.std.proofs.lemmas.Option.{slice_get_within}
+use Rattle.rule_reader.proofs.Common.{arith, slice_get_within}
 use Rattle.rule_reader.proofs.InputLemmas.{few_constants}
 use Rattle.rule_reader.proofs.Found.{of_constant}
 use Rattle.rule_reader.proofs.resolve.constant.Goals as goal

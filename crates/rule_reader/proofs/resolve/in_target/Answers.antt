@@ -1,5 +1,4 @@
-use Rattle.std.proofs.Common.{subst}
-use Rattle.rule_reader.specs.Meaning.{IsRoot}
+use Rattle.rule_reader.proofs.Common.{subst, IsRoot}
 use Rattle.rule_reader.proofs.Looking.{denies}
 use Rattle.rule_reader.proofs.Found.{found_in_target}
 use Rattle.rule_reader.proofs.resolve.in_target.Goals as goal

@@ -1,7 +1,4 @@
-use Rattle.std.proofs.Common.{◌∙◌, arith, ap, length, refl, subst, sym}
-use Rattle.rule_parse.specs.Contents.{arguments_of}
-use Rattle.rule_reader.specs.Meaning.{OpMeans}
-use Rattle.rule_reader.specs.KnownRules.{half_of, AreReady}
+use Rattle.rule_reader.proofs.Common.{◌∙◌, arith, ap, length, refl, subst, sym, arguments_of, OpMeans, half_of, AreReady}
 use Rattle.rule_reader.proofs.Counting.{counts_more, half_more, half_all}
 use Rattle.rule_reader.proofs.Building.{place_within, ready_at, few_past}
 use Rattle.rule_reader.proofs.resolve.statements.Goals as goal

@@ -1,7 +1,5 @@
 -- the statements so far are resolved, with the counts behind them
-use Rattle.std.proofs.Common.{◌≡◌, take}
-use Rattle.rule_reader.specs.Meaning.{past_all, counted_among, no_counts, HalfMeans}
-use Rattle.rule_reader.specs.KnownRules.{half_of}
+use Rattle.rule_reader.proofs.Common.{◌≡◌, take, past_all, counted_among, no_counts, HalfMeans, half_of}
 use Rattle.rule_reader.proofs.resolve.statements.Given as goal
 
 abbrev pub invariant-loop-place : goal.invariant-loop-place

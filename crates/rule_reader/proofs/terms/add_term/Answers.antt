@@ -1,8 +1,6 @@
-use Rattle.std.proofs.Common.{arith}
+use Rattle.rule_reader.proofs.Common.{arith, subst, sym, take_all}
 use Rattle.rule_reader.proofs.Nodes.{added_none, added_more, added_all, added_length, Added}
 use Rattle.rule_reader.proofs.Building.{node_fits, node_bound}
-use Rattle.std.proofs.Common.{subst, sym}
-use Rattle.std.proofs.lemmas.List.{take_all}
 use Rattle.rule_reader.proofs.terms.add_term.Goals as goal
 
 pub loop-written-init : goal.loop-written-init

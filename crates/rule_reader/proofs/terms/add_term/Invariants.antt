@@ -1,5 +1,5 @@
 -- the nodes so far are appended
-use Rattle.std.proofs.Common.{take}
+use Rattle.rule_reader.proofs.Common.{take}
 use Rattle.rule_reader.proofs.Nodes.{Added}
 use Rattle.rule_reader.proofs.terms.add_term.Given as goal
 

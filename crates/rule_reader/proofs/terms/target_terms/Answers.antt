@@ -1,4 +1,4 @@
-use Rattle.std.proofs.Common.{arith, ap, length, refl}
+use Rattle.rule_reader.proofs.Common.{arith, ap, length, refl}
 use Rattle.rule_reader.proofs.Building.{terms_ready, few_of_terms, more_terms, all_terms}
 use Rattle.rule_reader.proofs.terms.target_terms.Goals as goal
 

@@ -1,5 +1,5 @@
 -- the nodes of the terms so far are appended
-use Rattle.rule_reader.specs.Meaning.{TermsMean}
+use Rattle.rule_reader.proofs.Common.{TermsMean}
 use Rattle.rule_reader.proofs.Building.{terms_upto}
 use Rattle.rule_reader.proofs.terms.target_terms.Given as goal
 

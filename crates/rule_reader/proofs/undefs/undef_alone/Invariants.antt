@@ -1,5 +1,5 @@
 -- none of the statements so far copies or freezes an `undef`
-use Rattle.rule_reader.specs.FaultKinds.{ReadsUndefAlone}
+use Rattle.rule_reader.proofs.Common.{ReadsUndefAlone}
 use Rattle.rule_reader.proofs.Firsts.{NoneBefore}
 use Rattle.rule_reader.proofs.undefs.undef_alone.Given as goal
 

@@ -1,5 +1,4 @@
-use Rattle.std.proofs.Common.{arith}
-use Rattle.rule_reader.specs.FaultKinds.{HasUndefInside}
+use Rattle.rule_reader.proofs.Common.{arith, HasUndefInside}
 use Rattle.rule_reader.proofs.Places.{read_at}
 use Rattle.rule_reader.proofs.Firsts.{first_here, first_none, none_more}
 use Rattle.rule_reader.proofs.Looking.{says, denies}

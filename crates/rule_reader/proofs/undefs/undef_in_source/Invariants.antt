@@ -1,5 +1,5 @@
 -- none of the statements so far but the last makes a choice, and none freezes an `undef`
-use Rattle.rule_reader.specs.FaultKinds.{HasUndefInside}
+use Rattle.rule_reader.proofs.Common.{HasUndefInside}
 use Rattle.rule_reader.proofs.Firsts.{NoneBefore}
 use Rattle.rule_reader.proofs.undefs.undef_in_source.Given as goal
 

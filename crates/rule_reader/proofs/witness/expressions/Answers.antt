@@ -1,4 +1,4 @@
-use Rattle.std.proofs.Common.{◌-◌, arith, ap}
+use Rattle.rule_reader.proofs.Common.{◌-◌, arith, ap}
 use Rattle.rule_reader.proofs.Steps.{expressions_more, few_of_expression, places_more}
 use Rattle.rule_reader.proofs.witness.expressions.Goals as goal
 

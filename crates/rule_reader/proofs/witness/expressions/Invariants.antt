@@ -1,6 +1,5 @@
 -- the expressions so far are resolved, with the last node of each
-use Rattle.std.proofs.Common.{◌≡◌, take}
-use Rattle.rule_reader.specs.Meaning.{TermsMean, last_nodes}
+use Rattle.rule_reader.proofs.Common.{◌≡◌, take, TermsMean, last_nodes}
 use Rattle.rule_reader.proofs.witness.expressions.Given as goal
 
 abbrev pub invariant-loop-written : goal.invariant-loop-written

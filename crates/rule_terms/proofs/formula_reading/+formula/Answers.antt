@@ -1,14 +1,9 @@
-use Rattle.std.proofs.lemmas.Result.{err_from_is_err_and}
-use Rattle.std.specs.Prelude.{codes}
-use Rattle.rule_tokens.specs.SeenTokens.{seen}
+use Rattle.rule_terms.proofs.Common.{err_from_is_err_and, codes, seen, joins, members_of, member_at, Within, Member, Members, rule_limits}
 use Rattle.rule_terms.specs.declared.raw.RawFormula.TheVariants as raw
-use Rattle.rule_terms.specs.FormulaReaders.{joins, members_of, member_at}
-use Rattle.rule_terms.specs.Formulas.{Within, Member, Members}
 use Rattle.rule_terms.proofs.ChainLemmas.{taken-more, taken-fault, taken-done, taken-smaller}
 use Rattle.rule_terms.proofs.FormulaReadings.{member_at-is, members_of-is, joins_shortens, reads_shorten, joins-read, joins-fault}
 use Rattle.rule_terms.proofs.FormulaSteps.{member-tests, member-compares, turns-too_deep, encloses-too_deep, turned-fault, turned, enclosed-fault, enclosed}
 use Rattle.rule_terms.proofs.formula_reading.+formula.Goals as goal
-use Rattle.rule_tokens.specs.Limits.{rule_limits}
 
 pub member-returns-in_err-inside-in-Turns : goal.member-returns-in_err-inside-in-Turns
 member-returns-in_err-inside-in-Turns t c =

@@ -1,8 +1,5 @@
-use Rattle.std.proofs.Common.{◌≡◌, ◌+◌, ◌*◌, length}
-use Rattle.rule_tokens.specs.SeenTokens.{seen}
-use Rattle.rule_terms.specs.FormulaReaders.{member_at, more_members, more_alternatives}
+use Rattle.rule_terms.proofs.Common.{◌≡◌, ◌+◌, ◌*◌, length, seen, member_at, more_members, more_alternatives, rule_limits}
 use Rattle.rule_terms.proofs.formula_reading.+formula.Given as goal
-use Rattle.rule_tokens.specs.Limits.{rule_limits}
 
 -- the measure of the recursion: one level of nesting weighs more than all levels of operators
 abbrev pub decreases-member : goal.decreases-member

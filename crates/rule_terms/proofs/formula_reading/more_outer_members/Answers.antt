@@ -1,13 +1,8 @@
-use Rattle.std.proofs.lemmas.Result.{err_from_is_err_and}
-use Rattle.std.specs.Prelude.{codes}
-use Rattle.rule_tokens.specs.SeenTokens.{seen}
+use Rattle.rule_terms.proofs.Common.{err_from_is_err_and, codes, seen, joins, outer_member_at, Outermost, Member, rule_limits}
 use Rattle.rule_terms.specs.declared.raw.RawFormula.TheVariants as raw
-use Rattle.rule_terms.specs.FormulaReaders.{joins, outer_member_at}
-use Rattle.rule_terms.specs.Formulas.{Outermost, Member}
 use Rattle.rule_terms.proofs.ChainLemmas.{taken-more, taken-fault, taken-done, taken-smaller}
 use Rattle.rule_terms.proofs.FormulaReadings.{outer_member_at-is, joins_shortens, reads_shorten, joins-read, joins-fault}
 use Rattle.rule_terms.proofs.formula_reading.more_outer_members.Goals as goal
-use Rattle.rule_tokens.specs.Limits.{rule_limits}
 
 pub returns-in_err-outer_member : goal.returns-in_err-outer_member
 returns-in_err-outer_member c =

@@ -1,8 +1,5 @@
-use Rattle.std.proofs.Common.{◌≡◌, length}
-use Rattle.rule_tokens.specs.SeenTokens.{seen}
-use Rattle.rule_terms.specs.FormulaReaders.{outer_member_at, more_members}
+use Rattle.rule_terms.proofs.Common.{◌≡◌, length, seen, outer_member_at, more_members, rule_limits}
 use Rattle.rule_terms.proofs.formula_reading.more_outer_members.Given as goal
-use Rattle.rule_tokens.specs.Limits.{rule_limits}
 
 abbrev pub invariant-loop-alloc : goal.invariant-loop-alloc
 invariant-loop-alloc l =

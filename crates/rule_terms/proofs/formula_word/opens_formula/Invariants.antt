@@ -1,6 +1,4 @@
-use Rattle.std.proofs.Common.{◌≡◌, ◌+◌, ◌≤◌, length}
-use Rattle.rule_tokens.specs.SeenTokens.{seen}
-use Rattle.rule_terms.specs.FormulaReaders.{opens_formula}
+use Rattle.rule_terms.proofs.Common.{◌≡◌, ◌+◌, ◌≤◌, length, seen, opens_formula}
 use Rattle.rule_terms.proofs.formula_word.opens_formula.Given as goal
 
 abbrev pub invariant-loop-remaining : goal.invariant-loop-remaining

@@ -1,12 +1,8 @@
-use Rattle.std.proofs.Common.{◌≡◌, suc, ◌-◌, sym, ◌∙◌, ap, length, arith}
-use Rattle.std.proofs.lemmas.Result.{err_from_is_err_and}
-use Rattle.rule_tokens.specs.SeenTokens.{seen}
-use Rattle.rule_terms.specs.TermReaders.{operand_at, primary_at}
+use Rattle.rule_terms.proofs.Common.{◌≡◌, suc, ◌-◌, sym, ◌∙◌, ap, length, arith, err_from_is_err_and, seen, operand_at, primary_at, rule_limits}
 use Rattle.rule_terms.proofs.Chains.{chain-more, chain-fault, chain-done, behind_at-tightest, behind-begun, behind-fault, primary-fault, primary-begun, primary-shallow}
 use Rattle.rule_terms.proofs.Meanings.{operator_at-is}
 use Rattle.rule_terms.proofs.Readings.{operand_shorter}
 use Rattle.rule_terms.proofs.reading.+terms.Goals as goal
-use Rattle.rule_tokens.specs.Limits.{rule_limits}
 
 pub behind-returns-then-level-eq0 : goal.behind-returns-then-level-eq0
 behind-returns-then-level-eq0 t c = behind_at-tightest rule_limits _ c.args.level c.args.nodes.now (seen c.args.tokens.now.now) (omega arith)

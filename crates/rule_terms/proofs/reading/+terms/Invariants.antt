@@ -1,8 +1,5 @@
-use Rattle.std.proofs.Common.{◌≡◌, ◌+◌, ◌*◌, ◌-◌, length}
-use Rattle.rule_tokens.specs.SeenTokens.{seen}
-use Rattle.rule_terms.specs.TermReaders.{behind_at, operand_at, primary_at, whole_chain_at}
+use Rattle.rule_terms.proofs.Common.{◌≡◌, ◌+◌, ◌*◌, ◌-◌, length, seen, behind_at, operand_at, primary_at, whole_chain_at, rule_limits}
 use Rattle.rule_terms.proofs.reading.+terms.Given as goal
-use Rattle.rule_tokens.specs.Limits.{rule_limits}
 
 -- the measure of the recursion: a level of operators weighs 2, and one of nesting as much as all of these
 abbrev pub decreases-primary : goal.decreases-primary

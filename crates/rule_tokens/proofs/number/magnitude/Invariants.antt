@@ -1,5 +1,4 @@
-use Rattle.std.proofs.Common.{◌≡◌, ◌-◌, ◌^◌, min, take}
-use Rattle.rule_tokens.specs.Numbers.{decimal_value}
+use Rattle.rule_tokens.proofs.Common.{◌≡◌, ◌-◌, ◌^◌, min, take, decimal_value}
 use Rattle.rule_tokens.proofs.number.magnitude.Given as goal
 
 abbrev pub invariant-loop-digit : goal.invariant-loop-digit

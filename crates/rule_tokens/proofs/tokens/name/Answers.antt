@@ -1,4 +1,4 @@
-use Rattle.scan.specs.Names.{IsNameNext}
+use Rattle.rule_tokens.proofs.Common.{IsNameNext}
 use Rattle.rule_tokens.proofs.Tokenising.{name_within_text}
 use Rattle.rule_tokens.proofs.tokens.name.Goals as goal
 

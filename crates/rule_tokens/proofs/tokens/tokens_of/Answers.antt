@@ -1,8 +1,4 @@
-use Rattle.std.proofs.Common.{◌≤◌, ◌∙◌, sym, [], ◌∷◌, length, arith}
-use Rattle.std.proofs.lemmas.List.{map_push}
-use Rattle.scan.proofs.PlaceLemmas.{rest_within}
-use Rattle.rule_tokens.specs.SeenTokens.{seen, seen_token}
-use Rattle.rule_tokens.specs.Tokens.{AtName, AtToken, Bad, bad_name}
+use Rattle.rule_tokens.proofs.Common.{◌≤◌, ◌∙◌, sym, [], ◌∷◌, length, arith, map_push, rest_within, seen, seen_token, AtName, AtToken, Bad, bad_name}
 use Rattle.rule_tokens.proofs.Tokenising.{SoFar, token_moves, token_read, name_read, end_read, bad_read, place_name, place_token}
 use Rattle.rule_tokens.proofs.tokens.tokens_of.Goals as goal
 

@@ -1,6 +1,4 @@
-use Rattle.std.proofs.Common.{◌≡◌, ◌-◌, ◌≤◌, length}
-use Rattle.rule_tokens.specs.SeenTokens.{seen}
-use Rattle.rule_tokens.specs.Tokens.{AtToken}
+use Rattle.rule_tokens.proofs.Common.{◌≡◌, ◌-◌, ◌≤◌, length, seen, AtToken}
 use Rattle.rule_tokens.proofs.Tokenising.{SoFar}
 use Rattle.rule_tokens.proofs.tokens.tokens_of.Given as goal
 

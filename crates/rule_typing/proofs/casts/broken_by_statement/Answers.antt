@@ -1,4 +1,4 @@
-use Rattle.std.proofs.Common.{sym}
+use Rattle.rule_typing.proofs.Common.{sym}
 use Rattle.rule_typing.proofs.Among.{fails}
 use Rattle.rule_typing.proofs.CastLines.{broken_from}
 use Rattle.rule_typing.proofs.casts.broken_by_statement.Goals as goal

@@ -1,4 +1,4 @@
-use Rattle.rule_typing.specs.FixedWidths.{MeetsCastLine}
+use Rattle.rule_typing.proofs.Common.{MeetsCastLine}
 use Rattle.rule_typing.proofs.Among.{SoFar}
 use Rattle.rule_typing.proofs.casts.broken_by_statements.Given as goal
 

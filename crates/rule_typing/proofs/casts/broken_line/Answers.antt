@@ -1,4 +1,4 @@
-use Rattle.std.proofs.lemmas.Option.{IfSome_then}
+use Rattle.rule_typing.proofs.Common.{IfSome_then}
 use Rattle.rule_typing.proofs.CastLines.{in_source, in_target, none_broken}
 use Rattle.rule_typing.proofs.casts.broken_line.Goals as goal
 

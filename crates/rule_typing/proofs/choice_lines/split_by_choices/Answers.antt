@@ -1,7 +1,5 @@
-use Rattle.std.proofs.Common.{get_or}
-use Rattle.rule_core.specs.declared.rule.Choice.{Choice}
+use Rattle.rule_typing.proofs.Common.{get_or, Choice, LineOf, choice_pairs, choice_naming}
 use Rattle.rule_typing.proofs.Walks.{AreOne, stands_still, split_here, none_splits}
-use Rattle.rule_typing.specs.Splits.{LineOf, choice_pairs, choice_naming}
 use Rattle.rule_typing.proofs.Among.{one_further}
 use Rattle.rule_typing.proofs.choice_lines.split_by_choices.Goals as goal
 

@@ -1,5 +1,5 @@
+use Rattle.rule_typing.proofs.Common.{LineOf, choice_pairs, choice_naming}
 use Rattle.rule_typing.proofs.Walks.{AreOne}
-use Rattle.rule_typing.specs.Splits.{LineOf, choice_pairs, choice_naming}
 use Rattle.rule_typing.proofs.Among.{SoFar}
 use Rattle.rule_typing.proofs.choice_lines.split_by_choices.Given as goal
 

@@ -1,5 +1,4 @@
-use Rattle.rule_core.specs.Positions.{classes_of}
-use Rattle.rule_typing.specs.Splits.{IsMerged}
+use Rattle.rule_typing.proofs.Common.{classes_of, IsMerged}
 use Rattle.rule_typing.proofs.Merging.{total}
 use Rattle.rule_typing.proofs.classes.join_lines.Given as goal
 

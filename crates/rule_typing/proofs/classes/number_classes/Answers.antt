@@ -1,4 +1,4 @@
-use Rattle.std.proofs.Common.{arith}
+use Rattle.rule_typing.proofs.Common.{arith}
 use Rattle.rule_typing.proofs.Numbering.{none_yet, known, given, all_seen, same_count}
 use Rattle.rule_typing.proofs.classes.number_classes.Goals as goal
 use Rattle.rule_typing.proofs.classes.number_classes.Goals.{then-class-next, else-class-next}

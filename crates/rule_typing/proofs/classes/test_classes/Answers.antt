@@ -1,7 +1,4 @@
-use Rattle.std.proofs.Common.{◌≤◌, ℕ, arith}
-use Rattle.rule_core.specs.declared.rule.Rule.{Rule}
-use Rattle.rule_typing.specs.Classes.{HasClasses}
-use Rattle.rule_typing.specs.Faults.{HasTooManyClasses}
+use Rattle.rule_typing.proofs.Common.{◌≤◌, ℕ, arith, Rule, HasClasses, HasTooManyClasses}
 use Rattle.rule_typing.proofs.Among.{holds, fails}
 use Rattle.rule_typing.proofs.classes.test_classes.Goals as goal
 

@@ -1,7 +1,4 @@
-use Rattle.std.proofs.Common.{sym}
-use Rattle.rule_core.specs.declared.rule.Rule.{Rule}
-use Rattle.rule_core.specs.Checks.{IsRule}
-use Rattle.rule_typing.specs.Relabelled.{numbered}
+use Rattle.rule_typing.proofs.Common.{sym, Rule, IsRule, numbered}
 use Rattle.rule_typing.proofs.Relabelled.{alike_numbered}
 use Rattle.rule_typing.proofs.AlikeRules.{IsRule-alike}
 use Rattle.rule_typing.proofs.Merging.{IsRule-merged}

@@ -1,8 +1,4 @@
-use Rattle.std.proofs.Common.{◌≡◌, length, subst, arith}
-use Rattle.std.proofs.lemmas.List.{length_push}
-use Rattle.rule_typing.specs.Classes.{HasClasses}
-use Rattle.rule_typing.specs.AllTypings.{MayChoose}
-use Rattle.rule_typing.specs.Solutions.{HasExactly}
+use Rattle.rule_typing.proofs.Common.{◌≡◌, length, subst, arith, length_push, HasClasses, MayChoose, HasExactly}
 use Rattle.rule_typing.proofs.Sets.{each_push}
 use Rattle.rule_typing.proofs.enumeration.choices.Goals as goal
 

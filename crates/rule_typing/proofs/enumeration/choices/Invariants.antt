@@ -1,8 +1,4 @@
-use Rattle.std.proofs.Common.{◌≡◌, ℕ, length, Some}
-use Rattle.std.specs.Prelude.{slice_get}
-use Rattle.rule_typing.specs.declared.widths.Widths.{Widths}
-use Rattle.rule_typing.specs.AllTypings.{MayChoose}
-use Rattle.rule_typing.specs.Solutions.{HasExactly}
+use Rattle.rule_typing.proofs.Common.{◌≡◌, ℕ, length, Some, slice_get, Widths, MayChoose, HasExactly}
 use Rattle.rule_typing.proofs.enumeration.choices.Given as goal
 
 abbrev pub invariant-loop-class : goal.invariant-loop-class

@@ -1,6 +1,4 @@
-use Rattle.std.proofs.Common.{◌≡◌, drop, [], arith, length}
-use Rattle.std.proofs.lemmas.Option.{slice_get-get_or}
-use Rattle.std.proofs.lemmas.List.{length_push, take-append-le, take_all}
+use Rattle.rule_typing.proofs.Common.{◌≡◌, drop, [], arith, length, slice_get-get_or, length_push, take-append-le, take_all}
 use Rattle.rule_typing.proofs.Begun.{AreFirst, first_of, least_behind, none_behind, no_first, one_more, all_first}
 use Rattle.rule_typing.proofs.enumeration.least_typing.Goals as goal
 use Rattle.rule_typing.proofs.enumeration.least_typing.Goals.{After-deref_mut}

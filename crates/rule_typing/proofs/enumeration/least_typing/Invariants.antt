@@ -1,7 +1,4 @@
-use Rattle.std.proofs.Common.{◌≡◌, ℕ, ◌<◌, length}
-use Rattle.std.specs.Prelude.{Some, slice_get, slice_index}
-use Rattle.rule_typing.specs.declared.widths.Widths.{Widths}
-use Rattle.rule_typing.specs.Solutions.{Has, IsLeast, GoesOn}
+use Rattle.rule_typing.proofs.Common.{◌≡◌, ℕ, ◌<◌, length, Some, slice_get, slice_index, Widths, Has, IsLeast, GoesOn}
 use Rattle.rule_typing.proofs.enumeration.least_typing.Given as goal
 
 abbrev pub invariant-loop-class : goal.invariant-loop-class

@@ -1,6 +1,4 @@
-use Rattle.std.proofs.Common.{◌≡◌, ◌-◌, inl, inr, ℕ, arith, sym, subst}
-use Rattle.std.specs.Prelude.{slice_index}
-use Rattle.std.proofs.lemmas.Bool.{cases_eq}
+use Rattle.rule_typing.proofs.Common.{◌≡◌, ◌-◌, inl, inr, ℕ, arith, sym, subst, slice_index, cases_eq}
 use Rattle.rule_typing.proofs.Raised.{same_bound}
 use Rattle.rule_typing.proofs.Next.{Behind, beginning_has, next_at, none_next}
 use Rattle.rule_typing.proofs.enumeration.next_typing.Goals as goal

@@ -1,6 +1,4 @@
-use Rattle.std.proofs.Common.{ℕ, ◌<◌, ◌≤◌, List, length, take}
-use Rattle.std.specs.Prelude.{slice_index}
-use Rattle.rule_typing.specs.Solutions.{SolvesBehind}
+use Rattle.rule_typing.proofs.Common.{ℕ, ◌<◌, ◌≤◌, List, length, take, slice_index, SolvesBehind}
 use Rattle.rule_typing.proofs.enumeration.next_typing.Given as goal
 
 abbrev pub invariant-loop-place : goal.invariant-loop-place

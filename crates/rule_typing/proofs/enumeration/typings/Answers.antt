@@ -1,5 +1,4 @@
-use Rattle.std.proofs.Common.{arith}
-use Rattle.std.proofs.lemmas.List.{length_push}
+use Rattle.rule_typing.proofs.Common.{arith, length_push}
 use Rattle.rule_typing.proofs.Answered.{all_found, too_many}
 use Rattle.rule_typing.proofs.Found.{first_found, found_more}
 use Rattle.rule_typing.proofs.enumeration.typings.Goals as goal

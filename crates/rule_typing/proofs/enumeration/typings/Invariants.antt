@@ -1,4 +1,4 @@
-use Rattle.std.proofs.Common.{◌≤◌, ◌-◌, length}
+use Rattle.rule_typing.proofs.Common.{◌≤◌, ◌-◌, length}
 use Rattle.rule_typing.proofs.Found.{AreFound}
 use Rattle.rule_typing.proofs.enumeration.typings.Given as goal
 

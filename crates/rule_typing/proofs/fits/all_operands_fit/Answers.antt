@@ -1,4 +1,4 @@
-use Rattle.rule_typing.specs.FittingWidths.{FitsIn}
+use Rattle.rule_typing.proofs.Common.{FitsIn}
 use Rattle.rule_typing.proofs.Among.{both, not_both, each_rule}
 use Rattle.rule_typing.proofs.fits.all_operands_fit.Goals as goal
 

@@ -1,4 +1,4 @@
-use Rattle.rule_typing.specs.FittingWidths.{TermFits}
+use Rattle.rule_typing.proofs.Common.{TermFits}
 use Rattle.rule_typing.proofs.Among.{both, not_both, each_of_both}
 use Rattle.rule_typing.proofs.fits.all_terms_fit.Goals as goal
 

@@ -1,8 +1,4 @@
-use Rattle.std.proofs.Common.{◌++◌, subst, sym}
-use Rattle.std.specs.Prelude.{flat_map}
-use Rattle.rule_core.specs.declared.rule.Rule.{Rule}
-use Rattle.rule_core.specs.Positions.{classes_of_statement, classes_of_term}
-use Rattle.rule_typing.specs.FittingWidths.{IsPast}
+use Rattle.rule_typing.proofs.Common.{◌++◌, subst, sym, flat_map, Rule, classes_of_statement, classes_of_term, IsPast}
 use Rattle.rule_typing.proofs.Past.{past_both, all_below}
 use Rattle.rule_typing.proofs.Relabelled.{classes_apart}
 use Rattle.rule_typing.proofs.fits.class_count.Goals as goal

@@ -1,8 +1,4 @@
-use Rattle.std.proofs.Common.{◌≡◌, ◌↔◌, ◌≤◌, ℕ, Some, sym, ap, subst}
-use Rattle.std.proofs.lemmas.Option.{same_Some}
-use Rattle.rule_core.specs.declared.rule.Rule.{Rule}
-use Rattle.rule_core.specs.Positions.{operands_in, terms_in, Fixed}
-use Rattle.rule_typing.specs.FittingWidths.{LiteralsFit, TermsFit, MayHaveWidth}
+use Rattle.rule_typing.proofs.Common.{◌≡◌, ◌↔◌, ◌≤◌, ℕ, Some, sym, ap, subst, same_Some, Rule, operands_in, terms_in, Fixed, LiteralsFit, TermsFit, MayHaveWidth}
 use Rattle.rule_typing.proofs.Among.{says}
 use Rattle.rule_typing.proofs.fits.class_fits.Goals as goal
 

@@ -1,9 +1,4 @@
-use Rattle.std.proofs.Common.{◌≡◌, ◌∙◌, ℕ, ◌<◌, ◌+◌, List, get_or, Some, subst, sym, refl, inl, inr, arith}
-use Rattle.std.specs.Prelude.{slice_get}
-use Rattle.std.proofs.lemmas.Bool.{cases_eq}
-use Rattle.std.proofs.lemmas.Option.{get_or_from_slice_get, slice_get_within}
-use Rattle.rule_core.specs.declared.rule.Rule.{Rule}
-use Rattle.rule_typing.specs.FittingWidths.{MayHaveWidth}
+use Rattle.rule_typing.proofs.Common.{◌≡◌, ◌∙◌, ℕ, ◌<◌, ◌+◌, List, get_or, Some, subst, sym, refl, inl, inr, arith, slice_get, cases_eq, get_or_from_slice_get, slice_get_within, Rule, MayHaveWidth}
 use Rattle.rule_typing.proofs.Among.{holds}
 use Rattle.rule_typing.proofs.fits.classes_fit.Goals as goal
 

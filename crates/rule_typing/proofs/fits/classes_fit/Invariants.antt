@@ -1,6 +1,4 @@
-use Rattle.std.proofs.Common.{◌≡◌, ◌<◌, ℕ, Some}
-use Rattle.std.specs.Prelude.{slice_get}
-use Rattle.rule_typing.specs.FittingWidths.{MayHaveWidth}
+use Rattle.rule_typing.proofs.Common.{◌≡◌, ◌<◌, ℕ, Some, slice_get, MayHaveWidth}
 use Rattle.rule_typing.proofs.fits.classes_fit.Given as goal
 
 abbrev pub invariant-loop-class : goal.invariant-loop-class

@@ -1,4 +1,4 @@
-use Rattle.std.proofs.Common.{◌≡◌, ◌∙◌, length, ap, sym}
+use Rattle.rule_typing.proofs.Common.{◌≡◌, ◌∙◌, length, ap, sym}
 use Rattle.rule_typing.proofs.Among.{both, not_both}
 use Rattle.rule_typing.proofs.Typed.{both_tests, count_widths}
 use Rattle.rule_typing.proofs.fits.is_typing.Goals as goal

@@ -1,5 +1,4 @@
-use Rattle.rule_core.specs.Positions.{operands_in, terms_in}
-use Rattle.rule_typing.specs.FittingWidths.{LiteralsFit, TermsFit}
+use Rattle.rule_typing.proofs.Common.{operands_in, terms_in, LiteralsFit, TermsFit}
 use Rattle.rule_typing.proofs.Among.{both, not_both}
 use Rattle.rule_typing.proofs.fits.literals_fit.Goals as goal
 

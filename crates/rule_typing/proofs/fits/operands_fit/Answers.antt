@@ -1,4 +1,4 @@
-use Rattle.rule_typing.specs.FittingWidths.{FitsIn}
+use Rattle.rule_typing.proofs.Common.{FitsIn}
 use Rattle.rule_typing.proofs.Among.{holds, fails, one_further, each_passes, one_fails}
 use Rattle.rule_typing.proofs.fits.operands_fit.Goals as goal
 

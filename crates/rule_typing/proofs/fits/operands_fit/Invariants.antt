@@ -1,4 +1,4 @@
-use Rattle.rule_typing.specs.FittingWidths.{FitsIn}
+use Rattle.rule_typing.proofs.Common.{FitsIn}
 use Rattle.rule_typing.proofs.Among.{SoFar}
 use Rattle.rule_typing.proofs.fits.operands_fit.Given as goal
 

@@ -1,4 +1,4 @@
-use Rattle.std.proofs.Common.{◌+◌, arith}
+use Rattle.rule_typing.proofs.Common.{◌+◌, arith}
 use Rattle.rule_typing.proofs.Past.{past_two, past_three, past_four}
 use Rattle.rule_typing.proofs.fits.past_statement.Goals as goal
 use Rattle.rule_typing.proofs.fits.past_statement.Goals.{in-Binary, in-Compare, in-Unary, in-Select, in-Convert, in-Freeze, in-Copy}

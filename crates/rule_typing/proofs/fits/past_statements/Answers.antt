@@ -1,6 +1,4 @@
-use Rattle.std.proofs.Common.{◌∙◌}
-use Rattle.rule_core.specs.declared.rule.Statement.{Statement}
-use Rattle.rule_core.specs.Positions.{classes_of_statement}
+use Rattle.rule_typing.proofs.Common.{◌∙◌, Statement, classes_of_statement}
 use Rattle.rule_typing.proofs.Past.{past_next, greater}
 use Rattle.rule_typing.proofs.fits.past_statements.Goals as goal
 

@@ -1,7 +1,4 @@
-use Rattle.std.proofs.Common.{take}
-use Rattle.std.specs.Prelude.{flat_map}
-use Rattle.rule_core.specs.Positions.{classes_of_statement}
-use Rattle.rule_typing.specs.FittingWidths.{IsPast}
+use Rattle.rule_typing.proofs.Common.{take, flat_map, classes_of_statement, IsPast}
 use Rattle.rule_typing.proofs.fits.past_statements.Given as goal
 
 abbrev pub invariant-loop-statement : goal.invariant-loop-statement

@@ -1,4 +1,4 @@
-use Rattle.std.proofs.Common.{◌+◌, arith}
+use Rattle.rule_typing.proofs.Common.{◌+◌, arith}
 use Rattle.rule_typing.proofs.Past.{past_two, past_node}
 use Rattle.rule_typing.proofs.fits.past_term.Goals as goal
 

@@ -1,8 +1,5 @@
-use Rattle.std.proofs.Common.{◌∙◌, get_or}
-use Rattle.std.specs.Prelude.{pos}
-use Rattle.rule_core.specs.declared.rule.Term.{Term}
+use Rattle.rule_typing.proofs.Common.{◌∙◌, get_or, pos, Term, classes_of_term}
 use Rattle.rule_core.specs.declared.rule.Node.TheVariants as nodes
-use Rattle.rule_core.specs.Positions.{classes_of_term}
 use Rattle.rule_typing.proofs.Past.{past_next, greater}
 use Rattle.rule_typing.proofs.Walks.{stands_still}
 use Rattle.rule_typing.proofs.fits.past_terms.Goals as goal

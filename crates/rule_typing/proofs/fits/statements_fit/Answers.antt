@@ -1,7 +1,4 @@
-use Rattle.std.proofs.Common.{ℕ, true, false}
-use Rattle.rule_core.specs.declared.rule.Statement.{Statement}
-use Rattle.rule_core.specs.Positions.{operands_of}
-use Rattle.rule_typing.specs.FittingWidths.{FitsIn, LiteralsFit}
+use Rattle.rule_typing.proofs.Common.{ℕ, true, false, Statement, operands_of, FitsIn, LiteralsFit}
 use Rattle.rule_typing.proofs.Among.{holds, fails, says, each_statement, one_further, each_passes, one_fails}
 use Rattle.rule_typing.proofs.fits.statements_fit.Goals as goal
 

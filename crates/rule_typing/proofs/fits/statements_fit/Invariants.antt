@@ -1,5 +1,4 @@
-use Rattle.rule_core.specs.Positions.{operands_of}
-use Rattle.rule_typing.specs.FittingWidths.{LiteralsFit}
+use Rattle.rule_typing.proofs.Common.{operands_of, LiteralsFit}
 use Rattle.rule_typing.proofs.Among.{SoFar}
 use Rattle.rule_typing.proofs.fits.statements_fit.Given as goal
 

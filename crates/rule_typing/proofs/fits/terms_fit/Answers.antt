@@ -1,8 +1,5 @@
-use Rattle.std.proofs.Common.{get_or}
-use Rattle.std.specs.Prelude.{pos}
-use Rattle.rule_core.specs.declared.rule.Term.{Term}
+use Rattle.rule_typing.proofs.Common.{get_or, pos, Term, TermFits}
 use Rattle.rule_core.specs.declared.rule.Node.TheVariants as nodes
-use Rattle.rule_typing.specs.FittingWidths.{TermFits}
 use Rattle.rule_typing.proofs.Among.{holds, fails, one_further, each_passes, one_fails}
 use Rattle.rule_typing.proofs.Walks.{stands_still}
 use Rattle.rule_typing.proofs.fits.terms_fit.Goals as goal

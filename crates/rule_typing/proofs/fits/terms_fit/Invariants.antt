@@ -1,4 +1,4 @@
-use Rattle.rule_typing.specs.FittingWidths.{TermFits}
+use Rattle.rule_typing.proofs.Common.{TermFits}
 use Rattle.rule_typing.proofs.Among.{SoFar}
 use Rattle.rule_typing.proofs.fits.terms_fit.Given as goal
 

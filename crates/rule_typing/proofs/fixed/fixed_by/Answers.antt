@@ -1,5 +1,4 @@
-use Rattle.std.proofs.Common.{inl, inr}
-use Rattle.std.proofs.lemmas.Option.{IfSome_then}
+use Rattle.rule_typing.proofs.Common.{inl, inr, IfSome_then}
 use Rattle.rule_typing.proofs.Among.{none_then}
 use Rattle.rule_typing.proofs.fixed.fixed_by.Goals as goal
 

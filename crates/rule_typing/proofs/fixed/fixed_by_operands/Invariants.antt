@@ -1,5 +1,4 @@
-use Rattle.std.proofs.Common.{◌≡◌, ℕ, Some}
-use Rattle.rule_typing.specs.FixedWidths.{FixesWidth}
+use Rattle.rule_typing.proofs.Common.{◌≡◌, ℕ, Some, FixesWidth}
 use Rattle.rule_typing.proofs.Among.{SoFar}
 use Rattle.rule_typing.proofs.fixed.fixed_by_operands.Given as goal
 

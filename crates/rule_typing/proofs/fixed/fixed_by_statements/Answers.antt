@@ -1,6 +1,4 @@
-use Rattle.std.proofs.Common.{◌≡◌, ℕ, Option, Some}
-use Rattle.rule_core.specs.declared.rule.Statement.{Statement}
-use Rattle.rule_typing.specs.FixedWidths.{StatementFixes}
+use Rattle.rule_typing.proofs.Common.{◌≡◌, ℕ, Option, Some, Statement, StatementFixes}
 use Rattle.rule_typing.proofs.Among.{stands_here, one_further, all_of_them}
 use Rattle.rule_typing.proofs.fixed.fixed_by_statements.Goals as goal
 

@@ -1,5 +1,4 @@
-use Rattle.std.proofs.Common.{◌≡◌, ℕ, Some}
-use Rattle.rule_typing.specs.FixedWidths.{StatementFixes}
+use Rattle.rule_typing.proofs.Common.{◌≡◌, ℕ, Some, StatementFixes}
 use Rattle.rule_typing.proofs.Among.{SoFar}
 use Rattle.rule_typing.proofs.fixed.fixed_by_statements.Given as goal
 

@@ -1,5 +1,4 @@
-use Rattle.std.proofs.Common.{◌≡◌, ℕ, None, Some}
-use Rattle.std.proofs.lemmas.Option.{IfSome_then}
+use Rattle.rule_typing.proofs.Common.{◌≡◌, ℕ, None, Some, IfSome_then}
 use Rattle.rule_typing.proofs.Among.{none_then}
 use Rattle.rule_typing.proofs.fixed.fixed_width.Goals as goal
 

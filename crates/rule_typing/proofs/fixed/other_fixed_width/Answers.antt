@@ -1,7 +1,4 @@
-use Rattle.std.proofs.Common.{inl, inr}
-use Rattle.std.proofs.lemmas.Option.{IfSome_then}
-use Rattle.std.proofs.lemmas.List.Elements.{Contains-append_left, Contains-append_right, Contains-append_cases}
-use Rattle.rule_core.specs.declared.rule.Rule.{Rule}
+use Rattle.rule_typing.proofs.Common.{inl, inr, IfSome_then, Contains-append_left, Contains-append_right, Contains-append_cases, Rule}
 use Rattle.rule_typing.proofs.Among.{none_then}
 use Rattle.rule_typing.proofs.FixedLines.{of_fixed, fixed_of}
 use Rattle.rule_typing.proofs.fixed.other_fixed_width.Goals as goal

@@ -1,5 +1,4 @@
-use Rattle.rule_core.specs.Positions.{operands_of, choices_of}
-use Rattle.rule_typing.specs.Splits.{OperandsLine, ChoicesLine}
+use Rattle.rule_typing.proofs.Common.{operands_of, choices_of, OperandsLine, ChoicesLine}
 use Rattle.rule_typing.proofs.Walks.{first_splits, then_splits}
 use Rattle.rule_typing.proofs.lines.split_behind_op.Goals as goal
 

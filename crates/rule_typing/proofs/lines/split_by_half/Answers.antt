@@ -1,5 +1,5 @@
+use Rattle.rule_typing.proofs.Common.{StatementLine}
 use Rattle.rule_typing.proofs.Walks.{AreOne, split_here, none_splits}
-use Rattle.rule_typing.specs.Splits.{StatementLine}
 use Rattle.rule_typing.proofs.Among.{one_further}
 use Rattle.rule_typing.proofs.lines.split_by_half.Goals as goal
 

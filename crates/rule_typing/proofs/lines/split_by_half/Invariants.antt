@@ -1,5 +1,5 @@
+use Rattle.rule_typing.proofs.Common.{StatementLine}
 use Rattle.rule_typing.proofs.Walks.{AreOne}
-use Rattle.rule_typing.specs.Splits.{StatementLine}
 use Rattle.rule_typing.proofs.Among.{SoFar}
 use Rattle.rule_typing.proofs.lines.split_by_half.Given as goal
 

@@ -1,9 +1,6 @@
-use Rattle.std.proofs.Common.{◌≡◌, ℕ, ◌+◌, ◌-◌, length, Option, ap, subst, ◌∙◌, Some, arith}
-use Rattle.rule_core.specs.declared.rule.Rule.{Rule}
-use Rattle.rule_core.specs.declared.rule.Name.{Name}
+use Rattle.rule_typing.proofs.Common.{◌≡◌, ℕ, ◌+◌, ◌-◌, length, Option, ap, subst, ◌∙◌, Some, arith, Rule, Name, paired, assigned_class, root_class, IsPairIn, RootLine, Splits}
 use Rattle.rule_core.specs.declared.rule.Name.TheVariants as names
 use Rattle.rule_core.specs.declared.rule.Register.TheVariants as registers
-use Rattle.rule_typing.specs.Splits.{paired, assigned_class, root_class, IsPairIn, RootLine, Splits}
 use Rattle.rule_typing.proofs.Walks.{splits_as}
 use Rattle.rule_typing.proofs.LineParts.{from_paired, to_paired}
 use Rattle.rule_typing.proofs.NameLines.{root_is_last}

@@ -1,6 +1,4 @@
-use Rattle.std.proofs.Common.{◌⊎◌}
-use Rattle.rule_core.specs.Positions.{operands_of, choices_of}
-use Rattle.rule_typing.specs.Splits.{IsPairIn, statement_pairs, OperandsLine, ChoicesLine}
+use Rattle.rule_typing.proofs.Common.{◌⊎◌, operands_of, choices_of, IsPairIn, statement_pairs, OperandsLine, ChoicesLine}
 use Rattle.rule_typing.proofs.Walks.{then_splits}
 use Rattle.rule_typing.proofs.lines.split_by_statement.Goals as goal
 

@@ -1,4 +1,4 @@
-use Rattle.std.proofs.Common.{[], ◌∷◌}
+use Rattle.rule_typing.proofs.Common.{[], ◌∷◌}
 use Rattle.rule_typing.proofs.Walks.{then_list}
 use Rattle.rule_typing.proofs.lines.split_by_two.Goals as goal
 

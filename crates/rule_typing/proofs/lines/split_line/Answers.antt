@@ -1,5 +1,5 @@
 use Rattle.rule_typing.specs.declared.half.Half.TheVariants as halves
-use Rattle.rule_typing.specs.Splits.{StatementsLine, TermsLine, PairOf, formula_pairs, RootLine}
+use Rattle.rule_typing.proofs.Common.{StatementsLine, TermsLine, PairOf, formula_pairs, RootLine}
 use Rattle.rule_typing.proofs.SplitLines.{half_line, terms_line, witness_line, comparison_line, root_line, line_found, last_found, none_left}
 use Rattle.rule_typing.proofs.lines.split_line.Goals as goal
 

@@ -1,6 +1,5 @@
-use Rattle.rule_core.specs.Positions.{choices_among, terms_in}
+use Rattle.rule_typing.proofs.Common.{choices_among, terms_in, choice_naming, term_naming, NamingOf}
 use Rattle.rule_typing.specs.declared.half.Half.TheVariants as halves
-use Rattle.rule_typing.specs.Splits.{choice_naming, term_naming, NamingOf}
 use Rattle.rule_typing.proofs.Walks.{first_other, then_other}
 use Rattle.rule_typing.proofs.names.other_behind_operands.Goals as goal
 

@@ -1,7 +1,4 @@
-use Rattle.std.proofs.Common.{◌≡◌, ℕ, Some, Option, ap, rules, sym, ◌∙◌}
-use Rattle.std.proofs.lemmas.Option.{same_Some}
-use Rattle.rule_core.specs.declared.rule.Name.{Name}
-use Rattle.rule_typing.specs.Splits.{FindsOther}
+use Rattle.rule_typing.proofs.Common.{◌≡◌, ℕ, Some, Option, ap, rules, sym, ◌∙◌, same_Some, Name, FindsOther}
 use Rattle.rule_typing.proofs.Walks.{finds_as}
 use Rattle.rule_typing.proofs.names.other_by.Goals as goal
 

@@ -1,8 +1,6 @@
-use Rattle.std.proofs.Common.{◌≡◌, ℕ, get_or, Some}
+use Rattle.rule_typing.proofs.Common.{◌≡◌, ℕ, get_or, Some, Choice, choice_naming}
 use Rattle.rule_typing.proofs.Walks.{stands_still, other_here, none_other}
-use Rattle.rule_core.specs.declared.rule.Choice.{Choice}
 use Rattle.rule_typing.specs.declared.half.Half.TheVariants as halves
-use Rattle.rule_typing.specs.Splits.{choice_naming}
 use Rattle.rule_typing.proofs.Among.{one_further}
 use Rattle.rule_typing.proofs.names.other_by_choices.Goals as goal
 

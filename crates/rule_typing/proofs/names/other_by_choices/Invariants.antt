@@ -1,7 +1,5 @@
-use Rattle.std.proofs.Common.{◌≡◌, ℕ, Some}
-use Rattle.rule_core.specs.declared.rule.Choice.{Choice}
+use Rattle.rule_typing.proofs.Common.{◌≡◌, ℕ, Some, Choice, choice_naming}
 use Rattle.rule_typing.specs.declared.half.Half.TheVariants as halves
-use Rattle.rule_typing.specs.Splits.{choice_naming}
 use Rattle.rule_typing.proofs.Among.{SoFar}
 use Rattle.rule_typing.proofs.names.other_by_choices.Given as goal
 

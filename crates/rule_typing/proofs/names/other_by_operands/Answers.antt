@@ -1,7 +1,5 @@
-use Rattle.std.proofs.Common.{◌≡◌, ℕ, Some}
+use Rattle.rule_typing.proofs.Common.{◌≡◌, ℕ, Some, Operand, operand_naming}
 use Rattle.rule_typing.proofs.Walks.{other_here, none_other}
-use Rattle.rule_core.specs.declared.rule.Operand.{Operand}
-use Rattle.rule_typing.specs.Splits.{operand_naming}
 use Rattle.rule_typing.proofs.Among.{one_further}
 use Rattle.rule_typing.proofs.names.other_by_operands.Goals as goal
 

@@ -1,9 +1,5 @@
-use Rattle.std.proofs.Common.{◌≡◌, ℕ, Some, None}
+use Rattle.rule_typing.proofs.Common.{◌≡◌, ℕ, Some, None, Statement, operands_of, operands_among, operand_naming, NamingOf, Contains}
 use Rattle.rule_typing.proofs.Walks.{other_here, none_other, finds_as, naming_deep, naming_in}
-use Rattle.rule_core.specs.declared.rule.Statement.{Statement}
-use Rattle.rule_core.specs.Positions.{operands_of, operands_among}
-use Rattle.rule_typing.specs.Splits.{operand_naming, NamingOf}
-use Rattle.std.specs.Prelude.{Contains}
 use Rattle.rule_typing.proofs.Among.{one_further}
 use Rattle.rule_typing.proofs.names.other_by_statements.Goals as goal
 

@@ -1,7 +1,4 @@
-use Rattle.std.proofs.Common.{◌≡◌, ℕ}
-use Rattle.rule_core.specs.declared.rule.Statement.{Statement}
-use Rattle.rule_core.specs.Positions.{operands_of}
-use Rattle.rule_typing.specs.Splits.{operand_naming, NamingOf}
+use Rattle.rule_typing.proofs.Common.{◌≡◌, ℕ, Statement, operands_of, operand_naming, NamingOf}
 use Rattle.rule_typing.proofs.Among.{SoFar}
 use Rattle.rule_typing.proofs.names.other_by_statements.Given as goal
 

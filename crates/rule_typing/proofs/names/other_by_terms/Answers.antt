@@ -1,10 +1,6 @@
-use Rattle.std.proofs.Common.{get_or}
-use Rattle.std.specs.Prelude.{pos}
+use Rattle.rule_typing.proofs.Common.{get_or, pos, ◌≡◌, ℕ, Some, Term, term_naming}
 use Rattle.rule_core.specs.declared.rule.Node.TheVariants as nodes
-use Rattle.std.proofs.Common.{◌≡◌, ℕ, Some}
 use Rattle.rule_typing.proofs.Walks.{stands_still, other_here, none_other}
-use Rattle.rule_core.specs.declared.rule.Term.{Term}
-use Rattle.rule_typing.specs.Splits.{term_naming}
 use Rattle.rule_typing.proofs.Among.{one_further}
 use Rattle.rule_typing.proofs.names.other_by_terms.Goals as goal
 

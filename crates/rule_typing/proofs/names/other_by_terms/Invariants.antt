@@ -1,6 +1,4 @@
-use Rattle.std.proofs.Common.{◌≡◌, ℕ, Some}
-use Rattle.rule_core.specs.declared.rule.Term.{Term}
-use Rattle.rule_typing.specs.Splits.{term_naming}
+use Rattle.rule_typing.proofs.Common.{◌≡◌, ℕ, Some, Term, term_naming}
 use Rattle.rule_typing.proofs.Among.{SoFar}
 use Rattle.rule_typing.proofs.names.other_by_terms.Given as goal
 

@@ -1,8 +1,4 @@
-use Rattle.std.proofs.Common.{◌≡◌, ◌⊎◌, inl, inr, ℕ, Option, None, Some}
-use Rattle.rule_core.specs.declared.rule.Rule.{Rule}
-use Rattle.rule_core.specs.declared.rule.Name.{Name}
-use Rattle.rule_core.specs.Positions.{Names}
-use Rattle.rule_typing.specs.Splits.{FindsOther, IsRead, assigned_class, root_class}
+use Rattle.rule_typing.proofs.Common.{◌≡◌, ◌⊎◌, inl, inr, ℕ, Option, None, Some, Rule, Name, Names, FindsOther, IsRead, assigned_class, root_class}
 use Rattle.rule_typing.proofs.Walks.{finds_as, first_other, then_other}
 use Rattle.rule_typing.proofs.NameLines.{IsNamed, read, assigned, root, named_cases, names_of_named}
 use Rattle.rule_typing.proofs.names.other_class.Goals as goal

@@ -1,8 +1,4 @@
-use Rattle.std.proofs.Common.{◌⊎◌, inl, inr, ℕ, List, ◌++◌, Option, Some}
-use Rattle.std.proofs.lemmas.List.Elements.{Contains-append_left, Contains-append_right, Contains-append_cases}
-use Rattle.rule_core.specs.declared.rule.Term.{Term}
-use Rattle.rule_core.specs.declared.rule.Name.{Name}
-use Rattle.rule_typing.specs.Splits.{term_naming, NamingOf, FindsOther}
+use Rattle.rule_typing.proofs.Common.{◌⊎◌, inl, inr, ℕ, List, ◌++◌, Option, Some, Contains-append_left, Contains-append_right, Contains-append_cases, Term, Name, term_naming, NamingOf, FindsOther}
 use Rattle.rule_typing.proofs.Walks.{first_other, then_other, finds_as}
 use Rattle.rule_typing.proofs.names.other_in_terms.Goals as goal
 

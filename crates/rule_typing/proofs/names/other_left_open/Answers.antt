@@ -1,10 +1,6 @@
-use Rattle.std.proofs.Common.{◌≡◌, ℕ, Some, None}
+use Rattle.rule_typing.proofs.Common.{◌≡◌, ℕ, Some, None, Statement, choices_of, choices_among, choice_naming, NamingOf, Contains}
 use Rattle.rule_typing.proofs.Walks.{other_here, none_other, finds_as, naming_deep, naming_in}
-use Rattle.rule_core.specs.declared.rule.Statement.{Statement}
 use Rattle.rule_typing.specs.declared.half.Half.TheVariants as halves
-use Rattle.rule_core.specs.Positions.{choices_of, choices_among}
-use Rattle.rule_typing.specs.Splits.{choice_naming, NamingOf}
-use Rattle.std.specs.Prelude.{Contains}
 use Rattle.rule_typing.proofs.Among.{one_further}
 use Rattle.rule_typing.proofs.names.other_left_open.Goals as goal
 

@@ -1,8 +1,5 @@
-use Rattle.std.proofs.Common.{◌≡◌, ℕ}
-use Rattle.rule_core.specs.declared.rule.Statement.{Statement}
+use Rattle.rule_typing.proofs.Common.{◌≡◌, ℕ, Statement, choices_of, choice_naming, NamingOf}
 use Rattle.rule_typing.specs.declared.half.Half.TheVariants as halves
-use Rattle.rule_core.specs.Positions.{choices_of}
-use Rattle.rule_typing.specs.Splits.{choice_naming, NamingOf}
 use Rattle.rule_typing.proofs.Among.{SoFar}
 use Rattle.rule_typing.proofs.names.other_left_open.Given as goal
 

@@ -1,9 +1,5 @@
-use Rattle.std.proofs.Common.{◌⊎◌, ℕ, Some}
-use Rattle.rule_core.specs.declared.rule.Rule.{Rule}
-use Rattle.rule_core.specs.declared.rule.Name.{Name}
-use Rattle.rule_core.specs.Positions.{operands_among, choices_among, terms_in}
+use Rattle.rule_typing.proofs.Common.{◌⊎◌, ℕ, Some, Rule, Name, operands_among, choices_among, terms_in, operand_naming, choice_naming, term_naming, NamingOf}
 use Rattle.rule_typing.specs.declared.half.Half.TheVariants as halves
-use Rattle.rule_typing.specs.Splits.{operand_naming, choice_naming, term_naming, NamingOf}
 use Rattle.rule_typing.proofs.Walks.{first_other, then_other}
 use Rattle.rule_typing.proofs.names.other_read.Goals as goal
 

@@ -1,5 +1,4 @@
-use Rattle.std.proofs.Common.{arith, below_more, refl}
-use Rattle.rule_typing.specs.Faults.{IsOpen}
+use Rattle.rule_typing.proofs.Common.{arith, below_more, refl, IsOpen}
 use Rattle.rule_typing.proofs.Among.{holds, fails}
 use Rattle.rule_typing.proofs.open_classes.has_open_class.Goals as goal
 

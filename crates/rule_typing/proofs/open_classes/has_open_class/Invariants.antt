@@ -1,5 +1,4 @@
-use Rattle.std.proofs.Common.{◌<◌, ℕ}
-use Rattle.rule_typing.specs.Faults.{IsOpen}
+use Rattle.rule_typing.proofs.Common.{◌<◌, ℕ, IsOpen}
 use Rattle.rule_typing.proofs.open_classes.has_open_class.Given as goal
 
 abbrev pub invariant-loop-class : goal.invariant-loop-class

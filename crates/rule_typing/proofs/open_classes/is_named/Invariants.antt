@@ -1,4 +1,4 @@
-use Rattle.rule_typing.specs.Classes.{NamesClass}
+use Rattle.rule_typing.proofs.Common.{NamesClass}
 use Rattle.rule_typing.proofs.Among.{SoFar}
 use Rattle.rule_typing.proofs.open_classes.is_named.Given as goal
 

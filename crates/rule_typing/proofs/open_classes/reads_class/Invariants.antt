@@ -1,4 +1,4 @@
-use Rattle.rule_typing.specs.Classes.{IsNameOf}
+use Rattle.rule_typing.proofs.Common.{IsNameOf}
 use Rattle.rule_typing.proofs.Among.{SoFar}
 use Rattle.rule_typing.proofs.open_classes.reads_class.Given as goal
 

@@ -1,7 +1,4 @@
-use Rattle.std.proofs.Common.{◌≡◌, Some}
-use Rattle.rule_core.specs.declared.rule.Name.{Name}
-use Rattle.rule_core.specs.Positions.{Names}
-use Rattle.rule_typing.specs.Splits.{IsPairIn, operand_pairs, operand_naming}
+use Rattle.rule_typing.proofs.Common.{◌≡◌, Some, Name, Names, IsPairIn, operand_pairs, operand_naming}
 use Rattle.rule_typing.proofs.Walks.{first_splits, then_splits}
 use Rattle.rule_typing.proofs.operand_lines.split_by_operand.Goals as goal
 

@@ -1,5 +1,5 @@
+use Rattle.rule_typing.proofs.Common.{LineOf, operand_pairs, operand_naming}
 use Rattle.rule_typing.proofs.Walks.{AreOne, split_here, none_splits}
-use Rattle.rule_typing.specs.Splits.{LineOf, operand_pairs, operand_naming}
 use Rattle.rule_typing.proofs.Among.{one_further}
 use Rattle.rule_typing.proofs.operand_lines.split_by_operands.Goals as goal
 

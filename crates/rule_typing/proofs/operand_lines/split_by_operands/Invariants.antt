@@ -1,5 +1,5 @@
+use Rattle.rule_typing.proofs.Common.{LineOf, operand_pairs, operand_naming}
 use Rattle.rule_typing.proofs.Walks.{AreOne}
-use Rattle.rule_typing.specs.Splits.{LineOf, operand_pairs, operand_naming}
 use Rattle.rule_typing.proofs.Among.{SoFar}
 use Rattle.rule_typing.proofs.operand_lines.split_by_operands.Given as goal
 

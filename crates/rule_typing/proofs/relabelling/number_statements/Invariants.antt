@@ -1,6 +1,4 @@
-use Rattle.rule_core.specs.declared.rule.Statement.{Statement}
-use Rattle.rule_core.specs.Positions.{classes_of_statement}
-use Rattle.rule_typing.specs.Relabelled.{numbered_statement}
+use Rattle.rule_typing.proofs.Common.{Statement, classes_of_statement, numbered_statement}
 use Rattle.rule_typing.proofs.NumberedLists.{AreNumbered}
 use Rattle.rule_typing.proofs.relabelling.number_statements.Given as goal
 

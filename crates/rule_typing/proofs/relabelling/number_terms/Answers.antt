@@ -1,7 +1,4 @@
-use Rattle.std.proofs.Common.{sym, refl, add-zero, arith}
-use Rattle.rule_core.specs.declared.rule.Term.{Term}
-use Rattle.rule_core.specs.Positions.{classes_of_term}
-use Rattle.rule_typing.specs.Relabelled.{numbered_term}
+use Rattle.rule_typing.proofs.Common.{sym, refl, add-zero, arith, Term, classes_of_term, numbered_term}
 use Rattle.rule_typing.proofs.NumberedLists.{length_so_far, has_room, one_numbered, all_numbered}
 use Rattle.rule_typing.proofs.relabelling.number_terms.Goals as goal
 

@@ -1,6 +1,4 @@
-use Rattle.rule_core.specs.declared.rule.Term.{Term}
-use Rattle.rule_core.specs.Positions.{classes_of_term}
-use Rattle.rule_typing.specs.Relabelled.{numbered_term}
+use Rattle.rule_typing.proofs.Common.{Term, classes_of_term, numbered_term}
 use Rattle.rule_typing.proofs.NumberedLists.{AreNumbered}
 use Rattle.rule_typing.proofs.relabelling.number_terms.Given as goal
 

@@ -1,8 +1,4 @@
-use Rattle.std.proofs.Common.{◌<◌, length, arith, length-take}
-use Rattle.std.proofs.lemmas.List.{length-set}
-use Rattle.std.proofs.lemmas.Bool.{false≢true}
-use Rattle.rule_typing.specs.Solutions.{HasExactly}
-use Rattle.rule_typing.specs.FittingWidths.{MayHaveWidth}
+use Rattle.rule_typing.proofs.Common.{◌<◌, length, arith, length-take, length-set, false≢true, HasExactly, MayHaveWidth}
 use Rattle.rule_typing.proofs.Slots.{exact_more, least_more, slots_of, answered, no_width}
 use Rattle.rule_typing.proofs.solving.has_typing.Goals as goal
 

@@ -1,8 +1,4 @@
-use Rattle.std.proofs.Common.{◌≡◌, ℕ, ◌<◌, length, Some, []}
-use Rattle.std.specs.Prelude.{slice_get}
-use Rattle.rule_typing.specs.declared.widths.Widths.{Widths}
-use Rattle.rule_typing.specs.FittingWidths.{MayHaveWidth}
-use Rattle.rule_typing.specs.Solutions.{HasExactly}
+use Rattle.rule_typing.proofs.Common.{◌≡◌, ℕ, ◌<◌, length, Some, [], slice_get, Widths, MayHaveWidth, HasExactly}
 use Rattle.rule_typing.proofs.Begun.{AreFirstOf}
 use Rattle.rule_typing.proofs.solving.has_typing.Given as goal
 

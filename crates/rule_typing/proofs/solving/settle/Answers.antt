@@ -1,5 +1,4 @@
-use Rattle.std.proofs.Common.{◌≡◌, ◌<◌, length, [], arith}
-use Rattle.std.specs.Prelude.{slice_index}
+use Rattle.rule_typing.proofs.Common.{◌≡◌, ◌<◌, length, [], arith, slice_index}
 use Rattle.rule_typing.proofs.Raised.{same_bound, none_kept, none_above, raised}
 use Rattle.rule_typing.proofs.solving.settle.Goals as goal
 

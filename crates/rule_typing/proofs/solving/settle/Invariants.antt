@@ -1,6 +1,4 @@
-use Rattle.std.proofs.Common.{◌≡◌, ℕ, ◌<◌, ◌-◌, List}
-use Rattle.std.specs.Prelude.{slice_index, sum_by}
-use Rattle.rule_typing.specs.Solutions.{AreOf, AtMost, SolvesFrom}
+use Rattle.rule_typing.proofs.Common.{◌≡◌, ℕ, ◌<◌, ◌-◌, List, slice_index, sum_by, AreOf, AtMost, SolvesFrom}
 use Rattle.rule_typing.proofs.solving.settle.Given as goal
 
 abbrev pub invariant-loop-smaller : goal.invariant-loop-smaller

@@ -1,8 +1,6 @@
-use Rattle.std.proofs.Common.{get_or}
-use Rattle.rule_core.specs.declared.rule.Formula.{Formula}
+use Rattle.rule_typing.proofs.Common.{get_or, Formula, IsPairIn, formula_pairs}
 use Rattle.rule_core.specs.declared.rule.Formula.TheVariants as formulas
 use Rattle.ops.specs.declared.comparison.Pred.TheVariants as preds
-use Rattle.rule_typing.specs.Splits.{IsPairIn, formula_pairs}
 use Rattle.rule_typing.proofs.Walks.{AreOne, stands_still, split_here, none_splits}
 use Rattle.rule_typing.proofs.Among.{one_further}
 use Rattle.rule_typing.proofs.term_lines.split_by_formulas.Goals as goal

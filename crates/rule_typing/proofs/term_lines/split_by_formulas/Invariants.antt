@@ -1,6 +1,5 @@
+use Rattle.rule_typing.proofs.Common.{Formula, IsPairIn, formula_pairs}
 use Rattle.rule_typing.proofs.Walks.{AreOne}
-use Rattle.rule_core.specs.declared.rule.Formula.{Formula}
-use Rattle.rule_typing.specs.Splits.{IsPairIn, formula_pairs}
 use Rattle.rule_typing.proofs.Among.{SoFar}
 use Rattle.rule_typing.proofs.term_lines.split_by_formulas.Given as goal
 

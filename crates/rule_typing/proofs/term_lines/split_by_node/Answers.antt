@@ -1,5 +1,4 @@
-use Rattle.std.proofs.Common.{Some}
-use Rattle.rule_typing.specs.Splits.{paired, node_class}
+use Rattle.rule_typing.proofs.Common.{Some, paired, node_class}
 use Rattle.rule_typing.proofs.Walks.{then_list}
 use Rattle.rule_typing.proofs.term_lines.split_by_node.Goals as goal
 

@@ -1,7 +1,4 @@
-use Rattle.std.proofs.Common.{◌≡◌, Some}
-use Rattle.rule_core.specs.declared.rule.Name.{Name}
-use Rattle.rule_core.specs.Positions.{Names}
-use Rattle.rule_typing.specs.Splits.{IsPairIn, term_pairs, term_naming}
+use Rattle.rule_typing.proofs.Common.{◌≡◌, Some, Name, Names, IsPairIn, term_pairs, term_naming}
 use Rattle.rule_typing.proofs.Walks.{then_splits}
 use Rattle.rule_typing.proofs.term_lines.split_by_term.Goals as goal
 

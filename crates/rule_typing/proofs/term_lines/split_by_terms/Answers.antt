@@ -1,9 +1,6 @@
-use Rattle.std.proofs.Common.{get_or}
-use Rattle.std.specs.Prelude.{pos}
-use Rattle.rule_core.specs.declared.rule.Term.{Term}
+use Rattle.rule_typing.proofs.Common.{get_or, pos, Term, LineOf, term_pairs, term_naming}
 use Rattle.rule_core.specs.declared.rule.Node.TheVariants as nodes
 use Rattle.rule_typing.proofs.Walks.{AreOne, stands_still, split_here, none_splits}
-use Rattle.rule_typing.specs.Splits.{LineOf, term_pairs, term_naming}
 use Rattle.rule_typing.proofs.Among.{one_further}
 use Rattle.rule_typing.proofs.term_lines.split_by_terms.Goals as goal
 

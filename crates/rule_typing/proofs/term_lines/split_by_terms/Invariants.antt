@@ -1,5 +1,5 @@
+use Rattle.rule_typing.proofs.Common.{LineOf, term_pairs, term_naming}
 use Rattle.rule_typing.proofs.Walks.{AreOne}
-use Rattle.rule_typing.specs.Splits.{LineOf, term_pairs, term_naming}
 use Rattle.rule_typing.proofs.Among.{SoFar}
 use Rattle.rule_typing.proofs.term_lines.split_by_terms.Given as goal
 

@@ -1,8 +1,4 @@
-use Rattle.std.proofs.Common.{◌+◌, List, ℕ, take, subst}
-use Rattle.std.specs.Prelude.{Contains}
-use Rattle.std.proofs.lemmas.List.{take_all}
-use Rattle.rule_typing.specs.FittingWidths.{MayHaveWidth}
-use Rattle.rule_typing.specs.Solutions.{HasExactly}
+use Rattle.rule_typing.proofs.Common.{◌+◌, List, ℕ, take, subst, Contains, take_all, MayHaveWidth, HasExactly}
 use Rattle.rule_typing.proofs.Among.{holds, fails}
 use Rattle.rule_typing.proofs.Sets.{one_taken, added, left_out}
 use Rattle.rule_typing.proofs.widths.listed_choices.Goals as goal

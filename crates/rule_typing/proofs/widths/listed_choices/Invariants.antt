@@ -1,7 +1,4 @@
-use Rattle.std.proofs.Common.{take}
-use Rattle.std.specs.Prelude.{Contains}
-use Rattle.rule_typing.specs.FittingWidths.{MayHaveWidth}
-use Rattle.rule_typing.specs.Solutions.{HasExactly}
+use Rattle.rule_typing.proofs.Common.{take, Contains, MayHaveWidth, HasExactly}
 use Rattle.rule_typing.proofs.widths.listed_choices.Given as goal
 
 abbrev pub invariant-loop-width : goal.invariant-loop-width

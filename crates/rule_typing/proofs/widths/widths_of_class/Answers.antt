@@ -1,5 +1,4 @@
-use Rattle.std.proofs.Common.{◌≡◌, ◌↔◌, ◌⊎◌, ℕ, ◌+◌, ◌<◌, subst, sym}
-use Rattle.rule_typing.specs.FittingWidths.{MayHaveWidth}
+use Rattle.rule_typing.proofs.Common.{◌≡◌, ◌↔◌, ◌⊎◌, ℕ, ◌+◌, ◌<◌, subst, sym, MayHaveWidth}
 use Rattle.rule_typing.proofs.Among.{holds, fails}
 use Rattle.rule_typing.proofs.Sets.{one_below, added, left_out}
 use Rattle.rule_typing.proofs.widths.widths_of_class.Goals as goal

@@ -1,4 +1,4 @@
-use Rattle.std.proofs.Common.{◌≡◌, Ok, sym}
+use Rattle.run_text.proofs.Common.{◌≡◌, Ok, sym}
 use Rattle.run_text.proofs.ArgumentLemmas.{number_through, none_said}
 use Rattle.run_text.proofs.argument.decimal_said.Goals as goal
 

@@ -1,5 +1,4 @@
-use Rattle.std.proofs.Common.{◌≡◌, ◌∙◌, List, Some, length, map, ap, inr, arith}
-use Rattle.ops.specs.declared.value.Value.{Value}
+use Rattle.run_text.proofs.Common.{◌≡◌, ◌∙◌, List, Some, length, map, ap, inr, arith, Value}
 use Rattle.run_text.proofs.ArgumentLemmas.{said_more, said_none, all_said}
 use Rattle.run_text.proofs.argument.values_said.Goals as goal
 

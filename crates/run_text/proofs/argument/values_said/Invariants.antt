@@ -1,5 +1,4 @@
-use Rattle.std.proofs.Common.{◌≡◌, map, take, Some}
-use Rattle.run_text.specs.Arguments.{values_said}
+use Rattle.run_text.proofs.Common.{◌≡◌, map, take, Some, values_said}
 use Rattle.run_text.proofs.ArgumentLemmas.{texts_of}
 use Rattle.run_text.proofs.argument.values_said.Given as goal
 

@@ -1,6 +1,4 @@
-use Rattle.std.proofs.Common.{length, List, ap, ◌∙◌, arith}
-use Rattle.std.specs.Prelude.{slice_get}
-use Rattle.ir_core.specs.declared.module.Entry.{Entry}
+use Rattle.run_text.proofs.Common.{length, List, ap, ◌∙◌, arith, slice_get, Entry}
 use Rattle.run_text.proofs.NamedLemmas.{none_more, none_named, kept, other_name}
 use Rattle.run_text.proofs.named.function_named.Goals as goal
 use Rattle.run_text.proofs.named.function_named.Goals.{in-Function+else-eq, in-Kept}

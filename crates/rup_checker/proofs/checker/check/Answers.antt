@@ -1,7 +1,4 @@
-use Rattle.std.proofs.Common.{subst}
-use Rattle.std.specs.Prelude.{◌↔◌, IsTrue}
-use Rattle.clauses.specs.ClauseSet.{LogFollows}
-use Rattle.clauses.proofs.LogSoundness.{Meets-log}
+use Rattle.rup_checker.proofs.Common.{subst, ◌↔◌, IsTrue, LogFollows, Meets-log}
 use Rattle.rup_checker.proofs.checker.check.Goals as goal
 
 pub returns : goal.returns

@@ -1,6 +1,4 @@
-use Rattle.std.proofs.Common.{subst}
-use Rattle.clauses.specs.ClauseSet.{EndsEmpty}
-use Rattle.clauses.proofs.LogSoundness.{refuted_no_model}
+use Rattle.rup_checker.proofs.Common.{subst, EndsEmpty, refuted_no_model}
 use Rattle.rup_checker.proofs.checker.check_refutation.Goals as goal
 
 pub returns-in_ok-check-clause-no_model : goal.returns-in_ok-check-clause-no_model

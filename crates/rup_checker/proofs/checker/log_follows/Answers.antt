@@ -1,7 +1,4 @@
-use Rattle.std.proofs.Common.{◌≡◌, Some, refl, arith}
-use Rattle.std.specs.Prelude.{slice_get}
-use Rattle.std.proofs.lemmas.Option.{slice_get_read, slice_get_within}
-use Rattle.clauses.specs.ClauseSet.{StepFollows, clauses_before}
+use Rattle.rup_checker.proofs.Common.{◌≡◌, Some, refl, arith, slice_get, slice_get_read, slice_get_within, StepFollows, clauses_before}
 use Rattle.rup_checker.proofs.LogLemmas.{FollowsBefore-more, within_more}
 use Rattle.rup_checker.proofs.checker.log_follows.Goals as goal
 

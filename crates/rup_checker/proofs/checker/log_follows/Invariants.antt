@@ -1,9 +1,4 @@
-use Rattle.std.proofs.Common.{◌≡◌, ℕ, ◌<◌, false, [], Some}
-use Rattle.std.specs.Prelude.{slice_get}
-use Rattle.clauses.specs.declared.step.Step.{Step}
-use Rattle.clauses.specs.Literal.{VariablesWithin}
-use Rattle.clauses.specs.ClauseSet.{StepFollows, clauses_before}
-use Rattle.rup_checker.specs.Table.{Represents, used_in}
+use Rattle.rup_checker.proofs.Common.{◌≡◌, ℕ, ◌<◌, false, [], Some, slice_get, Step, VariablesWithin, StepFollows, clauses_before, Represents, used_in}
 use Rattle.rup_checker.proofs.checker.log_follows.Given as goal
 
 -- each step before this one follows, and the table holds no literal and marks no clause

@@ -1,5 +1,4 @@
-use Rattle.std.proofs.Common.{not, ◌&&◌, ap, ◌∙◌}
-use Rattle.rup_checker.specs.Table.{table_holds, stands_in}
+use Rattle.rup_checker.proofs.Common.{not, ◌&&◌, ap, ◌∙◌, table_holds, stands_in}
 use Rattle.rup_checker.proofs.TableLemmas.{Represents-released}
 use Rattle.rup_checker.proofs.checker.step_follows.Goals as goal
 

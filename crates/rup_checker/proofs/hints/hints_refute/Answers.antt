@@ -1,13 +1,4 @@
-use Rattle.std.proofs.Common.{◌≡◌, ℕ, ◌+◌, List, [], ◌∷◌, ◌++◌, get_or, drop, sym, ap, ◌∙◌, subst, inl, arith}
-use Rattle.std.specs.Prelude.{◌↔◌}
-use Rattle.std.proofs.lemmas.Bool.{false≢true, true≢false}
-use Rattle.std.proofs.lemmas.List.{at_drop_more, drop_all}
-use Rattle.std.proofs.lemmas.Option.{slice_get_within}
-use Rattle.clauses.specs.Literal.{Lit}
-use Rattle.clauses.specs.Propagation.{HintsRefute, NamesUnit, negations_of}
-use Rattle.clauses.specs.declared.step.Step.{Step}
-use Rattle.clauses.proofs.Derivations.{HintsRefute-cons, HintsRefute-one, HintsRefute-only}
-use Rattle.clauses.specs.ClauseSet.{clauses_with}
+use Rattle.rup_checker.proofs.Common.{◌≡◌, ℕ, ◌+◌, List, [], ◌∷◌, ◌++◌, get_or, drop, sym, ap, ◌∙◌, subst, inl, arith, ◌↔◌, false≢true, true≢false, at_drop_more, drop_all, slice_get_within, Lit, HintsRefute, NamesUnit, negations_of, Step, HintsRefute-cons, HintsRefute-one, HintsRefute-only, clauses_with}
 use Rattle.rup_checker.proofs.TableLemmas.{Represents-hold, Represents-again, own_negations}
 use Rattle.rup_checker.proofs.HintLemmas.{no_move, after_move, unit_within}
 use Rattle.rup_checker.proofs.UsedLemmas.{UsedAreUnit-none, UsedAreUnit-more, UsedAreUnit-marked, Accounted-more, marked_more}

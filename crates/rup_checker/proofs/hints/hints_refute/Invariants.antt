@@ -1,9 +1,4 @@
-use Rattle.std.proofs.Common.{◌≡◌, ℕ, true, List, [], ◌∷◌, ◌++◌, drop}
-use Rattle.std.specs.Prelude.{◌↔◌, Contains}
-use Rattle.clauses.specs.Literal.{Lit}
-use Rattle.clauses.specs.Propagation.{HintsRefute, negations_of}
-use Rattle.rup_checker.specs.Table.{Accounted, Represents, used_in}
-use Rattle.clauses.specs.ClauseSet.{clauses_with}
+use Rattle.rup_checker.proofs.Common.{◌≡◌, ℕ, true, List, [], ◌∷◌, ◌++◌, drop, ◌↔◌, Contains, Lit, HintsRefute, negations_of, Accounted, Represents, used_in, clauses_with}
 use Rattle.rup_checker.proofs.UsedLemmas.{UsedAreUnit}
 use Rattle.rup_checker.proofs.hints.hints_refute.Given as goal
 

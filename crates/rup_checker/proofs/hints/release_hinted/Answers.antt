@@ -1,8 +1,4 @@
-use Rattle.std.specs.Prelude.{◌==◌}
-use Rattle.std.proofs.Common.{◌≡◌, ℕ, ◌<◌, ◌≤◌, false, not, ◌&&◌, List, get_or, length, sym, ◌∙◌, subst, inl, inr}
-use Rattle.std.proofs.lemmas.Bool.{true≢false}
-use Rattle.clauses.specs.ClauseSet.{clauses_with}
-use Rattle.rup_checker.specs.Table.{used_in}
+use Rattle.rup_checker.proofs.Common.{◌==◌, ◌≡◌, ℕ, ◌<◌, ◌≤◌, false, not, ◌&&◌, List, get_or, length, sym, ◌∙◌, subst, inl, inr, true≢false, clauses_with, used_in}
 use Rattle.rup_checker.proofs.UsedLemmas.{Accounted-less, marked_later, none_marked}
 use Rattle.rup_checker.proofs.hints.release_hinted.Goals as goal
 

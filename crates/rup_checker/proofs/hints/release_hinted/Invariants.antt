@@ -1,7 +1,4 @@
-use Rattle.std.proofs.Common.{◌≡◌, ℕ, true, drop}
-use Rattle.std.specs.Prelude.{Contains}
-use Rattle.clauses.specs.ClauseSet.{clauses_with}
-use Rattle.rup_checker.specs.Table.{Accounted, used_in}
+use Rattle.rup_checker.proofs.Common.{◌≡◌, ℕ, true, drop, Contains, clauses_with, Accounted, used_in}
 use Rattle.rup_checker.proofs.hints.release_hinted.Given as goal
 
 -- Each literal that is held is of a variable of the step's clause or of a marked clause, and later hints name the

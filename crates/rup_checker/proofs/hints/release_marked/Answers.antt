@@ -1,9 +1,4 @@
-use Rattle.std.proofs.Common.{◌≡◌, not, ◌&&◌, [], get_or, sym, ap, ◌∙◌}
-use Rattle.std.specs.Prelude.{unwrap_or}
-use Rattle.std.proofs.lemmas.Bool.{and_right}
-use Rattle.std.proofs.lemmas.Option.{unwrap_or-slice_get}
-use Rattle.clauses.specs.ClauseSet.{clauses_with}
-use Rattle.rup_checker.specs.Table.{stands_in, table_holds, used_in}
+use Rattle.rup_checker.proofs.Common.{◌≡◌, not, ◌&&◌, [], get_or, sym, ap, ◌∙◌, unwrap_or, and_right, unwrap_or-slice_get, clauses_with, stands_in, table_holds, used_in}
 use Rattle.rup_checker.proofs.TableLemmas.{and-true}
 use Rattle.rup_checker.proofs.hints.release_marked.Goals as goal
 

@@ -1,9 +1,4 @@
-use Rattle.std.proofs.Common.{◌+◌, take, sym, ap, ◌∙◌, subst}
-use Rattle.std.proofs.lemmas.List.{take_all}
-use Rattle.std.proofs.lemmas.Option.{same_Some}
-use Rattle.clauses.specs.Propagation.{IsFalsified, IsUnit, is_false}
-use Rattle.clauses.proofs.Held.{equal_literals}
-use Rattle.clauses.proofs.Units.{IsSoFar, so_far_false, so_far_open}
+use Rattle.rup_checker.proofs.Common.{◌+◌, take, sym, ap, ◌∙◌, subst, take_all, same_Some, IsFalsified, IsUnit, is_false, equal_literals, IsSoFar, so_far_false, so_far_open}
 use Rattle.rup_checker.proofs.open_literals.open_literals_of.Goals as goal
 use Rattle.rup_checker.proofs.open_literals.open_literals_of.Goals.{in_default-via-in-Some+else-ne, in_default-via-in_default}
 

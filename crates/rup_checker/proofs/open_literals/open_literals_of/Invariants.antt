@@ -1,7 +1,4 @@
-use Rattle.std.proofs.Common.{List, take}
-use Rattle.clauses.specs.Literal.{Lit}
-use Rattle.clauses.proofs.Units.{IsSoFar}
-use Rattle.rup_checker.specs.Table.{Represents}
+use Rattle.rup_checker.proofs.Common.{List, take, Lit, IsSoFar, Represents}
 use Rattle.rup_checker.proofs.open_literals.open_literals_of.Given as goal
 
 -- what was found among the literals before this one: none that isn't false, or one, which is unit in them

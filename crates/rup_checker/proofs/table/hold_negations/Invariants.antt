@@ -1,7 +1,4 @@
-use Rattle.std.proofs.Common.{◌≡◌, ◌||◌, drop}
-use Rattle.clauses.specs.Literal.{Lit}
-use Rattle.clauses.specs.Propagation.{is_held, negations_of}
-use Rattle.rup_checker.specs.Table.{table_holds}
+use Rattle.rup_checker.proofs.Common.{◌≡◌, ◌||◌, drop, Lit, is_held, negations_of, table_holds}
 use Rattle.rup_checker.proofs.table.hold_negations.Given as goal
 
 -- what is held, with the negations of the later literals, is what was held at the start with those of the whole clause

@@ -1,6 +1,4 @@
-use Rattle.std.proofs.Common.{◌≡◌, ◌&&◌, not, drop}
-use Rattle.clauses.specs.Literal.{Lit}
-use Rattle.rup_checker.specs.Table.{table_holds, stands_in}
+use Rattle.rup_checker.proofs.Common.{◌≡◌, ◌&&◌, not, drop, Lit, table_holds, stands_in}
 use Rattle.rup_checker.proofs.table.release.Given as goal
 
 -- what is held, but for the variables of the later literals, is what was held at the start but for those of the clause

@@ -1,5 +1,4 @@
-use Rattle.std.proofs.Common.{sym, ◌∙◌, length}
-use Rattle.std.proofs.lemmas.Bool.{eqb-false}
+use Rattle.scan.proofs.Common.{sym, ◌∙◌, length, eqb-false}
 use Rattle.scan.proofs.KindLemmas.{begins_token, begins_other}
 use Rattle.scan.proofs.front.front.Goals as goal
 

@@ -1,5 +1,6 @@
-use Rattle.scan.specs.declared.rule_token.RuleKind.TheVariants.{Head, Register, Word, Number, Arrow, Mark}
-use Rattle.scan.specs.RuleTokens.{kind_of, is_mark, is_among, heads, arrows, is_register, is_rule_word, is_literal}
+use Rattle.scan.proofs.Common.{Head, Arrow, kind_of, is_mark, is_among, heads, arrows, is_rule_word, is_literal}
+use Rattle.scan.specs.declared.rule_token.RuleKind.TheVariants.{Register, Word, Number, Mark}
+use Rattle.scan.specs.RuleTokens.{is_register}
 use Rattle.scan.proofs.KindLemmas.{kind_first, kind_last}
 use Rattle.scan.proofs.front.longest_token.Goals as goal
 

@@ -1,6 +1,4 @@
-use Rattle.std.proofs.Common.{◌≡◌, ◌≤◌, ◌+◌, ◌-◌, ℕ, length, take, drop, ap, ◌∙◌, subst, arith}
-use Rattle.std.proofs.lemmas.List.{take_rest, length-drop}
-use Rattle.scan.specs.Lines.{feeds}
+use Rattle.scan.proofs.Common.{◌≡◌, ◌≤◌, ◌+◌, ◌-◌, ℕ, length, take, drop, ap, ◌∙◌, subst, arith, take_rest, length-drop, feeds}
 use Rattle.scan.proofs.GapLemmas.{GapTo, gap_to}
 use Rattle.scan.proofs.gap.gap_end.Goals as goal
 

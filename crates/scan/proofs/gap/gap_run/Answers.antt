@@ -1,6 +1,4 @@
-use Rattle.std.proofs.Common.{◌≡◌, Bool, true, sym, ap, ◌∙◌, ◌+◌, drop, get_or, arith}
-use Rattle.scan.specs.Bytes.{is_blank}
-use Rattle.scan.specs.GapFronts.{behind_gap}
+use Rattle.scan.proofs.Common.{◌≡◌, Bool, true, sym, ap, ◌∙◌, ◌+◌, drop, get_or, arith, is_blank, behind_gap}
 use Rattle.scan.proofs.GapLemmas.{step_feed, step_comment, step_opens, step_blank, blank_no_feed, gap_ends, feeds_more, feeds_same}
 use Rattle.scan.proofs.gap.gap_run.Goals as goal
 use Rattle.scan.proofs.gap.gap_run.Goals.{then-is_blank, else-is_blank+in-10, else-is_blank+in-59, else-is_blank+in_default-2}

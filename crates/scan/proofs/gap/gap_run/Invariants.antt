@@ -1,6 +1,4 @@
-use Rattle.std.proofs.Common.{◌≡◌, false, take, drop}
-use Rattle.scan.specs.Lines.{feeds}
-use Rattle.scan.specs.GapFronts.{behind_gap}
+use Rattle.scan.proofs.Common.{◌≡◌, false, take, drop, feeds, behind_gap}
 use Rattle.scan.proofs.gap.gap_run.Given as goal
 
 abbrev pub invariant-loop-i : goal.invariant-loop-i

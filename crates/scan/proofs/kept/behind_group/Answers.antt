@@ -1,5 +1,4 @@
-use Rattle.std.proofs.Common.{◌≡◌, sym, ◌∙◌, false, drop, arith}
-use Rattle.std.proofs.lemmas.List.{take_rest}
+use Rattle.scan.proofs.Common.{◌≡◌, sym, ◌∙◌, false, drop, arith, take_rest}
 use Rattle.scan.proofs.KeptLemmas.{closing, closed, not_closed, closing-feed, closing-bracket, closing-end}
 use Rattle.scan.proofs.kept.behind_group.Goals as goal
 

@@ -1,4 +1,4 @@
-use Rattle.std.proofs.Common.{◌≡◌, ◌≤◌, false, drop}
+use Rattle.scan.proofs.Common.{◌≡◌, ◌≤◌, false, drop}
 use Rattle.scan.proofs.KeptLemmas.{closing}
 use Rattle.scan.proofs.kept.behind_group.Given as goal
 

@@ -1,4 +1,4 @@
-use Rattle.std.proofs.Common.{arith}
+use Rattle.scan.proofs.Common.{arith}
 use Rattle.scan.proofs.Fronts.{words_more, words_all}
 use Rattle.scan.proofs.length.longest_among.Goals as goal
 

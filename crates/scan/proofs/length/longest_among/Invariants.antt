@@ -1,6 +1,4 @@
-use Rattle.std.proofs.Common.{map, take}
-use Rattle.scan.specs.Longest.{IsLongest}
-use Rattle.scan.specs.RuleTokens.{is_among}
+use Rattle.scan.proofs.Common.{map, take, IsLongest, is_among}
 use Rattle.scan.proofs.length.longest_among.Given as goal
 
 abbrev pub invariant-loop-word : goal.invariant-loop-word

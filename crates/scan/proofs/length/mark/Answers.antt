@@ -1,6 +1,5 @@
-use Rattle.std.proofs.Common.{ℕ, max, sym, ap, ◌∙◌, subst}
-use Rattle.scan.specs.Longest.{IsLongest}
-use Rattle.scan.specs.RuleTokens.{is_among, marks, is_mark, is_placed_operator, is_unsigned_operator, is_remainder}
+use Rattle.scan.proofs.Common.{ℕ, max, sym, ap, ◌∙◌, subst, IsLongest, is_among, is_mark, is_placed_operator, is_unsigned_operator, is_remainder}
+use Rattle.scan.specs.RuleTokens.{marks}
 use Rattle.scan.proofs.Fronts.{or_longest, longest_without, longest_with}
 use Rattle.scan.proofs.length.mark.Goals as goal
 

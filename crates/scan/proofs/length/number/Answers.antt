@@ -1,7 +1,4 @@
-use Rattle.std.proofs.Common.{ℕ, sym, ap, subst, not}
-use Rattle.scan.specs.Bytes.{is_digit, is_run}
-use Rattle.scan.specs.Longest.{IsLongest}
-use Rattle.scan.specs.RuleTokens.{is_literal, is_negative}
+use Rattle.scan.proofs.Common.{ℕ, sym, ap, subst, not, is_digit, is_run, IsLongest, is_literal, is_negative}
 use Rattle.scan.proofs.Fronts.{run_is_longest, longest_without, longest_with}
 use Rattle.scan.proofs.length.number.Goals as goal
 

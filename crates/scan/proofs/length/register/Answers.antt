@@ -1,6 +1,4 @@
-use Rattle.std.proofs.Common.{◌<◌, length, arith, sym, ◌∙◌}
-use Rattle.std.specs.List.{prefix_len}
-use Rattle.scan.specs.Bytes.{is_register_byte}
+use Rattle.scan.proofs.Common.{◌<◌, length, arith, sym, ◌∙◌, prefix_len, is_register_byte}
 use Rattle.scan.specs.RuleTokens.{is_register}
 use Rattle.scan.proofs.Fronts.{marked_none, marked_empty, marked_some, marked_fits}
 use Rattle.scan.proofs.length.register.Goals as goal

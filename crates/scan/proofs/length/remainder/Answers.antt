@@ -1,9 +1,4 @@
-use Rattle.std.proofs.Common.{ℕ, [], ◌∷◌, sym, ◌∙◌, subst, inl, inr, arith}
-use Rattle.std.proofs.lemmas.List.{take_rest}
-use Rattle.std.specs.Prelude.{codes}
-use Rattle.scan.specs.Bytes.{begins_with}
-use Rattle.scan.specs.Longest.{IsLongest}
-use Rattle.scan.specs.RuleTokens.{is_among, is_remainder, begins_argument}
+use Rattle.scan.proofs.Common.{ℕ, [], ◌∷◌, sym, ◌∙◌, subst, inl, inr, arith, take_rest, codes, begins_with, IsLongest, is_among, is_remainder, begins_argument}
 use Rattle.scan.proofs.Fronts.{before_some, before_none, one_of}
 use Rattle.scan.proofs.length.remainder.Goals as goal
 use Rattle.scan.proofs.length.remainder.Goals.{else-longest_among-eq1-via-then-longest_among-eq1+else-begins_argument, else-longest_among-eq1-via-else-longest_among-eq1}

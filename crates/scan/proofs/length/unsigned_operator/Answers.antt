@@ -1,9 +1,4 @@
-use Rattle.std.proofs.Common.{ℕ, [], ◌∷◌, sym, ap, ◌∙◌, subst, not, refl, inl, inr, arith}
-use Rattle.std.proofs.lemmas.List.{take_rest}
-use Rattle.std.specs.Prelude.{codes}
-use Rattle.scan.specs.Bytes.{begins_with, is_name_byte}
-use Rattle.scan.specs.Longest.{IsLongest}
-use Rattle.scan.specs.RuleTokens.{is_among, is_unsigned_operator}
+use Rattle.scan.proofs.Common.{ℕ, [], ◌∷◌, sym, ap, ◌∙◌, subst, not, refl, inl, inr, arith, take_rest, codes, begins_with, is_name_byte, IsLongest, is_among, is_unsigned_operator}
 use Rattle.scan.proofs.Fronts.{before_some, before_none, two_of}
 use Rattle.scan.proofs.length.unsigned_operator.Goals as goal
 use Rattle.scan.proofs.length.unsigned_operator.Goals.{else-longest_among-eq2-via-then-longest_among-eq2+else-not-begins_name_byte, else-longest_among-eq2-via-else-longest_among-eq2}

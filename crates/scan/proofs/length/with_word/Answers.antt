@@ -1,5 +1,4 @@
-use Rattle.std.proofs.Common.{◌≡◌, refl, ◌≤◌, List, ℕ, Bool, true, false, length, take, subst, sym, ◌∙◌, inl, inr, arith}
-use Rattle.std.specs.Str.{bytes_eq}
+use Rattle.scan.proofs.Common.{◌≡◌, refl, ◌≤◌, List, ℕ, Bool, true, false, length, take, subst, sym, ◌∙◌, inl, inr, arith, bytes_eq}
 use Rattle.scan.proofs.Fronts.{among_longer, among_no_longer}
 use Rattle.scan.proofs.length.with_word.Goals as goal
 use Rattle.scan.proofs.length.with_word.Goals.{else-word-longest-via-then-word-longest+else-starts_with, else-word-longest-via-else-word-longest}

@@ -1,7 +1,4 @@
-use Rattle.std.proofs.Common.{sym, ◌∙◌, subst, ℕ}
-use Rattle.scan.specs.Bytes.{is_letter, is_word_byte}
-use Rattle.scan.specs.Longest.{IsLongest}
-use Rattle.scan.specs.RuleTokens.{is_rule_word}
+use Rattle.scan.proofs.Common.{sym, ◌∙◌, subst, ℕ, is_letter, is_word_byte, IsLongest, is_rule_word}
 use Rattle.scan.proofs.Fronts.{begun_longest, begun_none}
 use Rattle.scan.proofs.length.word.Goals as goal
 

@@ -1,5 +1,4 @@
-use Rattle.std.proofs.Common.{ℕ, take, drop, ap}
-use Rattle.std.proofs.lemmas.List.{take_rest}
+use Rattle.scan.proofs.Common.{ℕ, take, drop, ap, take_rest}
 use Rattle.scan.proofs.name.rest_of_line.Goals as goal
 
 pub returns : goal.returns

@@ -1,7 +1,4 @@
-use Rattle.std.proofs.Common.{◌≡◌, ℕ, Bool, false, eqb, ◌&&◌, List, [], ◌∷◌, refl, sym, ap, ◌∙◌}
-use Rattle.std.specs.List.{list_all}
-use Rattle.scan.specs.Bytes.{is_digit, begins_with}
-use Rattle.scan.specs.RuleTokens.{is_choice}
+use Rattle.scan.proofs.Common.{◌≡◌, ℕ, Bool, false, eqb, ◌&&◌, List, [], ◌∷◌, refl, sym, ap, ◌∙◌, list_all, is_digit, begins_with, is_choice}
 use Rattle.scan.proofs.primary.is_choice.Goals as goal
 
 choice_behind : (word digits : List ℕ) → word ≡ 116 ∷ digits → is_choice word ≡ (begins_with is_digit digits && list_all is_digit digits)

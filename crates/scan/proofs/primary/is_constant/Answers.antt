@@ -1,7 +1,4 @@
-use Rattle.std.proofs.Common.{◌≡◌, ℕ, false, eqb, List, [], ◌∷◌, refl, sym, ap, ◌∙◌}
-use Rattle.std.specs.List.{list_all}
-use Rattle.scan.specs.Bytes.{is_digit, begins_with}
-use Rattle.scan.specs.RuleTokens.{is_constant}
+use Rattle.scan.proofs.Common.{◌≡◌, ℕ, false, eqb, List, [], ◌∷◌, refl, sym, ap, ◌∙◌, list_all, is_digit, begins_with, is_constant}
 use Rattle.scan.proofs.primary.is_constant.Goals as goal
 
 constant_behind : (word digits : List ℕ) → word ≡ 67 ∷ digits → is_constant word ≡ list_all is_digit digits

@@ -1,6 +1,4 @@
-use Rattle.std.proofs.Common.{◌≡◌, ℕ, List, ◌++◌, refl, ap₂, ◌∙◌}
-use Rattle.std.proofs.lemmas.Result.{on_ok_weaker}
-use Rattle.proof_text.specs.Texts.{proof_text}
+use Rattle.stored_logs.proofs.Common.{◌≡◌, ℕ, List, ◌++◌, refl, ap₂, ◌∙◌, on_ok_weaker, proof_text}
 use Rattle.stored_logs.proofs.proved.push_refutation.Goals as goal
 
 pub returns : goal.returns

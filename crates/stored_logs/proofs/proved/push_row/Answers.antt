@@ -1,7 +1,4 @@
-use Rattle.std.proofs.Common.{[], ◌∷◌, ◌++◌, refl, sym, ap, subst, ◌∙◌}
-use Rattle.std.proofs.lemmas.Bool.{false≢true}
-use Rattle.stored_logs.specs.declared.proved.Proved.{Proved}
-use Rattle.stored_logs.specs.Additions.{AddsProof}
+use Rattle.stored_logs.proofs.Common.{[], ◌∷◌, ◌++◌, refl, sym, ap, subst, ◌∙◌, false≢true, Proved, AddsProof}
 use Rattle.stored_logs.proofs.Proving.{row_at, refutation_of, admitted_row, other_row}
 use Rattle.stored_logs.proofs.proved.push_row.Goals as goal
 use Rattle.stored_logs.proofs.proved.push_row.Goals.{then-is_admitted+in_ok-push_refutation, else-is_admitted}

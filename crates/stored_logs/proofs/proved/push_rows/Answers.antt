@@ -1,5 +1,4 @@
-use Rattle.std.proofs.Common.{◌≡◌, [], ◌∷◌, ◌∙◌, append_assoc}
-use Rattle.std.specs.Vec.Iter.{into_iter_items}
+use Rattle.stored_logs.proofs.Common.{◌≡◌, [], ◌∷◌, ◌∙◌, append_assoc, into_iter_items}
 use Rattle.stored_logs.proofs.Proving.{no_rows, more_rows}
 use Rattle.stored_logs.proofs.proved.push_rows.Goals as goal
 

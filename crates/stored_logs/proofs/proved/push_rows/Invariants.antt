@@ -1,6 +1,4 @@
-use Rattle.std.proofs.Common.{◌≡◌, ◌++◌}
-use Rattle.std.specs.Vec.Iter.{into_iter_items}
-use Rattle.stored_logs.specs.Additions.{AddsProved}
+use Rattle.stored_logs.proofs.Common.{◌≡◌, ◌++◌, into_iter_items, AddsProved}
 use Rattle.stored_logs.proofs.proved.push_rows.Given as goal
 
 -- the rows are those of the typings so far; the others remain

@@ -1,6 +1,4 @@
-use Rattle.std.proofs.Common.{refl}
-use Rattle.std.proofs.lemmas.Result.{on_ok_weaker}
-use Rattle.verdict.specs.Limits.{most_typings}
+use Rattle.stored_logs.proofs.Common.{refl, on_ok_weaker, most_typings}
 use Rattle.stored_logs.proofs.Proving.{typed, decided, too_many}
 use Rattle.stored_logs.proofs.proved.push_rule.Goals as goal
 

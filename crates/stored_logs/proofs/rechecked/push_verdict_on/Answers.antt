@@ -1,9 +1,4 @@
-use Rattle.std.proofs.Common.{refl, sym, subst}
-use Rattle.std.proofs.lemmas.Option.{slice_get_within}
-use Rattle.std.proofs.lemmas.Result.{on_ok_weaker}
-use Rattle.rule_core.specs.declared.rule.Rule.{Rule}
-use Rattle.rule_core.specs.Checks.{IsRule}
-use Rattle.rule_core.specs.Typing.{IsTyping}
+use Rattle.stored_logs.proofs.Common.{refl, sym, subst, slice_get_within, on_ok_weaker, Rule, IsRule, IsTyping}
 use Rattle.stored_logs.proofs.Rechecking.{one_verdict, read_at}
 use Rattle.stored_logs.proofs.rechecked.push_verdict_on.Goals as goal
 

@@ -1,11 +1,4 @@
-use Rattle.std.proofs.Common.{◌≡◌, List, [], ◌∷◌, ◌++◌, ap, sym, refl, subst, ◌∙◌, append_assoc, arith, rules}
-use Rattle.std.specs.Vec.Iter.{into_iter_items}
-use Rattle.std.proofs.lemmas.List.{append-nil, nil_from_length}
-use Rattle.std.proofs.lemmas.List.Elements.{All-weaker}
-use Rattle.rule_typing.specs.Classes.{IsClassified}
-use Rattle.verdict.specs.Findings.{IsReadRule}
-use Rattle.proof_reader.specs.declared.proof.RuleProof.{RuleProof}
-use Rattle.proof_reader.specs.Reading.{IsReadOf}
+use Rattle.stored_logs.proofs.Common.{◌≡◌, List, [], ◌∷◌, ◌++◌, ap, sym, refl, subst, ◌∙◌, append_assoc, arith, rules, into_iter_items, append-nil, nil_from_length, All-weaker, IsClassified, IsReadRule, RuleProof, IsReadOf}
 use Rattle.stored_logs.proofs.Rechecking.{none_yet, one_more, next_typed, all_rechecked}
 use Rattle.stored_logs.proofs.rechecked.recheck.Goals as goal
 

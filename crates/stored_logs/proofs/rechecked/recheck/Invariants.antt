@@ -1,6 +1,4 @@
-use Rattle.std.proofs.Common.{◌++◌}
-use Rattle.std.specs.Vec.Iter.{into_iter_items}
-use Rattle.proof_reader.specs.Reading.{IsReadOf}
+use Rattle.stored_logs.proofs.Common.{◌++◌, into_iter_items, IsReadOf}
 use Rattle.stored_logs.proofs.Rechecking.{AreRows}
 use Rattle.stored_logs.proofs.rechecked.recheck.Given as goal
 

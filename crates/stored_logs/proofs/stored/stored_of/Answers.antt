@@ -1,10 +1,4 @@
-use Rattle.std.proofs.Common.{◌≡◌, List, [], ◌∷◌, ◌++◌, ap, sym, subst, ◌∙◌, append_assoc, arith}
-use Rattle.std.specs.Prelude.{All}
-use Rattle.std.specs.Vec.Iter.{into_iter_items}
-use Rattle.std.proofs.lemmas.List.{append-nil, nil_from_length}
-use Rattle.std.proofs.lemmas.List.Elements.{All-nil}
-use Rattle.proof_reader.specs.declared.proof.RuleProof.{RuleProof}
-use Rattle.stored_logs.specs.Stored.{AreOfPairsOnce, IsLogStored}
+use Rattle.stored_logs.proofs.Common.{◌≡◌, List, [], ◌∷◌, ◌++◌, ap, sym, subst, ◌∙◌, append_assoc, arith, All, into_iter_items, append-nil, nil_from_length, All-nil, RuleProof, AreOfPairsOnce, IsLogStored}
 use Rattle.stored_logs.proofs.Storing.{one_more_stored}
 use Rattle.stored_logs.proofs.stored.stored_of.Goals as goal
 

@@ -1,6 +1,4 @@
-use Rattle.std.proofs.Common.{◌≡◌, All, ◌++◌}
-use Rattle.std.specs.Vec.Iter.{into_iter_items}
-use Rattle.stored_logs.specs.Stored.{IsLogStored}
+use Rattle.stored_logs.proofs.Common.{◌≡◌, All, ◌++◌, into_iter_items, IsLogStored}
 use Rattle.stored_logs.proofs.stored.stored_of.Given as goal
 
 -- the logs of the proofs so far are stored; the others remain

@@ -1,5 +1,5 @@
 -- the widths so far
-use Rattle.std.proofs.Common.{◌≡◌, take}
+use Rattle.stored_logs.proofs.Common.{◌≡◌, take}
 use Rattle.stored_logs.proofs.words.numbers_of.Given as goal
 
 abbrev pub invariant-loop-width : goal.invariant-loop-width

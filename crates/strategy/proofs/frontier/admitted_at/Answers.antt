@@ -1,15 +1,4 @@
-use Rattle.std.proofs.Common.{◌≡◌, ◌<◌, List, length, None, Some, refl, sym, ap, subst, ◌∙◌, arith}
-use Rattle.std.specs.Prelude.{All, slice_get, ◌^◌}
-use Rattle.std.proofs.lemmas.Option.{get_or_from_slice_get, slice_get_within}
-use Rattle.ir_core.specs.Blocks.{HasInst}
-use Rattle.ir_core.specs.declared.function.Block.{Block}
-use Rattle.ir_core.specs.declared.function.Function.{Function}
-use Rattle.bindings.specs.Facts.{AreFactsOf}
-use Rattle.bindings.specs.declared.rule_match.Match.{Match}
-use Rattle.bindings.specs.Matches.{AreMatchesInAnyOrder, IsAt}
-use Rattle.draft.specs.Drafts.{arena_of}
-use Rattle.draft.proofs.Wholeness.{counted_insts}
-use Rattle.verdict.specs.Parts.{AsksToPlace}
+use Rattle.strategy.proofs.Common.{◌≡◌, ◌<◌, List, length, None, Some, refl, sym, ap, subst, ◌∙◌, arith, All, slice_get, ◌^◌, get_or_from_slice_get, slice_get_within, HasInst, Block, Function, AreFactsOf, Match, AreMatchesInAnyOrder, IsAt, arena_of, counted_insts, AsksToPlace}
 use Rattle.strategy.proofs.frontier.admitted_at.Goals as goal
 use Rattle.strategy.proofs.frontier.admitted_at.Goals.{After-as_slice-matches, In-Some}
 

@@ -1,5 +1,4 @@
-use Rattle.std.proofs.Common.{arith}
-use Rattle.std.proofs.lemmas.Option.{slice_get_within}
+use Rattle.strategy.proofs.Common.{arith, slice_get_within}
 use Rattle.strategy.proofs.frontier.depth_of.Goals as goal
 
 pub returns : goal.returns

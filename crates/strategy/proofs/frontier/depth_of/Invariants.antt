@@ -1,7 +1,5 @@
 -- no source so far has more than `depth` + 1 statements
-use Rattle.std.proofs.Common.{◌≡◌, ◌+◌, ◌<◌, ◌≤◌, ℕ, suc, length, Some}
-use Rattle.std.specs.Prelude.{slice_get, ◌^◌}
-use Rattle.rule_core.specs.declared.rule.Rule.{Rule}
+use Rattle.strategy.proofs.Common.{◌≡◌, ◌+◌, ◌<◌, ◌≤◌, ℕ, suc, length, Some, slice_get, ◌^◌, Rule}
 use Rattle.strategy.proofs.frontier.depth_of.Given as goal
 
 abbrev pub invariant-loop-rule : goal.invariant-loop-rule

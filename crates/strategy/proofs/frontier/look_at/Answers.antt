@@ -1,5 +1,4 @@
-use Rattle.std.proofs.Common.{inl, inr, refl}
-use Rattle.rule_typing.proofs.Among.{fails, holds}
+use Rattle.strategy.proofs.Common.{inl, inr, refl, fails, holds}
 use Rattle.strategy.proofs.frontier.look_at.Goals as goal
 
 pub returns-then-not-stands : goal.returns-then-not-stands

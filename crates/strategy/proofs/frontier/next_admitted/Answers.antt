@@ -1,9 +1,4 @@
-use Rattle.std.proofs.Common.{map, subst}
-use Rattle.draft.specs.Drafts.{Stands}
-use Rattle.draft_steps.specs.DraftWorklists.{ComesNext, members_of}
-use Rattle.places.specs.Sets.{IsRemoved}
-use Rattle.strategy_core.specs.Asked.{pair_of}
-use Rattle.strategy.specs.Frontiers.{LooksAt}
+use Rattle.strategy.proofs.Common.{map, subst, Stands, ComesNext, members_of, IsRemoved, pair_of, LooksAt}
 use Rattle.strategy.proofs.Searching.{IsNext, looked_found, looked_past, not_gone, searched}
 use Rattle.strategy.proofs.Stepping.{still_may_ask}
 use Rattle.strategy.proofs.frontier.next_admitted.Goals as goal

@@ -1,6 +1,5 @@
 -- matches at places that are not on the worklist are turned down, and the search has come to the first place that is
-use Rattle.draft_steps.specs.DraftWorklists.{IsWorklistOf, size_of, members_of}
-use Rattle.strategy.specs.Frontiers.{AreTurnedDownBut, Nowhere}
+use Rattle.strategy.proofs.Common.{IsWorklistOf, size_of, members_of, AreTurnedDownBut, Nowhere}
 use Rattle.strategy.proofs.Searching.{Gone}
 use Rattle.strategy.proofs.frontier.next_admitted.Given as goal
 

@@ -1,4 +1,4 @@
-use Rattle.std.proofs.Common.{◌≡◌, ℕ, sym, subst, arith}
+use Rattle.strategy.proofs.Common.{◌≡◌, ℕ, sym, subst, arith}
 use Rattle.strategy.proofs.Stepping.{Along, no_step_yet, spent}
 use Rattle.strategy.proofs.frontier.optimise_cleaned.Goals as goal
 

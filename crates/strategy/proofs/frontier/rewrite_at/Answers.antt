@@ -1,19 +1,5 @@
-use Rattle.std.proofs.Common.{◌≡◌, ℕ, List, length, ◌+◌, ◌*◌, ◌≤◌, sym, subst}
-use Rattle.std.specs.Prelude.{All, Contains}
-use Rattle.ir_core.specs.Checks.{MeetsChecks}
-use Rattle.ir_core.specs.declared.function.Block.{Block}
-use Rattle.ir_core.specs.declared.function.Function.{Function}
-use Rattle.ir_meaning.specs.HistoryLaws.{NumbersFit}
-use Rattle.needed.specs.Cleaned.{IsCleaned}
-use Rattle.places.specs.declared.place.Place.{Place}
-use Rattle.draft.specs.Drafts.{arena_of, function_of, orders_of}
+use Rattle.strategy.proofs.Common.{◌≡◌, ℕ, List, length, ◌+◌, ◌*◌, ◌≤◌, sym, subst, All, Contains, MeetsChecks, Block, Function, NumbersFit, IsCleaned, Place, arena_of, function_of, orders_of, members_of, IsPlaceIn, same_numbers, still_clean, still_settled, placed_match, PlaceOf}
 use Rattle.places.specs.Orders.{none}
-use Rattle.draft_steps.specs.DraftWorklists.{members_of}
-use Rattle.readers.specs.Readers.{IsPlaceIn}
-use Rattle.draft_steps.proofs.SameDrafts.{same_numbers}
-use Rattle.draft_steps.proofs.Unchanged.{still_clean, still_settled}
-use Rattle.draft_steps.specs.MatchLaws.{placed_match}
-use Rattle.strategy.specs.Frontiers.{PlaceOf}
 use Rattle.strategy.proofs.Reaching.{reached_as_before}
 use Rattle.strategy.proofs.Requeueing.{same_function, still_down}
 use Rattle.strategy.proofs.frontier.rewrite_at.Goals as goal

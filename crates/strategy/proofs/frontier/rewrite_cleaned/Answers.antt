@@ -1,13 +1,5 @@
-use Rattle.std.proofs.Common.{◌≡◌, ◌+◌, ◌*◌, ◌-◌, ◌≤◌, ℕ, suc, true, false, length, sym, subst, ◌∙◌, arith}
-use Rattle.std.specs.Prelude.{All}
-use Rattle.ir_core.specs.Checks.{MeetsChecks}
-use Rattle.ir_core.specs.declared.function.Block.{Block}
-use Rattle.ir_core.specs.declared.function.Function.{Function}
-use Rattle.draft.specs.Drafts.{arena_of, function_of}
+use Rattle.strategy.proofs.Common.{◌≡◌, ◌+◌, ◌*◌, ◌-◌, ◌≤◌, ℕ, suc, true, false, length, sym, subst, ◌∙◌, arith, All, MeetsChecks, Block, Function, arena_of, function_of, AsksAll, IsAnywhere, IsCountable, StepsOrEnds}
 use Rattle.places.specs.Orders.{none}
-use Rattle.verdict.specs.Asks.{AsksAll, IsAnywhere}
-use Rattle.strategy_core.specs.Countable.{IsCountable}
-use Rattle.strategy.specs.Searches.{StepsOrEnds}
 use Rattle.strategy.proofs.Requeueing.{few_numbers, room_at_first, room_for_fewer}
 use Rattle.strategy.proofs.Sizes.{countable_less}
 use Rattle.strategy.proofs.Stepping.{Along, ended, no_step_yet, one_step_more, spent, still_may_ask}

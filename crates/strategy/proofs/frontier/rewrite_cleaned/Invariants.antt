@@ -1,7 +1,5 @@
 -- some steps are made, and there are enough free numbers for the others
-use Rattle.std.proofs.Common.{◌-◌}
-use Rattle.draft.specs.Drafts.{HasRoomFor, function_of}
-use Rattle.strategy.specs.Frontiers.{IsFrontier}
+use Rattle.strategy.proofs.Common.{◌-◌, HasRoomFor, function_of, IsFrontier}
 use Rattle.strategy.proofs.Stepping.{Along}
 use Rattle.strategy.proofs.frontier.rewrite_cleaned.Given as goal
 

@@ -1,18 +1,4 @@
-use Rattle.std.proofs.Common.{◌≡◌, List, get_or, sym, subst, ◌∙◌}
-use Rattle.std.proofs.lemmas.Option.{get_or_from_slice_get, slice_get_within}
-use Rattle.std.proofs.lemmas.Result.{IfOk-weaker}
-use Rattle.bindings.specs.Match.{IsMatch}
-use Rattle.rewriter.specs.Applied.{IsRewritten}
-use Rattle.rule_core.specs.Checks.{IsRule}
-use Rattle.rule_core.specs.declared.rule.Rule.{Rule}
-use Rattle.rule_typing.specs.Faults.{HasNoFault}
-use Rattle.bindings.specs.Matches.{IsMatchAmong}
-use Rattle.bindings.specs.Ready.{AreReady}
-use Rattle.bindings.specs.declared.rule_match.Match.{Match}
-use Rattle.draft.specs.Drafts.{function_of}
-use Rattle.draft_steps.specs.MatchLaws.{placed_match}
-use Rattle.ir_core.specs.declared.function.Function.{Function}
-use Rattle.strategy_core.proofs.Numbers.{cleaned_numbers_fit}
+use Rattle.strategy.proofs.Common.{◌≡◌, List, get_or, sym, subst, ◌∙◌, get_or_from_slice_get, slice_get_within, IfOk-weaker, IsMatch, IsRewritten, IsRule, Rule, HasNoFault, IsMatchAmong, AreReady, Match, function_of, placed_match, Function, cleaned_numbers_fit}
 use Rattle.strategy.proofs.frontier.rewrite_draft.Goals as goal
 
 -- the rule that is read is the one that the match is of

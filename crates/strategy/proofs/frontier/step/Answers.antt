@@ -1,8 +1,4 @@
-use Rattle.std.proofs.Common.{Some, None, suc, subst, arith}
-use Rattle.draft.specs.Drafts.{function_of}
-use Rattle.draft_steps.specs.DraftWorklists.{members_of}
-use Rattle.draft_steps.specs.MatchLaws.{placed_match}
-use Rattle.strategy.specs.Frontiers.{SearchesTo}
+use Rattle.strategy.proofs.Common.{Some, None, suc, subst, arith, function_of, members_of, placed_match, SearchesTo}
 use Rattle.strategy.proofs.Requeueing.{room_for_fewer}
 use Rattle.strategy.proofs.Stepping.{search_ended, step_made}
 use Rattle.strategy.proofs.frontier.step.Goals as goal

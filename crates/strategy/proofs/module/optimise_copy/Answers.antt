@@ -1,6 +1,4 @@
-use Rattle.std.proofs.Common.{◌≡◌, subst}
-use Rattle.ir_core.specs.declared.function.Function.{Function}
-use Rattle.strategy.specs.Searches.{OptimisesFunction}
+use Rattle.strategy.proofs.Common.{◌≡◌, subst, Function, OptimisesFunction}
 use Rattle.strategy.proofs.Entering.{entry_optimised}
 use Rattle.strategy.proofs.module.optimise_copy.Goals as goal
 

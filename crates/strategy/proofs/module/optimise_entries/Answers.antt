@@ -1,8 +1,4 @@
-use Rattle.std.proofs.Common.{◌+◌, List, length, take, refl, sym, subst, arith}
-use Rattle.std.proofs.lemmas.List.{take_all}
-use Rattle.std.proofs.lemmas.Option.{slice_get_read}
-use Rattle.ir_core.specs.declared.module.Entry.{Entry}
-use Rattle.strategy.specs.Entries.{OptimisesEntries, OptimisesEntry}
+use Rattle.strategy.proofs.Common.{◌+◌, List, length, take, refl, sym, subst, arith, take_all, slice_get_read, Entry, OptimisesEntries, OptimisesEntry}
 use Rattle.strategy.proofs.Entering.{none_entered, one_entered}
 use Rattle.strategy.proofs.Stepping.{still_may_ask}
 use Rattle.strategy.proofs.module.optimise_entries.Goals as goal

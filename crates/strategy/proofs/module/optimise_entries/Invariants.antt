@@ -1,5 +1,4 @@
-use Rattle.std.proofs.Common.{take}
-use Rattle.strategy.specs.Entries.{OptimisesEntries}
+use Rattle.strategy.proofs.Common.{take, OptimisesEntries}
 use Rattle.strategy.proofs.module.optimise_entries.Given as goal
 
 abbrev pub invariant-loop-entry : goal.invariant-loop-entry

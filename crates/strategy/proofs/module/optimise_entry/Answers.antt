@@ -1,7 +1,5 @@
-use Rattle.std.proofs.Common.{◌≡◌, ℕ, List, sym, subst, ◌∙◌}
-use Rattle.ir_core.specs.declared.module.Entry.{Entry}
+use Rattle.strategy.proofs.Common.{◌≡◌, ℕ, List, sym, subst, ◌∙◌, Entry, EntryIsReady, OptimisesEntry}
 use Rattle.ir_core.specs.declared.module.Entry.TheVariants as entries
-use Rattle.strategy.specs.Entries.{EntryIsReady, OptimisesEntry}
 use Rattle.strategy.proofs.Entering.{entry_kept}
 use Rattle.strategy.proofs.module.optimise_entry.Goals as goal
 

@@ -1,10 +1,4 @@
-use Rattle.std.proofs.Common.{List, [], sym, subst, ◌∙◌}
-use Rattle.std.specs.Prelude.{All}
-use Rattle.ir_core.specs.declared.module.Entry.{Entry}
-use Rattle.ir_core.specs.declared.module.Module.{Module}
-use Rattle.verdict.specs.Stored.{IsUnrefutedIn}
-use Rattle.verdict.specs.declared.stored.StoredLogs.{StoredLogs}
-use Rattle.strategy.specs.Entries.{EntriesAreReady, OptimisesEntries}
+use Rattle.strategy.proofs.Common.{List, [], sym, subst, ◌∙◌, All, Entry, Module, IsUnrefutedIn, StoredLogs, EntriesAreReady, OptimisesEntries}
 use Rattle.strategy.proofs.Entering.{given, no_verdicts}
 use Rattle.strategy.proofs.module.plain_strategy.Goals as goal
 

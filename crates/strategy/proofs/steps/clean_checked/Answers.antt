@@ -1,5 +1,4 @@
-use Rattle.std.proofs.lemmas.Result.{on_ok_weaker}
-use Rattle.strategy_core.proofs.Numbers.{cleaned_numbers_fit}
+use Rattle.strategy.proofs.Common.{on_ok_weaker, cleaned_numbers_fit}
 use Rattle.strategy.proofs.Sizes.{few_insts}
 use Rattle.strategy.proofs.steps.clean_checked.Goals as goal
 

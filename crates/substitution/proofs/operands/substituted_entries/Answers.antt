@@ -1,8 +1,4 @@
-use Rattle.std.proofs.Common.{ℕ, ◌<◌, ◌∙◌, ap, sym, length, get_or, arith}
-use Rattle.ir_core.specs.declared.operand.Operand.{Operand}
-use Rattle.substitution.specs.Rewritten.{stands_for}
-use Rattle.substitution.specs.Room.{HasRoom}
-use Rattle.substitution.specs.Substitution.{substituted_operand}
+use Rattle.substitution.proofs.Common.{ℕ, ◌<◌, ◌∙◌, ap, sym, length, get_or, arith, Operand, stands_for, HasRoom, substituted_operand}
 use Rattle.substitution.proofs.Mapping.{next_holds, map_more}
 use Rattle.substitution.proofs.operands.substituted_entries.Goals as goal
 

@@ -1,5 +1,4 @@
-use Rattle.substitution.specs.Rewritten.{stands_for}
-use Rattle.substitution.specs.Substitution.{substituted_operand}
+use Rattle.substitution.proofs.Common.{stands_for, substituted_operand}
 use Rattle.substitution.proofs.Mapping.{Mapped}
 use Rattle.substitution.proofs.operands.substituted_entries.Given as goal
 

@@ -1,8 +1,4 @@
-use Rattle.std.proofs.Common.{◌<◌, ◌∙◌, ap, sym, length, arith}
-use Rattle.ir_core.specs.declared.instruction.Inst.{Inst}
-use Rattle.substitution.specs.Rewritten.{stands_for}
-use Rattle.substitution.specs.Room.{OpHasRoom}
-use Rattle.substitution.specs.Substitution.{substituted_inst}
+use Rattle.substitution.proofs.Common.{◌<◌, ◌∙◌, ap, sym, length, arith, Inst, stands_for, OpHasRoom, substituted_inst}
 use Rattle.substitution.proofs.Mapping.{next_holds, map_more}
 use Rattle.substitution.proofs.operands.substituted_insts.Goals as goal
 

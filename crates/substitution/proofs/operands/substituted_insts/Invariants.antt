@@ -1,5 +1,4 @@
-use Rattle.substitution.specs.Rewritten.{stands_for}
-use Rattle.substitution.specs.Substitution.{substituted_inst}
+use Rattle.substitution.proofs.Common.{stands_for, substituted_inst}
 use Rattle.substitution.proofs.Mapping.{Mapped}
 use Rattle.substitution.proofs.operands.substituted_insts.Given as goal
 

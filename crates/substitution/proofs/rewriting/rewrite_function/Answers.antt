@@ -1,13 +1,4 @@
-use Rattle.std.proofs.Common.{◌≡◌, ℕ, ◌+◌, ◌<◌, ◌≤◌, ◌∙◌, List, Some, ap, sym, subst, length, map, arith, get_or, All, vec_capacity}
-use Rattle.std.specs.Prelude.{slice_get, slice_set, option_map}
-use Rattle.std.proofs.lemmas.List.{length-map}
-use Rattle.std.proofs.lemmas.Option.{slice_get-map, get_or_from_slice_get}
-use Rattle.ir_core.specs.declared.function.Block.{Block}
-use Rattle.substitution.specs.Rewritten.{stands_for}
-use Rattle.substitution.specs.Room.{BlockHasRoom}
-use Rattle.substitution.specs.Substitution.{substituted_block}
-use Rattle.substitution.specs.Put.{block_with}
-use Rattle.substitution.specs.Rewritten.{Rewrite}
+use Rattle.substitution.proofs.Common.{◌≡◌, ℕ, ◌+◌, ◌<◌, ◌≤◌, ◌∙◌, List, Some, ap, sym, subst, length, map, arith, get_or, All, vec_capacity, slice_get, slice_set, option_map, length-map, slice_get-map, get_or_from_slice_get, Block, stands_for, BlockHasRoom, substituted_block, block_with, Rewrite}
 use Rattle.substitution.proofs.Rebuilding.{blocks_have_room, blocks_at}
 use Rattle.substitution.proofs.rewriting.rewrite_function.Goals as goal
 

@@ -1,7 +1,4 @@
-use Rattle.std.proofs.Common.{◌<◌, ◌∙◌, ap, sym, length, arith}
-use Rattle.substitution.specs.Rewritten.{stands_for}
-use Rattle.substitution.specs.Room.{BlockHasRoom}
-use Rattle.substitution.specs.Substitution.{substituted_block}
+use Rattle.substitution.proofs.Common.{◌<◌, ◌∙◌, ap, sym, length, arith, stands_for, BlockHasRoom, substituted_block}
 use Rattle.substitution.proofs.Mapping.{next_holds, map_more}
 use Rattle.substitution.proofs.rewriting.substituted_blocks.Goals as goal
 

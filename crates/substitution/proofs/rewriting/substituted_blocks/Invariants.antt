@@ -1,5 +1,4 @@
-use Rattle.substitution.specs.Rewritten.{stands_for}
-use Rattle.substitution.specs.Substitution.{substituted_block}
+use Rattle.substitution.proofs.Common.{stands_for, substituted_block}
 use Rattle.substitution.proofs.Mapping.{Mapped}
 use Rattle.substitution.proofs.rewriting.substituted_blocks.Given as goal
 

@@ -1,8 +1,4 @@
-use Rattle.std.proofs.Common.{◌≡◌, ◌+◌, ◌-◌, ◌++◌, ◌∙◌, List, [], ap, length, take, drop, arith, vec_len}
-use Rattle.std.specs.Prelude.{is_ok, IsOk}
-use Rattle.std.proofs.lemmas.Bool.{cond-true}
-use Rattle.std.proofs.lemmas.List.{drop_all}
-use Rattle.ir_core.specs.declared.instruction.Inst.{Inst}
+use Rattle.substitution.proofs.Common.{◌≡◌, ◌+◌, ◌-◌, ◌++◌, ◌∙◌, List, [], ap, length, take, drop, arith, vec_len, is_ok, IsOk, cond-true, drop_all, Inst}
 use Rattle.substitution.proofs.PuttingIn.{put_in}
 use Rattle.substitution.proofs.rewriting.with_put.Goals as goal
 

@@ -1,6 +1,4 @@
-use Rattle.std.proofs.Common.{◌∙◌}
-use Rattle.std.proofs.lemmas.Result.{on_ok_weaker}
-use Rattle.clauses.specs.declared.step.Step.{Step}
+use Rattle.trimmed_logs.proofs.Common.{◌∙◌, on_ok_weaker, Step}
 use Rattle.trimmed_logs.proofs.renumbered.push_anew.Goals as goal
 
 pub returns : goal.returns

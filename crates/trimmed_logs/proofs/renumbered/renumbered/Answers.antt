@@ -1,9 +1,4 @@
-use Rattle.std.proofs.Common.{[], ◌∷◌, length, refl, sym, subst, arith, length-append}
-use Rattle.std.specs.Prelude.{Contains}
-use Rattle.std.proofs.lemmas.List.Elements.{All-push}
-use Rattle.std.proofs.lemmas.Option.{slice_get_read}
-use Rattle.clauses.specs.declared.step.Step.{Step}
-use Rattle.clauses.specs.ClauseSet.{clauses_of_steps}
+use Rattle.trimmed_logs.proofs.Common.{[], ◌∷◌, length, refl, sym, subst, arith, length-append, Contains, All-push, slice_get_read, Step, clauses_of_steps}
 use Rattle.trimmed_logs.proofs.Clauses.{clause_stands}
 use Rattle.trimmed_logs.proofs.renumbered.renumbered.Goals as goal
 

@@ -1,5 +1,4 @@
-use Rattle.std.proofs.Common.{◌≤◌, length, All, Contains}
-use Rattle.clauses.specs.ClauseSet.{clauses_of_steps}
+use Rattle.trimmed_logs.proofs.Common.{◌≤◌, length, All, Contains, clauses_of_steps}
 use Rattle.trimmed_logs.proofs.renumbered.renumbered.Given as goal
 
 abbrev pub invariant-loop-step : goal.invariant-loop-step

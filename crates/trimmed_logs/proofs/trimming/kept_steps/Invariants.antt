@@ -1,4 +1,4 @@
-use Rattle.std.proofs.Common.{◌+◌, ◌≤◌, length}
+use Rattle.trimmed_logs.proofs.Common.{◌+◌, ◌≤◌, length}
 use Rattle.trimmed_logs.proofs.trimming.kept_steps.Given as goal
 
 abbrev pub invariant-loop-place : goal.invariant-loop-place

@@ -1,7 +1,4 @@
-use Rattle.std.proofs.Common.{List, All, subst}
-use Rattle.std.specs.Prelude.{Contains}
-use Rattle.clauses.specs.declared.step.Step.{Step}
-use Rattle.clauses.specs.ClauseSet.{clauses_of_steps}
+use Rattle.trimmed_logs.proofs.Common.{List, All, subst, Contains, Step, clauses_of_steps}
 use Rattle.trimmed_logs.proofs.Clauses.{each_stands}
 use Rattle.trimmed_logs.proofs.trimming.trimmed.Goals as goal
 

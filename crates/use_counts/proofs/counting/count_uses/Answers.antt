@@ -1,4 +1,4 @@
-use Rattle.std.proofs.Common.{arith}
+use Rattle.use_counts.proofs.Common.{arith}
 use Rattle.use_counts.proofs.Places.{all_past}
 use Rattle.use_counts.proofs.counting.count_uses.Goals as goal
 

@@ -1,6 +1,5 @@
 -- the blocks so far are counted
-use Rattle.ir_core.specs.Assigned.{IsBefore}
-use Rattle.use_counts.specs.Counting.{AreCountsAmong}
+use Rattle.use_counts.proofs.Common.{IsBefore, AreCountsAmong}
 use Rattle.use_counts.proofs.counting.count_uses.Given as goal
 
 abbrev pub invariant-loop-block : goal.invariant-loop-block

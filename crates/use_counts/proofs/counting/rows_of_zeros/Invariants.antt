@@ -1,6 +1,5 @@
 -- a row for each block so far
-use Rattle.std.proofs.Common.{◌≡◌, take}
-use Rattle.std.specs.Prelude.{map, replicate, length}
+use Rattle.use_counts.proofs.Common.{◌≡◌, take, map, replicate, length}
 use Rattle.use_counts.proofs.counting.rows_of_zeros.Given as goal
 
 abbrev pub invariant-loop-block : goal.invariant-loop-block

@@ -1,5 +1,4 @@
-use Rattle.std.proofs.Common.{rules, ◌≡◌}
-use Rattle.use_counts.specs.Tables.{count_of}
+use Rattle.use_counts.proofs.Common.{rules, ◌≡◌, count_of}
 use Rattle.use_counts.proofs.Rows.{exact_at}
 use Rattle.use_counts.proofs.uses.uses_of.Goals as goal
 

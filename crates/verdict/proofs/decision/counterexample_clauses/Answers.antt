@@ -1,5 +1,4 @@
-use Rattle.std.proofs.Common.{◌≡◌, true, ap, length, arith}
-use Rattle.aig.specs.Graph.{value_of}
+use Rattle.verdict.proofs.Common.{◌≡◌, true, ap, length, arith, value_of}
 use Rattle.blast_rule.specs.Inputs.{input_bits}
 use Rattle.verdict.proofs.Chain.{stand_for_rule}
 use Rattle.verdict.proofs.InputBits.{input_bits_few}

@@ -1,5 +1,4 @@
-use Rattle.std.proofs.Common.{refl, take}
-use Rattle.blast_rule.specs.Settings.{setting_of}
+use Rattle.verdict.proofs.Common.{refl, take, setting_of}
 use Rattle.verdict.proofs.Chain.{model_refutes}
 use Rattle.verdict.proofs.Examples.{counterexample_with, refuted_by}
 use Rattle.verdict.proofs.Widths.{root_width_fits, choices_wide}

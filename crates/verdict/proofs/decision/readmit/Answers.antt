@@ -1,5 +1,4 @@
-use Rattle.std.proofs.Common.{◌≡◌, false, rules}
-use Rattle.clauses.specs.ClauseSet.{IsRefutation}
+use Rattle.verdict.proofs.Common.{◌≡◌, false, rules, IsRefutation}
 use Rattle.verdict.proofs.Chain.{valid_without_model}
 use Rattle.verdict.proofs.Proved.{not_refuted, keeps_unrefuted}
 use Rattle.verdict.proofs.decision.readmit.Goals as goal

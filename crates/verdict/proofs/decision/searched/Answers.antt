@@ -1,7 +1,4 @@
-use Rattle.std.proofs.Common.{List, subst, sym}
-use Rattle.clauses.specs.declared.step.Step.{Step}
-use Rattle.cdcl_log.specs.Found.{IsFound}
-use Rattle.verdict.specs.Honest.{IsHonestBudget}
+use Rattle.verdict.proofs.Common.{List, subst, sym, Step, IsFound, IsHonestBudget}
 use Rattle.verdict.proofs.Chain.{honest_budget}
 use Rattle.verdict.proofs.decision.searched.Goals as goal
 

@@ -1,5 +1,4 @@
-use Rattle.std.proofs.Common.{subst}
-use Rattle.verdict.specs.Proved.{IsAttempt}
+use Rattle.verdict.proofs.Common.{subst, IsAttempt}
 use Rattle.verdict.proofs.decision.verdict_by.Goals as goal
 
 pub returns-in-Refuted-clause-honest : goal.returns-in-Refuted-clause-honest

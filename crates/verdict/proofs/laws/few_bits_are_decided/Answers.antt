@@ -1,12 +1,5 @@
-use Rattle.std.proofs.Common.{◌≡◌, ℕ, ◌≤◌, List, refl, arith}
-use Rattle.std.specs.Prelude.{◌↔◌}
-use Rattle.rule_core.specs.declared.rule.Rule.{Rule}
-use Rattle.rule_core.specs.declared.example.Example.{Example}
-use Rattle.rule_core.specs.Valid.{IsValid}
+use Rattle.verdict.proofs.Common.{◌≡◌, ℕ, ◌≤◌, List, refl, arith, ◌↔◌, Rule, Example, IsValid, Verdict, Admitted, Refuted, WitnessFails, Budget, IsHonest, IsRefutedBy, setting_in}
 use Rattle.blast_rule.specs.Inputs.{input_bits}
-use Rattle.verdict_core.specs.declared.verdicts.Verdict.{Verdict}
-use Rattle.verdict_core.specs.declared.verdicts.Verdict.TheVariants.{Admitted, Refuted, WitnessFails, Budget}
-use Rattle.verdict.specs.Honest.{IsHonest, IsRefutedBy, setting_in}
 use Rattle.verdict.proofs.laws.few_bits_are_decided.Goals as goal
 
 -- a valid rule is refuted by no example

@@ -1,6 +1,4 @@
-use Rattle.std.proofs.Common.{◌≡◌, ◌+◌, ◌-◌, ◌*◌, ◌<◌, ◌≤◌, ℕ, zero, suc, Bool, true, false, List, [], ◌∷◌, length, drop, get_or, refl, add-one, arith}
-use Rattle.std.proofs.Math.Nat.{pow-succ'}
-use Rattle.circuits.specs.Word.{bit, number}
+use Rattle.verdict.proofs.Common.{◌≡◌, ◌+◌, ◌-◌, ◌*◌, ◌<◌, ◌≤◌, ℕ, zero, suc, Bool, true, false, List, [], ◌∷◌, length, drop, get_or, refl, add-one, arith, pow-succ', bit, number}
 use Rattle.verdict.proofs.reading.number_read.Goals as goal
 
 -- a bit in front of a number

@@ -1,5 +1,4 @@
-use Rattle.std.proofs.Common.{◌≡◌, ◌-◌, ◌^◌, ◌<◌, drop, length}
-use Rattle.circuits.specs.Word.{number}
+use Rattle.verdict.proofs.Common.{◌≡◌, ◌-◌, ◌^◌, ◌<◌, drop, length, number}
 use Rattle.verdict.proofs.reading.number_read.Given as goal
 
 abbrev pub invariant-loop-place : goal.invariant-loop-place

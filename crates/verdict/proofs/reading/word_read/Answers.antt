@@ -1,6 +1,4 @@
-use Rattle.std.proofs.Common.{◌≡◌, length, refl}
-use Rattle.std.proofs.Math.Nat.{mod-eq_of_lt}
-use Rattle.std.proofs.lemmas.List.{map-id}
+use Rattle.verdict.proofs.Common.{◌≡◌, length, refl, mod-eq_of_lt, map-id}
 use Rattle.verdict.proofs.reading.word_read.Goals as goal
 
 pub returns : goal.returns

@@ -1,5 +1,4 @@
-use Rattle.std.proofs.Common.{◌≡◌, map, take}
-use Rattle.blast_rule.specs.Parts.{number_held}
+use Rattle.verdict.proofs.Common.{◌≡◌, map, take, number_held}
 use Rattle.verdict.proofs.reading.words_read.Given as goal
 
 abbrev pub invariant-loop-word : goal.invariant-loop-word

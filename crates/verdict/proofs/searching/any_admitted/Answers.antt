@@ -1,5 +1,4 @@
-use Rattle.std.proofs.Common.{map, arith}
-use Rattle.strategy_core.specs.Asked.{pair_of}
+use Rattle.verdict.proofs.Common.{map, arith, pair_of}
 use Rattle.verdict.proofs.Parts.{next_block, no_block_asked, whole_function}
 use Rattle.verdict.proofs.Sequence.{still_verdicts}
 use Rattle.verdict.proofs.searching.any_admitted.Goals as goal

@@ -1,5 +1,5 @@
 -- the matches in the blocks so far are asked
-use Rattle.verdict.specs.Asks.{AsksAll}
+use Rattle.verdict.proofs.Common.{AsksAll}
 use Rattle.verdict.proofs.Parts.{IsInEarlierBlock}
 use Rattle.verdict.proofs.searching.any_admitted.Given as goal
 

@@ -1,6 +1,4 @@
-use Rattle.std.proofs.Common.{map, sym, subst, arith}
-use Rattle.bindings.specs.Matches.{AreMatchesWhere, IsAt}
-use Rattle.strategy_core.specs.Asked.{pair_of}
+use Rattle.verdict.proofs.Common.{map, sym, subst, arith, AreMatchesWhere, IsAt, pair_of}
 use Rattle.verdict.proofs.Parts.{asks_these, next_place, no_place_asked, whole_block}
 use Rattle.verdict.proofs.Sequence.{still_verdicts}
 use Rattle.verdict.proofs.searching.any_in_block.Goals as goal

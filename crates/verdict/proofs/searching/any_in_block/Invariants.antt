@@ -1,5 +1,5 @@
 -- the matches at the instructions so far are asked
-use Rattle.verdict.specs.Asks.{AsksAll}
+use Rattle.verdict.proofs.Common.{AsksAll}
 use Rattle.verdict.proofs.Parts.{IsEarlier}
 use Rattle.verdict.proofs.searching.any_in_block.Given as goal
 

@@ -1,10 +1,5 @@
-use Rattle.std.proofs.Common.{◌≡◌, ◌+◌, List, ◌++◌, ◌∷◌, [], map, take, sym, subst, arith}
-use Rattle.std.specs.Prelude.{◌||◌, All, Any, MatchBool}
-use Rattle.std.proofs.lemmas.List.{take_all}
-use Rattle.bindings.specs.declared.rule_match.Match.{Match}
-use Rattle.bindings.specs.Matches.{IsMatchAmong}
-use Rattle.strategy_core.specs.Asked.{pair_of, IsAdmitted, IsTurnedDown}
-use Rattle.verdict.specs.Asks.{Asks}
+use Rattle.verdict.proofs.Common.{◌≡◌, ◌+◌, List, ◌++◌, ◌∷◌, [], map, take, sym, subst, arith, ◌||◌, All, Any, MatchBool, take_all, Match, IsMatchAmong, pair_of, IsTurnedDown, Asks}
+use Rattle.strategy_core.specs.Asked.{IsAdmitted}
 use Rattle.verdict.proofs.Passing.{next_match, match_at, rule_within, rule_of, asks_more, any_more}
 use Rattle.verdict.proofs.Sequence.{still_verdicts}
 use Rattle.verdict.proofs.searching.any_of.Goals as goal

@@ -1,8 +1,6 @@
 -- the matches so far are asked, and `any` says whether one of them is admitted
-use Rattle.std.proofs.Common.{map, take}
-use Rattle.std.specs.Prelude.{All, Any, MatchBool}
-use Rattle.strategy_core.specs.Asked.{pair_of, IsAdmitted, IsTurnedDown}
-use Rattle.verdict.specs.Asks.{Asks}
+use Rattle.verdict.proofs.Common.{map, take, All, Any, MatchBool, pair_of, IsTurnedDown, Asks}
+use Rattle.strategy_core.specs.Asked.{IsAdmitted}
 use Rattle.verdict.proofs.searching.any_of.Given as goal
 
 abbrev pub invariant-loop-asking : goal.invariant-loop-asking

@@ -1,12 +1,5 @@
-use Rattle.std.proofs.Common.{◌≡◌, ◌+◌, List, ◌++◌, ◌∷◌, [], length, map, take, refl, sym, subst, arith}
-use Rattle.std.specs.Prelude.{All}
-use Rattle.std.proofs.lemmas.Bool.Decides.{when_true, when_false}
-use Rattle.std.proofs.lemmas.List.{take_all}
-use Rattle.std.proofs.lemmas.Option.{slice_get_read}
-use Rattle.bindings.specs.declared.rule_match.Match.{Match}
-use Rattle.bindings.specs.Matches.{IsMatchInAnyOrder}
-use Rattle.strategy_core.specs.Asked.{pair_of, IsAdmitted, IsTurnedDown}
-use Rattle.verdict.specs.Asks.{Asks}
+use Rattle.verdict.proofs.Common.{◌≡◌, ◌+◌, List, ◌++◌, ◌∷◌, [], length, map, take, refl, sym, subst, arith, All, when_true, when_false, take_all, slice_get_read, Match, IsMatchInAnyOrder, pair_of, IsTurnedDown, Asks}
+use Rattle.strategy_core.specs.Asked.{IsAdmitted}
 use Rattle.verdict.proofs.Passing.{next_match, match_at, rule_within, rule_of, asks_more, still_turned_down, turned_down_more}
 use Rattle.verdict.proofs.Sequence.{still_verdicts}
 use Rattle.verdict.proofs.searching.first_admitted.Goals as goal

@@ -1,8 +1,5 @@
 -- the matches so far are asked, and turned down
-use Rattle.std.proofs.Common.{map, take}
-use Rattle.std.specs.Prelude.{All}
-use Rattle.strategy_core.specs.Asked.{pair_of, IsTurnedDown}
-use Rattle.verdict.specs.Asks.{Asks}
+use Rattle.verdict.proofs.Common.{map, take, All, pair_of, IsTurnedDown, Asks}
 use Rattle.verdict.proofs.searching.first_admitted.Given as goal
 
 abbrev pub invariant-loop-place : goal.invariant-loop-place

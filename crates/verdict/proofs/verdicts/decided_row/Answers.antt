@@ -1,8 +1,4 @@
-use Rattle.std.proofs.Common.{◌≡◌, ℕ, ◌<◌, List, length, get_or, Some, refl, sym, ap, subst, ◌∙◌}
-use Rattle.std.specs.Prelude.{slice_get}
-use Rattle.std.proofs.lemmas.Option.{slice_get_read}
-use Rattle.rule_core.specs.declared.rule.Rule.{Rule}
-use Rattle.verdict.specs.Honest.{IsHonest}
+use Rattle.verdict.proofs.Common.{◌≡◌, ℕ, ◌<◌, List, length, get_or, Some, refl, sym, ap, subst, ◌∙◌, slice_get, slice_get_read, Rule, IsHonest}
 use Rattle.verdict.proofs.verdicts.decided_row.Goals as goal
 
 rule_at : (rules : List Rule) (r : ℕ) (rule : Rule) → r < length rules → rule ≡ get_or rules r rule → slice_get rules r ≡ Some rule

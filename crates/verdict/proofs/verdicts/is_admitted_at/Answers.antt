@@ -1,8 +1,4 @@
-use Rattle.std.proofs.Common.{◌≡◌, subst}
-use Rattle.std.specs.Prelude.{◌≢◌, MatchBool}
-use Rattle.std.proofs.lemmas.Option.{get_or_from_slice_get}
-use Rattle.verdict_core.specs.declared.verdicts.Row.{Row}
-use Rattle.verdict_core.specs.declared.verdicts.Verdict.TheVariants.{Admitted}
+use Rattle.verdict.proofs.Common.{◌≡◌, subst, ◌≢◌, MatchBool, get_or_from_slice_get, Row, Admitted}
 use Rattle.verdict.proofs.verdicts.is_admitted_at.Goals as goal
 
 pub returns : goal.returns

@@ -1,4 +1,4 @@
-use Rattle.std.proofs.lemmas.Result.{on_ok_weaker}
+use Rattle.verdict.proofs.Common.{on_ok_weaker}
 use Rattle.verdict.proofs.verdicts.push_decided.Goals as goal
 
 pub returns-clause-pushed : goal.returns-clause-pushed

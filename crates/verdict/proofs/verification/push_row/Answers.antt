@@ -1,4 +1,4 @@
-use Rattle.std.proofs.Common.{refl}
+use Rattle.verdict.proofs.Common.{refl}
 use Rattle.verdict.proofs.Findings.{one_row}
 use Rattle.verdict.proofs.verification.push_row.Goals as goal
 

@@ -1,5 +1,4 @@
-use Rattle.std.proofs.Common.{◌≡◌, [], ◌∷◌, ◌∙◌, append_assoc}
-use Rattle.std.specs.Vec.Iter.{into_iter_items}
+use Rattle.verdict.proofs.Common.{◌≡◌, [], ◌∷◌, ◌∙◌, append_assoc, into_iter_items}
 use Rattle.verdict.proofs.Findings.{no_rows, more_rows}
 use Rattle.verdict.proofs.verification.push_rows.Goals as goal
 

@@ -1,6 +1,4 @@
-use Rattle.std.proofs.Common.{◌≡◌, ◌++◌}
-use Rattle.std.specs.Vec.Iter.{into_iter_items}
-use Rattle.verdict.specs.Additions.{AddsRows}
+use Rattle.verdict.proofs.Common.{◌≡◌, ◌++◌, into_iter_items, AddsRows}
 use Rattle.verdict.proofs.verification.push_rows.Given as goal
 
 -- the rows are those of the typings so far; the others remain

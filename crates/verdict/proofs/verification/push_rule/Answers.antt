@@ -1,6 +1,4 @@
-use Rattle.std.proofs.Common.{refl}
-use Rattle.std.proofs.lemmas.Result.{on_ok_weaker}
-use Rattle.verdict.specs.Limits.{most_typings}
+use Rattle.verdict.proofs.Common.{refl, on_ok_weaker, most_typings}
 use Rattle.verdict.proofs.Findings.{typed, decided, too_many}
 use Rattle.verdict.proofs.verification.push_rule.Goals as goal
 

@@ -1,5 +1,4 @@
-use Rattle.std.proofs.Common.{take}
-use Rattle.verdict.specs.Verified.{IsVerified}
+use Rattle.verdict.proofs.Common.{take, IsVerified}
 use Rattle.verdict.proofs.verification.verify.Given as goal
 
 abbrev pub invariant-loop-place : goal.invariant-loop-place

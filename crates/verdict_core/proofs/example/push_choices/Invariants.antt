@@ -1,7 +1,4 @@
-use Rattle.std.proofs.Common.{◌≡◌, ◌+◌, ◌++◌, drop, decimal, flat_map}
-use Rattle.std.specs.List.{enumerate_from}
-use Rattle.ops.specs.declared.value.Value.TheVariants.{Bits}
-use Rattle.verdict_core.specs.Texts.{line_text, choices_text}
+use Rattle.verdict_core.proofs.Common.{◌≡◌, ◌+◌, ◌++◌, drop, decimal, flat_map, enumerate_from, Bits, line_text, choices_text}
 use Rattle.verdict_core.proofs.example.push_choices.Given as goal
 
 -- what is left of the list is still to be printed

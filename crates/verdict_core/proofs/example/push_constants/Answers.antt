@@ -1,6 +1,4 @@
-use Rattle.std.proofs.Common.{rules}
-use Rattle.verdict_core.specs.Texts.{line_text, constants_text}
-use Rattle.ops.specs.declared.value.Value.TheVariants.{Bits}
+use Rattle.verdict_core.proofs.Common.{rules, line_text, constants_text, Bits}
 use Rattle.verdict_core.proofs.Lines.{pair_more, pairs_end}
 use Rattle.verdict_core.proofs.example.push_constants.Goals as goal
 

@@ -1,5 +1,4 @@
-use Rattle.std.proofs.Common.{◌++◌, codes, rules}
-use Rattle.verdict_core.specs.Texts.{line_text, inputs_text}
+use Rattle.verdict_core.proofs.Common.{◌++◌, codes, rules, line_text, inputs_text}
 use Rattle.verdict_core.proofs.Lines.{pair_more, pairs_end}
 use Rattle.verdict_core.proofs.example.push_inputs.Goals as goal
 

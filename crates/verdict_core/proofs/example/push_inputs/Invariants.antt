@@ -1,7 +1,4 @@
-use Rattle.std.proofs.Common.{◌≡◌, ◌++◌}
-use Rattle.std.specs.Iterator.Adapters.{zip_first, zip_second}
-use Rattle.std.specs.Slice.Iter.{iter_rest}
-use Rattle.verdict_core.specs.Texts.{inputs_text}
+use Rattle.verdict_core.proofs.Common.{◌≡◌, ◌++◌, zip_first, zip_second, iter_rest, inputs_text}
 use Rattle.verdict_core.proofs.example.push_inputs.Given as goal
 
 -- what is left of the two lists is still to be printed

@@ -1,4 +1,4 @@
-use Rattle.std.proofs.Common.{◌≡◌, ◌++◌, ℕ, decimal, ap, ◌∙◌}
+use Rattle.verdict_core.proofs.Common.{◌≡◌, ◌++◌, ℕ, decimal, ap, ◌∙◌}
 use Rattle.verdict_core.proofs.Lines.{first_width, next_width}
 use Rattle.verdict_core.proofs.words.push_widths.Goals as goal
 use Rattle.verdict_core.proofs.words.push_widths.Goals.{then-place-gt0+in_ok-push, else-place-gt0}

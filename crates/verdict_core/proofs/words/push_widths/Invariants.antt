@@ -1,5 +1,4 @@
-use Rattle.std.proofs.Common.{◌≡◌, ◌++◌, take, decimal, map}
-use Rattle.std.specs.List.{join_with_byte}
+use Rattle.verdict_core.proofs.Common.{◌≡◌, ◌++◌, take, decimal, map, join_with_byte}
 use Rattle.verdict_core.proofs.words.push_widths.Given as goal
 
 abbrev pub invariant-loop-place : goal.invariant-loop-place

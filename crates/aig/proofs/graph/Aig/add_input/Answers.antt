@@ -1,4 +1,4 @@
-use Rattle.std.proofs.Common.{arith}
+use Rattle.aig.proofs.Common.{arith}
 use Rattle.aig.proofs.GraphLemmas.{still_in_order}
 use Rattle.aig.proofs.graph.Aig.add_input.Goals as goal
 

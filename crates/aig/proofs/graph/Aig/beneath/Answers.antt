@@ -1,6 +1,4 @@
-use Rattle.std.proofs.Common.{◌&&◌}
-use Rattle.aig.specs.declared.two_levels.Parts.TheVariants.{Whole}
-use Rattle.aig.specs.Graph.{value_of}
+use Rattle.aig.proofs.Common.{◌&&◌, Whole, value_of}
 use Rattle.aig.proofs.Truth.{and_turned}
 use Rattle.aig.proofs.Standing.{parts_stand, same_table}
 use Rattle.aig.proofs.graph.Aig.beneath.Goals as goal

@@ -1,7 +1,4 @@
-use Rattle.std.proofs.Common.{Bool, List, ◌&&◌, length, sym, ap, subst, ◌∙◌}
-use Rattle.std.proofs.lemmas.Result.{IfOk-weaker}
-use Rattle.aig.specs.Graph.{OperandsAmong, value_of, gate_value, gate_values}
-use Rattle.aig.specs.Stands.{Stands}
+use Rattle.aig.proofs.Common.{Bool, List, ◌&&◌, length, sym, ap, subst, ◌∙◌, IfOk-weaker, OperandsAmong, value_of, gate_value, gate_values, Stands}
 use Rattle.aig.proofs.Ordered.{ordered_and-operands, ordered_and-value}
 use Rattle.aig.proofs.Standing.{and_stands, same_table}
 use Rattle.aig.proofs.graph.Aig.both.Goals as goal

@@ -1,8 +1,4 @@
-use Rattle.std.proofs.Common.{Bool, List, ◌&&◌, if◌then◌else◌, refl, sym, subst}
-use Rattle.std.specs.Bool.{xor}
-use Rattle.std.proofs.lemmas.Result.{IfOk-weaker}
-use Rattle.aig.specs.Graph.{value_of}
-use Rattle.aig.specs.Stands.{Stands}
+use Rattle.aig.proofs.Common.{Bool, List, ◌&&◌, if◌then◌else◌, refl, sym, subst, xor, IfOk-weaker, value_of, Stands}
 use Rattle.aig.proofs.Standing.{nodes_of, same_table, negated_table}
 use Rattle.aig.proofs.graph.Aig.chosen.Goals as goal
 

@@ -1,6 +1,4 @@
-use Rattle.std.proofs.Common.{◌≡◌, List, Bool, ◌&&◌, sym, ap, ◌∙◌, subst}
-use Rattle.aig.specs.Graph.{Graph, value_of, gate_value, gate_values}
-use Rattle.aig.specs.Stands.{Stands}
+use Rattle.aig.proofs.Common.{◌≡◌, List, Bool, ◌&&◌, sym, ap, ◌∙◌, subst, Graph, value_of, gate_value, gate_values, Stands}
 use Rattle.aig.proofs.Keys.{found_at}
 use Rattle.aig.proofs.Ordered.{ordered_and-value}
 use Rattle.aig.proofs.Growth.{output_stands}

@@ -1,5 +1,4 @@
-use Rattle.std.proofs.Common.{◌≡◌, length, get_or, slice_get, Some, refl, ap, ◌∙◌, arith}
-use Rattle.std.proofs.lemmas.Option.{slice_get_read}
+use Rattle.aig.proofs.Common.{◌≡◌, length, get_or, slice_get, Some, refl, ap, ◌∙◌, arith, slice_get_read}
 use Rattle.aig.proofs.GraphLemmas.{OperandsAmong-later, value_of_gate}
 use Rattle.aig.proofs.graph.Aig.gate.Goals as goal
 use Rattle.aig.proofs.graph.Aig.gate.Goals.{After-index-as_slice-place}

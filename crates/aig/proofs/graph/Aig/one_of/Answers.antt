@@ -1,7 +1,4 @@
-use Rattle.std.proofs.Common.{Bool, List, sym, ◌∙◌, subst}
-use Rattle.std.specs.Bool.{xor}
-use Rattle.aig.specs.Graph.{value_of}
-use Rattle.aig.specs.Stands.{Stands}
+use Rattle.aig.proofs.Common.{Bool, List, sym, ◌∙◌, subst, xor, value_of, Stands}
 use Rattle.aig.proofs.Truth.{beq_same, beq_apart}
 use Rattle.aig.proofs.Standing.{same_table, negated_table, same_signs, unlike_signs}
 use Rattle.aig.proofs.graph.Aig.one_of.Goals as goal

@@ -1,8 +1,4 @@
-use Rattle.std.proofs.Common.{Bool, List, ap, ◌∙◌}
-use Rattle.std.specs.Bool.{xor}
-use Rattle.std.proofs.lemmas.Result.{IfOk-weaker}
-use Rattle.aig.specs.Graph.{value_of, gate_value, gate_values}
-use Rattle.aig.specs.Stands.{Stands}
+use Rattle.aig.proofs.Common.{Bool, List, ap, ◌∙◌, xor, IfOk-weaker, value_of, gate_value, gate_values, Stands}
 use Rattle.aig.proofs.Ordered.{ordered_xor-value}
 use Rattle.aig.proofs.Standing.{xor_stands, same_table}
 use Rattle.aig.proofs.graph.Aig.one_of_plain.Goals as goal

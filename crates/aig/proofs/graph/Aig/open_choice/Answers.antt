@@ -1,8 +1,4 @@
-use Rattle.std.proofs.Common.{◌≡◌, Bool, true, false, not, List, if◌then◌else◌, sym, ap, ◌∙◌, subst}
-use Rattle.aig.specs.Literal.{Literal, negation_of}
-use Rattle.aig.specs.declared.gate.Gate.TheVariants.{Mux}
-use Rattle.aig.specs.Graph.{Graph, gate_value, gate_values, value_of}
-use Rattle.aig.specs.Stands.{Stands}
+use Rattle.aig.proofs.Common.{◌≡◌, Bool, true, false, not, List, if◌then◌else◌, sym, ap, ◌∙◌, subst, Literal, negation_of, Mux, Graph, gate_value, gate_values, value_of, Stands}
 use Rattle.aig.proofs.Standing.{nodes_of, negated_table, value_under-negation}
 use Rattle.aig.proofs.graph.Aig.open_choice.Goals as goal
 

@@ -1,6 +1,4 @@
-use Rattle.std.proofs.Common.{◌≡◌, Bool, List, Some, slice_get, sym, ap, ◌∙◌, subst, arith}
-use Rattle.aig.specs.Graph.{Graph, gate_value, gate_values}
-use Rattle.aig.specs.Stands.{Stands}
+use Rattle.aig.proofs.Common.{◌≡◌, Bool, List, Some, slice_get, sym, ap, ◌∙◌, subst, arith, Graph, gate_value, gate_values, Stands}
 use Rattle.aig.proofs.Keys.{IsInserted, inserted, same_gate}
 use Rattle.aig.proofs.Growth.{inserted-in_order, inserted-proper, inserted-length, inserted-adds, inserted-value, output_stands}
 use Rattle.aig.proofs.graph.Aig.push.Goals as goal

@@ -1,7 +1,4 @@
-use Rattle.std.proofs.Common.{◌&&◌, sym, subst}
-use Rattle.std.proofs.lemmas.Bool.{eqb-true}
-use Rattle.aig.specs.Parts.{HasParts}
-use Rattle.aig.specs.Graph.{value_of}
+use Rattle.aig.proofs.Common.{◌&&◌, sym, subst, eqb-true, HasParts, value_of}
 use Rattle.aig.proofs.LiteralLemmas.{same_code}
 use Rattle.aig.proofs.Standing.{nodes_of, some_same_table, first_part, second_part}
 use Rattle.aig.proofs.graph.Aig.with_one_part.Goals as goal

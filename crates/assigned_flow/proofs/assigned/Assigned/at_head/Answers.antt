@@ -1,5 +1,4 @@
-use Rattle.std.proofs.Common.{subst}
-use Rattle.assigned_flow.specs.Successors.{HasRegister}
+use Rattle.assigned_flow.proofs.Common.{subst, HasRegister}
 use Rattle.assigned_flow.proofs.Correspondence.{assigned_result}
 use Rattle.assigned_flow.proofs.assigned.Assigned.at_head.Goals as goal
 

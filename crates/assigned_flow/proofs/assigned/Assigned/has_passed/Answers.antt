@@ -1,7 +1,5 @@
-use Rattle.std.proofs.Common.{◌↔◌, IsTrue, nat_lt, sym, subst, arith}
-use Rattle.std.proofs.lemmas.Bool.{ltb-true, lt-ltb}
+use Rattle.assigned_flow.proofs.Common.{◌↔◌, IsTrue, nat_lt, sym, subst, arith, ltb-true, lt-ltb, IsPassed}
 use Rattle.dominator_tree.specs.Walks.{IsReached}
-use Rattle.assigned_flow.specs.Passed.{IsPassed}
 use Rattle.assigned_flow.proofs.Passing.{passed_here, passed_elsewhere, passed_within, reached_within}
 use Rattle.assigned_flow.proofs.assigned.Assigned.has_passed.Goals as goal
 

@@ -1,5 +1,4 @@
-use Rattle.std.proofs.Common.{arith}
-use Rattle.std.proofs.lemmas.Grind.{common_steps}
+use Rattle.assigned_flow.proofs.Common.{arith, common_steps}
 use Rattle.assigned_flow.proofs.Passing.{reached_within}
 use Rattle.assigned_flow.proofs.assigned.Assigned.has_walk_to.Goals as goal
 

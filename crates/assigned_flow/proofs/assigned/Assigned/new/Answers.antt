@@ -1,7 +1,4 @@
-use Rattle.std.proofs.Common.{◌≡◌, sym, subst, ◌∙◌, length}
-use Rattle.std.proofs.lemmas.List.{length-map}
-use Rattle.assigned_flow.specs.Passed.{IsClosed}
-use Rattle.assigned_flow.specs.Successors.{successors_of}
+use Rattle.assigned_flow.proofs.Common.{◌≡◌, sym, subst, ◌∙◌, length, length-map, IsClosed, successors_of}
 use Rattle.assigned_flow.proofs.Correspondence.{IsClosed-successors_of}
 use Rattle.assigned_flow.proofs.assigned.Assigned.new.Goals as goal
 

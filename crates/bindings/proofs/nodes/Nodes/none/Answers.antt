@@ -1,4 +1,4 @@
-use Rattle.rule_typing.proofs.Sets.{none_true}
+use Rattle.bindings.proofs.Common.{none_true}
 use Rattle.bindings.proofs.nodes.Nodes.none.Goals as goal
 
 pub returns : goal.returns

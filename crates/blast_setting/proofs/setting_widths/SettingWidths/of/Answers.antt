@@ -1,9 +1,4 @@
-use Rattle.std.proofs.Common.{List, refl, sym, ap, subst, ◌∙◌}
-use Rattle.rule_core.specs.declared.rule.Statement.{Statement}
-use Rattle.rule_core.specs.Positions.{choices_among}
-use Rattle.blast_setting.specs.declared.named.Kind.TheVariants.{Input, Constant}
-use Rattle.blast_setting.specs.Inputs.{widths_chosen}
-use Rattle.blast_setting.specs.Names.{HaveWidths}
+use Rattle.blast_setting.proofs.Common.{List, refl, sym, ap, subst, ◌∙◌, Statement, choices_among, Input, Constant, widths_chosen, HaveWidths}
 use Rattle.blast_setting.proofs.ChosenWidths.{have_widths}
 use Rattle.blast_setting.proofs.Settings.{are_named_as, widths_as}
 use Rattle.blast_setting.proofs.setting_widths.SettingWidths.of.Goals as goal

@@ -1,7 +1,4 @@
-use Rattle.std.proofs.Common.{◌≡◌, ◌+◌, ◌<◌, length, refl, sym, ap, ◌∙◌, subst, arith}
-use Rattle.std.proofs.lemmas.Option.{slice_get_read}
-use Rattle.aig.specs.Graph.{IsInOrder}
-use Rattle.cnf_build.specs.Names.{Names, NamesFirst, with_gate}
+use Rattle.cnf_build.proofs.Common.{◌≡◌, ◌+◌, ◌<◌, length, refl, sym, ap, ◌∙◌, subst, arith, slice_get_read, IsInOrder, Names, NamesFirst, with_gate}
 use Rattle.cnf_build.proofs.NamesLemmas.{NamesFirst-next, inputs-with_gate}
 use Rattle.cnf_build.proofs.naming.Naming.of.Goals as goal
 

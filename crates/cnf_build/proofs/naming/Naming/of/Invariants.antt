@@ -1,5 +1,4 @@
-use Rattle.std.proofs.Common.{◌≡◌}
-use Rattle.cnf_build.specs.Names.{NamesFirst}
+use Rattle.cnf_build.proofs.Common.{◌≡◌, NamesFirst}
 use Rattle.cnf_build.proofs.naming.Naming.of.Given as goal
 
 abbrev pub invariant-loop-place : goal.invariant-loop-place

@@ -1,7 +1,4 @@
-use Rattle.std.proofs.Common.{◌≡◌, ◌+◌, ◌-◌, ◌<◌, ◌≤◌, false, length, get_or, refl, sym, subst, arith}
-use Rattle.std.proofs.lemmas.Option.{slice_get_read}
-use Rattle.aig.specs.declared.literal.Node.TheVariants.{Output}
-use Rattle.cnf_build.specs.NeededGates.{IsOperand, IsMarked}
+use Rattle.cnf_build.proofs.Common.{◌≡◌, ◌+◌, ◌-◌, ◌<◌, ◌≤◌, false, length, get_or, refl, sym, subst, arith, slice_get_read, Output, IsOperand, IsMarked}
 use Rattle.cnf_build.proofs.MarksLemmas.{MarkedFrom, Adds, Adds-operands, OperandsBelow-more, MarkedFrom-marked, MarkedFrom-skipped, AreNeeded-from}
 use Rattle.cnf_build.proofs.needed.Needed.by.Goals as goal
 

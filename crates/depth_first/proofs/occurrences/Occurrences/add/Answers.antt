@@ -1,5 +1,4 @@
-use Rattle.std.proofs.Common.{Some, sym, ap, ◌∙◌, arith}
-use Rattle.std.proofs.lemmas.Option.{slice_get-get_or}
+use Rattle.depth_first.proofs.Common.{Some, sym, ap, ◌∙◌, arith, slice_get-get_or}
 use Rattle.depth_first.proofs.Index.{AddsClause-next}
 use Rattle.depth_first.proofs.occurrences.Occurrences.add.Goals as goal
 

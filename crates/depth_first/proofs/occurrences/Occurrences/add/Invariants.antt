@@ -1,5 +1,4 @@
-use Rattle.std.proofs.Common.{length, take}
-use Rattle.depth_first.specs.OccurrenceLists.{CoversBelow, AddsClause}
+use Rattle.depth_first.proofs.Common.{length, take, CoversBelow, AddsClause}
 use Rattle.depth_first.proofs.occurrences.Occurrences.add.Given as goal
 
 abbrev pub invariant-loop-literal : goal.invariant-loop-literal

@@ -1,6 +1,4 @@
-use Rattle.std.proofs.Common.{◌+◌}
-use Rattle.clauses.specs.ClauseSet.{all_clauses}
-use Rattle.depth_first.specs.OccurrenceLists.{CoversBelow, FindsBelow}
+use Rattle.depth_first.proofs.Common.{◌+◌, all_clauses, CoversBelow, FindsBelow}
 use Rattle.depth_first.proofs.occurrences.Occurrences.new.Given as goal
 
 abbrev pub invariant-loop-number : goal.invariant-loop-number

@@ -1,6 +1,4 @@
-use Rattle.std.proofs.Common.{◌≡◌, ◌+◌, ◌-◌, ◌<◌, None, Bool, length, get_or, map, take, drop, ◌++◌, ◌∷◌, [], sym, ap, ◌∙◌, arith, length-drop, get_or-drop}
-use Rattle.std.proofs.lemmas.List.{map_more, get_or_read}
-use Rattle.depth_first.specs.TrailEntries.{value_or_false}
+use Rattle.depth_first.proofs.Common.{◌≡◌, ◌+◌, ◌-◌, ◌<◌, None, Bool, length, get_or, map, take, drop, ◌++◌, ◌∷◌, [], sym, ap, ◌∙◌, arith, length-drop, get_or-drop, map_more, get_or_read, value_or_false}
 use Rattle.depth_first.proofs.trail.Trail.assignment.Goals as goal
 
 pub loop-variable-preserved : goal.loop-variable-preserved

@@ -1,5 +1,4 @@
-use Rattle.std.proofs.Common.{◌≡◌, ◌-◌, map, take, drop}
-use Rattle.depth_first.specs.TrailEntries.{value_or_false}
+use Rattle.depth_first.proofs.Common.{◌≡◌, ◌-◌, map, take, drop, value_or_false}
 use Rattle.depth_first.proofs.trail.Trail.assignment.Given as goal
 
 abbrev pub invariant-loop-variable : goal.invariant-loop-variable

@@ -1,4 +1,4 @@
-use Rattle.std.proofs.Common.{◌≡◌, length, take}
+use Rattle.depth_first.proofs.Common.{◌≡◌, length, take}
 use Rattle.depth_first.proofs.trail.Trail.cut.Given as goal
 
 abbrev pub invariant-loop-self : goal.invariant-loop-self

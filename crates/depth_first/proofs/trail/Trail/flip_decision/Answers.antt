@@ -1,10 +1,4 @@
-use Rattle.std.proofs.Common.{◌≡◌, ◌<◌, ◌≤◌, List, Some, length, take, ◌++◌, ◌∷◌, [], refl, sym, ap, ◌∙◌, subst}
-use Rattle.std.specs.Prelude.{slice_get}
-use Rattle.std.proofs.lemmas.Option.{slice_get_read}
-use Rattle.clauses.specs.Literal.{Lit, negation_of}
-use Rattle.depth_first.specs.declared.trail.Entry.{Entry}
-use Rattle.depth_first.specs.declared.trail.Cause.TheVariants.{Reason}
-use Rattle.depth_first.specs.TrailEntries.{IsOpen, literals}
+use Rattle.depth_first.proofs.Common.{◌≡◌, ◌<◌, ◌≤◌, List, Some, length, take, ◌++◌, ◌∷◌, [], refl, sym, ap, ◌∙◌, subst, slice_get, slice_get_read, Lit, negation_of, Entry, Reason, IsOpen, literals}
 use Rattle.depth_first.proofs.Lists.{some_same}
 use Rattle.depth_first.proofs.trail.Trail.flip_decision.Goals as goal
 

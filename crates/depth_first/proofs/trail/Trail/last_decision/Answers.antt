@@ -1,6 +1,4 @@
-use Rattle.std.proofs.Common.{◌≡◌, Some, cond, sym, ap, ◌∙◌}
-use Rattle.depth_first.specs.declared.trail.Entry.{Entry}
-use Rattle.depth_first.specs.TrailEntries.{is_decision}
+use Rattle.depth_first.proofs.Common.{◌≡◌, Some, cond, sym, ap, ◌∙◌, Entry, is_decision}
 use Rattle.depth_first.proofs.Decisions.{LastBefore-step}
 use Rattle.depth_first.proofs.trail.Trail.last_decision.Goals as goal
 use Rattle.depth_first.proofs.trail.Trail.last_decision.Goals.{then-is_decision, else-is_decision}

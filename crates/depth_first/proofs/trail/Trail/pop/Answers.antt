@@ -1,7 +1,4 @@
-use Rattle.std.proofs.Common.{refl, ◌≡◌, ◌+◌, ◌*◌, ◌<◌, ◌∙◌, false, Bool, Option, List, None, length, set, sym, ap, subst, arith, length-set, ◌++◌, ◌∷◌, []}
-use Rattle.std.proofs.lemmas.List.{length_push}
-use Rattle.clauses.specs.Literal.{code_of}
-use Rattle.depth_first.specs.TrailEntries.{IsTableOf, IsHeldTable, EachFresh, open_count}
+use Rattle.depth_first.proofs.Common.{refl, ◌≡◌, ◌+◌, ◌*◌, ◌<◌, ◌∙◌, false, Bool, Option, List, None, length, set, sym, ap, subst, arith, length-set, ◌++◌, ◌∷◌, [], length_push, code_of, IsTableOf, IsHeldTable, EachFresh, open_count}
 use Rattle.depth_first.proofs.HeldTable.{IsHeldTable-pop, code_within}
 use Rattle.depth_first.proofs.TrailTable.{IsTableOf-pop, EachFresh-pop, open_count-pop, last_fresh}
 use Rattle.depth_first.proofs.HeldLists.{literal_at}

@@ -1,8 +1,4 @@
-use Rattle.std.proofs.Common.{◌≡◌, ◌+◌, ◌*◌, ◌<◌, true, not, Some, length, set, sym, ap, ◌∙◌, Bool, Option, subst, arith, length-set, ◌++◌, ◌∷◌, [], List}
-use Rattle.std.proofs.lemmas.List.{length_push}
-use Rattle.depth_first.specs.declared.trail.Entry.{Entry}
-use Rattle.clauses.specs.Literal.{code_of}
-use Rattle.depth_first.specs.TrailEntries.{IsTableOf, IsHeldTable, EachFresh, open_count}
+use Rattle.depth_first.proofs.Common.{◌≡◌, ◌+◌, ◌*◌, ◌<◌, true, not, Some, length, set, sym, ap, ◌∙◌, Bool, Option, subst, arith, length-set, ◌++◌, ◌∷◌, [], List, length_push, Entry, code_of, IsTableOf, IsHeldTable, EachFresh, open_count}
 use Rattle.depth_first.proofs.HeldTable.{IsHeldTable-push, code_within}
 use Rattle.depth_first.proofs.TrailTable.{IsTableOf-push, EachFresh-push, open_count-push}
 use Rattle.depth_first.proofs.trail.Trail.push.Goals as goal

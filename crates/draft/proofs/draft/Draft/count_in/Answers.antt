@@ -1,7 +1,4 @@
-use Rattle.std.proofs.Common.{List, get_or, length, sym, ap, ◌∙◌, arith}
-use Rattle.std.proofs.lemmas.Option.{slice_get-get_or}
-use Rattle.ir_core.specs.declared.function.Block.{Block}
-use Rattle.needed.proofs.Reading.{end_of-is}
+use Rattle.draft.proofs.Common.{List, get_or, length, sym, ap, ◌∙◌, arith, slice_get-get_or, Block, end_of-is}
 use Rattle.draft.proofs.Wholeness.{few_insts}
 use Rattle.draft.proofs.draft.Draft.count_in.Goals as goal
 

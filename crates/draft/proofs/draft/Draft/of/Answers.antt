@@ -1,6 +1,5 @@
 -- Every instruction stands, and its number is its position.
-use Rattle.draft.specs.declared.draft.Draft.{Draft}
-use Rattle.draft.specs.declared.draft.Tables.{Tables}
+use Rattle.draft.proofs.Common.{Draft, Tables}
 use Rattle.draft.proofs.Fresh.{few_of, function_itself, settled_at_first, stands_all}
 use Rattle.draft.proofs.draft.Draft.of.Goals as goal
 

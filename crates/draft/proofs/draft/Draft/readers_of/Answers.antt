@@ -1,9 +1,4 @@
-use Rattle.std.proofs.Common.{◌≡◌, ◌∙◌, [], List, ap, get_or, sym, subst, Contains}
-use Rattle.std.proofs.lemmas.List.{get_or_default}
-use Rattle.ir_core.specs.declared.operand.Register.{Register}
-use Rattle.readers.specs.Readers.{HasList, listed_for}
-use Rattle.places.specs.declared.place.Place.{Place}
-use Rattle.readers.proofs.Tables.{row_within}
+use Rattle.draft.proofs.Common.{◌≡◌, ◌∙◌, [], List, ap, get_or, sym, subst, Contains, get_or_default, Register, HasList, listed_for, Place, row_within}
 use Rattle.draft.proofs.draft.Draft.readers_of.Goals as goal
 
 pub returns-in-Parameter-clause-readers : goal.returns-in-Parameter-clause-readers

@@ -1,5 +1,4 @@
-use Rattle.readers.proofs.Reading.{reads_written, written_reads}
-use Rattle.readers.specs.Readers.{arena_place}
+use Rattle.draft.proofs.Common.{reads_written, written_reads, arena_place}
 use Rattle.draft.proofs.Wholeness.{counted_insts}
 use Rattle.draft.proofs.draft.Draft.reads.Goals as goal
 

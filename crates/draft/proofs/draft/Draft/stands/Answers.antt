@@ -1,6 +1,4 @@
-use Rattle.std.proofs.Common.{◌≡◌, ◌∙◌, Bool, List, [], false, ap, get_or, length, sym, arith}
-use Rattle.std.proofs.lemmas.List.{get_or_default}
-use Rattle.std.proofs.lemmas.Option.{slice_get_within}
+use Rattle.draft.proofs.Common.{◌≡◌, ◌∙◌, Bool, List, [], false, ap, get_or, length, sym, arith, get_or_default, slice_get_within}
 use Rattle.draft.proofs.Wholeness.{marked_stands, stands_marked}
 use Rattle.draft.proofs.draft.Draft.stands.Goals as goal
 

@@ -1,7 +1,5 @@
-use Rattle.std.proofs.Common.{◌↔◌, ◌∙◌, List, Contains, subst}
+use Rattle.draft.proofs.Common.{◌↔◌, ◌∙◌, List, Contains, subst, operands_at, Place}
 use Rattle.ir_core.specs.declared.operand.Operand.TheVariants as operands
-use Rattle.readers.specs.Counts.{operands_at}
-use Rattle.places.specs.declared.place.Place.{Place}
 use Rattle.draft.proofs.Trimming.{trimmed_exact, trimmed_readers}
 use Rattle.draft.proofs.Wholeness.{counted_insts}
 use Rattle.draft.proofs.draft.Draft.trim_readers.Goals as goal

@@ -1,5 +1,5 @@
+use Rattle.draft.proofs.Common.{few_counted}
 use Rattle.draft.proofs.Fresh.{few_of}
-use Rattle.readers.proofs.Places.{few_counted}
 use Rattle.draft.proofs.draft.Tables.of.Goals as goal
 
 pub of-requires-clause-known : goal.of-requires-clause-known

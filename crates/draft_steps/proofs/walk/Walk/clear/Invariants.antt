@@ -1,4 +1,4 @@
-use Rattle.std.proofs.Common.{◌≡◌, ◌<◌, length, All}
+use Rattle.draft_steps.proofs.Common.{◌≡◌, ◌<◌, length, All}
 use Rattle.draft_steps.proofs.Walking.{AreListed}
 use Rattle.draft_steps.proofs.walk.Walk.clear.Given as goal
 

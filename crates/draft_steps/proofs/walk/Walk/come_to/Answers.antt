@@ -1,10 +1,4 @@
-use Rattle.std.proofs.Common.{◌≡◌, inl, inr, true, List, [], ◌∷◌, Contains, sym, subst, arith}
-use Rattle.std.proofs.lemmas.Bool.{iff_false}
-use Rattle.std.proofs.lemmas.List.Elements.{Contains-push}
-use Rattle.ir_core.specs.Blocks.{HasInst}
-use Rattle.draft.proofs.Wholeness.{few_insts, stands_there}
-use Rattle.draft.specs.Drafts.{Stands}
-use Rattle.places.specs.declared.place.Place.{Place}
+use Rattle.draft_steps.proofs.Common.{◌≡◌, inl, inr, true, List, [], ◌∷◌, Contains, sym, subst, arith, iff_false, Contains-push, HasInst, few_insts, stands_there, Stands, Place}
 use Rattle.draft_steps.proofs.WalkSteps.{further-same, only-pushed, walk-more}
 use Rattle.draft_steps.proofs.walk.Walk.come_to.Goals as goal
 use Rattle.draft_steps.proofs.walk.Walk.come_to.Goals.{else-place-ne-END-via-then-place-ne-END+then-stands+else-not-has, else-place-ne-END-via-then-place-ne-END+else-stands, else-place-ne-END-via-else-place-ne-END}

@@ -1,12 +1,5 @@
-use Rattle.std.proofs.Common.{◌≡◌, inl, inr, Contains, subst, ◌∙◌, arith}
-use Rattle.std.proofs.lemmas.Bool.{cases_eq}
-use Rattle.std.proofs.lemmas.List.{get_or_default}
-use Rattle.std.proofs.lemmas.List.Elements.{All-get_or}
-use Rattle.places.specs.declared.place.Place.{Place}
-use Rattle.draft.specs.Drafts.{Stands}
-use Rattle.places.specs.Heaps.{nowhere, place_at}
-use Rattle.readers.specs.Readers.{IsPlaceIn}
-use Rattle.draft_steps.specs.Walks.{Came, StandsAt, StandsAtOneOf}
+use Rattle.draft_steps.proofs.Common.{◌≡◌, inl, inr, Contains, subst, ◌∙◌, arith, cases_eq, get_or_default, All-get_or, Place, Stands, nowhere, place_at, IsPlaceIn, Came, StandsAtOneOf}
+use Rattle.draft_steps.specs.Walks.{StandsAt}
 use Rattle.draft_steps.proofs.WalkDrafts.{place-among}
 use Rattle.draft_steps.proofs.WalkSteps.{came-further, further-same, further-twice, only-more, only-twice}
 use Rattle.draft_steps.proofs.walk.Walk.come_to_all.Goals as goal

@@ -1,7 +1,4 @@
-use Rattle.std.proofs.Common.{ℕ, ◌<◌}
-use Rattle.draft.specs.Drafts.{Stands}
-use Rattle.places.specs.Heaps.{place_at}
-use Rattle.draft_steps.specs.Walks.{Came, CameOnlyTo, IsFurther, IsWalk, StandsAtOneOf}
+use Rattle.draft_steps.proofs.Common.{ℕ, ◌<◌, Stands, place_at, Came, CameOnlyTo, IsFurther, IsWalk, StandsAtOneOf}
 use Rattle.draft_steps.proofs.walk.Walk.come_to_all.Given as goal
 
 -- the places before this one are found

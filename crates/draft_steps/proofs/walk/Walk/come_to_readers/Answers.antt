@@ -1,19 +1,9 @@
-use Rattle.std.proofs.Common.{◌≡◌, ℕ, ◌+◌, ◌<◌, inl, inr, List, Contains, length, refl, sym, ap, subst, ◌∙◌, arith}
-use Rattle.std.proofs.lemmas.Bool.{cases_eq}
-use Rattle.std.proofs.lemmas.List.{get_or_default}
-use Rattle.ir_core.specs.declared.function.Function.{Function}
+use Rattle.draft_steps.proofs.Common.{◌≡◌, ℕ, ◌+◌, ◌<◌, inl, inr, List, Contains, length, refl, sym, ap, subst, ◌∙◌, arith, cases_eq, get_or_default, Function, Stands, nowhere, place_at, IsPlaceIn, IsReader, Came, CameOnlyTo, IsFurther, IsSameDraft, IsWalk, ReadsHere, Draft, Place, Walk, stands_there}
 use Rattle.ir_core.specs.declared.operand.Register.TheVariants as registers
-use Rattle.draft.specs.Drafts.{Stands}
-use Rattle.places.specs.Heaps.{nowhere, place_at}
-use Rattle.readers.specs.Readers.{IsPlaceIn, IsReader}
-use Rattle.draft_steps.specs.Walks.{Came, CameOnlyTo, IsFurther, IsSameDraft, IsWalk, ReadsHere, StandsAt}
-use Rattle.draft.specs.declared.draft.Draft.{Draft}
-use Rattle.places.specs.declared.place.Place.{Place}
-use Rattle.draft_steps.specs.declared.walk.Walk.{Walk}
+use Rattle.draft_steps.specs.Walks.{StandsAt}
 use Rattle.draft_steps.proofs.SameDrafts.{stays, stood}
 use Rattle.draft_steps.proofs.WalkDrafts.{place-among, walk-by}
 use Rattle.draft_steps.proofs.WalkSteps.{came-further, further-same, further-twice, only-more, only-twice}
-use Rattle.draft.proofs.Wholeness.{stands_there}
 use Rattle.draft_steps.proofs.walk.Walk.come_to_readers.Goals as goal
 use Rattle.draft_steps.proofs.walk.Walk.come_to_readers.Goals.{then-reader-place+in_ok-come_to, else-reader-place}
 

@@ -1,7 +1,4 @@
-use Rattle.std.proofs.Common.{◌≡◌, ℕ, ◌<◌}
-use Rattle.draft.specs.Drafts.{Stands}
-use Rattle.places.specs.Heaps.{place_at}
-use Rattle.draft_steps.specs.Walks.{Came, CameOnlyTo, IsFurther, IsWalk, ReadsHere}
+use Rattle.draft_steps.proofs.Common.{◌≡◌, ℕ, ◌<◌, Stands, place_at, Came, CameOnlyTo, IsFurther, IsWalk, ReadsHere}
 use Rattle.draft_steps.proofs.walk.Walk.come_to_readers.Given as goal
 
 -- the users before this one that stand in the block are found

@@ -1,11 +1,5 @@
-use Rattle.std.proofs.Common.{◌≡◌, ℕ, ◌<◌, ◌≤◌, inl, inr, Contains, length, length-append, sym, ap, subst, ◌∙◌, arith}
-use Rattle.std.proofs.lemmas.Bool.{cases_eq}
-use Rattle.std.proofs.lemmas.List.{get_or_default}
-use Rattle.ir_core.specs.Blocks.{HasInst}
-use Rattle.places.specs.Heaps.{nowhere, place_at}
-use Rattle.draft_steps.specs.Walks.{IsFurther, ReadersCame, ReadsHere, ReadsOneOf}
-use Rattle.places.specs.declared.place.Place.{Place}
-use Rattle.draft_steps.specs.declared.walk.Walk.{Walk}
+use Rattle.draft_steps.proofs.Common.{◌≡◌, ℕ, ◌<◌, ◌≤◌, inl, inr, Contains, length, sym, ap, subst, ◌∙◌, arith, cases_eq, get_or_default, HasInst, nowhere, place_at, IsFurther, ReadersCame, ReadsHere, ReadsOneOf, Place, Walk}
+use Rattle.std.proofs.Common.{length-append}
 use Rattle.draft_steps.proofs.WalkDrafts.{place-among, place-further, readers-by, reads-by, same-twice}
 use Rattle.draft_steps.proofs.WalkSteps.{came-further, further-twice, only-more, only-twice}
 use Rattle.draft_steps.proofs.walk.Walk.follow.Goals as goal

@@ -1,6 +1,4 @@
-use Rattle.std.proofs.Common.{ℕ, ◌<◌, ◌≤◌}
-use Rattle.places.specs.Heaps.{place_at}
-use Rattle.draft_steps.specs.Walks.{CameOnlyTo, IsFurther, IsSameDraft, IsWalk, ReadersCame, ReadsOneOf}
+use Rattle.draft_steps.proofs.Common.{ℕ, ◌<◌, ◌≤◌, place_at, CameOnlyTo, IsFurther, IsSameDraft, IsWalk, ReadersCame, ReadsOneOf}
 use Rattle.draft_steps.proofs.walk.Walk.follow.Given as goal
 
 -- the users of the places before this one are found

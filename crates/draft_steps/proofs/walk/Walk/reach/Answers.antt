@@ -1,20 +1,8 @@
-use Rattle.std.proofs.Common.{◌≡◌, ℕ, zero, suc, ◌+◌, ◌<◌, ◌≤◌, inl, inr, List, [], Contains, length, refl, length-append, sym, ap, subst, ◌∙◌, arith}
-use Rattle.std.proofs.lemmas.Bool.{cases_lt}
-use Rattle.std.proofs.lemmas.List.{get_or_default}
+use Rattle.draft_steps.proofs.Common.{◌≡◌, ℕ, zero, suc, ◌+◌, ◌<◌, ◌≤◌, inl, inr, List, [], Contains, length, refl, sym, ap, subst, ◌∙◌, arith, cases_lt, get_or_default, ReadsRegister, Reaches, Stands, nowhere, place_at, IsReader, arena_place, Came, CameOnlyTo, IsFurther, IsSameDraft, ReachesOneOf, ReadersCame, ReadsHere, ReadsOneOf, IsSettled, Draft, Place, Walk, arena_place_inst, few_insts, stands_there}
+use Rattle.std.proofs.Common.{length-append}
 use Rattle.ir_core.specs.declared.operand.Register.TheVariants as registers
-use Rattle.needed.specs.Needed.{ReadsRegister}
-use Rattle.draft.specs.Drafts.{Reaches, Stands}
-use Rattle.places.specs.Heaps.{nowhere, place_at}
-use Rattle.readers.specs.Readers.{IsReader, arena_place}
-use Rattle.draft_steps.specs.Walks.{Came, CameOnlyTo, IsFurther, IsSameDraft, ReachesOneOf, ReadersCame, ReadsHere, ReadsOneOf}
-use Rattle.draft.specs.Whole.{IsSettled}
-use Rattle.draft.specs.declared.draft.Draft.{Draft}
-use Rattle.places.specs.declared.place.Place.{Place}
-use Rattle.draft_steps.specs.declared.walk.Walk.{Walk}
-use Rattle.readers.proofs.Reading.{arena_place_inst}
 use Rattle.draft_steps.proofs.WalkDrafts.{place-further, reaches-itself, readers-by, reads-by, same-itself, same-twice}
 use Rattle.draft_steps.proofs.WalkSteps.{came-further, only-more}
-use Rattle.draft.proofs.Wholeness.{few_insts, stands_there}
 use Rattle.draft_steps.proofs.walk.Walk.reach.Goals as goal
 
 -- the users of all that was found before are found: of earlier levels, and of the last one

@@ -1,8 +1,4 @@
-use Rattle.std.proofs.Common.{ℕ, ◌<◌, ◌≤◌, length, Contains}
-use Rattle.places.specs.declared.place.Place.{Place}
-use Rattle.draft.specs.Drafts.{Reaches, Stands}
-use Rattle.places.specs.Heaps.{place_at}
-use Rattle.draft_steps.specs.Walks.{Came, IsSameDraft, IsWalk, ReachesOneOf, ReadersCame}
+use Rattle.draft_steps.proofs.Common.{ℕ, ◌<◌, ◌≤◌, length, Contains, Place, Reaches, Stands, place_at, Came, IsSameDraft, IsWalk, ReachesOneOf, ReadersCame}
 use Rattle.draft_steps.proofs.walk.Walk.reach.Given as goal
 
 -- what reads from the places through chains of so many operands is found, and so are the users of all that was found

@@ -1,18 +1,4 @@
-use Rattle.std.proofs.Common.{◌≡◌, ◌⊎◌, ℕ, ◌+◌, ◌<◌, inl, inr, List, [], length, refl, sym, subst, arith, ◌∙◌}
-use Rattle.std.specs.Prelude.{◌↔◌}
-use Rattle.std.proofs.lemmas.Bool.{cases_eq, iff_false}
-use Rattle.std.proofs.lemmas.Option.{slice_get_within}
-use Rattle.ir_core.specs.Walks.{IsReached}
-use Rattle.draft.specs.Drafts.{Stands}
-use Rattle.draft_steps.specs.DraftWorklists.{IsWorklistOf, IsOnWorklist}
-use Rattle.places.specs.Sets.{Has}
-use Rattle.draft_steps.specs.Walks.{IsIdle}
-use Rattle.draft.specs.declared.draft.Draft.{Draft}
-use Rattle.places.specs.declared.place.Place.{Place}
-use Rattle.draft_steps.specs.declared.worklist.DraftWorklist.{DraftWorklist}
-use Rattle.places.specs.Heaps.{IsHeap}
-use Rattle.places.specs.Worklist.{IsWorklist, WorklistView, tally}
-use Rattle.draft.proofs.Wholeness.{stands_there}
+use Rattle.draft_steps.proofs.Common.{◌≡◌, ◌⊎◌, ℕ, ◌+◌, ◌<◌, inl, inr, List, [], length, refl, sym, subst, arith, ◌∙◌, ◌↔◌, cases_eq, iff_false, slice_get_within, IsReached, Stands, IsWorklistOf, IsOnWorklist, Has, IsIdle, Draft, Place, DraftWorklist, IsHeap, IsWorklist, WorklistView, tally, stands_there}
 use Rattle.draft_steps.proofs.worklist.DraftWorklist.all.Goals as goal
 use Rattle.draft_steps.proofs.worklist.DraftWorklist.all.Goals.{then-reached+in_ok-insert_block, else-reached}
 

@@ -1,9 +1,4 @@
-use Rattle.std.proofs.Common.{ℕ, ◌<◌}
-use Rattle.std.specs.Prelude.{◌↔◌}
-use Rattle.ir_core.specs.Walks.{IsReached}
-use Rattle.draft.specs.Drafts.{Stands}
-use Rattle.draft_steps.specs.DraftWorklists.{IsOnWorklist}
-use Rattle.places.specs.Worklist.{IsWorklist}
+use Rattle.draft_steps.proofs.Common.{ℕ, ◌<◌, ◌↔◌, IsReached, Stands, IsOnWorklist, IsWorklist}
 use Rattle.draft_steps.proofs.worklist.DraftWorklist.all.Given as goal
 
 -- the instructions of the reached blocks before this one are on the worklist

@@ -1,9 +1,5 @@
 -- The set has as many blocks as before, so the search still fits it.
-use Rattle.std.proofs.Common.{sym, subst, ◌∙◌}
-use Rattle.places.specs.Heaps.{IsNumbered}
-use Rattle.places.specs.Sets.{IsAdded}
-use Rattle.places.specs.Worklist.{IsWorklist, WorklistView}
-use Rattle.draft_steps.specs.Walks.{IsIdle}
+use Rattle.draft_steps.proofs.Common.{sym, subst, ◌∙◌, IsNumbered, IsAdded, IsWorklist, WorklistView, IsIdle}
 use Rattle.draft_steps.proofs.worklist.DraftWorklist.insert.Goals as goal
 
 pub insert-requires-clause-arranged : goal.insert-requires-clause-arranged

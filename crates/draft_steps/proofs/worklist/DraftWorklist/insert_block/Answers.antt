@@ -1,13 +1,5 @@
-use Rattle.std.proofs.Common.{◌≡◌, ◌⊎◌, ℕ, ◌+◌, ◌<◌, inl, inr, sym, subst, arith}
-use Rattle.std.specs.Prelude.{◌↔◌}
-use Rattle.std.proofs.lemmas.Bool.{cases_eq, iff_false}
+use Rattle.draft_steps.proofs.Common.{◌≡◌, ◌⊎◌, ℕ, ◌+◌, ◌<◌, inl, inr, sym, subst, arith, ◌↔◌, cases_eq, iff_false, Stands, IsWorklistOf, IsOnWorklist, Draft, DraftWorklist, inst-numbered, stands_there}
 use Rattle.needed.proofs.Reading.{end_of-is}
-use Rattle.draft.specs.Drafts.{Stands}
-use Rattle.draft_steps.specs.DraftWorklists.{IsWorklistOf, IsOnWorklist}
-use Rattle.draft.specs.declared.draft.Draft.{Draft}
-use Rattle.draft_steps.specs.declared.worklist.DraftWorklist.{DraftWorklist}
-use Rattle.draft.proofs.NumberedInsts.{inst-numbered}
-use Rattle.draft.proofs.Wholeness.{stands_there}
 use Rattle.draft_steps.proofs.worklist.DraftWorklist.insert_block.Goals as goal
 use Rattle.draft_steps.proofs.worklist.DraftWorklist.insert_block.Goals.{then-stands+in_ok-insert, else-stands}
 

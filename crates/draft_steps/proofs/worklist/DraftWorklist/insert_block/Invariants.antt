@@ -1,8 +1,4 @@
-use Rattle.std.proofs.Common.{◌≡◌, ℕ, ◌<◌, ◌⊎◌}
-use Rattle.std.specs.Prelude.{◌↔◌}
-use Rattle.draft.specs.Drafts.{Stands}
-use Rattle.draft_steps.specs.DraftWorklists.{IsOnWorklist}
-use Rattle.places.specs.Worklist.{IsWorklist}
+use Rattle.draft_steps.proofs.Common.{◌≡◌, ℕ, ◌<◌, ◌⊎◌, ◌↔◌, Stands, IsOnWorklist, IsWorklist}
 use Rattle.draft_steps.proofs.worklist.DraftWorklist.insert_block.Given as goal
 
 -- the numbers before this one are on the worklist, where they stand

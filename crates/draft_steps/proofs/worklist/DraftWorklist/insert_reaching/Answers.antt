@@ -1,11 +1,5 @@
 -- What the search found is added, and the search forgets it.
-use Rattle.std.proofs.Common.{ℕ, inl, inr, All, Contains, sym, subst, ◌∙◌}
-use Rattle.std.proofs.lemmas.List.Elements.{All-contains}
-use Rattle.places.specs.declared.place.Place.{Place}
-use Rattle.places.specs.Heaps.{IsNumbered}
-use Rattle.places.specs.Sets.{Has}
-use Rattle.places.specs.Worklist.{IsWorklist, WorklistView}
-use Rattle.draft_steps.specs.Walks.{IsIdle}
+use Rattle.draft_steps.proofs.Common.{ℕ, inl, inr, All, Contains, sym, subst, ◌∙◌, All-contains, Place, IsNumbered, Has, IsWorklist, WorklistView, IsIdle}
 use Rattle.draft_steps.proofs.WorklistSteps.{walk-inside, walk-numbered}
 use Rattle.draft_steps.proofs.worklist.DraftWorklist.insert_reaching.Goals as goal
 

@@ -1,10 +1,4 @@
-use Rattle.std.proofs.Common.{◌≡◌, ◌<◌, ℕ, None, Option, Some, length, sym, subst, ◌∙◌}
-use Rattle.std.specs.Prelude.{IfNone, IfSome}
-use Rattle.draft_steps.specs.DraftWorklists.{ComesNext}
-use Rattle.draft_steps.specs.Walks.{IsIdle}
-use Rattle.places.specs.Sets.{Has, IsRemoved}
-use Rattle.places.specs.Worklist.{IsWorklist, IsFirst, WorklistView}
-use Rattle.places.specs.declared.place.Place.{Place}
+use Rattle.draft_steps.proofs.Common.{◌≡◌, ◌<◌, ℕ, None, Option, Some, length, sym, subst, ◌∙◌, IfNone, IfSome, ComesNext, IsIdle, Has, IsRemoved, IsWorklist, IsFirst, WorklistView, Place}
 use Rattle.draft_steps.proofs.WorklistSteps.{comes-next}
 use Rattle.draft_steps.proofs.worklist.DraftWorklist.take_first.Goals as goal
 

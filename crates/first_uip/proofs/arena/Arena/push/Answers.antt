@@ -1,7 +1,4 @@
-use Rattle.std.proofs.Common.{◌++◌, List, length, map, ap, ◌∙◌, arith}
-use Rattle.clauses.specs.Literal.{Lit}
-use Rattle.first_uip.specs.declared.arena.Header.{Header}
-use Rattle.first_uip.specs.Clauses.{literals_of}
+use Rattle.first_uip.proofs.Common.{◌++◌, List, length, map, ap, ◌∙◌, arith, Lit, Header, literals_of}
 use Rattle.first_uip.proofs.ArenaLemmas.{clauses_push}
 use Rattle.first_uip.proofs.arena.Arena.push.Goals as goal
 

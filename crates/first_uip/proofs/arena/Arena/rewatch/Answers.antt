@@ -1,6 +1,4 @@
-use Rattle.std.proofs.Common.{set, map, ap, ◌∙◌, arith}
-use Rattle.std.proofs.lemmas.List.{map-set, length-map}
-use Rattle.first_uip.specs.Clauses.{literals_of, watched_of}
+use Rattle.first_uip.proofs.Common.{set, map, ap, ◌∙◌, arith, map-set, length-map, literals_of, watched_of}
 use Rattle.first_uip.proofs.ArenaLemmas.{two_watched}
 use Rattle.first_uip.proofs.Replaced.{map-set_same}
 use Rattle.first_uip.proofs.arena.Arena.rewatch.Goals as goal

@@ -1,4 +1,4 @@
-use Rattle.std.proofs.Common.{◌≡◌, ◌<◌, length}
+use Rattle.first_uip.proofs.Common.{◌≡◌, ◌<◌, length}
 use Rattle.first_uip.proofs.order.Order.rise.Given as goal
 
 abbrev pub invariant-loop-place : goal.invariant-loop-place

@@ -1,4 +1,4 @@
-use Rattle.std.proofs.Common.{◌≡◌, length}
+use Rattle.first_uip.proofs.Common.{◌≡◌, length}
 use Rattle.first_uip.proofs.policy.Policy.count_conflict.Given as goal
 
 abbrev pub invariant-loop-entry : goal.invariant-loop-entry

@@ -1,4 +1,4 @@
-use Rattle.std.proofs.Common.{◌≡◌, length}
+use Rattle.first_uip.proofs.Common.{◌≡◌, length}
 use Rattle.first_uip.proofs.policy.Policy.next_variable.Given as goal
 
 abbrev pub invariant-loop-variable : goal.invariant-loop-variable

@@ -1,4 +1,4 @@
-use Rattle.std.proofs.Common.{◌≡◌, length}
+use Rattle.first_uip.proofs.Common.{◌≡◌, length}
 use Rattle.first_uip.proofs.policy.Policy.release.Given as goal
 
 abbrev pub invariant-loop-released : goal.invariant-loop-released

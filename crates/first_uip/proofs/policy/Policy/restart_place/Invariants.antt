@@ -1,4 +1,4 @@
-use Rattle.std.proofs.Common.{◌≡◌, length}
+use Rattle.first_uip.proofs.Common.{◌≡◌, length}
 use Rattle.first_uip.proofs.policy.Policy.restart_place.Given as goal
 
 abbrev pub invariant-loop-place : goal.invariant-loop-place

@@ -1,8 +1,4 @@
-use Rattle.std.proofs.Common.{◌≡◌, ℕ, ◌<◌, Some, length, set, refl, sym, ap, ◌∙◌, subst, arith}
-use Rattle.std.specs.Prelude.{slice_get}
-use Rattle.std.proofs.lemmas.Option.{slice_get_read}
-use Rattle.first_uip.specs.declared.watchers.Watcher.{Watcher}
-use Rattle.first_uip.specs.Clauses.{numbers_in}
+use Rattle.first_uip.proofs.Common.{◌≡◌, ℕ, ◌<◌, Some, length, set, refl, sym, ap, ◌∙◌, subst, arith, slice_get, slice_get_read, Watcher, numbers_in}
 use Rattle.first_uip.proofs.LookLemmas.{number_at}
 use Rattle.first_uip.proofs.Replaced.{map-set_same}
 use Rattle.first_uip.proofs.WatcherLists.{Keeps, Keeps-set}

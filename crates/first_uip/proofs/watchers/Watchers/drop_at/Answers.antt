@@ -1,7 +1,4 @@
-use Rattle.std.proofs.Common.{◌≡◌, ◌<◌, length, ap, ◌∙◌, arith}
-use Rattle.std.specs.List.{swap_remove}
-use Rattle.first_uip.specs.declared.watchers.Watcher.{Watcher}
-use Rattle.first_uip.specs.Clauses.{numbers_in}
+use Rattle.first_uip.proofs.Common.{◌≡◌, ◌<◌, length, ap, ◌∙◌, arith, swap_remove, Watcher, numbers_in}
 use Rattle.first_uip.proofs.Replaced.{map-swap_remove}
 use Rattle.first_uip.proofs.watchers.Watchers.drop_at.Goals as goal
 

@@ -1,10 +1,4 @@
-use Rattle.std.proofs.Common.{◌≡◌, true, [], ◌∷◌, length, sym, ap, ◌∙◌, subst, inl}
-use Rattle.clauses.specs.Propagation.{is_held}
-use Rattle.depth_first.proofs.HeldLists.{held_one, held_right, held_left}
-use Rattle.first_uip.specs.declared.watches.Watches.{Watches}
-use Rattle.first_uip.specs.declared.watchers.Watcher.{Watcher}
-use Rattle.first_uip.specs.Clauses.{watched_in}
-use Rattle.first_uip.specs.Watching.{numbers_of, watched_literals, AddsNumber, AddsNumbers, KeepsOnly}
+use Rattle.first_uip.proofs.Common.{◌≡◌, true, [], ◌∷◌, length, sym, ap, ◌∙◌, subst, inl, is_held, held_one, held_right, held_left, Watches, Watcher, watched_in, numbers_of, watched_literals, AddsNumber, AddsNumbers, KeepsOnly}
 use Rattle.first_uip.proofs.Listing.{AddsNumbers-none, AddsNumbers-two}
 use Rattle.first_uip.proofs.WatcherLists.{KeepsOnly-two}
 use Rattle.first_uip.proofs.watches.Watches.add.Goals as goal

@@ -1,10 +1,4 @@
-use Rattle.std.proofs.Common.{◌≡◌, ℕ, List, [], Some, set, get_or, ap, ◌∙◌, subst}
-use Rattle.std.specs.Prelude.{slice_get}
-use Rattle.std.proofs.lemmas.List.{get_or_default}
-use Rattle.clauses.specs.Literal.{code_of}
-use Rattle.first_uip.specs.declared.watchers.Watcher.{Watcher}
-use Rattle.first_uip.specs.Clauses.{numbers_in}
-use Rattle.first_uip.specs.Watching.{numbers_of}
+use Rattle.first_uip.proofs.Common.{◌≡◌, ℕ, List, [], Some, set, get_or, ap, ◌∙◌, subst, slice_get, get_or_default, code_of, Watcher, numbers_in, numbers_of}
 use Rattle.first_uip.proofs.WatcherLists.{Keeps, Keeps-self, each_list}
 use Rattle.first_uip.proofs.watches.Watches.block.Goals as goal
 

@@ -1,7 +1,4 @@
-use Rattle.std.proofs.Common.{◌≡◌, [], set, get_or, ap, ◌∙◌, subst, inl}
-use Rattle.std.proofs.lemmas.List.{get_or_default}
-use Rattle.clauses.specs.Literal.{code_of}
-use Rattle.first_uip.specs.declared.watchers.Watcher.{Watcher}
+use Rattle.first_uip.proofs.Common.{◌≡◌, [], set, get_or, ap, ◌∙◌, subst, inl, get_or_default, code_of, Watcher}
 use Rattle.first_uip.proofs.WatcherLists.{Keeps, Keeps-self, each_list}
 use Rattle.first_uip.proofs.watches.Watches.drop_number.Goals as goal
 

@@ -1,11 +1,5 @@
-use Rattle.std.proofs.Common.{◌≡◌, ℕ, ◌+◌, length, get_or, List, Some, IsSome, refl, sym, subst, arith}
-use Rattle.std.proofs.lemmas.Option.{slice_get_read}
-use Rattle.ops.specs.declared.value.Value.{Value}
-use Rattle.ir_core.specs.Names.{width_of}
-use Rattle.ir_core.specs.declared.function.Function.{Function}
-use Rattle.ir_core.specs.declared.operand.Register.{Register}
+use Rattle.ir_meaning.proofs.Common.{◌≡◌, ℕ, ◌+◌, length, get_or, List, Some, IsSome, refl, sym, subst, arith, slice_get_read, Value, width_of, Function, Register, first_of, held_of, IsTable}
 use Rattle.ir_core.specs.declared.operand.Register.TheVariants as registers
-use Rattle.ir_meaning.specs.Table.{first_of, held_of, IsTable}
 use Rattle.ir_meaning.proofs.Tables.{has_inst_some, inst_within, parameter_held, parameter_within_some, result_held}
 use Rattle.ir_meaning.proofs.table.Table.get.Goals as goal
 

@@ -1,5 +1,4 @@
-use Rattle.std.proofs.Common.{◌≡◌, length, take}
-use Rattle.std.specs.List.{sum_by}
+use Rattle.ir_meaning.proofs.Common.{◌≡◌, length, take, sum_by}
 use Rattle.ir_meaning.proofs.Tables.{AreFirsts, started}
 use Rattle.ir_meaning.proofs.table.Table.new.Given as goal
 

@@ -1,4 +1,4 @@
-use Rattle.std.proofs.Common.{arith}
+use Rattle.ir_meaning.proofs.Common.{arith}
 use Rattle.ir_meaning.proofs.Tables.{inst_within, read_first}
 use Rattle.ir_meaning.proofs.table.Table.place.Goals as goal
 

@@ -1,6 +1,4 @@
-use Rattle.std.proofs.Common.{◌∙◌, sym, ap}
-use Rattle.std.specs.Prelude.{slice_get}
-use Rattle.ir_resolve.specs.Identifiers.{identifiers_of}
+use Rattle.ir_printer.proofs.Common.{◌∙◌, sym, ap, slice_get, identifiers_of}
 use Rattle.ir_printer.proofs.Identified.{no_block, start_is}
 use Rattle.ir_printer.proofs.identifiers.Identifiers.block.Goals as goal
 

@@ -1,6 +1,4 @@
-use Rattle.std.proofs.Common.{◌∙◌, sym, arith, ap, ℕ}
-use Rattle.std.specs.Prelude.{slice_get}
-use Rattle.ir_resolve.specs.Identifiers.{identifiers_of}
+use Rattle.ir_printer.proofs.Common.{◌∙◌, sym, arith, ap, ℕ, slice_get, identifiers_of}
 use Rattle.ir_core.specs.declared.operand.Register.TheVariants as registers
 use Rattle.ir_printer.proofs.Identified.{no_result, start_is, too_far}
 use Rattle.ir_printer.proofs.identifiers.Identifiers.result.Goals as goal

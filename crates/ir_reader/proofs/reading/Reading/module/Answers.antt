@@ -1,5 +1,4 @@
-use Rattle.std.proofs.Common.{subst}
-use Rattle.ir_reader.specs.EntriesRead.{IsReadingOf}
+use Rattle.ir_reader.proofs.Common.{subst, IsReadingOf}
 use Rattle.ir_reader.proofs.reading.Reading.module.Goals as goal
 
 pub returns-in-Faultless-clause-ok : goal.returns-in-Faultless-clause-ok

@@ -1,8 +1,4 @@
-use Rattle.std.proofs.Common.{[], ap, sym, subst, ◌∙◌}
-use Rattle.std.specs.List.{list_any}
-use Rattle.std.specs.Str.{bytes_eq}
-use Rattle.std.proofs.lemmas.Bool.{false≢true}
-use Rattle.ir_reader.specs.Faults.{AreEntriesOf}
+use Rattle.ir_reader.proofs.Common.{[], ap, sym, subst, ◌∙◌, list_any, bytes_eq, false≢true, AreEntriesOf}
 use Rattle.ir_reader.proofs.GoingOn.{no_entries}
 use Rattle.ir_reader.proofs.Repeats.{name_none}
 use Rattle.ir_reader.proofs.reading.Reading.new.Goals as goal

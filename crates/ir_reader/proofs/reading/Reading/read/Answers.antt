@@ -1,5 +1,4 @@
-use Rattle.std.proofs.Common.{[], ◌∷◌, ◌++◌, sym, subst}
-use Rattle.ir_reader.specs.EntriesRead.{IsReadingOf}
+use Rattle.ir_reader.proofs.Common.{[], ◌∷◌, ◌++◌, sym, subst, IsReadingOf}
 use Rattle.ir_reader.proofs.GoingOn.{fault_stays}
 use Rattle.ir_reader.proofs.reading.Reading.read.Goals as goal
 

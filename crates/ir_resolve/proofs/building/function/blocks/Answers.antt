@@ -1,9 +1,4 @@
-use Rattle.std.proofs.Common.{sym, ap, subst, ◌∙◌, arith}
-use Rattle.std.specs.List.{AllZip, AllByRecursion}
-use Rattle.ir_resolve.specs.Written.{given}
-use Rattle.ir_resolve.specs.Means.{InstMeans, BlockIsOf}
-use Rattle.ir_resolve.specs.Views.{known_by, CallsIn}
-use Rattle.ir_resolve.specs.KnownNames.{IsReadyInst, IsReadyBlock}
+use Rattle.ir_resolve.proofs.Common.{sym, ap, subst, ◌∙◌, arith, AllZip, AllByRecursion, given, InstMeans, BlockIsOf, known_by, CallsIn, IsReadyInst, IsReadyBlock}
 use Rattle.ir_resolve.proofs.Zips.{zip_more, zip_all, each_at}
 use Rattle.ir_resolve.proofs.building.function.blocks.Goals as goal
 

@@ -1,6 +1,4 @@
-use Rattle.std.proofs.Common.{refl, ap, ◌∙◌, arith}
-use Rattle.ir_resolve.specs.Written.{given}
-use Rattle.ir_resolve.specs.Means.{ParameterMeans}
+use Rattle.ir_resolve.proofs.Common.{refl, ap, ◌∙◌, arith, given, ParameterMeans}
 use Rattle.ir_resolve.proofs.Zips.{zip_more, zip_all}
 use Rattle.ir_resolve.proofs.building.function.parameters.Goals as goal
 

@@ -1,6 +1,4 @@
-use Rattle.std.proofs.Common.{take}
-use Rattle.std.specs.List.{AllZip}
-use Rattle.ir_resolve.specs.Means.{ParameterMeans}
+use Rattle.ir_resolve.proofs.Common.{take, AllZip, ParameterMeans}
 use Rattle.ir_resolve.proofs.building.function.parameters.Given as goal
 
 abbrev pub invariant-loop-written : goal.invariant-loop-written

@@ -1,7 +1,4 @@
-use Rattle.std.proofs.Common.{arith}
-use Rattle.ir_resolve.specs.FaultKinds.{IsUnknownValue, IsUnknownBlock}
-use Rattle.ir_resolve.specs.Means.{IncomingMeans}
-use Rattle.ir_resolve.specs.Views.{known_by, CallsIn}
+use Rattle.ir_resolve.proofs.Common.{arith, IsUnknownValue, IsUnknownBlock, IncomingMeans, known_by, CallsIn}
 use Rattle.ir_resolve.proofs.Zips.{zip_more, zip_all, each_at, each_seen_at}
 use Rattle.ir_resolve.proofs.building.instruction.entries.Goals as goal
 

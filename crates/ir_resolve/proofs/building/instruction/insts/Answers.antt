@@ -1,7 +1,4 @@
-use Rattle.std.proofs.Common.{arith}
-use Rattle.ir_resolve.specs.Means.{InstMeans}
-use Rattle.ir_resolve.specs.Views.{known_by, CallsIn}
-use Rattle.ir_resolve.specs.KnownNames.{IsReadyInst}
+use Rattle.ir_resolve.proofs.Common.{arith, InstMeans, known_by, CallsIn, IsReadyInst}
 use Rattle.ir_resolve.proofs.Zips.{zip_more, zip_all, each_at}
 use Rattle.ir_resolve.proofs.building.instruction.insts.Goals as goal
 

@@ -1,8 +1,4 @@
-use Rattle.std.proofs.Common.{sym, subst}
-use Rattle.std.specs.List.{AllByRecursion}
-use Rattle.ir_resolve.specs.TypedReads.{typed}
-use Rattle.ir_resolve.specs.FaultKinds.{IsUnknownValue}
-use Rattle.ir_resolve.specs.Views.{known_by, CallsIn}
+use Rattle.ir_resolve.proofs.Common.{sym, subst, AllByRecursion, typed, IsUnknownValue, known_by, CallsIn}
 use Rattle.ir_resolve.proofs.Zips.{each_seen}
 use Rattle.ir_resolve.proofs.building.instruction.op.Goals as goal
 

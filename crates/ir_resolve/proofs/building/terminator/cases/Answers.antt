@@ -1,7 +1,4 @@
-use Rattle.std.proofs.Common.{◌≢◌, None, arith}
-use Rattle.ir_resolve.specs.FaultKinds.{literal_of, IsUnknownBlock}
-use Rattle.ir_resolve.specs.Means.{CaseMeans}
-use Rattle.ir_resolve.specs.Views.{known_by, CallsIn}
+use Rattle.ir_resolve.proofs.Common.{◌≢◌, None, arith, literal_of, IsUnknownBlock, CaseMeans, known_by, CallsIn}
 use Rattle.ir_resolve.proofs.Zips.{zip_more, zip_all, each_at, each_seen_at}
 use Rattle.ir_resolve.proofs.building.terminator.cases.Goals as goal
 

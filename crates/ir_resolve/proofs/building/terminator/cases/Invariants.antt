@@ -1,7 +1,4 @@
-use Rattle.std.proofs.Common.{take}
-use Rattle.std.specs.List.{AllZip}
-use Rattle.ir_resolve.specs.Means.{CaseMeans}
-use Rattle.ir_resolve.specs.Views.{known_by, CallsIn}
+use Rattle.ir_resolve.proofs.Common.{take, AllZip, CaseMeans, known_by, CallsIn}
 use Rattle.ir_resolve.proofs.building.terminator.cases.Given as goal
 
 abbrev pub invariant-loop-written : goal.invariant-loop-written

@@ -1,4 +1,4 @@
-use Rattle.std.proofs.Common.{◌≡◌, take}
+use Rattle.ir_resolve.proofs.Common.{◌≡◌, take}
 use Rattle.ir_resolve.proofs.building.text.texts.Given as goal
 
 abbrev pub invariant-loop-written : goal.invariant-loop-written

@@ -1,9 +1,5 @@
-use Rattle.std.proofs.Common.{◌≡◌, ◌∷◌, ◌++◌, [], map, Some, ap, ◌∙◌, append_assoc, arith}
-use Rattle.std.specs.Option.{option_copied}
-use Rattle.std.specs.List.{flat_map}
+use Rattle.ir_resolve.proofs.Common.{◌≡◌, ◌∷◌, ◌++◌, [], map, Some, ap, ◌∙◌, append_assoc, arith, option_copied, flat_map, seen_definition, Defined, block_defined, results_defined}
 use Rattle.ir_resolve.specs.declared.names.definition.Entity.TheVariants as entities
-use Rattle.ir_resolve.specs.Views.{seen_definition}
-use Rattle.ir_resolve.specs.Definitions.{Defined, block_defined, results_defined}
 use Rattle.ir_resolve.proofs.Adding.{flat_map_push}
 use Rattle.ir_resolve.proofs.Defining.{defined_more, seen_push}
 use Rattle.ir_resolve.proofs.names.definition.add_blocks.Goals as goal

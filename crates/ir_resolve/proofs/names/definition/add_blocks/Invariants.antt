@@ -1,6 +1,4 @@
-use Rattle.std.proofs.Common.{◌≡◌, ◌++◌, map, take}
-use Rattle.ir_resolve.specs.Views.{seen_definition}
-use Rattle.ir_resolve.specs.Definitions.{blocks_defined}
+use Rattle.ir_resolve.proofs.Common.{◌≡◌, ◌++◌, map, take, seen_definition, blocks_defined}
 use Rattle.ir_resolve.proofs.names.definition.add_blocks.Given as goal
 
 abbrev pub invariant-loop-index : goal.invariant-loop-index

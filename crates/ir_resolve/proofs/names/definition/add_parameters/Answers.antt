@@ -1,9 +1,6 @@
-use Rattle.std.proofs.Common.{◌≡◌, ◌∷◌, [], map, Some, arith}
-use Rattle.std.specs.Option.{option_copied}
-use Rattle.std.proofs.lemmas.List.{map_push}
+use Rattle.ir_resolve.proofs.Common.{◌≡◌, ◌∷◌, [], map, Some, arith, option_copied, map_push, Defined, parameter_defined}
 use Rattle.ir_core.specs.declared.operand.Register.TheVariants as registers
 use Rattle.ir_resolve.specs.declared.names.definition.Entity.TheVariants as entities
-use Rattle.ir_resolve.specs.Definitions.{Defined, parameter_defined}
 use Rattle.ir_resolve.proofs.Defining.{defined_more, seen_push}
 use Rattle.ir_resolve.proofs.names.definition.add_parameters.Goals as goal
 

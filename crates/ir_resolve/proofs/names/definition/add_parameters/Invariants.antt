@@ -1,6 +1,4 @@
-use Rattle.std.proofs.Common.{◌≡◌, ◌++◌, map, take}
-use Rattle.ir_resolve.specs.Views.{seen_definition}
-use Rattle.ir_resolve.specs.Definitions.{parameters_defined}
+use Rattle.ir_resolve.proofs.Common.{◌≡◌, ◌++◌, map, take, seen_definition, parameters_defined}
 use Rattle.ir_resolve.proofs.names.definition.add_parameters.Given as goal
 
 abbrev pub invariant-loop-index : goal.invariant-loop-index

@@ -1,8 +1,6 @@
-use Rattle.std.proofs.Common.{◌≡◌, ◌∷◌, [], map, Some, arith}
-use Rattle.std.proofs.lemmas.List.{map_push}
+use Rattle.ir_resolve.proofs.Common.{◌≡◌, ◌∷◌, [], map, Some, arith, map_push, Defined, result_defined}
 use Rattle.ir_core.specs.declared.operand.Register.TheVariants as registers
 use Rattle.ir_resolve.specs.declared.names.definition.Entity.TheVariants as entities
-use Rattle.ir_resolve.specs.Definitions.{Defined, result_defined}
 use Rattle.ir_resolve.proofs.Defining.{defined_more, seen_push}
 use Rattle.ir_resolve.proofs.names.definition.add_results.Goals as goal
 

@@ -1,6 +1,4 @@
-use Rattle.std.proofs.Common.{◌≡◌, ◌++◌, map, take}
-use Rattle.ir_resolve.specs.Views.{seen_definition}
-use Rattle.ir_resolve.specs.Definitions.{results_defined}
+use Rattle.ir_resolve.proofs.Common.{◌≡◌, ◌++◌, map, take, seen_definition, results_defined}
 use Rattle.ir_resolve.proofs.names.definition.add_results.Given as goal
 
 abbrev pub invariant-loop-index : goal.invariant-loop-index

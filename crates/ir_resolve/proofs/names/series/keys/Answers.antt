@@ -1,7 +1,4 @@
-use Rattle.std.proofs.Common.{◌≡◌, ◌≤◌, ◌<◌, [], ◌∷◌, map, length, ap, subst, refl, rules, arith}
-use Rattle.std.proofs.lemmas.List.{take_all}
-use Rattle.ir_resolve.specs.Written.{given, called_in}
-use Rattle.ir_resolve.specs.Views.{seen, seen_written}
+use Rattle.ir_resolve.proofs.Common.{◌≡◌, ◌≤◌, ◌<◌, [], ◌∷◌, map, length, ap, subst, refl, rules, arith, take_all, given, called_in, seen, seen_written}
 use Rattle.ir_resolve.proofs.Series.{number_after, number-le, next_numbered, next_named, keys_more, next_more}
 use Rattle.ir_resolve.proofs.names.series.keys.Goals as goal
 use Rattle.ir_resolve.proofs.names.series.keys.Goals.{in-Numbered, in_default}

@@ -1,8 +1,5 @@
 -- the keys so far, and the next number of the series
-use Rattle.std.proofs.Common.{◌≡◌, map, take}
-use Rattle.ir_resolve.specs.Identifiers.{identifiers_from}
-use Rattle.ir_resolve.specs.Written.{given}
-use Rattle.ir_resolve.specs.Views.{seen, seen_written}
+use Rattle.ir_resolve.proofs.Common.{◌≡◌, map, take, identifiers_from, given, seen, seen_written}
 use Rattle.ir_resolve.proofs.Series.{number_after}
 use Rattle.ir_resolve.proofs.names.series.keys.Given as goal
 

@@ -1,8 +1,4 @@
-use Rattle.std.proofs.Common.{◌<◌, map, length, arith}
-use Rattle.std.proofs.lemmas.List.{length-map}
-use Rattle.std.proofs.lemmas.Option.{slice_get_within}
-use Rattle.ir_resolve.specs.FaultKinds.{MisnumbersHere}
-use Rattle.ir_resolve.specs.Views.{seen_written}
+use Rattle.ir_resolve.proofs.Common.{◌<◌, map, length, arith, length-map, slice_get_within, MisnumbersHere, seen_written}
 use Rattle.ir_resolve.proofs.Firsts.{first_more_place, first_all_places}
 use Rattle.ir_resolve.proofs.Keys.{length-keys, misnumbered_here}
 use Rattle.ir_resolve.proofs.names.series.misnumbered.Goals as goal

@@ -1,7 +1,4 @@
-use Rattle.std.proofs.Common.{map}
-use Rattle.ir_resolve.specs.FirstLines.{IsFirst}
-use Rattle.ir_resolve.specs.FaultKinds.{MisnumbersHere}
-use Rattle.ir_resolve.specs.Views.{seen_written}
+use Rattle.ir_resolve.proofs.Common.{map, IsFirst, MisnumbersHere, seen_written}
 use Rattle.ir_resolve.proofs.Firsts.{Before}
 use Rattle.ir_resolve.proofs.names.series.misnumbered.Given as goal
 

@@ -1,5 +1,4 @@
-use Rattle.std.proofs.Common.{sym, ap, ◌∙◌}
-use Rattle.ir_resolve.specs.Views.{seen_entries, knows}
+use Rattle.ir_resolve.proofs.Common.{sym, ap, ◌∙◌, seen_entries, knows}
 use Rattle.ir_resolve.proofs.Lookups.{known_inserted, was_known, added_last}
 use Rattle.ir_resolve.proofs.names.table.define.Goals as goal
 

@@ -1,4 +1,4 @@
-use Rattle.std.proofs.Common.{◌∙◌}
+use Rattle.ir_resolve.proofs.Common.{◌∙◌}
 use Rattle.ir_resolve.proofs.Lookups.{entity_found}
 use Rattle.ir_resolve.proofs.names.table.entity.Goals as goal
 

@@ -1,10 +1,4 @@
-use Rattle.std.proofs.Common.{◌≡◌, ◌<◌, List, length, map, take, sym, ap, ◌∙◌, arith}
-use Rattle.std.proofs.lemmas.List.{length-map, take_all}
-use Rattle.std.specs.List.{zip}
-use Rattle.std.proofs.lemmas.Option.{slice_get_within}
-use Rattle.ir_resolve.specs.declared.names.definition.Entity.{Entity}
-use Rattle.ir_resolve.specs.FaultKinds.{RepeatsHere, HasName, IsWrittenOn}
-use Rattle.ir_resolve.specs.Views.{seen, seen_written, known_by, knows}
+use Rattle.ir_resolve.proofs.Common.{◌≡◌, ◌<◌, List, length, map, take, sym, ap, ◌∙◌, arith, length-map, take_all, zip, slice_get_within, Entity, RepeatsHere, HasName, IsWrittenOn, seen, seen_written, known_by, knows}
 use Rattle.ir_resolve.proofs.Firsts.{first_more_place, first_all_places}
 use Rattle.ir_resolve.proofs.Keys.{length-keys}
 use Rattle.ir_resolve.proofs.Tables.{known_behind, table_behind, repeats_behind, new_behind, none_of, entity}

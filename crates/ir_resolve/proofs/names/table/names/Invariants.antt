@@ -1,10 +1,5 @@
 -- the keys so far, the first line of a name that was given before, and the table if there is none
-use Rattle.std.proofs.Common.{◌≡◌, ◌↔◌, map, take, None, IsTrue}
-use Rattle.std.specs.List.{zip}
-use Rattle.ir_tokens.specs.declared.called.Identifier.{Identifier}
-use Rattle.ir_resolve.specs.FirstLines.{IsFirst}
-use Rattle.ir_resolve.specs.FaultKinds.{SomeHas, RepeatsHere, HasName, IsWrittenOn}
-use Rattle.ir_resolve.specs.Views.{seen, seen_written, known_by, knows, Is}
+use Rattle.ir_resolve.proofs.Common.{◌≡◌, ◌↔◌, map, take, None, IsTrue, zip, Identifier, IsFirst, SomeHas, RepeatsHere, HasName, IsWrittenOn, seen, seen_written, known_by, knows, Is}
 use Rattle.ir_resolve.proofs.Firsts.{Before}
 use Rattle.ir_resolve.proofs.names.table.names.Given as goal
 

@@ -1,7 +1,4 @@
-use Rattle.std.proofs.Common.{subst, arith}
-use Rattle.std.specs.List.{flat_map}
-use Rattle.std.proofs.lemmas.Result.{on_ok_weaker}
-use Rattle.ir_resolve.specs.Uses.{Adds}
+use Rattle.ir_resolve.proofs.Common.{subst, arith, flat_map, on_ok_weaker, Adds}
 use Rattle.ir_resolve.proofs.Adding.{adds_none, adds_then, adds_more, adds_all, flat_map_push, read_by_inst, named_by_inst}
 use Rattle.ir_resolve.proofs.uses.Uses.add_block.Goals as goal
 

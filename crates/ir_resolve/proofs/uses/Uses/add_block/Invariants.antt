@@ -1,7 +1,4 @@
-use Rattle.std.proofs.Common.{take}
-use Rattle.std.specs.List.{flat_map}
-use Rattle.ir_resolve.specs.TypedReads.{read_by, named_by}
-use Rattle.ir_resolve.specs.Uses.{Adds}
+use Rattle.ir_resolve.proofs.Common.{take, flat_map, read_by, named_by, Adds}
 use Rattle.ir_resolve.proofs.uses.Uses.add_block.Given as goal
 
 abbrev pub invariant-loop-inst : goal.invariant-loop-inst

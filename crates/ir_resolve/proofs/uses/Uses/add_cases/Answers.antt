@@ -1,7 +1,4 @@
-use Rattle.std.proofs.Common.{[], ◌∷◌, map, refl, arith}
-use Rattle.std.proofs.lemmas.List.{map_push}
-use Rattle.ir_tokens.specs.declared.raw.RawCase.{RawCase}
-use Rattle.ir_tokens.specs.declared.raw.RawIdentifier.{RawIdentifier}
+use Rattle.ir_resolve.proofs.Common.{[], ◌∷◌, map, refl, arith, map_push, RawCase, RawIdentifier}
 use Rattle.ir_resolve.proofs.Adding.{adds_none, adds_more, adds_all}
 use Rattle.ir_resolve.proofs.uses.Uses.add_cases.Goals as goal
 

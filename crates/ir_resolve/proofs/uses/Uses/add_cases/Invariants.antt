@@ -1,5 +1,4 @@
-use Rattle.std.proofs.Common.{[], map, take}
-use Rattle.ir_resolve.specs.Uses.{Adds}
+use Rattle.ir_resolve.proofs.Common.{[], map, take, Adds}
 use Rattle.ir_resolve.proofs.uses.Uses.add_cases.Given as goal
 
 abbrev pub invariant-loop-case : goal.invariant-loop-case

@@ -1,8 +1,4 @@
-use Rattle.std.proofs.Common.{ℕ, [], ◌∷◌, map, arith}
-use Rattle.std.proofs.lemmas.List.{map_push}
-use Rattle.ir_tokens.specs.declared.raw.RawIncoming.{RawIncoming}
-use Rattle.ir_tokens.specs.declared.raw.RawIdentifier.{RawIdentifier}
-use Rattle.ir_resolve.specs.TypedReads.{Typed, typed}
+use Rattle.ir_resolve.proofs.Common.{ℕ, [], ◌∷◌, map, arith, map_push, RawIncoming, RawIdentifier, Typed, typed}
 use Rattle.ir_resolve.proofs.Adding.{adds_none, adds_then, adds_more, adds_all}
 use Rattle.ir_resolve.proofs.uses.Uses.add_incoming.Goals as goal
 

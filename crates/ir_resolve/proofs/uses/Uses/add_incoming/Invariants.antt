@@ -1,6 +1,4 @@
-use Rattle.std.proofs.Common.{map, take}
-use Rattle.ir_resolve.specs.TypedReads.{typed}
-use Rattle.ir_resolve.specs.Uses.{Adds}
+use Rattle.ir_resolve.proofs.Common.{map, take, typed, Adds}
 use Rattle.ir_resolve.proofs.uses.Uses.add_incoming.Given as goal
 
 abbrev pub invariant-loop-entry : goal.invariant-loop-entry

@@ -1,7 +1,4 @@
-use Rattle.std.proofs.Common.{◌++◌, map, ap, ◌∙◌, arith}
-use Rattle.std.specs.List.{flat_map}
-use Rattle.ir_resolve.specs.TypedReads.{read_in, named_in}
-use Rattle.ir_resolve.specs.Uses.{seen_read}
+use Rattle.ir_resolve.proofs.Common.{◌++◌, map, ap, ◌∙◌, arith, flat_map, read_in, named_in, seen_read}
 use Rattle.ir_resolve.proofs.Adding.{adds_none, adds_more, adds_all, flat_map_push}
 use Rattle.ir_resolve.proofs.uses.Uses.of.Goals as goal
 

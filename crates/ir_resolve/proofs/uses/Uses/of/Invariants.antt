@@ -1,7 +1,4 @@
-use Rattle.std.proofs.Common.{take}
-use Rattle.std.specs.List.{flat_map}
-use Rattle.ir_resolve.specs.TypedReads.{read_in, named_in}
-use Rattle.ir_resolve.specs.Uses.{Adds}
+use Rattle.ir_resolve.proofs.Common.{take, flat_map, read_in, named_in, Adds}
 use Rattle.ir_resolve.proofs.uses.Uses.of.Given as goal
 
 abbrev pub invariant-loop-block : goal.invariant-loop-block

@@ -1,7 +1,6 @@
-use Rattle.std.proofs.Common.{◌∙◌, ◌<◌, ◌≤◌, [], ◌∷◌, ◌++◌, true, false, length, refl, sym, ap, subst, arith, append-nil}
-use Rattle.std.proofs.lemmas.List.{map_push}
-use Rattle.ir_tokens.specs.ReaderPlaces.{MayBegin}
-use Rattle.ir_tokens.specs.SeenTokens.{seen, seen_placed}
+use Rattle.ir_tokens.proofs.Common.{◌∙◌, ◌<◌, ◌≤◌, [], ◌∷◌, ◌++◌, true, false, length, refl, sym, ap, subst, arith, map_push, MayBegin, seen_placed}
+use Rattle.std.proofs.Common.{append-nil}
+use Rattle.ir_tokens.specs.SeenTokens.{seen}
 use Rattle.ir_tokens.proofs.Moving.{token_moves, token_within}
 use Rattle.ir_tokens.proofs.OneEntry.{Within, none_taken, none_begins, ends_with, goes_on_with}
 use Rattle.ir_tokens.proofs.Passing.{token_passed, last_passed}

@@ -1,9 +1,7 @@
 -- the tokens read so far are appended to those that were there, and behind none of them an entry may begin
-use Rattle.std.proofs.Common.{◌≡◌, ◌≤◌, ℕ, List, ◌++◌, ◌-◌, length}
+use Rattle.ir_tokens.proofs.Common.{◌≡◌, ◌≤◌, ℕ, List, ◌++◌, ◌-◌, length, HasPassed, Placed}
 use Rattle.ir_tokens.specs.declared.token.Placed.{Placed as ScannedPlaced}
-use Rattle.ir_tokens.specs.ReaderPlaces.{HasPassed}
 use Rattle.ir_tokens.specs.SeenTokens.{seen}
-use Rattle.ir_tokens.specs.Tokens.{Placed}
 use Rattle.ir_tokens.proofs.OneEntry.{Within}
 use Rattle.ir_tokens.proofs.Reading.{SoFar}
 use Rattle.ir_tokens.proofs.reader.TokenReader.take_entry.Given as goal

@@ -1,5 +1,4 @@
-use Rattle.std.proofs.Common.{◌∙◌, ◌-◌, ℕ, Some, ap, slice_set}
-use Rattle.std.proofs.lemmas.List.{length-set}
+use Rattle.matcher.proofs.Common.{◌∙◌, ◌-◌, ℕ, Some, ap, slice_set, length-set}
 use Rattle.matcher.proofs.SourceSlots.{are_slots, known_first}
 use Rattle.matcher.proofs.slots.Slots.new.Goals as goal
 

@@ -1,8 +1,5 @@
-use Rattle.std.proofs.Common.{◌≡◌, Some, refl, arith}
-use Rattle.std.specs.Prelude.{slice_get}
-use Rattle.std.proofs.lemmas.List.{length-set}
+use Rattle.matcher.proofs.Common.{◌≡◌, Some, refl, arith, slice_get, length-set, constant_at}
 use Rattle.matcher.proofs.Knowing.{as_many_themselves, keeps_slots, knows_here}
-use Rattle.bindings.proofs.Naming.{constant_at}
 use Rattle.matcher.proofs.slots.Slots.take_constant.Goals as goal
 
 pub index_mut-requires : goal.index_mut-requires

@@ -1,11 +1,6 @@
-use Rattle.std.proofs.Common.{◌≡◌, ◌∙◌, refl, sym, subst, Some}
-use Rattle.std.specs.Prelude.{slice_get}
-use Rattle.std.proofs.lemmas.Option.{same_Some}
+use Rattle.matcher.proofs.Common.{◌≡◌, ◌∙◌, refl, sym, subst, Some, slice_get, same_Some, operands_of, OperandMatches, KnowsOperand}
 use Rattle.ir_core.specs.declared.read.Read.{Read}
-use Rattle.rule_core.specs.Positions.{operands_of}
 use Rattle.rule_core.specs.declared.rule.Operand.{Operand}
-use Rattle.bindings.specs.Operands.{OperandMatches}
-use Rattle.matcher.specs.Slots.{KnowsOperand}
 use Rattle.matcher.proofs.slots.Slots.take_operand_at.Goals as goal
 
 pub returns-in-Some-Some-clause-knows : goal.returns-in-Some-Some-clause-knows

@@ -1,9 +1,5 @@
-use Rattle.std.proofs.Common.{◌≡◌, ℕ, inl, inr, refl, subst, Some, true, false, arith}
-use Rattle.std.specs.Prelude.{slice_get}
-use Rattle.std.proofs.lemmas.Bool.{cases_eq}
-use Rattle.rule_core.specs.Positions.{operands_of}
+use Rattle.matcher.proofs.Common.{◌≡◌, ℕ, inl, inr, refl, subst, Some, true, false, arith, slice_get, cases_eq, operands_of, at_most_three}
 use Rattle.matcher.proofs.Knowing.{as_many_along, keeps_along, keeps_operand, each_operand}
-use Rattle.bindings.proofs.Reading.{at_most_three}
 use Rattle.matcher.proofs.slots.Slots.take_operands.Goals as goal
 
 pub returns-then-not-take_operand_at-clause-knows : goal.returns-then-not-take_operand_at-clause-knows

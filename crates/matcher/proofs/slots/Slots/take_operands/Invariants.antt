@@ -1,10 +1,6 @@
 -- the slots of the operands so far are filled with what a match has
-use Rattle.std.proofs.Common.{◌≡◌, ℕ, ◌<◌, Some}
-use Rattle.std.specs.Prelude.{slice_get}
-use Rattle.rule_core.specs.Positions.{operands_of}
+use Rattle.matcher.proofs.Common.{◌≡◌, ℕ, ◌<◌, Some, slice_get, operands_of, AreAsMany, Keeps, KnowsOperand, OperandsMatch, Binding}
 use Rattle.rule_core.specs.declared.rule.Operand.{Operand}
-use Rattle.matcher.specs.Slots.{AreAsMany, Keeps, KnowsOperand, OperandsMatch}
-use Rattle.bindings.specs.declared.binding.Binding.{Binding}
 use Rattle.matcher.proofs.slots.Slots.take_operands.Given as goal
 
 abbrev pub invariant-loop-index : goal.invariant-loop-index

@@ -1,8 +1,5 @@
-use Rattle.std.proofs.Common.{◌≡◌, ◌<◌, Some, length, refl, arith}
-use Rattle.std.specs.Prelude.{slice_get}
-use Rattle.std.proofs.lemmas.List.{length-set}
+use Rattle.matcher.proofs.Common.{◌≡◌, ◌<◌, Some, length, refl, arith, slice_get, length-set, input_at, source_at, source_register, target_stands}
 use Rattle.matcher.proofs.Knowing.{as_many_themselves, keeps_slots, knows_here}
-use Rattle.bindings.proofs.Naming.{input_at, source_at, source_register, target_stands}
 use Rattle.matcher.proofs.NameSlots.{has_input, has_source, knows_input, knows_source}
 use Rattle.matcher.proofs.slots.Slots.take_register.Goals as goal
 

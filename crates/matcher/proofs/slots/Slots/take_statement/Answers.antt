@@ -1,11 +1,5 @@
-use Rattle.std.proofs.Common.{◌≡◌, ◌∙◌, ℕ, Some, sym, subst}
-use Rattle.std.specs.Prelude.{slice_get}
-use Rattle.std.proofs.lemmas.Option.{get_or_from_slice_get, same_Some}
-use Rattle.ir_core.specs.Names.{width_of}
-use Rattle.ir_core.specs.declared.operand.Register.{Register}
+use Rattle.matcher.proofs.Common.{◌≡◌, ◌∙◌, ℕ, Some, sym, subst, slice_get, get_or_from_slice_get, same_Some, width_of, Register, OperandsMatch, same_block, same_place}
 use Rattle.ir_core.specs.declared.operand.Register.TheVariants as registers
-use Rattle.matcher.specs.Slots.{OperandsMatch}
-use Rattle.bindings.proofs.Bound.{same_block, same_place}
 use Rattle.matcher.proofs.Knowing.{keeps_along}
 use Rattle.matcher.proofs.slots.Slots.take_statement.Goals as goal
 

@@ -1,8 +1,5 @@
-use Rattle.std.proofs.Common.{subst}
-use Rattle.rule_core.specs.declared.rule.Argument.{Argument}
+use Rattle.matcher.proofs.Common.{subst, Argument, StandsFor, HasName}
 use Rattle.rule_core.specs.declared.rule.Argument.TheVariants as arguments
-use Rattle.bindings.specs.Operands.{StandsFor}
-use Rattle.matcher.specs.Slots.{HasName}
 use Rattle.matcher.proofs.Knowing.{as_many_themselves, keeps_itself, known_as, knows_nothing}
 use Rattle.matcher.proofs.slots.Slots.take_value.Goals as goal
 

@@ -1,5 +1,4 @@
-use Rattle.std.proofs.Common.{refl, arith}
-use Rattle.std.proofs.lemmas.List.{length-set}
+use Rattle.matcher.proofs.Common.{refl, arith, length-set}
 use Rattle.matcher.proofs.Knowing.{keeps_slots, knows_here}
 use Rattle.matcher.proofs.slots.Slots.take_width.Goals as goal
 

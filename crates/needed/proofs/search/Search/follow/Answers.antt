@@ -1,8 +1,4 @@
-use Rattle.std.proofs.Common.{◌≡◌, ◌<◌, Some, length, refl, ap, arith}
-use Rattle.std.specs.Prelude.{slice_get}
-use Rattle.std.proofs.lemmas.Option.{slice_get_within}
-use Rattle.ir_core.specs.Blocks.{HasInst}
-use Rattle.needed.specs.Operands.{operands_of}
+use Rattle.needed.proofs.Common.{◌≡◌, ◌<◌, Some, length, refl, ap, arith, slice_get, slice_get_within, HasInst, operands_of}
 use Rattle.needed.proofs.SearchLemmas.{reads_numbered, inst_reads, search_inst, numbered_for, work_has, place_within, block_looked_at, inst_looked_at}
 use Rattle.needed.proofs.search.Search.follow.Goals as goal
 

@@ -1,5 +1,4 @@
-use Rattle.std.proofs.Common.{◌+◌, length}
-use Rattle.needed.specs.NeededMarks.{IsSearched, unmarked}
+use Rattle.needed.proofs.Common.{◌+◌, length, IsSearched, unmarked}
 use Rattle.needed.proofs.search.Search.follow.Given as goal
 
 abbrev pub invariant-loop-block : goal.invariant-loop-block

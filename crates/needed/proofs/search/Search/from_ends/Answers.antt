@@ -1,8 +1,4 @@
-use Rattle.std.proofs.Common.{◌≡◌, Some, length, ap, subst, arith}
-use Rattle.std.specs.Prelude.{slice_get}
-use Rattle.ir_core.specs.Reads.{end_of}
-use Rattle.needed.specs.NeededMarks.{IsSearched}
-use Rattle.needed.specs.Operands.{operands_at_end}
+use Rattle.needed.proofs.Common.{◌≡◌, Some, length, ap, subst, arith, slice_get, end_of, IsSearched, operands_at_end}
 use Rattle.needed.proofs.NumberLemmas.{item_read}
 use Rattle.needed.proofs.SearchLemmas.{reads_numbered, end_reads, search_end, numbered_for}
 use Rattle.needed.proofs.search.Search.from_ends.Goals as goal

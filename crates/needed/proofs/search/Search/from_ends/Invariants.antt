@@ -1,4 +1,4 @@
-use Rattle.needed.specs.NeededMarks.{IsSearched}
+use Rattle.needed.proofs.Common.{IsSearched}
 use Rattle.needed.proofs.search.Search.from_ends.Given as goal
 
 -- the terminators before the index were looked at

@@ -1,5 +1,4 @@
-use Rattle.std.proofs.Common.{take}
-use Rattle.needed.specs.NeededMarks.{Marked}
+use Rattle.needed.proofs.Common.{take, Marked}
 use Rattle.needed.proofs.search.Search.mark_all.Given as goal
 
 -- the instructions that define the operands before the index are marked

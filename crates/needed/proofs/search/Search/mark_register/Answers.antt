@@ -1,4 +1,4 @@
-use Rattle.std.proofs.Common.{refl, ap}
+use Rattle.needed.proofs.Common.{refl, ap}
 use Rattle.ir_core.specs.declared.operand.Operand.TheVariants as operands
 use Rattle.needed.proofs.MarkLemmas.{mark_again, mark_anew}
 use Rattle.needed.proofs.search.Search.mark_register.Goals as goal

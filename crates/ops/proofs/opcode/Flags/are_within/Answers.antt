@@ -1,4 +1,4 @@
-use Rattle.std.proofs.Common.{sym, ◌∙◌}
+use Rattle.ops.proofs.Common.{sym, ◌∙◌}
 use Rattle.ops.proofs.FlagSets.{flags_equal}
 use Rattle.ops.proofs.opcode.Flags.are_within.Goals as goal
 

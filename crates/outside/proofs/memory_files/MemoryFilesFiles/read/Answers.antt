@@ -1,5 +1,4 @@
-use Rattle.std.proofs.Common.{ℕ, ◌≤◌, ap, subst}
-use Rattle.outside.specs.MemoryFiles.{MemoryFilesState}
+use Rattle.outside.proofs.Common.{ℕ, ◌≤◌, ap, subst, MemoryFilesState}
 use Rattle.outside.proofs.memory_files.MemoryFilesFiles.read.Goals as goal
 
 pub returns-in-None-clause-faults_grow : goal.returns-in-None-clause-faults_grow

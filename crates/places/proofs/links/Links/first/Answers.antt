@@ -1,6 +1,4 @@
-use Rattle.std.proofs.Common.{arith, ◌∙◌}
-use Rattle.places.specs.Orders.{none}
-use Rattle.places.specs.Numbers.{numbers_in}
+use Rattle.places.proofs.Common.{arith, ◌∙◌, none, numbers_in}
 use Rattle.places.proofs.Linking.{linked-head, some-at}
 use Rattle.places.proofs.links.Links.first.Goals as goal
 

@@ -1,7 +1,4 @@
-use Rattle.std.proofs.Common.{◌≡◌, ap, ◌∙◌, arith}
-use Rattle.std.proofs.lemmas.Bool.{ltb-true, lt-ltb}
-use Rattle.places.specs.Links.{node_of}
-use Rattle.places.specs.Numbers.{numbers_in}
+use Rattle.places.proofs.Common.{◌≡◌, ap, ◌∙◌, arith, ltb-true, lt-ltb, node_of, numbers_in}
 use Rattle.places.proofs.NodeWrites.{listing-order}
 use Rattle.places.proofs.links.Links.is_before.Goals as goal
 

@@ -1,6 +1,4 @@
-use Rattle.std.proofs.Common.{sym, subst, arith}
-use Rattle.std.specs.List.{range_with_len}
-use Rattle.places.specs.Links.{IsListing}
+use Rattle.places.proofs.Common.{sym, subst, arith, range_with_len, IsListing}
 use Rattle.places.proofs.Labelling.{first-listing}
 use Rattle.places.proofs.links.Links.new.Goals as goal
 

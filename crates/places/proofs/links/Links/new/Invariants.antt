@@ -1,5 +1,4 @@
-use Rattle.std.proofs.Common.{◌≡◌, ℕ, ◌<◌, length}
-use Rattle.places.specs.Links.{node_of, first_node_at}
+use Rattle.places.proofs.Common.{◌≡◌, ℕ, ◌<◌, length, node_of, first_node_at}
 use Rattle.places.proofs.links.Links.new.Given as goal
 
 abbrev pub invariant-loop-number : goal.invariant-loop-number

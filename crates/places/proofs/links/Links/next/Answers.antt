@@ -1,8 +1,4 @@
-use Rattle.std.proofs.Common.{◌≡◌, ◌<◌, cond, eqb, None, Some, length, sym, ap, subst, ◌∙◌}
-use Rattle.places.specs.declared.links.Node.{Node}
-use Rattle.places.specs.Orders.{none}
-use Rattle.places.specs.Links.{node_of}
-use Rattle.places.specs.Numbers.{numbers_in}
+use Rattle.places.proofs.Common.{◌≡◌, ◌<◌, cond, eqb, None, Some, length, sym, ap, subst, ◌∙◌, Node, none, node_of, numbers_in}
 use Rattle.places.proofs.NodeWrites.{listing-inside, listing-next}
 use Rattle.places.proofs.links.Links.next.Goals as goal
 

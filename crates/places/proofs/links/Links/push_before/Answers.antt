@@ -1,11 +1,6 @@
 -- The new number is linked in between `at` and its predecessor.
-use Rattle.std.proofs.Common.{◌≡◌, ◌<◌, cond, eqb, [], ◌∷◌, ◌++◌, length, take, drop, sym, ap, subst, ◌∙◌, arith}
-use Rattle.std.proofs.lemmas.List.{take_at}
-use Rattle.places.specs.declared.links.Node.{Node}
-use Rattle.places.specs.Orders.{none}
+use Rattle.places.proofs.Common.{◌≡◌, ◌<◌, cond, eqb, [], ◌∷◌, ◌++◌, length, take, drop, sym, ap, subst, ◌∙◌, arith, take_at, Node, none, node_of, IsListing, linked_in, numbers_in}
 use Rattle.places.specs.Orders as numbers
-use Rattle.places.specs.Links.{node_of, IsListing, linked_in}
-use Rattle.places.specs.Numbers.{numbers_in}
 use Rattle.places.proofs.NodeWrites.{put-done}
 use Rattle.places.proofs.links.Links.push_before.Goals as goal
 

@@ -1,9 +1,6 @@
 -- Giving new labels leaves the links as they are.
-use Rattle.std.proofs.Common.{length, drop, sym, ap, subst, arith}
-use Rattle.std.proofs.lemmas.List.{take_at}
+use Rattle.places.proofs.Common.{length, drop, sym, ap, subst, arith, take_at, IsListing, numbers_from, numbers_in}
 use Rattle.places.specs.Orders as numbers
-use Rattle.places.specs.Links.{IsListing, numbers_from}
-use Rattle.places.specs.Numbers.{numbers_in}
 use Rattle.places.proofs.NodeWrites.{listing-inside, listing-own, made-room, on_err}
 use Rattle.places.proofs.links.Links.put_before.Goals as goal
 

@@ -1,6 +1,4 @@
-use Rattle.std.proofs.Common.{◌≡◌, ℕ, [], ◌∷◌, ◌++◌, length, sym, ap, subst, ◌∙◌, arith}
-use Rattle.std.proofs.lemmas.List.{length_push}
-use Rattle.places.specs.Sets.{Has}
+use Rattle.places.proofs.Common.{◌≡◌, ℕ, [], ◌∷◌, ◌++◌, length, sym, ap, subst, ◌∙◌, arith, length_push, Has}
 use Rattle.places.proofs.MarkLemmas.{none_has, none_more}
 use Rattle.places.proofs.marks.Marks.none.Goals as goal
 

@@ -1,5 +1,4 @@
-use Rattle.std.proofs.Common.{◌≡◌, ℕ, length}
-use Rattle.places.specs.Sets.{Has}
+use Rattle.places.proofs.Common.{◌≡◌, ℕ, length, Has}
 use Rattle.places.proofs.marks.Marks.none.Given as goal
 
 abbrev pub invariant-loop-block : goal.invariant-loop-block

@@ -1,5 +1,4 @@
-use Rattle.std.proofs.Common.{ap, ◌∙◌}
-use Rattle.std.specs.Prelude.{slice_get}
+use Rattle.places.proofs.Common.{ap, ◌∙◌, slice_get}
 use Rattle.places.proofs.order.Order.first.Goals as goal
 
 pub returns : goal.returns

@@ -1,6 +1,4 @@
-use Rattle.std.proofs.Common.{◌<◌, Contains, IsTrue, sym, subst}
-use Rattle.std.specs.Prelude.{◌↔◌}
-use Rattle.places.specs.Orders.{place_in}
+use Rattle.places.proofs.Common.{◌<◌, Contains, IsTrue, sym, subst, ◌↔◌, place_in}
 use Rattle.places.proofs.order.Order.is_before.Goals as goal
 
 pub is_before-requires-clause-one : goal.is_before-requires-clause-one

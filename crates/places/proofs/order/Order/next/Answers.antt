@@ -1,6 +1,4 @@
-use Rattle.std.proofs.Common.{◌≡◌, suc, Contains, sym, subst}
-use Rattle.std.specs.Prelude.{slice_get}
-use Rattle.places.specs.Orders.{place_in}
+use Rattle.places.proofs.Common.{◌≡◌, suc, Contains, sym, subst, slice_get, place_in}
 use Rattle.places.proofs.order.Order.next.Goals as goal
 
 pub next-requires-clause-number : goal.next-requires-clause-number

@@ -1,4 +1,4 @@
-use Rattle.std.proofs.Common.{ap, ◌∙◌}
+use Rattle.places.proofs.Common.{ap, ◌∙◌}
 use Rattle.places.specs.Orders as numbers
 use Rattle.places.proofs.Linking.{numbers-listing}
 use Rattle.places.proofs.NodeWrites.{listing-own, on_err}

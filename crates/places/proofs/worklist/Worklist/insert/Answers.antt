@@ -1,7 +1,4 @@
-use Rattle.std.proofs.Common.{sym, subst, ◌∙◌}
-use Rattle.std.proofs.lemmas.Bool.{iff_false}
-use Rattle.places.specs.Heaps.{IsHeap}
-use Rattle.places.specs.Worklist.{AreMarked, IsWorklist}
+use Rattle.places.proofs.Common.{sym, subst, ◌∙◌, iff_false, IsHeap, AreMarked, IsWorklist}
 use Rattle.places.proofs.Tallies.{marked-pushed, marked-same}
 use Rattle.places.proofs.worklist.Worklist.insert.Goals as goal
 

@@ -1,8 +1,4 @@
-use Rattle.std.proofs.Common.{◌<◌, ◌∷◌, Contains, length, sym, subst, ◌∙◌, arith}
-use Rattle.std.proofs.lemmas.List.Elements.{All-contains}
-use Rattle.std.proofs.lemmas.List.Sorted.{Contains-permutation, IsPermutation-sym, length_permutation}
-use Rattle.places.specs.Heaps.{IsNumbered}
-use Rattle.places.specs.Worklist.{AreMarked, IsWorklist, IsFirst, WorklistView}
+use Rattle.places.proofs.Common.{◌<◌, ◌∷◌, Contains, length, sym, subst, ◌∙◌, arith, All-contains, Contains-permutation, IsPermutation-sym, length_permutation, IsNumbered, AreMarked, IsWorklist, IsFirst, WorklistView}
 use Rattle.places.proofs.Members.{contains_first}
 use Rattle.places.proofs.Ranks.{numbered-block}
 use Rattle.places.proofs.Tallies.{marked-popped, first-marked}

@@ -1,6 +1,4 @@
-use Rattle.std.proofs.Common.{[], refl, sym, subst}
-use Rattle.std.specs.List.{AllZip}
-use Rattle.proof_reader.specs.Reading.{IsProofOf, AreKeysOf}
+use Rattle.proof_reader.proofs.Common.{[], refl, sym, subst, AllZip, IsProofOf, AreKeysOf}
 use Rattle.proof_reader.proofs.Growing.{none_good}
 use Rattle.proof_reader.proofs.reader.SoFar.new.Goals as goal
 

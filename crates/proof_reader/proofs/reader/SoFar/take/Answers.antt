@@ -1,6 +1,4 @@
-use Rattle.std.proofs.Common.{◌≡◌, length, arith}
-use Rattle.std.proofs.lemmas.Slice.Zip.{all_zipped_more}
-use Rattle.proof_reader.specs.Reading.{IsProofOf}
+use Rattle.proof_reader.proofs.Common.{◌≡◌, length, arith, all_zipped_more, IsProofOf}
 use Rattle.proof_reader.proofs.Growing.{good_more}
 use Rattle.proof_reader.proofs.Lines.{lines_more}
 use Rattle.proof_reader.proofs.reader.SoFar.take.Goals as goal

@@ -1,7 +1,4 @@
-use Rattle.std.proofs.Common.{[], ap, refl, sym, subst, ◌∙◌}
-use Rattle.ir_core.specs.declared.operand.Register.{Register}
-use Rattle.readers.specs.Readers.{HasList, IsListSetTo, listed_for}
-use Rattle.readers.specs.declared.uses.Readers.{Readers}
+use Rattle.readers.proofs.Common.{[], ap, refl, sym, subst, ◌∙◌, Register, HasList, IsListSetTo, listed_for, Readers}
 use Rattle.readers.proofs.Tables.{parameter_list_set, result_list_set, row_within}
 use Rattle.readers.proofs.uses.Readers.exchange.Goals as goal
 

@@ -1,9 +1,5 @@
-use Rattle.std.proofs.Common.{[], refl, sym, subst}
-use Rattle.std.proofs.lemmas.Result.{on_ok_weaker}
-use Rattle.ir_core.specs.declared.operand.Register.{Register}
+use Rattle.readers.proofs.Common.{[], refl, sym, subst, on_ok_weaker, Register, HasList, IsListed, Readers}
 use Rattle.ir_core.specs.declared.operand.Register.TheVariants as registers
-use Rattle.readers.specs.Readers.{HasList, IsListed}
-use Rattle.readers.specs.declared.uses.Readers.{Readers}
 use Rattle.readers.proofs.Tables.{listed_in, parameter_list_set, result_list_set, row_within}
 use Rattle.readers.proofs.uses.Readers.list.Goals as goal
 

@@ -1,6 +1,4 @@
-use Rattle.std.proofs.Common.{◌≡◌, inl, inr, refl, arith}
-use Rattle.std.proofs.lemmas.Result.{on_ok_weaker}
-use Rattle.ir_core.specs.Reads.{end_of}
+use Rattle.readers.proofs.Common.{◌≡◌, inl, inr, refl, arith, on_ok_weaker, end_of}
 use Rattle.readers.proofs.Listed.{block_lists, none_below, one_below, place_known}
 use Rattle.readers.proofs.uses.Readers.list_block.Goals as goal
 

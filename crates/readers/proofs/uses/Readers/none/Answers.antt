@@ -1,7 +1,4 @@
-use Rattle.std.proofs.Common.{◌∙◌, [], List, ap, map, length, replicate, arith, rules}
-use Rattle.std.proofs.lemmas.List.{take_all}
-use Rattle.ir_core.specs.declared.function.Block.{Block}
-use Rattle.places.specs.declared.place.Place.{Place}
+use Rattle.readers.proofs.Common.{◌∙◌, [], List, ap, map, length, replicate, arith, rules, take_all, Block, Place}
 use Rattle.readers.proofs.Listed.{none_listed, none_there}
 use Rattle.readers.proofs.uses.Readers.none.Goals as goal
 

@@ -1,6 +1,5 @@
 -- a row of lists for each block so far
-use Rattle.std.proofs.Common.{◌≡◌, [], take}
-use Rattle.std.specs.Prelude.{map, replicate, length}
+use Rattle.readers.proofs.Common.{◌≡◌, [], take, map, replicate, length}
 use Rattle.readers.proofs.uses.Readers.none.Given as goal
 
 abbrev pub invariant-loop-block : goal.invariant-loop-block

@@ -1,4 +1,4 @@
-use Rattle.std.proofs.Common.{arith}
+use Rattle.readers.proofs.Common.{arith}
 use Rattle.readers.proofs.Listed.{all_before, none_before, one_before}
 use Rattle.readers.proofs.uses.Readers.of.Goals as goal
 

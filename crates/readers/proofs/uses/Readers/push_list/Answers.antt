@@ -1,7 +1,4 @@
-use Rattle.std.proofs.Common.{◌≡◌, [], List, ap, get_or, slice_set, ◌∙◌}
-use Rattle.std.proofs.lemmas.List.{get_or_default, set-get_or}
-use Rattle.std.proofs.lemmas.Result.{on_err_weaker}
-use Rattle.places.specs.declared.place.Place.{Place}
+use Rattle.readers.proofs.Common.{◌≡◌, [], List, ap, get_or, slice_set, ◌∙◌, get_or_default, set-get_or, on_err_weaker, Place}
 use Rattle.readers.proofs.uses.Readers.push_list.Goals as goal
 
 pub returns-clause-refused : goal.returns-clause-refused

@@ -1,6 +1,4 @@
-use Rattle.std.proofs.Common.{◌≡◌, ◌∙◌, ◌++◌, ◌∷◌, [], List, ℕ, refl, sym, ap, arith}
-use Rattle.std.proofs.lemmas.Option.{get_or_from_slice_get, slice_get_within}
-use Rattle.rule_matches.specs.declared.roots.Group.{Group}
+use Rattle.rule_matches.proofs.Common.{◌≡◌, ◌∙◌, ◌++◌, ◌∷◌, [], List, ℕ, refl, sym, ap, arith, get_or_from_slice_get, slice_get_within, Group}
 use Rattle.rule_matches.proofs.Grouping.{no_kind, grows, begins}
 use Rattle.rule_matches.proofs.roots.RulesByRoot.add.Goals as goal
 

@@ -1,8 +1,4 @@
-use Rattle.std.proofs.Common.{◌≡◌, ◌∙◌, sym, subst, ap, ℕ, List}
-use Rattle.std.proofs.lemmas.Option.{get_or_from_slice_get}
-use Rattle.rule_matches.specs.declared.roots.Group.{Group}
-use Rattle.rule_matches.specs.declared.roots.RootKind.{RootKind}
-use Rattle.rule_matches.specs.Roots.{AreCandidates, AreOfKind}
+use Rattle.rule_matches.proofs.Common.{◌≡◌, ◌∙◌, sym, subst, ap, ℕ, List, get_or_from_slice_get, Group, RootKind, AreCandidates, AreOfKind}
 use Rattle.rule_matches.proofs.Groups.{of_kind, no_group}
 use Rattle.rule_matches.proofs.roots.RulesByRoot.at.Goals as goal
 

@@ -1,6 +1,4 @@
-use Rattle.std.proofs.Common.{◌≡◌, rules, tests}
-use Rattle.std.proofs.lemmas.Iterator.{IsFirst-from_position, YieldsList-from_slice}
-use Rattle.rule_matches.specs.declared.roots.Group.{Group}
+use Rattle.rule_matches.proofs.Common.{◌≡◌, rules, tests, IsFirst-from_position, YieldsList-from_slice, Group}
 use Rattle.rule_matches.proofs.Groups.{found_some, found_none}
 use Rattle.rule_matches.proofs.roots.RulesByRoot.place_of.Goals as goal
 

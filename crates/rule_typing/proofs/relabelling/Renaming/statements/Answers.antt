@@ -1,8 +1,4 @@
-use Rattle.std.proofs.Common.{◌∙◌, length, map, ap, sym, arith}
-use Rattle.std.proofs.lemmas.List.{length-map}
-use Rattle.std.proofs.Math.ListN.{get_or-map}
-use Rattle.rule_core.specs.declared.rule.Statement.{Statement}
-use Rattle.rule_typing.specs.Relabelled.{mapped_statement, renamed}
+use Rattle.rule_typing.proofs.Common.{◌∙◌, length, map, ap, sym, arith, length-map, get_or-map, Statement, mapped_statement, renamed}
 use Rattle.rule_typing.proofs.Seams.{seam_length, seam_next}
 use Rattle.rule_typing.proofs.relabelling.Renaming.statements.Goals as goal
 

@@ -1,5 +1,4 @@
-use Rattle.std.proofs.Common.{◌≡◌, ◌++◌, map, take, drop}
-use Rattle.rule_typing.specs.Relabelled.{mapped_term, renamed}
+use Rattle.rule_typing.proofs.Common.{◌≡◌, ◌++◌, map, take, drop, mapped_term, renamed}
 use Rattle.rule_typing.proofs.relabelling.Renaming.terms.Given as goal
 
 abbrev pub invariant-loop-place : goal.invariant-loop-place

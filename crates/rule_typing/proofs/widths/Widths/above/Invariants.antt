@@ -1,5 +1,4 @@
-use Rattle.std.proofs.Common.{ℕ, ◌<◌}
-use Rattle.rule_typing.specs.Solutions.{Has}
+use Rattle.rule_typing.proofs.Common.{ℕ, ◌<◌, Has}
 use Rattle.rule_typing.proofs.widths.Widths.above.Given as goal
 
 abbrev pub invariant-loop-bits : goal.invariant-loop-bits

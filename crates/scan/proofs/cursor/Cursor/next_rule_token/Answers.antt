@@ -1,8 +1,4 @@
-use Rattle.std.proofs.Common.{◌≡◌, ◌+◌, subst, arith}
-use Rattle.std.proofs.lemmas.List.{take_rest}
-use Rattle.scan.specs.Lines.{between}
-use Rattle.scan.specs.Places.{Place}
-use Rattle.scan.specs.RuleTokens.{IsNextRuleToken, IsBadNext, in_operator_place}
+use Rattle.scan.proofs.Common.{◌≡◌, ◌+◌, subst, arith, take_rest, between, Place, IsNextRuleToken, IsBadNext, in_operator_place}
 use Rattle.scan.proofs.PlaceLemmas.{Behind, feeds_between, ends_or_not, ends_within, next_bad, next_token, in_place, in_no_place}
 use Rattle.scan.proofs.cursor.Cursor.next_rule_token.Goals as goal
 use Rattle.scan.proofs.cursor.Cursor.next_rule_token.Goals.{then-operator, else-operator}

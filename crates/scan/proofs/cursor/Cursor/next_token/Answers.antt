@@ -1,8 +1,4 @@
-use Rattle.std.proofs.Common.{◌≡◌, ◌+◌, take, subst, arith}
-use Rattle.std.proofs.lemmas.List.{take_rest}
-use Rattle.scan.specs.Lines.{feeds}
-use Rattle.scan.specs.Places.{Place}
-use Rattle.scan.specs.IrTokens.{IsNextToken, IsBadToken}
+use Rattle.scan.proofs.Common.{◌≡◌, ◌+◌, take, subst, arith, take_rest, feeds, Place, IsNextToken, IsBadToken}
 use Rattle.scan.proofs.PlaceLemmas.{Behind, feeds_between}
 use Rattle.scan.proofs.ModulePlaces.{ends_or_not, next_bad, next_token}
 use Rattle.scan.proofs.TokenLines.{token_feeds}

@@ -1,7 +1,4 @@
-use Rattle.std.proofs.Common.{◌-◌, ◌∙◌, length, sym, subst, arith}
-use Rattle.std.proofs.lemmas.List.{take_rest}
-use Rattle.scan.specs.Places.{Place}
-use Rattle.scan.specs.Kept.{IsGroup, HasNoGroup}
+use Rattle.scan.proofs.Common.{◌-◌, ◌∙◌, length, sym, subst, arith, take_rest, Place, IsGroup, HasNoGroup}
 use Rattle.scan.proofs.KeptLemmas.{group_at, no_group_at, group_feeds, group_fits}
 use Rattle.scan.proofs.cursor.Cursor.take_group.Goals as goal
 

@@ -1,5 +1,4 @@
-use Rattle.std.proofs.Common.{ℕ, List, ◌+◌, ◌≤◌, length, take, not, eqb, refl, sym, ap, subst, ◌∙◌}
-use Rattle.scan.specs.Lines.{feeds}
+use Rattle.scan.proofs.Common.{ℕ, List, ◌+◌, ◌≤◌, length, take, not, eqb, refl, sym, ap, subst, ◌∙◌, feeds}
 use Rattle.scan.proofs.PlaceLemmas.{run_within, run_feeds}
 use Rattle.scan.proofs.cursor.Cursor.take_line.Goals as goal
 

@@ -1,6 +1,4 @@
-use Rattle.std.proofs.Common.{ℕ, List, ◌+◌, ◌≤◌, length, take, refl, sym, ap, subst, ◌∙◌}
-use Rattle.scan.specs.Lines.{feeds}
-use Rattle.scan.specs.Names.{is_in_rest}
+use Rattle.scan.proofs.Common.{ℕ, List, ◌+◌, ◌≤◌, length, take, refl, sym, ap, subst, ◌∙◌, feeds, is_in_rest}
 use Rattle.scan.proofs.PlaceLemmas.{rest_within, run_feeds}
 use Rattle.scan.proofs.cursor.Cursor.take_name.Goals as goal
 

@@ -1,6 +1,4 @@
-use Rattle.std.proofs.Common.{[], length, take, sym, ◌∙◌, arith}
-use Rattle.std.proofs.lemmas.List.{length-take}
-use Rattle.std.proofs.lemmas.Bool.{eqb-false}
+use Rattle.scan.proofs.Common.{[], length, take, sym, ◌∙◌, arith, length-take, eqb-false}
 use Rattle.scan.proofs.ModuleTokens.{begins_other, short_holds_none}
 use Rattle.scan.proofs.ir.front.front.Goals as goal
 

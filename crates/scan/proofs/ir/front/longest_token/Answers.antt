@@ -1,5 +1,4 @@
-use Rattle.std.proofs.Common.{take, sym, ◌∙◌}
-use Rattle.std.proofs.lemmas.Bool.{false≢true}
+use Rattle.scan.proofs.Common.{take, sym, ◌∙◌, false≢true}
 use Rattle.scan.proofs.FirstBytes.{names_stand, no_early_quote, quotable_holds_none, zero_badly}
 use Rattle.scan.proofs.ir.front.longest_token.Goals as goal
 use Rattle.scan.proofs.ir.front.longest_token.Goals.{else-has_early_quote-via-then-has_early_quote+else-holds_zero, else-has_early_quote-via-else-has_early_quote}

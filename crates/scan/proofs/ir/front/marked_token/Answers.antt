@@ -1,5 +1,5 @@
-use Rattle.std.proofs.Common.{sym, ◌∙◌, arith}
-use Rattle.scan.specs.declared.ir.token.TokenKind.TheVariants.{Group, Mark}
+use Rattle.scan.proofs.Common.{sym, ◌∙◌, arith, Group}
+use Rattle.scan.specs.declared.ir.token.TokenKind.TheVariants.{Mark}
 use Rattle.scan.proofs.FirstBytes.{register_front, function_front, metadata_front, group_front, mark_front}
 use Rattle.scan.proofs.ModuleTokens.{found_as, found_longer}
 use Rattle.scan.proofs.ir.front.marked_token.Goals as goal

@@ -1,5 +1,4 @@
-use Rattle.std.proofs.Common.{sym, ◌∙◌, inl, inr, arith}
-use Rattle.std.proofs.lemmas.List.{take_rest}
+use Rattle.scan.proofs.Common.{sym, ◌∙◌, inl, inr, arith, take_rest}
 use Rattle.scan.proofs.ModuleFronts.{label_some, label_none}
 use Rattle.scan.proofs.FirstBytes.{label_front, word_front, number_front, plain_quotable, label_quotable, number_quotable}
 use Rattle.scan.proofs.ir.front.plain_token.Goals as goal

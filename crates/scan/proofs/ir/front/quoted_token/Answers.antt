@@ -1,5 +1,4 @@
-use Rattle.std.proofs.Common.{arith}
-use Rattle.scan.specs.declared.ir.token.TokenKind.TheVariants.{Label, Quoted}
+use Rattle.scan.proofs.Common.{arith, Label, Quoted}
 use Rattle.scan.proofs.FirstBytes.{quote_front}
 use Rattle.scan.proofs.ModuleTokens.{found_as, found_longer}
 use Rattle.scan.proofs.ir.front.quoted_token.Goals as goal

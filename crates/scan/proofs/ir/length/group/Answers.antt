@@ -1,7 +1,4 @@
-use Rattle.std.proofs.Common.{◌<◌, length, arith, sym, ◌∙◌}
-use Rattle.std.specs.List.{prefix_len}
-use Rattle.scan.specs.Bytes.{is_digit}
-use Rattle.scan.specs.IrTokens.{is_group}
+use Rattle.scan.proofs.Common.{◌<◌, length, arith, sym, ◌∙◌, prefix_len, is_digit, is_group}
 use Rattle.scan.proofs.Fronts.{marked_none, marked_empty, marked_some, marked_fits}
 use Rattle.scan.proofs.ir.length.group.Goals as goal
 

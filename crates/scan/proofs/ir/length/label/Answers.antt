@@ -1,5 +1,4 @@
-use Rattle.std.proofs.Common.{sym, ◌∙◌, inl, inr, arith}
-use Rattle.std.proofs.lemmas.List.{take_rest}
+use Rattle.scan.proofs.Common.{sym, ◌∙◌, inl, inr, arith, take_rest}
 use Rattle.scan.proofs.ModuleFronts.{label_some, label_none}
 use Rattle.scan.proofs.ir.length.label.Goals as goal
 use Rattle.scan.proofs.ir.length.label.Goals.{else-name-gt0-via-then-name-gt0+else-begins_byte, else-name-gt0-via-else-name-gt0}

@@ -1,8 +1,4 @@
-use Rattle.std.proofs.Common.{◌<◌, length, arith}
-use Rattle.std.specs.List.{prefix_len}
-use Rattle.scan.specs.Bytes.{is_name_byte}
-use Rattle.scan.specs.IrTokens.{is_metadata}
-use Rattle.std.specs.List.{list_all}
+use Rattle.scan.proofs.Common.{◌<◌, length, arith, prefix_len, is_name_byte, is_metadata, list_all}
 use Rattle.scan.proofs.Fronts.{marked_fits}
 use Rattle.scan.proofs.ModuleFronts.{behind_fails, behind_any}
 use Rattle.scan.proofs.ir.length.metadata.Goals as goal

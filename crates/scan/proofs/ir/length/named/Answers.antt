@@ -1,4 +1,4 @@
-use Rattle.scan.specs.IrTokens.{is_name}
+use Rattle.scan.proofs.Common.{is_name}
 use Rattle.scan.proofs.NameLemmas.{is_name-empty}
 use Rattle.scan.proofs.ModuleFronts.{behind_short}
 use Rattle.scan.proofs.ir.length.named.Goals as goal

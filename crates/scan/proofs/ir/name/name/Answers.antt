@@ -1,4 +1,4 @@
-use Rattle.std.proofs.Common.{sym, ◌∙◌}
+use Rattle.scan.proofs.Common.{sym, ◌∙◌}
 use Rattle.scan.proofs.FirstBytes.{digits_longest, plain_longest, quoted_longest}
 use Rattle.scan.proofs.ir.name.name.Goals as goal
 

@@ -1,5 +1,4 @@
-use Rattle.std.proofs.Common.{sym, ◌∙◌}
-use Rattle.std.proofs.lemmas.List.{take_rest}
+use Rattle.scan.proofs.Common.{sym, ◌∙◌, take_rest}
 use Rattle.scan.proofs.NameLemmas.{quoted_none, quoted_some, quoted_open}
 use Rattle.scan.proofs.ir.name.quoted.Goals as goal
 

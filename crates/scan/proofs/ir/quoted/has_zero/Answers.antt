@@ -1,4 +1,4 @@
-use Rattle.std.proofs.Common.{sym, ◌∙◌}
+use Rattle.scan.proofs.Common.{sym, ◌∙◌}
 use Rattle.scan.proofs.QuotedLemmas.{no_more}
 use Rattle.scan.proofs.ir.quoted.has_zero.Goals as goal
 

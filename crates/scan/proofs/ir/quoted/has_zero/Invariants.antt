@@ -1,6 +1,4 @@
-use Rattle.std.proofs.Common.{◌≡◌, eqb, length}
-use Rattle.std.specs.List.{list_any}
-use Rattle.scan.specs.Quoted.{unquoted}
+use Rattle.scan.proofs.Common.{◌≡◌, eqb, length, list_any, unquoted}
 use Rattle.scan.proofs.ir.quoted.has_zero.Given as goal
 
 abbrev pub invariant-loop-byte : goal.invariant-loop-byte

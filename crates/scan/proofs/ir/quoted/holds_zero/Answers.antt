@@ -1,6 +1,4 @@
-use Rattle.std.proofs.Common.{◌≡◌, List, ℕ, true, sym, ◌∙◌, subst}
-use Rattle.std.specs.List.{Contains}
-use Rattle.scan.specs.Quoted.{unquoted}
+use Rattle.scan.proofs.Common.{◌≡◌, List, ℕ, true, sym, ◌∙◌, subst, Contains, unquoted}
 use Rattle.scan.proofs.QuotedLemmas.{zero_contained, zero_found}
 use Rattle.scan.proofs.ir.quoted.holds_zero.Goals as goal
 

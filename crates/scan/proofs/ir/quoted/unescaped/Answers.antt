@@ -1,5 +1,4 @@
-use Rattle.std.proofs.Common.{arith}
-use Rattle.std.proofs.lemmas.List.{take_rest}
+use Rattle.scan.proofs.Common.{arith, take_rest}
 use Rattle.scan.proofs.QuotedLemmas.{reads_plain, reads_backslash, reads_hex, reads_other}
 use Rattle.scan.proofs.ir.quoted.unescaped.Goals as goal
 

@@ -1,7 +1,4 @@
-use Rattle.std.proofs.Common.{sym, subst}
-use Rattle.draft_steps.specs.DeadCode.{AllNeeded}
-use Rattle.draft.specs.Drafts.{arena_of}
-use Rattle.draft.proofs.Wholeness.{stands_there}
+use Rattle.strategy.proofs.Common.{sym, subst, AllNeeded, arena_of, stands_there}
 use Rattle.strategy.proofs.Searching.{unreached_down}
 use Rattle.strategy.proofs.frontier.Frontier.of.Goals as goal
 

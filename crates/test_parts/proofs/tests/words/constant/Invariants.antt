@@ -1,4 +1,4 @@
-use Rattle.std.proofs.Common.{◌≡◌, length}
+use Rattle.test_parts.proofs.Common.{◌≡◌, length}
 use Rattle.std.specs.List.{All}
 use Rattle.test_parts.proofs.tests.words.constant.Given as goal
 

@@ -1,6 +1,5 @@
-use Rattle.std.proofs.Common.{◌≡◌, length}
+use Rattle.test_parts.proofs.Common.{◌≡◌, length, Keeps}
 use Rattle.std.specs.List.{All}
-use Rattle.circuits.specs.Circuit.{Keeps}
 use Rattle.test_parts.proofs.tests.words.word.Given as goal
 
 abbrev pub invariant-loop-i : goal.invariant-loop-i

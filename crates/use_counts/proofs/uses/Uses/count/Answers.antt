@@ -1,7 +1,5 @@
-use Rattle.std.proofs.Common.{◌≡◌, refl, ap, ◌∙◌, ◌<◌, length, get_or, []}
-use Rattle.std.proofs.lemmas.Result.{on_ok_weaker}
+use Rattle.use_counts.proofs.Common.{◌≡◌, refl, ap, ◌∙◌, ◌<◌, length, get_or, [], on_ok_weaker, Register}
 use Rattle.ir_core.specs.declared.operand.Operand.TheVariants as operands
-use Rattle.ir_core.specs.declared.operand.Register.{Register}
 use Rattle.ir_core.specs.declared.operand.Register.TheVariants as registers
 use Rattle.use_counts.proofs.Rows.{parameter_counted, result_counted, row_within}
 use Rattle.use_counts.proofs.uses.Uses.count.Goals as goal

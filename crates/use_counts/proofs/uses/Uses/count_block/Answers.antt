@@ -1,6 +1,4 @@
-use Rattle.std.proofs.Common.{◌≡◌, ℕ, subst, arith}
-use Rattle.ir_core.specs.Assigned.{IsBefore}
-use Rattle.use_counts.specs.Counting.{AreCountsAmong}
+use Rattle.use_counts.proofs.Common.{◌≡◌, ℕ, subst, arith, IsBefore, AreCountsAmong}
 use Rattle.use_counts.proofs.Places.{block_past}
 use Rattle.use_counts.proofs.uses.Uses.count_block.Goals as goal
 

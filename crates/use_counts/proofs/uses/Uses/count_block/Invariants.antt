@@ -1,6 +1,5 @@
 -- the places so far are counted
-use Rattle.ir_core.specs.Assigned.{IsBefore}
-use Rattle.use_counts.specs.Counting.{AreCountsAmong}
+use Rattle.use_counts.proofs.Common.{IsBefore, AreCountsAmong}
 use Rattle.use_counts.proofs.uses.Uses.count_block.Given as goal
 
 abbrev pub invariant-loop-place : goal.invariant-loop-place

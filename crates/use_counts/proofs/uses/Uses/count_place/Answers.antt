@@ -1,7 +1,4 @@
-use Rattle.std.proofs.Common.{◌≡◌, sym, subst, ◌∙◌, arith, ◌+◌}
-use Rattle.ir_core.specs.Assigned.{IsBefore}
-use Rattle.use_counts.specs.Counting.{AreCountsAmong}
-use Rattle.use_counts.specs.declared.uses.Uses.{Uses}
+use Rattle.use_counts.proofs.Common.{◌≡◌, sym, subst, ◌∙◌, arith, ◌+◌, IsBefore, AreCountsAmong, Uses}
 use Rattle.use_counts.proofs.Places.{counts_more, place_past, read_there}
 use Rattle.use_counts.proofs.uses.Uses.count_place.Goals as goal
 use Rattle.use_counts.proofs.uses.Uses.count_place.Goals.{in-Some+in_ok-count, in_default}

@@ -1,6 +1,5 @@
 -- the operands so far are counted
-use Rattle.ir_core.specs.Assigned.{IsBefore}
-use Rattle.use_counts.specs.Counting.{AreCountsAmong}
+use Rattle.use_counts.proofs.Common.{IsBefore, AreCountsAmong}
 use Rattle.use_counts.proofs.uses.Uses.count_place.Given as goal
 
 abbrev pub invariant-loop-index : goal.invariant-loop-index

@@ -1,6 +1,4 @@
-use Rattle.std.proofs.Common.{rules, ◌≡◌, map, length}
-use Rattle.std.specs.Prelude.{replicate}
-use Rattle.ir_core.specs.declared.function.Block.{Block}
+use Rattle.use_counts.proofs.Common.{rules, ◌≡◌, map, length, replicate, Block}
 use Rattle.use_counts.proofs.Rows.{none_counted}
 use Rattle.use_counts.proofs.uses.Uses.none.Goals as goal
 

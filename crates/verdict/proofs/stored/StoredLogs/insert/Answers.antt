@@ -1,4 +1,4 @@
-use Rattle.std.proofs.Common.{ℕ, List, ap, ◌∙◌}
+use Rattle.verdict.proofs.Common.{ℕ, List, ap, ◌∙◌}
 use Rattle.verdict.proofs.Keeping.{on_err}
 use Rattle.verdict.proofs.Storing.{others_stay}
 use Rattle.verdict.proofs.stored.StoredLogs.insert.Goals as goal

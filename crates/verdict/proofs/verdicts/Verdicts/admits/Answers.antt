@@ -1,15 +1,4 @@
-use Rattle.std.proofs.Common.{◌≡◌, ℕ, ◌<◌, true, List, [], ◌∷◌, length, map, Some, refl, sym, ap, subst, ◌∙◌, arith}
-use Rattle.std.specs.Prelude.{slice_get, IfSome}
-use Rattle.std.proofs.lemmas.List.{length-map}
-use Rattle.std.proofs.lemmas.Option.{slice_get_within}
-use Rattle.ir_meaning.proofs.Pieces.{some_at}
-use Rattle.verdict_core.specs.declared.verdicts.Row.{Row}
-use Rattle.verdict.specs.declared.verdicts.Verdicts.{Verdicts}
-use Rattle.strategy_core.specs.Asked.{Pair, pair_in, pair_of}
-use Rattle.verdict.specs.Asks.{Asks}
-use Rattle.verdict.specs.Proved.{IsUnrefutedBy}
-use Rattle.verdict.specs.Stored.{IsUnrefutedIn, Key, log_of, pair_of_key}
-use Rattle.verdict.specs.declared.stored.StoredLogs.{StoredLogs}
+use Rattle.verdict.proofs.Common.{◌≡◌, ℕ, ◌<◌, true, List, [], ◌∷◌, length, map, Some, refl, sym, ap, subst, ◌∙◌, arith, slice_get, IfSome, length-map, slice_get_within, some_at, Row, Verdicts, Pair, pair_in, pair_of, Asks, IsUnrefutedBy, IsUnrefutedIn, Key, log_of, pair_of_key, StoredLogs}
 use Rattle.verdict.proofs.Storing.{key_eq}
 use Rattle.verdict.proofs.Keeping.{stored, lacked, had, asked_found, asked_new, answered, on_err, taken_out}
 use Rattle.verdict.proofs.verdicts.Verdicts.admits.Goals as goal

@@ -1,5 +1,4 @@
-use Rattle.std.proofs.Common.{List, ap, length, take, ◌∙◌}
-use Rattle.verdict_core.specs.declared.verdicts.Row.{Row}
+use Rattle.verdict.proofs.Common.{List, ap, length, take, ◌∙◌, Row}
 use Rattle.verdict.proofs.verdicts.Verdicts.decide_last.Goals as goal
 
 pub returns-in-Ok-clause-row : goal.returns-in-Ok-clause-row

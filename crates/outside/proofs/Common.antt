@@ -1,0 +1,7 @@
+-- The names that several proofs of this crate cite, passed on from one place.
+pub use Rattle.std.proofs.Common.{ap, arith, drop, length, subst, sym, take, vec_len, ℕ, ◌-◌, ◌≤◌}
+pub use Rattle.outside.specs.MemoryFiles.{MemoryFilesState}
+pub use Rattle.std.proofs.KnownBytes.{Appends-trans}
+pub use Rattle.std.proofs.Math.Seq.{take-add}
+pub use Rattle.std.proofs.lemmas.List.{take_rest}
+pub use Rattle.std.specs.Io.KnownBytes.{Appends, Keeps, prepend_known}
