@@ -1,4 +1,4 @@
--- The names that several proofs of this crate cite, passed on from one place.
+-- What the proofs of this crate cite of definitions, of other crates and of the libraries, passed on from one place.
 pub use Rattle.std.proofs.Common.{Bool, List, None, Option, Some, [], ap, append-nil, append_assoc, arith, cond, drop, false, fold, get_or, if◌then◌else◌, inl, inr, length, length-drop, nat_lt, not, position, refl, replicate, slice_get, subst, suc, sym, true, zero, ℕ, ◌&&◌, ◌*◌, ◌++◌, ◌+◌, ◌/◌, ◌∙◌, ◌∷◌, ◌≡◌, ◌≤◌, ◌⊎◌}
 pub use Rattle.aig.specs.Folding.{IsAnd, IsOver, IsXor}
 pub use Rattle.aig.specs.Gate.{IsProper, ordered_and, ordered_xor}
@@ -22,5 +22,6 @@ pub use Rattle.std.proofs.lemmas.List.Sums.{fold-append}
 pub use Rattle.std.proofs.lemmas.Option.{slice_get-get_or, slice_get_read, slice_get_within}
 pub use Rattle.std.proofs.lemmas.Result.{IfOk-weaker}
 pub use Rattle.std.specs.Bool.{beq, xor}
-pub use Rattle.std.specs.List.{AllByRecursion, IsDistinct, list_any}
+unfoldable pub use Rattle.std.specs.List.{IsDistinct}
+pub use Rattle.std.specs.List.{AllByRecursion, list_any}
 pub use Rattle.std.specs.Option.{IfSome}

@@ -1,4 +1,4 @@
--- The names that several proofs of this crate cite, passed on from one place.
+-- What the proofs of this crate cite of definitions, of other crates and of the libraries, passed on from one place.
 pub use Rattle.std.proofs.Common.{All, Bool, Err, IfOk, IfSome, IsTrue, List, MatchBool, MatchResult, None, Ok, Option, Result, Some, [], ap, arith, codes, cond, drop, false, get_or, inl, inr, length, map, option_map, refl, rules, slice_get, string_bytes, subst, suc, sym, take, true, zero, ℕ, ⊎_elim, ◌++◌, ◌+◌, ◌<◌, ◌^◌, ◌↔◌, ◌∙◌, ◌∷◌, ◌≡◌, ◌≤◌, ◌⊎◌}
 pub use Rattle.alive_top.specs.Answers.{FileOf, FileRefused, Fits, IsDoneFor, MisfitsRules, MisfitsRun, RefusedFor, TaskOf, TextOf, seen_work}
 pub use Rattle.alive_top.specs.Cause.{ComesTo, LogsAreRefused, MemoryIsRefused, ReadFails, TextIsRefused}

@@ -1,4 +1,4 @@
--- The names that several proofs of this crate cite, passed on from one place.
+-- What the proofs of this crate cite of definitions, of other crates and of the libraries, passed on from one place.
 pub use Rattle.std.proofs.Common.{Bool, Bor, Contains, IfNone, IfSome, IsTrue, List, None, Option, Some, [], ap, arith, below_more, false, flat_map, get_or, get_or-set_other, get_or-set_same, inl, inr, length, map, option_and_then, option_map, pos, refl, rules, slice_get, slice_set, subst, suc, sym, take, true, zero, ℕ, ◌&&◌, ◌++◌, ◌+◌, ◌-◌, ◌<◌, ◌↔◌, ◌∙◌, ◌∷◌, ◌≡◌, ◌≢◌, ◌≤◌, ◌⊎◌}
 pub use Rattle.bindings.specs.Checks.{IsOneUse, IsRootOperation, MatchesAt}
 pub use Rattle.bindings.specs.Facts.{AreFactsOf}
@@ -16,7 +16,8 @@ pub use Rattle.ir_core.specs.Assigned.{IsAssigned}
 pub use Rattle.ir_core.specs.Blocks.{HasInst, IsBlock}
 pub use Rattle.ir_core.specs.Checks.{IsInst, IsPhi, MeetsChecks}
 pub use Rattle.ir_core.specs.Names.{width_of}
-pub use Rattle.ir_core.specs.Reads.{IsRead, Read, read, reads_at, reads_by, reads_in, reads_of}
+unfoldable pub use Rattle.ir_core.specs.Reads.{read}
+pub use Rattle.ir_core.specs.Reads.{IsRead, Read, reads_at, reads_by, reads_in, reads_of}
 pub use Rattle.ir_core.specs.Walks.{IsReached}
 pub use Rattle.ir_core.specs.declared.function.Block.{Block}
 pub use Rattle.ir_core.specs.declared.function.Function.{Function}

@@ -1,4 +1,4 @@
--- The names that several proofs of this crate cite, passed on from one place.
+-- What the proofs of this crate cite of definitions, of other crates and of the libraries, passed on from one place.
 pub use Rattle.std.proofs.Common.{Bool, Contains, Err, IfOk, IsSome, IsTrue, List, None, Ok, OnOk, Option, Result, SFits, Some, [], ap, arith, drop, eq-eqb, false, flat_map, get_or, get_or-take, if◌then◌else◌, length, length-append, map, max, not, pos, refl, rules, slice_get, slice_index, subst, suc, sum_by, sym, take, true, zero, ℕ, ℤ, ◌&&◌, ◌*◌, ◌++◌, ◌+◌, ◌-◌, ◌<◌, ◌==◌, ◌^◌, ◌||◌, ◌↔◌, ◌∙◌, ◌∷◌, ◌≡◌, ◌≤◌}
 pub use Rattle.blast_rule.specs.Gates.{given_gates, greatest_width, halves_gates, most_gates, op_bound, op_gates, refusal_gates, root_gates, root_width, rule_bound, run_gates, statement_bound, statement_gates, widths_of_terms, widths_of_witness, witness_gates}
 pub use Rattle.blast_rule.specs.Laws.{GatesAreBelow, GatesAreFew}

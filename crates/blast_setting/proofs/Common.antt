@@ -1,4 +1,4 @@
--- The names that several proofs of this crate cite, passed on from one place.
+-- What the proofs of this crate cite of definitions, of other crates and of the libraries, passed on from one place.
 pub use Rattle.std.proofs.Common.{Bool, Contains, List, None, Option, Some, [], add-one, add-zero, ap, append-nil, append_assoc, arith, cond, drop, drop-cons, eq-eqb, eqb-true, false, flat_map, get_or, if◌then◌else◌, length, map, refl, slice_get, slice_index, subst, suc, sum_by, sym, take, true, zero, ℕ, ◌%◌, ◌*◌, ◌++◌, ◌+◌, ◌/◌, ◌<◌, ◌==◌, ◌^◌, ◌∙◌, ◌∷◌, ◌≡◌, ◌≤◌}
 pub use Rattle.blast_setting.specs.Inputs.{argument_of, choice_widths, constant_widths, input_bits, input_widths, named_width, named_widths, names, number_bits, value_bits, widths_chosen}
 pub use Rattle.blast_setting.specs.Laws.{FittingSettingsAreRead, ReadSettingsFit}

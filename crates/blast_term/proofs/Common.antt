@@ -1,4 +1,4 @@
--- The names that several proofs of this crate cite, passed on from one place.
+-- What the proofs of this crate cite of definitions, of other crates and of the libraries, passed on from one place.
 pub use Rattle.std.proofs.Common.{Bool, IsSome, IsTrue, List, None, Some, [], add-one, ap, arith, eq-eqb, false, get_or, if◌then◌else◌, inl, inr, length, map, min, nat_lt, not, pos, refl, replicate, slice_get, slice_index, slice_index_or, subst, suc, sum_by, sym, take, true, zero, ℕ, ◌%◌, ◌&&◌, ◌*◌, ◌++◌, ◌+◌, ◌-◌, ◌<◌, ◌==◌, ◌^◌, ◌||◌, ◌↔◌, ◌∙◌, ◌∷◌, ◌≡◌, ◌≤◌, ◌⊎◌}
 pub use Rattle.blast_term.specs.Gates.{choices_gates, comparing_gates, formula_gates, formulas_gates, function_gates, node_bound, node_gates, numbers_gates, power_gates, power_test_gates, sign_test_gates, term_bound, term_gates, terms_gates}
 pub use Rattle.blast_term.specs.Scope.{ScopeIsOwn, held_at, seen}
@@ -17,9 +17,10 @@ pub use Rattle.circuits.specs.Circuit.{Adds, Keeps}
 pub use Rattle.circuits.specs.Gates.{adder_gates, comparison_gates, select_gates}
 pub use Rattle.circuits.specs.Word.{bit, number, number_of}
 pub use Rattle.circuits.specs.declared.state.State.{Ghosts}
-pub use Rattle.ops.specs.Comparison.{comparison, holds}
+unfoldable pub use Rattle.ops.specs.Comparison.{comparison}
+pub use Rattle.ops.specs.Comparison.{holds}
 pub use Rattle.ops.specs.Flags.{no_flags}
-pub use Rattle.ops.specs.Instruction.{instruction, on_poison}
+unfoldable pub use Rattle.ops.specs.Instruction.{instruction, on_poison}
 pub use Rattle.ops.specs.Integer.{bits, least, minus_one}
 pub use Rattle.ops.specs.Number.{Number}
 pub use Rattle.ops.specs.Value.{HasWidth}

@@ -1,4 +1,4 @@
--- The names that several proofs of this crate cite, passed on from one place.
+-- What the proofs of this crate cite of definitions, of other crates and of the libraries, passed on from one place.
 pub use Rattle.std.proofs.Common.{Bool, List, [], ap, arith, bit_and, bit_xor, cond, div-le_self, false, filter, get_or, if◌then◌else◌, inl, inr, int_le, int_lt, length, map, max, min, nat_le, nat_lt, neg_ℤ, negsuc, not, pos, refl, replicate, reverse, subst, suc, sym, take, true, unsigned_abs, zero, ℕ, ℤ, ⊎_elim, ◌%◌, ◌&&◌, ◌*ℤ◌, ◌*◌, ◌++◌, ◌+◌, ◌-ℤ◌, ◌-◌, ◌/◌, ◌<◌, ◌==◌, ◌^◌, ◌||◌, ◌∙◌, ◌∷◌, ◌≡◌, ◌≢◌, ◌≤◌, ◌⊎◌}
 pub use Rattle.blast_value.specs.Effect.{IsOwn, IsOwnEffect, effect_of, held_value, widths_of}
 pub use Rattle.blast_value.specs.Families.{arithmetic_opcode, bitwise, bitwise_opcode, divided, division_opcode, exact, extended, extreme, extreme_opcode, floor, is_negation, is_signed, moved_back, promises_disjoint, strict_opcode}
@@ -26,20 +26,25 @@ pub use Rattle.circuits.proofs.Stages.{doubled, stages-is, stages-least, stages-
 pub use Rattle.circuits.proofs.Words.{number-below, number-push, number-take_more}
 pub use Rattle.circuits.specs.Circuit.{Adds, Keeps}
 pub use Rattle.circuits.specs.Extreme.{larger, smaller}
-pub use Rattle.circuits.specs.Gates.{comparison_gates, equality_gates, select_gates, shift_gates, stages}
+unfoldable pub use Rattle.circuits.specs.Gates.{stages}
+pub use Rattle.circuits.specs.Gates.{comparison_gates, equality_gates, select_gates, shift_gates}
 pub use Rattle.circuits.specs.Word.{bit, number, number_of}
 pub use Rattle.circuits.specs.declared.state.State.{Ghosts}
 pub use Rattle.ops.proofs.Signed.{pow_doubled}
-pub use Rattle.ops.specs.Arithmetic.{arithmetic}
-pub use Rattle.ops.specs.Bitwise.{or}
-pub use Rattle.ops.specs.Comparison.{comparison, holds, selection, signs_differ}
-pub use Rattle.ops.specs.Conversion.{breaks_flags, conversion, converted}
-pub use Rattle.ops.specs.Counts.{binary_digits, ctlz, ctpop, cttz}
-pub use Rattle.ops.specs.Division.{divides, quotient, sdiv, srem, udiv, urem}
-pub use Rattle.ops.specs.Instruction.{instruction, on_numbers, on_poison}
-pub use Rattle.ops.specs.Integer.{bits, fits_signed, fits_unsigned, least, minus_one, residue, signed}
-pub use Rattle.ops.specs.Shifts.{ashr, lshr, shl}
-pub use Rattle.ops.specs.Unary.{at_number, poison_where_true, unary}
+unfoldable pub use Rattle.ops.specs.Arithmetic.{arithmetic}
+unfoldable pub use Rattle.ops.specs.Bitwise.{or}
+unfoldable pub use Rattle.ops.specs.Comparison.{comparison, holds, selection}
+pub use Rattle.ops.specs.Comparison.{signs_differ}
+unfoldable pub use Rattle.ops.specs.Conversion.{breaks_flags, conversion, converted}
+unfoldable pub use Rattle.ops.specs.Counts.{ctlz, ctpop, cttz}
+pub use Rattle.ops.specs.Counts.{binary_digits}
+unfoldable pub use Rattle.ops.specs.Division.{sdiv, srem, udiv, urem}
+pub use Rattle.ops.specs.Division.{divides, quotient}
+unfoldable pub use Rattle.ops.specs.Instruction.{instruction, on_numbers, on_poison}
+unfoldable pub use Rattle.ops.specs.Integer.{fits_signed, fits_unsigned, residue, signed}
+pub use Rattle.ops.specs.Integer.{bits, least, minus_one}
+unfoldable pub use Rattle.ops.specs.Shifts.{ashr, lshr, shl}
+unfoldable pub use Rattle.ops.specs.Unary.{at_number, poison_where_true, unary}
 pub use Rattle.ops.specs.Value.{HasWidth}
 pub use Rattle.ops.specs.declared.comparison.Pred.{Pred}
 pub use Rattle.ops.specs.declared.comparison.Pred.TheVariants.{Eq, Ne, Sge, Sgt, Sle, Slt, Uge, Ugt, Ule, Ult}

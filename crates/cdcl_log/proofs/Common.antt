@@ -1,4 +1,4 @@
--- The names that several proofs of this crate cite, passed on from one place.
+-- What the proofs of this crate cite of definitions, of other crates and of the libraries, passed on from one place.
 pub use Rattle.std.proofs.Common.{All, List, [], ap, arith, cond, drop, drop-cons, false, get_or, length, subst, suc, sym, true, zero-add, ℕ, ◌+◌, ◌-◌, ◌<◌, ◌∙◌, ◌∷◌, ◌≡◌, ◌≤◌}
 pub use Rattle.clauses.specs.Literal.{IsVariable}
 pub use Rattle.depth_first.proofs.Leaves.{among_already, either, is_among}

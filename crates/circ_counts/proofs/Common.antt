@@ -1,4 +1,4 @@
--- The names that several proofs of this crate cite, passed on from one place.
+-- What the proofs of this crate cite of definitions, of other crates and of the libraries, passed on from one place.
 pub use Rattle.std.proofs.Common.{Bool, List, [], ap, arith, cond, false, filter, get_or, length, map, not, refl, reverse, subst, suc, sym, take, true, zero, ℕ, ◌&&◌, ◌*◌, ◌++◌, ◌+◌, ◌<◌, ◌^◌, ◌∙◌, ◌∷◌, ◌≡◌, ◌≤◌}
 pub use Rattle.circ_counts.specs.Gates.{count_gates, zeros_gates}
 pub use Rattle.circuits.proofs.Kept.{Adds-none, Adds-trans, Adds-weaken, All-kept, map-kept, own_at}

@@ -1,6 +1,7 @@
--- The names that several proofs of this crate cite, passed on from one place.
+-- What the proofs of this crate cite of definitions, of other crates and of the libraries, passed on from one place.
 pub use Rattle.std.proofs.Common.{Bool, Err, IfOk, List, Ok, Result, [], add-one, ap, arith, drop, false, get_or, if◌then◌else◌, int_le, int_lt, length, length-append, length-drop, map, nat_le, nat_lt, neg_ℤ, negsuc, not, pos, refl, replicate, reverse, subst, suc, sym, take, true, unsigned_abs, zero, ℕ, ℤ, ⊎_elim, ◌%◌, ◌&&◌, ◌*ℤ◌, ◌*◌, ◌++◌, ◌+ℤ◌, ◌+◌, ◌-ℤ◌, ◌-◌, ◌/◌, ◌<◌, ◌^◌, ◌||◌, ◌∙◌, ◌∷◌, ◌≡◌, ◌≢◌, ◌≤◌}
-pub use Rattle.circ_muldiv.specs.Division.{quotient, residue}
+unfoldable pub use Rattle.circ_muldiv.specs.Division.{residue}
+pub use Rattle.circ_muldiv.specs.Division.{quotient}
 pub use Rattle.circ_muldiv.specs.Gates.{absolute_gates, division_gates, division_step_gates, overflow_mul_gates, product_gates, row_gates, signed_division_gates}
 pub use Rattle.circ_muldiv.specs.Overflow.{fits, whole}
 pub use Rattle.circuits.proofs.Kept.{Adds-refl, Adds-trans, Adds-weaken, All-kept, Keeps-trans, map-kept, own_at}

@@ -1,7 +1,8 @@
--- The names that several proofs of this crate cite, passed on from one place.
+-- What the proofs of this crate cite of definitions, of other crates and of the libraries, passed on from one place.
 pub use Rattle.std.proofs.Common.{Bool, List, [], add-one, ap, arith, drop, false, get_or, if◌then◌else◌, int_lt, length, length-append, length-drop, map, min, nat_le, nat_lt, not, pos, refl, replicate, subst, suc, sym, take, true, zero, ℕ, ℤ, ⊎_elim, ◌%◌, ◌&&◌, ◌*◌, ◌++◌, ◌+ℤ◌, ◌+◌, ◌-ℤ◌, ◌-◌, ◌/◌, ◌<◌, ◌==◌, ◌^◌, ◌||◌, ◌∙◌, ◌∷◌, ◌≡◌, ◌≤◌}
 pub use Rattle.circuits.specs.Circuit.{Adds, Keeps}
-pub use Rattle.circuits.specs.Gates.{shift_gates, stages}
+unfoldable pub use Rattle.circuits.specs.Gates.{stages}
+pub use Rattle.circuits.specs.Gates.{shift_gates}
 pub use Rattle.circuits.specs.Move.{moved}
 pub use Rattle.circuits.specs.Word.{bit, number, number_of, signed}
 pub use Rattle.circuits.specs.declared.shift.Direction.{Direction}

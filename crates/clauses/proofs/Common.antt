@@ -1,4 +1,4 @@
--- The names that several proofs of this crate cite, passed on from one place.
+-- What the proofs of this crate cite of definitions, of other crates and of the libraries, passed on from one place.
 pub use Rattle.std.proofs.Common.{All, Bool, Contains, IsSomeAnd, List, None, Option, Some, [], ap, append_assoc, arith, cond, eqb, false, get_or, inl, inr, length, length-append, length-take, map, not, option_map, refl, remove, slice_get, subst, suc, sym, take, true, zero, ℕ, ◌*◌, ◌++◌, ◌+◌, ◌-◌, ◌/◌, ◌<◌, ◌||◌, ◌↔◌, ◌∙◌, ◌∷◌, ◌≡◌, ◌≤◌, ◌⊎◌}
 pub use Rattle.clauses.specs.ClauseSet.{IsNew, IsRefutation, LogFollows, UnitsDetermine, UnitsRefute, all_clauses, clauses_before, clauses_of_steps}
 pub use Rattle.clauses.specs.Literal.{IsVariable, IsWithin, Lit, Meets, VariablesWithin, assignment_of, clause_true, code_of, is_same, literal_at, literal_true, negation_of}

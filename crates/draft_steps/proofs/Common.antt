@@ -1,4 +1,4 @@
--- The names that several proofs of this crate cite, passed on from one place.
+-- What the proofs of this crate cite of definitions, of other crates and of the libraries, passed on from one place.
 pub use Rattle.std.proofs.Common.{All, AllPairs, Bool, Contains, Err, Global, IfNone, IfOk, IfSome, List, None, Ok, Option, Result, Some, Vec, [], ap, append-nil, append_assoc, arith, cond, drop, drop-cons, false, flat_map, get_or, if◌then◌else◌, inl, inr, length, map, not, option_map, option_to_list, refl, slice_get, slice_index_or, slice_set, subst, suc, sum_by, sym, take, true, zero, ℕ, ◌&&◌, ◌++◌, ◌+◌, ◌-◌, ◌<◌, ◌==◌, ◌^◌, ◌↔◌, ◌∙◌, ◌∷◌, ◌≡◌, ◌≢◌, ◌≤◌, ◌⊎◌}
 pub use Rattle.bindings.proofs.Reading.{is_read, reads_at_inst, same_inst}
 pub use Rattle.bindings.proofs.Roots.{in_any_order}
@@ -12,7 +12,8 @@ pub use Rattle.bindings.specs.declared.binding.Binding.{Binding}
 pub use Rattle.bindings.specs.declared.rule_match.Match.{Match}
 pub use Rattle.draft.proofs.Changed.{whole_taken_out}
 pub use Rattle.draft.proofs.Cycles.{no_phi_substituted}
-pub use Rattle.draft.proofs.Exchange.{was_counted, was_numbers, with_blocks}
+unfoldable pub use Rattle.draft.proofs.Exchange.{with_blocks}
+pub use Rattle.draft.proofs.Exchange.{was_counted, was_numbers}
 pub use Rattle.draft.proofs.Exchanging.{counted_block, inst_differs}
 pub use Rattle.draft.proofs.InstsOf.{AreNumbersOf, both, both_none, get_blocks, inst_from, insts_append, insts_more, length-insts_of, rest_numbers}
 pub use Rattle.draft.proofs.Keeping.{heap-stays, keeps-itself, keeps-twice, put-keeps}

@@ -1,4 +1,4 @@
--- The names that several proofs of this crate cite, passed on from one place.
+-- What the proofs of this crate cite of definitions, of other crates and of the libraries, passed on from one place.
 pub use Rattle.std.proofs.Common.{All, Bool, Contains, IfSome, List, MatchOption, None, Option, Some, [], ap, arith, cond, drop, eqb, false, filter, get_or, if◌then◌else◌, inl, inr, is_some, length, length-append, length-drop, length-set, map, not, option_map, refl, remove, replicate, rules, set, slice_get, subst, suc, sym, take, true, zero, ℕ, ◌*◌, ◌++◌, ◌+◌, ◌-◌, ◌/◌, ◌<◌, ◌∙◌, ◌∷◌, ◌≡◌, ◌≢◌, ◌≤◌, ◌⊎◌}
 pub use Rattle.clauses.proofs.Closed.{HeldWithin, HeldWithin-cons, IsClosed, IsNew-from_closed, not_UnitsRefute, not_held}
 pub use Rattle.clauses.proofs.Derivations.{Derives-push}

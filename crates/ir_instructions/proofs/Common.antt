@@ -1,17 +1,23 @@
--- The names that several proofs of this crate cite, passed on from one place.
+-- What the proofs of this crate cite of definitions, of other crates and of the libraries, passed on from one place.
 pub use Rattle.std.proofs.Common.{Bool, Err, List, None, Ok, Option, Result, Some, [], ap, append_assoc, arith, codes, cond, drop, eq-eqb, eqb, false, find, leb, length, ltb, ltb-false, min, not, option_and_then, option_map, refl, rules, subst, suc, sym, take, tests, true, zero, ℕ, ◌&&◌, ◌++◌, ◌+◌, ◌-◌, ◌<◌, ◌^◌, ◌∙◌, ◌∷◌, ◌≡◌, ◌≤◌}
 pub use Rattle.ir_instructions.specs.CallGrammar.{Items, ItemsOn, SpellsArgument, SpellsArguments, SpellsCall, SpellsCallee, SpellsClose, SpellsMarker, SpellsTruth, SpellsTruthOf, StopsOn, intrinsic_of, notail, tail, unmarked}
-pub use Rattle.ir_instructions.specs.CallReaders.{argument_at, arguments_at, begins_inner_item, begins_late_item, call_at, call_word_at, callee_at, callee_named, close_at, each_late_item_at, ends_argument, further_truth_at, inner_items_at, is_on_line, late_group_at, late_item_at, late_items_at, late_quoted_at, late_value_at, marked_call_at, one_argument_at, or_no_callee, some_token_at, truth_argument_at, truth_at, truth_of_word, truth_value_at, two_arguments_at}
+unfoldable pub use Rattle.ir_instructions.specs.CallReaders.{argument_at, call_at, call_word_at, callee_at, close_at, further_truth_at, inner_items_at, late_group_at, late_item_at, late_items_at, late_quoted_at, late_value_at, marked_call_at, one_argument_at, some_token_at, truth_argument_at, truth_at, truth_value_at, two_arguments_at}
+pub use Rattle.ir_instructions.specs.CallReaders.{arguments_at, begins_inner_item, begins_late_item, callee_named, each_late_item_at, ends_argument, is_on_line, or_no_callee, truth_of_word}
 pub use Rattle.ir_instructions.specs.Grammar.{Attachment, IsCaseValue, IsOpcode, IsValueToken, SpellsCase, SpellsCases, SpellsFlags, SpellsIncoming, SpellsInst, SpellsOp, SpellsOperand, SpellsRegister, SpellsTarget, SpellsTerminator, SpellsType, SpellsTyped}
-pub use Rattle.ir_instructions.specs.InstructionReaders.{add_flag, attachment_at, attachments_at, begins_case, begins_incoming, binary_at, branch_at, case_at, case_value_at, cases_at, compare_at, conditional_at, convert_at, ending_at, flag_at, flags_at, freeze_at, further_incoming_at, identified, incoming_at, incomings_at, inst_at, insts_at, is_flag, is_keyword, is_metadata, is_register, jump_at, keyword_at, metadata_at, number_value, op_at, operation_at, phi_at, pred_at, register_at, return_at, select_at, switch_at, tail_at, tail_attachment_at, target_at, terminator_at, type_word, typed_at}
-pub use Rattle.ir_instructions.specs.Intrinsics.{IsIntrinsicName, IsPlainType, intrinsic_in, intrinsic_keyword, is_called, keyword_in, named_in, plain_width_in, width_of}
+unfoldable pub use Rattle.ir_instructions.specs.InstructionReaders.{attachment_at, attachments_at, binary_at, branch_at, case_at, case_value_at, cases_at, compare_at, conditional_at, convert_at, flag_at, flags_at, freeze_at, further_incoming_at, incoming_at, inst_at, insts_at, jump_at, keyword_at, metadata_at, op_at, phi_at, pred_at, register_at, return_at, select_at, switch_at, tail_at, tail_attachment_at, target_at, terminator_at, typed_at}
+pub use Rattle.ir_instructions.specs.InstructionReaders.{add_flag, begins_case, begins_incoming, ending_at, identified, incomings_at, is_flag, is_keyword, is_metadata, is_register, number_value, operation_at, type_word}
+unfoldable pub use Rattle.ir_instructions.specs.Intrinsics.{intrinsic_in, keyword_in, named_in, plain_width_in}
+pub use Rattle.ir_instructions.specs.Intrinsics.{IsIntrinsicName, IsPlainType, intrinsic_keyword, is_called, width_of}
 pub use Rattle.ir_instructions.specs.ItemGrammar.{MayFollowItem, SpellsItem, of_group, of_key_and_value, of_number, of_quoted, of_word, of_word_and_group}
-pub use Rattle.ir_instructions.specs.ItemReaders.{begins_item, item_at, items_at, last_items_at, no_word_at, quoted_item_at, quoted_value_at, word_item_at}
-pub use Rattle.ir_instructions.specs.Items.{is_item_word}
-pub use Rattle.ir_instructions.specs.Keywords.{IsTypeWord, ending_in, ending_word, operation_in, operation_word, operations, truth_in, type_in, type_of_bits, value_in}
+unfoldable pub use Rattle.ir_instructions.specs.ItemReaders.{item_at, items_at, last_items_at, no_word_at, quoted_item_at, quoted_value_at, word_item_at}
+pub use Rattle.ir_instructions.specs.ItemReaders.{begins_item}
+unfoldable pub use Rattle.ir_instructions.specs.Items.{is_item_word}
+unfoldable pub use Rattle.ir_instructions.specs.Keywords.{ending_in, operation_in, truth_in, type_in, value_in}
+pub use Rattle.ir_instructions.specs.Keywords.{IsTypeWord, ending_word, operation_word, operations, type_of_bits}
 pub use Rattle.ir_instructions.specs.Laws.{SpellsCaseValue}
 pub use Rattle.ir_instructions.specs.Parts.{Comma, Each, Is, IsOn, Maybe, Part, Repeated, Separated, ◌⨾◌}
-pub use Rattle.ir_instructions.specs.Readers.{Read, Reader, TakesSome, another_at, done, each_at, fault, given, goes_on, or_left_out, repeat_at, steps_at, ◌>>=◌}
+unfoldable pub use Rattle.ir_instructions.specs.Readers.{steps_at}
+pub use Rattle.ir_instructions.specs.Readers.{Read, Reader, TakesSome, another_at, done, each_at, fault, given, goes_on, or_left_out, repeat_at, ◌>>=◌}
 pub use Rattle.ir_instructions.specs.declared.intrinsic.Intrinsic.{Intrinsic}
 pub use Rattle.ir_instructions.specs.declared.word.Ending.{Ending}
 pub use Rattle.ir_instructions.specs.declared.word.Operation.{Operation}
@@ -39,7 +45,8 @@ pub use Rattle.ir_tokens.specs.declared.raw.RawValue.{RawValue}
 pub use Rattle.ir_tokens.specs.declared.raw.TypedOperand.{TypedOperand}
 pub use Rattle.ops.proofs.FlagKeywordLemmas.{flag_in-is, flag_in-of, flags_are_icmp, predicate_is_no_flag}
 pub use Rattle.ops.proofs.KeywordLemmas.{found-passes, pred_in-is, pred_in-of, same_word, word_is}
-pub use Rattle.ops.specs.FlagKeywords.{AddsFlags, flag_in, flag_keyword, has_flag, with_flag}
+unfoldable pub use Rattle.ops.specs.FlagKeywords.{flag_in}
+pub use Rattle.ops.specs.FlagKeywords.{AddsFlags, flag_keyword, has_flag, with_flag}
 pub use Rattle.ops.specs.Flags.{AreWithin, flags_of, flags_of_cast, flags_of_icmp, icmp_flags, no_flags}
 pub use Rattle.ops.specs.Intrinsics.{is_intrinsic}
 pub use Rattle.ops.specs.Keywords.{pred_in, predicate_keyword}

@@ -1,4 +1,4 @@
--- The names that several proofs of this crate cite, passed on from one place.
+-- What the proofs of this crate cite of definitions, of other crates and of the libraries, passed on from one place.
 pub use Rattle.std.proofs.Common.{Bool, Contains, IsSome, List, None, Option, Some, [], add-one, add-zero, ap, append_assoc, arith, cond, drop, drop-cons, eqb, false, get_or, inl, inr, length, length-append, map, option_and_then, option_map, refl, replicate, set, slice_get, subst, suc, suc-add, sym, take, true, zero, zero-add, ℕ, ◌&&◌, ◌++◌, ◌+◌, ◌-◌, ◌<◌, ◌==◌, ◌^◌, ◌∙◌, ◌∷◌, ◌≡◌, ◌≢◌, ◌≤◌, ◌⊎◌}
 pub use Rattle.ir_core.specs.Assigned.{IsAssigned, ReadIsAssigned}
 pub use Rattle.ir_core.specs.Blocks.{HasInst, IsBlock, Names, targets_of}
@@ -25,7 +25,8 @@ pub use Rattle.ir_meaning.specs.Laws.{FunctionsHaveOutcomes, HoldAllowing, HoldW
 pub use Rattle.ir_meaning.specs.Orders.{RefinementIsReflexive, RefinementIsTransitive}
 pub use Rattle.ir_meaning.specs.Paths.{ComesNext, IsPath, Place}
 pub use Rattle.ir_meaning.specs.Step.{EndFits, GoesFrom, GoesTo, IsEntered, OpFits, ending_of}
-pub use Rattle.ir_meaning.specs.Table.{Fits, IsTable, first_of, held_of}
+unfoldable pub use Rattle.ir_meaning.specs.Table.{first_of, held_of}
+pub use Rattle.ir_meaning.specs.Table.{Fits, IsTable}
 pub use Rattle.ir_meaning.specs.Taken.{AreTaken, holding_all}
 pub use Rattle.ir_meaning.specs.declared.terminator.Step.{Step}
 pub use Rattle.ops.proofs.Monotone.{comparison-monotone, conversion-monotone, instruction-monotone, selection-monotone, unary-monotone}

@@ -1,4 +1,4 @@
--- The names that several proofs of this crate cite, passed on from one place.
+-- What the proofs of this crate cite of definitions, of other crates and of the libraries, passed on from one place.
 pub use Rattle.std.proofs.Common.{Bool, Err, IfErr, IfOk, IsSome, List, None, Ok, OnOk, Option, Result, Some, [], ap, append_assoc, arith, codes, cond, eqb, false, inl, inr, leb, length, refl, subst, sym, true, ℕ, ◌++◌, ◌<◌, ◌∙◌, ◌∷◌, ◌≡◌, ◌≤◌, ◌⊎◌}
 pub use Rattle.ir_instructions.proofs.ItemReadings.{items_at-is, last_items_at-is}
 pub use Rattle.ir_instructions.proofs.ItemSizes.{item-shorter}
@@ -21,7 +21,8 @@ pub use Rattle.ir_instructions.specs.Readers.{Read, TakesSome, done, fault, ◌>
 pub use Rattle.ir_instructions.specs.declared.intrinsic.Intrinsic.{Intrinsic}
 pub use Rattle.ir_parse.specs.Grammar.{SpellsBlock, SpellsBlocks, SpellsBody, SpellsEntry, SpellsFunction, SpellsLabel, SpellsLabelledBlock, SpellsModule, SpellsName, SpellsParameter, SpellsParameterList, SpellsParameters}
 pub use Rattle.ir_parse.specs.Laws.{TextsHaveOneReadingOrFault}
-pub use Rattle.ir_parse.specs.ModuleReaders.{begins_entry, block_at, blocks_at, body_at, entries_at, entry_at, function_at, function_name_at, further_parameter_at, is_label, label_at, module_from, module_of, named_function, parameter_at, parameter_list_at, parameter_name_at, parameters_at, some_parameters_at}
+unfoldable pub use Rattle.ir_parse.specs.ModuleReaders.{block_at, blocks_at, body_at, entries_at, entry_at, function_at, function_name_at, further_parameter_at, label_at, parameter_at, parameter_list_at, parameter_name_at, parameters_at, some_parameters_at}
+pub use Rattle.ir_parse.specs.ModuleReaders.{begins_entry, is_label, module_from, module_of, named_function}
 pub use Rattle.ir_parse.specs.Text.{IsRaw, IsTextFault, misfit, most_bytes, too_long}
 pub use Rattle.ir_tokens.specs.Identifiers.{identifier_of}
 pub use Rattle.ir_tokens.specs.Laws.{TextsHaveOneListOfTokens}

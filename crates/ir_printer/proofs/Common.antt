@@ -1,4 +1,4 @@
--- The names that several proofs of this crate cite, passed on from one place.
+-- What the proofs of this crate cite of definitions, of other crates and of the libraries, passed on from one place.
 pub use Rattle.std.proofs.Common.{All, Bool, Bor, List, MatchOption, None, Option, Some, [], add-one, ap, append_assoc, arith, codes, cond, drop, drop-cons, eqb, false, get_or, inl, inr, length, map, refl, rules, slice_get, subst, suc, sym, take, tests, zero, zero-add, ℕ, ◌++◌, ◌+◌, ◌<◌, ◌^◌, ◌∙◌, ◌∷◌, ◌≡◌, ◌≤◌}
 pub use Rattle.ir_core.specs.Names.{Name, block_names, block_place, names_of, place_of}
 pub use Rattle.ir_core.specs.declared.function.Block.{Block}

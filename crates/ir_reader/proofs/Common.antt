@@ -1,4 +1,4 @@
--- The names that several proofs of this crate cite, passed on from one place.
+-- What the proofs of this crate cite of definitions, of other crates and of the libraries, passed on from one place.
 pub use Rattle.std.proofs.Common.{All, Bool, Contains, Err, IfOk, IfSome, IsSome, IsTrue, List, None, Ok, OnOk, Option, Result, Some, Vec, [], ap, append-nil, append_assoc, arith, cond, drop, false, get_or, if◌then◌else◌, inl, inr, is_some, length, length-append, map, nat_eq, not, option_map, refl, set, slice_get, subst, suc, sym, take, true, zero, ℕ, ◌&&◌, ◌++◌, ◌+◌, ◌-◌, ◌<◌, ◌==◌, ◌||◌, ◌↔◌, ◌∙◌, ◌∷◌, ◌≡◌, ◌≢◌, ◌≤◌, ◌⊎◌}
 pub use Rattle.indexmap.proofs.CallerLemmas.{Contains-list_any}
 pub use Rattle.indexmap.specs.IndexMap.{IndexMap, get}
@@ -30,7 +30,8 @@ pub use Rattle.ir_parse.proofs.FunctionSpellings.{entry_at-of, entry_is_next}
 pub use Rattle.ir_parse.proofs.TakingParts.{entry-takes}
 pub use Rattle.ir_parse.specs.Grammar.{SpellsBlock, SpellsBlocks, SpellsEntry, SpellsLabelledBlock}
 pub use Rattle.ir_parse.specs.Laws.{TextsHaveOneReadingOrFault}
-pub use Rattle.ir_parse.specs.ModuleReaders.{begins_entry, entries_at, entry_at, is_end, module_from}
+unfoldable pub use Rattle.ir_parse.specs.ModuleReaders.{entries_at}
+pub use Rattle.ir_parse.specs.ModuleReaders.{begins_entry, entry_at, is_end, module_from}
 pub use Rattle.ir_parse.specs.Text.{IsRaw, IsTextFault, misfit, most_bytes, too_long}
 pub use Rattle.ir_reader.specs.EntriesRead.{Continues, HasLeft, HasRead, IsReadingOf}
 pub use Rattle.ir_reader.specs.Faults.{AreEntriesOf, IsEntryOf, IsFault, IsFaultOfEntries, IsFaultOfEntry, IsFaultOfFunction, IsFunctionOf, IsModuleText, NoLineHas, ResolvesTo, bad_phi, entry_pred, functions_of, of_entries, of_names, of_text, unassigned}

@@ -1,4 +1,4 @@
--- The names that several proofs of this crate cite, passed on from one place.
+-- What the proofs of this crate cite of definitions, of other crates and of the libraries, passed on from one place.
 pub use Rattle.std.proofs.Common.{All, Bool, Contains, IsSome, IsTrue, List, None, Option, Some, [], ap, arith, codes, cond, drop, eqb, false, get_or, if◌then◌else◌, inl, inr, leb, length, map, not, option_and_then, option_map, refl, slice_get, subst, suc, sym, take, true, zero, ℕ, ◌&&◌, ◌*◌, ◌++◌, ◌+◌, ◌-◌, ◌<◌, ◌==◌, ◌||◌, ◌∙◌, ◌∷◌, ◌≡◌, ◌≤◌, ◌⊎◌}
 pub use Rattle.ir_core.specs.Blocks.{IsBlock, Names, targets_of}
 pub use Rattle.ir_core.specs.Checks.{CasesFit, IsFormed, IsInst, IsKnown, IsTyped, ModuleMeetsChecks, OperandHasWidth}
@@ -47,10 +47,12 @@ pub use Rattle.ir_text.specs.Forms.{CasesHaveForms, EntryHasForms, FunctionHasFo
 pub use Rattle.ir_text.specs.Laws.{LexemesAreTokens, PrintedTextsSpell}
 pub use Rattle.ir_text.specs.Lexemes.{AreLexemes, HasForm, IsGroupText, IsNameText, Lexeme, bytes_of, goes_on, placed_from, spelled}
 pub use Rattle.ir_tokens.proofs.Moving.{token_moves, token_within}
-pub use Rattle.ir_tokens.specs.Identifiers.{identifier_of, name_of}
-pub use Rattle.ir_tokens.specs.Numbers.{constant_of, is_in_range, number_of}
+unfoldable pub use Rattle.ir_tokens.specs.Identifiers.{identifier_of, name_of}
+unfoldable pub use Rattle.ir_tokens.specs.Numbers.{constant_of}
+pub use Rattle.ir_tokens.specs.Numbers.{is_in_range, number_of}
 pub use Rattle.ir_tokens.specs.Order.{HasExtent, IsTokenAt, TokensFrom, bad_byte, itself, kept_group, kept_line, last, unclosed}
-pub use Rattle.ir_tokens.specs.Places.{begins_kept, extent_of, is_on, kept_words}
+unfoldable pub use Rattle.ir_tokens.specs.Places.{begins_kept, extent_of}
+pub use Rattle.ir_tokens.specs.Places.{is_on, kept_words}
 pub use Rattle.ir_tokens.specs.Tokens.{Bad, End, Group, Kept, KeptGroup, Label, Mark, Metadata, Other, Placed, Quoted, Token, Word, mark_of, token_of}
 pub use Rattle.ir_tokens.specs.declared.called.Identifier.{Identifier}
 pub use Rattle.ir_tokens.specs.declared.called.Identifier.TheVariants.{Named, Numbered}
@@ -88,14 +90,16 @@ pub use Rattle.scan.proofs.Fronts.{and_left, and_right, or_true}
 pub use Rattle.scan.proofs.ModulePlaces.{longest_some}
 pub use Rattle.scan.proofs.NameLemmas.{name_cases, quoted_is}
 pub use Rattle.scan.proofs.PlaceLemmas.{feeds_append}
-pub use Rattle.scan.specs.Bytes.{are_digits, begins_name, begins_with, is_blank, is_digit, is_letter, is_name_byte}
+unfoldable pub use Rattle.scan.specs.Bytes.{begins_name, is_digit, is_letter, is_name_byte}
+pub use Rattle.scan.specs.Bytes.{are_digits, begins_with, is_blank}
 pub use Rattle.scan.specs.Gaps.{nothing}
 pub use Rattle.scan.specs.IrTokens.{HoldsZero, IsLongestToken, IsNextToken, is_group, is_word, spells}
 pub use Rattle.scan.specs.Kept.{IsKeptLine, rest_to_feed}
 pub use Rattle.scan.specs.Lines.{between, feeds, last_line}
 pub use Rattle.scan.specs.Names.{blanks_behind}
-pub use Rattle.scan.specs.Quoted.{hex_value, in_quotes, is_hex, is_quoted, unquoted}
-pub use Rattle.scan.specs.RuleTokens.{is_negative}
+unfoldable pub use Rattle.scan.specs.Quoted.{hex_value, is_hex, unquoted}
+pub use Rattle.scan.specs.Quoted.{in_quotes, is_quoted}
+unfoldable pub use Rattle.scan.specs.RuleTokens.{is_negative}
 pub use Rattle.scan.specs.declared.ir.token.TokenKind.{TokenKind}
 pub use Rattle.scan.specs.declared.span.Span.{Span}
 pub use Rattle.std.proofs.Math.Seq.{drop-length, take-append_seam, take-length}

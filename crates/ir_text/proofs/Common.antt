@@ -1,4 +1,4 @@
--- The names that several proofs of this crate cite, passed on from one place.
+-- What the proofs of this crate cite of definitions, of other crates and of the libraries, passed on from one place.
 pub use Rattle.std.proofs.Common.{Bool, IsSome, List, None, Option, Some, [], add-one, add-zero, ap, append_assoc, arith, codes, cond, decimal, drop, drop-drop, drop_at, eq-eqb, eqb, eqb-true, false, filter, get_or, inl, inr, le-leb, leb, leb-true, length, length-drop, length-take, length-take-le, ltb, ltb-false, ltb-true, map, mod-eq_of_lt, mod-lt, ne_eqb, neg_ℤ, negsuc, not, one-add, option_and_then, option_map, pos, pow_mono, refl, rules, slice_get, subst, suc, sym, take, take-add, take-append-drop, take_at, take_while, tests, true, zero, zero-add, ℕ, ℤ, ⊎_elim, ◌%◌, ◌&&◌, ◌*◌, ◌++◌, ◌+◌, ◌-◌, ◌/◌, ◌<◌, ◌^◌, ◌||◌, ◌∙◌, ◌∷◌, ◌≡◌, ◌≢◌, ◌≤◌, ◌⊎◌}
 pub use Rattle.ir_core.specs.Blocks.{IsBlock, targets_of}
 pub use Rattle.ir_core.specs.Checks.{CasesFit, IsFormed, IsInst, IsTyped, ModuleMeetsChecks, OperandHasWidth}
@@ -30,13 +30,16 @@ pub use Rattle.ir_text.specs.CanonicalModule.{BlockTypesFit, EndTypesFit, Identi
 pub use Rattle.ir_text.specs.Forms.{CasesHaveForms, EntryHasForms, FunctionHasForms, IsItem, IsKeptText, IsName, IsWidth, ModuleHasForms, NumberFits, OperandFits, ParameterHasForms, ReadHasForms}
 pub use Rattle.ir_text.specs.Laws.{HasFewThings, LexemesAreTokens, PrintedTextsSpell}
 pub use Rattle.ir_text.specs.Lexemes.{AreLexemes, HasForm, IsGroupText, IsNameText, Lexeme, MayStand, bytes_of, goes_on, is_at_line_end, line_behind, placed_from, spelled, takes_group, takes_line}
-pub use Rattle.ir_text.specs.NameText.{escaped, hex_digit, name_text, quoted_text}
-pub use Rattle.ir_text.specs.NumberText.{number_text}
-pub use Rattle.ir_text.specs.PrintedText.{between_text, binary_text, block_identifier, block_name_text, block_text, callee_text, case_text, end_text, entries_text, entry_text, first_head_text, flag_text, flags_text, function_name_text, function_text, head_text, header_text, identifier_text, incoming_text, inst_text, item_text, label_text, op_text, operand_text, parameter_text, register_text, target_text, text_of, truth_text, type_text, typed_text}
-pub use Rattle.ir_tokens.specs.Identifiers.{identifier_of, name_of}
-pub use Rattle.ir_tokens.specs.Numbers.{constant_of, decimal_value, is_in_range, number_of}
+unfoldable pub use Rattle.ir_text.specs.NameText.{escaped, hex_digit, name_text, quoted_text}
+unfoldable pub use Rattle.ir_text.specs.NumberText.{number_text}
+unfoldable pub use Rattle.ir_text.specs.PrintedText.{between_text, binary_text, block_name_text, block_text, callee_text, case_text, end_text, entry_text, first_head_text, flags_text, function_name_text, function_text, head_text, header_text, identifier_text, incoming_text, inst_text, item_text, label_text, op_text, operand_text, parameter_text, register_text, target_text, truth_text, type_text, typed_text}
+pub use Rattle.ir_text.specs.PrintedText.{block_identifier, entries_text, flag_text, text_of}
+unfoldable pub use Rattle.ir_tokens.specs.Identifiers.{identifier_of, name_of}
+unfoldable pub use Rattle.ir_tokens.specs.Numbers.{constant_of, is_in_range, number_of}
+pub use Rattle.ir_tokens.specs.Numbers.{decimal_value}
 pub use Rattle.ir_tokens.specs.Order.{AreTokens, HasExtent, IsTokenAt, TokensFrom, bad_byte, itself, kept_group, kept_line, last, token, unclosed}
-pub use Rattle.ir_tokens.specs.Places.{begins_kept, extent_of, is_on, kept_words, place_behind}
+unfoldable pub use Rattle.ir_tokens.specs.Places.{begins_kept, extent_of}
+pub use Rattle.ir_tokens.specs.Places.{is_on, kept_words, place_behind}
 pub use Rattle.ir_tokens.specs.Tokens.{Bad, End, Group, Kept, KeptGroup, Label, Mark, Metadata, Other, Placed, Quoted, Token, Word, is_last, mark_of, token_of}
 pub use Rattle.ir_tokens.specs.declared.called.Identifier.{Identifier}
 pub use Rattle.ir_tokens.specs.declared.called.Identifier.TheVariants.{Named, Numbered}
@@ -59,7 +62,7 @@ pub use Rattle.ops.proofs.FlagKeywordLemmas.{flags_in_order, icmp_flags-fit}
 pub use Rattle.ops.proofs.Signed.{pow_doubled}
 pub use Rattle.ops.specs.FlagKeywords.{every_flag, flag_keyword, has_flag}
 pub use Rattle.ops.specs.Flags.{AreWithin, flags_of, flags_of_cast, flags_of_icmp, icmp_flags, no_flags}
-pub use Rattle.ops.specs.Integer.{residue}
+unfoldable pub use Rattle.ops.specs.Integer.{residue}
 pub use Rattle.ops.specs.Intrinsics.{is_intrinsic}
 pub use Rattle.ops.specs.Keywords.{cast_keyword, opcode_keyword, predicate_keyword, unary_keyword}
 pub use Rattle.ops.specs.Truths.{TruthFits, has_truth}
@@ -83,14 +86,18 @@ pub use Rattle.scan.proofs.ModuleTokens.{begins_token, short_holds_none, spells-
 pub use Rattle.scan.proofs.NameLemmas.{in_quotes-quoted, name_cases, quoted_from, quoted_is}
 pub use Rattle.scan.proofs.PlaceLemmas.{Behind, feeds_append, no_feeds, run_within}
 pub use Rattle.scan.proofs.QuotedLemmas.{reads_hex, reads_plain, zero_found}
-pub use Rattle.scan.specs.Bytes.{are_digits, begins_name, begins_with, begins_word, is_blank, is_digit, is_letter, is_name_byte, is_printable, is_run, is_space}
+unfoldable pub use Rattle.scan.specs.Bytes.{begins_name, begins_word, is_blank, is_digit, is_letter, is_name_byte, is_printable, is_space}
+pub use Rattle.scan.specs.Bytes.{are_digits, begins_with, is_run}
 pub use Rattle.scan.specs.Gaps.{IsGap, IsLastGap, nothing, space}
-pub use Rattle.scan.specs.IrTokens.{Begins, BeginsNoToken, HoldsZero, IsLongestToken, IsNextToken, is_behind, is_function, is_group, is_label, is_metadata, is_name, is_plain_name, is_register, is_word, line_at, marks, spells}
+unfoldable pub use Rattle.scan.specs.IrTokens.{is_function, is_group, is_label, is_metadata, is_name, is_plain_name, is_register, is_word}
+pub use Rattle.scan.specs.IrTokens.{Begins, BeginsNoToken, HoldsZero, IsLongestToken, IsNextToken, is_behind, line_at, marks, spells}
 pub use Rattle.scan.specs.Kept.{IsBalanced, IsGroup, IsKeptLine, rest_to_feed}
 pub use Rattle.scan.specs.Lines.{between, feeds, last_line, line_of}
 pub use Rattle.scan.specs.Names.{blanks_behind}
-pub use Rattle.scan.specs.Quoted.{hex_value, in_quotes, is_hex, is_quotable, is_quoted, unquoted}
-pub use Rattle.scan.specs.RuleTokens.{is_among, is_literal, is_negative}
+unfoldable pub use Rattle.scan.specs.Quoted.{hex_value, is_hex, is_quotable, is_quoted, unquoted}
+pub use Rattle.scan.specs.Quoted.{in_quotes}
+unfoldable pub use Rattle.scan.specs.RuleTokens.{is_literal, is_negative}
+pub use Rattle.scan.specs.RuleTokens.{is_among}
 pub use Rattle.scan.specs.declared.ir.token.TokenKind.{TokenKind}
 pub use Rattle.scan.specs.declared.span.Span.{Span}
 pub use Rattle.std.proofs.Math.Nat.{add_assoc}

@@ -1,8 +1,10 @@
--- The names that several proofs of this crate cite, passed on from one place.
+-- What the proofs of this crate cite of definitions, of other crates and of the libraries, passed on from one place.
 pub use Rattle.std.proofs.Common.{Bool, Err, List, None, Ok, Option, Result, Some, [], ap, append_assoc, arith, drop, eqb, false, fold, get_or, if◌then◌else◌, inl, inr, length, negsuc, not, pos, refl, subst, suc, sym, take, true, unsigned_abs, zero, ℕ, ℤ, ⊎_elim, ◌*◌, ◌++◌, ◌+◌, ◌-◌, ◌<◌, ◌^◌, ◌∙◌, ◌∷◌, ◌≡◌, ◌≢◌, ◌≤◌, ◌⊎◌}
-pub use Rattle.ir_tokens.specs.Numbers.{constant_of, decimal_value, is_in_range, number_of}
+unfoldable pub use Rattle.ir_tokens.specs.Numbers.{constant_of, is_in_range}
+pub use Rattle.ir_tokens.specs.Numbers.{decimal_value, number_of}
 pub use Rattle.ir_tokens.specs.Order.{AreTokens, HasExtent, IsTokenAt, TokensFrom, bad_byte, itself, kept_group, kept_line, last, token, unclosed}
-pub use Rattle.ir_tokens.specs.Places.{begins_kept, extent_of, place_behind}
+unfoldable pub use Rattle.ir_tokens.specs.Places.{begins_kept, extent_of}
+pub use Rattle.ir_tokens.specs.Places.{place_behind}
 pub use Rattle.ir_tokens.specs.ReaderPlaces.{HasPassed, IsOneEntry, MayBegin, place_behind_all}
 pub use Rattle.ir_tokens.specs.SeenTokens.{seen_placed}
 pub use Rattle.ir_tokens.specs.Tokens.{Bad, Kept, KeptGroup, Other, Placed, is_last, token_of}
@@ -23,7 +25,8 @@ pub use Rattle.scan.specs.Kept.{HasNoGroup, IsGroup, IsKeptLine, rest_to_feed}
 pub use Rattle.scan.specs.Laws.{IsNextOfModule, OneGroupAtAPlace, OneModuleTokenAtAPlace}
 pub use Rattle.scan.specs.Lines.{between, feeds}
 pub use Rattle.scan.specs.Names.{blanks_behind}
-pub use Rattle.scan.specs.Quoted.{in_quotes, unquoted}
+unfoldable pub use Rattle.scan.specs.Quoted.{unquoted}
+pub use Rattle.scan.specs.Quoted.{in_quotes}
 pub use Rattle.scan.specs.declared.bad_byte.BadByte.{BadByte}
 pub use Rattle.scan.specs.declared.ir.token.Token.{Token}
 pub use Rattle.scan.specs.declared.ir.token.TokenKind.{TokenKind}

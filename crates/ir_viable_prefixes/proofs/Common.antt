@@ -1,4 +1,4 @@
--- The names that several proofs of this crate cite, passed on from one place.
+-- What the proofs of this crate cite of definitions, of other crates and of the libraries, passed on from one place.
 pub use Rattle.std.proofs.Common.{Bool, Err, IsSome, List, None, Ok, Option, Result, Some, [], ap, append_assoc, arith, codes, cond, eq-eqb, eqb, false, inl, inr, is_some, length, length-append, not, pos, refl, subst, suc, sym, true, zero, ℕ, ◌&&◌, ◌++◌, ◌<◌, ◌^◌, ◌||◌, ◌∙◌, ◌∷◌, ◌≡◌, ◌≢◌, ◌≤◌, ◌⊎◌}
 pub use Rattle.ir_instructions.proofs.CallReadings.{inner_items_at-is, late_item-is, truth_value_at-is}
 pub use Rattle.ir_instructions.proofs.ItemReadings.{items_at-is, last_items_at-is}
@@ -12,19 +12,25 @@ pub use Rattle.ir_instructions.proofs.Steps.{bind_ok, not_left_out, ok_is, read_
 pub use Rattle.ir_instructions.proofs.Takings.{attachment-takes, case-takes, flag-takes, incoming-takes, inner-takes, inst-takes, late-takes, tail-takes}
 pub use Rattle.ir_instructions.proofs.WordLemmas.{operation_in-is, type_in-of, type_is_no_flag}
 pub use Rattle.ir_instructions.specs.CallGrammar.{Items}
-pub use Rattle.ir_instructions.specs.CallReaders.{argument_at, arguments_at, begins_inner_item, begins_late_item, call_at, call_word_at, callee_at, callee_named, close_at, each_late_item_at, ends_argument, further_truth_at, inner_items_at, is_on_line, late_group_at, late_item_at, late_items_at, late_quoted_at, late_value_at, marked_call_at, no_truth_kind, one_argument_at, or_no_callee, some_token_at, truth_argument_at, truth_at, truth_value_at, two_arguments_at}
+unfoldable pub use Rattle.ir_instructions.specs.CallReaders.{argument_at, call_at, call_word_at, callee_at, close_at, further_truth_at, inner_items_at, late_group_at, late_item_at, late_items_at, late_quoted_at, late_value_at, marked_call_at, one_argument_at, some_token_at, truth_argument_at, truth_at, truth_value_at, two_arguments_at}
+pub use Rattle.ir_instructions.specs.CallReaders.{arguments_at, begins_inner_item, begins_late_item, callee_named, each_late_item_at, ends_argument, is_on_line, no_truth_kind, or_no_callee}
 pub use Rattle.ir_instructions.specs.Grammar.{IsValueToken, SpellsOperand}
-pub use Rattle.ir_instructions.specs.InstructionReaders.{attachments_at, case_value_at, identified, inst_at, insts_at, is_metadata, is_register, keyword_at, pred_at, register_at, terminator_at}
-pub use Rattle.ir_instructions.specs.Intrinsics.{intrinsic_in, keyword_in, named_in, plain_width_in}
+unfoldable pub use Rattle.ir_instructions.specs.InstructionReaders.{attachments_at, case_value_at, insts_at, keyword_at, pred_at, register_at, terminator_at}
+pub use Rattle.ir_instructions.specs.InstructionReaders.{identified, inst_at, is_metadata, is_register}
+unfoldable pub use Rattle.ir_instructions.specs.Intrinsics.{intrinsic_in, keyword_in, named_in, plain_width_in}
 pub use Rattle.ir_instructions.specs.ItemGrammar.{MayFollowItem, SpellsItem, of_group, of_key_and_value, of_number, of_quoted, of_word_and_group}
-pub use Rattle.ir_instructions.specs.ItemReaders.{begins_item, item_at, items_at, last_items_at, no_word_at, quoted_item_at, quoted_value_at, word_item_at}
-pub use Rattle.ir_instructions.specs.Items.{is_item_word}
-pub use Rattle.ir_instructions.specs.Keywords.{IsTypeWord, ending_in, ending_word, operation_in, operation_word, truth_in, type_in, value_in}
+unfoldable pub use Rattle.ir_instructions.specs.ItemReaders.{item_at, last_items_at, no_word_at, quoted_item_at, quoted_value_at, word_item_at}
+pub use Rattle.ir_instructions.specs.ItemReaders.{begins_item, items_at}
+unfoldable pub use Rattle.ir_instructions.specs.Items.{is_item_word}
+unfoldable pub use Rattle.ir_instructions.specs.Keywords.{ending_in, operation_in, truth_in, type_in, value_in}
+pub use Rattle.ir_instructions.specs.Keywords.{IsTypeWord, ending_word, operation_word}
 pub use Rattle.ir_instructions.specs.Parts.{Each, Is, Part, ◌⨾◌}
 pub use Rattle.ir_instructions.specs.PieceGrammar.{SpellsType}
-pub use Rattle.ir_instructions.specs.Places.{begins_record, begins_type, is_word, leaves_out, shown}
-pub use Rattle.ir_instructions.specs.Readers.{Read, Reader, TakesSome, another_at, done, each_at, fault, goes_on, or_left_out, repeat_at, steps_at, unexpected, ◌>>=◌}
-pub use Rattle.ir_instructions.specs.TokenReaders.{tail_attachment_at}
+unfoldable pub use Rattle.ir_instructions.specs.Places.{leaves_out, shown}
+pub use Rattle.ir_instructions.specs.Places.{begins_record, begins_type, is_word}
+unfoldable pub use Rattle.ir_instructions.specs.Readers.{steps_at, unexpected}
+pub use Rattle.ir_instructions.specs.Readers.{Read, Reader, TakesSome, another_at, done, each_at, fault, goes_on, or_left_out, repeat_at, ◌>>=◌}
+unfoldable pub use Rattle.ir_instructions.specs.TokenReaders.{tail_attachment_at}
 pub use Rattle.ir_instructions.specs.declared.intrinsic.Intrinsic.{Intrinsic}
 pub use Rattle.ir_instructions.specs.declared.word.Ending.TheVariants.{Unreachable}
 pub use Rattle.ir_instructions.specs.declared.word.Operation.{Operation}
@@ -35,9 +41,9 @@ pub use Rattle.ir_parse.specs.Grammar.{SpellsModule}
 pub use Rattle.ir_parse.specs.Laws.{ModulesAreReadAsSpelled}
 pub use Rattle.ir_parse.specs.ModuleReaders.{entries_at, module_from, module_of}
 pub use Rattle.ir_parse.specs.Text.{IsTextFault, most_bytes, too_long}
-pub use Rattle.ir_tokens.specs.Identifiers.{identifier_of, name_of}
+unfoldable pub use Rattle.ir_tokens.specs.Identifiers.{identifier_of, name_of}
 pub use Rattle.ir_tokens.specs.Laws.{TextsHaveOneListOfTokens}
-pub use Rattle.ir_tokens.specs.Numbers.{constant_of, is_in_range, is_number, number_of}
+unfoldable pub use Rattle.ir_tokens.specs.Numbers.{constant_of, is_in_range, is_number, number_of}
 pub use Rattle.ir_tokens.specs.Order.{AreTokens, IsTokenAt, TokensFrom, bad_byte, itself, kept_group, kept_line, unclosed}
 pub use Rattle.ir_tokens.specs.Tokens.{End, Function, Group, Kept, KeptGroup, Label, Mark, Metadata, Number, Other, Placed, Quoted, Register, Token, Word, is_last, token_of}
 pub use Rattle.ir_tokens.specs.declared.called.Identifier.{Identifier}
@@ -67,9 +73,11 @@ pub use Rattle.ir_viable_prefixes.specs.Laws.{FaultsAreWhereTextsDoNotFit, IsFir
 pub use Rattle.ir_viable_prefixes.specs.Misfits.{AnotherFits, IsLeftOut, IsMisfit, IsNothingElse, IsNoun, IsRepeated, IsWrongNumber, IsWrongWidth, TerminatorFits, TypeFits, entry, mark_of_record, of_function, of_mark, type}
 pub use Rattle.ops.proofs.FlagKeywordLemmas.{flag_in-is}
 pub use Rattle.ops.proofs.KeywordLemmas.{word_is}
-pub use Rattle.ops.specs.FlagKeywords.{flag_in, flag_keyword, has_flag, with_flag}
+unfoldable pub use Rattle.ops.specs.FlagKeywords.{flag_in}
+pub use Rattle.ops.specs.FlagKeywords.{flag_keyword, has_flag, with_flag}
 pub use Rattle.ops.specs.Flags.{flags_of, flags_of_cast, flags_of_icmp, no_flags}
-pub use Rattle.ops.specs.Keywords.{pred_in, predicate_keyword}
+unfoldable pub use Rattle.ops.specs.Keywords.{pred_in}
+pub use Rattle.ops.specs.Keywords.{predicate_keyword}
 pub use Rattle.ops.specs.Truths.{has_truth}
 pub use Rattle.ops.specs.declared.comparison.Pred.{Pred}
 pub use Rattle.ops.specs.declared.comparison.Pred.TheVariants.{Eq}
@@ -81,7 +89,8 @@ pub use Rattle.ops.specs.declared.opcode.Flags.{Flags}
 pub use Rattle.ops.specs.declared.opcode.Opcode.TheVariants.{AShr, Add, LShr, Mul, Or, SDiv, SMax, SMin, SRem, Shl, Sub, UDiv, UMax, UMin, URem, Xor}
 pub use Rattle.ops.specs.declared.opcode.Unary.{Unary}
 pub use Rattle.refusal.specs.declared.fault.Fault.{Fault}
-pub use Rattle.scan.specs.IrTokens.{is_plain_name, line_at}
+unfoldable pub use Rattle.scan.specs.IrTokens.{is_plain_name}
+pub use Rattle.scan.specs.IrTokens.{line_at}
 pub use Rattle.scan.specs.Lines.{between}
 pub use Rattle.scan.specs.declared.ir.token.TokenKind.{TokenKind}
 pub use Rattle.std.proofs.lemmas.Bool.{eqb-true}

@@ -1,4 +1,4 @@
--- The names that several proofs of this crate cite, passed on from one place.
+-- What the proofs of this crate cite of definitions, of other crates and of the libraries, passed on from one place.
 pub use Rattle.std.proofs.Common.{All, Bool, Contains, IfSome, IsSome, List, None, Option, Some, [], ap, arith, bytes_eq, codes, decimal, false, if◌then◌else◌, inl, inr, length, length-append, map, mod-lt, not, option_map, pow_pos, refl, slice_get, subst, suc, sym, true, zero, ℕ, ◌&&◌, ◌++◌, ◌+◌, ◌-◌, ◌/◌, ◌<◌, ◌==◌, ◌^◌, ◌∙◌, ◌∷◌, ◌≡◌, ◌≤◌, ◌⊎◌}
 pub use Rattle.ir_core.specs.Assigned.{IsAssigned, ReadIsAssigned}
 pub use Rattle.ir_core.specs.Blocks.{HasInst, IsBlock, Names, targets_of}
@@ -14,8 +14,10 @@ pub use Rattle.ir_core.specs.declared.instruction.Op.TheVariants.{Binary, Compar
 pub use Rattle.ir_core.specs.declared.module.Entry.{Entry}
 pub use Rattle.ir_core.specs.declared.operand.Operand.{Operand}
 pub use Rattle.ir_core.specs.declared.terminator.Terminator.TheVariants.{Branch}
-pub use Rattle.load_gen.specs.Draws.{drawn, next_state}
-pub use Rattle.load_gen.specs.Generated.{a, b, blocks, drawn_inst, drawn_insts, fixed, function, functions, in_loop, listed, loop_insts, number, operation, state_after, state_before, width}
+unfoldable pub use Rattle.load_gen.specs.Draws.{drawn}
+pub use Rattle.load_gen.specs.Draws.{next_state}
+unfoldable pub use Rattle.load_gen.specs.Generated.{blocks, drawn_inst, drawn_insts, function, functions, loop_insts}
+pub use Rattle.load_gen.specs.Generated.{a, b, fixed, in_loop, listed, number, operation, state_after, state_before, width}
 pub use Rattle.load_gen.specs.Laws.{GeneratedEntriesAreCounted, GeneratedEntriesAreOfTwenty, GeneratedFunctionsAreSmall, GeneratedModulesMeetChecks, GeneratedNumbersFit, IsGenerated, IsOfTwenty}
 pub use Rattle.ops.specs.Flags.{no_flags}
 pub use Rattle.ops.specs.Integer.{minus_one}
@@ -29,4 +31,4 @@ pub use Rattle.std.proofs.lemmas.Fmt.{decimal_injective}
 pub use Rattle.std.proofs.lemmas.List.Elements.{All-cons, All-from_recursion, All-nil, All-push, Contains-append_cases, Contains-append_left, Contains-append_right, Contains-push, Contains-push_cases}
 pub use Rattle.std.proofs.lemmas.Option.{get_or_from_slice_get, same_Some, slice_get_within}
 pub use Rattle.std.proofs.lemmas.Slice.Eq.{bytes_eq-Decides}
-pub use Rattle.std.specs.Fmt.{digits}
+unfoldable pub use Rattle.std.specs.Fmt.{digits}

@@ -1,4 +1,4 @@
--- The names that several proofs of this crate cite, passed on from one place.
+-- What the proofs of this crate cite of definitions, of other crates and of the libraries, passed on from one place.
 pub use Rattle.std.proofs.Common.{All, Bool, List, [], ap, arith, codes, cond, count_by, drop, eqb, false, length, refl, subst, suc, sum, sum_by, sym, take, true, ℕ, ◌*◌, ◌++◌, ◌+◌, ◌-◌, ◌∙◌, ◌∷◌, ◌≡◌, ◌≢◌, ◌≤◌}
 pub use Rattle.command_line.specs.Limits.{default_steps}
 pub use Rattle.ir_core.specs.declared.function.Block.{Block}

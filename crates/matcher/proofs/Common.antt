@@ -1,4 +1,4 @@
--- The names that several proofs of this crate cite, passed on from one place.
+-- What the proofs of this crate cite of definitions, of other crates and of the libraries, passed on from one place.
 pub use Rattle.std.proofs.Common.{All, Contains, Err, IfNone, IfOk, IfSome, List, None, Ok, Option, Result, Some, [], ap, arith, false, get_or, inl, inr, length, length-append, map, refl, slice_get, slice_set, subst, suc, sym, take, true, vec_len, zero, ℕ, ◌++◌, ◌+◌, ◌-◌, ◌<◌, ◌∙◌, ◌∷◌, ◌≡◌, ◌≢◌, ◌≤◌, ◌⊎◌}
 pub use Rattle.bindings.proofs.Bound.{read_off, same_block, same_place, statement_at}
 pub use Rattle.bindings.proofs.Fitting.{SourceOperand, met_at, source_operand}

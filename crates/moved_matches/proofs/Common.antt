@@ -1,4 +1,4 @@
--- The names that several proofs of this crate cite, passed on from one place.
+-- What the proofs of this crate cite of definitions, of other crates and of the libraries, passed on from one place.
 pub use Rattle.std.proofs.Common.{Contains, List, Some, [], ap, arith, length, map, refl, slice_get, subst, suc, sym, zero, ℕ, ◌<◌, ◌∙◌, ◌∷◌, ◌≡◌}
 pub use Rattle.bindings.proofs.Reading.{reads_at_inst, same_inst}
 pub use Rattle.bindings.specs.Match.{MatchesWhere}

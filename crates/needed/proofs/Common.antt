@@ -1,4 +1,4 @@
--- The names that several proofs of this crate cite, passed on from one place.
+-- What the proofs of this crate cite of definitions, of other crates and of the libraries, passed on from one place.
 pub use Rattle.std.proofs.Common.{All, Bool, Contains, Global, IsSome, List, None, Option, Some, Vec, [], ap, append-nil, append_assoc, arith, cond, count_by, drop, false, get_or, inl, inr, length, length-append, map, option_and_then, option_map, refl, slice_get, subst, suc, sym, take, true, zero, ℕ, ◌&&◌, ◌*◌, ◌++◌, ◌+◌, ◌-◌, ◌<◌, ◌==◌, ◌↔◌, ◌∙◌, ◌∷◌, ◌≡◌, ◌≤◌, ◌⊎◌}
 pub use Rattle.ir_core.specs.Assigned.{IsAssigned, ReadIsAssigned}
 pub use Rattle.ir_core.specs.Blocks.{HasInst, IsBlock, Names, targets_of}

@@ -1,4 +1,4 @@
--- The names that several proofs of this crate cite, passed on from one place.
+-- What the proofs of this crate cite of definitions, of other crates and of the libraries, passed on from one place.
 pub use Rattle.std.proofs.Common.{Bool, Contains, List, None, Option, Some, [], ap, arith, cond, false, get_or, inl, inr, length, map, refl, slice_get, subst, suc, sym, true, zero, ℕ, ◌<◌, ◌==◌, ◌^◌, ◌∙◌, ◌∷◌, ◌≡◌}
 pub use Rattle.bindings.specs.Ready.{AreReady}
 pub use Rattle.bindings.specs.declared.binding.Binding.{Binding}

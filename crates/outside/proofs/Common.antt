@@ -1,4 +1,4 @@
--- The names that several proofs of this crate cite, passed on from one place.
+-- What the proofs of this crate cite of definitions, of other crates and of the libraries, passed on from one place.
 pub use Rattle.std.proofs.Common.{ap, arith, drop, length, subst, sym, take, vec_len, ℕ, ◌-◌, ◌≤◌}
 pub use Rattle.outside.specs.MemoryFiles.{MemoryFilesState}
 pub use Rattle.std.proofs.KnownBytes.{Appends-trans}

@@ -1,4 +1,4 @@
--- The names that several proofs of this crate cite, passed on from one place.
+-- What the proofs of this crate cite of definitions, of other crates and of the libraries, passed on from one place.
 pub use Rattle.std.proofs.Common.{All, Bool, Contains, Err, IsTrue, List, None, Ok, OnErr, Result, Some, [], ap, arith, cond, drop, eqb, get_or, get_or-set_other, get_or-set_same, inl, inr, length, length-append, length-set, refl, set, slice_get, subst, suc, sum_by, sym, take, true, zero, ℕ, ◌&&◌, ◌*◌, ◌++◌, ◌+◌, ◌-◌, ◌/◌, ◌<◌, ◌↔◌, ◌∙◌, ◌∷◌, ◌≡◌, ◌≤◌, ◌⊎◌}
 pub use Rattle.places.specs.Heaps.{ComesBefore, IsBelow, IsHeap, IsLeastBelow, IsNumbered, IsRising, IsSinking, nowhere, place_at, rank, rank_at}
 pub use Rattle.places.specs.Links.{AreLinked, IsListing, first_node_at, linked_in, no_node, node_of, numbers_from, walked, with_after, with_label}

@@ -1,6 +1,7 @@
--- The names that several proofs of this crate cite, passed on from one place.
+-- What the proofs of this crate cite of definitions, of other crates and of the libraries, passed on from one place.
 pub use Rattle.std.proofs.Common.{Bool, IsTrue, List, Some, [], ap, arith, below_more, false, get_or, if◌then◌else◌, length, lit<, pos, refl, slice_get, subst, sym, take, true, ℕ, ◌++◌, ◌+◌, ◌-◌, ◌<◌, ◌==◌, ◌↔◌, ◌∙◌, ◌∷◌, ◌≡◌, ◌≤◌}
-pub use Rattle.ops.specs.Comparison.{comparison, holds}
+unfoldable pub use Rattle.ops.specs.Comparison.{comparison}
+pub use Rattle.ops.specs.Comparison.{holds}
 pub use Rattle.ops.specs.Number.{Number}
 pub use Rattle.ops.specs.declared.comparison.Pred.{Pred}
 pub use Rattle.ops.specs.declared.comparison.Pred.TheVariants.{Eq}

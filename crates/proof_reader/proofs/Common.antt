@@ -1,4 +1,4 @@
--- The names that several proofs of this crate cite, passed on from one place.
+-- What the proofs of this crate cite of definitions, of other crates and of the libraries, passed on from one place.
 pub use Rattle.std.proofs.Common.{All, Bool, Contains, Err, IfOk, List, MatchOption, None, Ok, OnOk, Option, Result, Some, [], ap, ap₂, arith, codes, cond, eqb, false, flat_map, get_or, if◌then◌else◌, inl, inr, length, length-append, map, nat_eq, not, refl, slice_get, subst, suc, sym, take, true, zero, ℕ, ⊎_elim, ◌++◌, ◌+◌, ◌<◌, ◌||◌, ◌∙◌, ◌∷◌, ◌≡◌, ◌≤◌}
 pub use Rattle.clauses.specs.Literal.{Lit}
 pub use Rattle.clauses.specs.declared.step.Step.{Step}
@@ -13,7 +13,8 @@ pub use Rattle.proof_text.specs.Laws.{TextsHaveOneReading}
 pub use Rattle.proof_text.specs.Limits.{most_bytes}
 pub use Rattle.proof_text.specs.Numerals.{numeral}
 pub use Rattle.proof_text.specs.Texts.{clause_text, head_text, hints_text, literal_text, log_text, proof_text, step_text, text_of, widths_text}
-pub use Rattle.proof_text.specs.WellFormed.{IsName, IsWellFormed, in_name}
+unfoldable pub use Rattle.proof_text.specs.WellFormed.{in_name}
+pub use Rattle.proof_text.specs.WellFormed.{IsName, IsWellFormed}
 pub use Rattle.proof_text.specs.declared.fault.LogFaultKind.{LogFaultKind}
 pub use Rattle.proof_text.specs.declared.fault.LogFaultKind.TheVariants.{Repeated}
 pub use Rattle.proof_text.specs.declared.proof.Proof.{Proof}
@@ -26,7 +27,8 @@ pub use Rattle.rule_core.specs.declared.rule.Rule.{Rule}
 pub use Rattle.rule_typing.specs.Classes.{IsClassified}
 pub use Rattle.scan.proofs.Fronts.{which}
 pub use Rattle.scan.proofs.PlaceLemmas.{feeds_append}
-pub use Rattle.scan.specs.Bytes.{is_blank, is_digit, is_printable}
+unfoldable pub use Rattle.scan.specs.Bytes.{is_blank, is_printable}
+pub use Rattle.scan.specs.Bytes.{is_digit}
 pub use Rattle.scan.specs.Lines.{feeds}
 pub use Rattle.std.proofs.Math.Seq.{take-append_seam}
 pub use Rattle.std.proofs.lemmas.Bool.{cases_lt, eqb-true, false≢true}

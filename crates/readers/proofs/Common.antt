@@ -1,4 +1,4 @@
--- The names that several proofs of this crate cite, passed on from one place.
+-- What the proofs of this crate cite of definitions, of other crates and of the libraries, passed on from one place.
 pub use Rattle.std.proofs.Common.{All, AllPairs, Bool, Contains, Global, IsSome, List, None, Option, Some, Vec, [], ap, arith, cond, drop, eqb, false, get_or, get_or-set_other, get_or-set_same, inl, inr, length, length-append, map, option_and_then, option_map, refl, replicate, rules, set, slice_get, slice_set, subst, suc, sum_by, sym, take, true, vec_capacity, vec_len, zero, zero-add, ℕ, ◌++◌, ◌+◌, ◌-◌, ◌<◌, ◌^◌, ◌↔◌, ◌∙◌, ◌∷◌, ◌≡◌, ◌≤◌, ◌⊎◌}
 pub use Rattle.assigned_flow.specs.Successors.{successors_of}
 pub use Rattle.bindings.specs.Facts.{AreFactsOf}

@@ -1,4 +1,4 @@
--- The names that several proofs of this crate cite, passed on from one place.
+-- What the proofs of this crate cite of definitions, of other crates and of the libraries, passed on from one place.
 pub use Rattle.std.proofs.Common.{Bool, Contains, Err, List, None, Ok, OnOk, Option, Result, Some, [], add-one, add-zero, ap, append-nil, append_assoc, arith, bit_and, bit_or, bit_xor, cond, drop, false, flat_map, get_or, if◌then◌else◌, inl, inr, length, length-append, length-take, map, nat_le, not, option_to_list, refl, slice_get, slice_index, slice_index_or, subst, suc, sym, take, true, zero, zero-add, ℕ, ℤ, ◌&&◌, ◌++◌, ◌+◌, ◌-◌, ◌<◌, ◌==◌, ◌^◌, ◌||◌, ◌∙◌, ◌∷◌, ◌≡◌, ◌≢◌, ◌≤◌, ◌⊎◌}
 pub use Rattle.bindings.specs.Match.{IsMatch}
 pub use Rattle.bindings.specs.Operands.{OperandMatches, StandsFor}
@@ -27,17 +27,21 @@ pub use Rattle.ir_meaning.specs.HistoryLaws.{EquationHolds, NumbersFit}
 pub use Rattle.ir_meaning.specs.Laws.{HoldWidths}
 pub use Rattle.ops.proofs.Monotone.{comparison-monotone, conversion-monotone, instruction-monotone, selection-monotone, unary-monotone}
 pub use Rattle.ops.proofs.Values.{AllowsEffect-refl, AllowsEffect-trans, AllowsValue-refl}
-pub use Rattle.ops.specs.Arithmetic.{arithmetic}
-pub use Rattle.ops.specs.Bitwise.{or}
+unfoldable pub use Rattle.ops.specs.Arithmetic.{arithmetic}
+unfoldable pub use Rattle.ops.specs.Bitwise.{or}
 pub use Rattle.ops.specs.Comparison.{holds, selection, signs_differ}
-pub use Rattle.ops.specs.Conversion.{CastFits, breaks_flags, conversion, converted}
-pub use Rattle.ops.specs.Division.{exactly, sdiv, srem, udiv, urem}
+unfoldable pub use Rattle.ops.specs.Conversion.{breaks_flags, conversion}
+pub use Rattle.ops.specs.Conversion.{CastFits, converted}
+unfoldable pub use Rattle.ops.specs.Division.{sdiv, udiv}
+pub use Rattle.ops.specs.Division.{exactly, srem, urem}
 pub use Rattle.ops.specs.Flags.{AreWithin, icmp_flags}
-pub use Rattle.ops.specs.Instruction.{instruction, on_numbers, on_poison}
+unfoldable pub use Rattle.ops.specs.Instruction.{instruction, on_numbers}
+pub use Rattle.ops.specs.Instruction.{on_poison}
 pub use Rattle.ops.specs.Integer.{bits, fits_signed, fits_unsigned, negative, residue, signed}
 pub use Rattle.ops.specs.Number.{Number}
-pub use Rattle.ops.specs.Shifts.{ashr, lshr, shl}
-pub use Rattle.ops.specs.Unary.{at_number, poison_where_true, unary}
+unfoldable pub use Rattle.ops.specs.Shifts.{ashr, lshr, shl}
+unfoldable pub use Rattle.ops.specs.Unary.{unary}
+pub use Rattle.ops.specs.Unary.{at_number, poison_where_true}
 pub use Rattle.ops.specs.Value.{AllowsEffect, AllowsValue, IsValueOf}
 pub use Rattle.ops.specs.declared.comparison.Pred.{Pred}
 pub use Rattle.ops.specs.declared.conversion.Cast.{Cast}

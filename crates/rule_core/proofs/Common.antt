@@ -1,11 +1,12 @@
--- The names that several proofs of this crate cite, passed on from one place.
+-- What the proofs of this crate cite of definitions, of other crates and of the libraries, passed on from one place.
 pub use Rattle.std.proofs.Common.{Bool, Contains, List, None, Option, Some, [], add-one, add-suc, add-zero, add_assoc, ap, append_assoc, arith, below_more, drop, drop-cons, eq-eqb, false, flat_map, get_or, if◌then◌else◌, inl, inr, length, length-append, length-take, map, nat_lt, negsuc, not, pos, refl, slice_get, slice_index, slice_index_or, subst, suc, suc-add, sum_by, sym, take, true, zero, zero-add, ℕ, ℤ, ◌%◌, ◌&&◌, ◌*◌, ◌++◌, ◌+◌, ◌-◌, ◌<◌, ◌==◌, ◌^◌, ◌||◌, ◌↔◌, ◌∙◌, ◌∷◌, ◌≡◌, ◌≢◌, ◌≤◌, ◌⊎◌}
 pub use Rattle.ops.proofs.Widths.{IsEffectOf-instruction, IsValueOf-comparison, IsValueOf-conversion, IsValueOf-selection, IsValueOf-unary}
 pub use Rattle.ops.specs.Comparison.{selection}
 pub use Rattle.ops.specs.Conversion.{CastFits, conversion}
 pub use Rattle.ops.specs.Flags.{no_flags}
 pub use Rattle.ops.specs.Instruction.{instruction}
-pub use Rattle.ops.specs.Integer.{bits, least, minus_one, residue}
+unfoldable pub use Rattle.ops.specs.Integer.{residue}
+pub use Rattle.ops.specs.Integer.{bits, least, minus_one}
 pub use Rattle.ops.specs.Number.{Number}
 pub use Rattle.ops.specs.Value.{AllowsEffect, AllowsValue, IsEffectOf, IsValueOf}
 pub use Rattle.ops.specs.declared.conversion.Cast.{Cast}
@@ -21,7 +22,8 @@ pub use Rattle.rule_core.specs.Laws.{RulesHaveOneOutcome}
 pub use Rattle.rule_core.specs.Positions.{IsOperandAmong, IsStatementOf, IsTermOf, LeavesOpen, Names, binary_left, binary_right, choices_among, choices_of, chooses, classes_of, classes_of_statement, classes_of_term, compared, condition, copy, freeze, frozen_in, left, name, one_operand, operand, operands_among, operands_in, operands_of, reads, reads_constant, right, select_false, select_true, sign_extended, source_assigns, target_assigns, term, term_choice, term_constant, term_register, terms_in, truncated, truth, undef_in, witness, zero_extended}
 pub use Rattle.rule_core.specs.Readiness.{ArgumentIsReady, ChoiceIsReady, GivenFits, HeldFits, NodeIsReady, OpIsReady, SourceRan, StatementIsReady, TargetRan, TermIsReady, TermsFit, ValuesFit, seen, shown}
 pub use Rattle.rule_core.specs.Run.{ArgumentGives, Ending, Follows, Given, GivesLast, GoesOn, Held, Holds, Leads, OpGives, OperandGives, SourceGives, StatementGives, TargetGives, TargetGoesOn, TemporariesEnd, Undefines, at_start, frozen, given_by, holding_source, holding_target, temporaries_of, value_of}
-pub use Rattle.rule_core.specs.Terms.{FormulaReadsBefore, Meanings, ReadsBefore, constant_values, exponent, formula_holds, function_at, function_value, in_turn, node_gives, number_at, number_or_zero, of_constants, term_value, value_at, value_given, values_of, within}
+unfoldable pub use Rattle.rule_core.specs.Terms.{exponent}
+pub use Rattle.rule_core.specs.Terms.{FormulaReadsBefore, Meanings, ReadsBefore, constant_values, formula_holds, function_at, function_value, in_turn, node_gives, number_at, number_or_zero, of_constants, term_value, value_at, value_given, values_of, within}
 pub use Rattle.rule_core.specs.Typing.{IsTyping, width_at}
 pub use Rattle.rule_core.specs.Valid.{ConstantsFit, HaveEffects, InputsFit, Setting, SettingFits, SourceChoicesFit, TargetChoicesFit, meanings_at, witness_number, witness_values}
 pub use Rattle.rule_core.specs.declared.rule.Argument.{Argument}

@@ -1,4 +1,4 @@
--- The names that several proofs of this crate cite, passed on from one place.
+-- What the proofs of this crate cite of definitions, of other crates and of the libraries, passed on from one place.
 pub use Rattle.std.proofs.Common.{All, AllPairs, Contains, Err, HoldsAt, IfNone, IfOk, IfSome, List, MatchOption, None, Ok, Option, Result, Some, [], ap, arith, drop, get_or, inl, inr, length, option_and_then, option_map, option_to_list, refl, rules, slice_get, slice_set, subst, suc, sym, take, tests, zero, ℕ, ◌++◌, ◌+◌, ◌-◌, ◌<◌, ◌∙◌, ◌∷◌, ◌≡◌, ◌≤◌, ◌⊎◌}
 pub use Rattle.bindings.proofs.Reading.{same_inst}
 pub use Rattle.bindings.specs.Laws.{TemporariesStandBefore}

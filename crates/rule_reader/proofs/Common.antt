@@ -1,4 +1,4 @@
--- The names that several proofs of this crate cite, passed on from one place.
+-- What the proofs of this crate cite of definitions, of other crates and of the libraries, passed on from one place.
 pub use Rattle.std.proofs.Common.{All, Bool, Bor, Contains, IsTrue, List, MatchOption, None, Option, Some, [], ap, append_assoc, arith, codes, cond, drop, eqb, false, flat_map, get_or, inl, inr, is_some, length, length-append, map, refl, slice_get, subst, suc, sym, take, true, zero, ℕ, ◌*◌, ◌++◌, ◌+◌, ◌-◌, ◌<◌, ◌^◌, ◌∙◌, ◌∷◌, ◌≡◌, ◌≤◌, ◌⊎◌}
 pub use Rattle.ops.proofs.FlagKeywordLemmas.{taken_flags}
 pub use Rattle.ops.specs.Flags.{CastFlagsFit, FlagsFit, flags_of, flags_of_cast}
@@ -23,7 +23,7 @@ pub use Rattle.rule_core.specs.declared.rule.Statement.{Statement}
 pub use Rattle.rule_parse.proofs.Weight.{small_rules}
 pub use Rattle.rule_parse.specs.Contents.{arguments_among, arguments_of, expressions_of, formula_of, target_terms, terms_of, terms_of_argument, terms_of_formula}
 pub use Rattle.rule_parse.specs.Grammar.{SpellsArgument, SpellsExpressions, SpellsHalf, SpellsMoreExpressions, SpellsOp, SpellsOperand, SpellsPair, SpellsPrecondition, SpellsRule, SpellsRules, SpellsStatement, SpellsStatements, SpellsTermOperand, SpellsTruth, SpellsUntyped, SpellsVersion, SpellsWitness}
-pub use Rattle.rule_parse.specs.Keywords.{argument_of}
+unfoldable pub use Rattle.rule_parse.specs.Keywords.{argument_of}
 pub use Rattle.rule_parse.specs.OneReading.{TextsHaveOneReadingOrFault}
 pub use Rattle.rule_parse.specs.Text.{IsTextFault, IsWritten}
 pub use Rattle.rule_parse.specs.Weight.{argument_weight, formula_weight, node_weight, raw_weight}

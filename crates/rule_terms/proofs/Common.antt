@@ -1,4 +1,4 @@
--- The names that several proofs of this crate cite, passed on from one place.
+-- What the proofs of this crate cite of definitions, of other crates and of the libraries, passed on from one place.
 pub use Rattle.std.proofs.Common.{Bool, Err, List, None, Ok, Option, Result, Some, [], ap, append_assoc, arith, codes, cond, drop, eqb, false, if◌then◌else◌, inl, inr, length, length-append, min, not, refl, slice_get, subst, suc, sym, true, zero, zero-add, ℕ, ⊎_elim, ◌&&◌, ◌*◌, ◌++◌, ◌+◌, ◌-◌, ◌<◌, ◌==◌, ◌^◌, ◌||◌, ◌∙◌, ◌∷◌, ◌≡◌, ◌≢◌, ◌≤◌, ◌⊎◌}
 pub use Rattle.ops.proofs.KeywordLemmas.{found-passes, same_word}
 pub use Rattle.ops.specs.Keywords.{predicates}
@@ -10,15 +10,20 @@ pub use Rattle.refusal.specs.Refusals.{Fails, Gives}
 pub use Rattle.refusal.specs.declared.refusal.Refusal.TheVariants.{NoMemory, Refused}
 pub use Rattle.rule_core.specs.declared.rule.Function.{Function}
 pub use Rattle.rule_core.specs.declared.rule.Function.TheVariants.{Abs, Log2, Negate}
-pub use Rattle.rule_terms.specs.Chains.{chain_of, next_is}
-pub use Rattle.rule_terms.specs.FormulaKeywords.{comparison_in, comparison_mark, predicate_in, predicate_node, predicate_word}
-pub use Rattle.rule_terms.specs.FormulaReaders.{alternatives_of, asks_one_use, compares_at, comparison_at, comparison_or_fault, deeper, encloses_at, formula_at, joins, mark_opening, member_at, members_of, more_alternatives, more_members, one_use_at, opens_behind, opens_formula, or_alternatives, outer_member_at, register_at, sign_of, tests_at, too_deep, turns_at, word_opening, word_sign}
+unfoldable pub use Rattle.rule_terms.specs.Chains.{chain_of}
+pub use Rattle.rule_terms.specs.Chains.{next_is}
+unfoldable pub use Rattle.rule_terms.specs.FormulaKeywords.{comparison_in, predicate_in}
+pub use Rattle.rule_terms.specs.FormulaKeywords.{comparison_mark, predicate_node, predicate_word}
+unfoldable pub use Rattle.rule_terms.specs.FormulaReaders.{compares_at, comparison_at, formula_at, member_at, one_use_at, opens_formula, outer_member_at, tests_at}
+pub use Rattle.rule_terms.specs.FormulaReaders.{alternatives_of, asks_one_use, comparison_or_fault, deeper, encloses_at, joins, mark_opening, members_of, more_alternatives, more_members, opens_behind, or_alternatives, register_at, sign_of, too_deep, turns_at, word_opening, word_sign}
 pub use Rattle.rule_terms.specs.Formulas.{Alternatives, Level, Member, Members, Outermost, SpellsFormula, SpellsWholeFormula, Standing, Within, both, compares, either, encloses, member, members, one_use, tests, turns}
 pub use Rattle.rule_terms.specs.Grammar.{EndsTerm, SpellsLeaf, SpellsTerm, SpellsWholeTerm, called, last_place, leaf, parenthesised, prefixed, tighter, width}
-pub use Rattle.rule_terms.specs.Keywords.{IsCalled, IsChoice, IsPrefix, choice_in, choice_meaning, level_of, loosest, meaning_in, name_in, operator_in, operator_mark, operators}
+unfoldable pub use Rattle.rule_terms.specs.Keywords.{choice_in, meaning_in, name_in, operator_in}
+pub use Rattle.rule_terms.specs.Keywords.{IsCalled, IsChoice, IsPrefix, choice_meaning, level_of, loosest, operator_mark, operators}
 pub use Rattle.rule_terms.specs.Laws.{TermsAreReadAsSpelled}
 pub use Rattle.rule_terms.specs.Nodes.{IsBehindOperands, NodesStandBehindOperands}
-pub use Rattle.rule_terms.specs.TermReaders.{add_unary, behind_at, inside_at, join, joined_or_end, mark_at, measured_at, of_level, opening_in, operand_at, operator_at, primary_at, register_in, shallow_in, start_at, term_at, whole_chain_at, word_at}
+unfoldable pub use Rattle.rule_terms.specs.TermReaders.{behind_at, mark_at, measured_at, opening_in, operator_at, primary_at, start_at, term_at}
+pub use Rattle.rule_terms.specs.TermReaders.{add_unary, inside_at, join, joined_or_end, of_level, operand_at, register_in, shallow_in, whole_chain_at, word_at}
 pub use Rattle.rule_terms.specs.declared.formula_word.Opening.{Opening}
 pub use Rattle.rule_terms.specs.declared.formula_word.Opening.TheVariants.{Compares, Encloses, Tests, Turns}
 pub use Rattle.rule_terms.specs.declared.formula_word.Predicate.{Predicate}
@@ -44,7 +49,7 @@ pub use Rattle.rule_tokens.specs.Tokens.{Line, Mark, Number, Register, Token, Wo
 pub use Rattle.rule_tokens.specs.declared.fault.RuleFaultKind.TheVariants.{Syntax}
 pub use Rattle.scan.proofs.Fronts.{and_left, and_right, which}
 pub use Rattle.scan.specs.Bytes.{are_digits, begins_with, is_digit}
-pub use Rattle.scan.specs.RuleTokens.{is_constant}
+unfoldable pub use Rattle.scan.specs.RuleTokens.{is_constant}
 pub use Rattle.std.proofs.lemmas.Bool.{eq-eqb, eqb-true, false≢true, ne_eqb}
 pub use Rattle.std.proofs.lemmas.List.Folds.{list_any-append}
 pub use Rattle.std.proofs.lemmas.Result.{err_from_is_err_and}

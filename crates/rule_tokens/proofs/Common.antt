@@ -1,17 +1,20 @@
--- The names that several proofs of this crate cite, passed on from one place.
+-- What the proofs of this crate cite of definitions, of other crates and of the libraries, passed on from one place.
 pub use Rattle.std.proofs.Common.{Bool, Err, List, None, Ok, Option, Result, Some, [], ap, append_assoc, arith, codes, cond, drop, eqb, false, find, inl, inr, leb, length, max, min, refl, subst, suc, sym, take, true, zero, ℕ, ⊎_elim, ◌&&◌, ◌++◌, ◌+◌, ◌-◌, ◌<◌, ◌==◌, ◌^◌, ◌∙◌, ◌∷◌, ◌≡◌, ◌≢◌, ◌≤◌, ◌⊎◌}
 pub use Rattle.ops.proofs.KeywordLemmas.{found-passes, same_word}
 pub use Rattle.rule_tokens.specs.Contexts.{at_start, behind_name, context_behind}
 pub use Rattle.rule_tokens.specs.Limits.{Limits}
-pub use Rattle.rule_tokens.specs.Numbers.{IsWrittenType, decimal_value, type_in}
-pub use Rattle.rule_tokens.specs.PartReaders.{fault, line_end, maybe_type, name_within, or_left_out, type_at, type_or_word}
+unfoldable pub use Rattle.rule_tokens.specs.Numbers.{type_in}
+pub use Rattle.rule_tokens.specs.Numbers.{IsWrittenType, decimal_value}
+unfoldable pub use Rattle.rule_tokens.specs.PartReaders.{maybe_type, name_within, type_at}
+pub use Rattle.rule_tokens.specs.PartReaders.{fault, line_end, or_left_out, type_or_word}
 pub use Rattle.rule_tokens.specs.Parts.{Is, Maybe, Nothing, Part, ◌⨾◌}
 pub use Rattle.rule_tokens.specs.RuleFaults.{RuleFault}
 pub use Rattle.rule_tokens.specs.SeenTokens.{seen, seen_token}
 pub use Rattle.rule_tokens.specs.Steps.{◌>>=◌}
 pub use Rattle.rule_tokens.specs.Tokens.{AreTokens, AtName, AtToken, Bad, IsNameToken, Line, Mark, Name, Place, Token, TokensFrom, Word, bad_name, bad_token, bytes_at, ends, is_called, name, place_behind, token, token_at, token_of, token_on}
 pub use Rattle.rule_tokens.specs.TypeTokens.{SpellsType}
-pub use Rattle.rule_tokens.specs.Versions.{version_in, version_number, versions}
+unfoldable pub use Rattle.rule_tokens.specs.Versions.{version_in}
+pub use Rattle.rule_tokens.specs.Versions.{version_number, versions}
 pub use Rattle.rule_tokens.specs.declared.context.Context.{Context}
 pub use Rattle.rule_tokens.specs.declared.fault.RuleFaultKind.TheVariants.{TooMany}
 pub use Rattle.rule_tokens.specs.declared.version.Version.{Version}

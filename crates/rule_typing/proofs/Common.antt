@@ -1,4 +1,4 @@
--- The names that several proofs of this crate cite, passed on from one place.
+-- What the proofs of this crate cite of definitions, of other crates and of the libraries, passed on from one place.
 pub use Rattle.std.proofs.Common.{AllPairs, Bool, Contains, IfNone, IfSome, IsTrue, List, None, Option, Some, [], add-one, add-zero, add_assoc, ap, arith, below_more, drop, false, flat_map, get_or, get_or-set_other, get_or-set_same, get_or-take, if◌then◌else◌, inl, inr, is_some, length, length-append, length-take, map, max, min, neg_ℤ, not, option_and_then, option_map, pos, refl, replicate, rules, slice_get, slice_index, slice_set, subst, suc, sum_by, sym, take, true, zero, zero-add, ℕ, ℤ, ◌*◌, ◌++◌, ◌+◌, ◌-◌, ◌<◌, ◌==◌, ◌^◌, ◌↔◌, ◌∙◌, ◌∷◌, ◌≡◌, ◌≢◌, ◌≤◌, ◌⊎◌}
 pub use Rattle.ops.specs.declared.conversion.Cast.TheVariants.{SExt, Trunc, ZExt}
 pub use Rattle.rule_core.proofs.Members.{Contains-flat_map, Contains-from_get, choice_opens, class_stands, constant_term, freezes, get-append_left, get-append_right, measured_class_stands, operand_class_stands, operand_stands, reads_undef, source_statement, target_statement, term_class_stands}

@@ -1,10 +1,11 @@
--- The names that several proofs of this crate cite, passed on from one place.
+-- What the proofs of this crate cite of definitions, of other crates and of the libraries, passed on from one place.
 pub use Rattle.std.proofs.Common.{Bool, Err, IsTrue, List, None, Ok, Option, Result, Some, [], ap, append_assoc, arith, codes, cond, drop, eqb, false, if◌then◌else◌, inl, inr, length, length-append, length-drop, map, nat_le, not, refl, subst, suc, sym, take, true, zero, ℕ, ⊎_elim, ◌++◌, ◌+◌, ◌-◌, ◌<◌, ◌||◌, ◌∙◌, ◌∷◌, ◌≡◌, ◌≢◌, ◌≤◌, ◌⊎◌}
 pub use Rattle.ops.proofs.FlagKeywordLemmas.{flag_in-is, flag_in-of, flags_are_icmp, taken_flags}
 pub use Rattle.ops.proofs.KeywordLemmas.{pred_in-is, pred_in-of, same_word, word_is}
 pub use Rattle.ops.specs.FlagKeywords.{AddsFlags, flag_in, flag_keyword, has_flag, with_flag}
 pub use Rattle.ops.specs.Flags.{flags_of, flags_of_cast, flags_of_icmp, icmp_flags, no_flags}
-pub use Rattle.ops.specs.Keywords.{opcode_keyword, pred_in, predicate_keyword}
+unfoldable pub use Rattle.ops.specs.Keywords.{pred_in}
+pub use Rattle.ops.specs.Keywords.{opcode_keyword, predicate_keyword}
 pub use Rattle.ops.specs.declared.comparison.Pred.{Pred}
 pub use Rattle.ops.specs.declared.comparison.Pred.TheVariants.{Eq}
 pub use Rattle.ops.specs.declared.conversion.Cast.{Cast}
@@ -25,12 +26,15 @@ pub use Rattle.rule_parse.proofs.Pieces.{IsOpcode, operation_in-is, operation_in
 pub use Rattle.rule_parse.proofs.Readings.{name_at-is, rule_at-shorter, rules_at-is}
 pub use Rattle.rule_parse.proofs.Spellings.{rules_at-of}
 pub use Rattle.rule_parse.proofs.Weight.{file_of_text}
-pub use Rattle.rule_parse.specs.CutTokens.{limited, limited_to, or_excess, room_behind}
+unfoldable pub use Rattle.rule_parse.specs.CutTokens.{limited_to}
+pub use Rattle.rule_parse.specs.CutTokens.{limited, or_excess, room_behind}
 pub use Rattle.rule_parse.specs.Grammar.{SpellsArgument, SpellsExpression, SpellsExpressions, SpellsFile, SpellsHalf, SpellsMoreExpressions, SpellsOp, SpellsOpcode, SpellsOperand, SpellsPair, SpellsPrecondition, SpellsRule, SpellsRules, SpellsStatement, SpellsStatements, SpellsTo, SpellsTruth, SpellsVersion, SpellsWitness}
-pub use Rattle.rule_parse.specs.Keywords.{argument_of, is_apart, is_known, is_of_second, is_truth_flag, opcode_token, operation_in, operation_word, source_word_in, token_with, truth_flag}
+unfoldable pub use Rattle.rule_parse.specs.Keywords.{argument_of, operation_in, source_word_in}
+pub use Rattle.rule_parse.specs.Keywords.{is_apart, is_known, is_of_second, is_truth_flag, opcode_token, operation_word, token_with, truth_flag}
 pub use Rattle.rule_parse.specs.Limits.{most_nodes}
 pub use Rattle.rule_parse.specs.NodeCounts.{IsCut, IsWithinLimit, counted_at_end}
-pub use Rattle.rule_parse.specs.RuleReaders.{all_rules, argument_at, arrow_at, behind_precondition, behind_witness, binary_at, compare_at, convert_at, copy_at, expression_at, expressions_at, flag_or_end, flags_at, freeze_at, is_truth_next, known_or_misplaced, more_expressions, name_at, name_text, next_flag, next_operation, op_at, operation_at, operation_or_other, other_at, pair_at, precondition_at, pred_at, rule_at, rules_at, rules_of, select_at, source_at, source_word, statement_at, statements_at, target_at, term_argument_at, to_at, truth_at, typed_at, unary_at, unexpected_line, version_at, version_number_at, witness_at}
+unfoldable pub use Rattle.rule_parse.specs.RuleReaders.{argument_at, arrow_at, binary_at, compare_at, convert_at, copy_at, expressions_at, flags_at, freeze_at, name_at, op_at, pair_at, precondition_at, pred_at, rule_at, rules_at, select_at, source_at, source_word, statement_at, statements_at, target_at, to_at, truth_at, typed_at, unary_at, version_at, version_number_at, witness_at}
+pub use Rattle.rule_parse.specs.RuleReaders.{all_rules, behind_precondition, behind_witness, expression_at, flag_or_end, is_truth_next, known_or_misplaced, more_expressions, name_text, next_flag, next_operation, operation_at, operation_or_other, other_at, rules_of, term_argument_at, unexpected_line}
 pub use Rattle.rule_parse.specs.Text.{IsFaultWithin}
 pub use Rattle.rule_parse.specs.declared.half.Half.{Half}
 pub use Rattle.rule_parse.specs.declared.half.Half.TheVariants.{Source, Target}
@@ -51,13 +55,17 @@ pub use Rattle.rule_terms.proofs.Meanings.{meaning_in-is, meaning_in-of, operato
 pub use Rattle.rule_terms.proofs.Readings.{operand_shorter, spells_some}
 pub use Rattle.rule_terms.proofs.Spellings.{term_at-is, term_at-of}
 pub use Rattle.rule_terms.proofs.Starts.{mark_at-is}
-pub use Rattle.rule_terms.specs.Chains.{chain_of, next_is}
+unfoldable pub use Rattle.rule_terms.specs.Chains.{chain_of}
+pub use Rattle.rule_terms.specs.Chains.{next_is}
 pub use Rattle.rule_terms.specs.FormulaKeywords.{comparison_in, comparison_mark, formula_words, predicate_in, predicate_node, predicate_word}
-pub use Rattle.rule_terms.specs.FormulaReaders.{alternatives_of, asks_one_use, compares_at, comparison_at, comparison_or_fault, deeper, encloses_at, formula_at, joins, member_at, members_of, more_alternatives, one_use_at, opens_behind, opens_formula, or_alternatives, outer_member_at, sign_of, tests_at, turns_at}
+unfoldable pub use Rattle.rule_terms.specs.FormulaReaders.{compares_at, comparison_at, formula_at, member_at, one_use_at, opens_formula, outer_member_at, tests_at}
+pub use Rattle.rule_terms.specs.FormulaReaders.{alternatives_of, asks_one_use, comparison_or_fault, deeper, encloses_at, joins, members_of, more_alternatives, opens_behind, or_alternatives, sign_of, turns_at}
 pub use Rattle.rule_terms.specs.Formulas.{Alternatives, Level, Member, Members, Outermost, SpellsFormula, SpellsWholeFormula, Standing, both, compares, either, encloses, member, members, tests, turns}
 pub use Rattle.rule_terms.specs.Grammar.{SpellsLeaf, SpellsTerm, SpellsWholeTerm, called, joined, last_place, leaf, parenthesised, prefixed, tighter, width}
-pub use Rattle.rule_terms.specs.Keywords.{IsCalled, IsChoice, IsPrefix, choice_in, level_of, loosest, meaning_in, name_in, operator_in, operator_mark}
-pub use Rattle.rule_terms.specs.TermReaders.{add_unary, behind_at, inside_at, join, joined_or_end, mark_at, measured_at, of_level, opening_in, operator_at, primary_at, register_in, shallow_in, start_at, term_at, whole_chain_at, word_at}
+unfoldable pub use Rattle.rule_terms.specs.Keywords.{choice_in, meaning_in, name_in}
+pub use Rattle.rule_terms.specs.Keywords.{IsCalled, IsChoice, IsPrefix, level_of, loosest, operator_in, operator_mark}
+unfoldable pub use Rattle.rule_terms.specs.TermReaders.{behind_at, mark_at, measured_at, opening_in, operator_at, primary_at, start_at, term_at}
+pub use Rattle.rule_terms.specs.TermReaders.{add_unary, inside_at, join, joined_or_end, of_level, register_in, shallow_in, whole_chain_at, word_at}
 pub use Rattle.rule_terms.specs.declared.formula_word.Opening.{Opening}
 pub use Rattle.rule_terms.specs.declared.formula_word.Opening.TheVariants.{Compares, Encloses, Tests, Turns}
 pub use Rattle.rule_terms.specs.declared.formula_word.Predicate.{Predicate}
@@ -78,8 +86,10 @@ pub use Rattle.rule_tokens.proofs.Types.{type_in-is, type_in-of}
 pub use Rattle.rule_tokens.proofs.Versions.{version_in-is}
 pub use Rattle.rule_tokens.specs.Contexts.{at_start, behind_name, context_behind, is_opcode}
 pub use Rattle.rule_tokens.specs.Limits.{AreWithin, Limits, rule_limits}
-pub use Rattle.rule_tokens.specs.Numbers.{IsWrittenType, literal_value, type_in}
-pub use Rattle.rule_tokens.specs.PartReaders.{Read, fault, left_out, line_end, maybe_type, misplaced_word, name_within, or_left_out, type_at, type_or_word, unexpected}
+unfoldable pub use Rattle.rule_tokens.specs.Numbers.{type_in}
+pub use Rattle.rule_tokens.specs.Numbers.{IsWrittenType, literal_value}
+unfoldable pub use Rattle.rule_tokens.specs.PartReaders.{maybe_type, name_within, type_at}
+pub use Rattle.rule_tokens.specs.PartReaders.{Read, fault, left_out, line_end, misplaced_word, or_left_out, type_or_word, unexpected}
 pub use Rattle.rule_tokens.specs.Parts.{Comma, Is, Maybe, Nothing, Part, ◌⨾◌}
 pub use Rattle.rule_tokens.specs.RuleFaults.{RuleFault}
 pub use Rattle.rule_tokens.specs.Steps.{◌>>=◌}
@@ -91,19 +101,23 @@ pub use Rattle.rule_tokens.specs.declared.fault.RuleFaultKind.{RuleFaultKind}
 pub use Rattle.rule_tokens.specs.declared.fault.RuleFaultKind.TheVariants.{BadByte, LeftOut, Syntax, TooMany}
 pub use Rattle.rule_tokens.specs.declared.version.Version.{Version}
 pub use Rattle.rule_tokens.specs.declared.version.Version.TheVariants.{One, Two}
-pub use Rattle.rule_viable_prefixes.specs.Fits.{Fits, FitsBehind, LineFits, SpellsWithoutLimits, line_behind}
+unfoldable pub use Rattle.rule_viable_prefixes.specs.Fits.{line_behind}
+pub use Rattle.rule_viable_prefixes.specs.Fits.{Fits, FitsBehind, LineFits, SpellsWithoutLimits}
 pub use Rattle.rule_viable_prefixes.specs.Laws.{DoesNotFit, IsAtEnd, IsAtToken, IsOneTooMany, RefusalsAreExact}
 pub use Rattle.rule_viable_prefixes.specs.Misfits.{AreFlagWords, Fitting, IsFlagWord, IsKindOf, IsLeftOut, IsNoun, NounFits, RepeatsFlag, of_instruction, of_intrinsic, version, word}
 pub use Rattle.rule_viable_prefixes.specs.Passed.{AllStayWithin, Joins, Negates, Role, StaysWithin, closed, ends_operand, mark_role, name_bytes, open_behind, open_with, role_of, statements_behind, used, without_negations, without_signs}
 pub use Rattle.rule_viable_prefixes.specs.WiderLimits.{TextsAreRefusedByLimitsAsTooMany, WiderLimitsChangeTooManyAlone}
 pub use Rattle.scan.proofs.Fronts.{which}
 pub use Rattle.scan.proofs.PlaceLemmas.{ends_or_not, feeds_append, feeds_between, run_feeds}
-pub use Rattle.scan.specs.Bytes.{begins_with, is_bad, is_blank, is_digit, is_letter, is_printable, is_space, is_word_byte}
+unfoldable pub use Rattle.scan.specs.Bytes.{is_bad, is_blank, is_digit, is_letter, is_printable, is_space, is_word_byte}
+pub use Rattle.scan.specs.Bytes.{begins_with}
 pub use Rattle.scan.specs.Gaps.{IsGap, comment, nothing, space}
 pub use Rattle.scan.specs.Laws.{OneTokenAtAPlace}
 pub use Rattle.scan.specs.Lines.{between, feeds}
-pub use Rattle.scan.specs.Names.{is_in_rest, rest_of_line}
-pub use Rattle.scan.specs.RuleTokens.{IsBadNext, IsGapBefore, IsLongestToken, IsNextRuleToken, ends_primary, in_operator_place, is_among, is_choice, is_constant, is_literal, is_mark, is_negative, is_placed_operator, is_register, is_remainder, is_rule_word, is_unsigned_operator, kind_of, line_at}
+unfoldable pub use Rattle.scan.specs.Names.{is_in_rest}
+pub use Rattle.scan.specs.Names.{rest_of_line}
+unfoldable pub use Rattle.scan.specs.RuleTokens.{ends_primary, is_choice, is_constant, is_literal, is_mark, is_negative, is_placed_operator, is_register, is_remainder, is_rule_word, is_unsigned_operator, kind_of}
+pub use Rattle.scan.specs.RuleTokens.{IsBadNext, IsGapBefore, IsLongestToken, IsNextRuleToken, in_operator_place, is_among, line_at}
 pub use Rattle.scan.specs.declared.rule_token.RuleKind.{RuleKind}
 pub use Rattle.scan.specs.declared.rule_token.RuleToken.{RuleToken}
 pub use Rattle.std.proofs.Math.Nat.{le_refl}

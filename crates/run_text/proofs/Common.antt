@@ -1,4 +1,4 @@
--- The names that several proofs of this crate cite, passed on from one place.
+-- What the proofs of this crate cite of definitions, of other crates and of the libraries, passed on from one place.
 pub use Rattle.std.proofs.Common.{Bool, Contains, IfSome, IsSome, IsSomeAnd, List, MatchOption, None, Ok, Option, Result, Some, [], ap, arith, below_more, codes, false, get_or, if◌then◌else◌, inl, inr, length, map, nat_le, nat_lt, not, option_map, refl, slice_get, slice_index, subst, suc, sym, take, true, zero, ℕ, ◌&&◌, ◌++◌, ◌+◌, ◌<◌, ◌==◌, ◌^◌, ◌||◌, ◌↔◌, ◌∙◌, ◌∷◌, ◌≡◌, ◌≢◌, ◌≤◌}
 pub use Rattle.ir_core.specs.Checks.{MeetsChecks, ModuleMeetsChecks}
 pub use Rattle.ir_core.specs.Refines.{AreArguments}

@@ -1,4 +1,4 @@
--- The names that several proofs of this crate cite, passed on from one place.
+-- What the proofs of this crate cite of definitions, of other crates and of the libraries, passed on from one place.
 pub use Rattle.std.proofs.Common.{Bool, Contains, IsTrue, List, Some, [], add-one, ap, arith, cond, drop, eqb, false, get_or, inl, inr, length, not, refl, slice_get, subst, suc, sym, take, true, zero, ℕ, ◌&&◌, ◌++◌, ◌+◌, ◌<◌, ◌==◌, ◌||◌, ◌↔◌, ◌∙◌, ◌∷◌, ◌≡◌, ◌≤◌}
 pub use Rattle.clauses.proofs.Derivations.{HintsRefute-cons, HintsRefute-move, HintsRefute-one, HintsRefute-only, NamesUnit-same}
 pub use Rattle.clauses.proofs.Held.{equal_literals, is_same-self, is_same-true, negation-negation}

@@ -1,17 +1,23 @@
--- The names that several proofs of this crate cite, passed on from one place.
+-- What the proofs of this crate cite of definitions, of other crates and of the libraries, passed on from one place.
 pub use Rattle.std.proofs.Common.{Bool, Err, List, None, Ok, Option, Some, [], add-one, ap, append_assoc, arith, codes, cond, drop, eqb, false, get_or, inl, inr, leb, length, ltb, map, max, not, refl, sub-one, subst, suc, sym, take, true, zero, ℕ, ⊎_elim, ◌&&◌, ◌*◌, ◌++◌, ◌+◌, ◌-◌, ◌<◌, ◌||◌, ◌∙◌, ◌∷◌, ◌≡◌, ◌≢◌, ◌≤◌, ◌⊎◌}
-pub use Rattle.scan.specs.Bytes.{begins_name, begins_with, begins_word, is_bad, is_blank, is_digit, is_letter, is_name_byte, is_printable, is_register_byte, is_run, is_run_behind, is_space, is_word_byte}
+unfoldable pub use Rattle.scan.specs.Bytes.{begins_name, begins_word, is_bad, is_blank, is_digit, is_letter, is_name_byte, is_printable, is_space}
+pub use Rattle.scan.specs.Bytes.{begins_with, is_register_byte, is_run, is_run_behind, is_word_byte}
 pub use Rattle.scan.specs.GapFronts.{behind_gap, in_gap}
 pub use Rattle.scan.specs.Gaps.{IsGap, IsInLine, IsLastGap, comment, space}
-pub use Rattle.scan.specs.IrTokens.{BeginsBadly, HoldsZero, IsBadToken, IsLongestFront, IsNextToken, is_behind, is_function, is_group, is_label, is_metadata, is_name, is_number, is_plain_name, is_word, spells}
-pub use Rattle.scan.specs.Kept.{HasNoGroup, IsBalanced, IsGroup, byte, group, is_plain, quoted}
+unfoldable pub use Rattle.scan.specs.IrTokens.{is_function, is_group, is_label, is_metadata, is_name, is_number, is_plain_name, is_word}
+pub use Rattle.scan.specs.IrTokens.{BeginsBadly, HoldsZero, IsBadToken, IsLongestFront, IsNextToken, is_behind, spells}
+unfoldable pub use Rattle.scan.specs.Kept.{is_plain}
+pub use Rattle.scan.specs.Kept.{HasNoGroup, IsBalanced, IsGroup, byte, group, quoted}
 pub use Rattle.scan.specs.Laws.{OneGroupAtAPlace, OneModuleTokenAtAPlace, OneTokenAtAPlace}
 pub use Rattle.scan.specs.Lines.{between, feeds, line_of}
 pub use Rattle.scan.specs.Longest.{IsLongest, IsLongestOf}
-pub use Rattle.scan.specs.Names.{is_in_rest, rest_of_line}
+unfoldable pub use Rattle.scan.specs.Names.{is_in_rest}
+pub use Rattle.scan.specs.Names.{rest_of_line}
 pub use Rattle.scan.specs.Places.{Place}
-pub use Rattle.scan.specs.Quoted.{hex_value, in_quotes, is_hex, is_quotable, is_quoted, unquoted}
-pub use Rattle.scan.specs.RuleTokens.{IsBadNext, IsNextRuleToken, arrows, begins_argument, heads, in_operator_place, is_among, is_choice, is_constant, is_literal, is_mark, is_negative, is_placed_operator, is_remainder, is_rule_word, is_unsigned_operator, kind_of}
+unfoldable pub use Rattle.scan.specs.Quoted.{is_hex, is_quotable, is_quoted, unquoted}
+pub use Rattle.scan.specs.Quoted.{hex_value, in_quotes}
+unfoldable pub use Rattle.scan.specs.RuleTokens.{is_choice, is_constant, is_literal, is_mark, is_negative, is_placed_operator, is_remainder, is_rule_word, is_unsigned_operator, kind_of}
+pub use Rattle.scan.specs.RuleTokens.{IsBadNext, IsNextRuleToken, arrows, begins_argument, heads, in_operator_place, is_among}
 pub use Rattle.scan.specs.declared.bad_byte.BadByte.{BadByte}
 pub use Rattle.scan.specs.declared.ir.token.Token.{Token}
 pub use Rattle.scan.specs.declared.ir.token.TokenKind.{TokenKind}

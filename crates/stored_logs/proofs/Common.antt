@@ -1,4 +1,4 @@
--- The names that several proofs of this crate cite, passed on from one place.
+-- What the proofs of this crate cite of definitions, of other crates and of the libraries, passed on from one place.
 pub use Rattle.std.proofs.Common.{All, Bool, Contains, IfSome, IsTrue, List, Option, Some, [], add-zero, ap, append_assoc, ap₂, arith, false, flat_map, get_or, inl, inr, length, map, refl, rules, slice_get, subst, suc, sym, take, true, zero, ℕ, ◌&&◌, ◌++◌, ◌+◌, ◌<◌, ◌↔◌, ◌∙◌, ◌∷◌, ◌≡◌, ◌≢◌}
 pub use Rattle.clauses.specs.ClauseSet.{IsRefutation}
 pub use Rattle.clauses.specs.declared.cnf.Cnf.{Cnf}

@@ -1,4 +1,4 @@
--- The names that several proofs of this crate cite, passed on from one place.
+-- What the proofs of this crate cite of definitions, of other crates and of the libraries, passed on from one place.
 pub use Rattle.std.proofs.Common.{All, Any, Bool, Contains, List, MatchBool, None, Option, Some, [], ap, append-nil, append_assoc, arith, false, get_or, inl, inr, length, map, option_and_then, refl, slice_get, subst, suc, sym, take, true, zero, ℕ, ◌*◌, ◌++◌, ◌+◌, ◌-◌, ◌<◌, ◌^◌, ◌↔◌, ◌∙◌, ◌∷◌, ◌≡◌, ◌≤◌, ◌⊎◌}
 pub use Rattle.bindings.specs.Facts.{AreFactsOf}
 pub use Rattle.bindings.specs.Match.{IsMatch}

@@ -1,4 +1,4 @@
--- The names that several proofs of this crate cite, passed on from one place.
+-- What the proofs of this crate cite of definitions, of other crates and of the libraries, passed on from one place.
 pub use Rattle.std.proofs.Common.{All, Bool, Contains, IsTrue, List, MatchBool, Some, ap, false, map, refl, slice_get, subst, suc, sym, true, zero, ℕ, ◌∙◌, ◌∷◌, ◌≡◌}
 pub use Rattle.bindings.specs.Matches.{IsMatchAmong}
 pub use Rattle.bindings.specs.Ready.{AreReady}

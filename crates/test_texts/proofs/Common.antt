@@ -1,4 +1,4 @@
--- The names that several proofs of this crate cite, passed on from one place.
+-- What the proofs of this crate cite of definitions, of other crates and of the libraries, passed on from one place.
 pub use Rattle.std.proofs.Common.{All, List, Some, [], arith, get_or, length, refl, slice_get, subst, suc, sym, zero, ℕ, ◌-◌, ◌<◌, ◌^◌, ◌∷◌, ◌≡◌, ◌≤◌}
 pub use Rattle.bindings.specs.Match.{IsMatch}
 pub use Rattle.bindings.specs.declared.binding.Binding.{Binding}

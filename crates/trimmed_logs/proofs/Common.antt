@@ -1,4 +1,4 @@
--- The names that several proofs of this crate cite, passed on from one place.
+-- What the proofs of this crate cite of definitions, of other crates and of the libraries, passed on from one place.
 pub use Rattle.std.proofs.Common.{All, Contains, List, Some, [], ap, arith, get_or, length, length-append, refl, slice_get, subst, sym, ℕ, ◌+◌, ◌∙◌, ◌∷◌, ◌≡◌, ◌≤◌}
 pub use Rattle.clauses.specs.ClauseSet.{clauses_of_steps}
 pub use Rattle.clauses.specs.declared.step.Step.{Step}

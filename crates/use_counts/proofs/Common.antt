@@ -1,4 +1,4 @@
--- The names that several proofs of this crate cite, passed on from one place.
+-- What the proofs of this crate cite of definitions, of other crates and of the libraries, passed on from one place.
 pub use Rattle.std.proofs.Common.{AllPairs, Contains, IsSome, List, None, Option, Some, [], ap, arith, cond, get_or, get_or-set_other, inl, inr, length, length-append, map, option_and_then, option_map, refl, replicate, rules, slice_get, slice_set, subst, suc, sym, take, zero, ℕ, ◌++◌, ◌+◌, ◌<◌, ◌∙◌, ◌∷◌, ◌≡◌, ◌≤◌, ◌⊎◌}
 pub use Rattle.ir_core.specs.Assigned.{IsBefore}
 pub use Rattle.ir_core.specs.Checks.{IsKnown}

@@ -1,4 +1,4 @@
--- The names that several proofs of this crate cite, passed on from one place.
+-- What the proofs of this crate cite of definitions, of other crates and of the libraries, passed on from one place.
 pub use Rattle.std.proofs.Common.{All, Any, Bool, Contains, Err, IfOk, IfSome, IsTrue, List, MatchBool, None, Ok, OnErr, Option, Result, Some, [], add-one, add-zero, ap, append_assoc, arith, drop, false, flat_map, get_or, if◌then◌else◌, inl, inr, length, length-append, map, nat_eq, not, refl, rules, slice_get, slice_index, subst, suc, sum_by, sym, take, true, zero, ℕ, ◌&&◌, ◌*◌, ◌++◌, ◌+◌, ◌-◌, ◌<◌, ◌^◌, ◌||◌, ◌↔◌, ◌∙◌, ◌∷◌, ◌≡◌, ◌≢◌, ◌≤◌, ◌⊎◌}
 pub use Rattle.aig.specs.Graph.{value_of}
 pub use Rattle.bindings.specs.Matches.{AreMatchesWhere, ComesBefore, IsAt, IsMatchAmong, IsMatchInAnyOrder, MatchesAmong}
@@ -62,7 +62,8 @@ pub use Rattle.std.proofs.lemmas.Slice.Eq.{bytes_eq-Decides}
 pub use Rattle.std.proofs.lemmas.Slice.Zip.{AllZip-long, all_zipped_more}
 pub use Rattle.std.specs.Bool.{Decides}
 pub use Rattle.std.specs.List.{enumerate_from, list_any, range_with_len, zip}
-pub use Rattle.std.specs.Map.{KeepsOthers, lookup}
+unfoldable pub use Rattle.std.specs.Map.{KeepsOthers}
+pub use Rattle.std.specs.Map.{lookup}
 pub use Rattle.std.specs.Option.{option_map, option_map_or}
 pub use Rattle.std.specs.Str.{bytes_eq}
 pub use Rattle.std.specs.Vec.Iter.{into_iter_items}

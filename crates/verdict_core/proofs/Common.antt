@@ -1,4 +1,4 @@
--- The names that several proofs of this crate cite, passed on from one place.
+-- What the proofs of this crate cite of definitions, of other crates and of the libraries, passed on from one place.
 pub use Rattle.std.proofs.Common.{Bor, List, None, Option, Some, [], ap, append_assoc, arith, codes, decimal, drop, flat_map, get_or, inl, inr, length, map, refl, rules, sym, take, ℕ, ◌++◌, ◌+◌, ◌<◌, ◌∙◌, ◌∷◌, ◌≡◌, ◌≤◌, ◌⊎◌}
 pub use Rattle.ops.specs.declared.value.Value.TheVariants.{Bits}
 pub use Rattle.std.proofs.iter.Yields.{fronts}
@@ -10,4 +10,5 @@ pub use Rattle.std.specs.List.{enumerate_from, join_with_byte, zip}
 pub use Rattle.std.specs.Slice.Iter.{iter_rest}
 pub use Rattle.std.specs.declared.iter.Zip.{Zip}
 pub use Rattle.std.specs.declared.slice.Iter.{Iter}
-pub use Rattle.verdict_core.specs.Texts.{choices_text, constants_text, inputs_text, line_text}
+unfoldable pub use Rattle.verdict_core.specs.Texts.{constants_text, inputs_text}
+pub use Rattle.verdict_core.specs.Texts.{choices_text, line_text}
