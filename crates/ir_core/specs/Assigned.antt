@@ -27,8 +27,8 @@ ReadsAreAssigned f = (b k i : ℕ) (r : Read) → IsRead f b k i r → ReadIsAss
 abbrev pub IsBefore : ℕ → ℕ → ℕ → ℕ → ℕ → ℕ → Type 0
 IsBefore b k i c l j = (b < c) ⊎ ((b ≡ c) × ((k < l) ⊎ ((k ≡ l) × (i < j))))
 
--- operand i at place k of block b reads the register where it is not assigned, and is the first operand of which this
--- is so
+-- operand i at place k of block b reads the register, which is not assigned where it is read, and every operand before
+-- it is assigned where that is read, if it is a register
 pub record IsFirstUnassigned (f : Function) (register : Register) (b k i : ℕ) : Type 0 where
   pub read : Read
   pub is_read : IsRead f b k i read

@@ -34,12 +34,12 @@ use Rattle.ir_core.specs.Blocks.{IsBlock}
 abbrev pub Registers : Type 0
 Registers = Register → Option Value
 
--- at the start the parameters hold the arguments, and no result is held
+-- at the start the parameters hold the arguments, and results hold nothing
 abbrev pub arguments : List Value → Registers
 arguments args (registers.Parameter k) = slice_get args k
 arguments args (registers.Result b k) = None
 
--- the registers once instruction k of block b holds a value
+-- the registers after the result of instruction k of block b was set to a value
 abbrev pub holding : Registers → ℕ → ℕ → Value → Registers
 holding held b k v (registers.Parameter p) = held (registers.Parameter p)
 holding held b k v (registers.Result c j) = if (c == b) && (j == k) then Some v else held (registers.Result c j)
@@ -157,7 +157,7 @@ module _ (MayChoose : ℕ → ℕ → Type 0) where
   Follows f b k [] t held end = EndGives held f t end
   Follows f b k (i ∷ insts) t held end = (e : Effect) × OpGives held i.width i.op e × GoesOn (λ v. Follows f b (suc k) insts t (holding held b k v) end) e end
 
-  -- Block b is entered, and its phis up to the k-th have taken their values: the phis from there on take theirs, all
+  -- Block b is entered, and its phis before place k have taken their values: the phis from there on take theirs, all
   -- from the registers as they were at the entry (`old`), and behind them the instructions follow.
   abbrev pub Enters : Function → Option ℕ → Registers → ℕ → ℕ → List Inst → Terminator → Registers → Ending → Type 0
   Enters f from old b k [] t held end = Follows f b k [] t held end

@@ -52,7 +52,8 @@ OutcomesHaveHistories = (f : Function) (args : List Value) (n : ℕ) (o : Outcom
 abbrev pub NumbersFit : Function → Type 0
 NumbersFit f = (b k i : ℕ) (r : Read) (n : Number) → IsRead f b k i r → r.operand ≡ operands.Number n → n.number < 2 ^ n.width
 
--- if so, registers hold values of their widths
+-- if so, and if the arguments are of their widths, registers of a function that is formed hold values of their
+-- widths
 abbrev pub HeldHaveWidths : Type 0
 HeldHaveWidths = (f : Function) (args : List Value) (m : Moment) (before : List Moment)
     → IsFormed f → NumbersFit f → AreArguments f.parameters args → IsHistory f args (m ∷ before)

@@ -29,7 +29,8 @@ CanonicalFunctionsMean = (earlier : List RawFunction) (raw : RawFunction) (f : F
 abbrev pub CanonicalModulesRead : Type 0
 CanonicalModulesRead = (raw : RawModule) (m : Module) → WritesModule raw m → ModuleMeetsChecks m → AreEntriesOf raw.entries m.entries
 
--- The printed text of a module that meets its checks, and whose parts have their forms, is read as the module.
+-- The printed text of a module that meets its checks, and whose parts have their forms and its functions few enough
+-- things, is read as the module.
 abbrev pub PrintedTextsRead : Type 0
 PrintedTextsRead = (m : Module) → ModuleHasForms m → ModuleMeetsChecks m → HasFewThings m → IsModuleText (text_of m) m
 

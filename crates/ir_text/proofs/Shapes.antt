@@ -152,7 +152,7 @@ longer_by bytes more (lone b e is) front =
 longer_by bytes more (quoted inner behind e all on) front = goes_on_quoted inner behind bytes more e all on front
 longer_by bytes more (sigiled b inner e sigil all) front = goes_on_sigiled b inner bytes more e sigil all front
 
--- no longer token begins with a mark that ends by itself
+-- no token of more bytes begins with a mark that ends by itself
 pub lone_ends : (b c : ℕ) (more : List ℕ) → is_lone b ≡ true → IsShaped (b ∷ c ∷ more) → ⊥
 lone_ends b c more is (run d others e lead all single) = false≢true (sym (lone_no_lead b is) ∙ ap is_lead (head_is b d _ _ e) ∙ lead)
 lone_ends b c more is (lone d e other) = absurd (cc)

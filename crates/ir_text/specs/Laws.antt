@@ -27,6 +27,7 @@ LexemesAreTokens =
 abbrev pub HasFewThings : Module → Type 0
 HasFewThings m = (k : ℕ) (f : Function) → slice_get m.entries k ≡ Some (entries.Function f) → length (names_of f) < 2 ^ 64
 
--- the printed text of a module whose parts have their forms spells the module, written canonically
+-- the printed text of a module spells the module, written canonically, if its parts have their forms, it meets its
+-- checks, and its functions have few enough things
 abbrev pub PrintedTextsSpell : Type 0
 PrintedTextsSpell = (m : Module) → ModuleHasForms m → ModuleMeetsChecks m → HasFewThings m → (raw : RawModule) × IsRaw (text_of m) raw × WritesModule raw m

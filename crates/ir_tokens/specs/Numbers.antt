@@ -17,7 +17,7 @@ unfoldable pub number_of : List ℕ → ℤ
 number_of [] = pos 0
 number_of (b ∷ digits) = if b == 45 then neg_ℤ (pos (decimal_value digits)) else pos (decimal_value (b ∷ digits))
 
--- a number of iN may be written without a sign or in two's complement: from -2^(N-1) to 2^N - 1
+-- a number of iN may be written unsigned or in two's complement: from -2^(N-1) to 2^N - 1
 unfoldable pub is_in_range : ℕ → ℤ → Bool
 is_in_range N z = int_le (neg_ℤ (pos (2 ^ (N - 1)))) z && int_lt z (pos (2 ^ N))
 

@@ -13,7 +13,7 @@ pub record StandsIn (text : List ℕ) (reader : TokenReader) : Type 0 where
   pub cursor : reader.cursor.text ≡ text
   pub within : reader.cursor.at ≤ length text
 
--- the reader has read these tokens, and any tokens of the rest of the text continue them
+-- the reader has read these tokens: with any tokens of the rest of the text behind them, they are tokens of the text
 pub record HasPassed (text : List ℕ) (front : List Placed) (reader : TokenReader) : Type 0 where
   pub stands : StandsIn text reader
   pub leads : (tokens : List Placed) → TokensFrom text reader.place reader.cursor.at tokens → AreTokens text (front ++ tokens)

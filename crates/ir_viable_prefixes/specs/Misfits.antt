@@ -67,8 +67,9 @@ abbrev pub IsRepeated : List Placed → Token → Type 0
 IsRepeated front token = (word : List ℕ) × (token ≡ Word word) × RepeatsFlag front word × (TypeFits front ⊎ PredicateFits front)
 
 -- The token is a syntax error and nothing else: it is no bad byte; no other token of its sort fits, unless it repeats a
--- flag; if it is the `#` of a debug record, a terminator fits only where a group of attributes does; if it is a number
--- or a function, none fits; and the text may not end there, unless nothing is read behind the token.
+-- flag; if it is the `#` of a debug record, a terminator fits only where a group of attributes does; no number fits in
+-- place of a number, and no function in place of a function; and the text may not end there, unless nothing is read
+-- behind the token.
 pub record IsNothingElse (front : List Placed) (token : Token) : Type 0 where
   pub no_bad_byte : ¬ (token ≡ Bad)
   pub another : AnotherFits front token → IsRepeated front token

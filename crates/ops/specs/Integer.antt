@@ -1,4 +1,4 @@
--- Numbers of iN without a sign and in two's complement (LLVM Language Reference, "Integer Type").
+-- Numbers of iN, unsigned and in two's complement (LLVM Language Reference, "Integer Type").
 use Rattle.std.specs.Prelude.{ℕ, ◌-◌, ◌^◌, Bool, if◌then◌else◌, ◌&&◌, nat_lt, nat_le}
 use Rattle.std.specs.Prelude.{ℤ, pos, neg_ℤ, ◌-ℤ◌, int_le, int_lt, unsigned_abs}
 use Rattle.std.specs.Int.{int_rem_euclid}

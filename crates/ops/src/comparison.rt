@@ -9,7 +9,7 @@ use crate::value::Value;
 use crate::width::Width;
 use crate::word::Word;
 
-/// The predicates of `icmp`: `U` compares numbers without a sign, `S` in two's complement.
+/// The predicates of `icmp`: `U` compares unsigned numbers, `S` numbers in two's complement.
 #[derive(Clone, Copy, PartialEq, Eq, Debug)]
 pub enum Pred {
     Eq,

@@ -1,4 +1,4 @@
-//! Numbers of an integer type, without a sign and in two's complement. (LLVM Language Reference, "Integer Type".)
+//! Numbers of an integer type, unsigned and in two's complement. (LLVM Language Reference, "Integer Type".)
 
 ghost use Rattle.std.specs.Prelude.{◌≡◌, ◌<◌, ◌≤ℤ◌, ◌<ℤ◌, ◌-◌, ◌^◌, pos, neg_ℤ};
 ghost use Rattle.ops.specs.Integer.{signed, fits_signed, fits_unsigned, minus_one, negative, residue};

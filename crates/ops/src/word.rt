@@ -7,7 +7,7 @@ use std::marker::Model;
 
 /// A number of an integer type `iN`: from 0 to 2^N - 1. Contracts see its width and the number.
 ///
-/// A type has no sign; where an instruction is signed, it reads the number in two's complement.
+/// A type has no sign; a signed instruction reads the number in two's complement.
 #[derive(Clone, Copy, PartialEq, Eq, Debug)]
 pub struct Word {
     width: Width,

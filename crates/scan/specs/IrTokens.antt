@@ -81,7 +81,7 @@ spells Mark text rest = is_among marks text
 
 -- ---- what a text begins with
 
--- the first n bytes are a token of the kind, and no longer prefix is a token
+-- the first n bytes are a token of the kind, and no prefix of more bytes is a token
 pub record IsLongestToken (text : List ℕ) (kind : TokenKind) (n : ℕ) : Type 0 where
   pub within : n ≤ length text
   pub of_kind : spells kind (take n text) (drop n text) ≡ true

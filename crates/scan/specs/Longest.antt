@@ -2,7 +2,7 @@
 use Rattle.std.specs.Prelude.{◌≡◌, ◌≢◌, ℕ, ◌≤◌, ◌<◌, Bool, true, List, length, take, drop, Option, Some, None}
 use Rattle.scan.specs.declared.rule_token.RuleKind.{RuleKind}
 
--- The first n bytes pass, with the rest behind them, and no longer prefix does; n is 0 where no prefix passes.
+-- The first n bytes pass, with the rest behind them, and no prefix of more bytes does; n is 0 where no prefix passes.
 pub record IsLongest (passes : List ℕ → List ℕ → Bool) (text : List ℕ) (n : ℕ) : Type 0 where
   pub within : n ≤ length text
   pub found : 0 < n → passes (take n text) (drop n text) ≡ true

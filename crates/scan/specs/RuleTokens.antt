@@ -79,7 +79,7 @@ kind_of operator bytes rest =
     else (if is_rule_word bytes then Some Word
     else (if is_literal operator bytes then Some Number else None)))))
 
--- the first n bytes are a token of the kind, and no longer prefix is a token
+-- the first n bytes are a token of the kind, and no prefix of more bytes is a token
 pub record IsLongestToken (operator : Bool) (text : List ℕ) (kind : RuleKind) (n : ℕ) : Type 0 where
   pub within : n ≤ length text
   pub of_kind : kind_of operator (take n text) (drop n text) ≡ Some kind

@@ -18,8 +18,8 @@ abbrev pub ReadsAllow : Registers → Registers → List Read → Type 0
 ReadsAllow held held' reads = (i : ℕ) (r : Read) (register : Register) (v' : Value)
     → slice_get reads i ≡ Some r → r.operand ≡ operands.Register register → held' register ≡ Some v' → (v : Value) × (held register ≡ Some v) × AllowsValue v v'
 
--- the one ending of a pass through a block allows the other; if the passes go on, what registers hold then is related
--- as R says
+-- one ending of a pass through a block allows another: undefined behaviour allows every ending, a return what its value
+-- allows, and a pass that goes on one that goes on at the same block, with registers related by R
 abbrev pub AllowsEnding : (Registers → Registers → Type 0) → Ending → Ending → Type 0
 AllowsEnding R Undefines end' = Unit {0}
 AllowsEnding R (Returns v) (Returns v') = AllowsValue v v'

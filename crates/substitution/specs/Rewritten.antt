@@ -50,8 +50,8 @@ abbrev pub RunsOn : (Value → Type 0) → Effect → Option Registers → Type 
 RunsOn next effects.Undefined after = after ≡ None
 RunsOn next (effects.Gives v) after = next v
 
--- these instructions, at place k of block b and behind, may be executed in order from the first registers to these, or
--- to undefined behaviour (None)
+-- executing these instructions in order, from place k of block b on, may lead from the registers `held` to the
+-- registers `after`, or to undefined behaviour (None)
 abbrev pub RunsThrough : ℕ → ℕ → List Inst → Registers → Option Registers → Type 0
 RunsThrough b k [] held after = after ≡ Some held
 RunsThrough b k (i ∷ insts) held after = (e : Effect) × OpGives AnyNumber held i.width i.op e × RunsOn (λ v. RunsThrough b (suc k) insts (holding held b k v) after) e after
