@@ -68,6 +68,6 @@ pub use Rattle.strategy_core.specs.Countable.{ModuleIsCountable}
 pub use Rattle.strategy_core.specs.Laws.{ModuleNumbersFit}
 pub use Rattle.verdict.specs.Findings.{IsReadRule}
 pub use Rattle.verdict.specs.Rule.{Rule}
-pub use Rattle.verdict.specs.Stored.{IsUnrefutedIn}
+pub use Rattle.asked_verdicts.specs.Stored.{IsUnrefutedIn}
 pub use Rattle.verdict.specs.Table.{table_text}
-pub use Rattle.verdict.specs.declared.stored.StoredLogs.{StoredLogs}
+pub use Rattle.asked_verdicts.specs.declared.stored.StoredLogs.{StoredLogs}

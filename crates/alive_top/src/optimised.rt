@@ -6,7 +6,7 @@ ghost use Rattle.ir_reader.specs.Text.{most_bytes};
 ghost use Rattle.ir_reader.specs.Faults.{IsFault, IsModuleText};
 ghost use Rattle.refusal.specs.Refusals.{IfRefused};
 ghost use Rattle.strategy.specs.Ready.{AreReady};
-ghost use Rattle.verdict.specs.Stored.{IsUnrefutedIn};
+ghost use Rattle.asked_verdicts.specs.Stored.{IsUnrefutedIn};
 ghost use Rattle.run_text.specs.Runs.{IsReadAs};
 ghost use Rattle.alive_top.specs.Optimised.{IsReady, Prints};
 

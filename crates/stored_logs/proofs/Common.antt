@@ -38,9 +38,9 @@ pub use Rattle.verdict.specs.Findings.{Decided, Finding, IsAdmitted, IsFinding, 
 pub use Rattle.verdict.specs.Honest.{IsHonest}
 pub use Rattle.verdict.specs.Limits.{most_typings}
 pub use Rattle.verdict.specs.Proved.{IsLogOf, IsUnrefutedBy}
-pub use Rattle.verdict.specs.Stored.{IsUnrefutedIn, log_of}
+pub use Rattle.asked_verdicts.specs.Stored.{IsUnrefutedIn, log_of}
 pub use Rattle.verdict.specs.Table.{IsHonestRow, IsHonestTable, row_text, table_text}
-pub use Rattle.verdict.specs.declared.stored.StoredLogs.{StoredLogs}
+pub use Rattle.asked_verdicts.specs.declared.stored.StoredLogs.{StoredLogs}
 pub use Rattle.verdict_core.specs.Texts.{verdict_text}
 pub use Rattle.verdict_core.specs.declared.verdicts.Row.{Row}
 pub use Rattle.verdict_core.specs.declared.verdicts.Verdict.{Verdict}

@@ -6,9 +6,9 @@ use Rattle.proof_reader.specs.declared.proof.RuleProof.{RuleProof}
 use Rattle.proof_reader.specs.Faults.{IsTextOfGood}
 use Rattle.proof_reader.specs.Names.{HasNameAt}
 use Rattle.strategy_core.specs.Asked.{Pair}
-use Rattle.verdict.specs.declared.stored.StoredLogs.{StoredLogs}
+use Rattle.asked_verdicts.specs.declared.stored.StoredLogs.{StoredLogs}
 use Rattle.verdict.specs.Proved.{IsUnrefutedBy}
-use Rattle.verdict.specs.Stored.{log_of}
+use Rattle.asked_verdicts.specs.Stored.{log_of}
 use Rattle.verdict_core.specs.declared.verdicts.Row.{Row}
 
 -- the pair that a proof is of

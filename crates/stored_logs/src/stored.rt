@@ -7,10 +7,10 @@ ghost use Rattle.rule_typing.specs.Classes.{IsClassified};
 ghost use Rattle.proof_reader.specs.Faults.{IsFault};
 ghost use Rattle.stored_logs.specs.Stored.{AreOfPairsOnce, AreStored, IsLogStored};
 
+use asked_verdicts::StoredLogs;
 use proof_reader::{LogError, RuleProof, read_logs};
 use rule_core::Rule;
 use std::alloc::{AllocError, Global};
-use verdict::StoredLogs;
 
 /// Reads the text of proofs of these rules, and stores the log of each for its rule and typing.
 pub fn read_stored(alloc: Global, rules: &[Rule], bytes: &[u8]) -> Result<StoredLogs, LogError>

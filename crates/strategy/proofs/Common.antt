@@ -82,15 +82,15 @@ pub use Rattle.substitution.proofs.Passing.{names_back, names_on}
 pub use Rattle.substitution.proofs.Placing.{IsMoved, is_moved, length-block}
 pub use Rattle.substitution.specs.Rewritten.{moved_place, rewritten_blocks, rewritten_function}
 pub use Rattle.substitution.specs.declared.rewrite.Rewrite.{Rewrite}
-pub use Rattle.verdict.proofs.Growing.{admitted_stays, all_turned_down_stay, any_admitted_stays}
-pub use Rattle.verdict.proofs.Parts.{IsPast, asks_again, asks_first, asks_these, nothing_past, past_all, past_block, past_first, past_place}
-pub use Rattle.verdict.proofs.Sequence.{asks_both, asks_nothing, row_stays, still_verdicts}
-pub use Rattle.verdict.specs.Asks.{AreVerdictsOn, Asks, AsksAll, AsksUpTo, IsAnywhere}
+pub use Rattle.asked_verdicts.proofs.Growing.{admitted_stays, all_turned_down_stay, any_admitted_stays}
+pub use Rattle.asked_verdicts.proofs.Parts.{IsPast, asks_again, asks_first, asks_these, nothing_past, past_all, past_block, past_first, past_place}
+pub use Rattle.asked_verdicts.proofs.Sequence.{asks_both, asks_nothing, row_stays, still_verdicts}
+pub use Rattle.asked_verdicts.specs.Asks.{AreVerdictsOn, Asks, AsksAll, AsksUpTo, IsAnywhere}
 pub use Rattle.verdict.specs.Honest.{IsHonest}
-pub use Rattle.verdict.specs.Parts.{AsksToPlace}
-pub use Rattle.verdict.specs.Stored.{IsUnrefutedIn}
+pub use Rattle.asked_verdicts.specs.Parts.{AsksToPlace}
+pub use Rattle.asked_verdicts.specs.Stored.{IsUnrefutedIn}
 pub use Rattle.verdict.specs.Table.{IsHonestRow, IsHonestTable}
-pub use Rattle.verdict.specs.declared.stored.StoredLogs.{StoredLogs}
-pub use Rattle.verdict.specs.declared.verdicts.Verdicts.{Verdicts}
+pub use Rattle.asked_verdicts.specs.declared.stored.StoredLogs.{StoredLogs}
+pub use Rattle.asked_verdicts.specs.declared.verdicts.Verdicts.{Verdicts}
 pub use Rattle.verdict_core.specs.declared.verdicts.Row.{Row}
 pub use Rattle.verdict_core.specs.declared.verdicts.Verdict.{Verdict}

@@ -3,8 +3,8 @@ use Rattle.std.specs.Prelude.{ℕ, ◌≤◌}
 use Rattle.bindings.specs.Ready.{AreReady}
 use Rattle.rule_matches.specs.Roots.{AreByRoot}
 use Rattle.rule_matches.specs.declared.matches.Rules.{Rules}
-use Rattle.verdict.specs.declared.verdicts.Verdicts.{Verdicts}
-use Rattle.verdict.specs.Asks.{AreVerdicts}
+use Rattle.asked_verdicts.specs.declared.verdicts.Verdicts.{Verdicts}
+use Rattle.asked_verdicts.specs.Asks.{AreVerdicts}
 use Rattle.verdict.specs.Found.{most_conflicts}
 
 -- the verdicts of matches of these rules may be asked for, within this limit on learned clauses: the rules are read

@@ -6,11 +6,11 @@ use Rattle.ir_core.specs.Checks.{MeetsChecks}
 use Rattle.rule_core.specs.declared.rule.Rule.{Rule}
 use Rattle.ir_meaning.specs.HistoryLaws.{NumbersFit}
 use Rattle.strategy.specs.declared.module.Counts.{Counts}
-use Rattle.verdict.specs.declared.verdicts.Verdicts.{Verdicts}
+use Rattle.asked_verdicts.specs.declared.verdicts.Verdicts.{Verdicts}
 use Rattle.strategy_core.specs.Asked.{Pair}
 use Rattle.strategy_core.specs.Countable.{IsCountable}
 use Rattle.strategy_core.specs.PlainStrategy.{AreOptimised}
-use Rattle.verdict.specs.Asks.{Asks}
+use Rattle.asked_verdicts.specs.Asks.{Asks}
 
 -- a function among the entries passes its checks, its literals are numbers of their widths, and its sizes fit 32 bits
 abbrev pub EntryIsReady : ℕ → Entry → Type 0

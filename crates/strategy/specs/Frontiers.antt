@@ -17,10 +17,10 @@ use Rattle.draft_steps.specs.DraftWorklists.{IsWorklistOf, members_of}
 use Rattle.places.specs.Sets.{Rows, Has}
 use Rattle.draft.specs.Whole.{IsSettled}
 use Rattle.draft_steps.specs.MatchLaws.{AreSourcesWithin, placed_match}
-use Rattle.verdict.specs.declared.verdicts.Verdicts.{Verdicts}
+use Rattle.asked_verdicts.specs.declared.verdicts.Verdicts.{Verdicts}
 use Rattle.strategy_core.specs.Asked.{IsTurnedDown}
-use Rattle.verdict.specs.Asks.{AsksAll, AsksUpTo, IsAnywhere}
-use Rattle.verdict.specs.Parts.{AsksToPlace}
+use Rattle.asked_verdicts.specs.Asks.{AsksAll, AsksUpTo, IsAnywhere}
+use Rattle.asked_verdicts.specs.Parts.{AsksToPlace}
 use Rattle.strategy.specs.declared.frontier.Frontier.{Frontier}
 
 -- all matches at an instruction of the arena are turned down: the table has their verdicts, and none is `Admitted`

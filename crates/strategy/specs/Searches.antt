@@ -3,9 +3,9 @@ use Rattle.std.specs.Prelude.{◌≡◌, ℕ, Bool, true, false, List}
 use Rattle.ir_core.specs.declared.function.Function.{Function}
 use Rattle.rule_core.specs.declared.rule.Rule.{Rule}
 use Rattle.needed.specs.Cleaned.{IsCleaned}
-use Rattle.verdict.specs.declared.verdicts.Verdicts.{Verdicts}
+use Rattle.asked_verdicts.specs.declared.verdicts.Verdicts.{Verdicts}
 use Rattle.strategy_core.specs.Asked.{Pair}
-use Rattle.verdict.specs.Asks.{Asks}
+use Rattle.asked_verdicts.specs.Asks.{Asks}
 use Rattle.strategy_core.specs.PlainStrategy.{IsStep, IsLastSearch, IsOptimised}
 
 -- Either a step is made; or no match is admitted, the function stays, and this was its last search, whatever number of

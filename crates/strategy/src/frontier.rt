@@ -15,13 +15,14 @@ ghost use Rattle.draft_steps.specs.DraftWorklists.{IsWorklistOf, members_of};
 ghost use Rattle.readers.specs.Readers.{IsPlaceIn};
 ghost use Rattle.draft.specs.Whole.{IsSettled};
 ghost use Rattle.draft_steps.specs.MatchLaws.{AreSourcesWithin, placed_match};
-ghost use Rattle.verdict.specs.Asks.{AsksAll, IsAnywhere};
+ghost use Rattle.asked_verdicts.specs.Asks.{AsksAll, IsAnywhere};
 ghost use Rattle.strategy_core.specs.Countable.{IsCountable};
 ghost use Rattle.strategy.specs.Asking.{MayAsk};
 ghost use Rattle.strategy.specs.Frontiers.{AreTurnedDownBut, AsksAt, IsFrontier, IsSteppedAt, LooksAt, Nowhere, PlaceOf, SearchesTo};
 ghost use Rattle.strategy.specs.Searches.{OptimisesCleaned, OptimisesFunction, StepsOrEnds};
 
 use crate::steps::{Bounds, Turns, clean_checked};
+use asked_verdicts::{Verdicts, any_admitted, first_admitted};
 use bindings::Match;
 use draft::Draft;
 use draft_steps::{DraftWorklist, matches_of_the_arena, matches_of_the_untouched, orders_are_kept};
@@ -32,7 +33,6 @@ use rewriter::rewritten_functions_meet_checks;
 use rule_core::Rule;
 use rule_matches::{Rules, matches_in_any_order};
 use std::alloc::{AllocError, Global};
-use verdict::{Verdicts, any_admitted, first_admitted};
 
 /// A function while it is rewritten, and the worklist.
 #[derive(Drop)]

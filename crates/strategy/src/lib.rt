@@ -9,5 +9,5 @@ mod frontier;
 mod module;
 mod steps;
 
+pub use asked_verdicts::StoredLogs;
 pub use module::optimise;
-pub use verdict::StoredLogs;

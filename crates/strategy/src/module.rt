@@ -7,7 +7,7 @@ ghost use Rattle.rule_core.specs.Checks.{IsRule};
 ghost use Rattle.rule_typing.specs.Classes.{IsClassified};
 ghost use Rattle.rule_typing.specs.Faults.{HasNoFault};
 ghost use Rattle.verdict.specs.Found.{most_conflicts};
-ghost use Rattle.verdict.specs.Stored.{IsUnrefutedIn};
+ghost use Rattle.asked_verdicts.specs.Stored.{IsUnrefutedIn};
 ghost use Rattle.verdict.specs.Table.{IsHonestTable};
 ghost use Rattle.strategy_core.specs.Countable.{ModuleIsCountable};
 ghost use Rattle.strategy_core.specs.Decided.{MatchesAreDecided};
@@ -20,13 +20,13 @@ ghost use Rattle.rule_matches.specs.Roots.{AreByRoot};
 
 use crate::frontier::optimise_function;
 use crate::steps::{Bounds, Turns};
+use asked_verdicts::{StoredLogs, Verdicts};
 use ir_core::{Entry, Function, Module, copy_function};
 use lists::List;
 use rule_core::Rule;
 use rule_matches::{Rules, RulesByRoot};
 use std::alloc::{AllocError, Global};
 use strategy_core::{Done, every_match_left_is_decided, every_optimised_module_refines_the_old};
-use verdict::{StoredLogs, Verdicts};
 
 /// What the plain strategy gives for a module. Each function's dead code is eliminated; then it is rewritten at its
 /// first admitted match and cleaned, again and again, until no such match is left or its steps are spent. A verdict is

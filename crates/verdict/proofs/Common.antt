@@ -1,9 +1,6 @@
 -- What the proofs of this crate cite of definitions, of other crates and of the libraries, passed on from one place.
-pub use Rattle.std.proofs.Common.{All, Any, Bool, Contains, Err, IfOk, IfSome, IsTrue, List, MatchBool, None, Ok, OnErr, Option, Result, Some, [], add-one, add-zero, ap, append_assoc, arith, drop, false, flat_map, get_or, if◌then◌else◌, inl, inr, length, length-append, map, nat_eq, not, refl, rules, slice_get, slice_index, subst, suc, sum_by, sym, take, true, zero, ℕ, ◌&&◌, ◌*◌, ◌++◌, ◌+◌, ◌-◌, ◌<◌, ◌^◌, ◌||◌, ◌↔◌, ◌∙◌, ◌∷◌, ◌≡◌, ◌≢◌, ◌≤◌, ◌⊎◌}
+pub use Rattle.std.proofs.Common.{All, Bool, Contains, Err, IfOk, IsTrue, List, None, Ok, Option, Result, Some, [], add-one, add-zero, ap, append_assoc, arith, drop, false, flat_map, get_or, inl, inr, length, map, refl, rules, slice_get, slice_index, subst, suc, sum_by, sym, take, true, zero, ℕ, ◌&&◌, ◌*◌, ◌++◌, ◌+◌, ◌-◌, ◌<◌, ◌^◌, ◌↔◌, ◌∙◌, ◌∷◌, ◌≡◌, ◌≤◌}
 pub use Rattle.aig.specs.Graph.{value_of}
-pub use Rattle.bindings.specs.Matches.{AreMatchesWhere, ComesBefore, IsAt, IsMatchAmong, IsMatchInAnyOrder, MatchesAmong}
-pub use Rattle.bindings.specs.Ready.{AreReady}
-pub use Rattle.bindings.specs.declared.rule_match.Match.{Match}
 pub use Rattle.blast_rule.specs.Gates.{most_gates, root_width}
 pub use Rattle.blast_rule.specs.Laws.{RulesWithoutCounterexampleReadAreValid}
 pub use Rattle.blast_rule.specs.Parts.{Refutes, number_held}
@@ -20,11 +17,6 @@ pub use Rattle.clauses.specs.Literal.{Meets, assignment_of}
 pub use Rattle.clauses.specs.Settings.{StandsFor, input_values}
 pub use Rattle.clauses.specs.declared.cnf.Cnf.{Cnf}
 pub use Rattle.clauses.specs.declared.step.Step.{Step}
-pub use Rattle.indexmap.specs.IndexSet.{insert_key}
-pub use Rattle.ir_core.specs.Checks.{IsInst}
-pub use Rattle.ir_core.specs.Reads.{end_of}
-pub use Rattle.ir_core.specs.declared.function.Function.{Function}
-pub use Rattle.ir_meaning.proofs.Pieces.{contains_at, place_in, some_at}
 pub use Rattle.ops.specs.Number.{Number}
 pub use Rattle.ops.specs.Value.{AllowsEffect}
 pub use Rattle.ops.specs.declared.value.Effect.{Effect}
@@ -40,48 +32,30 @@ pub use Rattle.rule_core.specs.declared.example.Example.{Example}
 pub use Rattle.rule_core.specs.declared.rule.Choice.{Choice}
 pub use Rattle.rule_core.specs.declared.rule.Operand.{Operand}
 pub use Rattle.rule_core.specs.declared.rule.Rule.{Rule}
-pub use Rattle.rule_matches.proofs.Joining.{before_chosen, joined, joined_before, none_where, same_where}
-pub use Rattle.rule_matches.proofs.Rooting.{before_end, root_stands}
-pub use Rattle.rule_typing.proofs.Images.{Contains-map, from_map, get-append_cases}
 pub use Rattle.rule_typing.specs.AllTypings.{IsAnswer}
 pub use Rattle.std.proofs.Math.ListN.{get_or-map}
 pub use Rattle.std.proofs.Math.Nat.{mod-eq_of_lt, pow-succ'}
 pub use Rattle.std.proofs.Math.Seq.{take-length}
 pub use Rattle.std.proofs.lemmas.Bool.{cases_lt}
-pub use Rattle.std.proofs.lemmas.Bool.Decides.{Decides-and, Decides-eqb, Decides-like, when_false, when_true}
 pub use Rattle.std.proofs.lemmas.Grind.{flat_map-append}
-pub use Rattle.std.proofs.lemmas.List.{get_or_past, length-map, length-take-le, map-append, map-id, take-append-le, take_all, take_more}
-pub use Rattle.std.proofs.lemmas.List.Elements.{All-append, All-cons, All-contains, All-contains_itself, All-head, All-map, All-nil, All-tail, All-weaker, Contains-append_left, Contains-append_right, Contains-get_or, Contains-push, Contains-push_cases}
-pub use Rattle.std.proofs.lemmas.List.Folds.{Any-from_list_any}
+pub use Rattle.std.proofs.lemmas.List.{get_or_past, length-map, length-take-le, map-append, map-id, take_more}
+pub use Rattle.std.proofs.lemmas.List.Elements.{All-append, All-cons, All-contains_itself, All-head, All-map, All-nil, All-tail, All-weaker, Contains-get_or}
 pub use Rattle.std.proofs.lemmas.List.FromFn.{length-enumerate_from, length-map-range_with_len}
-pub use Rattle.std.proofs.lemmas.List.Quantifiers.{Any-push}
 pub use Rattle.std.proofs.lemmas.List.Sums.{sum_by-le}
-pub use Rattle.std.proofs.lemmas.Option.{get_or_from_slice_get, same_Some, slice_get-get_or, slice_get-map, slice_get_read, slice_get_within}
+pub use Rattle.std.proofs.lemmas.Option.{get_or_from_slice_get, slice_get-map, slice_get_within}
 pub use Rattle.std.proofs.lemmas.Result.{on_ok_weaker}
-pub use Rattle.std.proofs.lemmas.Slice.Eq.{bytes_eq-Decides}
 pub use Rattle.std.proofs.lemmas.Slice.Zip.{AllZip-long, all_zipped_more}
-pub use Rattle.std.specs.Bool.{Decides}
-pub use Rattle.std.specs.List.{enumerate_from, list_any, range_with_len, zip}
-unfoldable pub use Rattle.std.specs.Map.{KeepsOthers}
-pub use Rattle.std.specs.Map.{lookup}
-pub use Rattle.std.specs.Option.{option_map, option_map_or}
-pub use Rattle.std.specs.Str.{bytes_eq}
+pub use Rattle.std.specs.List.{enumerate_from, range_with_len, zip}
+pub use Rattle.std.specs.Option.{option_map_or}
 pub use Rattle.std.specs.Vec.Iter.{into_iter_items}
-pub use Rattle.strategy_core.specs.Asked.{AreFirstAsked, HasVerdict, IsAskedBefore, IsTurnedDown, Pair, pair_in, pair_of}
 pub use Rattle.verdict.specs.Additions.{AddsRows, AddsRule}
-pub use Rattle.verdict.specs.AskedAgain.{PairsWithRowsChangeNothing}
-pub use Rattle.verdict.specs.Asks.{AreVerdicts, AreVerdictsOn, Asks, AsksAll, AsksUpTo, IsAnywhere}
 pub use Rattle.verdict.specs.Findings.{Decided, Finding, IsFinding, IsRowOf, TooMany, finding_text, rows_of}
 pub use Rattle.verdict.specs.Honest.{IsHonest, IsHonestBudget, IsRefutedBy, StandsForRule, setting_in}
 pub use Rattle.verdict.specs.Limits.{most_typings}
-pub use Rattle.verdict.specs.Parts.{AsksToPlace, IsInBlock}
 pub use Rattle.verdict.specs.Proved.{IsAttempt, IsUnrefutedBy, Keeps}
-pub use Rattle.verdict.specs.Stored.{IsUnrefutedIn, Key, is_key_of, log_of, pair_of_key}
 pub use Rattle.verdict.specs.Table.{IsHonestRow, IsHonestTable, row_text}
 pub use Rattle.verdict.specs.Verified.{IsVerified}
 pub use Rattle.verdict.specs.WideWords.{IsWide}
-pub use Rattle.verdict.specs.declared.stored.StoredLogs.{StoredLogs}
-pub use Rattle.verdict.specs.declared.verdicts.Verdicts.{Verdicts}
 pub use Rattle.verdict.specs.declared.verification.Verified.{Verified}
 pub use Rattle.verdict_core.specs.Texts.{too_many_text, verdict_text}
 pub use Rattle.verdict_core.specs.declared.verdicts.Row.{Row}

@@ -5,11 +5,3 @@ pub mod InputBits
 pub mod Widths
 pub mod Proved
 pub mod Findings
-pub mod Growing
-pub mod Asking
-pub mod Sequence
-pub mod Storing
-pub mod Keeping
-pub mod Passing
-pub mod Parts
-pub mod Again

@@ -13,7 +13,3 @@ pub mod Additions
 pub mod Verified
 pub mod Limits
 pub mod Table
-pub mod Asks
-pub mod Parts
-pub mod Stored
-pub mod AskedAgain

@@ -1,0 +1,4 @@
+pub mod Asks
+pub mod Parts
+pub mod Stored
+pub mod AskedAgain

@@ -1,5 +1,0 @@
-use Rattle.verdict.proofs.Again.{rows_change_nothing}
-use Rattle.verdict.proofs.asked_again.pairs_with_rows_change_nothing.Goals as goal
-
-pub returns : goal.returns
-returns c = rows_change_nothing

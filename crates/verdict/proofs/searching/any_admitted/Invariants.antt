@@ -1,7 +1,0 @@
--- the matches in the blocks so far are asked
-use Rattle.verdict.proofs.Common.{AsksAll}
-use Rattle.verdict.proofs.Parts.{IsInEarlierBlock}
-use Rattle.verdict.proofs.searching.any_admitted.Given as goal
-
-abbrev pub invariant-loop-block : goal.invariant-loop-block
-invariant-loop-block l = AsksAll l.rules.all.now l.conflicts l.f (IsInEarlierBlock l.block) l.fn.verdicts l.verdicts l.any

@@ -1,6 +1,0 @@
--- the widths so far
-use Rattle.verdict.proofs.Common.{◌≡◌, take}
-use Rattle.verdict.proofs.typings.widths_of.Given as goal
-
-abbrev pub invariant-loop-width : goal.invariant-loop-width
-invariant-loop-width l = l.widths.items ≡ take l.width-index l.width-items

@@ -1,5 +1,0 @@
-use Rattle.verdict.proofs.Common.{on_ok_weaker}
-use Rattle.verdict.proofs.verdicts.push_decided.Goals as goal
-
-pub returns-clause-pushed : goal.returns-clause-pushed
-returns-clause-pushed c = on_ok_weaker c.push.result (λ is. (c.in_ok-row.row, is, c.in_ok-row.ensures.pair, c.in_ok-row.ensures.honest, c.in_ok-row.ensures.unrefuted)) c.push.ensures.ok
