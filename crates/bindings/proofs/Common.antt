@@ -16,7 +16,7 @@ pub use Rattle.ir_core.specs.Assigned.{IsAssigned}
 pub use Rattle.ir_core.specs.Blocks.{HasInst, IsBlock}
 pub use Rattle.ir_core.specs.Checks.{IsInst, IsPhi, MeetsChecks}
 pub use Rattle.ir_core.specs.Names.{width_of}
-pub use Rattle.ir_core.specs.Reads.{read, IsRead, Read, reads_at, reads_by, reads_in, reads_of}
+pub use Rattle.ir_core.specs.Reads.{IsRead, Read, read, reads_at, reads_by, reads_in, reads_of}
 pub use Rattle.ir_core.specs.Walks.{IsReached}
 pub use Rattle.ir_core.specs.declared.function.Block.{Block}
 pub use Rattle.ir_core.specs.declared.function.Function.{Function}

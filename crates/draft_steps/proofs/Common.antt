@@ -12,7 +12,7 @@ pub use Rattle.bindings.specs.declared.binding.Binding.{Binding}
 pub use Rattle.bindings.specs.declared.rule_match.Match.{Match}
 pub use Rattle.draft.proofs.Changed.{whole_taken_out}
 pub use Rattle.draft.proofs.Cycles.{no_phi_substituted}
-pub use Rattle.draft.proofs.Exchange.{with_blocks, was_counted, was_numbers}
+pub use Rattle.draft.proofs.Exchange.{was_counted, was_numbers, with_blocks}
 pub use Rattle.draft.proofs.Exchanging.{counted_block, inst_differs}
 pub use Rattle.draft.proofs.InstsOf.{AreNumbersOf, both, both_none, get_blocks, inst_from, insts_append, insts_more, length-insts_of, rest_numbers}
 pub use Rattle.draft.proofs.Keeping.{heap-stays, keeps-itself, keeps-twice, put-keeps}
