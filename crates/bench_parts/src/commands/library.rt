@@ -4,6 +4,7 @@ use super::words_of;
 use crate::failure::Failure;
 use alive_top::alive;
 use outside::{DiskFiles, MemorySink};
+use std::alloc::{AllocError, Global};
 
 const FILES: [&str; 8] = [
     "add-sub.alive",
@@ -19,10 +20,16 @@ const FILES: [&str; 8] = [
 /// The most bytes of verdicts and of a refusal that are kept, and not printed.
 const ROOM: usize = 1 << 20;
 
+/// The words of the command that decides a file.
+fn words_for(alloc: Global, name: &str) -> Result<Vec<String>, AllocError> {
+    let mut words = words_of(alloc, "alive verify --widths 1-4")?;
+    words.push(String::from_str(alloc, name)?)?;
+    Ok(words)
+}
+
 /// Decides a file, and prints the status and the count of its verdicts.
 fn decide(rt: HostRuntime, name: &str) -> Result<(), Failure> {
-    let mut words = words_of(rt.alloc(), "alive verify --widths 1-4")?;
-    words.push(String::from_str(rt.alloc(), name)?)?;
+    let words = words_for(rt.alloc(), name)?;
     let mut files = DiskFiles::new(rt);
     let mut out = MemorySink::with_room(rt.alloc(), ROOM)?;
     let mut err = MemorySink::with_room(rt.alloc(), ROOM)?;
