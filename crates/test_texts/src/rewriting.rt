@@ -2,6 +2,7 @@
 //! often registers are used.
 
 mod applied;
+mod folded;
 mod matches;
 mod reading;
 mod told;

@@ -1,0 +1,12 @@
+pub mod Common
+pub mod Again
+pub mod Checking
+pub mod Cleaning
+pub mod Decided
+pub mod FoldedBlocks
+pub mod Naming
+pub mod Reading
+pub mod Refining
+pub mod Sources
+pub mod Staying
+pub mod Walking
