@@ -8,8 +8,8 @@ pub fn every_folded_function_refines_the_old()
     ensures checks { FoldedFunctionsMeetChecks }
 {}
 
-/// Each number that a folded function reads is one that the old function read. So its numbers are of their widths if the
-/// old one's are.
+/// Each number that a folded function reads is one that the old function read. So its numbers are of their widths if
+/// the old one's are.
 pub fn every_folded_number_was_there()
     ensures { FoldedNumbersWereThere }
 {}
