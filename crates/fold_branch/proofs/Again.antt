@@ -1,5 +1,5 @@
 -- A folded function that is folded again is what it was.
-use Rattle.fold_branch.proofs.Common.{◌≡◌, ℕ, zero, suc, Bool, true, false, inl, inr, List, [], ◌∷◌, length, map, get_or, Option, None, Contains, refl, sym, ap, subst, ◌∙◌, ext_get_or, and_from, cases_Bool, length-map, targets_of, IsBlock, Names, IsWalk, IsReached, Block, Function, Inst, Op, Binary, Compare, Unary, Select, Convert, Freeze, Phi, Operand, Terminator, first_in, later_in, chosen, jump_or, decided_end, decided_block, decided, is_among, stays_by, stays, stays_first, staying, folded_op, folded_inst, folded_as, folded_block, folded_blocks, choices_of, folded_function, AreReached, FoldedTwiceIsFoldedOnce, IsMarked}
+use Rattle.fold_branch.proofs.Common.{◌≡◌, ℕ, zero, suc, Bool, true, false, inl, inr, List, [], ◌∷◌, length, map, get_or, Option, None, Contains, refl, sym, ap, subst, ◌∙◌, ext_get_or, and_from, cases_Bool, length-map, targets_of, IsBlock, Names, IsWalk, IsReached, Block, Function, Inst, Op, Binary, Compare, Unary, Select, Convert, Freeze, Phi, Operand, Terminator, first_in, later_in, chosen, jump_or, decided_end, decided_block, decided, is_among, stays_by, stays, stays_first, staying, folded_op, folded_inst, folded_as, folded_block, folded_blocks, choices_of, folded_function, AreReached, IsFolded, FoldedTwiceIsFoldedOnce, IsMarked}
 use Rattle.fold_branch.proofs.Decided.{decided_again, leads, leads_back, walk_before}
 use Rattle.fold_branch.proofs.FoldedBlocks.{length-folded_blocks, block_on, walk_decided}
 use Rattle.fold_branch.proofs.Staying.{staying_reached}
@@ -14,13 +14,13 @@ module _ (choices : List (Option ℕ)) (reached : List Bool) where
   nothing_chosen b block true = decided_again block.end
   nothing_chosen b block false = refl
 
-  none_chosen : (b : ℕ) (blocks : List Block) (c : ℕ) → get_or (map (λ (x : Block). chosen x.end) (folded_blocks choices reached b blocks)) c None ≡ None
+  pub none_chosen : (b : ℕ) (blocks : List Block) (c : ℕ) → get_or (map (λ (x : Block). chosen x.end) (folded_blocks choices reached b blocks)) c None ≡ None
   none_chosen b [] c = refl
   none_chosen b (x ∷ blocks) zero = nothing_chosen b x (get_or reached b false)
   none_chosen b (x ∷ blocks) (suc c) = none_chosen (suc b) blocks c
 
   module _ (left : List (Option ℕ)) (none : (c : ℕ) → get_or left c None ≡ None) where
-    all_stay : (b : ℕ) (before : List ℕ) (entries : List (Operand × ℕ)) → ((x : Operand × ℕ) → Contains entries x → IsMarked reached x.1) → staying left reached b before entries ≡ entries
+    pub all_stay : (b : ℕ) (before : List ℕ) (entries : List (Operand × ℕ)) → ((x : Operand × ℕ) → Contains entries x → IsMarked reached x.1) → staying left reached b before entries ≡ entries
     all_stay b before [] marked = refl
     all_stay b before (e ∷ entries) marked =
         let own : stays left reached b before e.1 ≡ true = and_from (get_or reached e.1 false) (stays_by b (is_among e.1 before) (get_or left e.1 None)) (marked e (first_in e entries)) (ap (stays_by b (is_among e.1 before)) (none e.1)) in
@@ -71,6 +71,16 @@ module _ (f : Function) (reached : List Bool) (r : AreReached (decided f) reache
   walk_again (b ∷ []) h = h
   walk_again (c ∷ b ∷ before) h = (leads_again b c ((r.exact b).1 (before, h.1)) h.0, walk_again (b ∷ before) h.1)
 
+  -- and so do those that are not
+  pub reached_again : AreReached (decided g) reached
+  reached_again = record {
+    count = r.count ∙ length-map f.blocks decided_block ∙ sym (length-folded_blocks (choices_of f) reached 0 f.blocks) ∙ sym (length-map g.blocks decided_block);
+    exact = λ b. (
+      λ mark. let walk : IsReached (decided f) b = (r.exact b).0 mark in (walk.0, walk_again (b ∷ walk.0) walk.1),
+      λ walk. (r.exact b).1 (walk.0, walk_decided f reached (b ∷ walk.0) (walk_before g (b ∷ walk.0) walk.1)),
+    );
+  }
+
   module _ (now : List Bool) (s : AreReached (decided g) now) where
     same_mark : (b : ℕ) → get_or now b false ≡ get_or reached b false
     same_mark b = elim (cases_Bool (get_or reached b false)) [
@@ -100,3 +110,9 @@ pub folded_again : FoldedTwiceIsFoldedOnce
 folded_again f g h p q =
     let now : AreReached (decided (folded_function p.0 f)) q.0 = subst (λ (x : Function). AreReached (decided x) q.0) p.2 q.1 in
     q.2 ∙ ap (folded_function q.0) p.2 ∙ stays_folded f p.0 p.1 q.0 now ∙ sym p.2
+
+-- and it is one of itself
+pub folded_is_folded : (f g : Function) → IsFolded f g → IsFolded g g
+folded_is_folded f g p =
+    let again : AreReached (decided (folded_function p.0 f)) p.0 = reached_again f p.0 p.1 in
+    subst (λ (x : Function). IsFolded x x) (sym p.2) (p.0, again, sym (stays_folded f p.0 p.1 p.0 again))

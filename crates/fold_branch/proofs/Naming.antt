@@ -1,5 +1,5 @@
 -- A folded function has some of the old function's names, in order: those of the instructions that went are gone.
-use Rattle.fold_branch.proofs.Common.{◌≡◌, ℕ, zero, suc, Bool, true, false, List, [], ◌∷◌, ◌++◌, map, Option, Some, refl, ap, arith, slice_get, slice_index_or, flat_map, NamesDiffer, Name, block_names, names_of, Block, Function, Inst, folded_inst, folded_as, folded_blocks, choices_of, folded_function}
+use Rattle.fold_branch.proofs.Common.{◌≡◌, ℕ, zero, suc, Bool, true, false, List, [], ◌∷◌, ◌++◌, map, Option, Some, refl, ap, arith, slice_get, slice_index_or, flat_map, Contains, contains_at, place_in, NamesDiffer, Name, block_names, names_of, Block, Function, Inst, folded_inst, folded_as, folded_blocks, choices_of, folded_function}
 
 -- some of a list, in order
 data Part : List Name → List Name → Type 0 where
@@ -59,5 +59,14 @@ blocks_part : (choices : List (Option ℕ)) (reached : List Bool) (b : ℕ) (blo
 blocks_part choices reached b [] = none
 blocks_part choices reached b (block ∷ blocks) = part_append (block_part choices reached b block (slice_index_or reached b false)) (blocks_part choices reached (suc b) blocks)
 
+function_part : (f : Function) (reached : List Bool) → Part (names_of (folded_function reached f)) (names_of f)
+function_part f reached = part_append (part_same (map (λ p. p.name) f.parameters)) (blocks_part (choices_of f) reached 0 f.blocks)
+
 pub names_differ : (f : Function) (reached : List Bool) → NamesDiffer (names_of f) → NamesDiffer (names_of (folded_function reached f))
-names_differ f reached = differ_part (part_append (part_same (map (λ p. p.name) f.parameters)) (blocks_part (choices_of f) reached 0 f.blocks))
+names_differ f reached = differ_part (function_part f reached)
+
+pub name_was : (f : Function) (reached : List Bool) (name : Name) → Contains (names_of (folded_function reached f)) name → Contains (names_of f) name
+name_was f reached name has =
+    let at : (i : ℕ) × (slice_get (names_of (folded_function reached f)) i ≡ Some name) = place_in (names_of (folded_function reached f)) name has in
+    let was : (j : ℕ) × (slice_get (names_of f) j ≡ Some name) = part_member (function_part f reached) at.0 name at.1 in
+    contains_at (names_of f) was.0 name was.1

@@ -3,6 +3,8 @@ pub use Rattle.std.proofs.Common.{All, Bool, Contains, IsTrue, List, MatchBool, 
 pub use Rattle.bindings.specs.Matches.{IsMatchAmong}
 pub use Rattle.bindings.specs.Ready.{AreReady}
 pub use Rattle.bindings.specs.declared.rule_match.Match.{Match}
+pub use Rattle.fold_branch.specs.Folded.{IsFolded}
+pub use Rattle.fold_branch.specs.Laws.{FoldedFunctionsMeetChecks, FoldedFunctionsRefine, FoldedNumbersWereThere}
 pub use Rattle.ir_core.specs.Checks.{MeetsChecks, ModuleMeetsChecks}
 pub use Rattle.ir_core.specs.Refines.{EntriesRefine, Refines}
 pub use Rattle.ir_core.specs.declared.function.Function.{Function}
@@ -23,6 +25,6 @@ pub use Rattle.std.proofs.lemmas.Option.{same_Some}
 pub use Rattle.std.specs.List.{AllZip, flat_map}
 pub use Rattle.strategy_core.specs.Asked.{IsAdmitted, IsTurnedDown, Pair, pair_in, pair_of}
 pub use Rattle.strategy_core.specs.Decided.{IsDecided, function_in}
-pub use Rattle.strategy_core.specs.Laws.{AdmittedAreValid, CleanedNumbersFit, ModuleNumbersFit, StrategyDecides, StrategyMeetsChecks, StrategyNumbersFit, StrategyRefines}
-pub use Rattle.strategy_core.specs.PlainStrategy.{AreOptimised, ComesOf, IsOptimised, IsPlainStrategy, IsStep, by_step, function, itself, kept, none}
+pub use Rattle.strategy_core.specs.Laws.{AdmittedAreValid, CleanedNumbersFit, FoldedNumbersFit, ModuleNumbersFit, StrategyDecides, StrategyMeetsChecks, StrategyNumbersFit, StrategyRefines}
+pub use Rattle.strategy_core.specs.PlainStrategy.{AreOptimised, ComesOf, IsOptimised, IsPlainStrategy, IsStep, IsTidied, by_step, function, itself, kept, none}
 pub use Rattle.verdict_core.specs.declared.verdicts.Row.{Row}

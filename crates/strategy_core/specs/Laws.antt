@@ -10,6 +10,7 @@ use Rattle.rule_core.specs.Valid.{IsValid}
 use Rattle.bindings.specs.Ready.{AreReady}
 use Rattle.ir_meaning.specs.HistoryLaws.{NumbersFit}
 use Rattle.needed.specs.Cleaned.{IsCleaned}
+use Rattle.fold_branch.specs.Folded.{IsFolded}
 use Rattle.verdict_core.specs.declared.verdicts.Row.{Row}
 use Rattle.verdict_core.specs.declared.verdicts.Verdict.TheVariants.{Admitted}
 use Rattle.strategy_core.specs.PlainStrategy.{IsPlainStrategy}
@@ -27,25 +28,29 @@ ModuleNumbersFit m = (k : ℕ) (f : Function) → slice_get m.entries k ≡ Some
 abbrev pub CleanedNumbersFit : Type 0
 CleanedNumbersFit = (f g : Function) → MeetsChecks f → NumbersFit f → IsCleaned f g → NumbersFit g
 
--- what the strategy gives passes the checks of a module
+-- and so does folding
+abbrev pub FoldedNumbersFit : Type 0
+FoldedNumbersFit = (f g : Function) → NumbersFit f → IsFolded f g → NumbersFit g
+
+-- what the strategy gives passes the checks of a module, with folding and without
 abbrev pub StrategyMeetsChecks : Type 0
-StrategyMeetsChecks = (rules : List Rule) (steps : ℕ) (table : List Row) (old new : Module) (counts : List ℕ) (limited : List Bool)
+StrategyMeetsChecks = (fold : Bool) (rules : List Rule) (steps : ℕ) (table : List Row) (old new : Module) (counts : List ℕ) (limited : List Bool)
     → AreReady rules → ModuleMeetsChecks old → ModuleNumbersFit old
-    → IsPlainStrategy rules steps table old new counts limited → ModuleMeetsChecks new
+    → IsPlainStrategy fold rules steps table old new counts limited → ModuleMeetsChecks new
 
 -- its literals are numbers of their widths
 abbrev pub StrategyNumbersFit : Type 0
-StrategyNumbersFit = (rules : List Rule) (steps : ℕ) (table : List Row) (old new : Module) (counts : List ℕ) (limited : List Bool)
+StrategyNumbersFit = (fold : Bool) (rules : List Rule) (steps : ℕ) (table : List Row) (old new : Module) (counts : List ℕ) (limited : List Bool)
     → AreReady rules → ModuleMeetsChecks old → ModuleNumbersFit old
-    → IsPlainStrategy rules steps table old new counts limited → ModuleNumbersFit new
+    → IsPlainStrategy fold rules steps table old new counts limited → ModuleNumbersFit new
 
 -- where only valid rules are admitted, what the strategy gives refines the old module, for any number of steps
 abbrev pub StrategyRefines : Type 0
-StrategyRefines = (rules : List Rule) (steps : ℕ) (table : List Row) (old new : Module) (counts : List ℕ) (limited : List Bool)
+StrategyRefines = (fold : Bool) (rules : List Rule) (steps : ℕ) (table : List Row) (old new : Module) (counts : List ℕ) (limited : List Bool)
     → AreReady rules → AdmittedAreValid rules table → ModuleMeetsChecks old → ModuleNumbersFit old
-    → IsPlainStrategy rules steps table old new counts limited → ModuleRefines old new
+    → IsPlainStrategy fold rules steps table old new counts limited → ModuleRefines old new
 
 -- every match that is left has a verdict in the table, and none is admitted, unless its function ran out of steps
 abbrev pub StrategyDecides : Type 0
-StrategyDecides = (rules : List Rule) (steps : ℕ) (table : List Row) (old new : Module) (counts : List ℕ) (limited : List Bool)
-    → IsPlainStrategy rules steps table old new counts limited → MatchesAreDecided rules table new limited
+StrategyDecides = (fold : Bool) (rules : List Rule) (steps : ℕ) (table : List Row) (old new : Module) (counts : List ℕ) (limited : List Bool)
+    → IsPlainStrategy fold rules steps table old new counts limited → MatchesAreDecided rules table new limited

@@ -3,8 +3,8 @@
 -- First a function's dead code is eliminated (it is cleaned). Then a search goes through its matches in order, asks for
 -- the verdict of each, and ends at the first that is admitted. There the function is rewritten and cleaned, which is a
 -- step, and the search begins again. The last search finds no admitted match, or has no step left; it goes through all
--- matches.
-use Rattle.std.specs.Prelude.{◌≡◌, ℕ, suc, ◌-◌, ◌≤◌, Bool, List, [], ◌∷◌, ◌++◌, map, All, Any, MatchBool}
+-- matches. Where folding of branches is asked for, a function is folded each time before it is cleaned.
+use Rattle.std.specs.Prelude.{◌≡◌, ℕ, suc, ◌-◌, ◌≤◌, Bool, true, false, List, [], ◌∷◌, ◌++◌, map, All, Any, MatchBool}
 use Rattle.ir_core.specs.declared.module.Module.{Module}
 use Rattle.ir_core.specs.declared.module.Entry.{Entry}
 use Rattle.ir_core.specs.declared.module.Entry.TheVariants as entries
@@ -12,14 +12,28 @@ use Rattle.ir_core.specs.declared.function.Function.{Function}
 use Rattle.rule_core.specs.declared.rule.Rule.{Rule}
 use Rattle.verdict_core.specs.declared.verdicts.Row.{Row}
 use Rattle.needed.specs.Cleaned.{IsCleaned}
+use Rattle.fold_branch.specs.Folded.{IsFolded}
 use Rattle.rewriter.specs.Applied.{IsRewritten}
 use Rattle.bindings.specs.declared.rule_match.Match.{Match}
 use Rattle.bindings.specs.Matches.{IsMatchAmong, AreMatches, AreMatchesBefore}
 use Rattle.strategy_core.specs.Asked.{Pair, pair_of, pair_in, IsAdmitted, IsTurnedDown, AreFirstAsked}
 
-module _ (rules : List Rule) (table : List Row) where
+-- the old function cleaned; where folding is asked for, after it is folded
+abbrev pub IsTidied : Bool → Function → Function → Type 0
+IsTidied true old new = (folded : Function) × IsFolded old folded × IsCleaned folded new
+IsTidied false old new = IsCleaned old new
+
+-- The last search of a function, with `left` steps left, asks for the verdicts of all matches. Either all are turned
+-- down, or no step is left and one is admitted: then the function is limited.
+pub record IsLastSearch (rules : List Rule) (table : List Row) (left : ℕ) (f : Function) (limited : Bool) (asked : List Pair) : Type 0 where
+  pub matches : List Match
+  pub are_matches : AreMatches rules f matches
+  pub asks : asked ≡ map pair_of matches
+  pub ends : MatchBool limited ((left ≡ 0) × Any (IsAdmitted table) matches) (All (IsTurnedDown table) matches)
+
+module _ (fold : Bool) (rules : List Rule) (table : List Row) where
   -- One step: the search asks for the verdicts of the matches before some match, which are all turned down, and then of
-  -- that match, which is admitted. There the function is rewritten, and then cleaned.
+  -- that match, which is admitted. There the function is rewritten, and then tidied.
   pub record IsStep (f new : Function) (asked : List Pair) : Type 0 where
     pub chosen : Match
     pub is_match : IsMatchAmong rules f chosen
@@ -30,7 +44,7 @@ module _ (rules : List Rule) (table : List Row) where
     pub asks : asked ≡ map pair_of (passed ++ chosen ∷ [])
     pub rewritten : Function
     pub is_rewritten : IsRewritten f chosen.binding is_match.rule rewritten
-    pub is_cleaned : IsCleaned rewritten new
+    pub is_tidied : IsTidied fold rewritten new
 
   -- one function comes of another by this many steps, in which these pairs are asked
   pub data ComesOf : ℕ → Function → Function → List Pair → Type 0 where
@@ -38,24 +52,16 @@ module _ (rules : List Rule) (table : List Row) where
     by_step : (count : ℕ) (f g h : Function) (asked more : List Pair) → ComesOf count f g asked → IsStep g h more
         → ComesOf (suc count) f h (asked ++ more)
 
-  -- The last search of a function, with `left` steps left, asks for the verdicts of all matches. Either all are turned
-  -- down, or no step is left and one is admitted: then the function is limited.
-  pub record IsLastSearch (left : ℕ) (f : Function) (limited : Bool) (asked : List Pair) : Type 0 where
-    pub matches : List Match
-    pub are_matches : AreMatches rules f matches
-    pub asks : asked ≡ map pair_of matches
-    pub ends : MatchBool limited ((left ≡ 0) × Any (IsAdmitted table) matches) (All (IsTurnedDown table) matches)
-
   -- what becomes of a function within `steps` steps: it is rewritten `count` times, is limited or not, and these pairs
   -- are asked
   pub record IsOptimised (steps : ℕ) (old new : Function) (count : ℕ) (limited : Bool) (asked : List Pair) : Type 0 where
-    pub cleaned : Function
-    pub is_cleaned : IsCleaned old cleaned
+    pub tidied : Function
+    pub is_tidied : IsTidied fold old tidied
     pub in_steps : List Pair
-    pub comes : ComesOf count cleaned new in_steps
+    pub comes : ComesOf count tidied new in_steps
     pub within : count ≤ steps
     pub at_last : List Pair
-    pub last : IsLastSearch (steps - count) new limited at_last
+    pub last : IsLastSearch rules table (steps - count) new limited at_last
     pub asks : asked ≡ in_steps ++ at_last
 
   -- the same for the entries of a module: kept lines stay, and each function has its count, and whether it is limited
@@ -69,9 +75,10 @@ module _ (rules : List Rule) (table : List Row) where
         → IsOptimised steps f last count is_limited asked → AreOptimised steps old new counts limited others
         → AreOptimised steps (entries.Function f ∷ old) (entries.Function last ∷ new) (count ∷ counts) (is_limited ∷ limited) (asked ++ others)
 
--- What the strategy gives for a module by this table, with at most `steps` steps for each function. The table is the
--- strategy's own: it has a row for each pair that is asked, in the order in which they are first asked.
-pub record IsPlainStrategy (rules : List Rule) (steps : ℕ) (table : List Row) (old new : Module) (counts : List ℕ) (limited : List Bool) : Type 0 where
+-- What the strategy gives for a module by this table, with at most `steps` steps for each function, and with folding
+-- where `fold` asks for it. The table is the strategy's own: it has a row for each pair that is asked, in the order in
+-- which they are first asked.
+pub record IsPlainStrategy (fold : Bool) (rules : List Rule) (steps : ℕ) (table : List Row) (old new : Module) (counts : List ℕ) (limited : List Bool) : Type 0 where
   pub asked : List Pair
-  pub entries : AreOptimised rules table steps old.entries new.entries counts limited asked
+  pub entries : AreOptimised fold rules table steps old.entries new.entries counts limited asked
   pub rows : AreFirstAsked asked (map pair_in table)
