@@ -20,5 +20,5 @@ mod walk;
 mod worklist;
 
 pub use laws::{matches_of_the_arena, matches_of_the_untouched, orders_are_kept};
-pub use stepping::step;
+pub use stepping::{apply, step};
 pub use worklist::DraftWorklist;

@@ -2,7 +2,7 @@
 
 ghost use Rattle.std.specs.Prelude.{ℕ, suc, All, Contains, IfOk, OnOk};
 ghost use Rattle.ir_core.specs.Checks.{MeetsChecks};
-ghost use Rattle.ir_core.specs.declared.function.Function.{Function};
+ghost use Rattle.ir_core.specs.declared.function.Function.{Function as Written};
 ghost use Rattle.rule_core.specs.Checks.{IsRule};
 ghost use Rattle.rule_typing.specs.Faults.{HasNoFault};
 ghost use Rattle.bindings.specs.Match.{IsMatch};
@@ -21,7 +21,7 @@ use crate::dead_code::eliminate_dead_code;
 use crate::rewriting::{Rewritten, rewrite_draft};
 use bindings::{Binding, reads_of_a_block_stand_before};
 use draft::Draft;
-use ir_core::Register;
+use ir_core::{Function, Register};
 use places::Place;
 use rewriter::rewritten_functions_meet_checks;
 use rule_core::Rule;
@@ -51,7 +51,7 @@ pub fn step(
     requires room { HasRoomFor 1 draft }
     ensures settled { IfOk result (λ stepped. IsSettled stepped.0) }
     ensures clean { IfOk result (λ stepped. HasNoDeadCode stepped.0) }
-    ensures steps { IfOk result (λ stepped. (f : Function) × IsRewritten (function_of draft) (placed_binding draft binding.now) rule.now f
+    ensures steps { IfOk result (λ stepped. (f : Written) × IsRewritten (function_of draft) (placed_binding draft binding.now) rule.now f
         × IsCleaned f (function_of stepped.0)) }
     ensures room { IfOk result (λ stepped. (steps : ℕ) → HasRoomFor (suc steps) draft → HasRoomFor steps stepped.0) }
     ensures orders { IfOk result (λ stepped. KeepsOrders (orders_of draft) (orders_of stepped.0)) }
@@ -62,6 +62,51 @@ pub fn step(
     let mut stepped = draft;
     let places = step_in(alloc, &mut stepped, binding, rule)?;
     Ok((stepped, places))
+}
+
+/// The function to which a rule is applied where it matches with this binding to numbers of the arena; dead code stays
+/// in it. It is linear in the size of the arena and of the rule.
+pub fn apply(
+    alloc: Global,
+    draft: Draft,
+    binding: &Binding,
+    rule: &Rule,
+) -> Result<Function, AllocError>
+    requires settled { IsSettled draft }
+    requires checks { MeetsChecks (function_of draft) }
+    requires rule { IsRule rule.now }
+    requires matches { let m = placed_binding draft binding.now in IsMatch (function_of draft) m.block m.place rule.now m }
+    requires room { HasRoomFor 1 draft }
+    ensures { IfOk result (λ f. IsRewritten (function_of draft) (placed_binding draft binding.now) rule.now f) }
+{
+    let applied = applied_draft(alloc, draft, binding, rule)?;
+    let f = draft::function_of(alloc, applied)?;
+    Ok(f)
+}
+
+/// The draft of that function.
+fn applied_draft(
+    alloc: Global,
+    draft: Draft,
+    binding: &Binding,
+    rule: &Rule,
+) -> Result<Draft, AllocError>
+    requires settled { IsSettled draft }
+    requires checks { MeetsChecks (function_of draft) }
+    requires rule { IsRule rule.now }
+    requires matches { let m = placed_binding draft binding.now in IsMatch (function_of draft) m.block m.place rule.now m }
+    requires room { HasRoomFor 1 draft }
+    ensures settled { IfOk result IsSettled }
+    ensures applied { IfOk result (λ made. IsRewritten (function_of draft) (placed_binding draft binding.now) rule.now (function_of made)) }
+{
+    reads_of_a_block_stand_before();
+    let mut applied = draft;
+    let told = rewrite_draft(alloc, &mut applied, binding, rule)?;
+
+    // what lost a use is not looked at: the draft ends here
+    let none = Vec::new(alloc);
+    applied.dead_candidates = none;
+    Ok(applied)
 }
 
 /// The same in place.
@@ -81,7 +126,7 @@ fn step_in(
     requires room { HasRoomFor 1 draft.old }
     ensures settled { OnOk result (IsSettled draft.new) }
     ensures clean { OnOk result (HasNoDeadCode draft.new) }
-    ensures steps { OnOk result ((f : Function) × IsRewritten (function_of draft.old) (placed_binding draft.old binding.now) rule.now f
+    ensures steps { OnOk result ((f : Written) × IsRewritten (function_of draft.old) (placed_binding draft.old binding.now) rule.now f
         × IsCleaned f (function_of draft.new)) }
     ensures room { OnOk result ((steps : ℕ) → HasRoomFor (suc steps) draft.old → HasRoomFor steps draft.new) }
     ensures orders { OnOk result (KeepsOrders (orders_of draft.old) (orders_of draft.new)) }
