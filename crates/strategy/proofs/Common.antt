@@ -1,5 +1,5 @@
 -- What the proofs of this crate cite of definitions, of other crates and of the libraries, passed on from one place.
-pub use Rattle.std.proofs.Common.{All, Any, Bool, Contains, List, MatchBool, None, Option, Some, [], ap, append-nil, append_assoc, arith, false, get_or, inl, inr, length, map, option_and_then, refl, slice_get, subst, suc, sym, take, true, zero, ℕ, ◌*◌, ◌++◌, ◌+◌, ◌-◌, ◌<◌, ◌^◌, ◌↔◌, ◌∙◌, ◌∷◌, ◌≡◌, ◌≤◌, ◌⊎◌}
+pub use Rattle.std.proofs.Common.{All, Any, Bool, Contains, List, MatchBool, None, OnOk, Option, Some, [], ap, append-nil, append_assoc, arith, false, get_or, if◌then◌else◌, inl, inr, length, map, not, option_and_then, option_map, refl, slice_get, subst, suc, sym, take, true, zero, ℕ, ◌&&◌, ◌*◌, ◌++◌, ◌+◌, ◌-◌, ◌<◌, ◌==◌, ◌^◌, ◌↔◌, ◌∙◌, ◌∷◌, ◌≡◌, ◌≤◌, ◌⊎◌}
 pub use Rattle.bindings.specs.Facts.{AreFactsOf}
 pub use Rattle.bindings.specs.Match.{IsMatch}
 pub use Rattle.bindings.specs.Matches.{AreMatches, AreMatchesInAnyOrder, AreMatchesWhere, ComesBefore, IsAt, IsMatchAmong, IsMatchInAnyOrder}
@@ -8,7 +8,7 @@ pub use Rattle.bindings.specs.declared.binding.Binding.{Binding}
 pub use Rattle.bindings.specs.declared.rule_match.Match.{Match}
 pub use Rattle.draft.proofs.Reached.{reached_along}
 pub use Rattle.draft.proofs.Wholeness.{counted_insts, stands_there}
-pub use Rattle.draft.specs.Drafts.{AreTouched, HasRoomFor, Reaches, Stands, StandsBefore, arena_of, function_of, numbers_in, numbers_of, orders_of}
+pub use Rattle.draft.specs.Drafts.{AreTouched, HasRoomFor, Reaches, Stands, StandsBefore, arena_of, blocks_of, function_of, numbers_in, numbers_of, orders_of, placed, placed_binding}
 pub use Rattle.draft.specs.Whole.{IsSettled}
 pub use Rattle.draft.specs.declared.draft.Draft.{Draft}
 pub use Rattle.draft_steps.proofs.Arranged.{is_arranged}
@@ -20,10 +20,17 @@ pub use Rattle.draft_steps.specs.Arranged.{AreArranged, arranged, row_of}
 pub use Rattle.draft_steps.specs.DeadCode.{AllNeeded}
 pub use Rattle.draft_steps.specs.DraftWorklists.{ComesNext, IsWorklistOf, members_of, size_of}
 pub use Rattle.draft_steps.specs.MatchLaws.{AreSourcesWithin, MatchesOfTheArena, MatchesOfTheUntouched, placed_match}
+pub use Rattle.fold_branch.proofs.Again.{all_stay, folded_is_folded, none_chosen}
+pub use Rattle.fold_branch.proofs.FoldedBlocks.{length-folded_blocks}
+pub use Rattle.fold_branch.proofs.Staying.{staying_reached}
+pub use Rattle.fold_branch.specs.Choices.{chosen, decided, decided_block, decided_end, jump_or, literal}
+pub use Rattle.fold_branch.specs.Folded.{AreReached, IsFolded, choices_of, folded_as, folded_block, folded_blocks, folded_function, folded_inst, folded_op, staying}
+pub use Rattle.fold_branch.specs.Laws.{CleanedFunctionsStayFolded}
 pub use Rattle.ir_core.specs.Blocks.{HasInst, IsBlock, Names, targets_of}
 pub use Rattle.ir_core.specs.Checks.{IsKnown, MeetsChecks, ModuleMeetsChecks}
 pub use Rattle.ir_core.specs.Names.{Name}
 pub use Rattle.ir_core.specs.Reads.{end_of}
+pub use Rattle.ir_core.specs.Run.{branch_target, switch_target}
 pub use Rattle.ir_core.specs.Walks.{IsReached}
 pub use Rattle.ir_core.specs.declared.function.Block.{Block}
 pub use Rattle.ir_core.specs.declared.function.Function.{Function}
@@ -35,7 +42,7 @@ pub use Rattle.ir_core.specs.declared.module.Module.{Module}
 pub use Rattle.ir_core.specs.declared.operand.Operand.{Operand}
 pub use Rattle.ir_core.specs.declared.operand.Register.{Register}
 pub use Rattle.ir_core.specs.declared.terminator.Terminator.{Terminator}
-pub use Rattle.ir_meaning.proofs.Pieces.{contains_at, some_at}
+pub use Rattle.ir_meaning.proofs.Pieces.{contains_at, first_in, later_in, some_at}
 pub use Rattle.ir_meaning.specs.HistoryLaws.{NumbersFit}
 pub use Rattle.needed.proofs.Counting.{IsKept, block_at, block_back, kept_at, kept_back}
 pub use Rattle.needed.proofs.Reading.{has_inst}
@@ -48,11 +55,13 @@ pub use Rattle.places.specs.Orders.{place_in}
 pub use Rattle.places.specs.Sets.{Has, IsPlace, IsRemoved, Rows}
 pub use Rattle.places.specs.declared.place.Place.{Place}
 pub use Rattle.readers.proofs.Changing.{inst_there, known_has}
-pub use Rattle.readers.proofs.Reading.{read_in_block, reads_written, written, written_reads}
-pub use Rattle.readers.specs.Readers.{IsPlaceIn}
+pub use Rattle.readers.proofs.Reading.{arena_place_end, read_in_block, reads_written, written, written_reads}
+pub use Rattle.readers.specs.Readers.{IsPlaceIn, arena_place, listed_for}
 pub use Rattle.rewriter.specs.Applied.{IsRewritten}
-pub use Rattle.rewriter.specs.Put.{class_width, insts_of_op, insts_put, rewrite_of}
+pub use Rattle.rewriter.specs.Put.{argument_put, class_width, insts_of_op, insts_put, operand_put, result_of_op, result_put, results_put, rewrite_of}
+pub use Rattle.rule_core.proofs.Turns.{at_place}
 pub use Rattle.rule_core.specs.Checks.{IsRule}
+pub use Rattle.rule_core.specs.Terms.{in_turn}
 pub use Rattle.rule_core.specs.Valid.{IsValid}
 pub use Rattle.rule_core.specs.declared.rule.Rule.{Rule}
 pub use Rattle.rule_core.specs.declared.rule.Statement.{Statement}
@@ -63,24 +72,27 @@ pub use Rattle.rule_typing.proofs.Among.{fails, holds}
 pub use Rattle.rule_typing.proofs.Images.{Contains-map, from_map, get-map, map-map}
 pub use Rattle.rule_typing.specs.Classes.{IsClassified}
 pub use Rattle.rule_typing.specs.Faults.{HasNoFault}
-pub use Rattle.std.proofs.lemmas.Bool.{cases_eq, cases_lt}
-pub use Rattle.std.proofs.lemmas.List.{length-append, map-append, take-map, take_all, take_more}
-pub use Rattle.std.proofs.lemmas.List.Elements.{All-contains, Contains-get_or}
+pub use Rattle.std.proofs.lemmas.Bool.{and_parts, cases_eq, cases_lt, eqb-true}
+pub use Rattle.std.proofs.lemmas.List.{length-append, length-map, map-append, take-map, take_all, take_more}
+pub use Rattle.std.proofs.lemmas.List.Elements.{All-cons, All-contains, All-head, All-tail, Contains-get_or}
 pub use Rattle.std.proofs.lemmas.Option.{get_or_from_slice_get, none-some, same_Some, slice_get-get_or, slice_get_read, slice_get_within}
 pub use Rattle.std.proofs.lemmas.Result.{IfOk-weaker, on_ok_weaker}
+pub use Rattle.std.specs.Option.{option_map_or}
 pub use Rattle.strategy.specs.Asking.{MayAsk}
+pub use Rattle.strategy.specs.Folding.{GivesNoNumber, HasNothingToFold, IsPutAsNoNumber, IsRewrittenAt, KeepsChoices, PutsNoNumber}
 pub use Rattle.strategy.specs.Entries.{EntriesAreReady, EntryIsReady, OptimisesEntries, OptimisesEntry}
-pub use Rattle.strategy.specs.Frontiers.{AreTurnedDownAt, AreTurnedDownBut, AsksAt, IsFrontier, LooksAt, Nowhere, PlaceOf, SearchesTo}
-pub use Rattle.strategy.specs.Searches.{OptimisesCleaned, OptimisesFunction, StepsOrEnds}
+pub use Rattle.strategy.specs.Frontiers.{AreTurnedDownAt, AreTurnedDownBut, AsksAt, IsFrontier, IsSteppedAt, LooksAt, Nowhere, PlaceOf, SearchesTo}
+pub use Rattle.strategy.specs.Searches.{OptimisesFunction, OptimisesTidied, StepsOrEnds}
 pub use Rattle.strategy.specs.declared.module.Counts.{Counts}
-pub use Rattle.strategy_core.proofs.Numbers.{cleaned_numbers_fit}
+pub use Rattle.strategy_core.proofs.Numbers.{cleaned_numbers_fit, folded_numbers_fit}
 pub use Rattle.strategy_core.specs.Asked.{AreFirstAsked, IsAdmitted, IsTurnedDown, Pair, pair_in, pair_of}
 pub use Rattle.strategy_core.specs.Countable.{IsCountable, ModuleIsCountable}
 pub use Rattle.strategy_core.specs.Laws.{AdmittedAreValid, ModuleNumbersFit}
-pub use Rattle.strategy_core.specs.PlainStrategy.{AreOptimised, ComesOf, IsLastSearch, IsOptimised, IsPlainStrategy, IsStep, by_step, function, kept}
+pub use Rattle.strategy_core.specs.PlainStrategy.{AreOptimised, ComesOf, IsLastSearch, IsOptimised, IsPlainStrategy, IsStep, IsTidied, by_step, function, kept}
 pub use Rattle.substitution.proofs.Passing.{names_back, names_on}
 pub use Rattle.substitution.proofs.Placing.{IsMoved, is_moved, length-block}
-pub use Rattle.substitution.specs.Rewritten.{moved_place, rewritten_blocks, rewritten_function}
+pub use Rattle.substitution.specs.Rewritten.{is_root, moved_place, rewritten_block, rewritten_blocks, rewritten_function, rewritten_insts, stands_for}
+pub use Rattle.substitution.specs.Substitution.{Substitution, substituted_end, substituted_entries, substituted_inst, substituted_op, substituted_operand}
 pub use Rattle.substitution.specs.declared.rewrite.Rewrite.{Rewrite}
 pub use Rattle.asked_verdicts.proofs.Growing.{admitted_stays, all_turned_down_stay, any_admitted_stays}
 pub use Rattle.asked_verdicts.proofs.Parts.{IsPast, asks_again, asks_first, asks_these, nothing_past, past_all, past_block, past_first, past_place}

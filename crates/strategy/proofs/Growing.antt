@@ -2,8 +2,8 @@
 use Rattle.strategy.proofs.Common.{◌≡◌, ℕ, ◌-◌, Bool, true, false, List, All, Any, Contains, MatchBool, Entry, Function, Rule, Row, Match, Pair, IsAdmitted, IsTurnedDown, admitted_stays, all_turned_down_stay, any_admitted_stays, IsStep, ComesOf, by_step, IsLastSearch, IsOptimised, AreOptimised, kept, function}
 use Rattle.strategy_core.specs.PlainStrategy.{itself, none}
 
-module _ (rules : List Rule) (table larger : List Row) (grows : (row : Row) → Contains table row → Contains larger row) where
-  pub step_stays : (f new : Function) (asked : List Pair) → IsStep rules table f new asked → IsStep rules larger f new asked
+module _ (fold : Bool) (rules : List Rule) (table larger : List Row) (grows : (row : Row) → Contains table row → Contains larger row) where
+  pub step_stays : (f new : Function) (asked : List Pair) → IsStep fold rules table f new asked → IsStep fold rules larger f new asked
   step_stays f new asked s = record {
     chosen = s.chosen;
     is_match = s.is_match;
@@ -14,10 +14,10 @@ module _ (rules : List Rule) (table larger : List Row) (grows : (row : Row) → 
     asks = s.asks;
     rewritten = s.rewritten;
     is_rewritten = s.is_rewritten;
-    is_cleaned = s.is_cleaned;
+    is_tidied = s.is_tidied;
   }
 
-  pub steps_stay : {count : ℕ} {f g : Function} {asked : List Pair} → ComesOf rules table count f g asked → ComesOf rules larger count f g asked
+  pub steps_stay : {count : ℕ} {f g : Function} {asked : List Pair} → ComesOf fold rules table count f g asked → ComesOf fold rules larger count f g asked
   steps_stay (itself f) = itself f
   steps_stay (by_step count f g h asked more comes step) = by_step count f g h asked more (steps_stay comes) (step_stays g h more step)
 
@@ -30,10 +30,10 @@ module _ (rules : List Rule) (table larger : List Row) (grows : (row : Row) → 
   last_stays left f limited asked s = record { matches = s.matches; are_matches = s.are_matches; asks = s.asks; ends = ends_stay left limited s.matches s.ends }
 
   pub optimised_stays : (steps : ℕ) (old new : Function) (count : ℕ) (limited : Bool) (asked : List Pair)
-      → IsOptimised rules table steps old new count limited asked → IsOptimised rules larger steps old new count limited asked
+      → IsOptimised fold rules table steps old new count limited asked → IsOptimised fold rules larger steps old new count limited asked
   optimised_stays steps old new count limited asked o = record {
-    cleaned = o.cleaned;
-    is_cleaned = o.is_cleaned;
+    tidied = o.tidied;
+    is_tidied = o.is_tidied;
     in_steps = o.in_steps;
     comes = steps_stay o.comes;
     within = o.within;
@@ -43,7 +43,7 @@ module _ (rules : List Rule) (table larger : List Row) (grows : (row : Row) → 
   }
 
   pub entries_stay : {steps : ℕ} {old new : List Entry} {counts : List ℕ} {limited : List Bool} {asked : List Pair}
-      → AreOptimised rules table steps old new counts limited asked → AreOptimised rules larger steps old new counts limited asked
+      → AreOptimised fold rules table steps old new counts limited asked → AreOptimised fold rules larger steps old new counts limited asked
   entries_stay none = none
   entries_stay (kept line old new counts limited asked others) = kept line old new counts limited asked (entries_stay others)
   entries_stay {steps} (function f last count is_limited asked old new counts limited rest one others) =

@@ -8,3 +8,6 @@ pub mod Searching
 pub mod Cleanness
 pub mod Reaching
 pub mod Requeueing
+pub mod Choosing
+pub mod StayingFolded
+pub mod Chosen

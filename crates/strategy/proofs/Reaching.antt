@@ -19,10 +19,10 @@ kept_back f kept b c h =
     (was.0, was.1, subst (λ (l : List ℕ). Contains l c) (targets_moved kept was.0.end) named)
 
 module _ (f g : Function) (rule : Rule) (binding : Binding) (is : IsRewritten f binding rule g) where
-  rewritten_on : (b : ℕ) → IsReached f b → IsReached g b
+  pub rewritten_on : (b : ℕ) → IsReached f b → IsReached g b
   rewritten_on b = reached_along f g (λ c d h. subst (λ (x : Function). Names x c d) (sym is.is) (names_on (rewrite_of rule binding is.root.name) f c d h)) b
 
-  rewritten_back : (b : ℕ) → IsReached g b → IsReached f b
+  pub rewritten_back : (b : ℕ) → IsReached g b → IsReached f b
   rewritten_back b = reached_along g f (λ c d h. names_back (rewrite_of rule binding is.root.name) f c d (subst (λ (x : Function). Names x c d) is.is h)) b
 
 module _ (f g : Function) (is : IsCleaned f g) where

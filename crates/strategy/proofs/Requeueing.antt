@@ -36,3 +36,6 @@ room_at_first steps f some countable k x lt = (let few = countable.insts k x lt 
 
 pub few_numbers : (steps : ℕ) (f : Function) → 0 < steps → IsCountable steps f → All (λ (b : Block). length b.insts ≤ none) f.blocks
 few_numbers steps f some countable k x lt = (let few = countable.insts k x lt in omega (arith, few, some))
+
+pub room_left : (steps : ℕ) (f : Function) → IsCountable steps f → All (λ (b : Block). length b.insts + 32 * steps ≤ none) f.blocks
+room_left steps f countable k x lt = (let few = countable.insts k x lt in omega (arith, few))

@@ -1,5 +1,5 @@
 -- How large functions become: a step adds fewer than 32 instructions to a block.
-use Rattle.strategy.proofs.Common.{◌≡◌, inl, inr, ℕ, suc, ◌+◌, ◌-◌, ◌*◌, ◌<◌, ◌≤◌, Bool, true, false, List, [], ◌∷◌, length, get_or, None, refl, sym, ap, subst, arith, All, ◌^◌, cases_eq, cases_lt, length-append, All-contains, slice_get-get_or, IsBlock, Name, Block, Function, Inst, contains_at, Rule, Statement, Binding, Rewrite, moved_place, rewritten_blocks, rewritten_function, IsMoved, is_moved, length-block, KeptMarks, kept_first, kept_insts, moved_inst, kept_block, kept_blocks, kept_function, IsCleaned, IsRewritten, class_width, insts_of_op, insts_put, rewrite_of, IsCountable}
+use Rattle.strategy.proofs.Common.{◌≡◌, inl, inr, ℕ, suc, ◌+◌, ◌-◌, ◌*◌, ◌<◌, ◌≤◌, Bool, true, false, List, [], ◌∷◌, length, get_or, Option, None, refl, sym, ap, subst, arith, All, All-cons, All-head, All-tail, length-map, ◌^◌, cases_eq, cases_lt, length-append, All-contains, slice_get-get_or, IsBlock, Name, Block, Function, Inst, contains_at, Rule, Statement, Binding, Rewrite, moved_place, rewritten_blocks, rewritten_function, IsMoved, is_moved, length-block, KeptMarks, kept_first, kept_insts, moved_inst, kept_block, kept_blocks, kept_function, IsCleaned, IsFolded, IsTidied, choices_of, folded_as, folded_block, folded_blocks, folded_inst, length-folded_blocks, IsRewritten, class_width, insts_of_op, insts_put, rewrite_of, IsCountable}
 use Rattle.rule_core.specs.declared.rule.Op.{Op as RuleOp}
 use Rattle.rule_core.specs.declared.rule.Op.TheVariants as rule_ops
 use Rattle.substitution.proofs.Placing.{block_back as block_of_rewritten}
@@ -45,6 +45,30 @@ kept_countable steps f kept c = record {
 pub cleaned_countable : (steps : ℕ) (f g : Function) → IsCountable steps f → IsCleaned f g → IsCountable steps g
 cleaned_countable steps f g c cleaned = subst (IsCountable steps) (sym cleaned.2) (kept_countable steps f cleaned.0 c)
 
+-- ---- folding
+
+as_many_folded : (choices : List (Option ℕ)) (reached : List Bool) (b : ℕ) (block : Block) (mark : Bool) → length (folded_as choices reached b mark block).insts ≤ length block.insts
+as_many_folded choices reached b block true = (let size = length-map block.insts (folded_inst choices reached b) in omega (arith, size))
+as_many_folded choices reached b block false = omega arith
+
+few_folded : (P : Block → Type 0) (choices : List (Option ℕ)) (reached : List Bool) → ((b : ℕ) (block : Block) (mark : Bool) → P block → P (folded_as choices reached b mark block))
+    → (b : ℕ) (blocks : List Block) → All P blocks → All P (folded_blocks choices reached b blocks)
+few_folded P choices reached each b [] all = all
+few_folded P choices reached each b (x ∷ blocks) all =
+    All-cons P (folded_block choices reached b x) (folded_blocks choices reached (suc b) blocks) (each b x (get_or reached b false) (All-head P x blocks all))
+    (few_folded P choices reached each (suc b) blocks (All-tail P x blocks all))
+
+pub folded_countable : (steps : ℕ) (f g : Function) → IsCountable steps f → IsFolded f g → IsCountable steps g
+folded_countable steps f g c folded = subst (IsCountable steps) (sym folded.2) (record {
+  blocks = (let few = c.blocks in omega (arith, few, length-folded_blocks (choices_of f) folded.0 0 f.blocks));
+  insts = few_folded (λ (b : Block). length b.insts + 32 * steps < 2 ^ 32) (choices_of f) folded.0
+      (λ b block mark few. let fewer = as_many_folded (choices_of f) folded.0 b block mark in omega (arith, few, fewer)) 0 f.blocks c.insts;
+})
+
+pub tidied_countable : (fold : Bool) (steps : ℕ) (f g : Function) → IsCountable steps f → IsTidied fold f g → IsCountable steps g
+tidied_countable true steps f g c tidied = cleaned_countable steps tidied.0 g (folded_countable steps f tidied.0 c tidied.1) tidied.2
+tidied_countable false steps f g c tidied = cleaned_countable steps f g c tidied
+
 -- ---- rewriting
 
 module _ (rule : Rule) (binding : Binding) where
@@ -65,7 +89,7 @@ module _ (rule : Rule) (binding : Binding) where
       let rest = few_put name (t ∷ statements) in
       omega (arith, one, rest, length-append (insts_of_op rule binding None (class_width rule binding s.class) s.op) (insts_put rule binding name (t ∷ statements)))
 
-as_many_rewritten : (w : Rewrite) (b : ℕ) (blocks : List Block) → length (rewritten_blocks w b blocks) ≡ length blocks
+pub as_many_rewritten : (w : Rewrite) (b : ℕ) (blocks : List Block) → length (rewritten_blocks w b blocks) ≡ length blocks
 as_many_rewritten w b [] = refl
 as_many_rewritten w b (x ∷ blocks) = ap suc (as_many_rewritten w (suc b) blocks)
 

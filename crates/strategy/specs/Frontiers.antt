@@ -1,11 +1,9 @@
 -- What is known of the matches of a draft while it is rewritten, and what a search asks. The frontier is a draft with
 -- its worklist, which holds every place where a match may be that is not turned down. A place waits while it is on the
 -- worklist.
-use Rattle.std.specs.Prelude.{◌≡◌, ◌⊎◌, ℕ, false, List, All, Option, None, Some, slice_get, option_and_then}
+use Rattle.std.specs.Prelude.{◌≡◌, ◌⊎◌, ℕ, Bool, false, List, All, Option, None, Some, slice_get, option_and_then}
 use Rattle.ir_core.specs.declared.function.Function.{Function}
 use Rattle.rule_core.specs.declared.rule.Rule.{Rule}
-use Rattle.needed.specs.Cleaned.{IsCleaned}
-use Rattle.rewriter.specs.Applied.{IsRewritten}
 use Rattle.verdict_core.specs.declared.verdicts.Row.{Row}
 use Rattle.bindings.specs.declared.rule_match.Match.{Match}
 use Rattle.bindings.specs.Matches.{AreMatchesInAnyOrder, IsAt}
@@ -19,8 +17,10 @@ use Rattle.draft.specs.Whole.{IsSettled}
 use Rattle.draft_steps.specs.MatchLaws.{AreSourcesWithin, placed_match}
 use Rattle.asked_verdicts.specs.declared.verdicts.Verdicts.{Verdicts}
 use Rattle.strategy_core.specs.Asked.{IsTurnedDown}
+use Rattle.strategy_core.specs.PlainStrategy.{IsTidied}
 use Rattle.asked_verdicts.specs.Asks.{AsksAll, AsksUpTo, IsAnywhere}
 use Rattle.asked_verdicts.specs.Parts.{AsksToPlace}
+use Rattle.strategy.specs.Folding.{IsRewrittenAt}
 use Rattle.strategy.specs.declared.frontier.Frontier.{Frontier}
 
 -- all matches at an instruction of the arena are turned down: the table has their verdicts, and none is `Admitted`
@@ -68,7 +68,6 @@ SearchesTo rules conflicts d waiting old new None = AsksAll rules conflicts (fun
 SearchesTo rules conflicts d waiting old new (Some chosen) = AsksUpTo rules conflicts (function_of d) IsAnywhere old new (placed_match d chosen)
     × AreTurnedDownBut rules new.table (PlaceOf chosen) d waiting
 
--- the draft's function is rewritten at the match, and then cleaned
-abbrev pub IsSteppedAt : List Rule → Draft → Draft → Match → Type 0
-IsSteppedAt rules old new chosen = (rewritten : Function) × IsCleaned rewritten (function_of new)
-    × ((rule : Rule) → slice_get rules chosen.rule ≡ Some rule → IsRewritten (function_of old) (placed_match old chosen).binding rule rewritten)
+-- the draft's function is rewritten at the match, and then tidied
+abbrev pub IsSteppedAt : Bool → List Rule → Draft → Draft → Match → Type 0
+IsSteppedAt fold rules old new chosen = (rewritten : Function) × IsTidied fold rewritten (function_of new) × IsRewrittenAt rules old chosen rewritten

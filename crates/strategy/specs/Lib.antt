@@ -4,6 +4,7 @@ pub use Rattle.strategy_core.specs.Asked
 pub use Rattle.bindings.specs.Matches
 pub use Rattle.bindings.specs.Ready
 pub mod Asking
+pub mod Folding
 pub mod Searches
 pub mod Entries
 pub mod Frontiers

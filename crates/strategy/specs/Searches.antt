@@ -2,25 +2,24 @@
 use Rattle.std.specs.Prelude.{◌≡◌, ℕ, Bool, true, false, List}
 use Rattle.ir_core.specs.declared.function.Function.{Function}
 use Rattle.rule_core.specs.declared.rule.Rule.{Rule}
-use Rattle.needed.specs.Cleaned.{IsCleaned}
 use Rattle.asked_verdicts.specs.declared.verdicts.Verdicts.{Verdicts}
 use Rattle.strategy_core.specs.Asked.{Pair}
 use Rattle.asked_verdicts.specs.Asks.{Asks}
-use Rattle.strategy_core.specs.PlainStrategy.{IsStep, IsLastSearch, IsOptimised}
+use Rattle.strategy_core.specs.PlainStrategy.{IsTidied, IsStep, IsLastSearch, IsOptimised}
 
 -- Either a step is made; or no match is admitted, the function stays, and this was its last search, whatever number of
 -- steps is left.
-abbrev pub StepsOrEnds : List Rule → ℕ → Function → Function → Verdicts → Verdicts → Bool → Type 0
-StepsOrEnds rules conflicts f new old verdicts true = (pairs : List Pair) × Asks rules conflicts pairs old verdicts × IsStep rules verdicts.table f new pairs
-StepsOrEnds rules conflicts f new old verdicts false = (pairs : List Pair) × Asks rules conflicts pairs old verdicts × (new ≡ f)
+abbrev pub StepsOrEnds : Bool → List Rule → ℕ → Function → Function → Verdicts → Verdicts → Bool → Type 0
+StepsOrEnds fold rules conflicts f new old verdicts true = (pairs : List Pair) × Asks rules conflicts pairs old verdicts × IsStep fold rules verdicts.table f new pairs
+StepsOrEnds fold rules conflicts f new old verdicts false = (pairs : List Pair) × Asks rules conflicts pairs old verdicts × (new ≡ f)
     × ((left : ℕ) → IsLastSearch rules verdicts.table left f false pairs)
 
 -- what becomes of a function within `steps` steps, and which pairs are asked for it
-abbrev pub OptimisesFunction : List Rule → ℕ → ℕ → Function → Function → Verdicts → Verdicts → ℕ → Bool → Type 0
-OptimisesFunction rules conflicts steps old new before after count limited =
-    (pairs : List Pair) × Asks rules conflicts pairs before after × IsOptimised rules after.table steps old new count limited pairs
+abbrev pub OptimisesFunction : Bool → List Rule → ℕ → ℕ → Function → Function → Verdicts → Verdicts → ℕ → Bool → Type 0
+OptimisesFunction fold rules conflicts steps old new before after count limited =
+    (pairs : List Pair) × Asks rules conflicts pairs before after × IsOptimised fold rules after.table steps old new count limited pairs
 
--- the same for a function that has no dead code
-abbrev pub OptimisesCleaned : List Rule → ℕ → ℕ → Function → Function → Verdicts → Verdicts → ℕ → Bool → Type 0
-OptimisesCleaned rules conflicts steps cleaned new before after count limited =
-    (old : Function) → IsCleaned old cleaned → OptimisesFunction rules conflicts steps old new before after count limited
+-- the same for a function that is tidied already
+abbrev pub OptimisesTidied : Bool → List Rule → ℕ → ℕ → Function → Function → Verdicts → Verdicts → ℕ → Bool → Type 0
+OptimisesTidied fold rules conflicts steps tidied new before after count limited =
+    (old : Function) → IsTidied fold old tidied → OptimisesFunction fold rules conflicts steps old new before after count limited

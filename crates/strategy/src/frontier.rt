@@ -1,6 +1,7 @@
 //! What the strategy makes of one function, with a worklist of the places where an admitted match may be.
 
-ghost use Rattle.std.specs.Prelude.{◌≡◌, ◌<◌, ◌≤◌, ◌^◌, ℕ, suc, List as Seq, length, All, Contains, IfOk, OnOk};
+ghost use Rattle.std.specs.Prelude.{◌≡◌, ◌<◌, ◌≤◌, ◌^◌, ℕ, suc, List as Seq, length, true, false, All, Contains, IfOk, OnOk};
+ghost use Rattle.fold_branch.specs.Folded.{IsFolded};
 ghost use Rattle.ir_core.specs.Blocks.{HasInst};
 ghost use Rattle.ir_core.specs.Checks.{MeetsChecks};
 ghost use Rattle.ir_meaning.specs.HistoryLaws.{NumbersFit};
@@ -18,14 +19,17 @@ ghost use Rattle.draft_steps.specs.MatchLaws.{AreSourcesWithin, placed_match};
 ghost use Rattle.asked_verdicts.specs.Asks.{AsksAll, IsAnywhere};
 ghost use Rattle.strategy_core.specs.Countable.{IsCountable};
 ghost use Rattle.strategy.specs.Asking.{MayAsk};
+ghost use Rattle.strategy.specs.Folding.{HasNothingToFold};
 ghost use Rattle.strategy.specs.Frontiers.{AreTurnedDownBut, AsksAt, IsFrontier, IsSteppedAt, LooksAt, Nowhere, PlaceOf, SearchesTo};
-ghost use Rattle.strategy.specs.Searches.{OptimisesCleaned, OptimisesFunction, StepsOrEnds};
+ghost use Rattle.strategy.specs.Searches.{OptimisesTidied, OptimisesFunction, StepsOrEnds};
 
-use crate::steps::{Bounds, Turns, clean_checked};
+use crate::folding::{may_choose, rewritten_at};
+use crate::steps::{Options, Turns, tidy_checked};
 use asked_verdicts::{Verdicts, any_admitted, first_admitted};
 use bindings::Match;
 use draft::Draft;
 use draft_steps::{DraftWorklist, matches_of_the_arena, matches_of_the_untouched, orders_are_kept};
+use fold_branch::cleaning_keeps_functions_folded;
 use ir_core::Function;
 use needed::{every_cleaned_function_refines_the_old, every_cleaned_number_was_there};
 use places::Place;
@@ -44,7 +48,7 @@ pub(crate) struct Frontier {
     depth: usize,
 }
 
-/// Eliminates a function's dead code, and rewrites and cleans it, at most as often as the steps say.
+/// Tidies a function, and rewrites and tidies it, at most as often as the steps say.
 ///
 /// A search looks at the places on the worklist only. So a step takes as long as what it changes and the users of that,
 /// as far as a match may reach.
@@ -53,62 +57,64 @@ pub(crate) fn optimise_function(
     f: Function,
     rules: &Rules<'_>,
     verdicts: &mut Verdicts,
-    bounds: Bounds,
+    options: Options,
 ) -> Result<(Function, Turns), AllocError>
     requires checks { MeetsChecks f }
     requires numbers { NumbersFit f }
-    requires countable { IsCountable bounds.steps f }
-    requires asks { MayAsk rules.now bounds.conflicts verdicts.old }
-    ensures { IfOk result (λ made. OptimisesFunction rules.now.all.now bounds.conflicts bounds.steps f made.0 verdicts.old verdicts.new made.1.count made.1.limited) }
+    requires countable { IsCountable options.steps f }
+    requires asks { MayAsk rules.now options.conflicts verdicts.old }
+    ensures { IfOk result (λ made. OptimisesFunction options.fold rules.now.all.now options.conflicts options.steps f made.0 verdicts.old verdicts.new made.1.count made.1.limited) }
 {
-    let mut cleaned = f;
-    clean_checked(alloc, &mut cleaned)?;
-    let made = optimise_cleaned(alloc, cleaned, rules, verdicts, bounds)?;
+    let mut tidied = f;
+    tidy_checked(alloc, &mut tidied, options.fold)?;
+    let made = optimise_tidied(alloc, tidied, rules, verdicts, options)?;
     Ok(made)
 }
 
-/// The same for a function that has no dead code.
-fn optimise_cleaned(
+/// The same for a function that is tidied already.
+fn optimise_tidied(
     alloc: Global,
     f: Function,
     rules: &Rules<'_>,
     verdicts: &mut Verdicts,
-    bounds: Bounds,
+    options: Options,
 ) -> Result<(Function, Turns), AllocError>
     requires checks { MeetsChecks f }
     requires needed { AllNeeded f }
+    requires folded { HasNothingToFold options.fold f }
     requires numbers { NumbersFit f }
-    requires countable { IsCountable bounds.steps f }
-    requires asks { MayAsk rules.now bounds.conflicts verdicts.old }
-    ensures { IfOk result (λ made. OptimisesCleaned rules.now.all.now bounds.conflicts bounds.steps f made.0 verdicts.old verdicts.new made.1.count made.1.limited) }
+    requires countable { IsCountable options.steps f }
+    requires asks { MayAsk rules.now options.conflicts verdicts.old }
+    ensures { IfOk result (λ made. OptimisesTidied options.fold rules.now.all.now options.conflicts options.steps f made.0 verdicts.old verdicts.new made.1.count made.1.limited) }
 {
-    if bounds.steps == 0 {
-        let made = search_last(alloc, f, rules, verdicts, bounds)?;
+    if options.steps == 0 {
+        let made = search_last(alloc, f, rules, verdicts, options)?;
         return Ok(made);
     }
-    let made = rewrite_cleaned(alloc, f, rules, verdicts, bounds)?;
+    let made = rewrite_tidied(alloc, f, rules, verdicts, options)?;
     Ok(made)
 }
 
 /// The same where at least one step is allowed.
-fn rewrite_cleaned(
+fn rewrite_tidied(
     alloc: Global,
     f: Function,
     rules: &Rules<'_>,
     verdicts: &mut Verdicts,
-    bounds: Bounds,
+    options: Options,
 ) -> Result<(Function, Turns), AllocError>
-    requires some { 0 < bounds.steps }
+    requires some { 0 < options.steps }
     requires checks { MeetsChecks f }
     requires needed { AllNeeded f }
+    requires folded { HasNothingToFold options.fold f }
     requires numbers { NumbersFit f }
-    requires countable { IsCountable bounds.steps f }
-    requires asks { MayAsk rules.now bounds.conflicts verdicts.old }
-    ensures { IfOk result (λ made. OptimisesCleaned rules.now.all.now bounds.conflicts bounds.steps f made.0 verdicts.old verdicts.new made.1.count made.1.limited) }
+    requires countable { IsCountable options.steps f }
+    requires asks { MayAsk rules.now options.conflicts verdicts.old }
+    ensures { IfOk result (λ made. OptimisesTidied options.fold rules.now.all.now options.conflicts options.steps f made.0 verdicts.old verdicts.new made.1.count made.1.limited) }
 {
     let mut frontier = Frontier::of(alloc, f, rules.all)?;
-    for count in 0..bounds.steps {
-        let (stepped, next) = step(alloc, frontier, rules, verdicts, bounds.conflicts)?;
+    for count in 0..options.steps {
+        let (stepped, next) = step(alloc, frontier, rules, verdicts, options)?;
         frontier = next;
         if !stepped {
             let last = draft::function_of(alloc, frontier.draft)?;
@@ -122,7 +128,7 @@ fn rewrite_cleaned(
         }
     }
     let last = draft::function_of(alloc, frontier.draft)?;
-    let made = search_last(alloc, last, rules, verdicts, bounds)?;
+    let made = search_last(alloc, last, rules, verdicts, options)?;
     Ok(made)
 }
 
@@ -132,20 +138,20 @@ fn search_last(
     f: Function,
     rules: &Rules<'_>,
     verdicts: &mut Verdicts,
-    bounds: Bounds,
+    options: Options,
 ) -> Result<(Function, Turns), AllocError>
     requires checks { MeetsChecks f }
     requires countable { IsCountable 0 f }
-    requires asks { MayAsk rules.now bounds.conflicts verdicts.old }
+    requires asks { MayAsk rules.now options.conflicts verdicts.old }
     ensures function { IfOk result (λ made. made.0 ≡ f) }
-    ensures count { IfOk result (λ made. made.1.count ≡ bounds.steps) }
-    ensures asks { IfOk result (λ made. AsksAll rules.now.all.now bounds.conflicts f IsAnywhere verdicts.old verdicts.new made.1.limited) }
+    ensures count { IfOk result (λ made. made.1.count ≡ options.steps) }
+    ensures asks { IfOk result (λ made. AsksAll rules.now.all.now options.conflicts f IsAnywhere verdicts.old verdicts.new made.1.limited) }
 {
-    let limited = any_admitted(alloc, &f, rules, verdicts, bounds.conflicts)?;
+    let limited = any_admitted(alloc, &f, rules, verdicts, options.conflicts)?;
     Ok((
         f,
         Turns {
-            count: bounds.steps,
+            count: options.steps,
             limited,
         },
     ))
@@ -184,25 +190,29 @@ fn depth_of(rules: &[Rule]) -> usize
     depth
 }
 
-/// Rewrites the function at its first admitted match, and cleans it. The answer is false where there is none; then the
+/// Rewrites the function at its first admitted match, and tidies it. The answer is false where there is none; then the
 /// verdicts of all its matches were asked for.
 fn step(
     alloc: Global,
     frontier: Frontier,
     rules: &Rules<'_>,
     verdicts: &mut Verdicts,
-    conflicts: u32,
+    options: Options,
 ) -> Result<(bool, Frontier), AllocError>
     requires frontier { IsFrontier rules.now.all.now verdicts.old.table frontier }
     requires checks { MeetsChecks (function_of frontier.draft) }
     requires numbers { NumbersFit (function_of frontier.draft) }
+    requires folded { HasNothingToFold options.fold (function_of frontier.draft) }
     requires room { HasRoomFor 1 frontier.draft }
-    requires asks { MayAsk rules.now conflicts verdicts.old }
-    ensures steps { IfOk result (λ made. StepsOrEnds rules.now.all.now conflicts (function_of frontier.draft) (function_of made.1.draft) verdicts.old verdicts.new made.0) }
+    requires countable { IsCountable 1 (function_of frontier.draft) }
+    requires asks { MayAsk rules.now options.conflicts verdicts.old }
+    ensures steps { IfOk result (λ made. StepsOrEnds options.fold rules.now.all.now options.conflicts (function_of frontier.draft) (function_of made.1.draft) verdicts.old verdicts.new made.0) }
     ensures frontier { IfOk result (λ made. IsFrontier rules.now.all.now verdicts.new.table made.1) }
     ensures checks { IfOk result (λ made. MeetsChecks (function_of made.1.draft)) }
     ensures numbers { IfOk result (λ made. NumbersFit (function_of made.1.draft)) }
-    ensures room { IfOk result (λ made. (steps : ℕ) → HasRoomFor (suc steps) frontier.draft → HasRoomFor steps made.1.draft) }
+    ensures folded { IfOk result (λ made. HasNothingToFold options.fold (function_of made.1.draft)) }
+    ensures room { IfOk result (λ made. (steps : ℕ) → HasRoomFor (suc steps) frontier.draft → IsCountable (suc steps) (function_of frontier.draft)
+        → HasRoomFor steps made.1.draft) }
 {
     let mut frontier = frontier;
     let found = next_admitted(
@@ -211,12 +221,12 @@ fn step(
         &mut frontier.worklist,
         rules,
         verdicts,
-        conflicts,
+        options.conflicts,
     )?;
     let Some(chosen) = found else {
         return Ok((false, frontier));
     };
-    let rewritten = rewrite_at(alloc, frontier, rules.all, &chosen)?;
+    let rewritten = rewrite_at(alloc, frontier, rules.all, &chosen, options.fold)?;
     Ok((true, rewritten))
 }
 
@@ -302,9 +312,117 @@ fn admitted_at(
     Ok(None)
 }
 
-/// Rewrites the function at a match. The places that it touched, and the users from which a match may reach them, are
-/// put on the worklist.
+/// Rewrites the function at a match, and tidies it.
 fn rewrite_at(
+    alloc: Global,
+    frontier: Frontier,
+    rules: &[Rule],
+    chosen: &Match,
+    folding: bool,
+) -> Result<Frontier, AllocError>
+    requires ready { AreReady rules.now }
+    requires settled { IsSettled frontier.draft }
+    requires clean { HasNoDeadCode frontier.draft }
+    requires worklist { IsWorklistOf frontier.draft frontier.worklist }
+    requires depth { AreSourcesWithin frontier.depth rules.now }
+    requires matches { IsMatchAmong rules.now (function_of frontier.draft) (placed_match frontier.draft chosen.now) }
+    requires checks { MeetsChecks (function_of frontier.draft) }
+    requires numbers { NumbersFit (function_of frontier.draft) }
+    requires folded { HasNothingToFold folding (function_of frontier.draft) }
+    requires room { HasRoomFor 1 frontier.draft }
+    requires countable { IsCountable 1 (function_of frontier.draft) }
+    ensures stepped { IfOk result (λ made. IsSteppedAt folding rules.now frontier.draft made.draft chosen.now) }
+
+    // At places that are not on the new worklist matches stay turned down, whatever the table is.
+    ensures frontier { IfOk result (λ made. (table : Seq VerdictRow) → AreTurnedDownBut rules.now table (PlaceOf chosen.now) frontier.draft (members_of frontier.worklist)
+        → IsFrontier rules.now table made) }
+    ensures checks { IfOk result (λ made. MeetsChecks (function_of made.draft)) }
+    ensures numbers { IfOk result (λ made. NumbersFit (function_of made.draft)) }
+    ensures folded { IfOk result (λ made. HasNothingToFold folding (function_of made.draft)) }
+    ensures room { IfOk result (λ made. (steps : ℕ) → HasRoomFor (suc steps) frontier.draft → IsCountable (suc steps) (function_of frontier.draft)
+        → HasRoomFor steps made.draft) }
+{
+    if folding {
+        let folded = rewrite_and_fold(alloc, frontier, rules, chosen)?;
+        return Ok(folded);
+    }
+    let next = rewrite_and_clean(alloc, frontier, rules, chosen)?;
+    Ok(next)
+}
+
+/// The same where folding is asked for. Nothing is left to fold before the rewrite, so there is nothing after it but
+/// where a branch or a switch may get a number.
+///
+/// There the whole function is made anew. So each branch that a rule decides costs a time that is linear in the
+/// function, and 10,000 in one function, decided one by one, a time that is quadratic. All other steps take as long as
+/// they do without folding.
+fn rewrite_and_fold(
+    alloc: Global,
+    frontier: Frontier,
+    rules: &[Rule],
+    chosen: &Match,
+) -> Result<Frontier, AllocError>
+    requires ready { AreReady rules.now }
+    requires settled { IsSettled frontier.draft }
+    requires clean { HasNoDeadCode frontier.draft }
+    requires worklist { IsWorklistOf frontier.draft frontier.worklist }
+    requires depth { AreSourcesWithin frontier.depth rules.now }
+    requires matches { IsMatchAmong rules.now (function_of frontier.draft) (placed_match frontier.draft chosen.now) }
+    requires checks { MeetsChecks (function_of frontier.draft) }
+    requires numbers { NumbersFit (function_of frontier.draft) }
+    requires folded { IsFolded (function_of frontier.draft) (function_of frontier.draft) }
+    requires room { HasRoomFor 1 frontier.draft }
+    requires countable { IsCountable 1 (function_of frontier.draft) }
+    ensures stepped { IfOk result (λ made. IsSteppedAt true rules.now frontier.draft made.draft chosen.now) }
+
+    // At places that are not on the new worklist matches stay turned down, whatever the table is.
+    ensures frontier { IfOk result (λ made. (table : Seq VerdictRow) → AreTurnedDownBut rules.now table (PlaceOf chosen.now) frontier.draft (members_of frontier.worklist)
+        → IsFrontier rules.now table made) }
+    ensures checks { IfOk result (λ made. MeetsChecks (function_of made.draft)) }
+    ensures numbers { IfOk result (λ made. NumbersFit (function_of made.draft)) }
+    ensures folded { IfOk result (λ made. IsFolded (function_of made.draft) (function_of made.draft)) }
+    ensures room { IfOk result (λ made. (steps : ℕ) → HasRoomFor (suc steps) frontier.draft → IsCountable (suc steps) (function_of frontier.draft)
+        → HasRoomFor steps made.draft) }
+{
+    cleaning_keeps_functions_folded();
+    if may_choose(&frontier.draft, rules, chosen) {
+        let anew = begin_anew(alloc, frontier.draft, rules, chosen)?;
+        return Ok(anew);
+    }
+    let next = rewrite_and_clean(alloc, frontier, rules, chosen)?;
+    Ok(next)
+}
+
+/// Rewrites the function of a draft at a match, tidies it, and begins with it anew: every place is on the worklist.
+fn begin_anew(
+    alloc: Global,
+    draft: Draft,
+    rules: &[Rule],
+    chosen: &Match,
+) -> Result<Frontier, AllocError>
+    requires ready { AreReady rules.now }
+    requires settled { IsSettled draft }
+    requires matches { IsMatchAmong rules.now (function_of draft) (placed_match draft chosen.now) }
+    requires checks { MeetsChecks (function_of draft) }
+    requires numbers { NumbersFit (function_of draft) }
+    requires room { HasRoomFor 1 draft }
+    requires countable { IsCountable 1 (function_of draft) }
+    ensures stepped { IfOk result (λ made. IsSteppedAt true rules.now draft made.draft chosen.now) }
+    ensures frontier { IfOk result (λ made. (table : Seq VerdictRow) → IsFrontier rules.now table made) }
+    ensures checks { IfOk result (λ made. MeetsChecks (function_of made.draft)) }
+    ensures numbers { IfOk result (λ made. NumbersFit (function_of made.draft)) }
+    ensures folded { IfOk result (λ made. IsFolded (function_of made.draft) (function_of made.draft)) }
+    ensures room { IfOk result (λ made. (steps : ℕ) → IsCountable (suc steps) (function_of draft) → HasRoomFor steps made.draft) }
+{
+    let mut f = rewritten_at(alloc, draft, rules, chosen)?;
+    tidy_checked(alloc, &mut f, true)?;
+    let made = Frontier::of(alloc, f, rules)?;
+    Ok(made)
+}
+
+/// Rewrites the function at a match, and cleans it. The places that it touched, and the users from which a match may reach them, are
+/// put on the worklist.
+fn rewrite_and_clean(
     alloc: Global,
     frontier: Frontier,
     rules: &[Rule],
@@ -319,7 +437,7 @@ fn rewrite_at(
     requires checks { MeetsChecks (function_of frontier.draft) }
     requires numbers { NumbersFit (function_of frontier.draft) }
     requires room { HasRoomFor 1 frontier.draft }
-    ensures stepped { IfOk result (λ made. IsSteppedAt rules.now frontier.draft made.draft chosen.now) }
+    ensures stepped { IfOk result (λ made. IsSteppedAt false rules.now frontier.draft made.draft chosen.now) }
 
     // At places that are not on the new worklist matches stay turned down, whatever the table is.
     ensures frontier { IfOk result (λ made. (table : Seq VerdictRow) → AreTurnedDownBut rules.now table (PlaceOf chosen.now) frontier.draft (members_of frontier.worklist)
@@ -360,7 +478,7 @@ fn rewrite_draft(
     requires room { HasRoomFor 1 draft }
     ensures settled { IfOk result (λ made. IsSettled made.0) }
     ensures clean { IfOk result (λ made. HasNoDeadCode made.0) }
-    ensures stepped { IfOk result (λ made. IsSteppedAt rules.now draft made.0 chosen.now) }
+    ensures stepped { IfOk result (λ made. IsSteppedAt false rules.now draft made.0 chosen.now) }
     ensures checks { IfOk result (λ made. MeetsChecks (function_of made.0)) }
     ensures numbers { IfOk result (λ made. NumbersFit (function_of made.0)) }
     ensures touched { IfOk result (λ made. AreTouched draft made.0 made.1.items) }

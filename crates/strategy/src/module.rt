@@ -19,7 +19,7 @@ ghost use Rattle.strategy_core.specs.PlainStrategy.{IsPlainStrategy};
 ghost use Rattle.rule_matches.specs.Roots.{AreByRoot};
 
 use crate::frontier::optimise_function;
-use crate::steps::{Bounds, Turns};
+use crate::steps::{Options, Turns};
 use asked_verdicts::{StoredLogs, Verdicts};
 use ir_core::{Entry, Function, Module, copy_function};
 use lists::List;
@@ -29,7 +29,8 @@ use std::alloc::{AllocError, Global};
 use strategy_core::{Done, every_match_left_is_decided, every_optimised_module_refines_the_old};
 
 /// What the plain strategy gives for a module. Each function's dead code is eliminated; then it is rewritten at its
-/// first admitted match and cleaned, again and again, until no such match is left or its steps are spent. A verdict is
+/// first admitted match and cleaned, again and again, until no such match is left or its steps are spent. Where folding
+/// is asked for, a function is folded each time before it is cleaned. A verdict is
 /// decided once, when it is first asked for: by the log that is stored for its pair, if that proves the rule, and else
 /// by a search that may learn `conflicts` clauses. The module that it gives refines the old one, whatever the logs are.
 ///
@@ -41,8 +42,7 @@ pub fn optimise(
     module: &Module,
     rules: &[Rule],
     logs: StoredLogs,
-    conflicts: u32,
-    steps: u32,
+    options: &Options,
 ) -> Result<Done, AllocError>
     requires checks { ModuleMeetsChecks module.now }
     requires numbers { ModuleNumbersFit module.now }
@@ -51,12 +51,12 @@ pub fn optimise(
     requires classes { All IsClassified rules.now }
     requires typed { All HasNoFault rules.now }
     requires few { length rules.now < 2 ^ 32 }
-    requires conflicts { conflicts ≤ most_conflicts }
+    requires conflicts { options.now.conflicts ≤ most_conflicts }
 
     // Blocks, and the instructions of each, are numbered in 32 bits; each step may add up to 31 instructions.
-    requires countable { ModuleIsCountable steps module.now }
-    ensures strategy { IfOk result (λ done. IsPlainStrategy rules.now steps done.table module.now done.module done.counts done.limited) }
-    ensures honest { IfOk result (λ done. IsHonestTable rules.now conflicts done.table) }
+    requires countable { ModuleIsCountable options.now.steps module.now }
+    ensures strategy { IfOk result (λ done. IsPlainStrategy options.now.fold rules.now options.now.steps done.table module.now done.module done.counts done.limited) }
+    ensures honest { IfOk result (λ done. IsHonestTable rules.now options.now.conflicts done.table) }
 
     // Where a search ended as a `Budget`, the log that is stored for its pair does not refute its clauses.
     ensures unrefuted { IfOk result (λ done. All (IsUnrefutedIn logs) done.table) }
@@ -72,8 +72,7 @@ pub fn optimise(
         all: rules,
         by_root: &by_root,
     };
-    let bounds = Bounds { conflicts, steps };
-    let done = plain_strategy(alloc, module, &rules, logs, bounds)?;
+    let done = plain_strategy(alloc, module, &rules, logs, *options)?;
     Ok(done)
 }
 
@@ -83,20 +82,20 @@ fn plain_strategy(
     module: &Module,
     rules: &Rules<'_>,
     logs: StoredLogs,
-    bounds: Bounds,
+    options: Options,
 ) -> Result<Done, AllocError>
-    requires entries { EntriesAreReady bounds.steps module.now.entries }
+    requires entries { EntriesAreReady options.steps module.now.entries }
     requires ready { AreReady rules.now.all.now }
     requires by_root { AreByRoot rules.now.all.now rules.now.by_root.now }
-    requires conflicts { bounds.conflicts ≤ most_conflicts }
-    ensures strategy { IfOk result (λ done. IsPlainStrategy rules.now.all.now bounds.steps done.table module.now done.module done.counts done.limited) }
-    ensures honest { IfOk result (λ done. IsHonestTable rules.now.all.now bounds.conflicts done.table) }
+    requires conflicts { options.conflicts ≤ most_conflicts }
+    ensures strategy { IfOk result (λ done. IsPlainStrategy options.fold rules.now.all.now options.steps done.table module.now done.module done.counts done.limited) }
+    ensures honest { IfOk result (λ done. IsHonestTable rules.now.all.now options.conflicts done.table) }
     ensures unrefuted { IfOk result (λ done. All (IsUnrefutedIn logs) done.table) }
 {
     let mut verdicts = Verdicts::new(alloc, logs);
     let mut turns = Counts::new(alloc);
     let read = module.entries.as_slice();
-    let entries = optimise_entries(alloc, read, rules, &mut verdicts, bounds, &mut turns)?;
+    let entries = optimise_entries(alloc, read, rules, &mut verdicts, options, &mut turns)?;
     Ok(Done {
         module: Module { entries },
         table: verdicts.table,
@@ -141,16 +140,16 @@ fn optimise_entries(
     entries: &[Entry],
     rules: &Rules<'_>,
     verdicts: &mut Verdicts,
-    bounds: Bounds,
+    options: Options,
     all: &mut Counts,
 ) -> Result<List<Entry>, AllocError>
-    requires entries { EntriesAreReady bounds.steps entries.now }
-    requires asks { MayAsk rules.now bounds.conflicts verdicts.old }
-    ensures { IfOk result (λ made. OptimisesEntries rules.now.all.now bounds.conflicts bounds.steps entries.now made verdicts.old verdicts.new all.old all.new) }
+    requires entries { EntriesAreReady options.steps entries.now }
+    requires asks { MayAsk rules.now options.conflicts verdicts.old }
+    ensures { IfOk result (λ made. OptimisesEntries options.fold rules.now.all.now options.conflicts options.steps entries.now made verdicts.old verdicts.new all.old all.new) }
 {
     let mut made = List::new(alloc);
     for entry in entries {
-        let optimised = optimise_entry(alloc, entry, rules, verdicts, bounds, all)?;
+        let optimised = optimise_entry(alloc, entry, rules, verdicts, options, all)?;
         made.push(optimised)?;
     }
     Ok(made)
@@ -162,12 +161,12 @@ fn optimise_entry(
     entry: &Entry,
     rules: &Rules<'_>,
     verdicts: &mut Verdicts,
-    bounds: Bounds,
+    options: Options,
     all: &mut Counts,
 ) -> Result<Entry, AllocError>
-    requires entry { EntryIsReady bounds.steps entry.now }
-    requires asks { MayAsk rules.now bounds.conflicts verdicts.old }
-    ensures { IfOk result (λ optimised. OptimisesEntry rules.now.all.now bounds.conflicts bounds.steps entry.now optimised verdicts.old verdicts.new all.old all.new) }
+    requires entry { EntryIsReady options.steps entry.now }
+    requires asks { MayAsk rules.now options.conflicts verdicts.old }
+    ensures { IfOk result (λ optimised. OptimisesEntry options.fold rules.now.all.now options.conflicts options.steps entry.now optimised verdicts.old verdicts.new all.old all.new) }
 {
     match entry {
         Entry::Kept(line) => Ok(Entry::Kept(List::from_vec(Vec::from_slice(
@@ -175,7 +174,7 @@ fn optimise_entry(
             line.as_slice(),
         )?))),
         Entry::Function(old) => {
-            let optimised = optimise_copy(alloc, old, rules, verdicts, bounds, all)?;
+            let optimised = optimise_copy(alloc, old, rules, verdicts, options, all)?;
             Ok(Entry::Function(optimised))
         }
     }
@@ -187,15 +186,15 @@ fn optimise_copy(
     original: &Function,
     rules: &Rules<'_>,
     verdicts: &mut Verdicts,
-    bounds: Bounds,
+    options: Options,
     all: &mut Counts,
 ) -> Result<Function, AllocError>
-    requires entry { EntryIsReady bounds.steps (Entry.Function original.now) }
-    requires asks { MayAsk rules.now bounds.conflicts verdicts.old }
-    ensures { IfOk result (λ made. OptimisesEntry rules.now.all.now bounds.conflicts bounds.steps (Entry.Function original.now) (Entry.Function made) verdicts.old verdicts.new all.old all.new) }
+    requires entry { EntryIsReady options.steps (Entry.Function original.now) }
+    requires asks { MayAsk rules.now options.conflicts verdicts.old }
+    ensures { IfOk result (λ made. OptimisesEntry options.fold rules.now.all.now options.conflicts options.steps (Entry.Function original.now) (Entry.Function made) verdicts.old verdicts.new all.old all.new) }
 {
     let f = copy_function(alloc, original)?;
-    let made = optimise_function(alloc, f, rules, verdicts, bounds)?;
+    let made = optimise_function(alloc, f, rules, verdicts, options)?;
     all.push(made.1)?;
     Ok(made.0)
 }

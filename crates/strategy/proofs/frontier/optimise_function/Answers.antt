@@ -1,12 +1,12 @@
-use Rattle.strategy.proofs.Cleanness.{cleaned_needed}
-use Rattle.strategy.proofs.Sizes.{cleaned_countable}
+use Rattle.strategy.proofs.Common.{arith}
+use Rattle.strategy.proofs.Sizes.{countable_less}
 use Rattle.strategy.proofs.frontier.optimise_function.Goals as goal
 
-pub optimise_cleaned-requires-clause-needed : goal.optimise_cleaned-requires-clause-needed
-optimise_cleaned-requires-clause-needed c = cleaned_needed c.args.f c.clean_checked.new.f c.requires.checks c.in_ok-clean_checked.ensures.cleaned
+pub tidy_checked-requires-clause-countable : goal.tidy_checked-requires-clause-countable
+tidy_checked-requires-clause-countable c = countable_less c.args.options.steps 0 c.args.f (omega arith) c.requires.countable
 
-pub optimise_cleaned-requires-clause-countable : goal.optimise_cleaned-requires-clause-countable
-optimise_cleaned-requires-clause-countable c = cleaned_countable c.args.bounds.steps c.args.f c.clean_checked.new.f c.requires.countable c.in_ok-clean_checked.ensures.cleaned
+pub optimise_tidied-requires-clause-countable : goal.optimise_tidied-requires-clause-countable
+optimise_tidied-requires-clause-countable c = c.in_ok-tidy_checked.ensures.countable c.args.options.steps c.requires.countable
 
 pub returns : goal.returns
-returns c = c.in_ok-made.ensures c.args.f c.in_ok-clean_checked.ensures.cleaned
+returns c = c.in_ok-made.ensures c.args.f c.in_ok-tidy_checked.ensures.tidied

@@ -1,17 +1,6 @@
-use Rattle.strategy.proofs.Common.{◌≡◌, List, get_or, sym, subst, ◌∙◌, get_or_from_slice_get, slice_get_within, IfOk-weaker, IsMatch, IsRewritten, IsRule, Rule, HasNoFault, IsMatchAmong, AreReady, Match, function_of, placed_match, Function, cleaned_numbers_fit}
+use Rattle.strategy.proofs.Common.{sym, subst, ◌∙◌, get_or_from_slice_get, slice_get_within, IfOk-weaker, IsRewritten, Rule, function_of, placed_match, cleaned_numbers_fit}
+use Rattle.strategy.proofs.Chosen.{ready_there}
 use Rattle.strategy.proofs.frontier.rewrite_draft.Goals as goal
-
--- the rule that is read is the one that the match is of
-rule_there : (rules : List Rule) (f : Function) (m : Match) (read : Rule) (is : IsMatchAmong rules f m) → read ≡ get_or rules m.rule read → is.rule ≡ read
-rule_there rules f m read is from = sym (from ∙ get_or_from_slice_get rules m.rule is.rule read is.is_rule)
-
--- that rule is ready
-ready_there : (rules : List Rule) (f : Function) (m : Match) (read : Rule) → AreReady rules → IsMatchAmong rules f m → read ≡ get_or rules m.rule read
-    → IsRule read × HasNoFault read × IsMatch f m.binding.block m.binding.place read m.binding
-ready_there rules f m read ready is from =
-    let same = rule_there rules f m read is from in
-    let good = ready m.rule is.rule is.is_rule in
-    (subst IsRule same good.checks, subst HasNoFault same good.typed, subst (λ (r : Rule). IsMatch f m.binding.block m.binding.place r m.binding) same is.matches)
 
 pub bounds-rules-chosen : goal.bounds-rules-chosen
 bounds-rules-chosen c = slice_get_within c.args.rules.now c.args.chosen.now.rule c.requires.matches.rule c.requires.matches.is_rule

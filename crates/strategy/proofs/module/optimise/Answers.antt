@@ -2,7 +2,7 @@ use Rattle.strategy.proofs.Entering.{each_ready, all_ready, admitted_are_valid}
 use Rattle.strategy.proofs.module.optimise.Goals as goal
 
 pub plain_strategy-requires-clause-entries : goal.plain_strategy-requires-clause-entries
-plain_strategy-requires-clause-entries c = each_ready c.args.steps c.args.module.now c.requires.checks c.requires.numbers c.requires.countable
+plain_strategy-requires-clause-entries c = each_ready c.args.options.now.steps c.args.module.now c.requires.checks c.requires.numbers c.requires.countable
 
 pub plain_strategy-requires-clause-ready : goal.plain_strategy-requires-clause-ready
 plain_strategy-requires-clause-ready c = all_ready c.args.rules.now c.requires.rules c.requires.classes c.requires.typed
@@ -10,7 +10,8 @@ plain_strategy-requires-clause-ready c = all_ready c.args.rules.now c.requires.r
 pub returns : goal.returns
 returns c =
     let rules = c.args.rules.now in
-    let steps = c.args.steps in
+    let steps = c.args.options.now.steps in
+    let fold = c.args.options.now.fold in
     let old = c.args.module.now in
     let done = c.in_ok-done.done in
     let made = c.in_ok-done.ensures.strategy in
@@ -20,8 +21,8 @@ returns c =
       strategy = made;
       honest = honest;
       unrefuted = c.in_ok-done.ensures.unrefuted;
-      refines = c.every_optimised_module_refines_the_old.ensures.refines rules steps done.table old done.module done.counts done.limited ready (admitted_are_valid rules c.args.conflicts done.table honest) c.requires.checks c.requires.numbers made;
-      checks = c.every_optimised_module_refines_the_old.ensures.checks rules steps done.table old done.module done.counts done.limited ready c.requires.checks c.requires.numbers made;
-      numbers = c.every_optimised_module_refines_the_old.ensures.numbers rules steps done.table old done.module done.counts done.limited ready c.requires.checks c.requires.numbers made;
-      decided = c.every_match_left_is_decided.ensures rules steps done.table old done.module done.counts done.limited made;
+      refines = c.every_optimised_module_refines_the_old.ensures.refines fold rules steps done.table old done.module done.counts done.limited ready (admitted_are_valid rules c.args.options.now.conflicts done.table honest) c.requires.checks c.requires.numbers made;
+      checks = c.every_optimised_module_refines_the_old.ensures.checks fold rules steps done.table old done.module done.counts done.limited ready c.requires.checks c.requires.numbers made;
+      numbers = c.every_optimised_module_refines_the_old.ensures.numbers fold rules steps done.table old done.module done.counts done.limited ready c.requires.checks c.requires.numbers made;
+      decided = c.every_match_left_is_decided.ensures fold rules steps done.table old done.module done.counts done.limited made;
     }

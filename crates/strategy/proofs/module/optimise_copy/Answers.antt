@@ -5,12 +5,12 @@ use Rattle.strategy.proofs.module.optimise_copy.Goals as goal
 pub returns : goal.returns
 returns c =
     let rules = c.args.rules.now.all.now in
-    let bounds = c.args.bounds in
+    let options = c.args.options in
     let made = c.in_ok-made.made.0 in
     let before = c.args.verdicts.now in
     let after = c.optimise_function.new.verdicts in
     let turns = c.in_ok-made.made.1 in
     let same : c.in_ok-f.f ≡ c.args.original.now = c.in_ok-f.ensures in
-    entry_optimised rules bounds.conflicts bounds.steps c.args.original.now made before after c.args.all.now c.push.new.self turns.count turns.limited
-    (subst (λ (f : Function). OptimisesFunction rules bounds.conflicts bounds.steps f made before after turns.count turns.limited) same c.in_ok-made.ensures)
+    entry_optimised options.fold rules options.conflicts options.steps c.args.original.now made before after c.args.all.now c.push.new.self turns.count turns.limited
+    (subst (λ (f : Function). OptimisesFunction options.fold rules options.conflicts options.steps f made before after turns.count turns.limited) same c.in_ok-made.ensures)
     c.in_ok-push.ensures.counts c.in_ok-push.ensures.limited
