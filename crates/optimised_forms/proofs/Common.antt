@@ -2,6 +2,10 @@
 pub use Rattle.std.proofs.Common.{Bool, Contains, List, None, Option, Some, [], ap, arith, cond, false, get_or, inl, inr, length, map, refl, slice_get, subst, suc, sym, true, zero, ℕ, ◌<◌, ◌==◌, ◌^◌, ◌∙◌, ◌∷◌, ◌≡◌}
 pub use Rattle.bindings.specs.Ready.{AreReady}
 pub use Rattle.bindings.specs.declared.binding.Binding.{Binding}
+pub use Rattle.fold_branch.proofs.Naming.{name_was}
+pub use Rattle.fold_branch.proofs.Reading.{read_back}
+pub use Rattle.fold_branch.specs.Choices.{chosen, jump_or}
+pub use Rattle.fold_branch.specs.Folded.{choices_of, folded_as, folded_function}
 pub use Rattle.ir_core.specs.Blocks.{IsBlock}
 pub use Rattle.ir_core.specs.Checks.{IsInst}
 pub use Rattle.ir_core.specs.Names.{Name, block_names, names_of}
@@ -19,7 +23,7 @@ pub use Rattle.ir_meaning.specs.HistoryLaws.{NumbersFit}
 pub use Rattle.ir_round_trip.specs.Laws.{CleanedFunctionsHaveForms, HasAtMost, ModuleTextsAreSmall}
 pub use Rattle.ir_text.specs.Forms.{CasesHaveForms, EntryHasForms, FunctionHasForms, IsWidth, ModuleHasForms, OperandFits, ReadHasForms}
 pub use Rattle.ops.specs.Number.{Number}
-pub use Rattle.optimised_forms.specs.Laws.{FormedModulesNumbersFit, ModuleTextsAreCountable, OptimisedModulesHaveForms, RewrittenFunctionsHaveForms}
+pub use Rattle.optimised_forms.specs.Laws.{FoldedFunctionsHaveForms, FormedModulesNumbersFit, ModuleTextsAreCountable, OptimisedModulesHaveForms, RewrittenFunctionsHaveForms}
 pub use Rattle.rewriter.proofs.Fitting.{rewrite_fits}
 pub use Rattle.rewriter.proofs.Placed.{PutFor, all_aligned, put_from}
 pub use Rattle.rewriter.proofs.Putting.{IsNoCopy, put_op}

@@ -1,4 +1,5 @@
 pub mod Common
+pub mod Folded
 mod Names
 mod Widths
 mod Rewritten

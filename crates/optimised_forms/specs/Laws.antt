@@ -9,6 +9,7 @@ use Rattle.rule_core.specs.declared.rule.Rule.{Rule}
 use Rattle.verdict_core.specs.declared.verdicts.Row.{Row}
 use Rattle.bindings.specs.Match.{IsMatch}
 use Rattle.bindings.specs.declared.binding.Binding.{Binding}
+use Rattle.fold_branch.specs.Folded.{IsFolded}
 use Rattle.rewriter.specs.Applied.{IsRewritten}
 use Rattle.bindings.specs.Ready.{AreReady}
 use Rattle.strategy_core.specs.Countable.{ModuleIsCountable}
@@ -24,11 +25,15 @@ RewrittenFunctionsHaveForms = (f new : Function) (b k : ℕ) (rule : Rule) (bind
     → IsRule rule → MeetsChecks f → FunctionHasForms f
     → IsMatch f b k rule binding → IsRewritten f binding rule new → FunctionHasForms new
 
+-- Folding keeps these forms.
+abbrev pub FoldedFunctionsHaveForms : Type 0
+FoldedFunctionsHaveForms = (f new : Function) → FunctionHasForms f → IsFolded f new → FunctionHasForms new
+
 -- The strategy keeps these forms.
 abbrev pub OptimisedModulesHaveForms : Type 0
-OptimisedModulesHaveForms = (rules : List Rule) (steps : ℕ) (table : List Row) (old new : Module) (counts : List ℕ) (limited : List Bool)
+OptimisedModulesHaveForms = (fold : Bool) (rules : List Rule) (steps : ℕ) (table : List Row) (old new : Module) (counts : List ℕ) (limited : List Bool)
     → AreReady rules → ModuleMeetsChecks old → ModuleHasForms old
-    → IsPlainStrategy rules steps table old new counts limited → ModuleHasForms new
+    → IsPlainStrategy fold rules steps table old new counts limited → ModuleHasForms new
 
 -- In a module with these forms literals are numbers of their widths.
 abbrev pub FormedModulesNumbersFit : Type 0

@@ -1,7 +1,8 @@
 //! The laws of the forms of optimised modules, each the contract of a function that does nothing.
 
-ghost use Rattle.optimised_forms.specs.Laws.{FormedModulesNumbersFit, ModuleTextsAreCountable, OptimisedModulesHaveForms, RewrittenFunctionsHaveForms};
+ghost use Rattle.optimised_forms.specs.Laws.{FoldedFunctionsHaveForms, FormedModulesNumbersFit, ModuleTextsAreCountable, OptimisedModulesHaveForms, RewrittenFunctionsHaveForms};
 
+use fold_branch::{every_folded_function_refines_the_old, every_folded_number_was_there};
 use ir_meaning::refinement_is_an_order;
 use ir_round_trip::{cleaning_keeps_forms, module_texts_are_small};
 use needed::{every_cleaned_function_refines_the_old, every_cleaned_number_was_there};
@@ -12,15 +13,23 @@ pub fn rewritten_functions_have_forms()
     ensures { RewrittenFunctionsHaveForms }
 {}
 
-/// The plain strategy keeps the forms of a module, by any rules that were read, whatever their verdicts are, and for
-/// any number of steps.
+/// Folding keeps the forms of a function that a printed text needs.
+pub fn folded_functions_have_forms()
+    ensures { FoldedFunctionsHaveForms }
+{}
+
+/// The plain strategy, with folding and without, keeps the forms of a module, by any rules that were read, whatever
+/// their verdicts are, and for any number of steps.
 pub fn optimised_modules_have_forms()
     ensures { OptimisedModulesHaveForms }
 {
     cleaning_keeps_forms();
+    folded_functions_have_forms();
     rewritten_functions_have_forms();
     every_cleaned_function_refines_the_old();
     every_cleaned_number_was_there();
+    every_folded_function_refines_the_old();
+    every_folded_number_was_there();
     rewritten_functions_meet_checks();
     rewritten_functions_refine();
     refinement_is_an_order();
