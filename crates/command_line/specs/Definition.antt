@@ -67,16 +67,19 @@ logs_argument = required_argument (codes "logs")
 abbrev pub logs_option : Rule
 logs_option = optional_argument (codes "logs")
 
+abbrev pub fold_flag : Rule
+fold_flag = flag_argument (codes "fold")
+
 -- `verify RULES [--widths LIST] [--conflicts N] [--logs]`
 abbrev pub verify_shape : Shape
 verify_shape = record (new_shape (codes "verify")) {
   rules = rules_argument ∷ widths_argument ∷ conflicts_argument ∷ logs_flag ∷ [];
 }
 
--- `optimise RULES MODULE [--conflicts N] [--steps N] [--logs LOGS]`
+-- `optimise RULES MODULE [--conflicts N] [--steps N] [--logs LOGS] [--fold]`
 abbrev pub optimise_shape : Shape
 optimise_shape = record (new_shape (codes "optimise")) {
-  rules = rules_argument ∷ module_argument ∷ conflicts_argument ∷ steps_argument ∷ logs_option ∷ [];
+  rules = rules_argument ∷ module_argument ∷ conflicts_argument ∷ steps_argument ∷ logs_option ∷ fold_flag ∷ [];
 }
 
 -- `run [--blocks N] MODULE NAME [ARG..]`

@@ -58,6 +58,8 @@ pub struct OptimiseOptions {
     pub conflicts: u32,
     /// The most rewrites of a function.
     pub steps: u32,
+    /// Whether branches on numbers are folded.
+    pub fold: bool,
 }
 
 /// The options of `run`.

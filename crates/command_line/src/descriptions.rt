@@ -152,6 +152,12 @@ const LOGS_OPTION: Argument = Argument {
     help: "The file of proofs that are asked before a search",
 };
 
+const FOLD: Argument = Argument {
+    name: "fold",
+    kind: Kind::Flag,
+    help: "Fold branches on numbers, and empty blocks that are not reached",
+};
+
 /// LOGS of `recheck`.
 const LOGS: Argument = Argument {
     name: "logs",
@@ -162,7 +168,7 @@ const LOGS: Argument = Argument {
 /// The commands:
 ///
 /// - `verify RULES [--widths LIST] [--conflicts N] [--logs]`
-/// - `optimise RULES MODULE [--conflicts N] [--steps N] [--logs LOGS]`
+/// - `optimise RULES MODULE [--conflicts N] [--steps N] [--logs LOGS] [--fold]`
 /// - `run [--blocks N] MODULE NAME [ARG..]`
 /// - `load NUMBER`
 /// - `recheck RULES LOGS [--conflicts N]`
@@ -175,7 +181,7 @@ pub(crate) static COMMANDS: [Described<'static>; 5] = [
     Described {
         name: "optimise",
         about: "Rewrites a module by the rules of a file",
-        arguments: &[RULES, MODULE, CONFLICTS, STEPS, LOGS_OPTION],
+        arguments: &[RULES, MODULE, CONFLICTS, STEPS, LOGS_OPTION, FOLD],
     },
     Described {
         name: "run",

@@ -134,6 +134,7 @@ fn read_optimise<'a>(found: &ArgMatches<'a>) -> Command<'a>
         options: OptimiseOptions {
             conflicts: number_of(found, "conflicts"),
             steps: number_of(found, "steps"),
+            fold: flag_of(found, "fold"),
         },
     }
 }
