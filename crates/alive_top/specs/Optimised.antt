@@ -28,7 +28,7 @@ pub record IsOptimised (rules : List Rule) (options : OptimiseOptions) (bytes : 
   pub read : Module
   pub source : IsModuleText bytes read
   -- it is what the plain strategy gives for the module read, by this table
-  pub strategy : IsPlainStrategy rules options.steps table read new counts limited
+  pub strategy : IsPlainStrategy options.fold rules options.steps table read new counts limited
   -- a rule that is admitted is valid there, a counterexample is one, and a search gave up only at its limit
   pub honest : IsHonestTable rules options.conflicts table
   -- each match that is left has a verdict, and none is admitted, unless its function ran out of steps

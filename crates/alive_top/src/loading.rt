@@ -1,6 +1,6 @@
 //! What `load` writes for a number.
 
-ghost use Rattle.std.specs.Prelude.{◌≡◌, ◌<◌, ◌^◌, length, All, IsTrue, IfOk};
+ghost use Rattle.std.specs.Prelude.{◌≡◌, ◌<◌, ◌^◌, false, length, All, IsTrue, IfOk};
 ghost use Rattle.ir_core.specs.Checks.{ModuleMeetsChecks};
 ghost use Rattle.rule_core.specs.Checks.{IsRule};
 ghost use Rattle.rule_typing.specs.Classes.{IsClassified};
@@ -19,7 +19,7 @@ use load_gen::generate;
 use load_text::{FUNCTIONS, Loaded, built_in_rules, lines};
 use rule_reader::Rule;
 use std::alloc::{AllocError, Global};
-use strategy::StoredLogs;
+use strategy::{Options, StoredLogs};
 use strategy_core::Done;
 use verdict_core::{Row, Verdict};
 
@@ -41,12 +41,17 @@ fn optimised_by(alloc: Global, module: &Module, rules: &[Rule]) -> Result<Done, 
     requires classes { All IsClassified rules.now }
     requires typed { All HasNoFault rules.now }
     requires few { length rules.now < 2 ^ 32 }
-    ensures strategy { IfOk result (λ done. IsPlainStrategy rules.now default_steps done.table module.now done.module done.counts done.limited) }
+    ensures strategy { IfOk result (λ done. IsPlainStrategy false rules.now default_steps done.table module.now done.module done.counts done.limited) }
     ensures honest { IfOk result (λ done. IsHonestTable rules.now default_conflicts done.table) }
     ensures admitted { IfOk result (λ done. All (λ row. row.verdict ≡ Verdict.Admitted) done.table) }
 {
     let logs = StoredLogs::new(alloc);
-    let done = strategy::optimise(alloc, module, rules, logs, DEFAULT_CONFLICTS, DEFAULT_STEPS)?;
+    let options = Options {
+        conflicts: DEFAULT_CONFLICTS,
+        steps: DEFAULT_STEPS,
+        fold: false,
+    };
+    let done = strategy::optimise(alloc, module, rules, logs, &options)?;
     if are_admitted(done.table.as_slice()) {
         Ok(done)
     } else {

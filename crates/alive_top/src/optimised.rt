@@ -17,7 +17,7 @@ use ir_printer::print_module;
 use ir_reader::{IrError, read_module};
 use rule_reader::Rule;
 use std::alloc::{AllocError, Global};
-use strategy::StoredLogs;
+use strategy::{Options, StoredLogs};
 use verdict_core::Table;
 
 /// What `optimise` writes, and the verdicts behind it.
@@ -90,7 +90,17 @@ pub(crate) fn optimise_module(
     // the strategy keeps the forms of a printed text
     optimised_forms::formed_modules_numbers_fit();
     optimised_forms::optimised_modules_have_forms();
-    let done = strategy::optimise(alloc, source, rules, logs, options.conflicts, options.steps)?;
+    let done = strategy::optimise(
+        alloc,
+        source,
+        rules,
+        logs,
+        &Options {
+            conflicts: options.conflicts,
+            steps: options.steps,
+            fold: options.fold,
+        },
+    )?;
     let out = print_module(alloc, &done.module)?;
     let report = print_optimised(alloc, rules, &done)?;
     Ok(Optimised {

@@ -1,6 +1,6 @@
 -- What `load` writes of a number: how large the generated module is, and what the plain strategy makes of it by the
 -- built-in rules.
-use Rattle.std.specs.Prelude.{◌≡◌, ℕ, Bool, List, length, ◌++◌, All, sum, sum_by, count_by, codes, decimal}
+use Rattle.std.specs.Prelude.{◌≡◌, ℕ, Bool, false, List, length, ◌++◌, All, sum, sum_by, count_by, codes, decimal}
 use Rattle.ir_core.specs.declared.module.Module.{Module}
 use Rattle.ir_core.specs.declared.module.Entry.{Entry}
 use Rattle.ir_core.specs.declared.module.Entry.TheVariants as entries
@@ -58,7 +58,7 @@ pub record IsLoaded (number : ℕ) (text : List ℕ) (table : List Row) : Type 0
   pub counts : List ℕ
   pub limited : List Bool
   -- this module is what the plain strategy gives for the generated one, by this table
-  pub strategy : IsPlainStrategy rules default_steps table (generated number 200) new counts limited
+  pub strategy : IsPlainStrategy false rules default_steps table (generated number 200) new counts limited
   pub honest : IsHonestTable rules default_conflicts table
   -- each verdict of the table is `Admitted`
   pub admitted : All (λ row. row.verdict ≡ Admitted) table

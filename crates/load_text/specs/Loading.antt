@@ -1,5 +1,5 @@
 -- Definitions for the functions between a number and what `load` writes.
-use Rattle.std.specs.Prelude.{◌≡◌, ℕ, List, ◌++◌, All, codes}
+use Rattle.std.specs.Prelude.{◌≡◌, ℕ, false, List, ◌++◌, All, codes}
 use Rattle.ir_core.specs.declared.module.Module.{Module}
 use Rattle.strategy_core.specs.declared.done.Done.{Done}
 use Rattle.strategy_core.specs.PlainStrategy.{IsPlainStrategy}
@@ -14,7 +14,7 @@ use Rattle.load_text.specs.RuleText.{IsRuleText}
 pub record IsDoneByBuiltIn (m : Module) (done : Done) : Type 0 where
   pub rules : List Rule
   pub built_in : IsRuleText built_in_text rules
-  pub strategy : IsPlainStrategy rules default_steps done.table m done.module done.counts done.limited
+  pub strategy : IsPlainStrategy false rules default_steps done.table m done.module done.counts done.limited
   pub honest : IsHonestTable rules default_conflicts done.table
   pub admitted : All (λ row. row.verdict ≡ Admitted) done.table
 

@@ -1,6 +1,7 @@
 //! The whole program, with files and sinks in memory.
 
 mod faults;
+mod folding;
 mod freezes;
 mod intrinsics;
 mod loads;

@@ -218,6 +218,7 @@ fn cleaned(alloc: Global, text: &str) -> Option<Optimised> {
     let options = OptimiseOptions {
         conflicts: 0,
         steps: 0,
+        fold: false,
     };
     optimise(alloc, text.as_bytes(), &[], options).ok()
 }
