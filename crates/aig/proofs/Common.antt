@@ -12,7 +12,9 @@ pub use Rattle.aig.specs.declared.literal.Node.{Node}
 pub use Rattle.aig.specs.declared.literal.Node.TheVariants.{Input, One, Output}
 pub use Rattle.aig.specs.declared.two_levels.Parts.{Parts}
 pub use Rattle.aig.specs.declared.two_levels.Parts.TheVariants.{NotBoth, Whole}
+pub use Rattle.circuits.proofs.Truth.{certain_xor}
 pub use Rattle.circuits.specs.Circuit.{Adds, Keeps}
+pub use Rattle.circuits.specs.Kleene.{certain}
 pub use Rattle.indexmap.specs.IndexSet.{insert_key}
 pub use Rattle.std.proofs.lemmas.Bool.{eqb-true}
 pub use Rattle.std.proofs.lemmas.Bool.Decides.{nat_tests}

@@ -1,5 +1,5 @@
 -- The values of a graph's gates, and which of them stay the same when a gate is added.
-use Rattle.aig.proofs.Common.{◌≡◌, ℕ, zero, suc, ◌+◌, ◌≤◌, Bool, false, not, cond, List, [], ◌∷◌, ◌++◌, length, get_or, drop, replicate, Some, refl, sym, ap, ◌∙◌, subst, arith, length-drop, append_assoc, append-nil, fold, slice_get, get_or_append_left, get_or_at, length_push, length-replicate, fold-append, Keeps, Node, One, Input, Output, Literal, Gate, And, Xor, Mux, Graph, IsAmong, IsOwn, OperandsAmong, IsInOrder, node_value, literal_value, gate_value, gate_values, value_of, graph_state}
+use Rattle.aig.proofs.Common.{◌≡◌, ℕ, zero, suc, ◌+◌, ◌≤◌, Bool, false, not, cond, List, [], ◌∷◌, ◌++◌, length, get_or, drop, replicate, Some, refl, sym, ap, ◌∙◌, subst, arith, length-drop, append_assoc, append-nil, fold, slice_get, get_or_append_left, get_or_at, length_push, length-replicate, fold-append, Keeps, certain, Node, One, Input, Output, Literal, Gate, And, Xor, Mux, Graph, IsAmong, IsOwn, OperandsAmong, IsInOrder, node_value, literal_value, gate_value, gate_values, value_of, graph_state}
 
 -- a node that is among so many inputs is among more
 
@@ -131,6 +131,7 @@ Keeps-pushed graph gate =
       admitted = λ inputs _. tt;
       admits_no_more = λ inputs _. tt;
       values = λ inputs l _ own. value_of-pushed graph gate inputs l own;
+      known = λ inputs l own. ap certain (value_of-pushed graph gate inputs l own);
     }
 
 -- the number of elements that were dropped from a list, told by what is left of long ones

@@ -38,6 +38,7 @@ module _ (ks new : List Gate) (gate : Gate) where
         admitted = λ inputs _. tt;
         admits_no_more = λ inputs _. tt;
         values = λ inputs l _ own. refl;
+        known = λ inputs l own. refl;
       })
       kept (inr e) = subst (λ g. Keeps graph_state (record { inputs = n; gates = ks }) (record { inputs = n; gates = g })) (sym e) (Keeps-pushed (record { inputs = n; gates = ks }) gate)
 

@@ -1,6 +1,7 @@
 -- Graphs of gates over inputs (and-inverter graphs, with two more kinds of gate), and the values of their literals.
 use Rattle.std.specs.Prelude.{◌≡◌, ℕ, ◌<◌, Bool, true, false, ◌&&◌, if◌then◌else◌, List, [], ◌∷◌, ◌++◌, length, fold, Some, slice_get, slice_index_or}
 use Rattle.std.specs.Bool.{xor}
+use Rattle.circuits.specs.Kleene.{certain}
 use Rattle.circuits.specs.declared.state.State.{Ghosts}
 use Rattle.aig.specs.declared.literal.Node.{Node}
 use Rattle.aig.specs.declared.literal.Node.TheVariants.{One, Input, Output}
@@ -74,6 +75,7 @@ graph_state = record {
   has_literal = IsOwn;
   admits = λ _ _. Unit {0};
   value = value_of;
+  known = λ graph inputs l. certain (value_of graph inputs l);
   inputs_made = λ graph. graph.inputs;
   gates_made = λ graph. length graph.gates;
 }

@@ -2,11 +2,12 @@
 
 use crate::graph::Aig;
 use crate::literal::Literal;
-use circuits::{Circuit, State};
+use circuits::{Circuit, Gates, State};
 use std::alloc::{AllocError, Global};
 
 impl State for Aig {
     ghost use Rattle.std.specs.Prelude.{length};
+    ghost use Rattle.circuits.specs.Kleene.{certain};
     ghost use Rattle.aig.specs.Graph.{IsOwn, value_of};
 
     type Literal = Literal;
@@ -17,14 +18,15 @@ impl State for Aig {
 
     ghost value = { value_of };
 
+    ghost known = { λ graph inputs l. certain (value_of graph inputs l) };
+
     ghost inputs_made = { λ c. c.inputs };
 
     ghost gates_made = { λ c. length c.gates };
 }
 
-/// An input or a gate that would have no code is refused as for want of memory; that is one past
-/// 2^30 - 1 of either.
-impl Circuit for Aig {
+/// A gate past the last that has a literal is refused as for want of memory; that is one past 2^30 - 1.
+impl Gates for Aig {
     fn zero(&self) -> Literal {
         Literal::ZERO
     }
@@ -35,10 +37,6 @@ impl Circuit for Aig {
 
     fn not(&self, a: Literal) -> Literal {
         a.negation()
-    }
-
-    fn input(&mut self, _alloc: Global) -> Result<Literal, AllocError> {
-        self.add_input()
     }
 
     fn and(&mut self, _alloc: Global, a: Literal, b: Literal) -> Result<Literal, AllocError> {
@@ -62,4 +60,15 @@ impl Circuit for Aig {
             self.chosen(condition, yes, no)
         }
     }
+}
+
+/// An input past the last that has a literal is refused as a gate is.
+impl Circuit for Aig {
+    ghost use Rattle.std.specs.Prelude.{refl};
+
+    fn input(&mut self, _alloc: Global) -> Result<Literal, AllocError> {
+        self.add_input()
+    }
+
+    ghost none_is_unknown = { λ c inputs literal admitted own. refl };
 }

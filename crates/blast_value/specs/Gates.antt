@@ -44,9 +44,13 @@ left_gates width = comparison_gates width + 3 * shift_gates width width + 2 * eq
 abbrev pub right_gates : ℕ → ℕ
 right_gates width = comparison_gates width + 2 * shift_gates width width + equality_gates width + 1
 
--- Two words bit by bit, the conjunction of each pair of bits, and whether one of these is true.
+-- The bits that both of two words have, and whether one is true.
+abbrev pub sharing_gates : ℕ → ℕ
+sharing_gates width = width + equality_gates width
+
+-- Two words bit by bit, and whether they share a bit.
 abbrev pub bitwise_gates : ℕ → ℕ
-bitwise_gates width = width + (width + equality_gates width)
+bitwise_gates width = width + sharing_gates width
 
 -- The result at two numbers, of instructions that don't divide.
 abbrev pub number_gates : Strict → ℕ → ℕ

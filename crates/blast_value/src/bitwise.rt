@@ -4,10 +4,9 @@ ghost use Rattle.std.specs.List.{All};
 ghost use Rattle.ops.specs.declared.value.Effect.TheVariants.{Gives};
 ghost use Rattle.ops.specs.Instruction.{on_numbers};
 ghost use Rattle.circuits.specs.Circuit.{Adds};
-ghost use Rattle.circuits.specs.Gates.{equality_gates};
 ghost use Rattle.circuits.specs.Word.{bit, number_of};
 ghost use Rattle.blast_value.specs.Effect.{held_value, IsOwn};
-ghost use Rattle.blast_value.specs.Gates.{bitwise_gates};
+ghost use Rattle.blast_value.specs.Gates.{bitwise_gates, sharing_gates};
 ghost use Rattle.blast_value.specs.Families.{bitwise, bitwise_opcode, promises_disjoint};
 
 use crate::held::Held;
@@ -60,12 +59,12 @@ pub(crate) fn bit_by_bit<C: Circuit>(
     ensures adds { Adds C.State c.old c.new (bitwise_gates width) }
 {
     let bits = each_bit(alloc, c, op, a.as_slice(), b.as_slice())?;
-    let poison = share_bits(alloc, c, op.promises_disjoint(flags), a, b)?;
+    let poison = share_where(alloc, c, op.promises_disjoint(flags), a, b)?;
     Ok(Held { bits, poison })
 }
 
-/// Whether both words have a 1 at one place. Where that isn't asked, since the flag isn't set, it is false.
-fn share_bits<C: Circuit>(
+/// The same where it is asked, and else false.
+fn share_where<C: Circuit>(
     alloc: Global,
     c: &mut C,
     asked: bool,
@@ -79,11 +78,30 @@ fn share_bits<C: Circuit>(
     ensures value { IfOk result (λ share. (inputs : Seq Bool) → C.admits c.old inputs →
         C.value c.new inputs share
         ≡ (asked && not (bit_and (number_of (C.value c.old inputs) a.now) (number_of (C.value c.old inputs) b.now) == 0))) }
-    ensures adds { Adds C.State c.old c.new (length a.now + equality_gates (length a.now)) }
+    ensures adds { Adds C.State c.old c.new (sharing_gates (length a.now)) }
 {
     if !asked {
         return Ok(c.zero());
     }
+    share_bits(alloc, c, a, b)
+}
+
+/// Whether two words of one width N have a 1 at one place. It adds at most 3 N gates.
+pub fn share_bits<C: Circuit>(
+    alloc: Global,
+    c: &mut C,
+    a: &Bits<C::Literal>,
+    b: &Bits<C::Literal>,
+) -> Result<C::Literal, AllocError>
+    requires same_width { length b.now ≡ length a.now }
+    requires own_a { All (C.has_literal c.old) a.now }
+    requires own_b { All (C.has_literal c.old) b.now }
+    ensures own { IfOk result (λ share. C.has_literal c.new share) }
+    ensures value { IfOk result (λ share. (inputs : Seq Bool) → C.admits c.old inputs →
+        C.value c.new inputs share
+        ≡ not (bit_and (number_of (C.value c.old inputs) a.now) (number_of (C.value c.old inputs) b.now) == 0)) }
+    ensures adds { Adds C.State c.old c.new (sharing_gates (length a.now)) }
+{
     let both = each_bit(alloc, c, Bitwise::And, a.as_slice(), b.as_slice())?;
     let none = equals(alloc, c, &both, 0)?;
     Ok(c.not(none))

@@ -20,6 +20,7 @@ mod one_operand;
 mod shift;
 mod strict;
 
+pub use bitwise::share_bits;
 pub use blast::blast_value;
 pub use gates::{gates_are_few, gates_of};
 pub use held::{Blasted, Held};

@@ -11,12 +11,20 @@ map-kept keeps inputs admitted (l ∷ word) own =
     let rest = map-kept keeps inputs admitted word (λ k d below. own (suc k) d (omega arith)) in
     cc
 
+pub map-known : {C L : Type 0} {state : Ghosts C L} {old new : C} → Keeps state old new → (inputs : List Bool) (word : List L) → All (state.has_literal old) word → map (state.known new inputs) word ≡ map (state.known old inputs) word
+map-known keeps inputs [] own = refl
+map-known keeps inputs (l ∷ word) own =
+    let first = keeps.known inputs l (own 0 l (omega arith)) in
+    let rest = map-known keeps inputs word (λ k d below. own (suc k) d (omega arith)) in
+    cc
+
 pub Keeps-trans : {C L : Type 0} {state : Ghosts C L} {old mid new : C} → Keeps state old mid → Keeps state mid new → Keeps state old new
 Keeps-trans {old = old} {mid = mid} {new = new} k h = record {
   literals = λ l own. h.literals l (k.literals l own);
   admitted = λ inputs p. h.admitted inputs (k.admitted inputs p);
   admits_no_more = λ inputs p. k.admits_no_more inputs (h.admits_no_more inputs p);
   values = λ inputs l p own. h.values inputs l (k.admitted inputs p) (k.literals l own) ∙ k.values inputs l p own;
+  known = λ inputs l own. h.known inputs l (k.literals l own) ∙ k.known inputs l own;
 }
 
 pub Keeps-refl : {C L : Type 0} {state : Ghosts C L} {now : C} → Keeps state now now
@@ -25,6 +33,7 @@ Keeps-refl = record {
   admitted = λ inputs p. p;
   admits_no_more = λ inputs p. p;
   values = λ inputs l p own. refl;
+  known = λ inputs l own. refl;
 }
 
 -- where nothing was added

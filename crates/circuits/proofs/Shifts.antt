@@ -98,7 +98,7 @@ moved_end direction value a amount fill k result reach e =
     bits ∙ ap (λ w. moved direction (value fill) (number w) (map value a)) (map-parts value k amount)
 
 -- ---- the numbers of words moved
-moved_up_number : (s : ℕ) (ys : List Bool) → number (moved Up false s ys) ≡ (number ys * 2 ^ s) % 2 ^ length ys
+pub moved_up_number : (s : ℕ) (ys : List Bool) → number (moved Up false s ys) ≡ (number ys * 2 ^ s) % 2 ^ length ys
 moved_up_number s ys =
     let inside : length ys ≤ length (replicate s false ++ ys) = omega (arith, length-append (replicate s false) ys) in
     let product : number (replicate s false ++ ys) ≡ number ys * 2 ^ s = rw (number-append (replicate s false) ys, number-zeros s, length-replicate s false) (omega arith) in
@@ -114,8 +114,11 @@ number-drop s ws inside =
     let parts : number (drop s ws) * 2 ^ s + number (take s ws) ≡ number ws = omega (arith, ap number (take-append-drop s ws), number-append (take s ws) (drop s ws), ap (λ k. 2 ^ k * number (drop s ws)) width) in
     sym (div-mul-add (number (drop s ws)) (2 ^ s) (number (take s ws)) below) ∙ ap (λ k. k / 2 ^ s) parts
 
+pub moved_down_number : (s : ℕ) (ys : List Bool) (fill : Bool) → number (moved Down fill s ys) ≡ (number ys + bit fill * (2 ^ (length ys + s) - 2 ^ length ys)) / 2 ^ s
+moved_down_number s ys fill =
+    let inside : s ≤ length (ys ++ replicate s fill) = omega (arith, length-append ys (replicate s fill), length-replicate s fill) in
+    number-drop s (ys ++ replicate s fill) inside ∙ ap (λ k. k / 2 ^ s) (number-extended ys s fill)
+
 pub number-moved_down : {L : Type 0} (value : L → Bool) (fill : L) (s : ℕ) (a : List L) → number (moved Down (value fill) s (map value a)) ≡ (number (map value a) + bit (value fill) * (2 ^ (length a + s) - 2 ^ length a)) / 2 ^ s
 number-moved_down value fill s a =
-    let ys = map value a in
-    let inside : s ≤ length (ys ++ replicate s (value fill)) = omega (arith, length-append ys (replicate s (value fill)), length-replicate s (value fill)) in
-    number-drop s (ys ++ replicate s (value fill)) inside ∙ ap (λ k. k / 2 ^ s) (number-extended ys s (value fill)) ∙ ap (λ n. (number ys + bit (value fill) * (2 ^ (n + s) - 2 ^ n)) / 2 ^ s) (length-map a value)
+    moved_down_number s (map value a) (value fill) ∙ ap (λ n. (number (map value a) + bit (value fill) * (2 ^ (n + s) - 2 ^ n)) / 2 ^ s) (length-map a value)

@@ -1,13 +1,15 @@
 //! The full adder, and the chain of full adders that adds two words.
-ghost use Rattle.std.specs.Prelude.{◌≡◌, ◌+◌, ◌*◌, ◌^◌, Bool, ◌||◌, ◌&&◌, List as Seq, length, IfOk};
+ghost use Rattle.std.specs.Prelude.{◌≡◌, ◌+◌, ◌*◌, ◌^◌, Bool, ◌||◌, ◌&&◌, List as Seq, length, map, IfOk};
 ghost use Rattle.std.specs.Bool.{xor};
 ghost use Rattle.std.specs.List.{All};
 ghost use Rattle.circuits.specs.Circuit.{Adds};
 ghost use Rattle.circuits.specs.Gates.{adder_gates};
+ghost use Rattle.circuits.specs.Kleene.{known_xor};
+ghost use Rattle.circuits.specs.KnownSum.{known_carry, known_sum};
 ghost use Rattle.circuits.specs.Word.{bit, number_of};
 
-use crate::circuit::Circuit;
 use crate::disjunction::or;
+use crate::gates::Gates;
 use crate::word::Bits;
 use lists::List;
 use std::alloc::{AllocError, Global};
@@ -19,7 +21,7 @@ struct Added<L> {
 }
 
 /// The full adder: the sum is `a xor b xor carry`, and the next carry `(a and b) or (carry and (a xor b))`.
-fn full_adder<C: Circuit>(
+fn full_adder<C: Gates>(
     alloc: Global,
     c: &mut C,
     a: C::Literal,
@@ -38,6 +40,12 @@ fn full_adder<C: Circuit>(
         C.value c.new inputs made.carry
         ≡ ((C.value c.old inputs a && C.value c.old inputs b)
         || (C.value c.old inputs carry && xor (C.value c.old inputs a) (C.value c.old inputs b)))) }
+    ensures sum_known { IfOk result (λ made. (inputs : Seq Bool) →
+        C.known c.new inputs made.sum
+        ≡ known_xor (known_xor (C.known c.old inputs a) (C.known c.old inputs b)) (C.known c.old inputs carry)) }
+    ensures carry_known { IfOk result (λ made. (inputs : Seq Bool) →
+        C.known c.new inputs made.carry
+        ≡ known_carry (C.known c.old inputs a) (C.known c.old inputs b) (C.known c.old inputs carry)) }
     ensures adds { Adds C.State c.old c.new 5 }
 {
     let differ = c.xor(alloc, a, b)?;
@@ -59,7 +67,7 @@ pub struct Sum<L> {
 }
 
 /// The sum of two words of one width N and a first carry, by a chain of full adders. It adds at most 5 N gates.
-pub fn add_with_carry<C: Circuit>(
+pub fn add_with_carry<C: Gates>(
     alloc: Global,
     c: &mut C,
     a: &[C::Literal],
@@ -77,6 +85,10 @@ pub fn add_with_carry<C: Circuit>(
         number_of (C.value c.new inputs) sum.bits + 2 ^ length a.now * bit (C.value c.new inputs sum.carry)
         ≡ number_of (C.value c.old inputs) a.now + number_of (C.value c.old inputs) b.now
         + bit (C.value c.old inputs first)) }
+    ensures known { IfOk result (λ sum. (inputs : Seq Bool) →
+        map (C.known c.new inputs) sum.bits
+        ≡ known_sum (C.known c.old inputs first) (map (C.known c.old inputs) a.now)
+        (map (C.known c.old inputs) b.now)) }
     ensures adds { Adds C.State c.old c.new (adder_gates (length a.now)) }
 {
     let mut bits = List::new(alloc);

@@ -1,17 +1,20 @@
 //! Addition, subtraction and negation of words, modulo a power of two.
-ghost use Rattle.std.specs.Prelude.{◌≡◌, ◌+◌, ◌-◌, ◌%◌, ◌^◌, Bool, List as Seq, length, IfOk};
+ghost use Rattle.std.specs.Prelude.{◌≡◌, ◌+◌, ◌-◌, ◌%◌, ◌^◌, Bool, true, false, List as Seq, length, map, IfOk};
 ghost use Rattle.std.specs.List.{All};
 ghost use Rattle.circuits.specs.Circuit.{Adds};
 ghost use Rattle.circuits.specs.Gates.{adder_gates};
+ghost use Rattle.circuits.specs.Kleene.{certain, known_not};
+ghost use Rattle.circuits.specs.KnownSum.{known_sum};
 ghost use Rattle.circuits.specs.Word.{number_of};
 
 use crate::adder::add_with_carry;
 use crate::circuit::Circuit;
+use crate::gates::Gates;
 use crate::word::{Bits, inverted, repeated};
 use std::alloc::{AllocError, Global};
 
 /// The sum of two words of one width N, modulo 2^N. It adds at most 5 N gates.
-pub fn add<C: Circuit>(
+pub fn add<C: Gates>(
     alloc: Global,
     c: &mut C,
     a: &Bits<C::Literal>,
@@ -26,6 +29,9 @@ pub fn add<C: Circuit>(
         number_of (C.value c.new inputs) sum
         ≡ (number_of (C.value c.old inputs) a.now + number_of (C.value c.old inputs) b.now)
         % 2 ^ length a.now) }
+    ensures known { IfOk result (λ sum. (inputs : Seq Bool) →
+        map (C.known c.new inputs) sum
+        ≡ known_sum (certain false) (map (C.known c.old inputs) a.now) (map (C.known c.old inputs) b.now)) }
     ensures adds { Adds C.State c.old c.new (adder_gates (length a.now)) }
 {
     let first = c.zero();
@@ -34,7 +40,7 @@ pub fn add<C: Circuit>(
 }
 
 /// The difference of two words of one width N, modulo 2^N: `a + not b + 1`. It adds at most 5 N gates.
-pub fn sub<C: Circuit>(
+pub fn sub<C: Gates>(
     alloc: Global,
     c: &mut C,
     a: &Bits<C::Literal>,
@@ -49,6 +55,10 @@ pub fn sub<C: Circuit>(
         number_of (C.value c.new inputs) difference
         ≡ (number_of (C.value c.old inputs) a.now
         + (2 ^ length a.now - number_of (C.value c.old inputs) b.now)) % 2 ^ length a.now) }
+    ensures known { IfOk result (λ difference. (inputs : Seq Bool) →
+        map (C.known c.new inputs) difference
+        ≡ known_sum (certain true) (map (C.known c.old inputs) a.now)
+        (map known_not (map (C.known c.old inputs) b.now))) }
     ensures adds { Adds C.State c.old c.new (adder_gates (length a.now)) }
 {
     let complement = inverted(alloc, c, b.as_slice())?;

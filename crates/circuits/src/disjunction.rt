@@ -3,12 +3,15 @@ ghost use Rattle.std.specs.Prelude.{◌≡◌, Bool, ◌||◌, List as Seq, leng
 ghost use Rattle.std.specs.List.{All, list_any};
 ghost use Rattle.circuits.specs.Circuit.{Adds};
 ghost use Rattle.circuits.specs.Gates.{any_gates};
+ghost use Rattle.circuits.specs.Kleene.{known_or};
 
 use crate::circuit::Circuit;
+use crate::gates::Gates;
 use std::alloc::{AllocError, Global};
 
 /// Either of two literals, or both. It adds at most one gate.
-pub fn or<C: Circuit>(
+#[tactic(auto, using(crate::proofs::Truth::either_known))]
+pub fn or<C: Gates>(
     alloc: Global,
     c: &mut C,
     a: C::Literal,
@@ -19,6 +22,8 @@ pub fn or<C: Circuit>(
     ensures own { IfOk result (λ made. C.has_literal c.new made) }
     ensures value { IfOk result (λ made. (inputs : Seq Bool) → C.admits c.old inputs →
         C.value c.new inputs made ≡ (C.value c.old inputs a || C.value c.old inputs b)) }
+    ensures known { IfOk result (λ made. (inputs : Seq Bool) →
+        C.known c.new inputs made ≡ known_or (C.known c.old inputs a) (C.known c.old inputs b)) }
     ensures adds { Adds C.State c.old c.new 1 }
 {
     let neither = c.and(alloc, c.not(a), c.not(b))?;

@@ -1,8 +1,10 @@
 //! The circuit whose literals are truth values, so that building a word evaluates it.
-ghost use Rattle.std.specs.Prelude.{◌≡◌, ◌+◌, false, ◌&&◌, if◌then◌else◌, length, min, slice_index_or};
+ghost use Rattle.std.specs.Prelude.{◌≡◌, ◌+◌, Bool, false, ◌&&◌, if◌then◌else◌, List as Seq, length, min, slice_index_or, IfOk};
 ghost use Rattle.std.specs.Bool.{xor};
+ghost use Rattle.circuits.specs.Kleene.{certain, known_xor};
 
 use crate::circuit::Circuit;
+use crate::gates::Gates;
 use crate::state::State;
 use lists::List;
 use std::alloc::{AllocError, Global};
@@ -38,6 +40,7 @@ impl EvalCircuit {
 
 impl State for EvalCircuit {
     ghost use Rattle.std.specs.Prelude.{◌≡◌};
+    ghost use Rattle.circuits.specs.Kleene.{certain};
 
     type Literal = bool;
 
@@ -47,13 +50,15 @@ impl State for EvalCircuit {
 
     ghost value = { λ _ _ literal. literal };
 
+    ghost known = { λ _ _ literal. certain literal };
+
     // Past the end of the list the count stands still, since the inputs are false there.
     ghost inputs_made = { λ c. c.made };
 
     ghost gates_made = { λ _. 0 };
 }
 
-impl Circuit for EvalCircuit {
+impl Gates for EvalCircuit {
     fn zero(&self) -> bool {
         false
     }
@@ -62,9 +67,45 @@ impl Circuit for EvalCircuit {
         true
     }
 
+    #[tactic(auto, using(crate::proofs::Truth::certain_not))]
     fn not(&self, a: bool) -> bool {
         !a
     }
+
+    #[tactic(auto, using(crate::proofs::Truth::certain_and))]
+    fn and(&mut self, _alloc: Global, a: bool, b: bool) -> Result<bool, AllocError>
+        ensures ok { result ≡ Ok (a && b) }
+        ensures same { self.new ≡ self.old }
+    {
+        Ok(a && b)
+    }
+
+    #[tactic(auto, using(crate::proofs::Truth::not_beq, crate::proofs::Truth::certain_xor))]
+    fn xor(&mut self, _alloc: Global, a: bool, b: bool) -> Result<bool, AllocError>
+        ensures ok { result ≡ Ok (xor a b) }
+        ensures known { IfOk result (λ made. (inputs : Seq Bool) → certain made ≡ known_xor (certain a) (certain b)) }
+        ensures same { self.new ≡ self.old }
+    {
+        Ok(a ^ b)
+    }
+
+    #[tactic(auto, using(crate::proofs::Truth::certain_mux))]
+    fn mux(
+        &mut self,
+        _alloc: Global,
+        condition: bool,
+        yes: bool,
+        no: bool,
+    ) -> Result<bool, AllocError>
+        ensures ok { result ≡ Ok (if condition then yes else no) }
+        ensures same { self.new ≡ self.old }
+    {
+        Ok(if condition { yes } else { no })
+    }
+}
+
+impl Circuit for EvalCircuit {
+    ghost use Rattle.std.specs.Prelude.{refl};
 
     fn input(&mut self, _alloc: Global) -> Result<bool, AllocError>
         ensures ok { result ≡ Ok (slice_index_or self.old.inputs self.old.made false) }
@@ -79,31 +120,5 @@ impl Circuit for EvalCircuit {
         Ok(value)
     }
 
-    fn and(&mut self, _alloc: Global, a: bool, b: bool) -> Result<bool, AllocError>
-        ensures ok { result ≡ Ok (a && b) }
-        ensures same { self.new ≡ self.old }
-    {
-        Ok(a && b)
-    }
-
-    #[tactic(auto, using(crate::proofs::Truth::not_beq))]
-    fn xor(&mut self, _alloc: Global, a: bool, b: bool) -> Result<bool, AllocError>
-        ensures ok { result ≡ Ok (xor a b) }
-        ensures same { self.new ≡ self.old }
-    {
-        Ok(a ^ b)
-    }
-
-    fn mux(
-        &mut self,
-        _alloc: Global,
-        condition: bool,
-        yes: bool,
-        no: bool,
-    ) -> Result<bool, AllocError>
-        ensures ok { result ≡ Ok (if condition then yes else no) }
-        ensures same { self.new ≡ self.old }
-    {
-        Ok(if condition { yes } else { no })
-    }
+    ghost none_is_unknown = { λ c inputs literal admitted own. refl };
 }

@@ -3,13 +3,13 @@ ghost use Rattle.std.specs.Prelude.{◌≡◌, ◌+◌, ◌-◌, ◌*◌, ◌%�
 ghost use Rattle.std.specs.List.{All};
 ghost use Rattle.circuits.specs.Word.{bit, number_of};
 
-use crate::circuit::Circuit;
+use crate::gates::Gates;
 use crate::word::Bits;
 use lists::List;
 use std::alloc::{AllocError, Global};
 
 /// A word of `to` bits: those of a word of width N, and then `top` as often as they are fewer. It makes no gate.
-pub fn extend<C: Circuit>(
+pub fn extend<C: Gates>(
     alloc: Global,
     c: &mut C,
     a: &Bits<C::Literal>,
@@ -34,7 +34,7 @@ pub fn extend<C: Circuit>(
 }
 
 /// The lowest `to` bits of a word: its number modulo 2^to. It makes no gate.
-pub fn cut<C: Circuit>(
+pub fn cut<C: Gates>(
     alloc: Global,
     c: &mut C,
     a: &Bits<C::Literal>,

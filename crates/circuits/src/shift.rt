@@ -67,7 +67,7 @@ pub fn shift_right<C: Circuit>(
 
 /// Where the bits of a word go.
 #[derive(Clone, Copy)]
-enum Direction {
+pub enum Direction {
     /// To the left, so that the lowest places are free.
     Up,
     /// To the right, so that the highest are.
@@ -166,7 +166,7 @@ fn filled_where_any<C: Circuit>(
 }
 
 /// The word with its bits moved by a distance, and `fill` at the places that become free.
-fn moved_by<L: Copy>(
+pub fn moved_by<L: Copy>(
     alloc: Global,
     direction: Direction,
     word: &[L],

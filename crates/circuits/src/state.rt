@@ -1,5 +1,6 @@
 //! What is known of a circuit at one time.
 ghost use Rattle.std.specs.Prelude.{ℕ, Bool, List as Seq};
+ghost use Rattle.circuits.specs.declared.known_bit.KnownBit.{KnownBit};
 
 /// The state of a circuit, of which its laws speak: which literals are its own, and what they stand for.
 pub trait State {
@@ -9,11 +10,14 @@ pub trait State {
     /// Which literals are the circuit's own.
     ghost has_literal: { Self → Self.Literal → Type 0 };
 
-    /// Under which lists of inputs its literals have a value.
+    /// Under which lists of inputs its literals have a value, so that none is unknown.
     ghost admits: { Self → Seq Bool → Type 0 };
 
     /// The value of a literal under a list of inputs.
     ghost value: { Self → Seq Bool → Self.Literal → Bool };
+
+    /// What is known of a literal's value under a list of inputs.
+    ghost known: { Self → Seq Bool → Self.Literal → KnownBit };
 
     /// How many inputs were made.
     ghost inputs_made: { Self → ℕ };

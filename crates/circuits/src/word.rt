@@ -3,8 +3,10 @@ ghost use Rattle.std.specs.Prelude.{◌≡◌, Bool, not, if◌then◌else◌, L
 ghost use Rattle.std.specs.List.{All};
 ghost use Rattle.circuits.specs.Circuit.{Adds};
 ghost use Rattle.circuits.specs.Gates.{select_gates};
+ghost use Rattle.circuits.specs.Kleene.{known_not};
 
 use crate::circuit::Circuit;
+use crate::gates::Gates;
 use lists::List;
 use std::alloc::{AllocError, Global};
 
@@ -12,7 +14,7 @@ use std::alloc::{AllocError, Global};
 pub type Bits<L> = List<L>;
 
 /// The word of the negations of a word's bits. It makes no gate.
-pub fn inverted<C: Circuit>(
+pub fn inverted<C: Gates>(
     alloc: Global,
     c: &C,
     a: &[C::Literal],
@@ -22,6 +24,8 @@ pub fn inverted<C: Circuit>(
     ensures width { IfOk result (λ word. length word ≡ length a.now) }
     ensures values { IfOk result (λ word. (inputs : Seq Bool) → C.admits c.now inputs →
         map (C.value c.now inputs) word ≡ map not (map (C.value c.now inputs) a.now)) }
+    ensures known { IfOk result (λ word. (inputs : Seq Bool) →
+        map (C.known c.now inputs) word ≡ map known_not (map (C.known c.now inputs) a.now)) }
 {
     let mut word = List::new(alloc);
     for bit in a {

@@ -13,6 +13,7 @@ mod graphs;
 mod growing;
 mod instructions;
 mod intrinsics;
+mod known_words;
 mod logs;
 mod module_tokens;
 mod operations;

@@ -5,7 +5,7 @@ use Rattle.blast_value.proofs.bitwise.bit_by_bit.Goals as goal
 pub returns-clause-value : goal.returns-clause-value
 returns-clause-value g c inputs admitted =
     let k1 = c.each_bit.ensures.adds.keeps in
-    let k2 = c.share_bits.ensures.adds.keeps in
+    let k2 = c.share_where.ensures.adds.keeps in
     let at_1 = k1.admitted inputs admitted in
     let width = c.in_ok-bits.ensures.width ∙ ap length c.as_slice.ensures ∙ c.requires.width_a in
     let number = rw (c.as_slice.ensures, c.as_slice-2.ensures) at (c.in_ok-bits.ensures.number inputs admitted) in

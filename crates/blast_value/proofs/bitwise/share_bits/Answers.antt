@@ -1,5 +1,4 @@
 use Rattle.blast_value.proofs.Common.{not, ap, ◌∙◌}
-use Rattle.blast_value.proofs.Moves.{asked_value}
 use Rattle.blast_value.proofs.bitwise.share_bits.Goals as goal
 
 pub returns-clause-value : goal.returns-clause-value
@@ -7,4 +6,4 @@ returns-clause-value g c inputs admitted =
     let at_1 = c.each_bit.ensures.adds.keeps.admitted inputs admitted in
     let both = rw (c.as_slice.ensures, c.as_slice-2.ensures) at (c.in_ok-both.ensures.number inputs admitted) in
     let is = c.not.ensures.value inputs (c.equals.ensures.adds.keeps.admitted inputs at_1) in
-    asked_value c.args.asked _ _ c.if-not-asked.false (is ∙ ap not (rw both at (c.in_ok-none.ensures.value inputs at_1)))
+    is ∙ ap not (rw both at (c.in_ok-none.ensures.value inputs at_1))

@@ -1,4 +1,4 @@
-use Rattle.circuits.proofs.Common.{◌&&◌, ◌||◌, ap, ◌∙◌, arith, xor}
+use Rattle.circuits.proofs.Common.{◌&&◌, ◌||◌, ap, ◌∙◌, arith, xor, known_and, known_or, known_xor}
 use Rattle.circuits.proofs.Kept.{Adds-trans, Adds-weaken, Keeps-trans}
 use Rattle.circuits.proofs.adder.full_adder.Goals as goal
 
@@ -87,3 +87,34 @@ returns-clause-carry g c inputs admitted =
     ∙ ap (λ p. (value a && value b) || p)
     (c.in_ok-passed.ensures.value inputs after_3 ∙ ap (λ p. p && now_3 differ) carry_kept
     ∙ ap (λ p. value carry && p) (differ_kept ∙ c.in_ok-differ.ensures.value inputs admitted))
+
+pub returns-clause-sum_known : goal.returns-clause-sum_known
+returns-clause-sum_known g c inputs =
+    let known = g.C.State.known c.args.c.now inputs in
+    let carry = c.args.carry in
+    let later = Keeps-trans (Keeps-trans c.and.ensures.adds.keeps c.and-2.ensures.adds.keeps) c.or.ensures.adds.keeps in
+    later.known inputs c.in_ok-sum.sum c.in_ok-sum.ensures.own
+    ∙ c.in_ok-sum.ensures.known inputs
+    ∙ ap (λ p. known_xor p (g.C.State.known c.xor.new.self inputs carry)) (c.in_ok-differ.ensures.known inputs)
+    ∙ ap (λ q. known_xor (known_xor (known c.args.a) (known c.args.b)) q) (c.xor.ensures.adds.keeps.known inputs carry c.requires.own_carry)
+
+pub returns-clause-carry_known : goal.returns-clause-carry_known
+returns-clause-carry_known g c inputs =
+    let known = g.C.State.known c.args.c.now inputs in
+    let passed = g.C.State.known c.and-2.new.self inputs c.in_ok-passed.passed in
+    let a = c.args.a in
+    let b = c.args.b in
+    let carry = c.args.carry in
+    let differ = c.in_ok-differ.differ in
+    let to_2 = Keeps-trans c.xor.ensures.adds.keeps c.xor-2.ensures.adds.keeps in
+    let to_3 = Keeps-trans to_2 c.and.ensures.adds.keeps in
+    let differ_kept = (Keeps-trans c.xor-2.ensures.adds.keeps c.and.ensures.adds.keeps).known inputs differ c.in_ok-differ.ensures.own in
+    let now_2 = g.C.State.known c.xor-2.new.self inputs in
+    let now_3 = g.C.State.known c.and.new.self inputs in
+    c.in_ok-carry.ensures.known inputs
+    ∙ ap (λ p. known_or p passed)
+    (c.and-2.ensures.adds.keeps.known inputs c.in_ok-both.both c.in_ok-both.ensures.own
+    ∙ c.in_ok-both.ensures.known inputs ∙ ap (λ p. known_and p (now_2 b)) (to_2.known inputs a c.requires.own_a) ∙ ap (λ p. known_and (known a) p) (to_2.known inputs b c.requires.own_b))
+    ∙ ap (λ p. known_or (known_and (known a) (known b)) p)
+    (c.in_ok-passed.ensures.known inputs ∙ ap (λ p. known_and p (now_3 differ)) (to_3.known inputs carry c.requires.own_carry)
+    ∙ ap (λ p. known_and (known carry) p) (differ_kept ∙ c.in_ok-differ.ensures.known inputs))

@@ -1,4 +1,4 @@
-use Rattle.circuits.proofs.Common.{length, map, sym, ap, subst, ◌∙◌, arith, All, length-map, number_of}
+use Rattle.circuits.proofs.Common.{length, map, true, sym, ap, subst, ◌∙◌, arith, All, length-map, certain, known_sum, number_of}
 use Rattle.circuits.proofs.Kept.{Adds-none, Adds-weaken}
 use Rattle.circuits.proofs.Words.{number-sub, sum_remainder}
 use Rattle.circuits.proofs.arithmetic.sub.Goals as goal
@@ -34,3 +34,10 @@ returns-in_err-sum-clause-adds g c = Adds-weaken c.add_with_carry.ensures.adds (
 
 pub returns-clause-adds : goal.returns-clause-adds
 returns-clause-adds g c = Adds-weaken c.add_with_carry.ensures.adds (omega (arith, ap length c.as_slice-2.ensures))
+
+pub returns-clause-known : goal.returns-clause-known
+returns-clause-known g c inputs =
+    let known = g.C.State.known c.args.c.now inputs in
+    (rw (c.as_slice-2.ensures, c.as_slice-3.ensures) at (c.in_ok-sum.ensures.known inputs))
+    ∙ ap (λ first. known_sum first (map known c.args.a.now) (map known c.in_ok-complement.complement)) (c.one-first.ensures.known inputs)
+    ∙ ap (λ complement. known_sum (certain true) (map known c.args.a.now) complement) (rw c.as_slice.ensures at (c.in_ok-complement.ensures.known inputs))

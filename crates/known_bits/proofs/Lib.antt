@@ -1,0 +1,11 @@
+pub mod Common
+pub mod Tables
+pub mod Having
+pub mod Sums
+pub mod Numbers
+pub mod Values
+pub mod Results
+pub mod BlockResults
+pub mod Loops
+pub mod KnownNumbers
+pub mod Holding

@@ -1,0 +1,5 @@
+pub mod KnownBits
+pub mod Words
+pub mod Gates
+pub mod Widths
+pub mod Laws
